@@ -1,0 +1,9 @@
+pub mod Characters
+pub mod Token
+pub mod Sink
+pub mod Start
+pub mod NormalisedText
+pub mod ErrorText
+pub mod PlainText
+pub mod Reading
+pub mod Telling
