@@ -1,2 +1,3 @@
 pub mod Advances
+pub mod Tellings
 pub mod ReadingLemmas

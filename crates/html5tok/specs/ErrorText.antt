@@ -9,7 +9,7 @@ mode_name Plain = codes "Plaintext"
 
 -- an error at the character c that a state doesn't expect
 unfoldable pub saw : Bool → ℕ → List ℕ → List ℕ
-saw exact c state = if exact then codes "Bad character" else codes "Saw " ++ encode_utf8 c ++ codes " in state " ++ state
+saw exact c state = if exact then codes "Bad character" else codes "Saw " ++ (encode_utf8 c ++ (codes " in state " ++ state))
 
 unfoldable pub bad_character : ℕ → List ℕ
 bad_character c = codes "Bad character " ++ encode_utf8 c

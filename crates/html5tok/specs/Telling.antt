@@ -1,5 +1,5 @@
 -- How a call that tells its sink some messages may leave it.
-use Rattle.std.specs.Prelude.{◌≡◌, ◌≢◌, ℕ, List, [], ◌∷◌, ◌++◌, Result, Ok, Err, take, map, encode_utf8}
+use Rattle.std.specs.Prelude.{◌≡◌, ◌≢◌, ℕ, List, [], ◌∷◌, ◌++◌, Result, Ok, Err, map, encode_utf8}
 use Rattle.std.specs.Str.{chars}
 use Rattle.html5tok.specs.Sink.{Message, stepped}
 use Rattle.html5tok.specs.Token.{Told}
@@ -8,7 +8,7 @@ use Rattle.html5tok.specs.declared.error.TokenizerError.{TokenizerError}
 use Rattle.html5tok.specs.declared.error.TokenizerError.TheVariants.{Memory, Sink, Failed}
 
 -- the messages that a token stands for: one for each character of a text, and else itself
-unfoldable pub messages_of : Told → ℕ → List Message
+abbrev pub messages_of : Told → ℕ → List Message
 messages_of (Text text) line = map (λ c. record { token = Text (encode_utf8 c); line = line }) (chars text)
 messages_of (Error message) line = record { token = Error message; line = line } ∷ []
 messages_of (Tag kind name) line = record { token = Tag kind name; line = line } ∷ []
@@ -17,8 +17,10 @@ messages_of End line = record { token = End; line = line } ∷ []
 module _ {S : Type 0} (step faulted : S → Told → ℕ → S) where
   -- the sink was told a beginning of the messages
   pub record StopsWithin (s : S) (M : List Message) (t : S) : Type 0 where
-    pub count : ℕ
-    pub state : t ≡ stepped step s (take count M)
+    pub before : List Message
+    pub rest : List Message
+    pub parts : M ≡ before ++ rest
+    pub state : t ≡ stepped step s before
 
   -- the sink faulted at a token, after a beginning of the messages: the token is the next message, or the text of
   -- the next ones

@@ -3,9 +3,11 @@
 
 mod count;
 mod error;
+mod message;
 mod options;
 mod position;
 mod sink;
+mod tell;
 mod token;
 
 fn main() {}

@@ -1,3 +1,7 @@
+ghost use Rattle.std.specs.Prelude.{◌≡◌};
+ghost use Rattle.html5tok.specs.ErrorText.{mode_name};
+ghost use Rattle.html5tok.specs.Start.{mode_of};
+
 /// The standard's states, of which this tokenizer has `Plaintext` so far.
 #[derive(Clone, Copy, Debug, PartialEq, Eq, PartialOrd, Ord, Hash)]
 pub enum State {
@@ -13,4 +17,15 @@ pub struct TokenizerOpts {
     pub discard_bom: bool,
     /// The state to start in.
     pub initial_state: Option<State>,
+}
+
+impl State {
+    /// The state's name in error messages.
+    pub fn name(&self) -> &'static str
+        ensures { result.now ≡ mode_name (mode_of self.now) }
+    {
+        match self {
+            State::Plaintext => "Plaintext",
+        }
+    }
 }
