@@ -5,6 +5,7 @@ mod count;
 mod error;
 mod message;
 mod options;
+mod plaintext;
 mod position;
 mod sink;
 mod tell;
