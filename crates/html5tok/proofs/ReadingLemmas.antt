@@ -9,10 +9,11 @@ use Rattle.std.proofs.lemmas.List.Sums.{sum_by-append}
 use native.Mathlib.Numerals.{one-add}
 use Rattle.html5tok.specs.Characters.{line_feed, carriage_return, byte_order_mark}
 use Rattle.html5tok.specs.NormalisedText.{with_line_feeds, without_dropped_first, normalised, drops_first}
-use Rattle.html5tok.specs.PlainText.{told_at}
+use Rattle.html5tok.specs.PlainText.{bad_character_error, text_item, told_at}
 use Rattle.html5tok.specs.Reading.{Event, Place, is_character, events_at, events_from, end_events, reading, told, messages, line_after, last_line, after, ends_with_carriage_return}
-use Rattle.html5tok.specs.Sink.{Message}
+use Rattle.html5tok.specs.Sink.{Message, on_line}
 use Rattle.html5tok.specs.Start.{Start, Mode}
+use Rattle.html5tok.specs.Start.Mode.{Plain}
 use Rattle.html5tok.specs.Token.{Told}
 
 -- normalised text
@@ -127,12 +128,12 @@ messages-map : (f : Told → Event) (g : Told → Message) → ((t : Told) → (
 messages-map f g h [] = refl
 messages-map f g h (t ∷ ts) = rw (h t) (ap (λ l. g t ∷ l) (messages-map f g h ts))
 
-messages-events_at : (exact : Bool) (K : Start) (before : List ℕ) (c : ℕ)
+pub messages-events_at : (exact : Bool) (K : Start) (before : List ℕ) (c : ℕ)
     → messages (events_at exact K before c) ≡ messages_at exact K.mode (line_after K (before ++ c ∷ [])) c
 unfolding events_at
 messages-events_at exact K before c = messages-map _ _ (λ t. refl) (told_at exact K.mode c)
 
-messages-append : (E F : List Event) → messages (E ++ F) ≡ messages E ++ messages F
+pub messages-append : (E F : List Event) → messages (E ++ F) ≡ messages E ++ messages F
 messages-append E F = map-append (λ (e : Event). e.message) E F
 
 -- the messages at the places of W are those of a reading that starts on the line reached
@@ -169,3 +170,50 @@ told-append exact K X Z =
     (messages-append (events_from exact K [] (normalised K X)) (events_from exact K (normalised K X) (normalised (after K X) Z))
     ∙ ap (λ l. messages (events_from exact K [] (normalised K X)) ++ l)
         (messages-restart exact K (after K X) (normalised K X) [] (normalised (after K X) Z) (after-mode K X) (after-lines K X)))
+
+-- no character
+
+pub told-nil : (exact : Bool) (K : Start) → messages (told exact K []) ≡ []
+unfolding normalised without_dropped_first with_line_feeds events_from
+told-nil exact K = rw (told-events exact K []) refl
+
+-- one character further
+
+pub plain_mode : (K : Start) → K.mode ≡ Plain
+plain_mode K = elim K.mode as (λ mode. mode ≡ Plain) [ Plain ↦ refl ]
+
+after-line : (K : Start) (c : ℕ) (Y : List ℕ) → normalised K (c ∷ []) ≡ Y → (after K (c ∷ [])).line ≡ line_after K Y
+unfolding after
+after-line K c Y e = rw e refl
+
+-- a character that is dropped tells nothing
+pub told-none : (exact : Bool) (K : Start) (c : ℕ) → normalised K (c ∷ []) ≡ [] → messages (told exact K (c ∷ [])) ≡ []
+unfolding events_from
+told-none exact K c e = rw (told-events exact K (c ∷ []), e) refl
+
+-- the messages at d, the character that is read for c
+pub told-one : (exact : Bool) (K : Start) (c d : ℕ) → normalised K (c ∷ []) ≡ d ∷ []
+    → messages (told exact K (c ∷ []))
+      ≡ on_line (after K (c ∷ [])).line (bad_character_error exact d) ++ on_line (after K (c ∷ [])).line (text_item exact Plain d)
+unfolding events_from told_at line_after
+told-one exact K c d e =
+    rw (told-events exact K (c ∷ []), e, append-nil (events_at exact K [] d), messages-events_at exact K [] d, after-line K c (d ∷ []) e, plain_mode K)
+    (map-append (λ (token : Told). record { token = token; line = line_after K (d ∷ []) }) (bad_character_error exact d) (text_item exact Plain d))
+
+-- the start behind two parts is the start behind the second, from the start behind the first
+
+ends_with_carriage_return-append : (b : Bool) (X Z : List ℕ)
+    → ends_with_carriage_return b (X ++ Z) ≡ ends_with_carriage_return (ends_with_carriage_return b X) Z
+unfolding ends_with_carriage_return
+ends_with_carriage_return-append b [] Z = refl
+ends_with_carriage_return-append b (c ∷ X) Z = ends_with_carriage_return-append (c == carriage_return) X Z
+
+pub after-append : (K : Start) (X Z : List ℕ) → after K (X ++ Z) ≡ after (after K X) Z
+unfolding after ends_with_carriage_return
+after-append K [] Z = refl
+after-append K (c ∷ X) [] = ap (λ l. after K l) (append-nil (c ∷ X))
+after-append K (c ∷ X) (d ∷ Z) =
+    let L : Start = after K (c ∷ X) in
+    let line : line_after K (normalised K ((c ∷ X) ++ d ∷ Z)) ≡ line_after L (normalised L (d ∷ Z)) =
+      ap (λ l. line_after K l) (normalised-append K (c ∷ X) (d ∷ Z)) ∙ line_after-append K L (normalised K (c ∷ X)) (normalised L (d ∷ Z)) refl in
+    rw (line, ends_with_carriage_return-append false (c ∷ X) (d ∷ Z)) refl

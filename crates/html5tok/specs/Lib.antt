@@ -7,3 +7,9 @@ pub mod ErrorText
 pub mod PlainText
 pub mod Reading
 pub mod Telling
+pub mod BufferQueue
+pub mod SetResult
+pub mod SmallCharSet
+pub mod Feed
+pub mod Tokenizer
+pub mod Runs

@@ -1,6 +1,7 @@
 //! A tokenizer's program.
 #![tactic(auto)]
 
+mod buffer_queue;
 mod count;
 mod error;
 mod message;
@@ -8,7 +9,9 @@ mod options;
 mod plaintext;
 mod position;
 mod sink;
+mod small_char_set;
 mod tell;
 mod token;
+mod tokenizer;
 
 fn main() {}

@@ -1,0 +1,50 @@
+use Rattle.std.proofs.Common.{◌≡◌, ℕ, ◌+◌, ◌<◌, ◌≤◌, List, [], ◌∷◌, ◌++◌, length, take, drop, encode_utf8, encode_utf8_all, refl, sym, ap, ◌∙◌, inl, inr, arith}
+use Rattle.std.specs.Char.{len_utf8}
+use Rattle.std.specs.Str.{IsUtf8, chars}
+use Rattle.std.proofs.lemmas.Bool.{cases_eq}
+use Rattle.std.proofs.lemmas.List.{append_assoc, append_cancel_right, drop_at, take-append-drop}
+use Rattle.std.proofs.lemmas.Str.{chars-append, chars_past_char, encodes-chars, drop_past_char, length-encode, IsUtf8-past_char, IsUtf8-take, IsCharBoundary-from_drop, IsCharBoundary-past_char}
+
+-- ---- texts and their characters
+
+pub nil_from_length : {X : Type 0} (xs : List X) → length xs ≡ 0 → xs ≡ []
+nil_from_length [] none = refl
+nil_from_length (x ∷ xs) none = absurd (omega (arith, none))
+
+pub filled_length : {X : Type 0} (xs : List X) → (xs ≡ [] → ⊥) → 0 < length xs
+filled_length [] filled = absurd (filled refl)
+filled_length (x ∷ xs) filled = omega arith
+
+-- a text with a byte has a character
+pub filled_chars : (bs : List ℕ) → IsUtf8 bs → 0 < length bs → 0 < length (chars bs)
+filled_chars bs utf8 filled =
+    elim (cases_eq (length (chars bs)) 0) [
+      inl none ↦ let no_byte : length bs ≡ 0 = ap length (sym (encodes-chars bs utf8) ∙ ap encode_utf8_all (nil_from_length (chars bs) none)) in omega arith
+    | inr some ↦ omega arith
+    ]
+
+-- a text that is cut in two
+pub chars_cut : (bs : List ℕ) (n : ℕ) → IsUtf8 (take n bs) → chars bs ≡ chars (take n bs) ++ chars (drop n bs)
+chars_cut bs n utf8 = ap chars (sym (take-append-drop n bs)) ∙ chars-append (take n bs) (drop n bs) utf8
+
+-- what follows the first character, which takes so many bytes
+pub record BeginsWith (bs : List ℕ) (c width : ℕ) : Type 0 where
+  pub rest_utf8 : IsUtf8 (drop width bs)
+  pub chars_are : chars bs ≡ c ∷ chars (drop width bs)
+
+pub begins_with : (bs front rest : List ℕ) (c width : ℕ) → front ≡ bs → IsUtf8 front → front ≡ encode_utf8 c ++ rest → width ≡ len_utf8 c → BeginsWith bs c width
+begins_with bs front rest c width same utf8 e measured =
+    let rest_is : drop width front ≡ rest = ap (drop width) e ∙ drop_at (encode_utf8 c) rest width (length-encode c ∙ sym measured) in
+    let rest_utf8 : IsUtf8 (drop width front) = rw rest_is (IsUtf8-past_char front rest c utf8 e) in
+    let chars_are : chars front ≡ c ∷ chars (drop width front) = rw rest_is (chars_past_char front rest c utf8 e) in
+    record { rest_utf8 = rw same at rest_utf8; chars_are = rw same at chars_are }
+
+-- the characters up to one more
+pub chars_take_char : (text rest : List ℕ) (len c : ℕ) → IsUtf8 text → len ≤ length text → IsUtf8 (drop len text) → drop len text ≡ encode_utf8 c ++ rest → chars (take (len + len_utf8 c) text) ≡ chars (take len text) ++ c ∷ []
+chars_take_char text rest len c utf8 within rest_utf8 e =
+    let front = chars (take len text) in
+    let before : chars text ≡ front ++ chars (drop len text) = chars_cut text len (IsUtf8-take text len utf8 (IsCharBoundary-from_drop text len within rest_utf8)) in
+    let after : chars text ≡ chars (take (len + len_utf8 c) text) ++ chars (drop (len + len_utf8 c) text) = chars_cut text (len + len_utf8 c) (IsUtf8-take text (len + len_utf8 c) utf8 (IsCharBoundary-past_char text rest len c within rest_utf8 e)) in
+    let split : front ++ chars (drop len text) ≡ (front ++ c ∷ []) ++ chars rest = ap (λ cs. front ++ cs) (chars_past_char (drop len text) rest c rest_utf8 e) ∙ sym (append_assoc front (c ∷ []) (chars rest)) in
+    let rest_is : chars (drop (len + len_utf8 c) text) ≡ chars rest = ap chars (drop_past_char text rest len c e) in
+    append_cancel_right (chars (take (len + len_utf8 c) text)) (front ++ c ∷ []) (chars rest) (rw rest_is at (sym after ∙ before ∙ split))
