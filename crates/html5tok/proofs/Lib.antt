@@ -1,8 +1,10 @@
 pub mod Advances
 pub mod BufferQueueLemmas
+pub mod KnownBytes
 pub mod QueueReading
 pub mod ReadingLemmas
 pub mod RunLemmas
 pub mod SmallCharSetLemmas
+pub mod Standing
 pub mod Tellings
 pub mod TextLemmas

@@ -21,7 +21,7 @@ use Rattle.html5tok.specs.declared.buffer_queue.SetResult.TheVariants.{FromSet, 
 use Rattle.html5tok.specs.declared.error.TokenizerError.{TokenizerError}
 use Rattle.html5tok.specs.declared.error.TokenizerError.TheVariants.{Memory}
 use Rattle.html5tok.proofs.ReadingLemmas.{told-nil, told-append, after-append}
-use Rattle.html5tok.proofs.Tellings.{stepped-append, Stops-before, Stops-after, Memory-at_once}
+use Rattle.html5tok.proofs.Tellings.{cons≢nil, stepped-append, Stops-before, Stops-after, Memory-at_once}
 
 -- what pops without the characters of line breaks and NUL is a character or a run
 pub TakesItem-from_pops : {Z : Type 0} (exact : Bool) (K : Start) (set : ℕ) (old new : TextQueue) (o : Option (SetResult Z))
@@ -43,6 +43,16 @@ TakesItem-from_pops exact K set old new (Some (NotFromSet run)) e past same p =
           no_carriage_return = λ is. outside ((same c).1 (2, lit< tt, sym is));
         }) (chars (string_bytes run)) p.outside;
     })
+
+-- two texts that are empty together are empty apart
+pub nil-from_append : {X : Type 0} → (xs ys : List X) → xs ++ ys ≡ [] → (xs ≡ []) × (ys ≡ [])
+nil-from_append [] ys e = (refl, e)
+nil-from_append (x ∷ xs) ys e = absurd (cons≢nil x (xs ++ ys) e)
+
+-- what was taken is not empty
+pub item_text-filled : {Z : Type 0} (exact : Bool) (K : Start) (item : SetResult Z) → CanRead exact K item → item_text item ≢ []
+item_text-filled exact K (FromSet c) can = cons≢nil c []
+item_text-filled exact K (NotFromSet run) can = can.filled
 
 -- the characters taken so far were told, and the tokenizer stands behind them
 pub record HasRead {S : Type 0} (step : S → Told → ℕ → S) (exact : Bool) (K L : Start) (old new : TextQueue) (s t : S) : Type 0 where

@@ -13,3 +13,4 @@ pub mod SmallCharSet
 pub mod Feed
 pub mod Tokenizer
 pub mod Runs
+pub mod Device

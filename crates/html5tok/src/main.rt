@@ -3,7 +3,9 @@
 
 mod buffer_queue;
 mod count;
+mod device;
 mod error;
+mod fault;
 mod message;
 mod options;
 mod plaintext;

@@ -1,20 +1,122 @@
-ghost use Rattle.std.specs.Prelude.{◌≡◌, ℕ, ◌+◌, ◌↔◌, ◌∷◌, [], Contains, IfOk, OnOk, OnErr, length};
-ghost use Rattle.html5tok.specs.Feed.{IsEndOf};
+ghost use Rattle.std.specs.Prelude.{◌≡◌, ℕ, ◌+◌, ◌↔◌, List, ◌∷◌, ◌++◌, [], true, false, Contains, IsOk, IfOk, IfErr, OnOk, OnErr, is_err, length};
+ghost use Rattle.html5tok.specs.Feed.{feed, told_beyond, told_at_end, IsEndOf, IsLinear};
 ghost use Rattle.html5tok.specs.Characters.{null, line_feed, carriage_return};
 ghost use Rattle.html5tok.specs.Reading.{told, messages, after};
 ghost use Rattle.html5tok.specs.Runs.{TakesItem, CanRead, item_text};
 ghost use Rattle.html5tok.specs.SmallCharSet.{IsMember};
-ghost use Rattle.html5tok.specs.Telling.{Tells, faults_of};
+ghost use Rattle.html5tok.specs.Sink.{stepped};
+ghost use Rattle.html5tok.specs.Start.{Start, start_of};
+ghost use Rattle.html5tok.specs.Telling.{Tells, Stops, faults_of};
+ghost use Rattle.html5tok.specs.Tokenizer.{StandsAt, EndStops};
 
 use crate::buffer_queue::{BufferQueue, SetResult};
 use crate::error::TokenizerError;
+use crate::options::{State, TokenizerOpts};
 use crate::plaintext::{plaintext_state, report_bad_character};
 use crate::position::Position;
 use crate::sink::TokenSink;
 use crate::small_char_set::SmallCharSet;
 use crate::tell::tell;
 use crate::token::Token;
-use std::alloc::{AllocError, Allocator};
+use std::alloc::{AllocError, Allocator, Global};
+use std::marker::Model;
+
+/// What a call of `feed` answers.
+#[derive(Debug, PartialEq, Eq, Drop)]
+pub enum TokenizerResult<Handle, Text> {
+    /// The queue is empty.
+    Done,
+    /// The sink asked to run a script after the tag that was told last.
+    Script(Handle),
+    /// The sink asked to look at an encoding after the tag that was told last.
+    EncodingIndicator(Text),
+}
+
+/// Reads a stream of text and tells its sink the tokens.
+#[derive(Drop)]
+pub struct Tokenizer<Sink, A: Allocator = Global> {
+    /// The sink that is told.
+    pub sink: Sink,
+    alloc: A,
+    exact_errors: bool,
+    position: Position,
+    failed: bool,
+    ended: bool,
+}
+
+impl<Sink, A: Allocator> Model for Tokenizer<Sink, A> {
+    ghost use Rattle.html5tok.specs.Tokenizer.{Tokenizing};
+
+    ghost Value = { Tokenizing Sink };
+
+    ghost view = { λ t. record {
+        sink = t.sink;
+        exact = t.exact_errors;
+        position = t.position;
+        failed = t.failed;
+        ended = t.ended
+    } };
+}
+
+impl<Sink: TokenSink<Token<A>>, A: Allocator + Copy> Tokenizer<Sink, A> {
+    /// A tokenizer at the start of a stream.
+    pub fn new(alloc: A, sink: Sink, opts: TokenizerOpts) -> Tokenizer<Sink, A>
+        requires { opts.initial_state ≡ Some State.Plaintext }
+        ensures stands { StandsAt Sink.state Sink.step result (start_of State.Plaintext opts) (Sink.state sink) [] }
+        ensures exact { result.exact ≡ opts.exact_errors }
+        ensures sink { result.sink ≡ sink }
+    {
+        let Some(state) = opts.initial_state else {
+            unreachable!();
+        };
+        Tokenizer {
+            sink,
+            alloc,
+            exact_errors: opts.exact_errors,
+            position: Position::new(state, &opts),
+            failed: false,
+            ended: false,
+        }
+    }
+
+    /// Reads the text that waits in the queue. After a refusal the queue holds an end of the text
+    /// that it held, and every further call is refused.
+    pub fn feed(&mut self, queue: &mut BufferQueue<A>) -> Result<TokenizerResult<Sink::Handle, String<A>>, TokenizerError>
+        requires { self.old.ended ≡ false }
+
+        // What an `Ok` says: all that waited was taken, and exactly what it decides was told.
+        ensures stands { OnOk result ((K : Start) (s : Sink.State) (X : List ℕ) → StandsAt Sink.state Sink.step self.old K s X
+            → StandsAt Sink.state Sink.step self.new K s (X ++ (feed queue.old.text).taken)) }
+        ensures answer { IfOk result (λ answer. answer ≡ TokenizerResult.Done) }
+        ensures left { OnOk result (queue.new.text ≡ (feed queue.old.text).left) }
+
+        // When each error comes, and what it leaves.
+        ensures failed_before { (result ≡ Err TokenizerError.Failed) ↔ (self.old.failed ≡ true) }
+        ensures unchanged { self.old.failed ≡ true → (self.new ≡ self.old) × (queue.new ≡ queue.old) }
+        ensures stops { IfErr result (λ e. (K : Start) (s : Sink.State) (X : List ℕ) → StandsAt Sink.state Sink.step self.old K s X
+            → Stops Sink.step Sink.faulted e (Sink.state self.old.sink) (told_beyond self.old.exact K X queue.old.text) (Sink.state self.new.sink)) }
+        ensures faults { Sink.faults self.new.sink ≡ Sink.faults self.old.sink + faults_of result }
+        ensures failed { self.new.failed ≡ is_err result }
+        ensures end_of_queue { IsEndOf queue.new.text queue.old.text }
+        ensures empty { queue.old.text ≡ [] → self.old.failed ≡ false → IsOk result }
+
+        // What each feed keeps.
+        ensures linear { IsLinear queue.old queue.new }
+        ensures handed_in { queue.new.handed_in ≡ queue.old.handed_in }
+        ensures exact { self.new.exact ≡ self.old.exact }
+        ensures going_on { self.new.ended ≡ false }
+    {
+        if self.failed {
+            return Err(TokenizerError::Failed);
+        }
+        let result = read_queue(self.alloc, &mut self.sink, self.exact_errors, &mut self.position, queue);
+        self.failed = result.is_err();
+        match result {
+            Ok(()) => Ok(TokenizerResult::Done),
+            Err(error) => Err(error),
+        }
+    }
+}
 
 /// Reads one character of the stream.
 fn read_character<S: TokenSink<Token<A>>, A: Allocator + Copy>(alloc: A, sink: &mut S, exact_errors: bool, position: &mut Position, c: char) -> Result<(), TokenizerError>
@@ -36,7 +138,11 @@ fn pop_item<A: Allocator + Copy>(exact_errors: bool, position: &Position, breaks
     requires { (c : ℕ) → IsMember breaks c ↔ Contains (null ∷ line_feed ∷ carriage_return ∷ []) c }
     ensures ok { IfOk result (TakesItem exact_errors position.now queue.old queue.new) }
     ensures err { OnErr result (queue.new ≡ queue.old) }
+    ensures empty { queue.old.text ≡ [] → IsOk result }
 {
+    if queue.is_empty() {
+        return Ok(None);
+    }
     if exact_errors || !position.is_past_start() {
         let Some(c) = queue.next() else {
             return Ok(None);
@@ -68,6 +174,7 @@ fn read_queue<S: TokenSink<Token<A>>, A: Allocator + Copy>(alloc: A, sink: &mut 
     ensures taken { queue.new.taken + length queue.new.text ≡ queue.old.taken + length queue.old.text }
     ensures handed_in { queue.new.handed_in ≡ queue.old.handed_in }
     ensures faults { S.faults sink.new ≡ S.faults sink.old + faults_of result }
+    ensures empty { queue.old.text ≡ [] → IsOk result }
 {
     let breaks = SmallCharSet::of(b"\0\n\r");
     while let Some(item) = pop_item(exact_errors, position, breaks, queue)? {
