@@ -1,12 +1,13 @@
-ghost use Rattle.std.specs.Prelude.{◌≡◌, ℕ, ◌+◌, ◌↔◌, List, ◌∷◌, ◌++◌, [], true, false, Contains, IsOk, IfOk, IfErr, OnOk, OnErr, is_err, length};
+ghost use Rattle.std.specs.Prelude.{◌≡◌, ℕ, ◌+◌, ◌↔◌, List, ◌∷◌, ◌++◌, [], true, false, Contains, IsOk, IfOk, IfErr, OnOk, OnErr, is_ok, is_err, length};
 ghost use Rattle.html5tok.specs.Feed.{feed, told_beyond, told_at_end, IsEndOf, IsLinear};
 ghost use Rattle.html5tok.specs.Characters.{null, line_feed, carriage_return};
-ghost use Rattle.html5tok.specs.Reading.{told, messages, after};
+ghost use Rattle.html5tok.specs.Reading.{reading, told, messages, after};
 ghost use Rattle.html5tok.specs.Runs.{TakesItem, CanRead, item_text};
 ghost use Rattle.html5tok.specs.SmallCharSet.{IsMember};
-ghost use Rattle.html5tok.specs.Sink.{stepped};
+ghost use Rattle.html5tok.specs.Sink.{stepped, on_line};
 ghost use Rattle.html5tok.specs.Start.{Start, start_of};
 ghost use Rattle.html5tok.specs.Telling.{Tells, Stops, faults_of};
+ghost use Rattle.html5tok.specs.Token.Told.{End};
 ghost use Rattle.html5tok.specs.Tokenizer.{StandsAt, EndStops};
 
 use crate::buffer_queue::{BufferQueue, SetResult};
@@ -17,7 +18,7 @@ use crate::position::Position;
 use crate::sink::TokenSink;
 use crate::small_char_set::SmallCharSet;
 use crate::tell::tell;
-use crate::token::Token;
+use crate::token::{SinkFault, Token};
 use std::alloc::{AllocError, Allocator, Global};
 use std::marker::Model;
 
@@ -115,6 +116,45 @@ impl<Sink: TokenSink<Token<A>>, A: Allocator + Copy> Tokenizer<Sink, A> {
             Ok(()) => Ok(TokenizerResult::Done),
             Err(error) => Err(error),
         }
+    }
+
+    /// Tells the end of the input, and has the sink finish. Nothing can be fed afterwards.
+    pub fn end(&mut self) -> Result<(), TokenizerError>
+        requires { self.old.ended ≡ false }
+
+        // What an `Ok` says: the whole reading was told, and the sink has finished.
+        ensures finished { OnOk result ((K : Start) (s : Sink.State) (X : List ℕ) → StandsAt Sink.state Sink.step self.old K s X
+            → Sink.state self.new.sink ≡ Sink.finish (stepped Sink.step s (messages (reading self.old.exact K X)))) }
+
+        // When each error comes, and what it leaves.
+        ensures failed_before { (result ≡ Err TokenizerError.Failed) ↔ (self.old.failed ≡ true) }
+        ensures unchanged { self.old.failed ≡ true → self.new ≡ self.old }
+        ensures stops { IfErr result (λ e. (K : Start) (s : Sink.State) (X : List ℕ) → StandsAt Sink.state Sink.step self.old K s X
+            → EndStops Sink.step Sink.faulted Sink.end_faulted e (Sink.state self.old.sink) (told_at_end self.old.exact K X) (Sink.state self.new.sink)) }
+        ensures faults { Sink.faults self.new.sink ≡ Sink.faults self.old.sink + faults_of result }
+        ensures failed { self.new.failed ≡ is_err result }
+        ensures ended { self.new.ended ≡ is_ok result }
+    {
+        if self.failed {
+            return Err(TokenizerError::Failed);
+        }
+        let result = tell_end(&mut self.sink, self.position.line());
+        self.failed = result.is_err();
+        self.ended = result.is_ok();
+        result
+    }
+}
+
+/// Tells the end of the input, and has the sink finish.
+fn tell_end<S: TokenSink<Token<A>>, A: Allocator>(sink: &mut S, line: u64) -> Result<(), TokenizerError>
+    ensures ok { OnOk result (S.state sink.new ≡ S.finish (stepped S.step (S.state sink.old) (on_line line (End ∷ [])))) }
+    ensures err { IfErr result (λ e. EndStops S.step S.faulted S.end_faulted e (S.state sink.old) (on_line line (End ∷ [])) (S.state sink.new)) }
+    ensures faults { S.faults sink.new ≡ S.faults sink.old + faults_of result }
+{
+    tell(sink, Token::EOFToken, line)?;
+    match sink.end() {
+        Ok(()) => Ok(()),
+        Err(SinkFault) => Err(TokenizerError::Sink),
     }
 }
 
