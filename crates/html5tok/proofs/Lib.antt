@@ -1,7 +1,10 @@
 pub mod Advances
+pub mod Beginnings
 pub mod BufferQueueLemmas
 pub mod KnownBytes
+pub mod Pages
 pub mod QueueReading
+pub mod Quotes
 pub mod ReadingLemmas
 pub mod RunLemmas
 pub mod SmallCharSetLemmas

@@ -14,3 +14,6 @@ pub mod Feed
 pub mod Tokenizer
 pub mod Runs
 pub mod Device
+pub mod Printed
+pub mod Page
+pub mod Printing

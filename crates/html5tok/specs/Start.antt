@@ -1,5 +1,5 @@
 -- Where the reading of a text starts.
-use Rattle.std.specs.Prelude.{ℕ, Bool, false, Option, Some, None}
+use Rattle.std.specs.Prelude.{ℕ, Bool, false, unwrap_or}
 use Rattle.html5tok.specs.declared.options.State.{State}
 use Rattle.html5tok.specs.declared.options.State.TheVariants.{Plaintext}
 use Rattle.html5tok.specs.declared.options.TokenizerOpts.{TokenizerOpts}
@@ -20,10 +20,14 @@ pub record Start : Type 0 where
 abbrev pub mode_of : State → Mode
 mode_of Plaintext = Plain
 
+-- the state that a stream starts in
+abbrev pub initial_state : TokenizerOpts → State
+initial_state opts = unwrap_or opts.initial_state Plaintext
+
 -- the start of a stream
-abbrev pub start_of : State → TokenizerOpts → Start
-start_of state opts = record {
-  mode = mode_of state;
+abbrev pub start_of : TokenizerOpts → Start
+start_of opts = record {
+  mode = mode_of (initial_state opts);
   line = 1;
   after_carriage_return = false;
   drops_byte_order_mark = opts.discard_bom;

@@ -10,6 +10,8 @@ mod message;
 mod options;
 mod plaintext;
 mod position;
+mod print;
+mod print_sink;
 mod sink;
 mod small_char_set;
 mod tell;

@@ -34,9 +34,13 @@ impl Model for Position {
 
 impl Position {
     /// The start of a stream.
-    pub fn new(state: State, opts: &TokenizerOpts) -> Position
-        ensures { result ≡ start_of state opts.now }
+    pub fn new(opts: &TokenizerOpts) -> Position
+        requires { opts.now.initial_state ≡ Some State.Plaintext }
+        ensures { result ≡ start_of opts.now }
     {
+        let Some(state) = opts.initial_state else {
+            unreachable!();
+        };
         Position {
             state,
             current_line: 1,

@@ -63,18 +63,15 @@ impl<Sink: TokenSink<Token<A>>, A: Allocator + Copy> Tokenizer<Sink, A> {
     /// A tokenizer at the start of a stream.
     pub fn new(alloc: A, sink: Sink, opts: TokenizerOpts) -> Tokenizer<Sink, A>
         requires { opts.initial_state ≡ Some State.Plaintext }
-        ensures stands { StandsAt Sink.state Sink.step result (start_of State.Plaintext opts) (Sink.state sink) [] }
+        ensures stands { StandsAt Sink.state Sink.step result (start_of opts) (Sink.state sink) [] }
         ensures exact { result.exact ≡ opts.exact_errors }
         ensures sink { result.sink ≡ sink }
     {
-        let Some(state) = opts.initial_state else {
-            unreachable!();
-        };
         Tokenizer {
             sink,
             alloc,
             exact_errors: opts.exact_errors,
-            position: Position::new(state, &opts),
+            position: Position::new(&opts),
             failed: false,
             ended: false,
         }
@@ -142,6 +139,13 @@ impl<Sink: TokenSink<Token<A>>, A: Allocator + Copy> Tokenizer<Sink, A> {
         self.failed = result.is_err();
         self.ended = result.is_ok();
         result
+    }
+
+    /// The sink, with what it was told.
+    pub fn into_sink(self) -> Sink
+        ensures { result ≡ self.sink }
+    {
+        self.sink
     }
 }
 

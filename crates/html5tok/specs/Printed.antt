@@ -1,0 +1,94 @@
+-- The lines that are printed for messages, in bytes.
+use Rattle.std.specs.Prelude.{ℕ, Bool, true, false, List, [], ◌∷◌, ◌++◌, ◌==◌, ◌||◌, nat_lt, codes, if◌then◌else◌}
+use Rattle.std.specs.List.{flat_map}
+use Rattle.std.specs.Fmt.{decimal, digits}
+use Rattle.html5tok.specs.Sink.{Message}
+use Rattle.html5tok.specs.Token.{Told}
+use Rattle.html5tok.specs.Token.Told.{Text, Error, Tag, End}
+use Rattle.html5tok.specs.declared.token.TagKind.{TagKind}
+use Rattle.html5tok.specs.declared.token.TagKind.TheVariants.{StartTag, EndTag}
+
+-- whether a byte may not stand in quotes as it is
+unfoldable pub needs_escape : ℕ → Bool
+needs_escape byte = nat_lt byte 0x20 || (byte == 0x22) || (byte == 0x5C) || (byte == 0x7F)
+
+-- what stands in quotes for such a byte
+unfoldable pub escape : ℕ → List ℕ
+escape byte =
+    if byte == 0x5C then codes "\\\\"
+    else if byte == 0x22 then codes "\\\""
+    else if byte == 0x0A then codes "\\n"
+    else codes "\\u{" ++ digits 16 false byte ++ codes "}"
+
+-- what stands in quotes for a byte
+unfoldable pub quoted_byte : ℕ → List ℕ
+quoted_byte byte = if needs_escape byte then escape byte else byte ∷ []
+
+-- what stands for a text in quotes
+unfoldable pub quoted_bytes : List ℕ → List ℕ
+quoted_bytes text = flat_map quoted_byte text
+
+-- a text with its quotes
+unfoldable pub quoted : List ℕ → List ℕ
+quoted text = codes "\"" ++ quoted_bytes text ++ codes "\""
+
+-- the word that a tag's line begins with
+abbrev pub kind_word : TagKind → List ℕ
+kind_word StartTag = codes "start "
+kind_word EndTag = codes "end "
+
+-- a line of a word, the number of a line and a text
+unfoldable pub line_with_text : List ℕ → ℕ → List ℕ → List ℕ
+line_with_text word line text = word ++ decimal line ++ codes " " ++ quoted text ++ codes "\n"
+
+-- the line of a token
+unfoldable pub printed_line : Told → ℕ → List ℕ
+printed_line (Text text) line = codes "text " ++ quoted text ++ codes "\n"
+printed_line (Error message) line = line_with_text (codes "error ") line message
+printed_line (Tag kind name) line = line_with_text (kind_word kind) line name
+printed_line End line = codes "eof " ++ decimal line ++ codes "\n"
+
+-- the text that a token tells, if it tells one
+abbrev pub told_text : Told → List ℕ
+told_text (Text text) = text
+told_text (Error message) = []
+told_text (Tag kind name) = []
+told_text End = []
+
+abbrev pub is_text : Told → Bool
+is_text (Text text) = true
+is_text (Error message) = false
+is_text (Tag kind name) = false
+is_text End = false
+
+-- the text of the first message, if that is a text
+unfoldable pub first_text : List Message → List ℕ
+first_text [] = []
+first_text (m ∷ M) = told_text m.token
+
+-- the messages behind the first, if that is a text, and else all of them
+unfoldable pub behind_first_text : List Message → List Message
+behind_first_text [] = []
+behind_first_text (m ∷ M) = if is_text m.token then M else m ∷ M
+
+-- a token in front of messages that are joined: an empty text is dropped, and another joins the text behind it
+unfoldable pub joined_first : Told → ℕ → List Message → List Message
+joined_first (Text []) line M = M
+joined_first (Text (b ∷ bs)) line M =
+    record { token = Text ((b ∷ bs) ++ first_text M); line = line } ∷ behind_first_text M
+joined_first (Error message) line M = record { token = Error message; line = line } ∷ M
+joined_first (Tag kind name) line M = record { token = Tag kind name; line = line } ∷ M
+joined_first End line M = record { token = End; line = line } ∷ M
+
+-- adjacent texts are one, and empty texts are gone
+unfoldable pub joined : List Message → List Message
+joined [] = []
+joined (m ∷ M) = joined_first m.token m.line (joined M)
+
+-- the lines of messages whose texts are joined
+unfoldable pub printed_lines : List Message → List ℕ
+printed_lines M = flat_map (λ m. printed_line m.token m.line) M
+
+-- the lines of messages: a line for each but an empty text, where adjacent texts share one
+unfoldable pub printed : List Message → List ℕ
+printed M = printed_lines (joined M)
