@@ -3,6 +3,7 @@ ghost use Rattle.std.specs.Io.KnownBytes.{Keeps};
 ghost use Rattle.std.specs.Str.{IsUtf8, chars};
 ghost use Rattle.html5tok.specs.Device.{reported_failures};
 ghost use Rattle.html5tok.specs.Page.{Page, page_step};
+ghost use Rattle.html5tok.specs.Printing.{printed_reading, PrintsReading, PrintsBeginning, PrintsNothing};
 ghost use Rattle.html5tok.specs.Start.{Start};
 ghost use Rattle.html5tok.specs.Tokenizer.{StandsAt};
 
@@ -56,4 +57,80 @@ fn feed_piece<A: Allocator + Copy>(tokenizer: &mut Tokenizer<PrintSink<A>, A>, q
         Ok(_) => Ok(()),
         Err(error) => Err(fault_of(error)),
     }
+}
+
+// How many bytes the first `count` characters take, or all where there are fewer.
+fn prefix_len(text: &str, count: usize) -> usize
+    requires { 0 < count }
+    ensures within { result ≤ length text.now }
+    ensures boundary { IsUtf8 (take result text.now) × IsUtf8 (drop result text.now) }
+    ensures some { 0 < length text.now → 0 < result }
+{
+    let mut len = 0;
+    for c in text.chars().take(count) {
+        len += c.len_utf8();
+    }
+    len
+}
+
+// Feeds the text, cut into pieces of so many characters.
+fn feed_text<A: Allocator + Copy>(alloc: A, tokenizer: &mut Tokenizer<PrintSink<A>, A>, text: String<A>, cut: usize) -> Result<(), Fault>
+    requires going_on { tokenizer.old.ended ≡ false }
+    requires not_failed { tokenizer.old.failed ≡ false }
+    ensures stands { OnOk result ((K : Start) (s : Page) (X : List ℕ) → StandsAt (λ sink. sink.page) page_step tokenizer.old K s X
+        → StandsAt (λ sink. sink.page) page_step tokenizer.new K s (X ++ chars (string_bytes text))) }
+    ensures exact { tokenizer.new.exact ≡ tokenizer.old.exact }
+    ensures going_on { tokenizer.new.ended ≡ false }
+    ensures not_failed { OnOk result (tokenizer.new.failed ≡ false) }
+    ensures err { IfErr result (λ fault. fault ≡ Fault.Memory) }
+{
+    let mut queue = BufferQueue::new(alloc);
+    if cut == 0 {
+        return feed_piece(tokenizer, &mut queue, text);
+    }
+    let mut start = 0;
+    while start < text.len() {
+        let end = start + prefix_len(&text[start..], cut);
+        let piece = String::from_str(alloc, &text[start..end])?;
+        feed_piece(tokenizer, &mut queue, piece)?;
+        start = end;
+    }
+    Ok(())
+}
+
+// Prints the reading of a text to a page.
+fn print_text<A: Allocator + Copy>(alloc: A, text: String<A>, settings: &Settings) -> Result<PrintSink<A>, Fault>
+    requires { settings.now.opts.initial_state ≡ Some State.Plaintext }
+    ensures ok { IfOk result (λ sink. sink.page.lines ≡ printed_reading settings.now (string_bytes text)) }
+    ensures err { IfErr result (λ fault. fault ≡ Fault.Memory) }
+{
+    let sink = PrintSink::new(alloc, settings.foreign);
+    let mut tokenizer = Tokenizer::new(alloc, sink, settings.opts);
+    feed_text(alloc, &mut tokenizer, text, settings.cut)?;
+    match tokenizer.end() {
+        Ok(()) => Ok(tokenizer.into_sink()),
+        Err(error) => Err(fault_of(error)),
+    }
+}
+
+/// Reads the text of a source to its end and prints its reading, a line for each token.
+pub fn print_tokens<R: Source, W: Target, A: Allocator + Copy>(alloc: A, reader: &mut R, writer: &mut W, settings: &Settings) -> Result<(), Fault>
+    requires { settings.now.opts.initial_state ≡ Some State.Plaintext }
+    ensures ok { OnOk result (PrintsReading settings.now (R.remaining reader.old) (R.remaining reader.new) (W.contents writer.old) (W.contents writer.new)) }
+
+    // When each fault comes, and what it leaves.
+    ensures not_utf8 { result ≡ Err Fault.NotUtf8
+        → PrintsNothing (R.remaining reader.old) (R.remaining reader.new) (W.contents writer.old) (W.contents writer.new) }
+    ensures beginning { OnErr result (Keeps (W.contents writer.old) (W.contents writer.new)
+        ⊎ PrintsBeginning settings.now (R.remaining reader.old) (R.remaining reader.new) (W.contents writer.old) (W.contents writer.new)) }
+    ensures failed_read { R.failures reader.new ≢ R.failures reader.old → Keeps (W.contents writer.old) (W.contents writer.new) }
+    ensures device { R.failures reader.new + W.failures writer.new
+        ≡ R.failures reader.old + W.failures writer.old + reported_failures result }
+{
+    let bytes = read_to_end(alloc, reader)?;
+    let Ok(text) = String::from_utf8(bytes) else {
+        return Err(Fault::NotUtf8);
+    };
+    let sink = print_text(alloc, text, settings)?;
+    write_all(writer, sink.page())
 }
