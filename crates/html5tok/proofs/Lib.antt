@@ -1,8 +1,11 @@
 pub mod Advances
 pub mod Beginnings
 pub mod BufferQueueLemmas
+pub mod Cuts
+pub mod Feeding
 pub mod KnownBytes
 pub mod Pages
+pub mod PrintedPages
 pub mod QueueReading
 pub mod Quotes
 pub mod ReadingLemmas

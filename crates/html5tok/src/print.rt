@@ -67,7 +67,12 @@ fn prefix_len(text: &str, count: usize) -> usize
     ensures some { 0 < length text.now → 0 < result }
 {
     let mut len = 0;
-    for c in text.chars().take(count) {
+    let mut left = count;
+    for c in text.chars() {
+        if left == 0 {
+            return len;
+        }
+        left -= 1;
         len += c.len_utf8();
     }
     len
