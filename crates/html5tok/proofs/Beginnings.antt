@@ -1,5 +1,5 @@
 -- Lists that begin with another.
-use Rattle.std.proofs.Common.{◌≡◌, ℕ, List, [], ◌∷◌, ◌++◌, refl, ap, sym, ◌∙◌}
+use Rattle.std.proofs.Common.{◌≡◌, ℕ, List, [], ◌++◌, sym, ◌∙◌}
 use Rattle.std.proofs.lemmas.List.{append-nil, append_assoc}
 use Rattle.html5tok.specs.Page.{BeginsWith}
 

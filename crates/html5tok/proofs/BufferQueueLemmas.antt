@@ -1,11 +1,11 @@
-use Rattle.std.proofs.Common.{◌≡◌, ◌↔◌, ℕ, ◌+◌, ◌<◌, ◌≤◌, List, [], ◌∷◌, ◌++◌, length, get_or, drop, String, refl, sym, ap, ◌∙◌, arith, length-append, length-drop}
-use Rattle.std.specs.Str.{IsUtf8, IsCharBoundary, chars}
+use Rattle.std.proofs.Common.{◌≡◌, ◌↔◌, ℕ, ◌<◌, ◌≤◌, List, [], ◌∷◌, ◌++◌, length, get_or, drop, String, refl, sym, ap, ◌∙◌, arith, length-append, length-drop}
+use Rattle.std.specs.Str.{IsCharBoundary, chars}
 use Rattle.std.specs.String.{string_bytes}
 use Rattle.std.proofs.lemmas.List.{append-nil, append_assoc, drop_all}
 use Rattle.std.proofs.lemmas.List.Concat.{flat_map-append}
 use Rattle.std.proofs.lemmas.List.Elements.{All-head, All-tail}
 use Rattle.std.proofs.lemmas.Str.{chars-nil, IsUtf8-string_bytes, IsCharBoundary-from_drop}
-use Rattle.html5tok.specs.BufferQueue.{TextQueue, Gains, all_chars, unread, later_chars, waiting, AllFilled, IsReadTo}
+use Rattle.html5tok.specs.BufferQueue.{TextQueue, Gains, all_chars, unread, waiting, waiting_after, AllFilled, IsReadTo}
 use Rattle.html5tok.specs.SetResult.{TakesRun}
 use Rattle.html5tok.specs.SmallCharSet.{IsMember}
 use Rattle.html5tok.proofs.TextLemmas.{nil_from_length, filled_length, filled_chars}
@@ -67,7 +67,7 @@ module _ {Z : Type 0} where
   IsReadTo-pop (first ∷ later) rest offset start popped at_start read =
       rw (popped, at_start) (read_from_start later read.2)
 
-  pub waiting-pop : (texts rest : List (String Z)) (offset start bytes : ℕ) → rest ≡ drop 1 texts → start ≡ 0 → length (unread texts offset) ≤ bytes → waiting rest start ≡ chars (drop bytes (unread texts offset)) ++ later_chars texts
+  pub waiting-pop : (texts rest : List (String Z)) (offset start bytes : ℕ) → rest ≡ drop 1 texts → start ≡ 0 → length (unread texts offset) ≤ bytes → waiting rest start ≡ waiting_after texts offset bytes
   waiting-pop [] rest offset start bytes popped at_start all =
       rw popped (ap (λ cs. chars cs ++ []) (sym (drop_all bytes [] all)))
   waiting-pop (first ∷ later) rest offset start bytes popped at_start all =

@@ -1,4 +1,4 @@
-use Rattle.std.proofs.Common.{◌≡◌, ◌↔◌, ℕ, ◌+◌, ◌-◌, ◌<◌, ◌≤◌, ◌*◌, ◌%◌, ◌^◌, List, [], ◌∷◌, ◌++◌, length, take, drop, Contains, bit_or, encode_utf8, w64, sym, ap, ◌∙◌, inl, inr, arith, length-append, length-drop}
+use Rattle.std.proofs.Common.{◌≡◌, ◌↔◌, ℕ, ◌+◌, ◌-◌, ◌<◌, ◌*◌, ◌%◌, ◌^◌, List, [], ◌∷◌, ◌++◌, length, take, drop, Contains, bit_or, encode_utf8, w64, sym, ap, ◌∙◌, inl, inr, arith, length-append, length-drop}
 use Rattle.std.specs.Int.{IsBitSet, bit_at}
 use Rattle.std.specs.Char.{len_utf8}
 use Rattle.std.specs.Str.{IsUtf8, chars}
@@ -26,8 +26,8 @@ member_after : (set m c : ℕ) → m < 64 → IsMember set c → IsMember (set_b
 unfolding set_bit
 member_after set m c within member =
     elim (cases_eq c m) [
-      inl same ↦ (member.0, IsBitSet-from_bit _ c (rw same (bit_at_set_same w64 set m within)))
-    | inr other ↦ (member.0, IsBitSet-from_bit _ c (bit_at_set_other w64 set m within c other ∙ bit_at-set set c member.1))
+      | inl same ↦ (member.0, IsBitSet-from_bit _ c (rw same (bit_at_set_same w64 set m within)))
+      | inr other ↦ (member.0, IsBitSet-from_bit _ c (bit_at_set_other w64 set m within c other ∙ bit_at-set set c member.1))
     ]
 
 member_itself : (set m c : ℕ) → m < 64 → m ≡ c → IsMember (set_bit set m) c
@@ -38,17 +38,19 @@ member_before : (set m c : ℕ) (xs : List ℕ) → m < 64 → ((c : ℕ) → Is
 unfolding set_bit
 member_before set m c xs within same member =
     elim (cases_eq c m) [
-      inl e ↦ rw e (Contains-push xs m)
-    | inr other ↦ Contains-append_left xs (m ∷ []) c ((same c).0 (member.0, IsBitSet-from_bit set c (sym (bit_at_set_other w64 set m within c other) ∙ bit_at-set _ c member.1)))
+      | inl e ↦ rw e (Contains-push xs m)
+      | inr other ↦ Contains-append_left xs (m ∷ []) c ((same c).0 (member.0, IsBitSet-from_bit set c (sym (bit_at_set_other w64 set m within c other) ∙ bit_at-set _ c member.1)))
     ]
 
 pub IsMember-push : (set m : ℕ) (xs : List ℕ) → m < 64 → ((c : ℕ) → IsMember set c ↔ Contains xs c) → (c : ℕ) → IsMember (bit_or set (1 * 2 ^ m % 2 ^ 64)) c ↔ Contains (xs ++ m ∷ []) c
 unfolding set_bit
-IsMember-push set m xs within same c =
-    (member_before set m c xs within same, λ contained. elim (Contains-push_cases xs m c contained) [
-      inl old ↦ member_after set m c within ((same c).1 old)
+IsMember-push set m xs within same c = (
+  member_before set m c xs within same,
+  λ contained. elim (Contains-push_cases xs m c contained) [
+    | inl old ↦ member_after set m c within ((same c).1 old)
     | inr itself ↦ member_itself set m c within itself
-    ])
+  ],
+)
 
 -- ---- a text that begins with characters outside a set
 
@@ -61,8 +63,11 @@ pub BeginsOutside-step : (set : ℕ) (text rest : List ℕ) (len c width : ℕ) 
 BeginsOutside-step set text rest len c width utf8 begins e other measured =
     let rest_is : drop (len + len_utf8 c) text ≡ rest = drop_past_char text rest len c e in
     let total : length text - len ≡ len_utf8 c + length rest = sym (length-drop len text) ∙ ap length e ∙ length-append (encode_utf8 c) rest ∙ ap (λ n. n + length rest) (length-encode c) in
-    rw measured (record {
-      within = omega (arith, total, begins.within);
-      rest_utf8 = rw rest_is (IsUtf8-past_char (drop len text) rest c begins.rest_utf8 e);
-      outside = rw (chars_take_char text rest len c utf8 begins.within begins.rest_utf8 e) (All-push (λ c. ¬ IsMember set c) (chars (take len text)) c begins.outside other)
-    }, rest_is)
+    rw measured (
+      record {
+        within = omega (arith, total, begins.within);
+        rest_utf8 = rw rest_is (IsUtf8-past_char (drop len text) rest c begins.rest_utf8 e);
+        outside = rw (chars_take_char text rest len c utf8 begins.within begins.rest_utf8 e) (All-push (λ c. ¬ IsMember set c) (chars (take len text)) c begins.outside other);
+      },
+      rest_is,
+    )

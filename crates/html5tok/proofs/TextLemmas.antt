@@ -19,8 +19,8 @@ filled_length (x ∷ xs) filled = omega arith
 pub filled_chars : (bs : List ℕ) → IsUtf8 bs → 0 < length bs → 0 < length (chars bs)
 filled_chars bs utf8 filled =
     elim (cases_eq (length (chars bs)) 0) [
-      inl none ↦ let no_byte : length bs ≡ 0 = ap length (sym (encodes-chars bs utf8) ∙ ap encode_utf8_all (nil_from_length (chars bs) none)) in omega arith
-    | inr some ↦ omega arith
+      | inl none ↦ let no_byte : length bs ≡ 0 = ap length (sym (encodes-chars bs utf8) ∙ ap encode_utf8_all (nil_from_length (chars bs) none)) in omega arith
+      | inr some ↦ omega arith
     ]
 
 -- a text that is cut in two

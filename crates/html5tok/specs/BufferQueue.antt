@@ -39,6 +39,10 @@ later_chars (first ∷ later) = all_chars later
 abbrev pub waiting : {Z : Type 0} → List (String Z) → ℕ → List ℕ
 waiting texts offset = chars (unread texts offset) ++ later_chars texts
 
+-- the characters that wait behind so many more bytes of the first text
+abbrev pub waiting_after : {Z : Type 0} → List (String Z) → ℕ → ℕ → List ℕ
+waiting_after texts offset bytes = chars (drop bytes (unread texts offset)) ++ later_chars texts
+
 -- none of the texts is empty
 abbrev pub AllFilled : {Z : Type 0} → List (String Z) → Type 0
 AllFilled texts = All (λ text. string_bytes text ≢ []) texts

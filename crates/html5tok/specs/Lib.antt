@@ -17,3 +17,4 @@ pub mod Device
 pub mod Printed
 pub mod Page
 pub mod Printing
+pub mod Ending

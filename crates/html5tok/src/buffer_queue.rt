@@ -1,9 +1,9 @@
 //! The text that waits to be read.
-ghost use Rattle.std.specs.Prelude.{◌≡◌, ℕ, ◌<◌, ◌≤◌, ◌↔◌, List, [], ◌∷◌, ◌++◌, length, take, drop, IsTrue, IsNone, IsOk, IfOk, IfErr, IfSome, IfNone, OnOk, OnErr};
+ghost use Rattle.std.specs.Prelude.{◌≡◌, ℕ, ◌<◌, ◌≤◌, ◌↔◌, List, [], ◌∷◌, length, take, drop, IsTrue, IsNone, IsOk, IfOk, IfErr, IfSome, IfNone, OnOk, OnErr};
 ghost use Rattle.std.specs.Char.{IsScalar};
 ghost use Rattle.std.specs.Str.{IsUtf8, chars};
 ghost use Rattle.std.specs.String.{string_bytes};
-ghost use Rattle.html5tok.specs.BufferQueue.{Gains, Takes, unread, later_chars, waiting, IsReadTo};
+ghost use Rattle.html5tok.specs.BufferQueue.{Gains, Takes, unread, waiting, waiting_after, IsReadTo};
 ghost use Rattle.html5tok.specs.SmallCharSet.{IsMember};
 
 use crate::count::Count;
@@ -38,9 +38,9 @@ impl<A: Allocator> Model for BufferQueue<A> {
     ghost Value = { TextQueue };
 
     ghost view = { λ q. record {
-        text = waiting q.buffers.items q.offset;
-        handed_in = q.handed_in.total;
-        taken = q.taken.total
+      text = waiting q.buffers.items q.offset;
+      handed_in = q.handed_in.total;
+      taken = q.taken.total;
     } };
 
     ghost invariant = { λ q. IsReadTo q.buffers.items q.offset };
@@ -151,7 +151,7 @@ fn advance<A: Allocator>(buffers: &mut VecDeque<String<A>, A>, offset: &mut usiz
     requires rest_utf8 { IsUtf8 (drop bytes (unread buffers.old.items offset.old)) }
     ensures read { IsReadTo buffers.new.items offset.new }
     ensures rest { waiting buffers.new.items offset.new
-        ≡ chars (drop bytes (unread buffers.old.items offset.old)) ++ later_chars buffers.old.items }
+        ≡ waiting_after buffers.old.items offset.old bytes }
 {
     if bytes < front(buffers, *offset).len() {
         *offset += bytes;
@@ -175,7 +175,7 @@ fn take_front<A: Allocator + Copy>(
     ensures ok { IfOk result
         (λ text. string_bytes text ≡ take bytes (unread buffers.old.items offset.old)) }
     ensures rest { OnOk result (waiting buffers.new.items offset.new
-        ≡ chars (drop bytes (unread buffers.old.items offset.old)) ++ later_chars buffers.old.items) }
+        ≡ waiting_after buffers.old.items offset.old bytes) }
     ensures err { OnErr result (waiting buffers.new.items offset.new
         ≡ waiting buffers.old.items offset.old) }
 {
@@ -197,7 +197,11 @@ mod tests {
     use std::test::Fail;
 
     // What `pop_except_from` takes until the queue is empty, each character of the set in brackets.
-    fn taken(alloc: Global, queue: &mut BufferQueue, set: SmallCharSet) -> Result<String, AllocError> {
+    fn taken(
+        alloc: Global,
+        queue: &mut BufferQueue,
+        set: SmallCharSet,
+    ) -> Result<String, AllocError> {
         let mut all = String::new(alloc);
         for _ in 0..16 {
             match queue.pop_except_from(set)? {

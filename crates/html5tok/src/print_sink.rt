@@ -1,10 +1,9 @@
 //! A sink that prints what it is told.
-ghost use Rattle.std.specs.Prelude.{◌≡◌, ◌+◌, ◌<◌, ◌++◌, ◌∷◌, [], false, OnOk, OnErr, decimal, codes, length};
+ghost use Rattle.std.specs.Prelude.{◌≡◌, ◌<◌, ◌++◌, false, OnOk, OnErr, decimal};
 ghost use Rattle.std.specs.Fmt.{digits, digit_glyph};
 ghost use Rattle.html5tok.specs.Page.{BeginsWith, blank_page, text_closing, added_by_text, added_by, open_behind};
 ghost use Rattle.html5tok.specs.Printed.{needs_escape, escape, quoted_bytes, quoted, kind_word, line_with_text};
 ghost use Rattle.html5tok.specs.Token.{told_by};
-ghost use Rattle.html5tok.specs.Token.Told.{End};
 
 use crate::count::Count;
 use crate::sink::TokenSink;
@@ -29,7 +28,7 @@ fn hex_digit(value: u8) -> u8
 }
 
 // Appends a byte in hexadecimal, without leading zeros.
-#[tactic(auto, using(std::proofs::lemmas::Fmt::hex_one_digit, std::proofs::lemmas::Fmt::hex_two_digits))]
+#[tactic(auto, using(std::proofs::lemmas::Fmt::hex_one_digit))]
 fn push_hex<A: Allocator>(page: &mut Vec<u8, A>, byte: u8) -> Result<(), AllocError>
     ensures ok { OnOk result (page.new.items ≡ page.old.items ++ digits 16 false byte) }
     ensures err { OnErr result (BeginsWith page.new.items page.old.items) }

@@ -1,3 +1,4 @@
+//! Sets of characters below 64.
 ghost use Rattle.std.specs.Prelude.{◌≡◌, ℕ, ◌<◌, ◌↔◌, List, ◌∷◌, drop, IsTrue, All, Contains};
 ghost use Rattle.std.specs.Str.{chars};
 ghost use Rattle.html5tok.specs.SmallCharSet.{IsMember, BeginsOutside};
@@ -19,6 +20,7 @@ impl Model for SmallCharSet {
 }
 
 impl SmallCharSet {
+    /// The set of these characters.
     pub fn of(members: &[u8]) -> SmallCharSet
         requires { All (λ member. member < 64) members.now }
         ensures { (c : ℕ) → IsMember result c ↔ Contains members.now c }
@@ -30,6 +32,7 @@ impl SmallCharSet {
         SmallCharSet { bits }
     }
 
+    /// Whether the character is in the set. None from 64 on is.
     pub fn contains(&self, c: char) -> bool
         ensures { IsTrue result ↔ IsMember self.now c }
     {
@@ -40,7 +43,8 @@ impl SmallCharSet {
     /// How many bytes the characters outside the set take with which the text begins.
     pub fn nonmember_prefix_len(&self, text: &str) -> usize
         ensures outside { BeginsOutside self.now text.now result }
-        ensures stops { (c : ℕ) (rest : List ℕ) → chars (drop result text.now) ≡ c ∷ rest → IsMember self.now c }
+        ensures stops { (c : ℕ) (rest : List ℕ) →
+            chars (drop result text.now) ≡ c ∷ rest → IsMember self.now c }
     {
         let mut len = 0;
         for c in text.chars() {

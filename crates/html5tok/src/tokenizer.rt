@@ -22,6 +22,9 @@ use crate::token::{SinkFault, Token};
 use std::alloc::{AllocError, Allocator, Global};
 use std::marker::Model;
 
+#[cfg(test)]
+mod tests;
+
 /// What a call of `feed` answers.
 #[derive(Debug, PartialEq, Eq, Drop)]
 pub enum TokenizerResult<Handle, Text> {

@@ -1,4 +1,4 @@
-use Rattle.std.proofs.Common.{refl, ap, length, arith}
+use Rattle.std.proofs.Common.{ap, length, arith}
 use Rattle.std.proofs.lemmas.Str.{IsCharBoundary-from_drop}
 use Rattle.html5tok.proofs.BufferQueueLemmas.{IsReadTo-pop, waiting-pop}
 use Rattle.html5tok.proofs.buffer_queue.take_front.Goals as goal

@@ -1,4 +1,4 @@
-use Rattle.std.proofs.Common.{◌≡◌, ◌++◌, ◌∷◌, [], false, arith}
+use Rattle.std.proofs.Common.{false, arith}
 use Rattle.std.proofs.lemmas.Fmt.{hex_two_digits}
 use Rattle.std.proofs.lemmas.List.{append_assoc}
 use Rattle.html5tok.proofs.print_sink.push_hex.Goals as goal

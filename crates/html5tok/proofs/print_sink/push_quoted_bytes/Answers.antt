@@ -1,4 +1,4 @@
-use Rattle.std.proofs.Common.{◌≡◌, sym, ◌∙◌, arith}
+use Rattle.std.proofs.Common.{sym, ◌∙◌, arith}
 use Rattle.std.proofs.lemmas.Result.{err_from_is_err_and}
 use Rattle.html5tok.proofs.Quotes.{HasQuoted-none, HasQuoted-plain, HasQuoted-begins, HasQuoted-escape}
 use Rattle.html5tok.proofs.print_sink.push_quoted_bytes.Goals as goal

@@ -1,6 +1,6 @@
 use Rattle.std.proofs.Common.{◌+◌, [], ◌∷◌, drop, sym, ap, ◌∙◌}
 use Rattle.std.specs.Str.{chars}
-use Rattle.html5tok.specs.BufferQueue.{unread, later_chars}
+use Rattle.html5tok.specs.BufferQueue.{unread, later_chars, waiting}
 use Rattle.html5tok.proofs.BufferQueueLemmas.{takes_text}
 use Rattle.html5tok.proofs.TextLemmas.{BeginsWith, begins_with}
 use Rattle.html5tok.proofs.buffer_queue.BufferQueue.next.Goals as goal
@@ -19,7 +19,7 @@ returns-clause-some g c =
     let front = unread q.buffers.items q.offset in
     let begins : BeginsWith front first width = begins_with _ _ _ _ _ c.front.ensures c.front.utf8 (sym c.chars.ensures.rest ∙ c.in_ok-c.ensures.steps.0) c.len_utf8.ensures.value in
     record {
-      text = takes_text c.args.self.now.text _ (chars front) (first ∷ []) (chars (drop width front)) (later_chars q.buffers.items) (ap (λ v. v.text) c.self.view_is) begins.chars_are c.advance.ensures.rest;
+      text = takes_text c.args.self.now.text (waiting c.advance.new.buffers.items c.advance.new.offset) (chars front) (first ∷ []) (chars (drop width front)) (later_chars q.buffers.items) (ap (λ v. v.text) c.self.view_is) begins.chars_are c.advance.ensures.rest;
       handed_in = ap (λ v. v.handed_in) c.self.view_is;
-      taken = c.add.ensures ∙ ap (λ v. v.taken + 1) c.self.view_is
+      taken = c.add.ensures ∙ ap (λ v. v.taken + 1) c.self.view_is;
     }

@@ -1,9 +1,9 @@
-use Rattle.std.proofs.Common.{◌≡◌, ◌+◌, ◌<◌, ◌≤◌, ◌++◌, ◌∷◌, List, length, take, drop, ap, sym, ◌∙◌, arith}
+use Rattle.std.proofs.Common.{◌≡◌, ◌+◌, ◌<◌, ◌++◌, ◌∷◌, length, take, drop, ap, ◌∙◌, arith}
 use Rattle.std.specs.Str.{chars, IsUtf8}
 use Rattle.std.specs.String.{string_bytes}
 use Rattle.std.proofs.lemmas.List.{length-take-le}
 use Rattle.std.proofs.lemmas.Str.{IsUtf8-string_bytes}
-use Rattle.html5tok.specs.BufferQueue.{unread, later_chars}
+use Rattle.html5tok.specs.BufferQueue.{unread, later_chars, waiting}
 use Rattle.html5tok.specs.SmallCharSet.{BeginsOutside}
 use Rattle.html5tok.proofs.BufferQueueLemmas.{first_unread, takes_text, TakesRun-some, TakesRun-no_member}
 use Rattle.html5tok.proofs.TextLemmas.{chars_cut, filled_chars}
@@ -34,10 +34,10 @@ returns-clause-ok g c =
       filled = λ none. omega (arith, filled_chars run (IsUtf8-string_bytes text) some, ap length none);
       outside = rw run_is begins.outside;
       takes = record {
-        text = takes_text c.args.self.now.text _ (chars front) (chars run) (chars (drop len front)) (later_chars q.buffers.items) (ap (λ v. v.text) c.self.view_is) cut c.in_ok-text.ensures.rest;
+        text = takes_text c.args.self.now.text (waiting c.take_front.new.buffers.items c.take_front.new.offset) (chars front) (chars run) (chars (drop len front)) (later_chars q.buffers.items) (ap (λ v. v.text) c.self.view_is) cut c.in_ok-text.ensures.rest;
         handed_in = ap (λ v. v.handed_in) c.self.view_is;
-        taken = c.add.ensures ∙ ap (λ v. v.taken + c.char_count.result) c.self.view_is ∙ ap (λ n. c.args.self.now.taken + n) (c.char_count.ensures ∙ ap (λ bs. length (chars bs)) c.deref.ensures)
-      }
+        taken = c.add.ensures ∙ ap (λ v. v.taken + c.char_count.result) c.self.view_is ∙ ap (λ n. c.args.self.now.taken + n) (c.char_count.ensures ∙ ap (λ bs. length (chars bs)) c.deref.ensures);
+      };
     }
 
 pub returns-clause-none : goal.returns-clause-none

@@ -20,5 +20,5 @@ returns-in-Ok-clause-ok g c =
     record {
       text = rw c.in-Ok.ensures.items (waiting-push q.buffers.items q.offset c.args.text c.self.invariant) ∙ ap (λ v. v.text ++ back) c.self.view_is;
       handed_in = c.add.ensures ∙ ap (λ v. v.handed_in + c.char_count-count.result) c.self.view_is ∙ ap (λ n. c.args.self.now.handed_in + n) (c.char_count-count.ensures ∙ ap (λ bs. length (chars bs)) c.deref.ensures);
-      taken = ap (λ v. v.taken) c.self.view_is
+      taken = ap (λ v. v.taken) c.self.view_is;
     }

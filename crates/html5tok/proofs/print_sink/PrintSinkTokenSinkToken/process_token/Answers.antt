@@ -1,6 +1,5 @@
-use Rattle.std.proofs.Common.{◌≡◌, ◌++◌, sym, ap, ◌∙◌, refl}
-use Rattle.html5tok.specs.Page.{Page, page_step}
-use Rattle.html5tok.specs.Token.{told_by}
+use Rattle.std.proofs.Common.{refl}
+use Rattle.html5tok.specs.Page.{page_step}
 use Rattle.html5tok.proofs.print_sink.PrintSinkTokenSinkToken.process_token.Goals as goal
 
 pub returns-in-Ok-clause-steps : goal.returns-in-Ok-clause-steps

@@ -1,0 +1,333 @@
+use super::*;
+use crate::device::fakes::{FailingSource, FailingTarget, Refusal};
+use crate::device::{ReadSource, WriteTarget};
+use crate::options::{State, TokenizerOpts};
+use crate::print::Settings;
+use refusing::Refusing;
+use std::alloc::{AllocError, Global};
+use std::process::Abort;
+use std::test::Fail;
+
+const PLAIN: [&str; 2] = ["--state", "plaintext"];
+const USAGE: &str = "usage: html5tok [--exact] [--keep-bom] [--foreign] [--state S] [--last NAME] [--cut N] [--table LIST]\n";
+
+// A text with a line break of two characters and a NUL, and what is printed for it.
+const MIXED: &[u8] = b"a\r\nb\0c";
+const MIXED_LINES: &str = "text \"a\\nb\"\nerror 2 \"Saw \\u{0} in state Plaintext\"\ntext \"\u{fffd}c\"\neof 2\n";
+
+fn words_of<A: Allocator + Copy>(alloc: A, words: &[&str]) -> Result<Vec<String<A>, A>, AllocError> {
+    let mut all = Vec::new(alloc);
+    for word in words {
+        all.push(String::from_str(alloc, word)?)?;
+    }
+    Ok(all)
+}
+
+// What a run left.
+#[derive(Drop)]
+struct Ran {
+    status: u8,
+    output: Vec<u8>,
+    errors: Vec<u8>,
+}
+
+fn run_over(alloc: Global, words: &[&str], input: &[u8]) -> Result<Ran, AllocError> {
+    let mut reader = ReadSource::new(input);
+    let mut writer = WriteTarget::new(Vec::new(alloc));
+    let mut errors = WriteTarget::new(Vec::new(alloc));
+    let words = words_of(alloc, words)?;
+    let status = run(alloc, words, &mut reader, &mut writer, &mut errors);
+    Ok(Ran {
+        status,
+        output: writer.into_inner(),
+        errors: errors.into_inner(),
+    })
+}
+
+// Runs the program on an input, whole and cut in pieces of 1, 2 and 3 characters, and expects the same output each time.
+fn prints(rt: &impl Abort, alloc: Global, options: &[&str], input: &str, output: &str) -> Result<(), Fail> {
+    for cut in ["", "1", "2", "3"] {
+        let mut words = Vec::new(alloc);
+        words.extend_from_slice(&PLAIN)?;
+        words.extend_from_slice(options)?;
+        if !cut.is_empty() {
+            words.extend_from_slice(&["--cut", cut])?;
+        }
+        let ran = run_over(alloc, &words, input.as_bytes())?;
+        assert_eq!(rt; ran.output.as_slice(), output.as_bytes(), "{input:?} in pieces of {cut}");
+        assert_eq!(rt; ran.errors.len(), 0, "{input:?} in pieces of {cut}");
+        assert_eq!(rt; ran.status, 0, "{input:?} in pieces of {cut}");
+    }
+    Ok(())
+}
+
+#[test]
+fn plain_text_with_line_breaks_and_nul(rt: HostRuntime) -> Result<(), Fail> {
+    prints(&rt, rt.alloc(), &[], "a\r\nb\0c", MIXED_LINES)
+}
+
+#[test]
+fn exact_errors_drop_the_byte_order_mark(rt: HostRuntime) -> Result<(), Fail> {
+    prints(
+        &rt,
+        rt.alloc(),
+        &["--exact"],
+        "\u{feff}a\u{1}",
+        "text \"a\"\nerror 1 \"Bad character \\u{1}\"\ntext \"\\u{1}\"\neof 1\n",
+    )
+}
+
+#[test]
+fn prints_plain_text(rt: HostRuntime) -> Result<(), Fail> {
+    let cases = [
+        ("", "eof 1\n"),
+        ("\u{feff}", "eof 1\n"),
+        ("\u{feff}a\u{feff}b", "text \"a\u{feff}b\"\neof 1\n"),
+        ("\u{feff}\u{feff}", "text \"\u{feff}\"\neof 1\n"),
+        // A CR, a line break of CR and LF, a LF and a last CR.
+        ("\r\r\n\n\r", "text \"\\n\\n\\n\\n\"\neof 5\n"),
+        ("\n\r", "text \"\\n\\n\"\neof 3\n"),
+        ("say \"no\" \\ now", "text \"say \\\"no\\\" \\\\ now\"\neof 1\n"),
+        ("<p>&amp;\u{1}", "text \"<p>&amp;\\u{1}\"\neof 1\n"),
+        ("\u{e9}\u{20ac}\u{1d11e}", "text \"\u{e9}\u{20ac}\u{1d11e}\"\neof 1\n"),
+    ];
+    for (input, output) in cases {
+        prints(&rt, rt.alloc(), &[], input, output)?;
+    }
+    Ok(())
+}
+
+#[test]
+fn exact_errors_name_no_state(rt: HostRuntime) -> Result<(), Fail> {
+    prints(
+        &rt,
+        rt.alloc(),
+        &["--exact"],
+        "\0",
+        "error 1 \"Bad character\"\ntext \"\u{fffd}\"\neof 1\n",
+    )
+}
+
+#[test]
+fn keeps_the_byte_order_mark_on_request(rt: HostRuntime) -> Result<(), Fail> {
+    prints(&rt, rt.alloc(), &["--keep-bom"], "\u{feff}a", "text \"\u{feff}a\"\neof 1\n")
+}
+
+#[test]
+fn refuses_input_that_is_no_text(rt: HostRuntime) -> Result<(), Fail> {
+    for input in [b"\xff".as_slice(), b"a\xc3", b"\xed\xa0\x80"] {
+        let ran = run_over(rt.alloc(), &PLAIN, input)?;
+        assert_eq!(rt; ran.status, 3, "{input:?}");
+        assert_eq!(rt; ran.output.len(), 0, "{input:?}");
+        assert_eq!(rt; ran.errors.as_slice(), b"input is not UTF-8\n".as_slice(), "{input:?}");
+    }
+    Ok(())
+}
+
+#[test]
+fn refuses_words_that_it_does_not_know(rt: HostRuntime) -> Result<(), Fail> {
+    let faults: [&[&str]; 27] = [
+        &[],
+        &["--exact"],
+        &["--state"],
+        &["--state", "data"],
+        &["--state", "Plaintext"],
+        &["--state", ""],
+        &["--state", "--exact"],
+        &["--state=plaintext"],
+        &["--State", "plaintext"],
+        &["plaintext"],
+        &["--state", "plaintext", "more"],
+        &["--state", "plaintext", ""],
+        &["--state", "plaintext", "--"],
+        &["--state", "plaintext", "--exac"],
+        &["--state", "plaintext", "--exact "],
+        &["--state", "plaintext", "--cut"],
+        &["--state", "plaintext", "--cut", ""],
+        &["--state", "plaintext", "--cut", "0"],
+        &["--state", "plaintext", "--cut", "000"],
+        &["--state", "plaintext", "--cut", "+1"],
+        &["--state", "plaintext", "--cut", "-1"],
+        &["--state", "plaintext", "--cut", "1a"],
+        &["--state", "plaintext", "--cut", "4294967296"],
+        &["--state", "plaintext", "--cut", "100000000000000000000000000000000000000001"],
+        &["--state", "plaintext", "--cut", "0", "--cut", "1"],
+        &["--state", "data", "--state", "plaintext"],
+        &["--state", "plaintext", "--cut", "--exact"],
+    ];
+    for words in faults {
+        let ran = run_over(rt.alloc(), words, b"a")?;
+        assert_eq!(rt; ran.status, 2, "{words:?}");
+        assert_eq!(rt; ran.output.len(), 0, "{words:?}");
+        assert_eq!(rt; ran.errors.as_slice(), USAGE.as_bytes(), "{words:?}");
+    }
+    Ok(())
+}
+
+// The settings that plain text without further options has.
+fn plain() -> Settings
+    ensures { result.opts.initial_state ≡ Some State.Plaintext }
+{
+    Settings {
+        opts: TokenizerOpts {
+            exact_errors: false,
+            discard_bom: true,
+            initial_state: Some(State::Plaintext),
+        },
+        foreign: false,
+        cut: 0,
+    }
+}
+
+#[test]
+fn reads_settings(rt: HostRuntime) -> Result<(), Fail> {
+    let alloc = rt.alloc();
+    let cut = |cut: usize| Settings { cut, ..plain() };
+    let cases: [(&[&str], Settings); 7] = [
+        (&["--state", "plaintext"], plain()),
+        (&["--cut", "007", "--state", "plaintext"], cut(7)),
+        (&["--state", "plaintext", "--cut", "4294967295"], cut(4294967295)),
+        (&["--cut", "2", "--state", "plaintext", "--cut", "3"], cut(3)),
+        (&["--state", "plaintext", "--cut", "0000000000000000000000000000000000000001"], cut(1)),
+        (
+            &["--exact", "--state", "plaintext", "--exact", "--state", "plaintext"],
+            Settings {
+                opts: TokenizerOpts {
+                    exact_errors: true,
+                    ..plain().opts
+                },
+                ..plain()
+            },
+        ),
+        (
+            &["--keep-bom", "--state", "plaintext"],
+            Settings {
+                opts: TokenizerOpts {
+                    discard_bom: false,
+                    ..plain().opts
+                },
+                ..plain()
+            },
+        ),
+    ];
+    for (words, settings) in cases {
+        let said = words_of(alloc, words)?;
+        assert_eq!(rt; settings_of(&said), Some(settings), "{words:?}");
+    }
+    Ok(())
+}
+
+#[test]
+fn tells_that_memory_ran_out(rt: HostRuntime) -> Result<(), Fail> {
+    let mut refused = 0u64;
+    for admitted in 0..1000u64 {
+        let heap = Refusing::new(rt.alloc(), admitted);
+        let Ok(words) = words_of(&heap, &["--state", "plaintext", "--cut", "2"]) else {
+            continue;
+        };
+        let mut reader = ReadSource::new(MIXED);
+        let mut writer = WriteTarget::new(Vec::new(rt.alloc()));
+        let mut errors = WriteTarget::new(Vec::new(rt.alloc()));
+        let status = run(&heap, words, &mut reader, &mut writer, &mut errors);
+        let output: Vec<u8> = writer.into_inner();
+        let errors: Vec<u8> = errors.into_inner();
+        if !heap.has_refused() {
+            assert_eq!(rt; status, 0);
+            assert_eq!(rt; output.as_slice(), MIXED_LINES.as_bytes());
+            break;
+        }
+        refused = refused.wrapping_add(1);
+        assert_eq!(rt; status, 5, "after {admitted}");
+        assert!(rt; MIXED_LINES.as_bytes().starts_with(&output), "after {admitted}");
+        assert_eq!(rt; errors.as_slice(), b"out of memory\n".as_slice(), "after {admitted}");
+    }
+    assert!(rt; refused > 10);
+    Ok(())
+}
+
+#[test]
+fn prints_nothing_wrong_once_memory_ran_out(rt: HostRuntime) {
+    let mut refused = 0u64;
+    for admitted in 0..1000u64 {
+        let heap = Refusing::new(rt.alloc(), admitted);
+        let mut reader = ReadSource::new(MIXED);
+        let mut writer = WriteTarget::new(Vec::new(rt.alloc()));
+        let answer = print_tokens(&heap, &mut reader, &mut writer, &plain());
+        let output: Vec<u8> = writer.into_inner();
+        if !heap.has_refused() {
+            assert_eq!(rt; answer, Ok(()));
+            assert_eq!(rt; output.as_slice(), MIXED_LINES.as_bytes());
+            break;
+        }
+        refused = refused.wrapping_add(1);
+        assert_eq!(rt; answer, Err(Fault::Memory), "after {admitted}");
+        assert!(rt; MIXED_LINES.as_bytes().starts_with(&output), "after {admitted}");
+    }
+    assert!(rt; refused > 10);
+}
+
+#[test]
+fn tells_that_a_read_failed(rt: HostRuntime) -> Result<(), Fail> {
+    // A read for each byte, and one that finds the end.
+    for reads in 0..8 {
+        let mut reader = FailingSource::new(MIXED, reads);
+        let mut writer = WriteTarget::new(Vec::new(rt.alloc()));
+        let mut errors = WriteTarget::new(Vec::new(rt.alloc()));
+        let words = words_of(rt.alloc(), &PLAIN)?;
+        let status = run(rt.alloc(), words, &mut reader, &mut writer, &mut errors);
+        let (expected, output, line) = if reads < 7 {
+            (6, "", "read or write failed\n")
+        } else {
+            (0, MIXED_LINES, "")
+        };
+        assert_eq!(rt; status, expected, "after {reads} reads");
+        let written: Vec<u8> = writer.into_inner();
+        assert_eq!(rt; written.as_slice(), output.as_bytes(), "after {reads} reads");
+        let told: Vec<u8> = errors.into_inner();
+        assert_eq!(rt; told.as_slice(), line.as_bytes(), "after {reads} reads");
+    }
+    Ok(())
+}
+
+#[test]
+fn tells_that_a_write_failed(rt: HostRuntime) -> Result<(), Fail> {
+    for refusal in [Refusal::Error, Refusal::Nothing] {
+        for writes in 0..=MIXED_LINES.len() {
+            let mut reader = ReadSource::new(MIXED);
+            let mut writer = FailingTarget::new(rt.alloc(), writes, refusal);
+            let mut errors = WriteTarget::new(Vec::new(rt.alloc()));
+            let words = words_of(rt.alloc(), &PLAIN)?;
+            let status = run(rt.alloc(), words, &mut reader, &mut writer, &mut errors);
+            let (expected, line) = if writes < MIXED_LINES.len() {
+                (6, "read or write failed\n")
+            } else {
+                (0, "")
+            };
+            assert_eq!(rt; status, expected, "after {writes} writes");
+            assert_eq!(rt; writer.taken().len(), writes);
+            assert!(rt; MIXED_LINES.as_bytes().starts_with(writer.taken()), "after {writes} writes");
+            let told: Vec<u8> = errors.into_inner();
+            assert_eq!(rt; told.as_slice(), line.as_bytes(), "after {writes} writes");
+        }
+    }
+    Ok(())
+}
+
+#[test]
+fn a_line_that_fails_changes_nothing(rt: HostRuntime) -> Result<(), Fail> {
+    for refusal in [Refusal::Error, Refusal::Nothing] {
+        for (words, input, status, taken) in [
+            (PLAIN, b"\xff".as_slice(), 3, "inp"),
+            (["--state", "data"], b"a", 2, "usa"),
+            (PLAIN, b"a", 0, ""),
+        ] {
+            let mut reader = ReadSource::new(input);
+            let mut writer = WriteTarget::new(Vec::new(rt.alloc()));
+            let mut errors = FailingTarget::new(rt.alloc(), 3, refusal);
+            let words = words_of(rt.alloc(), &words)?;
+            assert_eq!(rt; run(rt.alloc(), words, &mut reader, &mut writer, &mut errors), status);
+            assert_eq!(rt; errors.taken(), taken.as_bytes());
+        }
+    }
+    Ok(())
+}
