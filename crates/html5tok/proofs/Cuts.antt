@@ -1,9 +1,9 @@
 -- Cutting a text between characters.
-use Rattle.std.proofs.Common.{◌≡◌, ℕ, ◌+◌, ◌<◌, ◌≤◌, List, [], ◌++◌, length, take, drop, encode_utf8, refl, sym, ap, ◌∙◌, arith}
+use Rattle.std.proofs.Common.{◌≡◌, ℕ, ◌+◌, ◌≤◌, List, ◌++◌, length, take, drop, encode_utf8, sym, ap, arith}
 use Rattle.std.specs.Char.{len_utf8}
-use Rattle.std.specs.Str.{IsUtf8, chars, IsCharBoundary}
+use Rattle.std.specs.Str.{IsUtf8, IsCharBoundary}
 use Rattle.std.proofs.lemmas.List.{length-drop, drop-drop}
-use Rattle.std.proofs.lemmas.Str.{drop_past_char, IsUtf8-past_char, IsUtf8-take, IsUtf8-drop, IsCharBoundary-from_drop, IsCharBoundary-past_char}
+use Rattle.std.proofs.lemmas.Str.{drop_past_char, IsUtf8-take, IsUtf8-drop, IsCharBoundary-from_drop, IsCharBoundary-past_char}
 
 -- a place between two characters of the text
 pub record IsCut (text : List ℕ) (at_byte : ℕ) : Type 0 where

@@ -1,5 +1,5 @@
 -- A loop that feeds a text in pieces.
-use Rattle.std.proofs.Common.{◌≡◌, ℕ, ◌+◌, Bool, true, false, List, [], ◌∷◌, ◌++◌, refl, ap, sym, ◌∙◌, arith, length, take, drop, subst}
+use Rattle.std.proofs.Common.{◌≡◌, ℕ, ◌+◌, false, List, [], ◌++◌, refl, ap, sym, ◌∙◌, take, drop}
 use Rattle.std.specs.Str.{IsUtf8, chars}
 use Rattle.std.proofs.Math.Seq.{take-add}
 use Rattle.std.proofs.lemmas.List.{append-nil, append_assoc}
@@ -34,14 +34,14 @@ FedTo-start first text queue utf8 going_on not_failed waiting = record {
 pub FedTo-more : (first now next : Tokenizing Printer) (text piece : List ℕ) (start len : ℕ) (queue later : TextQueue)
     → FedTo first now text start queue → IsUtf8 text → IsCut text (start + len) → piece ≡ take len (drop start text)
     → ((K : Start) (s : Page) (X : List ℕ) → StandsAt (λ (sink : Printer). sink.page) page_step now K s X
-        → StandsAt (λ (sink : Printer). sink.page) page_step next K s (X ++ chars piece))
+    → StandsAt (λ (sink : Printer). sink.page) page_step next K s (X ++ chars piece))
     → next.exact ≡ now.exact → next.ended ≡ false → next.failed ≡ false → later.text ≡ []
     → FedTo first next text (start + len) later
 FedTo-more first now next text piece start len queue later fed utf8 cut is_piece stands exact going_on not_failed waiting =
     let front : chars (take (start + len) text) ≡ chars (take start text) ++ chars piece =
-      ap chars (take-add start len text)
-      ∙ chars-append (take start text) (take len (drop start text)) (IsCut-front text start utf8 fed.cut)
-      ∙ ap (λ l. chars (take start text) ++ chars l) (sym is_piece) in
+    ap chars (take-add start len text)
+    ∙ chars-append (take start text) (take len (drop start text)) (IsCut-front text start utf8 fed.cut)
+    ∙ ap (λ l. chars (take start text) ++ chars l) (sym is_piece) in
     record {
       cut = cut;
       stands = λ K s X begins. rw (front, ← append_assoc X (chars (take start text)) (chars piece)) (stands K s (X ++ chars (take start text)) (fed.stands K s X begins));

@@ -7,7 +7,6 @@ use Rattle.std.proofs.lemmas.List.{append-nil}
 use Rattle.html5tok.specs.Device.{ConsumesBeginning}
 use Rattle.html5tok.specs.NormalisedText.{normalised}
 use Rattle.html5tok.specs.Page.{Page, page_step, blank_page}
-use Rattle.html5tok.specs.Printed.{printed}
 use Rattle.html5tok.specs.Printing.{printed_reading}
 use Rattle.html5tok.specs.Reading.{end_events, reading, told, messages, line_after}
 use Rattle.html5tok.specs.Sink.{Message, stepped}

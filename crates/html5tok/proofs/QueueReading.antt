@@ -1,20 +1,19 @@
 -- A loop that reads the queue: what it has read so far, and what that gives when it goes on, ends or is refused.
-use Rattle.std.proofs.Common.{◌≡◌, ◌≢◌, ◌↔◌, ℕ, ◌+◌, Bool, true, false, List, [], ◌∷◌, ◌++◌, refl, ap, sym, ◌∙◌, arith, subst, length, length-append, Option, None, Some, Result, Ok, Err, lit<}
-use Rattle.std.specs.Prelude.{All, Contains}
+use Rattle.std.proofs.Common.{◌≡◌, ◌≢◌, ◌↔◌, ℕ, Bool, false, List, [], ◌∷◌, ◌++◌, refl, ap, sym, ◌∙◌, arith, subst, length-append, Option, None, Some, lit<}
+use Rattle.std.specs.Prelude.{Contains}
 use Rattle.std.specs.Str.{chars}
 use Rattle.std.specs.String.{string_bytes}
 use Rattle.std.proofs.lemmas.List.{append_assoc, append-nil}
 use Rattle.std.proofs.lemmas.List.Elements.{All-weaker}
 use Rattle.html5tok.specs.BufferQueue.{TextQueue, Takes}
 use Rattle.html5tok.specs.Characters.{null, line_feed, carriage_return}
-use Rattle.html5tok.specs.Feed.{IsEndOf}
 use Rattle.html5tok.specs.Reading.{told, messages, after}
-use Rattle.html5tok.specs.Runs.{IsOrdinary, IsRun, TakesItem, CanRead, item_text}
+use Rattle.html5tok.specs.Runs.{IsOrdinary, TakesItem, CanRead, item_text}
 use Rattle.html5tok.specs.SetResult.{Pops}
-use Rattle.html5tok.specs.Sink.{Message, stepped}
+use Rattle.html5tok.specs.Sink.{stepped}
 use Rattle.html5tok.specs.SmallCharSet.{IsMember}
 use Rattle.html5tok.specs.Start.{Start}
-use Rattle.html5tok.specs.Telling.{Stops, Tells}
+use Rattle.html5tok.specs.Telling.{Stops}
 use Rattle.html5tok.specs.Token.{Told}
 use Rattle.html5tok.specs.declared.buffer_queue.SetResult.{SetResult}
 use Rattle.html5tok.specs.declared.buffer_queue.SetResult.TheVariants.{FromSet, NotFromSet}
@@ -30,19 +29,21 @@ pub TakesItem-from_pops : {Z : Type 0} (exact : Bool) (K : Start) (set : ℕ) (o
     → Pops set old new o → TakesItem exact K old new o
 TakesItem-from_pops exact K set old new None e past same p = p
 TakesItem-from_pops exact K set old new (Some (FromSet c)) e past same p = (p.takes, tt)
-TakesItem-from_pops exact K set old new (Some (NotFromSet run)) e past same p =
-    (p.takes, record {
-      not_exact = e;
-      past_line_break = past.0;
-      past_stream_start = past.1;
-      filled = p.filled;
-      ordinary = All-weaker (λ c. ¬ IsMember set c) IsOrdinary
+TakesItem-from_pops exact K set old new (Some (NotFromSet run)) e past same p = (
+  p.takes,
+  record {
+    not_exact = e;
+    past_line_break = past.0;
+    past_stream_start = past.1;
+    filled = p.filled;
+    ordinary = All-weaker (λ c. ¬ IsMember set c) IsOrdinary
         (λ c outside. record {
           no_null = λ is. outside ((same c).1 (0, lit< tt, sym is));
           no_line_feed = λ is. outside ((same c).1 (1, lit< tt, sym is));
           no_carriage_return = λ is. outside ((same c).1 (2, lit< tt, sym is));
         }) (chars (string_bytes run)) p.outside;
-    })
+  },
+)
 
 -- two texts that are empty together are empty apart
 pub nil-from_append : {X : Type 0} → (xs ys : List X) → xs ++ ys ≡ [] → (xs ≡ []) × (ys ≡ [])
@@ -83,11 +84,11 @@ module _ {S : Type 0} (step faulted : S → Told → ℕ → S) (exact : Bool) w
       taken = omega (arith, taken.taken, read.takes.taken, length-append read.front item);
     };
     state =
-      told_now
-      ∙ ap (λ P. stepped step t (messages (told exact P item))) read.position
-      ∙ ap (λ v. stepped step v (messages (told exact (after K read.front) item))) read.state
-      ∙ sym (stepped-append step faulted s (messages (told exact K read.front)) (messages (told exact (after K read.front) item)))
-      ∙ ap (λ M. stepped step s M) (sym (told-append exact K read.front item));
+        told_now
+        ∙ ap (λ P. stepped step t (messages (told exact P item))) read.position
+        ∙ ap (λ v. stepped step v (messages (told exact (after K read.front) item))) read.state
+        ∙ sym (stepped-append step faulted s (messages (told exact K read.front)) (messages (told exact (after K read.front) item)))
+        ∙ ap (λ M. stepped step s M) (sym (told-append exact K read.front item));
     position = moved ∙ ap (λ P. after P item) read.position ∙ sym (after-append K read.front item);
   }
 
@@ -104,14 +105,14 @@ module _ {S : Type 0} (step faulted : S → Told → ℕ → S) (exact : Bool) w
   HasRead-stops e K L old mid new s t u item read taken stops =
       let P : Start = after K read.front in
       let at_item : Stops step faulted e t (messages (told exact P item)) u =
-        subst (λ Q. Stops step faulted e t (messages (told exact Q item)) u) read.position stops in
+      subst (λ Q. Stops step faulted e t (messages (told exact Q item)) u) read.position stops in
       let whole : messages (told exact K old.text)
-            ≡ messages (told exact K read.front) ++ (messages (told exact P item) ++ messages (told exact (after P item) new.text)) =
-        told-rest K L old mid s t read
-        ∙ ap (λ X. messages (told exact K read.front) ++ messages (told exact P X)) taken.text
-        ∙ ap (λ M. messages (told exact K read.front) ++ M) (told-append exact P item new.text) in
+      ≡ messages (told exact K read.front) ++ (messages (told exact P item) ++ messages (told exact (after P item) new.text)) =
+      told-rest K L old mid s t read
+      ∙ ap (λ X. messages (told exact K read.front) ++ messages (told exact P X)) taken.text
+      ∙ ap (λ M. messages (told exact K read.front) ++ M) (told-append exact P item new.text) in
       rw whole (Stops-after step faulted e s t u (messages (told exact K read.front)) _ read.state
-        (Stops-before step faulted e t u (messages (told exact P item)) (messages (told exact (after P item) new.text)) at_item))
+      (Stops-before step faulted e t u (messages (told exact P item)) (messages (told exact (after P item) new.text)) at_item))
 
   pub HasRead-memory : (K L : Start) (old mid : TextQueue) (s t : S)
       → HasRead step exact K L old mid s t → Stops step faulted Memory s (messages (told exact K old.text)) t

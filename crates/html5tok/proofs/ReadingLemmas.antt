@@ -1,8 +1,7 @@
 -- Reading a text in two parts: the second is read anew from the start behind the first.
-use Rattle.std.proofs.Common.{◌≡◌, ℕ, ◌+◌, ◌≤◌, Bool, true, false, cond, List, [], ◌∷◌, ◌++◌, refl, ap, sym, ◌∙◌, arith, length, min, subst, inl, inr}
-use Rattle.std.specs.Prelude.{map, count_by, take_while, ◌==◌, ◌&&◌, ◌||◌}
+use Rattle.std.proofs.Common.{◌≡◌, ℕ, Bool, true, false, cond, List, [], ◌∷◌, ◌++◌, refl, ap, sym, ◌∙◌, arith, inl, inr}
+use Rattle.std.specs.Prelude.{map, take_while, ◌==◌, ◌&&◌}
 use Rattle.std.proofs.lemmas.Bool.{eqb-true, and_parts, or_cases}
-use Rattle.std.proofs.lemmas.Grind.{common_steps}
 use Rattle.std.proofs.lemmas.List.{append_assoc, append-nil}
 use Rattle.std.proofs.lemmas.List.{map-append}
 use Rattle.std.proofs.lemmas.List.Sums.{sum_by-append}
@@ -10,7 +9,7 @@ use native.Mathlib.Numerals.{one-add}
 use Rattle.html5tok.specs.Characters.{line_feed, carriage_return, byte_order_mark}
 use Rattle.html5tok.specs.NormalisedText.{with_line_feeds, without_dropped_first, normalised, drops_first}
 use Rattle.html5tok.specs.PlainText.{bad_character_error, text_item, told_at}
-use Rattle.html5tok.specs.Reading.{Event, Place, is_character, events_at, events_from, end_events, reading, told, messages, line_after, last_line, after, ends_with_carriage_return}
+use Rattle.html5tok.specs.Reading.{Event, is_character, events_at, events_from, end_events, reading, told, messages, line_after, after, ends_with_carriage_return}
 use Rattle.html5tok.specs.Sink.{Message, on_line}
 use Rattle.html5tok.specs.Start.{Start, Mode}
 use Rattle.html5tok.specs.Start.Mode.{Plain}
@@ -24,12 +23,12 @@ unfolding with_line_feeds ends_with_carriage_return
 with_line_feeds-append b [] Z = refl
 with_line_feeds-append b (c ∷ X) Z =
     elim (c == carriage_return) as (λ v. cond v (line_feed ∷ with_line_feeds true (X ++ Z)) (cond (b && (c == line_feed)) (with_line_feeds false (X ++ Z)) (c ∷ with_line_feeds false (X ++ Z)))
-      ≡ cond v (line_feed ∷ with_line_feeds true X) (cond (b && (c == line_feed)) (with_line_feeds false X) (c ∷ with_line_feeds false X)) ++ with_line_feeds (ends_with_carriage_return v X) Z) [
-        true ↦ ap (λ l. line_feed ∷ l) (with_line_feeds-append true X Z)
+    ≡ cond v (line_feed ∷ with_line_feeds true X) (cond (b && (c == line_feed)) (with_line_feeds false X) (c ∷ with_line_feeds false X)) ++ with_line_feeds (ends_with_carriage_return v X) Z) [
+      | true ↦ ap (λ l. line_feed ∷ l) (with_line_feeds-append true X Z)
       | false ↦
           elim (b && (c == line_feed)) as (λ v. cond v (with_line_feeds false (X ++ Z)) (c ∷ with_line_feeds false (X ++ Z))
-            ≡ cond v (with_line_feeds false X) (c ∷ with_line_feeds false X) ++ with_line_feeds (ends_with_carriage_return false X) Z) [
-              true ↦ with_line_feeds-append false X Z
+          ≡ cond v (with_line_feeds false X) (c ∷ with_line_feeds false X) ++ with_line_feeds (ends_with_carriage_return false X) Z) [
+            | true ↦ with_line_feeds-append false X Z
             | false ↦ ap (λ l. c ∷ l) (with_line_feeds-append false X Z)
           ]
     ]
@@ -38,10 +37,10 @@ with_line_feeds-append b (c ∷ X) Z =
 pub dropped-no_cr : (K : Start) (c : ℕ) → drops_first K c ≡ true → (c == carriage_return) ≡ false
 dropped-no_cr K c d =
     let here : (x : ℕ) → (x == carriage_return) ≡ false → (b : Bool) → (b && (c == x)) ≡ true → (c == carriage_return) ≡ false =
-      λ x other b h. rw (eqb-true c x (and_parts b (c == x) h).1) other in
+    λ x other b h. rw (eqb-true c x (and_parts b (c == x) h).1) other in
     elim (or_cases (K.drops_byte_order_mark && (c == byte_order_mark)) (K.after_carriage_return && (c == line_feed)) d) [
-      inl h ↦ here byte_order_mark refl K.drops_byte_order_mark h
-    | inr h ↦ here line_feed refl K.after_carriage_return h
+      | inl h ↦ here byte_order_mark refl K.drops_byte_order_mark h
+      | inr h ↦ here line_feed refl K.after_carriage_return h
     ]
 
 -- a LF after a CR may be dropped before the rest is normalised
@@ -61,7 +60,7 @@ with_line_feeds-restart K b (c ∷ Z) cr bom = rw (bom, cr) (with_line_feeds-fir
 -- what follows a text is normalised from the start behind it
 normalised-cons-append : (K : Start) (c : ℕ) (X Z : List ℕ) (d : Bool) → drops_first K c ≡ d
     → with_line_feeds false (cond d (X ++ Z) (c ∷ X ++ Z))
-      ≡ with_line_feeds false (cond d X (c ∷ X)) ++ with_line_feeds (ends_with_carriage_return false (c ∷ X)) Z
+    ≡ with_line_feeds false (cond d X (c ∷ X)) ++ with_line_feeds (ends_with_carriage_return false (c ∷ X)) Z
 unfolding ends_with_carriage_return
 normalised-cons-append K c X Z true h = rw (dropped-no_cr K c h) (with_line_feeds-append false X Z)
 normalised-cons-append K c X Z false h = with_line_feeds-append false (c ∷ X) Z
@@ -72,7 +71,7 @@ normalised-append K [] Z = refl
 normalised-append K (c ∷ X) Z =
     normalised-cons-append K c X Z (drops_first K c) refl
     ∙ ap (λ l. normalised K (c ∷ X) ++ l)
-        (with_line_feeds-restart (after K (c ∷ X)) (ends_with_carriage_return false (c ∷ X)) Z refl refl)
+    (with_line_feeds-restart (after K (c ∷ X)) (ends_with_carriage_return false (c ∷ X)) Z refl refl)
 
 -- the events that characters decide come first, and are those at the places of the text
 
@@ -87,7 +86,7 @@ take_while-map p f h (x ∷ xs) ys =
 
 events_from-decided : (exact : Bool) (K : Start) (before Y : List ℕ) (E : List Event)
     → take_while (λ e. is_character e.decided_by) (events_from exact K before Y ++ E)
-      ≡ events_from exact K before Y ++ take_while (λ e. is_character e.decided_by) E
+    ≡ events_from exact K before Y ++ take_while (λ e. is_character e.decided_by) E
 unfolding events_from events_at
 events_from-decided exact K before [] E = refl
 events_from-decided exact K before (c ∷ Y) E =
@@ -144,12 +143,12 @@ unfolding events_from
 messages-restart exact K L before past [] mode lines = refl
 messages-restart exact K L before past (c ∷ W) mode lines =
     let here : messages (events_at exact K before c) ≡ messages (events_at exact L past c) =
-      messages-events_at exact K before c ∙ rw (lines (c ∷ []), ← mode) (sym (messages-events_at exact L past c)) in
+    messages-events_at exact K before c ∙ rw (lines (c ∷ []), ← mode) (sym (messages-events_at exact L past c)) in
     let later : (Z : List ℕ) → line_after K ((before ++ c ∷ []) ++ Z) ≡ line_after L ((past ++ c ∷ []) ++ Z) =
-      λ Z. rw (append_assoc before (c ∷ []) Z, append_assoc past (c ∷ []) Z) (lines (c ∷ Z)) in
+    λ Z. rw (append_assoc before (c ∷ []) Z, append_assoc past (c ∷ []) Z) (lines (c ∷ Z)) in
     messages-append (events_at exact K before c) (events_from exact K (before ++ c ∷ []) W)
     ∙ rw (here, messages-restart exact K L (before ++ c ∷ []) (past ++ c ∷ []) W mode later)
-        (sym (messages-append (events_at exact L past c) (events_from exact L (past ++ c ∷ []) W)))
+    (sym (messages-append (events_at exact L past c) (events_from exact L (past ++ c ∷ []) W)))
 
 after-mode : (K : Start) (X : List ℕ) → (after K X).mode ≡ K.mode
 unfolding after
@@ -165,11 +164,16 @@ after-lines K (c ∷ X) Z = line_after-append K (after K (c ∷ X)) (normalised 
 pub told-append : (exact : Bool) (K : Start) (X Z : List ℕ)
     → messages (told exact K (X ++ Z)) ≡ messages (told exact K X) ++ messages (told exact (after K X) Z)
 told-append exact K X Z =
-    rw (told-events exact K (X ++ Z), told-events exact K X, told-events exact (after K X) Z, normalised-append K X Z,
-        events_from-append exact K [] (normalised K X) (normalised (after K X) Z))
+    rw (
+      told-events exact K (X ++ Z),
+      told-events exact K X,
+      told-events exact (after K X) Z,
+      normalised-append K X Z,
+      events_from-append exact K [] (normalised K X) (normalised (after K X) Z),
+    )
     (messages-append (events_from exact K [] (normalised K X)) (events_from exact K (normalised K X) (normalised (after K X) Z))
     ∙ ap (λ l. messages (events_from exact K [] (normalised K X)) ++ l)
-        (messages-restart exact K (after K X) (normalised K X) [] (normalised (after K X) Z) (after-mode K X) (after-lines K X)))
+    (messages-restart exact K (after K X) (normalised K X) [] (normalised (after K X) Z) (after-mode K X) (after-lines K X)))
 
 -- no character
 
@@ -194,7 +198,7 @@ told-none exact K c e = rw (told-events exact K (c ∷ []), e) refl
 -- the messages at d, the character that is read for c
 pub told-one : (exact : Bool) (K : Start) (c d : ℕ) → normalised K (c ∷ []) ≡ d ∷ []
     → messages (told exact K (c ∷ []))
-      ≡ on_line (after K (c ∷ [])).line (bad_character_error exact d) ++ on_line (after K (c ∷ [])).line (text_item exact Plain d)
+    ≡ on_line (after K (c ∷ [])).line (bad_character_error exact d) ++ on_line (after K (c ∷ [])).line (text_item exact Plain d)
 unfolding events_from told_at line_after
 told-one exact K c d e =
     rw (told-events exact K (c ∷ []), e, append-nil (events_at exact K [] d), messages-events_at exact K [] d, after-line K c (d ∷ []) e, plain_mode K)
@@ -215,5 +219,5 @@ after-append K (c ∷ X) [] = ap (λ l. after K l) (append-nil (c ∷ X))
 after-append K (c ∷ X) (d ∷ Z) =
     let L : Start = after K (c ∷ X) in
     let line : line_after K (normalised K ((c ∷ X) ++ d ∷ Z)) ≡ line_after L (normalised L (d ∷ Z)) =
-      ap (λ l. line_after K l) (normalised-append K (c ∷ X) (d ∷ Z)) ∙ line_after-append K L (normalised K (c ∷ X)) (normalised L (d ∷ Z)) refl in
+    ap (λ l. line_after K l) (normalised-append K (c ∷ X) (d ∷ Z)) ∙ line_after-append K L (normalised K (c ∷ X)) (normalised L (d ∷ Z)) refl in
     rw (line, ends_with_carriage_return-append false (c ∷ X) (d ∷ Z)) refl

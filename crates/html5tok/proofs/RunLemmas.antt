@@ -1,5 +1,5 @@
 -- A run tells its characters on the line that is reached, and leaves the tokenizer where it stands.
-use Rattle.std.proofs.Common.{◌≡◌, ◌≢◌, ℕ, ◌+◌, ◌<◌, ◌^◌, Bool, true, false, cond, List, [], ◌∷◌, ◌++◌, refl, ap, sym, ◌∙◌, arith, min}
+use Rattle.std.proofs.Common.{◌≡◌, ℕ, ◌<◌, ◌^◌, Bool, false, cond, List, [], ◌∷◌, ◌++◌, refl, ap, sym, ◌∙◌, arith}
 use Rattle.std.specs.Prelude.{map, ◌==◌, All, encode_utf8}
 use Rattle.std.proofs.lemmas.Bool.{ne_eqb}
 use Rattle.std.proofs.lemmas.List.{append_assoc, append-nil}
@@ -8,10 +8,9 @@ use Rattle.std.proofs.lemmas.List.Sums.{sum_by-append}
 use Rattle.html5tok.specs.Characters.{null, line_feed, carriage_return}
 use Rattle.html5tok.specs.NormalisedText.{with_line_feeds, without_dropped_first, normalised}
 use Rattle.html5tok.specs.PlainText.{told_at}
-use Rattle.html5tok.specs.Reading.{Event, events_at, events_from, told, messages, line_after, last_line, after, ends_with_carriage_return}
+use Rattle.html5tok.specs.Reading.{events_at, events_from, told, messages, line_after, after, ends_with_carriage_return}
 use Rattle.html5tok.specs.Runs.{IsOrdinary, IsRun}
-use Rattle.html5tok.specs.Sink.{Message}
-use Rattle.html5tok.specs.Start.{Start, Mode}
+use Rattle.html5tok.specs.Start.{Start}
 use Rattle.html5tok.specs.Start.Mode.{Plain}
 use Rattle.html5tok.specs.Token.{Told}
 use Rattle.html5tok.specs.Token.Told.{Text}
@@ -57,8 +56,8 @@ unfolding after
 after-run exact K [] r h = refl
 after-run exact K (c ∷ run) r h =
     let same : (line : ℕ) (b d : Bool) → line ≡ K.line → b ≡ K.after_carriage_return → d ≡ K.drops_byte_order_mark
-        → record { mode = K.mode; line = line; after_carriage_return = b; drops_byte_order_mark = d } ≡ K =
-      λ line b d l e f. rw (l, e, f) refl in
+    → record { mode = K.mode; line = line; after_carriage_return = b; drops_byte_order_mark = d } ≡ K =
+    λ line b d l e f. rw (l, e, f) refl in
     same (line_after K (normalised K (c ∷ run))) (ends_with_carriage_return false (c ∷ run)) false
     (ap (λ l. line_after K l) (normalised-run exact K (c ∷ run) r) ∙ line_after-run K [] (c ∷ run) r.ordinary ∙ line_after-none K h)
     (ends-run false (c ∷ run) refl r.ordinary ∙ sym r.past_line_break)
@@ -76,13 +75,13 @@ events-run K before (c ∷ run) e all =
     let ordinary : IsOrdinary c = All-head IsOrdinary c run all in
     let line : line_after K (before ++ c ∷ []) ≡ K.line = line_after-ordinary K before c ordinary ∙ e in
     let here : messages (events_at false K before c) ≡ record { token = Text (encode_utf8 c); line = K.line } ∷ [] =
-      messages-events_at false K before c
-      ∙ ap (λ mode. messages_at false mode (line_after K (before ++ c ∷ [])) c) (plain_mode K)
-      ∙ ap (λ (l : ℕ). messages_at false Plain l c) line
-      ∙ ap (map (λ (token : Told). record { token = token; line = K.line })) (told_at-ordinary c ordinary) in
+    messages-events_at false K before c
+    ∙ ap (λ mode. messages_at false mode (line_after K (before ++ c ∷ [])) c) (plain_mode K)
+    ∙ ap (λ (l : ℕ). messages_at false Plain l c) line
+    ∙ ap (map (λ (token : Told). record { token = token; line = K.line })) (told_at-ordinary c ordinary) in
     messages-append (events_at false K before c) (events_from false K (before ++ c ∷ []) run)
     ∙ rw here (ap (λ l. record { token = Text (encode_utf8 c); line = K.line } ∷ l)
-        (events-run K (before ++ c ∷ []) run line (All-tail IsOrdinary c run all)))
+    (events-run K (before ++ c ∷ []) run line (All-tail IsOrdinary c run all)))
 
 pub told-run : (exact : Bool) (K : Start) (run : List ℕ) → IsRun exact K run → K.line < 2 ^ 64
     → messages (told exact K run) ≡ map (λ c. record { token = Text (encode_utf8 c); line = K.line }) run

@@ -1,12 +1,11 @@
 -- Where a tokenizer stands, after more text and at the end.
-use Rattle.std.proofs.Common.{◌≡◌, ℕ, ◌+◌, ◌<◌, ◌^◌, arith, Bool, true, false, List, [], ◌∷◌, ◌++◌, refl, ap, sym, ◌∙◌, subst, length, drop}
-use Rattle.std.specs.Prelude.{map}
+use Rattle.std.proofs.Common.{◌≡◌, ℕ, ◌<◌, ◌^◌, arith, Bool, false, List, [], ◌∷◌, ◌++◌, refl, ap, sym, ◌∙◌, subst, length, drop}
 use Rattle.std.proofs.Math.Seq.{drop-append_seam}
 use Rattle.std.proofs.lemmas.List.{length-map}
 use Rattle.html5tok.specs.Feed.{told_beyond, told_at_end}
 use Rattle.html5tok.specs.NormalisedText.{with_line_feeds, without_dropped_first, normalised}
 use Rattle.html5tok.specs.Reading.{Event, end_events, reading, told, messages, line_after, after}
-use Rattle.html5tok.specs.Sink.{Message, stepped, on_line}
+use Rattle.html5tok.specs.Sink.{stepped, on_line}
 use Rattle.html5tok.specs.Start.{Start}
 use Rattle.html5tok.specs.Telling.{Stops}
 use Rattle.html5tok.specs.Token.{Told}
@@ -66,11 +65,11 @@ module _ {X S : Type 0} (state : X → S) (step faulted : S → Told → ℕ →
       → StandsAt state step t K s text → StandsAt state step u K s (text ++ more)
   StandsAt-more t u K s text more exact tells moves not_failed ended stands = record {
     told = tells
-      ∙ ap (λ P. stepped step (state t.sink) (messages (told t.exact P more))) stands.position
-      ∙ ap (λ v. stepped step v (messages (told t.exact (after K text) more))) stands.told
-      ∙ sym (stepped-append step faulted s (messages (told t.exact K text)) (messages (told t.exact (after K text) more)))
-      ∙ ap (λ M. stepped step s M) (sym (told-append t.exact K text more))
-      ∙ ap (λ x. stepped step s (messages (told x K (text ++ more)))) (sym exact);
+        ∙ ap (λ P. stepped step (state t.sink) (messages (told t.exact P more))) stands.position
+        ∙ ap (λ v. stepped step v (messages (told t.exact (after K text) more))) stands.told
+        ∙ sym (stepped-append step faulted s (messages (told t.exact K text)) (messages (told t.exact (after K text) more)))
+        ∙ ap (λ M. stepped step s M) (sym (told-append t.exact K text more))
+        ∙ ap (λ x. stepped step s (messages (told x K (text ++ more)))) (sym exact);
     position = moves ∙ ap (λ P. after P more) stands.position ∙ sym (after-append K text more);
     not_failed = not_failed;
     not_ended = ended ∙ stands.not_ended;

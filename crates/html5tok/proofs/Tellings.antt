@@ -1,21 +1,20 @@
 -- What telling leaves: one token, and one call after another.
-use Rattle.std.proofs.Common.{◌≡◌, ◌≢◌, ℕ, ◌+◌, List, [], ◌∷◌, ◌++◌, refl, ap, sym, ◌∙◌, Result, Ok, Err, false, string_bytes}
-use Rattle.std.specs.Prelude.{map, encode_utf8, encode_utf8_all, take, drop}
+use Rattle.std.proofs.Common.{◌≡◌, ◌≢◌, ℕ, List, [], ◌∷◌, ◌++◌, refl, ap, sym, ◌∙◌, Result, Ok, Err, string_bytes}
+use Rattle.std.specs.Prelude.{map, encode_utf8, encode_utf8_all}
 use Rattle.std.specs.Str.{chars, IsUtf8}
-use Rattle.std.specs.declared.string.String.{String}
 use Rattle.std.proofs.lemmas.List.{append-nil, append_assoc}
 use Rattle.std.proofs.lemmas.Result.{err_from_is_err_and}
 use Rattle.std.proofs.lemmas.Str.{encodes-chars, IsUtf8-string_bytes, IsUtf8-encode, chars_past_char, chars-nil}
 use Rattle.std.specs.Char.{IsScalar}
 use Rattle.std.specs.Result.{IsErrAnd}
 use Rattle.html5tok.specs.Sink.{Message, stepped}
-use Rattle.html5tok.specs.Telling.{messages_of, StopsWithin, FaultsWithin, Stops, Tells}
+use Rattle.html5tok.specs.Telling.{messages_of, Stops, Tells}
 use Rattle.html5tok.specs.declared.error.TokenizerError.{TokenizerError}
 use Rattle.html5tok.specs.declared.error.TokenizerError.TheVariants.{Memory, Sink, Failed}
 use Rattle.html5tok.specs.declared.token.Token.{Token}
 use Rattle.html5tok.specs.declared.token.Token.TheVariants.{TagToken, CharacterTokens, EOFToken, ParseError}
-use Rattle.html5tok.specs.Token.{Told, told_by, is_tag}
-use Rattle.html5tok.specs.Token.Told.{Text, Error, Tag, End}
+use Rattle.html5tok.specs.Token.{Told, told_by}
+use Rattle.html5tok.specs.Token.Told.{Text}
 
 -- a text steps as its characters do
 module _ {S : Type 0} (step faulted : S → Told → ℕ → S) where
@@ -137,7 +136,7 @@ pub messages_of-char : (c line : ℕ) → IsScalar c
     → messages_of (Text (encode_utf8 c)) line ≡ record { token = Text (encode_utf8 c); line = line } ∷ []
 messages_of-char c line scalar =
     ap (map (λ (d : ℕ). record { token = Text (encode_utf8 d); line = line }))
-      (chars_past_char (encode_utf8 c) [] c (IsUtf8-encode c scalar) (sym (append-nil (encode_utf8 c))) ∙ ap (λ cs. c ∷ cs) chars-nil)
+    (chars_past_char (encode_utf8 c) [] c (IsUtf8-encode c scalar) (sym (append-nil (encode_utf8 c))) ∙ ap (λ cs. c ∷ cs) chars-nil)
 
 pub cons≢nil : {X : Type 0} → (x : X) (xs : List X) → x ∷ xs ≢ []
 cons≢nil x xs = λ h. cc

@@ -1,5 +1,5 @@
 -- The reading of a text: its events, which of them its characters decide, and the start behind it.
-use Rattle.std.specs.Prelude.{ℕ, ◌+◌, ◌-◌, ◌^◌, min, Bool, true, false, List, [], ◌∷◌, ◌++◌, ◌==◌, length, map, count_by, take_while, if◌then◌else◌}
+use Rattle.std.specs.Prelude.{ℕ, ◌+◌, ◌-◌, ◌^◌, min, Bool, true, false, List, [], ◌∷◌, ◌++◌, ◌==◌, length, map, count_by, take_while}
 use Rattle.html5tok.specs.Characters.{line_feed, carriage_return}
 use Rattle.html5tok.specs.NormalisedText.{normalised}
 use Rattle.html5tok.specs.PlainText.{told_at}

@@ -1,5 +1,5 @@
 -- What can be taken from the queue at once: a character, or a run of characters that tell themselves alone.
-use Rattle.std.specs.Prelude.{◌≡◌, ◌≢◌, ℕ, Bool, true, false, List, [], ◌∷◌, All, Option, None, Some}
+use Rattle.std.specs.Prelude.{◌≡◌, ◌≢◌, ℕ, Bool, false, List, [], ◌∷◌, All, Option, None, Some}
 use Rattle.std.specs.Str.{chars}
 use Rattle.std.specs.String.{string_bytes}
 use Rattle.html5tok.specs.BufferQueue.{TextQueue, Takes}

@@ -1,5 +1,5 @@
 -- Where a tokenizer stands in a text.
-use Rattle.std.specs.Prelude.{◌≡◌, ℕ, Bool, true, false, List, ◌⊎◌}
+use Rattle.std.specs.Prelude.{◌≡◌, ℕ, Bool, false, List, ◌⊎◌}
 use Rattle.html5tok.specs.Reading.{told, messages, after}
 use Rattle.html5tok.specs.Sink.{Message, stepped}
 use Rattle.html5tok.specs.Start.{Start}

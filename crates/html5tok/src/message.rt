@@ -24,7 +24,12 @@ pub fn bad_character_message<A: Allocator>(alloc: A, c: char) -> Result<String<A
 
 /// The message for a character that a state doesn't expect.
 #[tactic(auto, unfolding(crate::specs::ErrorText::saw))]
-pub fn saw_message<A: Allocator>(alloc: A, exact_errors: bool, c: char, state: &str) -> Result<String<A>, AllocError>
+pub fn saw_message<A: Allocator>(
+    alloc: A,
+    exact_errors: bool,
+    c: char,
+    state: &str,
+) -> Result<String<A>, AllocError>
     ensures { IfOk result (λ text. string_bytes text ≡ saw exact_errors c state.now) }
 {
     if exact_errors {

@@ -15,7 +15,13 @@ use crate::token::Token;
 use std::alloc::Allocator;
 
 /// The standard's "PLAINTEXT state".
-pub fn plaintext_state<S: TokenSink<Token<A>>, A: Allocator + Copy>(alloc: A, sink: &mut S, exact_errors: bool, c: char, line: u64) -> Result<(), TokenizerError>
+pub fn plaintext_state<S: TokenSink<Token<A>>, A: Allocator + Copy>(
+    alloc: A,
+    sink: &mut S,
+    exact_errors: bool,
+    c: char,
+    line: u64,
+) -> Result<(), TokenizerError>
     ensures tells { Tells S.step S.faulted result (S.state sink.old) (on_line line (text_item exact_errors Plain c)) (S.state sink.new) }
     ensures faults { S.faults sink.new ≡ S.faults sink.old + faults_of result }
 {
@@ -29,7 +35,13 @@ pub fn plaintext_state<S: TokenSink<Token<A>>, A: Allocator + Copy>(alloc: A, si
 
 /// Reports a bad character, with exact errors.
 #[tactic(auto, unfolding(crate::specs::Sink::stepped))]
-pub fn report_bad_character<S: TokenSink<Token<A>>, A: Allocator + Copy>(alloc: A, sink: &mut S, exact_errors: bool, c: char, line: u64) -> Result<(), TokenizerError>
+pub fn report_bad_character<S: TokenSink<Token<A>>, A: Allocator + Copy>(
+    alloc: A,
+    sink: &mut S,
+    exact_errors: bool,
+    c: char,
+    line: u64,
+) -> Result<(), TokenizerError>
     ensures tells { Tells S.step S.faulted result (S.state sink.old) (on_line line (bad_character_error exact_errors c)) (S.state sink.new) }
     ensures faults { S.faults sink.new ≡ S.faults sink.old + faults_of result }
 {

@@ -23,10 +23,10 @@ impl Model for Position {
     ghost Value = { Start };
 
     ghost view = { λ p. record {
-        mode = mode_of p.state;
-        line = p.current_line;
-        after_carriage_return = p.ignore_lf;
-        drops_byte_order_mark = p.discard_bom
+      mode = mode_of p.state;
+      line = p.current_line;
+      after_carriage_return = p.ignore_lf;
+      drops_byte_order_mark = p.discard_bom;
     } };
 
     ghost invariant = { λ p. p.current_line < 2 ^ 64 };

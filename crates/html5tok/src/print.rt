@@ -38,7 +38,11 @@ fn fault_of(error: TokenizerError) -> Fault
 }
 
 // Feeds one piece of the text.
-fn feed_piece<A: Allocator + Copy>(tokenizer: &mut Tokenizer<PrintSink<A>, A>, queue: &mut BufferQueue<A>, piece: String<A>) -> Result<(), Fault>
+fn feed_piece<A: Allocator + Copy>(
+    tokenizer: &mut Tokenizer<PrintSink<A>, A>,
+    queue: &mut BufferQueue<A>,
+    piece: String<A>,
+) -> Result<(), Fault>
     requires waiting { queue.old.text ≡ [] }
     requires going_on { tokenizer.old.ended ≡ false }
     requires not_failed { tokenizer.old.failed ≡ false }
@@ -79,7 +83,12 @@ fn prefix_len(text: &str, count: usize) -> usize
 }
 
 // Feeds the text, cut into pieces of so many characters.
-fn feed_text<A: Allocator + Copy>(alloc: A, tokenizer: &mut Tokenizer<PrintSink<A>, A>, text: String<A>, cut: usize) -> Result<(), Fault>
+fn feed_text<A: Allocator + Copy>(
+    alloc: A,
+    tokenizer: &mut Tokenizer<PrintSink<A>, A>,
+    text: String<A>,
+    cut: usize,
+) -> Result<(), Fault>
     requires going_on { tokenizer.old.ended ≡ false }
     requires not_failed { tokenizer.old.failed ≡ false }
     ensures stands { OnOk result ((K : Start) (s : Page) (X : List ℕ) → StandsAt (λ sink. sink.page) page_step tokenizer.old K s X
@@ -104,7 +113,11 @@ fn feed_text<A: Allocator + Copy>(alloc: A, tokenizer: &mut Tokenizer<PrintSink<
 }
 
 // Prints the reading of a text to a page.
-fn print_text<A: Allocator + Copy>(alloc: A, text: String<A>, settings: &Settings) -> Result<PrintSink<A>, Fault>
+fn print_text<A: Allocator + Copy>(
+    alloc: A,
+    text: String<A>,
+    settings: &Settings,
+) -> Result<PrintSink<A>, Fault>
     requires { settings.now.opts.initial_state ≡ Some State.Plaintext }
     ensures ok { IfOk result (λ sink. sink.page.lines ≡ printed_reading settings.now (string_bytes text)) }
     ensures err { IfErr result (λ fault. fault ≡ Fault.Memory) }
@@ -119,7 +132,12 @@ fn print_text<A: Allocator + Copy>(alloc: A, text: String<A>, settings: &Setting
 }
 
 /// Reads the text of a source to its end and prints its reading, a line for each token.
-pub fn print_tokens<R: Source, W: Target, A: Allocator + Copy>(alloc: A, reader: &mut R, writer: &mut W, settings: &Settings) -> Result<(), Fault>
+pub fn print_tokens<R: Source, W: Target, A: Allocator + Copy>(
+    alloc: A,
+    reader: &mut R,
+    writer: &mut W,
+    settings: &Settings,
+) -> Result<(), Fault>
     requires { settings.now.opts.initial_state ≡ Some State.Plaintext }
     ensures ok { OnOk result (PrintsReading settings.now (R.remaining reader.old) (R.remaining reader.new) (W.contents writer.old) (W.contents writer.new)) }
 

@@ -57,7 +57,12 @@ impl Ending {
 }
 
 // Prints the reading of a source by the settings that the words say.
-fn print_by_words<R: Source, W: Target, A: Allocator + Copy>(alloc: A, words: &[String<A>], reader: &mut R, writer: &mut W) -> Ending
+fn print_by_words<R: Source, W: Target, A: Allocator + Copy>(
+    alloc: A,
+    words: &[String<A>],
+    reader: &mut R,
+    writer: &mut W,
+) -> Ending
     ensures printed { result ≡ Ending.Printed
         → PrintsSomeReading (R.remaining reader.old) (R.remaining reader.new) (W.contents writer.old) (W.contents writer.new) }
     ensures usage { result ≡ Ending.Usage → (reader.new ≡ reader.old) × (writer.new ≡ writer.old) }
@@ -86,7 +91,13 @@ pub fn report<E: Target>(errors: &mut E, ending: Ending) -> u8
 }
 
 /// Runs the program: `words` are those behind its name. Answers the status that the process ends with.
-pub fn run<R: Source, W: Target, E: Target, A: Allocator + Copy>(alloc: A, words: Vec<String<A>, A>, reader: &mut R, writer: &mut W, errors: &mut E) -> u8
+pub fn run<R: Source, W: Target, E: Target, A: Allocator + Copy>(
+    alloc: A,
+    words: Vec<String<A>, A>,
+    reader: &mut R,
+    writer: &mut W,
+    errors: &mut E,
+) -> u8
     ensures status { Contains (0 ∷ 2 ∷ 3 ∷ 5 ∷ 6 ∷ []) result }
     ensures printed { result ≡ 0
         → PrintsSomeReading (R.remaining reader.old) (R.remaining reader.new) (W.contents writer.old) (W.contents writer.new) }

@@ -9,6 +9,7 @@ pub trait Says: Drop {
     type Text: Drop;
 
     ghost told: { Self → Told };
+
     ghost text_bytes: { Self.Text → List ℕ };
 }
 
@@ -19,6 +20,7 @@ impl<A: Allocator> Says for Token<A> {
     type Text = String<A>;
 
     ghost told = { told_by };
+
     ghost text_bytes = { string_bytes };
 }
 
@@ -32,17 +34,29 @@ pub trait TokenSink<T: Says> {
     type Handle: Drop;
 
     ghost State: { Type 0 };
+
     ghost state: { Self → State };
+
     ghost faults: { Self → ℕ };
+
     ghost step: { State → Told → ℕ → State };
+
     ghost reply: { State → Told → ℕ → Reply Self.Handle };
+
     ghost foreign: { State → Bool };
+
     ghost finish: { State → State };
+
     ghost faulted: { State → Told → ℕ → State };
+
     ghost end_faulted: { State → State };
 
     /// Takes a token, with the number of the line that the tokenizer has reached.
-    fn process_token(&mut self, token: T, line_number: u64) -> Result<TokenSinkResult<Self::Handle, T::Text>, SinkFault>
+    fn process_token(
+        &mut self,
+        token: T,
+        line_number: u64,
+    ) -> Result<TokenSinkResult<Self::Handle, T::Text>, SinkFault>
         ensures steps { OnOk result (state self.new ≡ step (state self.old) (T.told token) line_number) }
         ensures replies { IfOk result (λ answer. reply_of T.text_bytes answer ≡ reply (state self.old) (T.told token) line_number) }
         ensures fault { OnErr result (state self.new ≡ faulted (state self.old) (T.told token) line_number) }
@@ -62,7 +76,9 @@ pub trait TokenSink<T: Says> {
 
     // Two adjacent texts are as one, an empty text is as none, and the line of a text is neglected.
     ghost joins: { (s : State) (a b : List ℕ) (line : ℕ) → step (step s (Text a) line) (Text b) line ≡ step s (Text (a ++ b)) line };
+
     ghost empty: { (s : State) (line : ℕ) → step s (Text []) line ≡ s };
+
     ghost any_line: { (s : State) (a : List ℕ) (line other : ℕ) → step s (Text a) line ≡ step s (Text a) other };
     // Only a tag gets another reply than to keep on.
     ghost keeps_on: { (s : State) (told : Told) (line : ℕ) → is_tag told ≡ false → reply s told line ≡ KeepOn };

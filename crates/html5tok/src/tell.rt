@@ -11,7 +11,11 @@ use crate::token::{SinkFault, Token, TokenSinkResult};
 use std::alloc::Allocator;
 
 /// Tells the sink a token that isn't a tag, so the tokenizer keeps on.
-pub fn tell<S: TokenSink<Token<A>>, A: Allocator>(sink: &mut S, token: Token<A>, line: u64) -> Result<(), TokenizerError>
+pub fn tell<S: TokenSink<Token<A>>, A: Allocator>(
+    sink: &mut S,
+    token: Token<A>,
+    line: u64,
+) -> Result<(), TokenizerError>
     requires no_tag { is_tag (told_by token) ≡ false }
     requires nonempty { messages_of (told_by token) line ≢ [] }
     ensures tells { Tells S.step S.faulted result (S.state sink.old) (messages_of (told_by token) line) (S.state sink.new) }
@@ -25,7 +29,12 @@ pub fn tell<S: TokenSink<Token<A>>, A: Allocator>(sink: &mut S, token: Token<A>,
 }
 
 /// Tells the sink a text of one character.
-pub fn emit_char<S: TokenSink<Token<A>>, A: Allocator + Copy>(alloc: A, sink: &mut S, c: char, line: u64) -> Result<(), TokenizerError>
+pub fn emit_char<S: TokenSink<Token<A>>, A: Allocator + Copy>(
+    alloc: A,
+    sink: &mut S,
+    c: char,
+    line: u64,
+) -> Result<(), TokenizerError>
     ensures tells { Tells S.step S.faulted result (S.state sink.old) (on_line line (Text (encode_utf8 c) ∷ [])) (S.state sink.new) }
     ensures faults { S.faults sink.new ≡ S.faults sink.old + faults_of result }
 {
@@ -33,7 +42,11 @@ pub fn emit_char<S: TokenSink<Token<A>>, A: Allocator + Copy>(alloc: A, sink: &m
 }
 
 /// Tells the sink an error.
-pub fn emit_error<S: TokenSink<Token<A>>, A: Allocator>(sink: &mut S, message: String<A>, line: u64) -> Result<(), TokenizerError>
+pub fn emit_error<S: TokenSink<Token<A>>, A: Allocator>(
+    sink: &mut S,
+    message: String<A>,
+    line: u64,
+) -> Result<(), TokenizerError>
     ensures tells { Tells S.step S.faulted result (S.state sink.old) (on_line line (Error (string_bytes message) ∷ [])) (S.state sink.new) }
     ensures faults { S.faults sink.new ≡ S.faults sink.old + faults_of result }
 {

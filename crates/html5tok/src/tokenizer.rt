@@ -54,11 +54,11 @@ impl<Sink, A: Allocator> Model for Tokenizer<Sink, A> {
     ghost Value = { Tokenizing Sink };
 
     ghost view = { λ t. record {
-        sink = t.sink;
-        exact = t.exact_errors;
-        position = t.position;
-        failed = t.failed;
-        ended = t.ended
+      sink = t.sink;
+      exact = t.exact_errors;
+      position = t.position;
+      failed = t.failed;
+      ended = t.ended;
     } };
 }
 
@@ -82,7 +82,10 @@ impl<Sink: TokenSink<Token<A>>, A: Allocator + Copy> Tokenizer<Sink, A> {
 
     /// Reads the text that waits in the queue. After a refusal the queue holds an end of the text
     /// that it held, and every further call is refused.
-    pub fn feed(&mut self, queue: &mut BufferQueue<A>) -> Result<TokenizerResult<Sink::Handle, String<A>>, TokenizerError>
+    pub fn feed(
+        &mut self,
+        queue: &mut BufferQueue<A>,
+    ) -> Result<TokenizerResult<Sink::Handle, String<A>>, TokenizerError>
         requires { self.old.ended ≡ false }
 
         // What an `Ok` says: all that waited was taken, and exactly what it decides was told.
@@ -110,7 +113,13 @@ impl<Sink: TokenSink<Token<A>>, A: Allocator + Copy> Tokenizer<Sink, A> {
         if self.failed {
             return Err(TokenizerError::Failed);
         }
-        let result = read_queue(self.alloc, &mut self.sink, self.exact_errors, &mut self.position, queue);
+        let result = read_queue(
+            self.alloc,
+            &mut self.sink,
+            self.exact_errors,
+            &mut self.position,
+            queue,
+        );
         self.failed = result.is_err();
         match result {
             Ok(()) => Ok(TokenizerResult::Done),
@@ -153,7 +162,10 @@ impl<Sink: TokenSink<Token<A>>, A: Allocator + Copy> Tokenizer<Sink, A> {
 }
 
 /// Tells the end of the input, and has the sink finish.
-fn tell_end<S: TokenSink<Token<A>>, A: Allocator>(sink: &mut S, line: u64) -> Result<(), TokenizerError>
+fn tell_end<S: TokenSink<Token<A>>, A: Allocator>(
+    sink: &mut S,
+    line: u64,
+) -> Result<(), TokenizerError>
     ensures ok { OnOk result (S.state sink.new ≡ S.finish (stepped S.step (S.state sink.old) (on_line line (End ∷ [])))) }
     ensures err { IfErr result (λ e. EndStops S.step S.faulted S.end_faulted e (S.state sink.old) (on_line line (End ∷ [])) (S.state sink.new)) }
     ensures faults { S.faults sink.new ≡ S.faults sink.old + faults_of result }
@@ -166,7 +178,13 @@ fn tell_end<S: TokenSink<Token<A>>, A: Allocator>(sink: &mut S, line: u64) -> Re
 }
 
 /// Reads one character of the stream.
-fn read_character<S: TokenSink<Token<A>>, A: Allocator + Copy>(alloc: A, sink: &mut S, exact_errors: bool, position: &mut Position, c: char) -> Result<(), TokenizerError>
+fn read_character<S: TokenSink<Token<A>>, A: Allocator + Copy>(
+    alloc: A,
+    sink: &mut S,
+    exact_errors: bool,
+    position: &mut Position,
+    c: char,
+) -> Result<(), TokenizerError>
     ensures tells { Tells S.step S.faulted result (S.state sink.old) (messages (told exact_errors position.old (c ∷ []))) (S.state sink.new) }
     ensures moves { position.new ≡ after position.old (c ∷ []) }
     ensures faults { S.faults sink.new ≡ S.faults sink.old + faults_of result }
@@ -181,7 +199,12 @@ fn read_character<S: TokenSink<Token<A>>, A: Allocator + Copy>(alloc: A, sink: &
 
 /// Takes what can be read at once: a run of characters that tell themselves alone, where errors
 /// are not exact and no first character may be dropped, and else one character.
-fn pop_item<A: Allocator + Copy>(exact_errors: bool, position: &Position, breaks: SmallCharSet, queue: &mut BufferQueue<A>) -> Result<Option<SetResult<A>>, AllocError>
+fn pop_item<A: Allocator + Copy>(
+    exact_errors: bool,
+    position: &Position,
+    breaks: SmallCharSet,
+    queue: &mut BufferQueue<A>,
+) -> Result<Option<SetResult<A>>, AllocError>
     requires { (c : ℕ) → IsMember breaks c ↔ Contains (null ∷ line_feed ∷ carriage_return ∷ []) c }
     ensures ok { IfOk result (TakesItem exact_errors position.now queue.old queue.new) }
     ensures err { OnErr result (queue.new ≡ queue.old) }
@@ -200,7 +223,13 @@ fn pop_item<A: Allocator + Copy>(exact_errors: bool, position: &Position, breaks
 }
 
 /// Reads what was taken at once.
-fn read_item<S: TokenSink<Token<A>>, A: Allocator + Copy>(alloc: A, sink: &mut S, exact_errors: bool, position: &mut Position, item: SetResult<A>) -> Result<(), TokenizerError>
+fn read_item<S: TokenSink<Token<A>>, A: Allocator + Copy>(
+    alloc: A,
+    sink: &mut S,
+    exact_errors: bool,
+    position: &mut Position,
+    item: SetResult<A>,
+) -> Result<(), TokenizerError>
     requires { CanRead exact_errors position.old item }
     ensures tells { Tells S.step S.faulted result (S.state sink.old) (messages (told exact_errors position.old (item_text item))) (S.state sink.new) }
     ensures moves { position.new ≡ after position.old (item_text item) }
@@ -213,7 +242,13 @@ fn read_item<S: TokenSink<Token<A>>, A: Allocator + Copy>(alloc: A, sink: &mut S
 }
 
 /// Reads all that waits in the queue.
-fn read_queue<S: TokenSink<Token<A>>, A: Allocator + Copy>(alloc: A, sink: &mut S, exact_errors: bool, position: &mut Position, queue: &mut BufferQueue<A>) -> Result<(), TokenizerError>
+fn read_queue<S: TokenSink<Token<A>>, A: Allocator + Copy>(
+    alloc: A,
+    sink: &mut S,
+    exact_errors: bool,
+    position: &mut Position,
+    queue: &mut BufferQueue<A>,
+) -> Result<(), TokenizerError>
     ensures tells { Tells S.step S.faulted result (S.state sink.old) (messages (told exact_errors position.old queue.old.text)) (S.state sink.new) }
     ensures moves { OnOk result (position.new ≡ after position.old queue.old.text) }
     ensures emptied { OnOk result (queue.new.text ≡ []) }

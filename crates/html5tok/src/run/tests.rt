@@ -9,13 +9,20 @@ use std::process::Abort;
 use std::test::Fail;
 
 const PLAIN: [&str; 2] = ["--state", "plaintext"];
-const USAGE: &str = "usage: html5tok [--exact] [--keep-bom] [--foreign] [--state S] [--last NAME] [--cut N] [--table LIST]\n";
+
+const USAGE: &str =
+    "usage: html5tok [--exact] [--keep-bom] [--foreign] [--state S] [--last NAME] [--cut N] [--table LIST]\n";
 
 // A text with a line break of two characters and a NUL, and what is printed for it.
 const MIXED: &[u8] = b"a\r\nb\0c";
-const MIXED_LINES: &str = "text \"a\\nb\"\nerror 2 \"Saw \\u{0} in state Plaintext\"\ntext \"\u{fffd}c\"\neof 2\n";
 
-fn words_of<A: Allocator + Copy>(alloc: A, words: &[&str]) -> Result<Vec<String<A>, A>, AllocError> {
+const MIXED_LINES: &str =
+    "text \"a\\nb\"\nerror 2 \"Saw \\u{0} in state Plaintext\"\ntext \"\u{fffd}c\"\neof 2\n";
+
+fn words_of<A: Allocator + Copy>(
+    alloc: A,
+    words: &[&str],
+) -> Result<Vec<String<A>, A>, AllocError> {
     let mut all = Vec::new(alloc);
     for word in words {
         all.push(String::from_str(alloc, word)?)?;
@@ -45,7 +52,13 @@ fn run_over(alloc: Global, words: &[&str], input: &[u8]) -> Result<Ran, AllocErr
 }
 
 // Runs the program on an input, whole and cut in pieces of 1, 2 and 3 characters, and expects the same output each time.
-fn prints(rt: &impl Abort, alloc: Global, options: &[&str], input: &str, output: &str) -> Result<(), Fail> {
+fn prints(
+    rt: &impl Abort,
+    alloc: Global,
+    options: &[&str],
+    input: &str,
+    output: &str,
+) -> Result<(), Fail> {
     for cut in ["", "1", "2", "3"] {
         let mut words = Vec::new(alloc);
         words.extend_from_slice(&PLAIN)?;
@@ -54,7 +67,11 @@ fn prints(rt: &impl Abort, alloc: Global, options: &[&str], input: &str, output:
             words.extend_from_slice(&["--cut", cut])?;
         }
         let ran = run_over(alloc, &words, input.as_bytes())?;
-        assert_eq!(rt; ran.output.as_slice(), output.as_bytes(), "{input:?} in pieces of {cut}");
+        assert_eq!(rt;
+            ran.output.as_slice(),
+            output.as_bytes(),
+            "{input:?} in pieces of {cut}"
+        );
         assert_eq!(rt; ran.errors.len(), 0, "{input:?} in pieces of {cut}");
         assert_eq!(rt; ran.status, 0, "{input:?} in pieces of {cut}");
     }
@@ -87,9 +104,15 @@ fn prints_plain_text(rt: HostRuntime) -> Result<(), Fail> {
         // A CR, a line break of CR and LF, a LF and a last CR.
         ("\r\r\n\n\r", "text \"\\n\\n\\n\\n\"\neof 5\n"),
         ("\n\r", "text \"\\n\\n\"\neof 3\n"),
-        ("say \"no\" \\ now", "text \"say \\\"no\\\" \\\\ now\"\neof 1\n"),
+        (
+            "say \"no\" \\ now",
+            "text \"say \\\"no\\\" \\\\ now\"\neof 1\n",
+        ),
         ("<p>&amp;\u{1}", "text \"<p>&amp;\\u{1}\"\neof 1\n"),
-        ("\u{e9}\u{20ac}\u{1d11e}", "text \"\u{e9}\u{20ac}\u{1d11e}\"\neof 1\n"),
+        (
+            "\u{e9}\u{20ac}\u{1d11e}",
+            "text \"\u{e9}\u{20ac}\u{1d11e}\"\neof 1\n",
+        ),
     ];
     for (input, output) in cases {
         prints(&rt, rt.alloc(), &[], input, output)?;
@@ -110,7 +133,13 @@ fn exact_errors_name_no_state(rt: HostRuntime) -> Result<(), Fail> {
 
 #[test]
 fn keeps_the_byte_order_mark_on_request(rt: HostRuntime) -> Result<(), Fail> {
-    prints(&rt, rt.alloc(), &["--keep-bom"], "\u{feff}a", "text \"\u{feff}a\"\neof 1\n")
+    prints(
+        &rt,
+        rt.alloc(),
+        &["--keep-bom"],
+        "\u{feff}a",
+        "text \"\u{feff}a\"\neof 1\n",
+    )
 }
 
 #[test]
@@ -119,7 +148,11 @@ fn refuses_input_that_is_no_text(rt: HostRuntime) -> Result<(), Fail> {
         let ran = run_over(rt.alloc(), &PLAIN, input)?;
         assert_eq!(rt; ran.status, 3, "{input:?}");
         assert_eq!(rt; ran.output.len(), 0, "{input:?}");
-        assert_eq!(rt; ran.errors.as_slice(), b"input is not UTF-8\n".as_slice(), "{input:?}");
+        assert_eq!(rt;
+            ran.errors.as_slice(),
+            b"input is not UTF-8\n".as_slice(),
+            "{input:?}"
+        );
     }
     Ok(())
 }
@@ -150,7 +183,12 @@ fn refuses_words_that_it_does_not_know(rt: HostRuntime) -> Result<(), Fail> {
         &["--state", "plaintext", "--cut", "-1"],
         &["--state", "plaintext", "--cut", "1a"],
         &["--state", "plaintext", "--cut", "4294967296"],
-        &["--state", "plaintext", "--cut", "100000000000000000000000000000000000000001"],
+        &[
+            "--state",
+            "plaintext",
+            "--cut",
+            "100000000000000000000000000000000000000001",
+        ],
         &["--state", "plaintext", "--cut", "0", "--cut", "1"],
         &["--state", "data", "--state", "plaintext"],
         &["--state", "plaintext", "--cut", "--exact"],
@@ -186,11 +224,32 @@ fn reads_settings(rt: HostRuntime) -> Result<(), Fail> {
     let cases: [(&[&str], Settings); 7] = [
         (&["--state", "plaintext"], plain()),
         (&["--cut", "007", "--state", "plaintext"], cut(7)),
-        (&["--state", "plaintext", "--cut", "4294967295"], cut(4294967295)),
-        (&["--cut", "2", "--state", "plaintext", "--cut", "3"], cut(3)),
-        (&["--state", "plaintext", "--cut", "0000000000000000000000000000000000000001"], cut(1)),
         (
-            &["--exact", "--state", "plaintext", "--exact", "--state", "plaintext"],
+            &["--state", "plaintext", "--cut", "4294967295"],
+            cut(4294967295),
+        ),
+        (
+            &["--cut", "2", "--state", "plaintext", "--cut", "3"],
+            cut(3),
+        ),
+        (
+            &[
+                "--state",
+                "plaintext",
+                "--cut",
+                "0000000000000000000000000000000000000001",
+            ],
+            cut(1),
+        ),
+        (
+            &[
+                "--exact",
+                "--state",
+                "plaintext",
+                "--exact",
+                "--state",
+                "plaintext",
+            ],
             Settings {
                 opts: TokenizerOpts {
                     exact_errors: true,
@@ -238,8 +297,15 @@ fn tells_that_memory_ran_out(rt: HostRuntime) -> Result<(), Fail> {
         }
         refused = refused.wrapping_add(1);
         assert_eq!(rt; status, 5, "after {admitted}");
-        assert!(rt; MIXED_LINES.as_bytes().starts_with(&output), "after {admitted}");
-        assert_eq!(rt; errors.as_slice(), b"out of memory\n".as_slice(), "after {admitted}");
+        assert!(rt;
+            MIXED_LINES.as_bytes().starts_with(&output),
+            "after {admitted}"
+        );
+        assert_eq!(rt;
+            errors.as_slice(),
+            b"out of memory\n".as_slice(),
+            "after {admitted}"
+        );
     }
     assert!(rt; refused > 10);
     Ok(())
@@ -261,7 +327,10 @@ fn prints_nothing_wrong_once_memory_ran_out(rt: HostRuntime) {
         }
         refused = refused.wrapping_add(1);
         assert_eq!(rt; answer, Err(Fault::Memory), "after {admitted}");
-        assert!(rt; MIXED_LINES.as_bytes().starts_with(&output), "after {admitted}");
+        assert!(rt;
+            MIXED_LINES.as_bytes().starts_with(&output),
+            "after {admitted}"
+        );
     }
     assert!(rt; refused > 10);
 }
@@ -282,7 +351,11 @@ fn tells_that_a_read_failed(rt: HostRuntime) -> Result<(), Fail> {
         };
         assert_eq!(rt; status, expected, "after {reads} reads");
         let written: Vec<u8> = writer.into_inner();
-        assert_eq!(rt; written.as_slice(), output.as_bytes(), "after {reads} reads");
+        assert_eq!(rt;
+            written.as_slice(),
+            output.as_bytes(),
+            "after {reads} reads"
+        );
         let told: Vec<u8> = errors.into_inner();
         assert_eq!(rt; told.as_slice(), line.as_bytes(), "after {reads} reads");
     }
@@ -305,7 +378,10 @@ fn tells_that_a_write_failed(rt: HostRuntime) -> Result<(), Fail> {
             };
             assert_eq!(rt; status, expected, "after {writes} writes");
             assert_eq!(rt; writer.taken().len(), writes);
-            assert!(rt; MIXED_LINES.as_bytes().starts_with(writer.taken()), "after {writes} writes");
+            assert!(rt;
+                MIXED_LINES.as_bytes().starts_with(writer.taken()),
+                "after {writes} writes"
+            );
             let told: Vec<u8> = errors.into_inner();
             assert_eq!(rt; told.as_slice(), line.as_bytes(), "after {writes} writes");
         }
@@ -325,7 +401,10 @@ fn a_line_that_fails_changes_nothing(rt: HostRuntime) -> Result<(), Fail> {
             let mut writer = WriteTarget::new(Vec::new(rt.alloc()));
             let mut errors = FailingTarget::new(rt.alloc(), 3, refusal);
             let words = words_of(rt.alloc(), &words)?;
-            assert_eq!(rt; run(rt.alloc(), words, &mut reader, &mut writer, &mut errors), status);
+            assert_eq!(rt;
+                run(rt.alloc(), words, &mut reader, &mut writer, &mut errors),
+                status
+            );
             assert_eq!(rt; errors.taken(), taken.as_bytes());
         }
     }

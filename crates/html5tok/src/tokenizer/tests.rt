@@ -140,12 +140,25 @@ fn tells_what_it_is_fed(rt: HostRuntime) -> Result<(), Fail> {
 fn stops_where_the_sink_faults(rt: HostRuntime) -> Result<(), Fail> {
     let alloc = rt.alloc();
     // How many tokens are taken, whether one is no text, and what the queue keeps.
-    let stops = [(0, false, "\0bc"), (1, false, "bc"), (2, true, "bc"), (3, true, "")];
+    let stops = [
+        (0, false, "\0bc"),
+        (1, false, "bc"),
+        (2, true, "bc"),
+        (3, true, ""),
+    ];
     for (taken, took_another, left) in stops {
         let mut tokenizer = Tokenizer::new(alloc, FaultySink::new(taken, false), plain());
         let mut queue = queue_of(alloc, "a\0bc")?;
-        assert_eq!(rt; tokenizer.feed(&mut queue), Err(TokenizerError::Sink), "at {taken}");
-        assert_eq!(rt; tokenizer.feed(&mut queue), Err(TokenizerError::Failed), "at {taken}");
+        assert_eq!(rt;
+            tokenizer.feed(&mut queue),
+            Err(TokenizerError::Sink),
+            "at {taken}"
+        );
+        assert_eq!(rt;
+            tokenizer.feed(&mut queue),
+            Err(TokenizerError::Failed),
+            "at {taken}"
+        );
         assert_eq!(rt; tokenizer.end(), Err(TokenizerError::Failed), "at {taken}");
         assert_eq!(rt; tokenizer.sink.took_another, took_another, "at {taken}");
         assert_eq!(rt; drained(alloc, &mut queue)?.as_str(), left, "at {taken}");

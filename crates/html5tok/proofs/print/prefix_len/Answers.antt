@@ -10,7 +10,7 @@ returns-then-left-eq0-clause-boundary c =
 pub loop-c-preserved : goal.loop-c-preserved
 loop-c-preserved c =
     let first : drop c.loop-c.len c.args.text.now ≡ encode_utf8 c.in-Some.c ++ chars_rest c.next.new.self =
-      sym c.loop-c.invariant.3 ∙ c.in-Some.ensures.steps.0 in
+    sym c.loop-c.invariant.3 ∙ c.in-Some.ensures.steps.0 in
     let further = IsCut-step c.args.text.now (chars_rest c.next.new.self) c.loop-c.len c.in-Some.c c.len_utf8-len.result
-      c.utf8.text c.loop-c.invariant.2 first c.len_utf8-len.ensures.value in
+    c.utf8.text c.loop-c.invariant.2 first c.len_utf8-len.ensures.value in
     (tt, tt, further.0, further.1, omega (arith, c.len_utf8-len.ensures.lower_bound, c.loop-c.invariant.4))

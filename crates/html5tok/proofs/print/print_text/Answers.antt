@@ -1,4 +1,4 @@
-use Rattle.std.proofs.Common.{[], ◌++◌, ◌∙◌, ap, string_bytes}
+use Rattle.std.proofs.Common.{[], ◌∙◌, ap, string_bytes}
 use Rattle.std.specs.Str.{chars}
 use Rattle.html5tok.specs.Page.{Page, Printer}
 use Rattle.html5tok.specs.Start.{start_of}
@@ -11,4 +11,4 @@ returns-in-Ok-clause-ok g c =
     ap (λ (s : Printer). s.page.lines) c.into_sink.ensures
     ∙ ap (λ (p : Page). p.lines) (c.in-Ok.ensures.finished (start_of c.args.settings.now.opts) c.new-sink.result.page (chars (string_bytes c.args.text)) stands)
     ∙ printed-page c.feed_text.new.tokenizer.exact c.args.settings.now c.new-sink.result.page c.args.settings.now.foreign (string_bytes c.args.text)
-        (c.in_ok-feed_text.ensures.exact ∙ c.new-tokenizer.ensures.exact) c.new-sink.ensures.page
+    (c.in_ok-feed_text.ensures.exact ∙ c.new-tokenizer.ensures.exact) c.new-sink.ensures.page

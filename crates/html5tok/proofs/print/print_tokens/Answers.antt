@@ -11,18 +11,18 @@ use Rattle.html5tok.proofs.print.print_tokens.Goals as goal
 
 pub returns-in_default-clause-not_utf8 : goal.returns-in_default-clause-not_utf8
 returns-in_default-clause-not_utf8 g c = λ _. record {
-    bytes = c.in_ok-bytes.bytes.items;
-    consumed = Consumes-whole _ _ c.in_ok-bytes.bytes.items c.in_ok-bytes.ensures.ok c.in_ok-bytes.ensures.end c.in_ok-bytes.ensures.in_order;
-    at_end = c.in_ok-bytes.ensures.end;
-    no_utf8 = λ utf8. false≢true (c.in_default.ensures.succeeds utf8);
-    kept = Keeps-same _;
-  }
+  bytes = c.in_ok-bytes.bytes.items;
+  consumed = Consumes-whole _ _ c.in_ok-bytes.bytes.items c.in_ok-bytes.ensures.ok c.in_ok-bytes.ensures.end c.in_ok-bytes.ensures.in_order;
+  at_end = c.in_ok-bytes.ensures.end;
+  no_utf8 = λ utf8. false≢true (c.in_default.ensures.succeeds utf8);
+  kept = Keeps-same _;
+}
 
 pub returns-clause-ok : goal.returns-clause-ok
 returns-clause-ok g c =
     let text : string_bytes c.in-Ok.text ≡ c.in_ok-bytes.bytes.items = ap (λ v. v.items) c.in-Ok.ensures.ok in
     let page : c.page.result.now ≡ printed_reading c.args.settings.now c.in_ok-bytes.bytes.items =
-      c.page.ensures ∙ c.in_ok-sink.ensures.ok ∙ ap (λ (l : List ℕ). printed_reading c.args.settings.now l) text in
+    c.page.ensures ∙ c.in_ok-sink.ensures.ok ∙ ap (λ (l : List ℕ). printed_reading c.args.settings.now l) text in
     on_ok_weaker c.write_all.result (λ written. record {
       bytes = c.in_ok-bytes.bytes.items;
       consumed = Consumes-whole _ _ c.in_ok-bytes.bytes.items c.in_ok-bytes.ensures.ok c.in_ok-bytes.ensures.end c.in_ok-bytes.ensures.in_order;
@@ -35,7 +35,7 @@ pub returns-clause-beginning : goal.returns-clause-beginning
 returns-clause-beginning g c =
     let text : string_bytes c.in-Ok.text ≡ c.in_ok-bytes.bytes.items = ap (λ v. v.items) c.in-Ok.ensures.ok in
     let page : c.page.result.now ≡ printed_reading c.args.settings.now c.in_ok-bytes.bytes.items =
-      c.page.ensures ∙ c.in_ok-sink.ensures.ok ∙ ap (λ (l : List ℕ). printed_reading c.args.settings.now l) text in
+    c.page.ensures ∙ c.in_ok-sink.ensures.ok ∙ ap (λ (l : List ℕ). printed_reading c.args.settings.now l) text in
     on_err_weaker c.write_all.result (λ written. inr (record {
       bytes = c.in_ok-bytes.bytes.items;
       consumed = Consumes-whole _ _ c.in_ok-bytes.bytes.items c.in_ok-bytes.ensures.ok c.in_ok-bytes.ensures.end c.in_ok-bytes.ensures.in_order;

@@ -17,9 +17,11 @@ returns-in_err-item-clause-tells g c =
 
 pub loop-item-preserved : goal.loop-item-preserved
 loop-item-preserved g c =
-    let taken = rw c.in-Some.is at c.in_ok-item.ensures.ok in
-    (HasRead-more g.S.TokenSink.step g.S.TokenSink.faulted c.args.exact_errors _ _ _ _ _ _ _ _ _ (item_text c.in-Some.item) c.loop-item.invariant.0 taken.0 c.in_ok-read_item.ensures.tells c.read_item.ensures.moves,
-      omega (arith, c.in_ok-read_item.ensures.faults, c.loop-item.invariant.1), c.loop-item.invariant.2)
+    let taken = rw c.in-Some.is at c.in_ok-item.ensures.ok in (
+      HasRead-more g.S.TokenSink.step g.S.TokenSink.faulted c.args.exact_errors _ _ _ _ _ _ _ _ _ (item_text c.in-Some.item) c.loop-item.invariant.0 taken.0 c.in_ok-read_item.ensures.tells c.read_item.ensures.moves,
+      omega (arith, c.in_ok-read_item.ensures.faults, c.loop-item.invariant.1),
+      c.loop-item.invariant.2,
+    )
 
 pub returns-in_err-read_item-clause-tells : goal.returns-in_err-read_item-clause-tells
 returns-in_err-read_item-clause-tells g c =
@@ -33,9 +35,9 @@ returns-in_err-read_item-clause-left g c =
     record {
       front = c.loop-item.invariant.0.front ++ item_text c.in-Some.item;
       parts =
-        c.loop-item.invariant.0.takes.text
-        ∙ ap (λ l. c.loop-item.invariant.0.front ++ l) taken.0.text
-        ∙ sym (append_assoc c.loop-item.invariant.0.front (item_text c.in-Some.item) c.pop_item.new.queue.text);
+          c.loop-item.invariant.0.takes.text
+          ∙ ap (λ l. c.loop-item.invariant.0.front ++ l) taken.0.text
+          ∙ sym (append_assoc c.loop-item.invariant.0.front (item_text c.in-Some.item) c.pop_item.new.queue.text);
     }
 
 pub returns-in_err-item-clause-empty : goal.returns-in_err-item-clause-empty

@@ -8,7 +8,7 @@ use Rattle.html5tok.proofs.tokenizer.read_queue.Given as goal
 abbrev pub invariant-loop-item : goal.invariant-loop-item
 invariant-loop-item g l =
     HasRead g.S.TokenSink.step l.exact_errors l.initial.position l.position l.initial.queue l.queue
-      (g.S.TokenSink.state l.initial.sink) (g.S.TokenSink.state l.sink)
+    (g.S.TokenSink.state l.initial.sink) (g.S.TokenSink.state l.sink)
     × (g.S.TokenSink.faults l.sink ≡ g.S.TokenSink.faults l.initial.sink)
     × ((c : ℕ) → IsMember l.breaks c ↔ Contains (null ∷ line_feed ∷ carriage_return ∷ []) c)
 

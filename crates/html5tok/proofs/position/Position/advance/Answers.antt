@@ -26,9 +26,9 @@ returns-then-c-ne10-clause-reads c =
 
 is_break : (c : goal.After-self-4-1) → (c.args.c ≡ carriage_return) ⊎ (c.args.c ≡ line_feed)
 is_break c = elim c.else-c-ne13.branch [
-    else-c-ne13-via-then-c-ne13+else-c-ne10 w ↦ inr w.if-c-ne10.false
+  | else-c-ne13-via-then-c-ne13+else-c-ne10 w ↦ inr w.if-c-ne10.false
   | else-c-ne13-via-else-c-ne13 w ↦ inl w.if-c-ne13.false
-  ]
+]
 
 pub returns-clause-moves : goal.returns-clause-moves
 returns-clause-moves c =

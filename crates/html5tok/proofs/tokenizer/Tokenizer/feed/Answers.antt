@@ -1,4 +1,4 @@
-use Rattle.std.proofs.Common.{◌≡◌, refl, ◌∙◌, ap, false}
+use Rattle.std.proofs.Common.{refl, ◌∙◌, ap}
 use Rattle.std.specs.Prelude.{is_err}
 use Rattle.html5tok.proofs.Standing.{StandsAt-more, Stops-beyond}
 use Rattle.html5tok.proofs.tokenizer.Tokenizer.feed.Goals as goal
@@ -6,17 +6,17 @@ use Rattle.html5tok.proofs.tokenizer.Tokenizer.feed.Goals.{in-Ok, in-Err}
 
 pub returns-clause-stands : goal.returns-clause-stands
 returns-clause-stands g c = elim c.match-result.branch [
-    in-Ok w ↦ rw (w.result-is, ← c.self.view_is) (λ K s X stands.
+  | in-Ok w ↦ rw (w.result-is, ← c.self.view_is) (λ K s X stands.
       StandsAt-more g.Sink.TokenSink.state g.Sink.TokenSink.step g.Sink.TokenSink.faulted _ _ K s X c.args.queue.now.text refl
-        (rw w.in-Ok.is at c.read_queue-result.ensures.tells) (rw w.in-Ok.is at c.read_queue-result.ensures.moves)
-        (c.is_err-self-inside.ensures.value ∙ ap is_err w.in-Ok.is) refl stands)
+      (rw w.in-Ok.is at c.read_queue-result.ensures.tells) (rw w.in-Ok.is at c.read_queue-result.ensures.moves)
+      (c.is_err-self-inside.ensures.value ∙ ap is_err w.in-Ok.is) refl stands)
   | in-Err w ↦ rw w.result-is tt
-  ]
+]
 
 pub returns-clause-stops : goal.returns-clause-stops
 returns-clause-stops g c = elim c.match-result.branch [
-    in-Ok w ↦ rw w.result-is tt
+  | in-Ok w ↦ rw w.result-is tt
   | in-Err w ↦ rw (w.result-is, ← c.self.view_is) (λ K s X stands.
       Stops-beyond g.Sink.TokenSink.state g.Sink.TokenSink.step g.Sink.TokenSink.faulted w.in-Err.error _ K s _ X c.args.queue.now.text stands
-        (rw w.in-Err.is at c.read_queue-result.ensures.tells))
-  ]
+      (rw w.in-Err.is at c.read_queue-result.ensures.tells))
+]
