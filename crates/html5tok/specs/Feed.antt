@@ -1,33 +1,28 @@
--- Feeding a text that arrives in parts, and what a feed may cost.
-use Rattle.std.specs.Prelude.{◌≡◌, ℕ, ◌+◌, ◌*◌, ◌≤◌, Bool, List, [], ◌∷◌, ◌++◌, length, drop}
+-- What a feed takes of the text that waits, what is told of a text that goes on or ends, and what a feed may cost.
+use Rattle.std.specs.Prelude.{◌≡◌, ℕ, ◌+◌, ◌*◌, ◌≤◌, Bool, List, [], ◌++◌, length, drop}
 use Rattle.html5tok.specs.BufferQueue.{TextQueue}
 use Rattle.html5tok.specs.Reading.{reading, told, messages}
 use Rattle.html5tok.specs.Sink.{Message}
 use Rattle.html5tok.specs.Start.{Start}
 
--- what one feed takes of the queue's text, and what it leaves
+-- the beginning of the queue's text that one feed takes, and the rest that it leaves
 pub record Feed : Type 0 where
   pub taken : List ℕ
   pub left : List ℕ
 
--- nothing pauses in plain text, so a feed takes all that waits
+-- nothing pauses in plain text, so a feed takes all that waits; a run takes what its feeds take, one after another
 abbrev pub feed : List ℕ → Feed
 feed queue = record { taken = queue; left = [] }
 
--- the text that a run has taken, which feeds each of its pieces
-abbrev pub taken_by : List (List ℕ) → List ℕ
-taken_by [] = []
-taken_by (piece ∷ pieces) = (feed piece).taken ++ taken_by pieces
-
--- what is told of a text that goes on, beyond what was told of X
+-- what is told of a text that goes on, beyond what was told of it before
 abbrev pub told_beyond : Bool → Start → List ℕ → List ℕ → List Message
-told_beyond exact K X more = drop (length (told exact K X)) (messages (told exact K (X ++ more)))
+told_beyond exact K text more = drop (length (told exact K text)) (messages (told exact K (text ++ more)))
 
--- what is told at the end of the text, beyond what was told before
+-- what is told at the end of a text, beyond what was told of it before
 abbrev pub told_at_end : Bool → Start → List ℕ → List Message
-told_at_end exact K X = drop (length (told exact K X)) (messages (reading exact K X))
+told_at_end exact K text = drop (length (told exact K text)) (messages (reading exact K text))
 
--- a text that was left is an end of the text before
+-- what is left of a text is an end of it
 pub record IsEndOf (left text : List ℕ) : Type 0 where
   pub front : List ℕ
   pub parts : text ≡ front ++ left

@@ -1,9 +1,10 @@
--- Where a tokenizer stands in a text.
-use Rattle.std.specs.Prelude.{◌≡◌, ℕ, Bool, false, List, ◌⊎◌}
-use Rattle.html5tok.specs.Reading.{told, messages, after}
+-- Where a tokenizer stands in a text, and what its calls make of that.
+use Rattle.std.specs.Prelude.{◌≡◌, ℕ, Bool, true, false, List, ◌++◌, ◌⊎◌}
+use Rattle.html5tok.specs.Feed.{told_beyond, told_at_end}
+use Rattle.html5tok.specs.Reading.{reading, told, messages, after}
 use Rattle.html5tok.specs.Sink.{Message, stepped}
 use Rattle.html5tok.specs.Start.{Start}
-use Rattle.html5tok.specs.Telling.{StopsWithin, FaultsWithin}
+use Rattle.html5tok.specs.Telling.{Stops, StopsWithin, FaultsWithin}
 use Rattle.html5tok.specs.Token.{Told}
 use Rattle.html5tok.specs.declared.error.TokenizerError.{TokenizerError}
 use Rattle.html5tok.specs.declared.error.TokenizerError.TheVariants.{Memory, Sink, Failed}
@@ -25,13 +26,35 @@ module _ {X S : Type 0} (state : X → S) (step : S → Told → ℕ → S) wher
   pub record StandsAt (t : Tokenizing X) (K : Start) (s : S) (text : List ℕ) : Type 0 where
     -- exactly the decided beginning was told
     pub told : state t.sink ≡ stepped step s (messages (told t.exact K text))
+    -- what follows is read from the start behind the text
     pub position : t.position ≡ after K text
     pub not_failed : t.failed ≡ false
     pub not_ended : t.ended ≡ false
 
+  -- from wherever it stood, the tokenizer was taken further by `more`
+  abbrev pub ReadsOn : Tokenizing X → Tokenizing X → List ℕ → Type 0
+  ReadsOn old new more = (K : Start) (s : S) (text : List ℕ) → StandsAt old K s text → StandsAt new K s (text ++ more)
+
+  -- from wherever the tokenizer stood, the whole reading was told, and then the sink finished
+  abbrev pub Finishes : (S → S) → Tokenizing X → S → Type 0
+  Finishes finish old t =
+      (K : Start) (s : S) (text : List ℕ) → StandsAt old K s text → t ≡ finish (stepped step s (messages (reading old.exact K text)))
+
 -- what a refused end leaves of the messages that it tells: the sink may also fault at its own end
-module _ {S : Type 0} (step faulted : S → Told → ℕ → S) (end_faulted : S → S) where
-  abbrev pub EndStops : TokenizerError → S → List Message → S → Type 0
-  EndStops Memory s M t = StopsWithin step faulted s M t
-  EndStops Sink s M t = FaultsWithin step faulted s M t ⊎ (t ≡ end_faulted (stepped step s M))
-  EndStops Failed s M t = ⊥
+abbrev pub EndStops : {S : Type 0} → (S → Told → ℕ → S) → (S → Told → ℕ → S) → (S → S) → TokenizerError → S → List Message → S → Type 0
+EndStops step faulted end_faulted Memory s M t = StopsWithin step faulted s M t
+EndStops step faulted end_faulted Sink s M t = FaultsWithin step faulted s M t ⊎ (t ≡ end_faulted (stepped step s M))
+EndStops step faulted end_faulted Failed s M t = ⊥
+
+module _ {X S : Type 0} (state : X → S) (step faulted : S → Told → ℕ → S) where
+  -- from wherever it stood, the tokenizer stopped within what `more` would have told
+  abbrev pub StopsReading : TokenizerError → Tokenizing X → List ℕ → S → Type 0
+  StopsReading e old more t =
+      (K : Start) (s : S) (text : List ℕ) → StandsAt state step old K s text
+      → Stops step faulted e (state old.sink) (told_beyond old.exact K text more) t
+
+  -- from wherever it stood, the tokenizer stopped within what the end would have told
+  abbrev pub StopsEnding : (S → S) → TokenizerError → Tokenizing X → S → Type 0
+  StopsEnding end_faulted e old t =
+      (K : Start) (s : S) (text : List ℕ) → StandsAt state step old K s text
+      → EndStops step faulted end_faulted e (state old.sink) (told_at_end old.exact K text) t

@@ -22,7 +22,8 @@ pub fn plaintext_state<S: TokenSink<Token<A>>, A: Allocator + Copy>(
     c: char,
     line: u64,
 ) -> Result<(), TokenizerError>
-    ensures tells { Tells S.step S.faulted result (S.state sink.old) (on_line line (text_item exact_errors Plain c)) (S.state sink.new) }
+    ensures tells { Tells S.step S.faulted result (S.state sink.old)
+        (on_line line (text_item exact_errors Plain c)) (S.state sink.new) }
     ensures faults { S.faults sink.new ≡ S.faults sink.old + faults_of result }
 {
     if c != '\0' {
@@ -42,7 +43,8 @@ pub fn report_bad_character<S: TokenSink<Token<A>>, A: Allocator + Copy>(
     c: char,
     line: u64,
 ) -> Result<(), TokenizerError>
-    ensures tells { Tells S.step S.faulted result (S.state sink.old) (on_line line (bad_character_error exact_errors c)) (S.state sink.new) }
+    ensures tells { Tells S.step S.faulted result (S.state sink.old)
+        (on_line line (bad_character_error exact_errors c)) (S.state sink.new) }
     ensures faults { S.faults sink.new ≡ S.faults sink.old + faults_of result }
 {
     if !exact_errors || !is_bad(c) {

@@ -58,7 +58,8 @@ impl Position {
 
     /// Whether characters from here on are read as they stand, but for line breaks.
     pub fn is_past_start(&self) -> bool
-        ensures { IsTrue result ↔ ((self.now.after_carriage_return ≡ false) × (self.now.drops_byte_order_mark ≡ false)) }
+        ensures { IsTrue result
+            ↔ ((self.now.after_carriage_return ≡ false) × (self.now.drops_byte_order_mark ≡ false)) }
     {
         !self.ignore_lf && !self.discard_bom
     }
@@ -73,7 +74,8 @@ impl Position {
     /// Takes a character of the stream, and answers the one that is read for it, if any.
     pub fn advance(&mut self, c: char) -> Option<char>
         ensures moves { self.new ≡ after self.old (c ∷ []) }
-        ensures reads { MatchOption result (normalised self.old (c ∷ []) ≡ []) (λ d. normalised self.old (c ∷ []) ≡ d ∷ []) }
+        ensures reads { let read = normalised self.old (c ∷ []) in
+            MatchOption result (read ≡ []) (λ d. read ≡ d ∷ []) }
     {
         let dropped = self.drops(c);
         self.discard_bom = false;

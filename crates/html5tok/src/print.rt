@@ -2,10 +2,9 @@ ghost use Rattle.std.specs.Prelude.{◌≡◌, ◌≢◌, ℕ, ◌+◌, ◌<◌,
 ghost use Rattle.std.specs.Io.KnownBytes.{Keeps};
 ghost use Rattle.std.specs.Str.{IsUtf8, chars};
 ghost use Rattle.html5tok.specs.Device.{reported_failures};
-ghost use Rattle.html5tok.specs.Page.{Page, page_step};
+ghost use Rattle.html5tok.specs.Page.{page_step};
 ghost use Rattle.html5tok.specs.Printing.{printed_reading, PrintsReading, PrintsBeginning, PrintsNothing};
-ghost use Rattle.html5tok.specs.Start.{Start};
-ghost use Rattle.html5tok.specs.Tokenizer.{StandsAt};
+ghost use Rattle.html5tok.specs.Tokenizer.{ReadsOn};
 
 use crate::buffer_queue::BufferQueue;
 use crate::device::{Source, Target, read_to_end, write_all};
@@ -46,8 +45,8 @@ fn feed_piece<A: Allocator + Copy>(
     requires waiting { queue.old.text ≡ [] }
     requires going_on { tokenizer.old.ended ≡ false }
     requires not_failed { tokenizer.old.failed ≡ false }
-    ensures stands { OnOk result ((K : Start) (s : Page) (X : List ℕ) → StandsAt (λ sink. sink.page) page_step tokenizer.old K s X
-        → StandsAt (λ sink. sink.page) page_step tokenizer.new K s (X ++ chars (string_bytes piece))) }
+    ensures reads { OnOk result (ReadsOn (λ sink. sink.page) page_step
+        tokenizer.old tokenizer.new (chars (string_bytes piece))) }
     ensures taken { OnOk result (queue.new.text ≡ []) }
     ensures exact { tokenizer.new.exact ≡ tokenizer.old.exact }
     ensures going_on { tokenizer.new.ended ≡ false }
@@ -91,8 +90,8 @@ fn feed_text<A: Allocator + Copy>(
 ) -> Result<(), Fault>
     requires going_on { tokenizer.old.ended ≡ false }
     requires not_failed { tokenizer.old.failed ≡ false }
-    ensures stands { OnOk result ((K : Start) (s : Page) (X : List ℕ) → StandsAt (λ sink. sink.page) page_step tokenizer.old K s X
-        → StandsAt (λ sink. sink.page) page_step tokenizer.new K s (X ++ chars (string_bytes text))) }
+    ensures reads { OnOk result (ReadsOn (λ sink. sink.page) page_step
+        tokenizer.old tokenizer.new (chars (string_bytes text))) }
     ensures exact { tokenizer.new.exact ≡ tokenizer.old.exact }
     ensures going_on { tokenizer.new.ended ≡ false }
     ensures not_failed { OnOk result (tokenizer.new.failed ≡ false) }
@@ -139,14 +138,18 @@ pub fn print_tokens<R: Source, W: Target, A: Allocator + Copy>(
     settings: &Settings,
 ) -> Result<(), Fault>
     requires { settings.now.opts.initial_state ≡ Some State.Plaintext }
-    ensures ok { OnOk result (PrintsReading settings.now (R.remaining reader.old) (R.remaining reader.new) (W.contents writer.old) (W.contents writer.new)) }
+    ensures ok { OnOk result (PrintsReading settings.now
+        (R.remaining reader.old) (R.remaining reader.new) (W.contents writer.old) (W.contents writer.new)) }
 
     // When each fault comes, and what it leaves.
     ensures not_utf8 { result ≡ Err Fault.NotUtf8
-        → PrintsNothing (R.remaining reader.old) (R.remaining reader.new) (W.contents writer.old) (W.contents writer.new) }
+        → PrintsNothing
+        (R.remaining reader.old) (R.remaining reader.new) (W.contents writer.old) (W.contents writer.new) }
     ensures beginning { OnErr result (Keeps (W.contents writer.old) (W.contents writer.new)
-        ⊎ PrintsBeginning settings.now (R.remaining reader.old) (R.remaining reader.new) (W.contents writer.old) (W.contents writer.new)) }
-    ensures failed_read { R.failures reader.new ≢ R.failures reader.old → Keeps (W.contents writer.old) (W.contents writer.new) }
+        ⊎ PrintsBeginning settings.now
+        (R.remaining reader.old) (R.remaining reader.new) (W.contents writer.old) (W.contents writer.new)) }
+    ensures failed_read { R.failures reader.new ≢ R.failures reader.old
+        → Keeps (W.contents writer.old) (W.contents writer.new) }
     ensures device { R.failures reader.new + W.failures writer.new
         ≡ R.failures reader.old + W.failures writer.old + reported_failures result }
 {

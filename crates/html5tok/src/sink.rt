@@ -58,8 +58,10 @@ pub trait TokenSink<T: Says> {
         line_number: u64,
     ) -> Result<TokenSinkResult<Self::Handle, T::Text>, SinkFault>
         ensures steps { OnOk result (state self.new ≡ step (state self.old) (T.told token) line_number) }
-        ensures replies { IfOk result (λ answer. reply_of T.text_bytes answer ≡ reply (state self.old) (T.told token) line_number) }
-        ensures fault { OnErr result (state self.new ≡ faulted (state self.old) (T.told token) line_number) }
+        ensures replies { IfOk result
+            (λ answer. reply_of T.text_bytes answer ≡ reply (state self.old) (T.told token) line_number) }
+        ensures fault { OnErr result
+            (state self.new ≡ faulted (state self.old) (T.told token) line_number) }
         ensures no_fault { OnOk result (faults self.new ≡ faults self.old) }
         ensures one_fault { OnErr result (faults self.new ≡ faults self.old + 1) };
 
@@ -70,16 +72,20 @@ pub trait TokenSink<T: Says> {
         ensures no_fault { OnOk result (faults self.new ≡ faults self.old) }
         ensures one_fault { OnErr result (faults self.new ≡ faults self.old + 1) };
 
-    /// Whether the current node of the tree is outside the HTML namespace, so that `<![CDATA[` begins a section.
+    /// Whether the tree's current node is outside the HTML namespace, so that `<![CDATA[` begins a
+    /// section.
     fn adjusted_current_node_present_but_not_in_html_namespace(&self) -> bool
         ensures { result ≡ foreign (state self.now) };
 
     // Two adjacent texts are as one, an empty text is as none, and the line of a text is neglected.
-    ghost joins: { (s : State) (a b : List ℕ) (line : ℕ) → step (step s (Text a) line) (Text b) line ≡ step s (Text (a ++ b)) line };
+    ghost joins: { (s : State) (a b : List ℕ) (line : ℕ)
+        → step (step s (Text a) line) (Text b) line ≡ step s (Text (a ++ b)) line };
 
     ghost empty: { (s : State) (line : ℕ) → step s (Text []) line ≡ s };
 
-    ghost any_line: { (s : State) (a : List ℕ) (line other : ℕ) → step s (Text a) line ≡ step s (Text a) other };
+    ghost any_line: { (s : State) (a : List ℕ) (line other : ℕ)
+        → step s (Text a) line ≡ step s (Text a) other };
     // Only a tag gets another reply than to keep on.
-    ghost keeps_on: { (s : State) (told : Told) (line : ℕ) → is_tag told ≡ false → reply s told line ≡ KeepOn };
+    ghost keeps_on: { (s : State) (told : Told) (line : ℕ)
+        → is_tag told ≡ false → reply s told line ≡ KeepOn };
 }

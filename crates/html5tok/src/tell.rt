@@ -18,7 +18,8 @@ pub fn tell<S: TokenSink<Token<A>>, A: Allocator>(
 ) -> Result<(), TokenizerError>
     requires no_tag { is_tag (told_by token) ≡ false }
     requires nonempty { messages_of (told_by token) line ≢ [] }
-    ensures tells { Tells S.step S.faulted result (S.state sink.old) (messages_of (told_by token) line) (S.state sink.new) }
+    ensures tells { Tells S.step S.faulted result (S.state sink.old)
+        (messages_of (told_by token) line) (S.state sink.new) }
     ensures faults { S.faults sink.new ≡ S.faults sink.old + faults_of result }
 {
     match sink.process_token(token, line) {
@@ -35,7 +36,8 @@ pub fn emit_char<S: TokenSink<Token<A>>, A: Allocator + Copy>(
     c: char,
     line: u64,
 ) -> Result<(), TokenizerError>
-    ensures tells { Tells S.step S.faulted result (S.state sink.old) (on_line line (Text (encode_utf8 c) ∷ [])) (S.state sink.new) }
+    ensures tells { Tells S.step S.faulted result (S.state sink.old)
+        (on_line line (Text (encode_utf8 c) ∷ [])) (S.state sink.new) }
     ensures faults { S.faults sink.new ≡ S.faults sink.old + faults_of result }
 {
     tell(sink, Token::CharacterTokens(text_of(alloc, c)?), line)
@@ -47,7 +49,8 @@ pub fn emit_error<S: TokenSink<Token<A>>, A: Allocator>(
     message: String<A>,
     line: u64,
 ) -> Result<(), TokenizerError>
-    ensures tells { Tells S.step S.faulted result (S.state sink.old) (on_line line (Error (string_bytes message) ∷ [])) (S.state sink.new) }
+    ensures tells { Tells S.step S.faulted result (S.state sink.old)
+        (on_line line (Error (string_bytes message) ∷ [])) (S.state sink.new) }
     ensures faults { S.faults sink.new ≡ S.faults sink.old + faults_of result }
 {
     tell(sink, Token::ParseError(message), line)

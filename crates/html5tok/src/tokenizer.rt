@@ -1,14 +1,14 @@
-ghost use Rattle.std.specs.Prelude.{◌≡◌, ℕ, ◌+◌, ◌↔◌, List, ◌∷◌, ◌++◌, [], true, false, Contains, IsOk, IfOk, IfErr, OnOk, OnErr, is_ok, is_err, length};
-ghost use Rattle.html5tok.specs.Feed.{feed, told_beyond, told_at_end, IsEndOf, IsLinear};
+ghost use Rattle.std.specs.Prelude.{◌≡◌, ℕ, ◌+◌, ◌↔◌, ◌∷◌, [], true, false, Contains, IsOk, IfOk, IfErr, OnOk, OnErr, is_ok, is_err, length};
+ghost use Rattle.html5tok.specs.Feed.{feed, IsEndOf, IsLinear};
 ghost use Rattle.html5tok.specs.Characters.{null, line_feed, carriage_return};
-ghost use Rattle.html5tok.specs.Reading.{reading, told, messages, after};
+ghost use Rattle.html5tok.specs.Reading.{told, messages, after};
 ghost use Rattle.html5tok.specs.Runs.{TakesItem, CanRead, item_text};
 ghost use Rattle.html5tok.specs.SmallCharSet.{IsMember};
 ghost use Rattle.html5tok.specs.Sink.{stepped, on_line};
-ghost use Rattle.html5tok.specs.Start.{Start, start_of};
-ghost use Rattle.html5tok.specs.Telling.{Tells, Stops, faults_of};
+ghost use Rattle.html5tok.specs.Start.{start_of};
+ghost use Rattle.html5tok.specs.Telling.{Tells, faults_of};
 ghost use Rattle.html5tok.specs.Token.Told.{End};
-ghost use Rattle.html5tok.specs.Tokenizer.{StandsAt, EndStops};
+ghost use Rattle.html5tok.specs.Tokenizer.{StandsAt, ReadsOn, Finishes, StopsReading, StopsEnding, EndStops};
 
 use crate::buffer_queue::{BufferQueue, SetResult};
 use crate::error::TokenizerError;
@@ -89,16 +89,17 @@ impl<Sink: TokenSink<Token<A>>, A: Allocator + Copy> Tokenizer<Sink, A> {
         requires { self.old.ended ≡ false }
 
         // What an `Ok` says: all that waited was taken, and exactly what it decides was told.
-        ensures stands { OnOk result ((K : Start) (s : Sink.State) (X : List ℕ) → StandsAt Sink.state Sink.step self.old K s X
-            → StandsAt Sink.state Sink.step self.new K s (X ++ (feed queue.old.text).taken)) }
+        ensures reads { OnOk result
+            (ReadsOn Sink.state Sink.step self.old self.new (feed queue.old.text).taken) }
         ensures answer { IfOk result (λ answer. answer ≡ TokenizerResult.Done) }
         ensures left { OnOk result (queue.new.text ≡ (feed queue.old.text).left) }
 
         // When each error comes, and what it leaves.
         ensures failed_before { (result ≡ Err TokenizerError.Failed) ↔ (self.old.failed ≡ true) }
-        ensures unchanged { self.old.failed ≡ true → (self.new ≡ self.old) × (queue.new ≡ queue.old) }
-        ensures stops { IfErr result (λ e. (K : Start) (s : Sink.State) (X : List ℕ) → StandsAt Sink.state Sink.step self.old K s X
-            → Stops Sink.step Sink.faulted e (Sink.state self.old.sink) (told_beyond self.old.exact K X queue.old.text) (Sink.state self.new.sink)) }
+        ensures unchanged { self.old.failed ≡ true
+            → (self.new ≡ self.old) × (queue.new ≡ queue.old) }
+        ensures stops { IfErr result (λ error. StopsReading Sink.state Sink.step Sink.faulted
+            error self.old queue.old.text (Sink.state self.new.sink)) }
         ensures faults { Sink.faults self.new.sink ≡ Sink.faults self.old.sink + faults_of result }
         ensures failed { self.new.failed ≡ is_err result }
         ensures end_of_queue { IsEndOf queue.new.text queue.old.text }
@@ -132,14 +133,14 @@ impl<Sink: TokenSink<Token<A>>, A: Allocator + Copy> Tokenizer<Sink, A> {
         requires { self.old.ended ≡ false }
 
         // What an `Ok` says: the whole reading was told, and the sink has finished.
-        ensures finished { OnOk result ((K : Start) (s : Sink.State) (X : List ℕ) → StandsAt Sink.state Sink.step self.old K s X
-            → Sink.state self.new.sink ≡ Sink.finish (stepped Sink.step s (messages (reading self.old.exact K X)))) }
+        ensures finishes { OnOk result
+            (Finishes Sink.state Sink.step Sink.finish self.old (Sink.state self.new.sink)) }
 
         // When each error comes, and what it leaves.
         ensures failed_before { (result ≡ Err TokenizerError.Failed) ↔ (self.old.failed ≡ true) }
         ensures unchanged { self.old.failed ≡ true → self.new ≡ self.old }
-        ensures stops { IfErr result (λ e. (K : Start) (s : Sink.State) (X : List ℕ) → StandsAt Sink.state Sink.step self.old K s X
-            → EndStops Sink.step Sink.faulted Sink.end_faulted e (Sink.state self.old.sink) (told_at_end self.old.exact K X) (Sink.state self.new.sink)) }
+        ensures stops { IfErr result (λ error. StopsEnding Sink.state Sink.step Sink.faulted
+            Sink.end_faulted error self.old (Sink.state self.new.sink)) }
         ensures faults { Sink.faults self.new.sink ≡ Sink.faults self.old.sink + faults_of result }
         ensures failed { self.new.failed ≡ is_err result }
         ensures ended { self.new.ended ≡ is_ok result }
@@ -161,13 +162,15 @@ impl<Sink: TokenSink<Token<A>>, A: Allocator + Copy> Tokenizer<Sink, A> {
     }
 }
 
-/// Tells the end of the input, and has the sink finish.
+// Tells the end of the input, and has the sink finish.
 fn tell_end<S: TokenSink<Token<A>>, A: Allocator>(
     sink: &mut S,
     line: u64,
 ) -> Result<(), TokenizerError>
-    ensures ok { OnOk result (S.state sink.new ≡ S.finish (stepped S.step (S.state sink.old) (on_line line (End ∷ [])))) }
-    ensures err { IfErr result (λ e. EndStops S.step S.faulted S.end_faulted e (S.state sink.old) (on_line line (End ∷ [])) (S.state sink.new)) }
+    ensures ok { OnOk result
+        (S.state sink.new ≡ S.finish (stepped S.step (S.state sink.old) (on_line line (End ∷ [])))) }
+    ensures err { IfErr result (λ error. EndStops S.step S.faulted S.end_faulted error
+        (S.state sink.old) (on_line line (End ∷ [])) (S.state sink.new)) }
     ensures faults { S.faults sink.new ≡ S.faults sink.old + faults_of result }
 {
     tell(sink, Token::EOFToken, line)?;
@@ -177,7 +180,7 @@ fn tell_end<S: TokenSink<Token<A>>, A: Allocator>(
     }
 }
 
-/// Reads one character of the stream.
+// Reads one character of the stream.
 fn read_character<S: TokenSink<Token<A>>, A: Allocator + Copy>(
     alloc: A,
     sink: &mut S,
@@ -185,7 +188,8 @@ fn read_character<S: TokenSink<Token<A>>, A: Allocator + Copy>(
     position: &mut Position,
     c: char,
 ) -> Result<(), TokenizerError>
-    ensures tells { Tells S.step S.faulted result (S.state sink.old) (messages (told exact_errors position.old (c ∷ []))) (S.state sink.new) }
+    ensures tells { Tells S.step S.faulted result (S.state sink.old)
+        (messages (told exact_errors position.old (c ∷ []))) (S.state sink.new) }
     ensures moves { position.new ≡ after position.old (c ∷ []) }
     ensures faults { S.faults sink.new ≡ S.faults sink.old + faults_of result }
 {
@@ -197,8 +201,8 @@ fn read_character<S: TokenSink<Token<A>>, A: Allocator + Copy>(
     plaintext_state(alloc, sink, exact_errors, c, line)
 }
 
-/// Takes what can be read at once: a run of characters that tell themselves alone, where errors
-/// are not exact and no first character may be dropped, and else one character.
+// Takes what can be read at once: a run of characters that tell themselves alone, where errors
+// are not exact and no first character may be dropped, and else one character.
 fn pop_item<A: Allocator + Copy>(
     exact_errors: bool,
     position: &Position,
@@ -222,7 +226,7 @@ fn pop_item<A: Allocator + Copy>(
     queue.pop_except_from(breaks)
 }
 
-/// Reads what was taken at once.
+// Reads what was taken at once.
 fn read_item<S: TokenSink<Token<A>>, A: Allocator + Copy>(
     alloc: A,
     sink: &mut S,
@@ -231,7 +235,8 @@ fn read_item<S: TokenSink<Token<A>>, A: Allocator + Copy>(
     item: SetResult<A>,
 ) -> Result<(), TokenizerError>
     requires { CanRead exact_errors position.old item }
-    ensures tells { Tells S.step S.faulted result (S.state sink.old) (messages (told exact_errors position.old (item_text item))) (S.state sink.new) }
+    ensures tells { Tells S.step S.faulted result (S.state sink.old)
+        (messages (told exact_errors position.old (item_text item))) (S.state sink.new) }
     ensures moves { position.new ≡ after position.old (item_text item) }
     ensures faults { S.faults sink.new ≡ S.faults sink.old + faults_of result }
 {
@@ -241,7 +246,7 @@ fn read_item<S: TokenSink<Token<A>>, A: Allocator + Copy>(
     }
 }
 
-/// Reads all that waits in the queue.
+// Reads all that waits in the queue.
 fn read_queue<S: TokenSink<Token<A>>, A: Allocator + Copy>(
     alloc: A,
     sink: &mut S,
@@ -249,7 +254,8 @@ fn read_queue<S: TokenSink<Token<A>>, A: Allocator + Copy>(
     position: &mut Position,
     queue: &mut BufferQueue<A>,
 ) -> Result<(), TokenizerError>
-    ensures tells { Tells S.step S.faulted result (S.state sink.old) (messages (told exact_errors position.old queue.old.text)) (S.state sink.new) }
+    ensures tells { Tells S.step S.faulted result (S.state sink.old)
+        (messages (told exact_errors position.old queue.old.text)) (S.state sink.new) }
     ensures moves { OnOk result (position.new ≡ after position.old queue.old.text) }
     ensures emptied { OnOk result (queue.new.text ≡ []) }
     ensures left { IsEndOf queue.new.text queue.old.text }

@@ -2,8 +2,8 @@ use Rattle.std.proofs.lemmas.Result.{on_ok_weaker, IfErr-weaker}
 use Rattle.html5tok.proofs.Standing.{StandsAt-finished, EndStops-at_end}
 use Rattle.html5tok.proofs.tokenizer.Tokenizer.end.Goals as goal
 
-pub returns-clause-finished : goal.returns-clause-finished
-returns-clause-finished g c =
+pub returns-clause-finishes : goal.returns-clause-finishes
+returns-clause-finishes g c =
     rw (← c.self.view_is)
     (on_ok_weaker c.tell_end-result.result
     (λ tells K s X stands. StandsAt-finished g.Sink.TokenSink.state g.Sink.TokenSink.step g.Sink.TokenSink.faulted _ K s X g.Sink.TokenSink.finish _ c.line.ensures.fits tells stands)

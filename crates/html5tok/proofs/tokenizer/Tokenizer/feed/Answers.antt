@@ -4,8 +4,8 @@ use Rattle.html5tok.proofs.Standing.{StandsAt-more, Stops-beyond}
 use Rattle.html5tok.proofs.tokenizer.Tokenizer.feed.Goals as goal
 use Rattle.html5tok.proofs.tokenizer.Tokenizer.feed.Goals.{in-Ok, in-Err}
 
-pub returns-clause-stands : goal.returns-clause-stands
-returns-clause-stands g c = elim c.match-result.branch [
+pub returns-clause-reads : goal.returns-clause-reads
+returns-clause-reads g c = elim c.match-result.branch [
   | in-Ok w ↦ rw (w.result-is, ← c.self.view_is) (λ K s X stands.
       StandsAt-more g.Sink.TokenSink.state g.Sink.TokenSink.step g.Sink.TokenSink.faulted _ _ K s X c.args.queue.now.text refl
       (rw w.in-Ok.is at c.read_queue-result.ensures.tells) (rw w.in-Ok.is at c.read_queue-result.ensures.moves)
