@@ -1,7 +1,5 @@
-ghost use Rattle.std.specs.Prelude.{◌≡◌, ◌+◌, ◌∷◌, [], true};
+ghost use Rattle.std.specs.Prelude.{◌≡◌, ◌+◌};
 ghost use Rattle.html5tok.specs.PlainText.{bad_character_error, text_item};
-ghost use Rattle.html5tok.specs.NormalisedText.{normalised};
-ghost use Rattle.html5tok.specs.Reading.{told, messages, after};
 ghost use Rattle.html5tok.specs.Sink.{on_line};
 ghost use Rattle.html5tok.specs.Start.Mode.{Plain};
 ghost use Rattle.html5tok.specs.Telling.{Tells, faults_of};

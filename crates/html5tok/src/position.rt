@@ -1,5 +1,4 @@
 ghost use Rattle.std.specs.Prelude.{◌≡◌, ◌^◌, ◌<◌, ◌↔◌, [], ◌∷◌, false, IsTrue, MatchOption};
-ghost use Rattle.html5tok.specs.Characters.{line_feed};
 ghost use Rattle.html5tok.specs.NormalisedText.{normalised, drops_first};
 ghost use Rattle.html5tok.specs.Reading.{after};
 ghost use Rattle.html5tok.specs.Start.{start_of};

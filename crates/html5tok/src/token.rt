@@ -1,5 +1,3 @@
-ghost use Rattle.std.specs.Prelude.{ℕ, List, string_bytes};
-
 use std::alloc::{Allocator, Global};
 
 /// A tag's or an attribute's name without its prefix.
