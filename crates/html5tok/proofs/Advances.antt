@@ -6,7 +6,7 @@ use Rattle.html5tok.specs.Characters.{line_feed, carriage_return}
 use Rattle.html5tok.specs.NormalisedText.{with_line_feeds, without_dropped_first, normalised, drops_first}
 use Rattle.html5tok.specs.Reading.{line_after, last_line, after, ends_with_carriage_return}
 use Rattle.html5tok.specs.Start.{Start}
-use Rattle.html5tok.proofs.ReadingLemmas.{dropped-no_cr}
+use Rattle.html5tok.proofs.ReadingLemmas.{dropped-no_cr, line_after-none}
 
 pub normalised-dropped : (K : Start) (c : ℕ) → drops_first K c ≡ true → normalised K (c ∷ []) ≡ []
 unfolding normalised without_dropped_first with_line_feeds
@@ -21,10 +21,6 @@ after-reads : (K : Start) (c : ℕ) (Y : List ℕ) → normalised K (c ∷ []) �
     → after K (c ∷ []) ≡ record { mode = K.mode; line = line_after K Y; after_carriage_return = c == carriage_return; drops_byte_order_mark = false }
 unfolding after ends_with_carriage_return
 after-reads K c Y e = rw e refl
-
-line_after-none : (K : Start) → K.line < 2 ^ 64 → line_after K [] ≡ K.line
-unfolding line_after
-line_after-none K h = omega arith
 
 line_after-one : (K : Start) (c : ℕ) → line_after K (c ∷ []) ≡ min (K.line + cond (c == line_feed) 1 0) last_line
 unfolding line_after

@@ -1,5 +1,5 @@
 -- Reading a text in two parts: the second is read anew from the start behind the first.
-use Rattle.std.proofs.Common.{◌≡◌, ℕ, Bool, true, false, cond, List, [], ◌∷◌, ◌++◌, refl, ap, sym, ◌∙◌, arith, inl, inr}
+use Rattle.std.proofs.Common.{◌≡◌, ℕ, ◌<◌, ◌^◌, Bool, true, false, cond, List, [], ◌∷◌, ◌++◌, refl, ap, sym, ◌∙◌, arith, inl, inr}
 use Rattle.std.specs.Prelude.{map, take_while, ◌==◌, ◌&&◌}
 use Rattle.std.proofs.lemmas.Bool.{eqb-true, and_parts, or_cases}
 use Rattle.std.proofs.lemmas.List.{append_assoc, append-nil}
@@ -113,6 +113,11 @@ events_from-append exact K before (c ∷ Y) W =
     ∙ rw (append_assoc before (c ∷ []) Y) (sym (append_assoc (events_at exact K before c) (events_from exact K (before ++ c ∷ []) Y) (events_from exact K (before ++ c ∷ Y) W)))
 
 -- lines
+
+-- no character is on the start's line
+pub line_after-none : (K : Start) → K.line < 2 ^ 64 → line_after K [] ≡ K.line
+unfolding line_after
+line_after-none K h = omega arith
 
 -- what is past the start of a text counts on from the line that the text before it reached
 line_after-append : (K L : Start) (Y W : List ℕ) → L.line ≡ line_after K Y → line_after K (Y ++ W) ≡ line_after L W

@@ -14,7 +14,7 @@ use Rattle.html5tok.specs.Start.{Start}
 use Rattle.html5tok.specs.Start.Mode.{Plain}
 use Rattle.html5tok.specs.Token.{Told}
 use Rattle.html5tok.specs.Token.Told.{Text}
-use Rattle.html5tok.proofs.ReadingLemmas.{messages_at, messages-events_at, messages-append, told-events, plain_mode}
+use Rattle.html5tok.proofs.ReadingLemmas.{messages_at, messages-events_at, messages-append, told-events, plain_mode, line_after-none}
 
 with_line_feeds-run : (run : List ℕ) → All IsOrdinary run → with_line_feeds false run ≡ run
 unfolding with_line_feeds
@@ -46,10 +46,6 @@ line_after-run K before (c ∷ run) all =
     ap (λ l. line_after K l) (sym (append_assoc before (c ∷ []) run))
     ∙ line_after-run K (before ++ c ∷ []) run (All-tail IsOrdinary c run all)
     ∙ line_after-ordinary K before c (All-head IsOrdinary c run all)
-
-line_after-none : (K : Start) → K.line < 2 ^ 64 → line_after K [] ≡ K.line
-unfolding line_after
-line_after-none K h = omega arith
 
 pub after-run : (exact : Bool) (K : Start) (run : List ℕ) → IsRun exact K run → K.line < 2 ^ 64 → after K run ≡ K
 unfolding after

@@ -1,5 +1,5 @@
 -- Where a tokenizer stands in a text, and what its calls make of that.
-use Rattle.std.specs.Prelude.{◌≡◌, ℕ, Bool, true, false, List, ◌++◌, ◌⊎◌}
+use Rattle.std.specs.Prelude.{◌≡◌, ℕ, Bool, false, List, ◌++◌, ◌⊎◌}
 use Rattle.html5tok.specs.Feed.{told_beyond, told_at_end}
 use Rattle.html5tok.specs.Reading.{reading, told, messages, after}
 use Rattle.html5tok.specs.Sink.{Message, stepped}
