@@ -10,6 +10,7 @@ pub mod QueueReading
 pub mod Quotes
 pub mod ReadingLemmas
 pub mod RunLemmas
+pub mod SettingsLemmas
 pub mod SmallCharSetLemmas
 pub mod Standing
 pub mod Tellings

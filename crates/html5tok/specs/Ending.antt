@@ -1,10 +1,10 @@
--- How a run of the program ends: the status, and the line that tells why no answer was given.
-use Rattle.std.specs.Prelude.{ℕ, List, [], ◌⊎◌, Option, codes}
+-- How a run of the program ends: the status, the line that tells why no answer was given, and what was printed.
+use Rattle.std.specs.Prelude.{ℕ, List, [], ◌⊎◌, Option, IsSomeAnd, codes}
 use Rattle.std.specs.Io.KnownBytes.{Appends}
-use Rattle.html5tok.specs.Device.{AppendsBeginning}
+use Rattle.html5tok.specs.Device.{AppendsBeginning, device_failures}
 use Rattle.html5tok.specs.Printing.{PrintsReading, PrintsBeginning}
+use Rattle.html5tok.specs.Settings.{settings_said}
 use Rattle.html5tok.specs.declared.fault.Fault.TheVariants.{NotUtf8, Memory, Device}
-use Rattle.html5tok.specs.declared.print.Settings.{Settings}
 use Rattle.html5tok.specs.declared.run.Ending.{Ending}
 use Rattle.html5tok.specs.declared.run.Ending.TheVariants.{Printed, Usage, Faulted}
 
@@ -22,14 +22,22 @@ line_of (Faulted NotUtf8) = codes "input is not UTF-8\n"
 line_of (Faulted Memory) = codes "out of memory\n"
 line_of (Faulted Device) = codes "read or write failed\n"
 
+-- how many failures of its devices an ending tells
+abbrev pub failures_of : Ending → ℕ
+failures_of Printed = 0
+failures_of Usage = 0
+failures_of (Faulted fault) = device_failures fault
+
 -- known bytes grow by bs or by a beginning of it
 abbrev pub AppendsUpTo : Option (List ℕ) → Option (List ℕ) → List ℕ → Type 0
 AppendsUpTo old new bs = Appends old new bs ⊎ AppendsBeginning old new bs
 
--- by some settings, the whole reading was printed
-abbrev pub PrintsSomeReading : Option (List ℕ) → Option (List ℕ) → Option (List ℕ) → Option (List ℕ) → Type 0
-PrintsSomeReading unread left written after = (settings : Settings) × PrintsReading settings unread left written after
+-- the words say some settings, and by these the whole reading was printed
+abbrev pub PrintsAsSaid : List (List ℕ) → Option (List ℕ) → Option (List ℕ) → Option (List ℕ) → Option (List ℕ) → Type 0
+PrintsAsSaid words unread left written after =
+    IsSomeAnd (settings_said words) (λ settings. PrintsReading settings unread left written after)
 
--- by some settings, a beginning of the reading was printed
-abbrev pub PrintsSomeBeginning : Option (List ℕ) → Option (List ℕ) → Option (List ℕ) → Option (List ℕ) → Type 0
-PrintsSomeBeginning unread left written after = (settings : Settings) × PrintsBeginning settings unread left written after
+-- the same, but only a beginning was printed
+abbrev pub PrintsBeginningAsSaid : List (List ℕ) → Option (List ℕ) → Option (List ℕ) → Option (List ℕ) → Option (List ℕ) → Type 0
+PrintsBeginningAsSaid words unread left written after =
+    IsSomeAnd (settings_said words) (λ settings. PrintsBeginning settings unread left written after)

@@ -18,3 +18,4 @@ pub mod Printed
 pub mod Page
 pub mod Printing
 pub mod Ending
+pub mod Settings

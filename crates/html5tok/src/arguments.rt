@@ -1,5 +1,6 @@
 //! The words of the command line.
-ghost use Rattle.std.specs.Prelude.{◌≡◌, ◌<◌, ◌^◌, [], false, IfSome, IsNone};
+ghost use Rattle.std.specs.Prelude.{◌≡◌, ◌<◌, ◌^◌, false, IfSome, map, string_bytes};
+ghost use Rattle.html5tok.specs.Settings.{state_said, cut_said, settings_said};
 
 use crate::options::{State, TokenizerOpts};
 use crate::print::Settings;
@@ -19,10 +20,10 @@ const UNSAID: Settings = Settings {
 /// The settings that the words behind the program's name say, if they are ones that it knows. Of an option that is given
 /// more than once the last counts.
 pub fn settings_of<A: Allocator>(words: &[String<A>]) -> Option<Settings>
+    ensures said { result ≡ settings_said (map string_bytes words.now) }
     ensures state { IfSome result (λ settings. settings.opts.initial_state ≡ Some State.Plaintext) }
     ensures foreign { IfSome result (λ settings. settings.foreign ≡ false) }
     ensures cut { IfSome result (λ settings. settings.cut < 2 ^ 32) }
-    ensures empty { words.now ≡ [] → IsNone result }
 {
     let mut settings = UNSAID;
     let mut words = words.iter();
@@ -42,7 +43,10 @@ pub fn settings_of<A: Allocator>(words: &[String<A>]) -> Option<Settings>
 }
 
 // The state of that name.
-fn state_of(name: &str) -> Option<State> {
+#[tactic(auto, unfolding(crate::specs::Settings::state_said))]
+fn state_of(name: &str) -> Option<State>
+    ensures { result ≡ state_said name.now }
+{
     match name {
         "plaintext" => Some(State::Plaintext),
         _ => None,
@@ -50,15 +54,19 @@ fn state_of(name: &str) -> Option<State> {
 }
 
 // A number of characters in decimal digits: at least 1, and below 2 ^ 32.
+#[tactic(auto, unfolding(crate::specs::Settings::cut_said))]
 fn cut_of(digits: &str) -> Option<usize>
-    ensures some { IfSome result (λ cut. 0 < cut) }
+    ensures said { result ≡ cut_said digits.now }
     ensures fits { IfSome result (λ cut. cut < 2 ^ 32) }
 {
     if !digits.bytes().all(|byte| byte.is_ascii_digit()) {
         return None;
     }
-    match digits.parse::<u32>() {
-        Ok(0) | Err(_) => None,
-        Ok(cut) => Some(cut as usize),
+    let Ok(cut) = digits.parse::<u32>() else {
+        return None;
+    };
+    if cut == 0 {
+        return None;
     }
+    Some(cut as usize)
 }

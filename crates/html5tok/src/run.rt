@@ -1,14 +1,19 @@
 //! A run of the program, over any devices.
-ghost use Rattle.std.specs.Prelude.{◌≡◌, ◌≢◌, ℕ, ◌+◌, ◌⊎◌, ◌∷◌, [], Contains, IsNone, IfOk};
+ghost use Rattle.std.specs.Prelude.{◌≡◌, ◌≢◌, ◌+◌, ◌⊎◌, ◌↔◌, ◌∷◌, [], Contains, IsNone, IfErr, map, string_bytes, nat_eq, if◌then◌else◌};
 ghost use Rattle.std.specs.Io.KnownBytes.{Keeps};
-ghost use Rattle.html5tok.specs.Ending.{status_of, line_of, AppendsUpTo, PrintsSomeReading, PrintsSomeBeginning};
+ghost use Rattle.html5tok.specs.Ending.{status_of, line_of, failures_of, AppendsUpTo, PrintsAsSaid, PrintsBeginningAsSaid};
 ghost use Rattle.html5tok.specs.Printing.{PrintsNothing};
+ghost use Rattle.html5tok.specs.Settings.{settings_said};
+ghost use Rattle.html5tok.specs.declared.run.Ending.{Ending};
 
 use crate::arguments::settings_of;
 use crate::device::{Source, Target, write_all};
 use crate::fault::Fault;
 use crate::print::print_tokens;
 use std::alloc::Allocator;
+use std::env;
+use std::io::ErrorKind;
+use std::rt::Env;
 
 #[cfg(test)]
 mod tests;
@@ -25,8 +30,6 @@ pub enum Ending {
 }
 
 impl Ending {
-    ghost use Rattle.html5tok.specs.Ending.{status_of, line_of};
-
     /// The status that the process ends with.
     pub fn status(self) -> u8
         ensures { result ≡ status_of self }
@@ -56,6 +59,23 @@ impl Ending {
     }
 }
 
+/// The words behind the program's name, or how a run without them ends: such as are no text are none that it knows.
+pub fn given_words<R: Env + Alloc>(rt: &R) -> Result<Vec<String<R::A>, R::A>, Ending>
+    ensures { IfErr result (λ ending. (ending ≡ Ending.Usage) ⊎ (ending ≡ Ending.Faulted Fault.Memory)) }
+{
+    let arguments = match env::args(rt) {
+        Ok(arguments) => arguments,
+        Err(error) if error.kind() == ErrorKind::OutOfMemory => {
+            return Err(Ending::Faulted(Fault::Memory));
+        }
+        Err(_) => return Err(Ending::Usage),
+    };
+    match arguments.skip(1).collect(rt.alloc()) {
+        Ok(words) => Ok(words),
+        Err(_) => Err(Ending::Faulted(Fault::Memory)),
+    }
+}
+
 // Prints the reading of a source by the settings that the words say.
 fn print_by_words<R: Source, W: Target, A: Allocator + Copy>(
     alloc: A,
@@ -64,12 +84,16 @@ fn print_by_words<R: Source, W: Target, A: Allocator + Copy>(
     writer: &mut W,
 ) -> Ending
     ensures printed { result ≡ Ending.Printed
-        → PrintsSomeReading (R.remaining reader.old) (R.remaining reader.new) (W.contents writer.old) (W.contents writer.new) }
-    ensures usage { result ≡ Ending.Usage → (reader.new ≡ reader.old) × (writer.new ≡ writer.old) }
+        → PrintsAsSaid (map string_bytes words.now) (R.remaining reader.old) (R.remaining reader.new) (W.contents writer.old) (W.contents writer.new) }
+    ensures usage { (result ≡ Ending.Usage) ↔ IsNone (settings_said (map string_bytes words.now)) }
+    ensures untouched { result ≡ Ending.Usage → (reader.new ≡ reader.old) × (writer.new ≡ writer.old) }
     ensures not_utf8 { result ≡ Ending.Faulted Fault.NotUtf8
         → PrintsNothing (R.remaining reader.old) (R.remaining reader.new) (W.contents writer.old) (W.contents writer.new) }
     ensures beginning { result ≢ Ending.Printed → Keeps (W.contents writer.old) (W.contents writer.new)
-        ⊎ PrintsSomeBeginning (R.remaining reader.old) (R.remaining reader.new) (W.contents writer.old) (W.contents writer.new) }
+        ⊎ PrintsBeginningAsSaid (map string_bytes words.now) (R.remaining reader.old) (R.remaining reader.new) (W.contents writer.old) (W.contents writer.new) }
+    ensures failed_read { R.failures reader.new ≢ R.failures reader.old → Keeps (W.contents writer.old) (W.contents writer.new) }
+    ensures device { R.failures reader.new + W.failures writer.new
+        ≡ R.failures reader.old + W.failures writer.old + failures_of result }
 {
     let Some(settings) = settings_of(words) else {
         return Ending::Usage;
@@ -99,13 +123,23 @@ pub fn run<R: Source, W: Target, E: Target, A: Allocator + Copy>(
     errors: &mut E,
 ) -> u8
     ensures status { Contains (0 ∷ 2 ∷ 3 ∷ 5 ∷ 6 ∷ []) result }
+
+    // What each status says.
     ensures printed { result ≡ 0
-        → PrintsSomeReading (R.remaining reader.old) (R.remaining reader.new) (W.contents writer.old) (W.contents writer.new) }
-    ensures usage { result ≡ 2 → (reader.new ≡ reader.old) × (writer.new ≡ writer.old) }
+        → PrintsAsSaid (map string_bytes words.items) (R.remaining reader.old) (R.remaining reader.new) (W.contents writer.old) (W.contents writer.new) }
+    ensures usage { (result ≡ 2) ↔ IsNone (settings_said (map string_bytes words.items)) }
+    ensures untouched { result ≡ 2 → (reader.new ≡ reader.old) × (writer.new ≡ writer.old) }
     ensures not_utf8 { result ≡ 3
         → PrintsNothing (R.remaining reader.old) (R.remaining reader.new) (W.contents writer.old) (W.contents writer.new) }
     ensures beginning { result ≢ 0 → Keeps (W.contents writer.old) (W.contents writer.new)
-        ⊎ PrintsSomeBeginning (R.remaining reader.old) (R.remaining reader.new) (W.contents writer.old) (W.contents writer.new) }
+        ⊎ PrintsBeginningAsSaid (map string_bytes words.items) (R.remaining reader.old) (R.remaining reader.new) (W.contents writer.old) (W.contents writer.new) }
+    ensures failed_read { R.failures reader.new ≢ R.failures reader.old → Keeps (W.contents writer.old) (W.contents writer.new) }
+    ensures device { R.failures reader.new + W.failures writer.new
+        ≡ R.failures reader.old + W.failures writer.old + (if nat_eq result 6 then 1 else 0) }
+
+    // What the line tells.
+    ensures told { (ending : Ending) × (result ≡ status_of ending)
+        × AppendsUpTo (E.contents errors.old) (E.contents errors.new) (line_of ending) }
     ensures silent { result ≡ 0 → errors.new ≡ errors.old }
 {
     let ending = print_by_words(alloc, &words, reader, writer);

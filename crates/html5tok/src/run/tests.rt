@@ -1,3 +1,5 @@
+ghost use Rattle.std.specs.Prelude.{◌≡◌};
+
 use super::*;
 use crate::device::fakes::{FailingSource, FailingTarget, Refusal};
 use crate::device::{ReadSource, WriteTarget};
@@ -5,6 +7,7 @@ use crate::options::{State, TokenizerOpts};
 use crate::print::Settings;
 use refusing::Refusing;
 use std::alloc::{AllocError, Global};
+use std::env::FillError;
 use std::process::Abort;
 use std::test::Fail;
 
@@ -409,4 +412,74 @@ fn a_line_that_fails_changes_nothing(rt: HostRuntime) -> Result<(), Fail> {
         }
     }
     Ok(())
+}
+
+// An environment with these arguments alone.
+#[derive(Drop)]
+struct Arguments<'a>(&'a [&'a [u8]]);
+
+impl Env for Arguments<'_> {
+    fn arg(&self, i: usize, buf: &mut [u8]) -> Result<usize, FillError> {
+        let Some(argument) = self.0.get(i) else {
+            return Err(FillError::NotPresent);
+        };
+        if argument.len() > buf.len() {
+            return Err(FillError::TooLong);
+        }
+        buf[..argument.len()].copy_from_slice(argument);
+        Ok(argument.len())
+    }
+
+    fn var(&self, _name: &str, _buf: &mut [u8]) -> Result<usize, FillError> {
+        Err(FillError::NotPresent)
+    }
+
+    fn var_at(&self, _i: usize, _buf: &mut [u8]) -> Result<usize, FillError> {
+        Err(FillError::NotPresent)
+    }
+}
+
+#[test]
+fn takes_the_words_behind_the_name(rt: HostRuntime) {
+    let all = [b"html5tok".as_slice(), b"--state", b""];
+    match given_words(&(Arguments(&all), rt.alloc())) {
+        Ok(words) => {
+            assert_eq!(rt; words.len(), 2);
+            assert_eq!(rt; words[0].as_str(), "--state");
+            assert_eq!(rt; words[1].as_str(), "");
+        }
+        Err(ending) => assert!(rt; false, "{ending:?}"),
+    }
+    let name = [b"html5tok".as_slice()];
+    for few in [&name[..], &[]] {
+        assert!(rt; given_words(&(Arguments(few), rt.alloc())).is_ok_and(|words| words.is_empty()));
+    }
+    let no_text = [b"html5tok".as_slice(), b"--state", b"\xff"];
+    let ending = given_words(&(Arguments(&no_text), rt.alloc())).err();
+    assert_eq!(rt; ending, Some(Ending::Usage));
+}
+
+#[test]
+fn tells_that_there_is_no_memory_for_words(rt: HostRuntime) {
+    let all = [b"html5tok".as_slice(), b"--state", b"plaintext"];
+    let mut refused = 0u64;
+    for admitted in 0..1000u64 {
+        let heap = Refusing::new(rt.alloc(), admitted);
+        match given_words(&(Arguments(&all), &heap)) {
+            // Room for all words at once is asked for first, and it may be found bit by bit where that is refused.
+            Ok(words) => {
+                assert_eq!(rt; words.len(), 2, "after {admitted}");
+                assert_eq!(rt; words[0].as_str(), "--state", "after {admitted}");
+                assert_eq!(rt; words[1].as_str(), "plaintext", "after {admitted}");
+            }
+            Err(ending) => {
+                refused = refused.wrapping_add(1);
+                assert_eq!(rt; ending, Ending::Faulted(Fault::Memory), "after {admitted}");
+            }
+        }
+        if !heap.has_refused() {
+            break;
+        }
+    }
+    assert!(rt; refused > 3);
 }

@@ -1,3 +1,5 @@
+ghost use Rattle.std.specs.Prelude.{◌≡◌};
+
 use super::*;
 use crate::count::Count;
 use crate::print_sink::PrintSink;
@@ -109,11 +111,14 @@ fn queue_of(alloc: Global, text: &str) -> Result<BufferQueue, Fail> {
     }
 }
 
-// All that waits in a queue.
+// What waits in a queue, up to 8 characters.
 fn drained(alloc: Global, queue: &mut BufferQueue) -> Result<String, AllocError> {
     let mut text = String::new(alloc);
-    while let Some(c) = queue.next() {
-        text.push(c)?;
+    for _ in 0..8 {
+        match queue.next() {
+            Some(c) => text.push(c)?,
+            None => break,
+        }
     }
     Ok(text)
 }

@@ -1,0 +1,134 @@
+-- What each word of the command line does to the settings said so far.
+use Rattle.std.proofs.Common.{◌≡◌, ◌≢◌, ℕ, ◌<◌, ◌^◌, ◌&&◌, true, false, List, [], ◌∷◌, map, Option, None, Some, Result, Ok, Err, refl, sym, ap, ◌∙◌, arith}
+use Rattle.std.specs.Prelude.{codes, String, string_bytes, length, nat_lt, is_some, if◌then◌else◌}
+use Rattle.std.specs.Char.{is_ascii_digit}
+use Rattle.std.specs.List.{list_all}
+use Rattle.std.specs.Result.{OkIff}
+use Rattle.std.proofs.lemmas.Bool.Decides.{Decides-ltb}
+use Rattle.std.specs.Str.Parse.{digits_value, ParsesUnsigned}
+use Rattle.std.proofs.lemmas.Str.Parse.{IsNumeralModel, numerals_by_value, tells_all_ascii_digits, parse_digits}
+use Rattle.std.specs.Option.{option_map, option_and_then, option_or}
+use Rattle.std.specs.Str.{bytes_eq, all_ascii_digits}
+use Rattle.std.proofs.lemmas.Bool.{false_from_ne_true}
+use Rattle.std.proofs.lemmas.Slice.Eq.{bytes_eq-Decides}
+use Rattle.html5tok.specs.declared.options.State.{State}
+use Rattle.html5tok.specs.declared.print.Settings.{Settings}
+use Rattle.html5tok.specs.Settings.{state_said, cut_said, flag_said, value_said, said_after, with_exact_errors, with_byte_order_mark, with_state, with_cut}
+
+option_or-none : {X : Type 0} (o : Option X) → option_or o None ≡ o
+option_or-none None = refl
+option_or-none (Some x) = refl
+
+pub said_after-exact : (s : Settings) (W : List (List ℕ)) → said_after s (codes "--exact" ∷ W) ≡ said_after (with_exact_errors s) W
+unfolding said_after flag_said value_said
+said_after-exact s [] = refl
+said_after-exact s (v ∷ W) = option_or-none (said_after (with_exact_errors s) (v ∷ W))
+
+pub said_after-keep_bom : (s : Settings) (W : List (List ℕ)) → said_after s (codes "--keep-bom" ∷ W) ≡ said_after (with_byte_order_mark s) W
+unfolding said_after flag_said value_said
+said_after-keep_bom s [] = refl
+said_after-keep_bom s (v ∷ W) = option_or-none (said_after (with_byte_order_mark s) (v ∷ W))
+
+pub said_after-no_state : (s : Settings) → said_after s (codes "--state" ∷ []) ≡ None
+unfolding said_after flag_said value_said
+said_after-no_state s = refl
+
+pub said_after-state : (s : Settings) (v : List ℕ) (W : List (List ℕ)) → said_after s (codes "--state" ∷ v ∷ W) ≡ option_and_then (λ state. said_after (with_state s state) W) (state_said v)
+unfolding said_after flag_said value_said
+said_after-state s v W = elim (state_said v) as (λ o. option_and_then (λ t. said_after t W) (option_map (with_state s) o) ≡ option_and_then (λ state. said_after (with_state s state) W) o) [ None ↦ refl | Some state ↦ refl ]
+
+pub said_after-no_cut : (s : Settings) → said_after s (codes "--cut" ∷ []) ≡ None
+unfolding said_after flag_said value_said
+said_after-no_cut s = refl
+
+pub said_after-cut : (s : Settings) (v : List ℕ) (W : List (List ℕ)) → said_after s (codes "--cut" ∷ v ∷ W) ≡ option_and_then (λ cut. said_after (with_cut s cut) W) (cut_said v)
+unfolding said_after flag_said value_said
+said_after-cut s v W = elim (cut_said v) as (λ o. option_and_then (λ t. said_after t W) (option_map (with_cut s) o) ≡ option_and_then (λ cut. said_after (with_cut s cut) W) o) [ None ↦ refl | Some cut ↦ refl ]
+
+differs : (w p : List ℕ) → w ≢ p → bytes_eq w p ≡ false
+differs w p n = false_from_ne_true (bytes_eq w p) (λ e. n ((bytes_eq-Decides w p).0 e))
+
+pub said_after-unknown : (s : Settings) (w : List ℕ) (W : List (List ℕ)) → w ≢ codes "--exact" → w ≢ codes "--keep-bom" → w ≢ codes "--state" → w ≢ codes "--cut" → said_after s (w ∷ W) ≡ None
+unfolding said_after flag_said value_said
+said_after-unknown s w [] a b c d = rw (differs w (codes "--exact") a, differs w (codes "--keep-bom") b) refl
+said_after-unknown s w (v ∷ W) a b c d = rw (differs w (codes "--exact") a, differs w (codes "--keep-bom") b, differs w (codes "--state") c, differs w (codes "--cut") d) refl
+
+-- the same in a loop over texts, where `all` is what the words say
+module _ {Z : Type 0} (s : Settings) (texts rest : List (String Z)) (word : String Z) (all : Option Settings) (h : said_after s (map string_bytes texts) ≡ all) (e : texts ≡ word ∷ rest) where
+  first : (p : List ℕ) → string_bytes word ≡ p → said_after s (p ∷ map string_bytes rest) ≡ all
+  first p f = sym (ap (λ l. said_after s (map string_bytes l)) e ∙ ap (λ q. said_after s (q ∷ map string_bytes rest)) f) ∙ h
+
+  pub read-exact : string_bytes word ≡ codes "--exact" → said_after (with_exact_errors s) (map string_bytes rest) ≡ all
+  read-exact f = sym (said_after-exact s (map string_bytes rest)) ∙ first (codes "--exact") f
+
+  pub read-keep_bom : string_bytes word ≡ codes "--keep-bom" → said_after (with_byte_order_mark s) (map string_bytes rest) ≡ all
+  read-keep_bom f = sym (said_after-keep_bom s (map string_bytes rest)) ∙ first (codes "--keep-bom") f
+
+  pub read-unknown : string_bytes word ≢ codes "--exact" → string_bytes word ≢ codes "--keep-bom" → string_bytes word ≢ codes "--state" → string_bytes word ≢ codes "--cut" → None ≡ all
+  read-unknown a b c d = sym (said_after-unknown s (string_bytes word) (map string_bytes rest) a b c d) ∙ first (string_bytes word) refl
+
+  pub read-no_state : string_bytes word ≡ codes "--state" → rest ≡ [] → None ≡ all
+  read-no_state f n = sym (ap (λ l. said_after s (codes "--state" ∷ map string_bytes l)) n ∙ said_after-no_state s) ∙ first (codes "--state") f
+
+  pub read-no_cut : string_bytes word ≡ codes "--cut" → rest ≡ [] → None ≡ all
+  read-no_cut f n = sym (ap (λ l. said_after s (codes "--cut" ∷ map string_bytes l)) n ∙ said_after-no_cut s) ∙ first (codes "--cut") f
+
+  module _ (later : List (String Z)) (value : String Z) (n : rest ≡ value ∷ later) where
+    state_first : string_bytes word ≡ codes "--state" → option_and_then (λ state. said_after (with_state s state) (map string_bytes later)) (state_said (string_bytes value)) ≡ all
+    state_first f = sym (ap (λ l. said_after s (codes "--state" ∷ map string_bytes l)) n ∙ said_after-state s (string_bytes value) (map string_bytes later)) ∙ first (codes "--state") f
+
+    cut_first : string_bytes word ≡ codes "--cut" → option_and_then (λ cut. said_after (with_cut s cut) (map string_bytes later)) (cut_said (string_bytes value)) ≡ all
+    cut_first f = sym (ap (λ l. said_after s (codes "--cut" ∷ map string_bytes l)) n ∙ said_after-cut s (string_bytes value) (map string_bytes later)) ∙ first (codes "--cut") f
+
+    pub read-state : (state : State) → string_bytes word ≡ codes "--state" → state_said (string_bytes value) ≡ Some state → said_after (with_state s state) (map string_bytes later) ≡ all
+    read-state state f v = sym (ap (λ o. option_and_then (λ t. said_after (with_state s t) (map string_bytes later)) o) v) ∙ state_first f
+
+    pub read-bad_state : string_bytes word ≡ codes "--state" → state_said (string_bytes value) ≡ None → None ≡ all
+    read-bad_state f v = sym (ap (λ o. option_and_then (λ t. said_after (with_state s t) (map string_bytes later)) o) v) ∙ state_first f
+
+    pub read-cut : (cut : ℕ) → string_bytes word ≡ codes "--cut" → cut_said (string_bytes value) ≡ Some cut → said_after (with_cut s cut) (map string_bytes later) ≡ all
+    read-cut cut f v = sym (ap (λ o. option_and_then (λ t. said_after (with_cut s t) (map string_bytes later)) o) v) ∙ cut_first f
+
+    pub read-bad_cut : string_bytes word ≡ codes "--cut" → cut_said (string_bytes value) ≡ None → None ≡ all
+    read-bad_cut f v = sym (ap (λ o. option_and_then (λ t. said_after (with_cut s t) (map string_bytes later)) o) v) ∙ cut_first f
+
+-- behind the last word
+module _ {Z : Type 0} (s : Settings) (texts : List (String Z)) (all : Option Settings) (h : said_after s (map string_bytes texts) ≡ all) (e : texts ≡ []) where
+  last : (o : Option State) → s.opts.initial_state ≡ o → (if is_some o then Some s else None) ≡ all
+  unfolding said_after
+  last o i = sym (ap (λ l. said_after s (map string_bytes l)) e ∙ ap (λ t. if is_some t then Some s else None) i) ∙ h
+
+  pub read-end : (state : State) → s.opts.initial_state ≡ Some state → Some s ≡ all
+  read-end state i = last (Some state) i
+
+  pub read-no_end : s.opts.initial_state ≡ None → None ≡ all
+  read-no_end i = last None i
+
+own : IsNumeralModel (λ ds. all_ascii_digits ds ≡ true) (digits_value 10)
+own = numerals_by_value _ tells_all_ascii_digits
+
+pub list_all-digits : (bs : List ℕ) → list_all is_ascii_digit bs ≡ all_ascii_digits bs
+list_all-digits [] = refl
+list_all-digits (b ∷ bs) = ap (λ r. is_ascii_digit b && r) (list_all-digits bs)
+
+pub cut_said-no_digits : (bs : List ℕ) → all_ascii_digits bs ≡ false → cut_said bs ≡ None
+unfolding cut_said
+cut_said-no_digits bs e = rw e refl
+
+-- the cut that a parsed number means
+abbrev pub parsed_cut : {E : Type 0} → Result ℕ E → Option ℕ
+parsed_cut (Ok cut) = if nat_lt 0 cut then Some cut else None
+parsed_cut (Err e) = None
+
+cut_said-okiff : {E : Type 0} (bs : List ℕ) (r : Result ℕ E) → all_ascii_digits bs ≡ true → OkIff r ((0 < length bs) × (digits_value 10 bs < 2 ^ 32)) (digits_value 10 bs) → cut_said bs ≡ parsed_cut r
+unfolding cut_said
+cut_said-okiff bs (Ok cut) all h = rw (all, (Decides-ltb (digits_value 10 bs) (2 ^ 32)).1 h.0.1, h.1) refl
+cut_said-okiff [] (Err e) all h = refl
+cut_said-okiff (b ∷ bs) (Err e) all h =
+    rw (all, false_from_ne_true (nat_lt (digits_value 10 (b ∷ bs)) (2 ^ 32)) (λ t. h (omega arith, (Decides-ltb (digits_value 10 (b ∷ bs)) (2 ^ 32)).0 t))) refl
+
+pub cut_said-parsed : {E : Type 0} (bs : List ℕ) (r : Result ℕ E) → all_ascii_digits bs ≡ true → ParsesUnsigned 32 10 bs r → cut_said bs ≡ parsed_cut r
+cut_said-parsed bs r all h = cut_said-okiff bs r all (parse_digits own 32 bs r h all)
+
+pub parsed_cut-positive : {E : Type 0} (r : Result ℕ E) (cut : ℕ) → r ≡ Ok cut → 0 < cut → parsed_cut r ≡ Some cut
+parsed_cut-positive r cut e h = ap parsed_cut e ∙ rw ((Decides-ltb 0 cut).1 h) refl
