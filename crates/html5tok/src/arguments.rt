@@ -17,8 +17,8 @@ const UNSAID: Settings = Settings {
     cut: 0,
 };
 
-/// The settings that the words behind the program's name say, if they are ones that it knows. Of an option that is given
-/// more than once the last counts.
+/// The settings that the words behind the program's name say, if they are ones that it knows. Of an
+/// option that is given more than once the last counts.
 pub fn settings_of<A: Allocator>(words: &[String<A>]) -> Option<Settings>
     ensures said { result ≡ settings_said (map string_bytes words.now) }
     ensures state { IfSome result (λ settings. settings.opts.initial_state ≡ Some State.Plaintext) }

@@ -67,7 +67,8 @@ fn push_escape<A: Allocator>(page: &mut Vec<u8, A>, byte: u8) -> Result<(), Allo
     }
 }
 
-// Appends what stands for a text in quotes, straight to the page: runs of bytes that stand as they are go at once.
+// Appends what stands for a text in quotes, straight to the page: runs of bytes that stand as they
+// are go at once.
 fn push_quoted_bytes<A: Allocator>(page: &mut Vec<u8, A>, text: &[u8]) -> Result<(), AllocError>
     ensures ok { OnOk result (page.new.items ≡ page.old.items ++ quoted_bytes text.now) }
     ensures err { OnErr result (BeginsWith page.new.items page.old.items) }
@@ -141,7 +142,8 @@ fn push_line_with_text<A: Allocator + Copy>(
     text: &[u8],
 ) -> Result<(), AllocError>
     ensures ok { OnOk result
-        (page.new.items ≡ page.old.items ++ (text_closing in_text ++ line_with_text word.now line text.now)) }
+        (page.new.items ≡ page.old.items
+            ++ (text_closing in_text ++ line_with_text word.now line text.now)) }
     ensures err { OnErr result (BeginsWith page.new.items page.old.items) }
 {
     push_line_start(page, in_text, word, line)?;
@@ -203,8 +205,8 @@ fn is_open_behind<A: Allocator>(in_text: bool, token: &Token<A>) -> bool
     }
 }
 
-/// Prints what it is told: a line for each token, where adjacent texts share one and an empty text has none. A token that
-/// could not be printed leaves no part of a line.
+/// Prints what it is told: a line for each token, where adjacent texts share one and an empty text
+/// has none. A token that could not be printed leaves no part of a line.
 #[derive(Drop)]
 pub struct PrintSink<A: Allocator = Global> {
     page: Vec<u8, A>,

@@ -59,7 +59,8 @@ impl Ending {
     }
 }
 
-/// The words behind the program's name, or how a run without them ends: such as are no text are none that it knows.
+/// The words behind the program's name, or how a run without them ends: words that are no text are
+/// none that it knows.
 pub fn given_words<R: Env + Alloc>(rt: &R) -> Result<Vec<String<R::A>, R::A>, Ending>
     ensures { IfErr result (λ ending. (ending ≡ Ending.Usage) ⊎ (ending ≡ Ending.Faulted Fault.Memory)) }
 {
@@ -84,14 +85,18 @@ fn print_by_words<R: Source, W: Target, A: Allocator + Copy>(
     writer: &mut W,
 ) -> Ending
     ensures printed { result ≡ Ending.Printed
-        → PrintsAsSaid (map string_bytes words.now) (R.remaining reader.old) (R.remaining reader.new) (W.contents writer.old) (W.contents writer.new) }
+        → PrintsAsSaid (map string_bytes words.now)
+        (R.remaining reader.old) (R.remaining reader.new) (W.contents writer.old) (W.contents writer.new) }
     ensures usage { (result ≡ Ending.Usage) ↔ IsNone (settings_said (map string_bytes words.now)) }
     ensures untouched { result ≡ Ending.Usage → (reader.new ≡ reader.old) × (writer.new ≡ writer.old) }
     ensures not_utf8 { result ≡ Ending.Faulted Fault.NotUtf8
-        → PrintsNothing (R.remaining reader.old) (R.remaining reader.new) (W.contents writer.old) (W.contents writer.new) }
+        → PrintsNothing
+        (R.remaining reader.old) (R.remaining reader.new) (W.contents writer.old) (W.contents writer.new) }
     ensures beginning { result ≢ Ending.Printed → Keeps (W.contents writer.old) (W.contents writer.new)
-        ⊎ PrintsBeginningAsSaid (map string_bytes words.now) (R.remaining reader.old) (R.remaining reader.new) (W.contents writer.old) (W.contents writer.new) }
-    ensures failed_read { R.failures reader.new ≢ R.failures reader.old → Keeps (W.contents writer.old) (W.contents writer.new) }
+        ⊎ PrintsBeginningAsSaid (map string_bytes words.now)
+        (R.remaining reader.old) (R.remaining reader.new) (W.contents writer.old) (W.contents writer.new) }
+    ensures failed_read { R.failures reader.new ≢ R.failures reader.old
+        → Keeps (W.contents writer.old) (W.contents writer.new) }
     ensures device { R.failures reader.new + W.failures writer.new
         ≡ R.failures reader.old + W.failures writer.old + failures_of result }
 {
@@ -104,7 +109,8 @@ fn print_by_words<R: Source, W: Target, A: Allocator + Copy>(
     }
 }
 
-/// Writes the line of an ending, and answers its status. The line is tried once, and where that fails nothing changes.
+/// Writes the line of an ending, and answers its status. The line is tried once, and where that
+/// fails nothing changes.
 pub fn report<E: Target>(errors: &mut E, ending: Ending) -> u8
     ensures status { result ≡ status_of ending }
     ensures line { AppendsUpTo (E.contents errors.old) (E.contents errors.new) (line_of ending) }
@@ -126,14 +132,18 @@ pub fn run<R: Source, W: Target, E: Target, A: Allocator + Copy>(
 
     // What each status says.
     ensures printed { result ≡ 0
-        → PrintsAsSaid (map string_bytes words.items) (R.remaining reader.old) (R.remaining reader.new) (W.contents writer.old) (W.contents writer.new) }
+        → PrintsAsSaid (map string_bytes words.items)
+        (R.remaining reader.old) (R.remaining reader.new) (W.contents writer.old) (W.contents writer.new) }
     ensures usage { (result ≡ 2) ↔ IsNone (settings_said (map string_bytes words.items)) }
     ensures untouched { result ≡ 2 → (reader.new ≡ reader.old) × (writer.new ≡ writer.old) }
     ensures not_utf8 { result ≡ 3
-        → PrintsNothing (R.remaining reader.old) (R.remaining reader.new) (W.contents writer.old) (W.contents writer.new) }
+        → PrintsNothing
+        (R.remaining reader.old) (R.remaining reader.new) (W.contents writer.old) (W.contents writer.new) }
     ensures beginning { result ≢ 0 → Keeps (W.contents writer.old) (W.contents writer.new)
-        ⊎ PrintsBeginningAsSaid (map string_bytes words.items) (R.remaining reader.old) (R.remaining reader.new) (W.contents writer.old) (W.contents writer.new) }
-    ensures failed_read { R.failures reader.new ≢ R.failures reader.old → Keeps (W.contents writer.old) (W.contents writer.new) }
+        ⊎ PrintsBeginningAsSaid (map string_bytes words.items)
+        (R.remaining reader.old) (R.remaining reader.new) (W.contents writer.old) (W.contents writer.new) }
+    ensures failed_read { R.failures reader.new ≢ R.failures reader.old
+        → Keeps (W.contents writer.old) (W.contents writer.new) }
     ensures device { R.failures reader.new + W.failures writer.new
         ≡ R.failures reader.old + W.failures writer.old + (if nat_eq result 6 then 1 else 0) }
 
