@@ -143,7 +143,7 @@ fn push_line_with_text<A: Allocator + Copy>(
 ) -> Result<(), AllocError>
     ensures ok { OnOk result
         (page.new.items ≡ page.old.items
-            ++ (text_closing in_text ++ line_with_text word.now line text.now)) }
+        ++ (text_closing in_text ++ line_with_text word.now line text.now)) }
     ensures err { OnErr result (BeginsWith page.new.items page.old.items) }
 {
     push_line_start(page, in_text, word, line)?;

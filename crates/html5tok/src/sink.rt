@@ -33,18 +33,22 @@ pub trait TokenSink<T: Says> {
 
     type Handle: Drop;
 
+    // The abstract state of a sink, and how often it faulted.
     ghost State: { Type 0 };
 
     ghost state: { Self → State };
 
     ghost faults: { Self → ℕ };
 
+    // What a token, handed with a line, makes of the state, and what is replied to it.
     ghost step: { State → Told → ℕ → State };
 
     ghost reply: { State → Told → ℕ → Reply Self.Handle };
 
+    // The answer about foreign content.
     ghost foreign: { State → Bool };
 
+    // What the end makes of the state, and what a fault leaves, at a token and at the end.
     ghost finish: { State → State };
 
     ghost faulted: { State → Told → ℕ → State };

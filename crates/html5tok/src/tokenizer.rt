@@ -154,6 +154,20 @@ impl<Sink: TokenSink<Token<A>>, A: Allocator + Copy> Tokenizer<Sink, A> {
         result
     }
 
+    /// Whether the end of the input was told.
+    pub fn is_ended(&self) -> bool
+        ensures { result ≡ self.now.ended }
+    {
+        self.ended
+    }
+
+    /// Whether an earlier call was refused, so that every further one is.
+    pub fn has_failed(&self) -> bool
+        ensures { result ≡ self.now.failed }
+    {
+        self.failed
+    }
+
     /// The sink, with what it was told.
     pub fn into_sink(self) -> Sink
         ensures { result ≡ self.sink }

@@ -134,6 +134,8 @@ fn tells_what_it_is_fed(rt: HostRuntime) -> Result<(), Fail> {
     assert_eq!(rt; tokenizer.feed(&mut second), Ok(TokenizerResult::Done));
     assert!(rt; second.is_empty());
     assert_eq!(rt; tokenizer.end(), Ok(()));
+    assert!(rt; tokenizer.is_ended());
+    assert!(rt; !tokenizer.has_failed());
     assert_eq!(rt;
         tokenizer.into_sink().page(),
         "text \"a\\nb\"\nerror 2 \"Saw \\u{0} in state Plaintext\"\ntext \"\u{fffd}\"\neof 2\n".as_bytes()
@@ -181,6 +183,8 @@ fn stops_where_the_sink_faults_at_the_end(rt: HostRuntime) -> Result<(), Fail> {
         assert_eq!(rt; tokenizer.feed(&mut queue), Ok(TokenizerResult::Done));
         assert_eq!(rt; tokenizer.end(), Err(TokenizerError::Sink));
         assert_eq!(rt; tokenizer.end(), Err(TokenizerError::Failed));
+        assert!(rt; !tokenizer.is_ended());
+        assert!(rt; tokenizer.has_failed());
         assert_eq!(rt; tokenizer.sink.took_another, end_faults);
     }
     Ok(())
