@@ -1,5 +1,5 @@
 -- How a run of the program ends: the status, the line that tells why no answer was given, and what was printed.
-use Rattle.std.specs.Prelude.{ℕ, List, [], ◌⊎◌, Option, IsSomeAnd, codes}
+use Rattle.std.specs.Prelude.{◌≡◌, ℕ, ◌+◌, List, [], ◌⊎◌, Option, IsSomeAnd, codes}
 use Rattle.std.specs.Io.KnownBytes.{Appends}
 use Rattle.html5tok.specs.Device.{AppendsBeginning, device_failures}
 use Rattle.html5tok.specs.Printing.{PrintsReading, PrintsBeginning}
@@ -28,9 +28,10 @@ failures_of Printed = 0
 failures_of Usage = 0
 failures_of (Faulted fault) = device_failures fault
 
--- known bytes grow by bs or by a beginning of it
-abbrev pub AppendsUpTo : Option (List ℕ) → Option (List ℕ) → List ℕ → Type 0
-AppendsUpTo old new bs = Appends old new bs ⊎ AppendsBeginning old new bs
+-- known bytes grow by the line, or a write failed behind a beginning of it, and none was tried again
+abbrev pub TriesLine : Option (List ℕ) → Option (List ℕ) → ℕ → ℕ → List ℕ → Type 0
+TriesLine old new failures failures_after line =
+    ((failures_after ≡ failures) × Appends old new line) ⊎ ((failures_after ≡ failures + 1) × AppendsBeginning old new line)
 
 -- the words say some settings, and by these the whole reading was printed
 abbrev pub PrintsAsSaid : List (List ℕ) → Option (List ℕ) → Option (List ℕ) → Option (List ℕ) → Option (List ℕ) → Type 0

@@ -1,7 +1,7 @@
 //! A run of the program, over any devices.
 ghost use Rattle.std.specs.Prelude.{◌≡◌, ◌≢◌, ◌+◌, ◌⊎◌, ◌↔◌, ◌∷◌, [], Contains, IsNone, IfErr, map, string_bytes, nat_eq, if◌then◌else◌};
 ghost use Rattle.std.specs.Io.KnownBytes.{Keeps};
-ghost use Rattle.html5tok.specs.Ending.{status_of, line_of, failures_of, AppendsUpTo, PrintsAsSaid, PrintsBeginningAsSaid};
+ghost use Rattle.html5tok.specs.Ending.{status_of, line_of, failures_of, TriesLine, PrintsAsSaid, PrintsBeginningAsSaid};
 ghost use Rattle.html5tok.specs.Printing.{PrintsNothing};
 ghost use Rattle.html5tok.specs.Settings.{settings_said};
 ghost use Rattle.html5tok.specs.declared.run.Ending.{Ending};
@@ -113,7 +113,8 @@ fn print_by_words<R: Source, W: Target, A: Allocator + Copy>(
 /// fails nothing changes.
 pub fn report<E: Target>(errors: &mut E, ending: Ending) -> u8
     ensures status { result ≡ status_of ending }
-    ensures line { AppendsUpTo (E.contents errors.old) (E.contents errors.new) (line_of ending) }
+    ensures line { TriesLine (E.contents errors.old) (E.contents errors.new)
+        (E.failures errors.old) (E.failures errors.new) (line_of ending) }
     ensures silent { ending ≡ Ending.Printed → errors.new ≡ errors.old }
 {
     let _ = write_all(errors, ending.line().as_bytes());
@@ -149,7 +150,8 @@ pub fn run<R: Source, W: Target, E: Target, A: Allocator + Copy>(
 
     // What the line tells.
     ensures told { (ending : Ending) × (result ≡ status_of ending)
-        × AppendsUpTo (E.contents errors.old) (E.contents errors.new) (line_of ending) }
+        × TriesLine (E.contents errors.old) (E.contents errors.new)
+        (E.failures errors.old) (E.failures errors.new) (line_of ending) }
     ensures silent { result ≡ 0 → errors.new ≡ errors.old }
 {
     let ending = print_by_words(alloc, &words, reader, writer);
