@@ -3,7 +3,7 @@ use Rattle.std.proofs.Common.{◌≡◌, ◌≢◌, ◌↔◌, ℕ, Bool, false,
 use Rattle.std.specs.Prelude.{Contains}
 use Rattle.std.specs.Str.{chars}
 use Rattle.std.specs.String.{string_bytes}
-use Rattle.std.proofs.lemmas.List.{append_assoc, append-nil}
+use Rattle.std.proofs.lemmas.List.{append_assoc}
 use Rattle.std.proofs.lemmas.List.Elements.{All-weaker}
 use Rattle.html5tok.specs.BufferQueue.{TextQueue, Takes}
 use Rattle.html5tok.specs.Characters.{null, line_feed, carriage_return}
@@ -119,10 +119,3 @@ module _ {S : Type 0} (step faulted : S → Told → ℕ → S) (exact : Bool) w
   HasRead-memory K L old mid s t read =
       rw (told-rest K L old mid s t read)
       (Stops-after step faulted Memory s t t (messages (told exact K read.front)) _ read.state (Memory-at_once step faulted t _))
-
-  pub HasRead-all : (K L : Start) (old new : TextQueue) (s t : S)
-      → HasRead step exact K L old new s t → new.text ≡ []
-      → (t ≡ stepped step s (messages (told exact K old.text))) × (L ≡ after K old.text)
-  HasRead-all K L old new s t read empty =
-      let whole : old.text ≡ read.front = read.takes.text ∙ ap (λ l. read.front ++ l) empty ∙ append-nil read.front in
-      rw whole (read.state, read.position)
