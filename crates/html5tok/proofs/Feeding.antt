@@ -4,9 +4,9 @@ use Rattle.std.specs.Str.{IsUtf8, chars}
 use Rattle.std.proofs.Math.Seq.{take-add}
 use Rattle.std.proofs.lemmas.List.{append-nil, append_assoc}
 use Rattle.std.proofs.lemmas.Str.{chars-append, chars-nil}
-use Rattle.html5tok.specs.BufferQueue.{TextQueue}
+use Rattle.markup5ever.specs.BufferQueue.{TextQueue}
 use Rattle.html5tok.specs.Page.{Printer, page_step}
-use Rattle.html5tok.specs.Tokenizer.{Tokenizing, ReadsOn}
+use Rattle.html5ever.specs.Tokenizer.{Tokenizing, ReadsOn}
 use Rattle.html5tok.proofs.Cuts.{IsCut, IsCut-start, IsCut-front}
 
 -- the first bytes of the text were fed, up to a place between two characters

@@ -1,17 +1,8 @@
-pub mod Advances
 pub mod Beginnings
-pub mod BufferQueueLemmas
 pub mod Cuts
 pub mod Feeding
 pub mod KnownBytes
 pub mod Pages
 pub mod PrintedPages
-pub mod QueueReading
 pub mod Quotes
-pub mod ReadingLemmas
-pub mod RunLemmas
 pub mod SettingsLemmas
-pub mod SmallCharSetLemmas
-pub mod Standing
-pub mod Tellings
-pub mod TextLemmas

@@ -3,11 +3,11 @@ use Rattle.std.proofs.Common.{◌≡◌, ℕ, Bool, true, false, List, [], ◌�
 use Rattle.std.proofs.lemmas.List.{append-nil, append_assoc}
 use Rattle.html5tok.specs.Page.{Page, text_opening, text_closing, added_by_text, added_by, open_behind, page_step, page_faulted, quoted_bytes-append}
 use Rattle.html5tok.specs.Printed.{quoted_bytes, quoted, printed_line, first_text, behind_first_text, joined_first, joined, printed_lines, printed}
-use Rattle.html5tok.specs.Sink.{Message, stepped}
-use Rattle.html5tok.specs.Token.{Told}
-use Rattle.html5tok.specs.Token.Told.{Text, Error, Tag, End}
-use Rattle.html5tok.specs.declared.token.TagKind.{TagKind}
-use Rattle.html5tok.proofs.Tellings.{stepped-append}
+use Rattle.html5ever_interface.specs.Sink.{Message, stepped}
+use Rattle.html5ever_interface.specs.Token.{Told}
+use Rattle.html5ever_interface.specs.Token.Told.{Text, Error, Tag, End}
+use Rattle.html5ever_interface.specs.declared.token.TagKind.{TagKind}
+use Rattle.html5ever.proofs.Tellings.{stepped-append}
 
 -- what joined messages add to a page, where `in_text` says that a text is open
 unfoldable pub added : Bool → List Message → List ℕ

@@ -5,16 +5,16 @@ use Rattle.std.specs.Io.KnownBytes.{Consumes, IsAtEnd, Keeps}
 use Rattle.std.specs.Str.{chars}
 use Rattle.std.proofs.lemmas.List.{append-nil}
 use Rattle.html5tok.specs.Device.{ConsumesBeginning}
-use Rattle.html5tok.specs.NormalisedText.{normalised}
+use Rattle.html5grammar.specs.NormalisedText.{normalised}
 use Rattle.html5tok.specs.Page.{Page, page_step, blank_page}
 use Rattle.html5tok.specs.Printing.{printed_reading}
-use Rattle.html5tok.specs.Reading.{end_events, reading, told, messages, line_after}
-use Rattle.html5tok.specs.Sink.{Message, stepped}
-use Rattle.html5tok.specs.Start.{Start, start_of}
-use Rattle.html5tok.specs.Token.Told.{End}
+use Rattle.html5grammar.specs.Reading.{end_events, reading, told, messages, line_after}
+use Rattle.html5ever_interface.specs.Sink.{Message, stepped}
+use Rattle.html5grammar.specs.Start.{Start, start_of}
+use Rattle.html5ever_interface.specs.Token.Told.{End}
 use Rattle.html5tok.specs.declared.print.Settings.{Settings}
 use Rattle.html5tok.proofs.Pages.{lines-stepped}
-use Rattle.html5tok.proofs.ReadingLemmas.{reading-events, messages-append}
+use Rattle.html5grammar.proofs.ReadingLemmas.{reading-events, messages-append}
 
 -- a reading ends with the end of input
 reading-ends : (exact : Bool) (K : Start) (X : List ℕ)

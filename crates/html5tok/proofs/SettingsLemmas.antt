@@ -11,7 +11,7 @@ use Rattle.std.specs.Option.{option_map, option_and_then, option_or}
 use Rattle.std.specs.Str.{bytes_eq, all_ascii_digits}
 use Rattle.std.proofs.lemmas.Bool.{false_from_ne_true}
 use Rattle.std.proofs.lemmas.Slice.Eq.{bytes_eq-Decides}
-use Rattle.html5tok.specs.declared.options.State.{State}
+use Rattle.html5ever_interface.specs.declared.options.State.{State}
 use Rattle.html5tok.specs.declared.print.Settings.{Settings}
 use Rattle.html5tok.specs.Settings.{state_said, cut_said, flag_said, value_said, said_after, with_exact_errors, with_byte_order_mark, with_state, with_cut}
 

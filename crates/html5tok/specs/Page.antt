@@ -4,9 +4,9 @@ use Rattle.std.proofs.Common.{ap, sym, ◌∙◌}
 use Rattle.std.proofs.lemmas.List.{append-nil, append_assoc}
 use Rattle.std.proofs.lemmas.List.Concat.{flat_map-append}
 use Rattle.html5tok.specs.Printed.{quoted_byte, quoted_bytes, printed_line}
-use Rattle.html5tok.specs.Token.{Told, Reply, is_tag}
-use Rattle.html5tok.specs.Token.Told.{Text, Error, Tag, End}
-use Rattle.html5tok.specs.Token.Reply.{KeepOn}
+use Rattle.html5ever_interface.specs.Token.{Told, Reply, is_tag}
+use Rattle.html5ever_interface.specs.Token.Told.{Text, Error, Tag, End}
+use Rattle.html5ever_interface.specs.Token.Reply.{KeepOn}
 
 pub record Page : Type 0 where
   -- the bytes printed so far

@@ -2,11 +2,11 @@
 use Rattle.std.specs.Prelude.{ℕ, Bool, true, false, List, [], ◌∷◌, ◌++◌, ◌==◌, ◌||◌, nat_lt, codes, if◌then◌else◌}
 use Rattle.std.specs.List.{flat_map}
 use Rattle.std.specs.Fmt.{decimal, digits}
-use Rattle.html5tok.specs.Sink.{Message}
-use Rattle.html5tok.specs.Token.{Told}
-use Rattle.html5tok.specs.Token.Told.{Text, Error, Tag, End}
-use Rattle.html5tok.specs.declared.token.TagKind.{TagKind}
-use Rattle.html5tok.specs.declared.token.TagKind.TheVariants.{StartTag, EndTag}
+use Rattle.html5ever_interface.specs.Sink.{Message}
+use Rattle.html5ever_interface.specs.Token.{Told}
+use Rattle.html5ever_interface.specs.Token.Told.{Text, Error, Tag, End}
+use Rattle.html5ever_interface.specs.declared.token.TagKind.{TagKind}
+use Rattle.html5ever_interface.specs.declared.token.TagKind.TheVariants.{StartTag, EndTag}
 
 -- whether a byte may not stand in quotes as it is
 unfoldable pub needs_escape : ℕ → Bool

@@ -4,8 +4,8 @@ use Rattle.std.specs.Io.KnownBytes.{Appends, Consumes, IsAtEnd, Keeps}
 use Rattle.std.specs.Str.{IsUtf8, chars}
 use Rattle.html5tok.specs.Device.{AppendsBeginning}
 use Rattle.html5tok.specs.Printed.{printed}
-use Rattle.html5tok.specs.Reading.{reading, messages}
-use Rattle.html5tok.specs.Start.{start_of}
+use Rattle.html5grammar.specs.Reading.{reading, messages}
+use Rattle.html5grammar.specs.Start.{start_of}
 use Rattle.html5tok.specs.declared.print.Settings.{Settings}
 
 -- the printed lines of the reading of a text, whose bytes are given: the cut is not in it

@@ -3,8 +3,8 @@ use Rattle.std.specs.Prelude.{ℕ, ◌^◌, true, false, List, [], ◌∷◌, �
 use Rattle.std.specs.Option.{option_map, option_and_then, option_or}
 use Rattle.std.specs.Str.{bytes_eq, all_ascii_digits}
 use Rattle.std.specs.Str.Parse.{digits_value}
-use Rattle.html5tok.specs.declared.options.State.{State}
-use Rattle.html5tok.specs.declared.options.State.TheVariants.{Plaintext}
+use Rattle.html5ever_interface.specs.declared.options.State.{State}
+use Rattle.html5ever_interface.specs.declared.options.State.TheVariants.{Plaintext}
 use Rattle.html5tok.specs.declared.print.Settings.{Settings}
 
 -- the settings before the first word: no state is given yet

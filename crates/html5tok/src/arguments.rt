@@ -2,8 +2,8 @@
 ghost use Rattle.std.specs.Prelude.{◌≡◌, ◌<◌, ◌^◌, false, IfSome, map, string_bytes};
 ghost use Rattle.html5tok.specs.Settings.{state_said, cut_said, settings_said};
 
-use crate::options::{State, TokenizerOpts};
 use crate::print::Settings;
+use html5ever_interface::options::{State, TokenizerOpts};
 use std::alloc::Allocator;
 
 // What the words before the first one say: no state yet.

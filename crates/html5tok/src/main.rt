@@ -2,23 +2,13 @@
 #![tactic(auto)]
 
 mod arguments;
-mod buffer_queue;
-mod count;
 mod device;
-mod error;
 mod fault;
-mod message;
-mod options;
-mod plaintext;
-mod position;
+#[cfg(test)]
+mod feed_tests;
 mod print;
 mod print_sink;
 mod run;
-mod sink;
-mod small_char_set;
-mod tell;
-mod token;
-mod tokenizer;
 
 use crate::device::{ReadSource, WriteTarget};
 use crate::run::{given_words, report, run};

@@ -4,15 +4,15 @@ ghost use Rattle.std.specs.Str.{IsUtf8, chars};
 ghost use Rattle.html5tok.specs.Device.{reported_failures};
 ghost use Rattle.html5tok.specs.Page.{page_step};
 ghost use Rattle.html5tok.specs.Printing.{printed_reading, PrintsReading, PrintsBeginning, PrintsNothing};
-ghost use Rattle.html5tok.specs.Tokenizer.{ReadsOn};
+ghost use Rattle.html5ever.specs.Tokenizer.{ReadsOn};
 
-use crate::buffer_queue::BufferQueue;
 use crate::device::{Source, Target, read_to_end, write_all};
-use crate::error::TokenizerError;
 use crate::fault::Fault;
-use crate::options::{State, TokenizerOpts};
 use crate::print_sink::PrintSink;
-use crate::tokenizer::Tokenizer;
+use html5ever::error::TokenizerError;
+use html5ever::tokenizer::Tokenizer;
+use html5ever_interface::options::{State, TokenizerOpts};
+use markup5ever::buffer_queue::BufferQueue;
 use std::alloc::Allocator;
 
 /// How the program reads its input.

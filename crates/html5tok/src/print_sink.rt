@@ -3,11 +3,11 @@ ghost use Rattle.std.specs.Prelude.{◌≡◌, ◌<◌, ◌++◌, false, OnOk, O
 ghost use Rattle.std.specs.Fmt.{digits, digit_glyph};
 ghost use Rattle.html5tok.specs.Page.{BeginsWith, blank_page, text_closing, added_by_text, added_by, open_behind};
 ghost use Rattle.html5tok.specs.Printed.{needs_escape, escape, quoted_bytes, quoted, kind_word, line_with_text};
-ghost use Rattle.html5tok.specs.Token.{told_by};
+ghost use Rattle.html5ever_interface.specs.Token.{told_by};
 
-use crate::count::Count;
-use crate::sink::TokenSink;
-use crate::token::{SinkFault, TagKind, Token, TokenSinkResult};
+use html5ever_interface::sink::TokenSink;
+use html5ever_interface::token::{SinkFault, TagKind, Token, TokenSinkResult};
+use markup5ever::count::Count;
 use std::alloc::{AllocError, Allocator, Global};
 use std::convert::Infallible;
 use std::marker::Model;

@@ -2,7 +2,7 @@
 ghost use Rattle.std.specs.Prelude.{◌≡◌, Some};
 
 use super::{Source, Target};
-use crate::count::Count;
+use markup5ever::count::Count;
 use std::alloc::Global;
 use std::io;
 use std::io::{ErrorKind, Read};

@@ -4,8 +4,8 @@ ghost use Rattle.std.specs.Io.{ReadsAtMost, StartsWith, appended_bytes};
 ghost use Rattle.std.specs.Io.KnownBytes.{ReadConsumes, Consumes, IsAtEnd};
 ghost use Rattle.html5tok.specs.Device.{Metered, reported_failures, ConsumesBeginning};
 
-use crate::count::Count;
 use crate::fault::Fault;
+use markup5ever::count::Count;
 use std::alloc::Allocator;
 use std::io;
 use std::io::Read;

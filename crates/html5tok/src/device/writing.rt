@@ -4,8 +4,8 @@ ghost use Rattle.std.specs.Io.{WritesAtMost};
 ghost use Rattle.std.specs.Io.KnownBytes.{WriteAppends, Appends};
 ghost use Rattle.html5tok.specs.Device.{Metered, failed_writes, reported_failures, AppendsBeginning};
 
-use crate::count::Count;
 use crate::fault::Fault;
+use markup5ever::count::Count;
 use std::io;
 use std::io::Write;
 use std::marker::Model;

@@ -1,5 +1,5 @@
 use super::*;
-use crate::token::{LocalName, Tag};
+use html5ever_interface::token::{LocalName, Tag};
 use refusing::Refusing;
 use std::test::Fail;
 

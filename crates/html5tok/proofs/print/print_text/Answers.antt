@@ -1,7 +1,7 @@
 use Rattle.std.proofs.Common.{[], ◌∙◌, ap, string_bytes}
 use Rattle.std.specs.Str.{chars}
 use Rattle.html5tok.specs.Page.{Page, Printer}
-use Rattle.html5tok.specs.Start.{start_of}
+use Rattle.html5grammar.specs.Start.{start_of}
 use Rattle.html5tok.proofs.PrintedPages.{printed-page}
 use Rattle.html5tok.proofs.print.print_text.Goals as goal
 

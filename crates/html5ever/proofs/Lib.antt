@@ -1,0 +1,4 @@
+pub mod Tellings
+pub mod Standing
+pub mod QueueReading
+pub mod RunLemmas

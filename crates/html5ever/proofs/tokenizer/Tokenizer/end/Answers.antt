@@ -1,0 +1,17 @@
+use Rattle.std.proofs.lemmas.Result.{on_ok_weaker, IfErr-weaker}
+use Rattle.html5ever.proofs.Standing.{StandsAt-finished, EndStops-at_end}
+use Rattle.html5ever.proofs.tokenizer.Tokenizer.end.Goals as goal
+
+pub returns-clause-finishes : goal.returns-clause-finishes
+returns-clause-finishes g c =
+    rw (← c.self.view_is)
+    (on_ok_weaker c.tell_end-result.result
+    (λ tells K s X stands. StandsAt-finished g.Sink.TokenSink.state g.Sink.TokenSink.step g.Sink.TokenSink.faulted _ K s X g.Sink.TokenSink.finish _ c.line.ensures.fits tells stands)
+    (rw c.line.ensures.line at c.tell_end-result.ensures.ok))
+
+pub returns-clause-stops : goal.returns-clause-stops
+returns-clause-stops g c =
+    rw (← c.self.view_is)
+    (IfErr-weaker c.tell_end-result.result _ _
+    (λ e stops K s X stands. EndStops-at_end g.Sink.TokenSink.state g.Sink.TokenSink.step g.Sink.TokenSink.faulted g.Sink.TokenSink.end_faulted e _ K s _ X c.line.ensures.fits stands stops)
+    (rw c.line.ensures.line at c.tell_end-result.ensures.err))

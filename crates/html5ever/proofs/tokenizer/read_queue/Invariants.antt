@@ -1,0 +1,16 @@
+use Rattle.std.proofs.Common.{◌≡◌, ◌↔◌, ℕ, [], ◌∷◌, length}
+use Rattle.std.specs.Prelude.{Contains}
+use Rattle.html5grammar.specs.Characters.{null, line_feed, carriage_return}
+use Rattle.markup5ever.specs.SmallCharSet.{IsMember}
+use Rattle.html5ever.proofs.QueueReading.{HasRead}
+use Rattle.html5ever.proofs.tokenizer.read_queue.Given as goal
+
+abbrev pub invariant-loop-item : goal.invariant-loop-item
+invariant-loop-item g l =
+    HasRead g.S.TokenSink.step l.exact_errors l.initial.position l.position l.initial.queue l.queue
+    (g.S.TokenSink.state l.initial.sink) (g.S.TokenSink.state l.sink)
+    × (g.S.TokenSink.faults l.sink ≡ g.S.TokenSink.faults l.initial.sink)
+    × ((c : ℕ) → IsMember l.breaks c ↔ Contains (null ∷ line_feed ∷ carriage_return ∷ []) c)
+
+abbrev pub decreases-loop-item : goal.decreases-loop-item
+decreases-loop-item g l = length l.queue.text

@@ -1,0 +1,4 @@
+pub mod Feed
+pub mod Telling
+pub mod Tokenizer
+pub mod Runs

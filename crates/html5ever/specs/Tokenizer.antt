@@ -1,0 +1,60 @@
+-- Where a tokenizer stands in a text, and what its calls make of that.
+use Rattle.std.specs.Prelude.{◌≡◌, ℕ, Bool, false, List, ◌++◌, ◌⊎◌}
+use Rattle.html5ever.specs.Feed.{told_beyond, told_at_end}
+use Rattle.html5grammar.specs.Reading.{reading, told, messages, after}
+use Rattle.html5ever_interface.specs.Sink.{Message, stepped}
+use Rattle.html5grammar.specs.Start.{Start}
+use Rattle.html5ever.specs.Telling.{Stops, StopsWithin, FaultsWithin}
+use Rattle.html5ever_interface.specs.Token.{Told}
+use Rattle.html5ever.specs.declared.error.TokenizerError.{TokenizerError}
+use Rattle.html5ever.specs.declared.error.TokenizerError.TheVariants.{Memory, Sink, Failed}
+
+-- what contracts see of a tokenizer
+pub record Tokenizing (X : Type 0) : Type 0 where
+  pub sink : X
+  -- whether errors are exact
+  pub exact : Bool
+  -- the start of what is read next
+  pub position : Start
+  -- an earlier call was refused
+  pub failed : Bool
+  -- the end of input was told
+  pub ended : Bool
+
+module _ {X S : Type 0} (state : X → S) (step : S → Told → ℕ → S) where
+  -- the tokenizer stands where the text taken, from the start K and the sink's state s, leaves it
+  pub record StandsAt (t : Tokenizing X) (K : Start) (s : S) (text : List ℕ) : Type 0 where
+    -- exactly the decided beginning was told
+    pub told : state t.sink ≡ stepped step s (messages (told t.exact K text))
+    -- what follows is read from the start behind the text
+    pub position : t.position ≡ after K text
+    pub not_failed : t.failed ≡ false
+    pub not_ended : t.ended ≡ false
+
+  -- from wherever it stood, the tokenizer was taken further by `more`
+  abbrev pub ReadsOn : Tokenizing X → Tokenizing X → List ℕ → Type 0
+  ReadsOn old new more = (K : Start) (s : S) (text : List ℕ) → StandsAt old K s text → StandsAt new K s (text ++ more)
+
+  -- from wherever the tokenizer stood, the whole reading was told, and then the sink finished
+  abbrev pub Finishes : (S → S) → Tokenizing X → S → Type 0
+  Finishes finish old t =
+      (K : Start) (s : S) (text : List ℕ) → StandsAt old K s text → t ≡ finish (stepped step s (messages (reading old.exact K text)))
+
+-- what a refused end leaves of the messages that it tells: the sink may also fault at its own end
+abbrev pub EndStops : {S : Type 0} → (S → Told → ℕ → S) → (S → Told → ℕ → S) → (S → S) → TokenizerError → S → List Message → S → Type 0
+EndStops step faulted end_faulted Memory s M t = StopsWithin step faulted s M t
+EndStops step faulted end_faulted Sink s M t = FaultsWithin step faulted s M t ⊎ (t ≡ end_faulted (stepped step s M))
+EndStops step faulted end_faulted Failed s M t = ⊥
+
+module _ {X S : Type 0} (state : X → S) (step faulted : S → Told → ℕ → S) where
+  -- from wherever it stood, the tokenizer stopped within what `more` would have told
+  abbrev pub StopsReading : TokenizerError → Tokenizing X → List ℕ → S → Type 0
+  StopsReading e old more t =
+      (K : Start) (s : S) (text : List ℕ) → StandsAt state step old K s text
+      → Stops step faulted e (state old.sink) (told_beyond old.exact K text more) t
+
+  -- from wherever it stood, the tokenizer stopped within what the end would have told
+  abbrev pub StopsEnding : (S → S) → TokenizerError → Tokenizing X → S → Type 0
+  StopsEnding end_faulted e old t =
+      (K : Start) (s : S) (text : List ℕ) → StandsAt state step old K s text
+      → EndStops step faulted end_faulted e (state old.sink) (told_at_end old.exact K text) t

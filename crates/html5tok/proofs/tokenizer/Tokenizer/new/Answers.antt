@@ -1,7 +1,0 @@
-use Rattle.std.proofs.Common.{refl}
-use Rattle.html5tok.proofs.Standing.{StandsAt-start}
-use Rattle.html5tok.proofs.tokenizer.Tokenizer.new.Goals as goal
-
-pub returns-clause-stands : goal.returns-clause-stands
-returns-clause-stands g c =
-    StandsAt-start g.Sink.TokenSink.state g.Sink.TokenSink.step g.Sink.TokenSink.faulted _ _ c.new.ensures refl refl

@@ -1,0 +1,3 @@
+pub mod BufferQueueLemmas
+pub mod SmallCharSetLemmas
+pub mod TextLemmas

@@ -1,0 +1,3 @@
+pub mod BufferQueue
+pub mod SetResult
+pub mod SmallCharSet
