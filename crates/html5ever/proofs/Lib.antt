@@ -1,4 +1,5 @@
 pub mod Tellings
-pub mod Standing
-pub mod QueueReading
 pub mod RunLemmas
+pub mod QueueReading
+pub mod Standing
+pub mod CharacterReading

@@ -1,19 +1,25 @@
 -- What telling leaves: one token, and one call after another.
-use Rattle.std.proofs.Common.{◌≡◌, ◌≢◌, ℕ, List, [], ◌∷◌, ◌++◌, refl, ap, sym, ◌∙◌, Result, Ok, Err, string_bytes}
-use Rattle.std.specs.Prelude.{map, encode_utf8, encode_utf8_all}
+use Rattle.std.proofs.Common.{◌≡◌, ◌≢◌, ℕ, List, [], ◌∷◌, ◌++◌, refl, ap, sym, ◌∙◌, subst, Result, Ok, Err, string_bytes}
+use Rattle.std.specs.Prelude.{map, encode_utf8, encode_utf8_all, Bool, true}
 use Rattle.std.specs.Str.{chars, IsUtf8}
-use Rattle.std.proofs.lemmas.List.{append-nil, append_assoc}
+use Rattle.std.proofs.lemmas.List.{append-nil, append_assoc, map-append}
 use Rattle.std.proofs.lemmas.Result.{err_from_is_err_and}
 use Rattle.std.proofs.lemmas.Str.{encodes-chars, IsUtf8-string_bytes, IsUtf8-encode, chars_past_char, chars-nil}
 use Rattle.std.specs.Char.{IsScalar}
 use Rattle.std.specs.Result.{IsErrAnd}
-use Rattle.html5ever_interface.specs.Sink.{Message, stepped}
-use Rattle.html5ever.specs.Telling.{messages_of, Stops, Tells}
+use Rattle.html5ever_interface.specs.Sink.{Message, stepped, on_line}
+use Rattle.html5ever.specs.Steps.{tokens_of, behind, IsBuilt, Leads}
+use Rattle.html5ever.specs.Telling.{IsRefusal, messages_of, Stops, Tells}
+use Rattle.html5grammar.specs.ErrorText.{where_true}
+use Rattle.html5grammar.specs.Reading.{Here, open_after_reply}
+use Rattle.html5grammar.specs.Start.{Open}
+use Rattle.html5grammar.proofs.Machine.{told_first}
+use Rattle.std.specs.Prelude.{IfErr}
 use Rattle.html5ever.specs.declared.error.TokenizerError.{TokenizerError}
-use Rattle.html5ever.specs.declared.error.TokenizerError.TheVariants.{Memory, Sink, Failed}
-use Rattle.html5ever_interface.specs.declared.token.Token.{Token}
-use Rattle.html5ever_interface.specs.declared.token.Token.TheVariants.{TagToken, CharacterTokens, EOFToken, ParseError}
-use Rattle.html5ever_interface.specs.Token.{Told, told_by}
+use Rattle.html5ever.specs.declared.error.TokenizerError.TheVariants.{Memory, Sink, Failed, NotYet}
+use Rattle.html5ever_interface.specs.declared.interface.token.Token.{Token}
+use Rattle.html5ever_interface.specs.declared.interface.token.Token.TheVariants.{DoctypeToken, TagToken, CommentToken, CharacterTokens, NullCharacterToken, EOFToken, ParseError}
+use Rattle.html5ever_interface.specs.Token.{Told, Reply, told_by}
 use Rattle.html5ever_interface.specs.Token.Told.{Text}
 
 -- a text steps as its characters do
@@ -40,11 +46,14 @@ module _ {S : Type 0} (step faulted : S → Told → ℕ → S) where
       → (s : S) (token : Token Z) (line : ℕ)
       → step s (told_by token) line ≡ stepped step s (messages_of (told_by token) line)
   unfolding stepped
+  stepped-token joins empty s (DoctypeToken doctype) line = refl
   stepped-token joins empty s (TagToken tag) line = refl
+  stepped-token joins empty s (CommentToken text) line = refl
   stepped-token joins empty s (CharacterTokens text) line =
       stepped-utf8 joins empty s (string_bytes text) line (IsUtf8-string_bytes text)
-  stepped-token joins empty s (ParseError message) line = refl
+  stepped-token joins empty s NullCharacterToken line = refl
   stepped-token joins empty s EOFToken line = refl
+  stepped-token joins empty s (ParseError message) line = refl
 
   pub stepped-append : (s : S) (M N : List Message) → stepped step s (M ++ N) ≡ stepped step (stepped step s M) N
   unfolding stepped
@@ -73,15 +82,15 @@ module _ {S : Type 0} (step faulted : S → Told → ℕ → S) where
   }
 
   -- a call after messages that were told
-  pub Stops-after : (e : TokenizerError) (s t u : S) (M N : List Message) → t ≡ stepped step s M
+  pub stops_after : (e : TokenizerError) (s t u : S) (M N : List Message) → t ≡ stepped step s M
       → Stops step faulted e t N u → Stops step faulted e s (M ++ N) u
-  Stops-after Memory s t u M N told stop = record {
+  stops_after Memory s t u M N told stop = record {
     before = M ++ stop.before;
     rest = stop.rest;
     parts = rw (append_assoc M stop.before stop.rest, stop.parts) refl;
     state = stop.state ∙ rw (told, stepped-append s M stop.before) refl;
   }
-  Stops-after Sink s t u M N told stop = record {
+  stops_after Sink s t u M N told stop = record {
     before = M ++ stop.before;
     token = stop.token;
     line = stop.line;
@@ -90,23 +99,24 @@ module _ {S : Type 0} (step faulted : S → Told → ℕ → S) where
     nonempty = stop.nonempty;
     state = stop.state ∙ rw (told, stepped-append s M stop.before) refl;
   }
-  Stops-after Failed s t u M N told stop = stop
+  stops_after Failed s t u M N told stop = stop
+  stops_after NotYet s t u M N told stop = stop ∙ rw (told, stepped-append s M N) refl
 
-  pub Tells-after : (r : Result (Unit {0}) TokenizerError) (s t u : S) (M N : List Message) → t ≡ stepped step s M
+  pub tells_after : (r : Result (Unit {0}) TokenizerError) (s t u : S) (M N : List Message) → t ≡ stepped step s M
       → Tells step faulted r t N u → Tells step faulted r s (M ++ N) u
-  Tells-after (Ok x) s t u M N told tells = tells ∙ rw (told, stepped-append s M N) refl
-  Tells-after (Err e) s t u M N told tells = Stops-after e s t u M N told tells
+  tells_after (Ok x) s t u M N told tells = tells ∙ rw (told, stepped-append s M N) refl
+  tells_after (Err e) s t u M N told tells = stops_after e s t u M N told tells
 
   -- a refusal before further messages
-  pub Stops-before : (e : TokenizerError) (s t : S) (M N : List Message)
+  pub stops_before : (e : TokenizerError) (s t : S) (M N : List Message) → IsRefusal e
       → Stops step faulted e s M t → Stops step faulted e s (M ++ N) t
-  Stops-before Memory s t M N stop = record {
+  stops_before Memory s t M N refusal stop = record {
     before = stop.before;
     rest = stop.rest ++ N;
     parts = rw (stop.parts, append_assoc stop.before stop.rest N) refl;
     state = stop.state;
   }
-  Stops-before Sink s t M N stop = record {
+  stops_before Sink s t M N refusal stop = record {
     before = stop.before;
     token = stop.token;
     line = stop.line;
@@ -115,7 +125,8 @@ module _ {S : Type 0} (step faulted : S → Told → ℕ → S) where
     nonempty = stop.nonempty;
     state = stop.state;
   }
-  Stops-before Failed s t M N stop = stop
+  stops_before Failed s t M N refusal stop = stop
+  stops_before NotYet s t M N refusal stop = absurd refusal
 
   -- a growth that was refused before anything was told
   pub Memory-at_once : (s : S) (M : List Message) → Stops step faulted Memory s M s
@@ -123,13 +134,96 @@ module _ {S : Type 0} (step faulted : S → Told → ℕ → S) where
   Memory-at_once s M = record { before = []; rest = M; parts = refl; state = refl }
 
   -- the exit of a `?`: want of memory before anything was told, and a stop of the call before
-  pub Tells-from_memory : (r : Result (Unit {0}) TokenizerError) (s : S) (M : List Message)
+  pub tells_from_memory : (r : Result (Unit {0}) TokenizerError) (s : S) (M : List Message)
       → IsErrAnd r (λ e. e ≡ Memory) → Tells step faulted r s M s
-  Tells-from_memory r s M h = let p = err_from_is_err_and r h in rw (p.1, p.2) (Memory-at_once s M)
+  tells_from_memory r s M h = let p = err_from_is_err_and r h in rw (p.1, p.2) (Memory-at_once s M)
 
-  pub Tells-from_stop : (r : Result (Unit {0}) TokenizerError) (e : TokenizerError) (s t : S) (M N : List Message)
-      → IsErrAnd r (λ x. x ≡ e) → Stops step faulted e s M t → Tells step faulted r s (M ++ N) t
-  Tells-from_stop r e s t M N h stop = let p = err_from_is_err_and r h in rw (p.1, p.2) (Stops-before e s t M N stop)
+  pub tells_from_stop : (r : Result (Unit {0}) TokenizerError) (e : TokenizerError) (s t : S) (M N : List Message)
+      → IsErrAnd r (λ x. x ≡ e) → IsRefusal e → Stops step faulted e s M t → Tells step faulted r s (M ++ N) t
+  tells_from_stop r e s t M N h refusal stop = let p = err_from_is_err_and r h in rw (p.1, p.2) (stops_before e s t M N refusal stop)
+
+  -- tokens on one line, told by two calls: by both, by the first and then a stop of the first, and want of memory between
+
+  pub told_then : (r : Result (Unit {0}) TokenizerError) (s t u : S) (line : ℕ) (A B : List Told) → t ≡ stepped step s (on_line line A)
+      → Tells step faulted r t (on_line line B) u → Tells step faulted r s (on_line line (A ++ B)) u
+  told_then r s t u line A B told tells =
+      subst (λ M. Tells step faulted r s M u) (sym (map-append (λ (token : Told). record { token = token; line = line }) A B))
+      (tells_after r s t u (on_line line A) (on_line line B) told tells)
+
+  pub told_stop : (r : Result (Unit {0}) TokenizerError) (e : TokenizerError) (s t : S) (line : ℕ) (A B : List Told)
+      → IsErrAnd r (λ x. x ≡ e) → IsRefusal e → Stops step faulted e s (on_line line A) t → Tells step faulted r s (on_line line (A ++ B)) t
+  told_stop r e s t line A B h refusal stop =
+      subst (λ M. Tells step faulted r s M t) (sym (map-append (λ (token : Told). record { token = token; line = line }) A B))
+      (tells_from_stop r e s t (on_line line A) (on_line line B) h refusal stop)
+
+  pub told_memory : (r : Result (Unit {0}) TokenizerError) (s t : S) (line : ℕ) (A B : List Told)
+      → IsErrAnd r (λ x. x ≡ Memory) → t ≡ stepped step s (on_line line A) → Tells step faulted r s (on_line line (A ++ B)) t
+  told_memory r s t line A B h told =
+      told_then r s t t line A B told (tells_from_memory r t (on_line line B) h)
+
+  -- the exit of a `?` behind all that is told
+  pub tells_stop : (r : Result (Unit {0}) TokenizerError) (e : TokenizerError) (s t : S) (M : List Message)
+      → IsErrAnd r (λ x. x ≡ e) → Stops step faulted e s M t → Tells step faulted r s M t
+  tells_stop r e s t M h stop = let p = err_from_is_err_and r h in rw (p.1, p.2) stop
+
+  pub tells_memory : (r : Result (Unit {0}) TokenizerError) (s t : S) (M : List Message)
+      → IsErrAnd r (λ x. x ≡ Memory) → t ≡ stepped step s M → Tells step faulted r s M t
+  tells_memory r s t M h told =
+      let p = err_from_is_err_and r h in
+      rw (p.1, p.2) (record { before = M; rest = []; parts = sym (append-nil M); state = told })
+
+  -- a step behind what is told first
+  tokens-told_first : (before : List Told) (step : Here Open) → tokens_of (told_first before step) ≡ before ++ tokens_of step
+  unfolding tokens_of
+  tokens-told_first before (Here.Tells told later) = refl
+  tokens-told_first before (Here.TellsTag told tag) = append_assoc before told (Told.Tag tag ∷ [])
+  tokens-told_first before (Here.Stops told) = refl
+
+  pub first_then : (r : Result (Unit {0}) TokenizerError) (s t u : S) (line : ℕ) (before : List Told) (all later : Here Open)
+      → all ≡ told_first before later → t ≡ stepped step s (on_line line before)
+      → Tells step faulted r t (on_line line (tokens_of later)) u → Tells step faulted r s (on_line line (tokens_of all)) u
+  first_then r s t u line before all later same told tells =
+      subst (λ tokens. Tells step faulted r s (on_line line tokens) u) (sym (ap tokens_of same ∙ tokens-told_first before later))
+      (told_then r s t u line before (tokens_of later) told tells)
+
+  pub first_stop : (r : Result (Unit {0}) TokenizerError) (e : TokenizerError) (s t : S) (line : ℕ) (before : List Told) (all later : Here Open)
+      → all ≡ told_first before later → IsErrAnd r (λ x. x ≡ e) → IsRefusal e → Stops step faulted e s (on_line line before) t
+      → Tells step faulted r s (on_line line (tokens_of all)) t
+  first_stop r e s t line before all later same h refusal stop =
+      subst (λ tokens. Tells step faulted r s (on_line line tokens) t) (sym (ap tokens_of same ∙ tokens-told_first before later))
+      (told_stop r e s t line before (tokens_of later) h refusal stop)
+
+  behind-told_first : {H : Type 0} → (reply : S → Told → ℕ → Reply H) (s t : S) (line : ℕ) (before : List Told) (later : Here Open)
+      → t ≡ stepped step s (on_line line before)
+      → behind step reply s line (told_first before later) ≡ behind step reply t line later
+  unfolding behind
+  behind-told_first reply s t line before (Here.Tells told later) e = refl
+  behind-told_first reply s t line before (Here.TellsTag told tag) e =
+      ap (λ u. open_after_reply (reply u (Told.Tag tag) line))
+      (ap (stepped step s) (map-append (λ (token : Told). record { token = token; line = line }) before told)
+      ∙ (stepped-append s (on_line line before) (on_line line told) ∙ ap (λ u. stepped step u (on_line line told)) (sym e)))
+  behind-told_first reply s t line before (Here.Stops told) e = refl
+
+  pub leads_first : {H : Type 0} → (reply : S → Told → ℕ → Reply H) (r : Result (Unit {0}) TokenizerError) (now : Open) (s t : S) (line : ℕ) (before : List Told) (all later : Here Open)
+      → all ≡ told_first before later → t ≡ stepped step s (on_line line before)
+      → Leads r now (behind step reply t line later) → Leads r now (behind step reply s line all)
+  leads_first reply r now s t line before all later same e leads =
+      subst (Leads r now) (sym (ap (behind step reply s line) same ∙ behind-told_first reply s t line before later e)) leads
+
+-- where a call leads that tells last, and one that is refused
+
+pub leads_told : (r : Result (Unit {0}) TokenizerError) (now later : Open) → IfErr r IsRefusal → now ≡ later → IsBuilt later → Leads r now later
+leads_told (Ok u) now later refusal same built = (same, built)
+leads_told (Err Memory) now later refusal same built = tt
+leads_told (Err Sink) now later refusal same built = tt
+leads_told (Err Failed) now later refusal same built = refusal
+leads_told (Err NotYet) now later refusal same built = absurd refusal
+
+pub leads_refused : (r : Result (Unit {0}) TokenizerError) (e : TokenizerError) (now later : Open) → IsErrAnd r (λ x. x ≡ e) → IsRefusal e → Leads r now later
+leads_refused r Memory now later h refusal = let p = err_from_is_err_and r h in rw (p.1, p.2) tt
+leads_refused r Sink now later h refusal = let p = err_from_is_err_and r h in rw (p.1, p.2) tt
+leads_refused r Failed now later h refusal = absurd refusal
+leads_refused r NotYet now later h refusal = absurd refusal
 
 -- a character is one message
 pub messages_of-char : (c line : ℕ) → IsScalar c
@@ -140,3 +234,7 @@ messages_of-char c line scalar =
 
 pub cons≢nil : {X : Type 0} → (x : X) (xs : List X) → x ∷ xs ≢ []
 cons≢nil x xs = λ h. cc
+
+-- an error that there is
+pub where_true-true : (holds : Bool) (error : Told) → holds ≡ true → where_true holds error ≡ error ∷ []
+where_true-true holds error h = rw h refl

@@ -1,4 +1,6 @@
-pub mod Feed
+pub mod CurrentTag
+pub mod Steps
 pub mod Telling
+pub mod Feed
 pub mod Tokenizer
 pub mod Runs

@@ -2,9 +2,11 @@
 use Rattle.std.specs.Prelude.{◌≡◌, ◌≢◌, ℕ, Bool, false, List, [], ◌∷◌, All, Option, None, Some}
 use Rattle.std.specs.Str.{chars}
 use Rattle.std.specs.String.{string_bytes}
-use Rattle.markup5ever.specs.BufferQueue.{TextQueue, Takes}
 use Rattle.html5grammar.specs.Characters.{null, line_feed, carriage_return}
 use Rattle.html5grammar.specs.Start.{Start}
+use Rattle.html5grammar.specs.Start.Mode.{Plain}
+use Rattle.html5grammar.specs.Start.Open.{Between}
+use Rattle.markup5ever.specs.BufferQueue.{TextQueue, Takes}
 use Rattle.markup5ever.specs.declared.buffer_queue.SetResult.{SetResult}
 use Rattle.markup5ever.specs.declared.buffer_queue.SetResult.TheVariants.{FromSet, NotFromSet}
 
@@ -14,11 +16,12 @@ pub record IsOrdinary (c : ℕ) : Type 0 where
   pub no_line_feed : c ≢ line_feed
   pub no_carriage_return : c ≢ carriage_return
 
--- a run of characters that tell themselves alone where errors are not exact and no first character is dropped
+-- a run of characters that tell themselves alone: plain text where errors are not exact and no first character is dropped
 pub record IsRun (exact : Bool) (K : Start) (run : List ℕ) : Type 0 where
   pub not_exact : exact ≡ false
-  pub past_line_break : K.after_carriage_return ≡ false
-  pub past_stream_start : K.drops_byte_order_mark ≡ false
+  pub plain : K.opened ≡ Between Plain
+  pub past_line_break : K.input.after_carriage_return ≡ false
+  pub past_stream_start : K.input.drops_byte_order_mark ≡ false
   pub filled : run ≢ []
   pub ordinary : All IsOrdinary run
 

@@ -3,16 +3,14 @@ use Rattle.std.specs.Prelude.{◌≡◌, ◌≢◌, ℕ, List, [], ◌∷◌, �
 use Rattle.std.specs.Str.{chars}
 use Rattle.html5ever_interface.specs.Sink.{Message, stepped}
 use Rattle.html5ever_interface.specs.Token.{Told}
-use Rattle.html5ever_interface.specs.Token.Told.{Text, Error, Tag, End}
+use Rattle.html5ever_interface.specs.Token.Told.{Text}
 use Rattle.html5ever.specs.declared.error.TokenizerError.{TokenizerError}
-use Rattle.html5ever.specs.declared.error.TokenizerError.TheVariants.{Memory, Sink, Failed}
+use Rattle.html5ever.specs.declared.error.TokenizerError.TheVariants.{Memory, Sink, Failed, NotYet}
 
 -- the messages that a token stands for: one for each character of a text, and else itself
 abbrev pub messages_of : Told → ℕ → List Message
 messages_of (Text text) line = map (λ c. record { token = Text (encode_utf8 c); line = line }) (chars text)
-messages_of (Error message) line = record { token = Error message; line = line } ∷ []
-messages_of (Tag kind name) line = record { token = Tag kind name; line = line } ∷ []
-messages_of End line = record { token = End; line = line } ∷ []
+messages_of told line = record { token = told; line = line } ∷ []
 
 module _ {S : Type 0} (step faulted : S → Told → ℕ → S) where
   -- the sink was told a beginning of the messages
@@ -38,6 +36,8 @@ module _ {S : Type 0} (step faulted : S → Told → ℕ → S) where
   Stops Memory s M t = StopsWithin s M t
   Stops Sink s M t = FaultsWithin s M t
   Stops Failed s M t = ⊥
+  -- what is not built yet comes behind the messages
+  Stops NotYet s M t = t ≡ stepped step s M
 
   -- told all the messages, or stopped within them
   abbrev pub Tells : Result (Unit {0}) TokenizerError → S → List Message → S → Type 0
@@ -50,3 +50,18 @@ faults_of (Ok x) = 0
 faults_of (Err Memory) = 0
 faults_of (Err Sink) = 1
 faults_of (Err Failed) = 0
+faults_of (Err NotYet) = 0
+
+-- a refusal of a call that tells: want of memory, or a fault of the sink
+abbrev pub IsRefusal : TokenizerError → Type 0
+IsRefusal Memory = Unit {0}
+IsRefusal Sink = Unit {0}
+IsRefusal Failed = ⊥
+IsRefusal NotYet = ⊥
+
+-- a refusal that isn't owed to an earlier one
+abbrev pub IsNotFailed : TokenizerError → Type 0
+IsNotFailed Memory = Unit {0}
+IsNotFailed Sink = Unit {0}
+IsNotFailed Failed = ⊥
+IsNotFailed NotYet = Unit {0}

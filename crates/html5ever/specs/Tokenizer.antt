@@ -1,13 +1,17 @@
 -- Where a tokenizer stands in a text, and what its calls make of that.
-use Rattle.std.specs.Prelude.{◌≡◌, ℕ, Bool, false, List, ◌++◌, ◌⊎◌}
-use Rattle.html5ever.specs.Feed.{told_beyond, told_at_end}
-use Rattle.html5grammar.specs.Reading.{reading, told, messages, after}
+use Rattle.std.specs.Prelude.{◌≡◌, ℕ, Bool, false, List, ◌++◌, ◌⊎◌, Option, None, Some}
 use Rattle.html5ever_interface.specs.Sink.{Message, stepped}
+use Rattle.html5ever_interface.specs.Token.{Told, Reply}
+use Rattle.html5ever_interface.specs.declared.states.State.{State}
+use Rattle.html5ever_interface.specs.declared.states.State.TheVariants.{Data, Plaintext}
+use Rattle.html5grammar.specs.Reading.{reading, told, messages, after}
 use Rattle.html5grammar.specs.Start.{Start}
+use Rattle.html5grammar.specs.Start.Open.{NotBuilt}
+use Rattle.html5ever.specs.Feed.{told_beyond, told_at_end}
+use Rattle.html5ever.specs.Steps.{IsBuilt}
 use Rattle.html5ever.specs.Telling.{Stops, StopsWithin, FaultsWithin}
-use Rattle.html5ever_interface.specs.Token.{Told}
 use Rattle.html5ever.specs.declared.error.TokenizerError.{TokenizerError}
-use Rattle.html5ever.specs.declared.error.TokenizerError.TheVariants.{Memory, Sink, Failed}
+use Rattle.html5ever.specs.declared.error.TokenizerError.TheVariants.{Memory, Sink, Failed, NotYet}
 
 -- what contracts see of a tokenizer
 pub record Tokenizing (X : Type 0) : Type 0 where
@@ -21,13 +25,22 @@ pub record Tokenizing (X : Type 0) : Type 0 where
   -- the end of input was told
   pub ended : Bool
 
-module _ {X S : Type 0} (state : X → S) (step : S → Told → ℕ → S) where
+-- a stream can start in this state: none is chosen, or a text state that is built
+abbrev pub CanStart : Option State → Type 0
+CanStart None = Unit {0}
+CanStart (Some Data) = Unit {0}
+CanStart (Some Plaintext) = Unit {0}
+CanStart (Some other) = ⊥
+
+module _ {X S H : Type 0} (state : X → S) (step : S → Told → ℕ → S) (reply : S → Told → ℕ → Reply H) where
   -- the tokenizer stands where the text taken, from the start K and the sink's state s, leaves it
   pub record StandsAt (t : Tokenizing X) (K : Start) (s : S) (text : List ℕ) : Type 0 where
     -- exactly the decided beginning was told
-    pub told : state t.sink ≡ stepped step s (messages (told t.exact K text))
+    pub told : state t.sink ≡ stepped step s (messages (told step reply t.exact K s text))
     -- what follows is read from the start behind the text
-    pub position : t.position ≡ after K text
+    pub position : t.position ≡ after step reply t.exact K s text
+    -- the text met nothing that isn't built yet
+    pub built : IsBuilt t.position.opened
     pub not_failed : t.failed ≡ false
     pub not_ended : t.ended ≡ false
 
@@ -38,23 +51,29 @@ module _ {X S : Type 0} (state : X → S) (step : S → Told → ℕ → S) wher
   -- from wherever the tokenizer stood, the whole reading was told, and then the sink finished
   abbrev pub Finishes : (S → S) → Tokenizing X → S → Type 0
   Finishes finish old t =
-      (K : Start) (s : S) (text : List ℕ) → StandsAt old K s text → t ≡ finish (stepped step s (messages (reading old.exact K text)))
+      (K : Start) (s : S) (text : List ℕ) → StandsAt old K s text → t ≡ finish (stepped step s (messages (reading step reply old.exact K s text)))
+
+  -- from wherever the tokenizer stood, the text meets in `more` what isn't built yet
+  abbrev pub MeetsNotBuilt : Tokenizing X → List ℕ → Type 0
+  MeetsNotBuilt old more =
+      (K : Start) (s : S) (text : List ℕ) → StandsAt old K s text → (after step reply old.exact K s (text ++ more)).opened ≡ NotBuilt
 
 -- what a refused end leaves of the messages that it tells: the sink may also fault at its own end
 abbrev pub EndStops : {S : Type 0} → (S → Told → ℕ → S) → (S → Told → ℕ → S) → (S → S) → TokenizerError → S → List Message → S → Type 0
 EndStops step faulted end_faulted Memory s M t = StopsWithin step faulted s M t
 EndStops step faulted end_faulted Sink s M t = FaultsWithin step faulted s M t ⊎ (t ≡ end_faulted (stepped step s M))
 EndStops step faulted end_faulted Failed s M t = ⊥
+EndStops step faulted end_faulted NotYet s M t = ⊥
 
-module _ {X S : Type 0} (state : X → S) (step faulted : S → Told → ℕ → S) where
+module _ {X S H : Type 0} (state : X → S) (step : S → Told → ℕ → S) (reply : S → Told → ℕ → Reply H) (faulted : S → Told → ℕ → S) where
   -- from wherever it stood, the tokenizer stopped within what `more` would have told
   abbrev pub StopsReading : TokenizerError → Tokenizing X → List ℕ → S → Type 0
   StopsReading e old more t =
-      (K : Start) (s : S) (text : List ℕ) → StandsAt state step old K s text
-      → Stops step faulted e (state old.sink) (told_beyond old.exact K text more) t
+      (K : Start) (s : S) (text : List ℕ) → StandsAt state step reply old K s text
+      → Stops step faulted e (state old.sink) (told_beyond step reply old.exact K s text more) t
 
   -- from wherever it stood, the tokenizer stopped within what the end would have told
   abbrev pub StopsEnding : (S → S) → TokenizerError → Tokenizing X → S → Type 0
   StopsEnding end_faulted e old t =
-      (K : Start) (s : S) (text : List ℕ) → StandsAt state step old K s text
-      → EndStops step faulted end_faulted e (state old.sink) (told_at_end old.exact K text) t
+      (K : Start) (s : S) (text : List ℕ) → StandsAt state step reply old K s text
+      → EndStops step faulted end_faulted e (state old.sink) (told_at_end step reply old.exact K s text) t

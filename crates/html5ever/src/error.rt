@@ -13,6 +13,8 @@ pub enum TokenizerError {
     Sink,
     #[error("an earlier call failed")]
     Failed,
+    #[error("not built yet")]
+    NotYet,
 }
 
 impl From<AllocError> for TokenizerError {

@@ -1,6 +1,7 @@
+//! The texts of error messages.
 ghost use Rattle.std.specs.Prelude.{◌≡◌, IfOk, string_bytes, encode_utf8};
 ghost use Rattle.html5grammar.specs.Characters.{is_bad_character};
-ghost use Rattle.html5grammar.specs.ErrorText.{saw, bad_character};
+ghost use Rattle.html5grammar.specs.ErrorText.{saw, saw_end, bad_character};
 
 use std::alloc::{AllocError, Allocator};
 
@@ -36,6 +37,22 @@ pub fn saw_message<A: Allocator>(
         String::from_str(alloc, "Bad character")
     } else {
         format!(in alloc; "Saw {c} in state {state}")
+    }
+}
+
+/// The message for an end of input that a state doesn't expect.
+#[tactic(auto, unfolding(html5grammar::specs::ErrorText::saw_end))]
+pub fn saw_end_message<A: Allocator>(
+    alloc: A,
+    exact_errors: bool,
+    state: &str,
+) -> Result<String<A>, AllocError>
+    ensures { IfOk result (λ text. string_bytes text ≡ saw_end exact_errors state.now) }
+{
+    if exact_errors {
+        String::from_str(alloc, "Unexpected EOF")
+    } else {
+        format!(in alloc; "Saw EOF in state {state}")
     }
 }
 

@@ -1,92 +1,164 @@
-ghost use Rattle.std.specs.Prelude.{◌≡◌, ◌^◌, ◌<◌, ◌↔◌, [], ◌∷◌, false, IsTrue, MatchOption};
-ghost use Rattle.html5grammar.specs.NormalisedText.{normalised, drops_first};
-ghost use Rattle.html5grammar.specs.Reading.{after};
+//! Where a tokenizer stands in its stream.
+ghost use Rattle.std.specs.Prelude.{◌≡◌, ◌^◌, ◌<◌, ◌+◌, ◌&&◌, ◌∷◌, [], true, false, IfErr};
+ghost use Rattle.html5ever_interface.specs.Options.{options_of};
+ghost use Rattle.html5ever_interface.specs.Sink.{stepped, on_line};
+ghost use Rattle.html5grammar.specs.Characters.{is_bad_character};
+ghost use Rattle.html5grammar.specs.EndOfInput.{told_at_end_of};
+ghost use Rattle.html5grammar.specs.ErrorText.{bad_character_error};
+ghost use Rattle.html5grammar.specs.NormalisedText.{input_after};
+ghost use Rattle.html5grammar.specs.Reading.{told, messages, after};
 ghost use Rattle.html5grammar.specs.Start.{start_of};
+ghost use Rattle.html5grammar.specs.Start.Mode.{Plain};
+ghost use Rattle.html5grammar.specs.Start.Open.{Between};
+ghost use Rattle.html5ever.specs.CurrentTag.{stops_at_bad};
+ghost use Rattle.html5ever.specs.Steps.{IsBuilt, Leads};
+ghost use Rattle.html5ever.specs.Telling.{Tells, IsRefusal, faults_of};
+ghost use Rattle.html5ever.specs.Tokenizer.{CanStart};
 
-use html5ever_interface::options::{State, TokenizerOpts};
+use crate::current_tag::CurrentTag;
+use crate::end_of_input::tell_end_of_input;
+use crate::error::TokenizerError;
+use crate::input::Input;
+use crate::message::{bad_character_message, is_bad};
+use crate::step::step;
+use crate::tell::emit_error;
+use html5ever_interface::interface::sink::TokenSink;
+use html5ever_interface::interface::token::{TagKind, Token};
+use html5ever_interface::options::TokenizerOpts;
+use html5ever_interface::states::State;
+use std::alloc::{Allocator, Global};
 use std::marker::Model;
 
-/// Where a tokenizer stands in its stream.
+/// Where a tokenizer stands in its stream: how characters come in, and what is open.
 #[derive(Drop)]
-pub struct Position {
+pub struct Position<A: Allocator = Global> {
     state: State,
-    current_line: u64,
-    ignore_lf: bool,
-    discard_bom: bool,
+    tag: CurrentTag<A>,
+    input: Input,
 }
 
-impl Model for Position {
-    ghost use Rattle.std.specs.Prelude.{◌^◌, ◌<◌};
-    ghost use Rattle.html5grammar.specs.Start.{Start, mode_of};
+impl<A: Allocator> Model for Position<A> {
+    ghost use Rattle.html5grammar.specs.Start.{Start};
+    ghost use Rattle.html5ever.specs.CurrentTag.{open_of};
 
     ghost Value = { Start };
 
-    ghost view = { λ p. record {
-      mode = mode_of p.state;
-      line = p.current_line;
-      after_carriage_return = p.ignore_lf;
-      drops_byte_order_mark = p.discard_bom;
-    } };
-
-    ghost invariant = { λ p. p.current_line < 2 ^ 64 };
+    ghost view = { λ p. record { opened = open_of p.state p.tag; input = p.input } };
 }
 
-impl Position {
+impl<A: Allocator + Copy> Position<A> {
     /// The start of a stream.
-    pub fn new(opts: &TokenizerOpts) -> Position
-        requires { opts.now.initial_state ≡ Some State.Plaintext }
-        ensures { result ≡ start_of opts.now }
+    pub fn new(alloc: A, opts: &TokenizerOpts<A>) -> Position<A>
+        requires { CanStart opts.now.initial_state }
+        ensures start { result ≡ start_of (options_of opts.now) }
+        ensures built { IsBuilt result.opened }
     {
-        let Some(state) = opts.initial_state else {
-            unreachable!();
-        };
         Position {
-            state,
-            current_line: 1,
-            ignore_lf: false,
-            discard_bom: opts.discard_bom,
+            state: opts.initial_state.unwrap_or(State::Data),
+            tag: CurrentTag::new(alloc, TagKind::StartTag),
+            input: Input::new(opts.discard_bom),
         }
     }
 
+    /// The line that was reached.
     pub fn line(&self) -> u64
-        ensures line { result ≡ self.now.line }
-        ensures fits { self.now.line < 2 ^ 64 }
+        ensures line { result ≡ self.now.input.line }
+        ensures fits { self.now.input.line < 2 ^ 64 }
     {
-        self.current_line
+        self.input.line()
     }
 
-    /// Whether characters from here on are read as they stand, but for line breaks.
-    pub fn is_past_start(&self) -> bool
-        ensures { IsTrue result
-            ↔ ((self.now.after_carriage_return ≡ false) × (self.now.drops_byte_order_mark ≡ false)) }
+    /// Tells what the end of input tells of what is open.
+    pub fn tell_end_of_input<S: TokenSink<Token<A>>>(
+        &self,
+        alloc: A,
+        sink: &mut S,
+        exact_errors: bool,
+    ) -> Result<(), TokenizerError>
+        requires { IsBuilt self.now.opened }
+        ensures tells { Tells S.step S.faulted result (S.state sink.old)
+            (on_line self.now.input.line (told_at_end_of exact_errors self.now.opened)) (S.state sink.new) }
+        ensures faults { S.faults sink.new ≡ S.faults sink.old + faults_of result }
+        ensures refusal { IfErr result IsRefusal }
+        ensures fits { self.now.input.line < 2 ^ 64 }
     {
-        !self.ignore_lf && !self.discard_bom
+        tell_end_of_input(alloc, sink, exact_errors, self.state, &self.tag, self.input.line())
     }
 
-    /// Whether the next character is no part of the text: a byte order mark, or a LF behind a CR.
-    fn drops(&self, c: char) -> bool
-        ensures { result ≡ drops_first self.now c }
+    /// Whether plain text goes on, with no first character that may be dropped.
+    pub fn is_in_plain_text(&self) -> bool
+        ensures plain { result ≡ true → self.now.opened ≡ Between Plain }
+        ensures past_line_break { result ≡ true → self.now.input.after_carriage_return ≡ false }
+        ensures past_stream_start { result ≡ true → self.now.input.drops_byte_order_mark ≡ false }
     {
-        self.discard_bom && c == '\u{feff}' || self.ignore_lf && c == '\n'
+        self.input.is_past_start() && self.state == State::Plaintext
     }
+}
 
-    /// Takes a character of the stream, and answers the one that is read for it, if any.
-    pub fn advance(&mut self, c: char) -> Option<char>
-        ensures moves { self.new ≡ after self.old (c ∷ []) }
-        ensures reads { let read = normalised self.old (c ∷ []) in
-            MatchOption result (read ≡ []) (λ d. read ≡ d ∷ []) }
-    {
-        let dropped = self.drops(c);
-        self.discard_bom = false;
-        self.ignore_lf = false;
-        if dropped {
-            return None;
-        }
-        if c != '\r' && c != '\n' {
-            return Some(c);
-        }
-        self.ignore_lf = c == '\r';
-        self.current_line = self.current_line.saturating_add(1);
-        Some('\n')
+// Whether a bad character begins in the state what is not built yet.
+fn stops_at_bad(state: State) -> bool
+    ensures { result ≡ stops_at_bad state }
+{
+    match state {
+        State::Data | State::Plaintext | State::TagOpen => false,
+        State::TagName | State::BeforeAttributeName | State::AttributeName => false,
+        State::AfterAttributeName | State::BeforeAttributeValue => false,
+        State::AttributeValue(_) => false,
+        State::AfterAttributeValueQuoted | State::SelfClosingStartTag => false,
+        _ => true,
     }
+}
+
+// Whether the character is a bad one that begins what is not built yet: then it is not reported.
+fn stops_at(exact_errors: bool, state: State, c: char) -> bool
+    ensures { result ≡ (exact_errors && is_bad_character c && stops_at_bad state) }
+{
+    exact_errors && is_bad(c) && stops_at_bad(state)
+}
+
+// Reports a bad character, with exact errors.
+#[tactic(auto, using(crate::proofs::Tellings::tells_from_memory), unfolding(html5ever_interface::specs::Sink::stepped))]
+fn report_bad_character<S: TokenSink<Token<A>>, A: Allocator + Copy>(
+    alloc: A,
+    sink: &mut S,
+    exact_errors: bool,
+    c: char,
+    line: u64,
+) -> Result<(), TokenizerError>
+    ensures tells { Tells S.step S.faulted result (S.state sink.old)
+        (on_line line (bad_character_error exact_errors c)) (S.state sink.new) }
+    ensures faults { S.faults sink.new ≡ S.faults sink.old + faults_of result }
+    ensures refusal { IfErr result IsRefusal }
+{
+    if !exact_errors || !is_bad(c) {
+        return Ok(());
+    }
+    let message = bad_character_message(alloc, c)?;
+    emit_error(sink, message, line)
+}
+
+/// Reads one character of the stream.
+pub fn read_character<S: TokenSink<Token<A>>, A: Allocator + Copy>(
+    alloc: A,
+    sink: &mut S,
+    exact_errors: bool,
+    position: &mut Position<A>,
+    c: char,
+) -> Result<(), TokenizerError>
+    ensures tells { Tells S.step S.faulted result (S.state sink.old)
+        (messages (told S.step S.reply exact_errors position.old (S.state sink.old) (c ∷ []))) (S.state sink.new) }
+    ensures leads { IsBuilt position.old.opened → Leads result position.new.opened
+        (after S.step S.reply exact_errors position.old (S.state sink.old) (c ∷ [])).opened }
+    ensures input { position.new.input ≡ input_after position.old.input (c ∷ []) }
+    ensures faults { S.faults sink.new ≡ S.faults sink.old + faults_of result }
+{
+    let Some(c) = position.input.advance(c) else {
+        return Ok(());
+    };
+    let line = position.input.line();
+    if stops_at(exact_errors, position.state, c) {
+        return Err(TokenizerError::NotYet);
+    }
+    report_bad_character(alloc, sink, exact_errors, c, line)?;
+    step(alloc, sink, exact_errors, &mut position.state, &mut position.tag, c, line)
 }

@@ -1,25 +1,22 @@
-ghost use Rattle.std.specs.Prelude.{◌≡◌, ℕ, ◌+◌, ◌↔◌, ◌∷◌, [], true, false, Contains, IsOk, IfOk, IfErr, OnOk, OnErr, is_ok, is_err, length};
-ghost use Rattle.html5ever.specs.Feed.{feed, IsEndOf, IsLinear};
-ghost use Rattle.html5grammar.specs.Characters.{null, line_feed, carriage_return};
-ghost use Rattle.html5grammar.specs.Reading.{told, messages, after};
-ghost use Rattle.html5ever.specs.Runs.{TakesItem, CanRead, item_text};
-ghost use Rattle.markup5ever.specs.SmallCharSet.{IsMember};
+//! The tokenizer.
+ghost use Rattle.std.specs.Prelude.{◌≡◌, ◌^◌, ◌<◌, ◌+◌, ◌↔◌, [], true, false, IsOk, IfOk, IfErr, OnOk, is_ok, is_err};
+ghost use Rattle.html5ever_interface.specs.Options.{options_of};
 ghost use Rattle.html5ever_interface.specs.Sink.{stepped, on_line};
+ghost use Rattle.html5grammar.specs.EndOfInput.{told_at_end_of};
 ghost use Rattle.html5grammar.specs.Start.{start_of};
-ghost use Rattle.html5ever.specs.Telling.{Tells, faults_of};
-ghost use Rattle.html5ever_interface.specs.Token.Told.{End};
-ghost use Rattle.html5ever.specs.Tokenizer.{StandsAt, ReadsOn, Finishes, StopsReading, StopsEnding, EndStops};
+ghost use Rattle.html5ever.specs.Feed.{feed, IsEndOf, IsLinear};
+ghost use Rattle.html5ever.specs.Steps.{IsBuilt};
+ghost use Rattle.html5ever.specs.Telling.{faults_of};
+ghost use Rattle.html5ever.specs.Tokenizer.{CanStart, StandsAt, ReadsOn, Finishes, MeetsNotBuilt, StopsReading, StopsEnding, EndStops};
 
 use crate::error::TokenizerError;
-use crate::plaintext::{plaintext_state, report_bad_character};
 use crate::position::Position;
-use crate::tell::tell;
-use html5ever_interface::options::{State, TokenizerOpts};
-use html5ever_interface::sink::TokenSink;
-use html5ever_interface::token::{SinkFault, Token};
-use markup5ever::buffer_queue::{BufferQueue, SetResult};
-use markup5ever::small_char_set::SmallCharSet;
-use std::alloc::{AllocError, Allocator, Global};
+use crate::reading::read_queue;
+use html5ever_interface::interface::sink::TokenSink;
+use html5ever_interface::interface::token::{SinkFault, Token};
+use html5ever_interface::options::TokenizerOpts;
+use markup5ever::buffer_queue::BufferQueue;
+use std::alloc::{Allocator, Global};
 use std::marker::Model;
 
 /// What a call of `feed` answers.
@@ -40,12 +37,14 @@ pub struct Tokenizer<Sink, A: Allocator = Global> {
     pub sink: Sink,
     alloc: A,
     exact_errors: bool,
-    position: Position,
+    position: Position<A>,
     failed: bool,
     ended: bool,
 }
 
 impl<Sink, A: Allocator> Model for Tokenizer<Sink, A> {
+    ghost use Rattle.std.specs.Prelude.{◌≡◌, false};
+    ghost use Rattle.html5ever.specs.Steps.{IsBuilt};
     ghost use Rattle.html5ever.specs.Tokenizer.{Tokenizing};
 
     ghost Value = { Tokenizing Sink };
@@ -57,13 +56,15 @@ impl<Sink, A: Allocator> Model for Tokenizer<Sink, A> {
       failed = t.failed;
       ended = t.ended;
     } };
+
+    ghost invariant = { λ t. t.failed ≡ false → IsBuilt t.position.opened };
 }
 
 impl<Sink: TokenSink<Token<A>>, A: Allocator + Copy> Tokenizer<Sink, A> {
     /// A tokenizer at the start of a stream.
-    pub fn new(alloc: A, sink: Sink, opts: TokenizerOpts) -> Tokenizer<Sink, A>
-        requires { opts.initial_state ≡ Some State.Plaintext }
-        ensures stands { StandsAt Sink.state Sink.step result (start_of opts) (Sink.state sink) [] }
+    pub fn new(alloc: A, sink: Sink, opts: TokenizerOpts<A>) -> Tokenizer<Sink, A>
+        requires { CanStart opts.initial_state }
+        ensures stands { StandsAt Sink.state Sink.step Sink.reply result (start_of (options_of opts)) (Sink.state sink) [] }
         ensures exact { result.exact ≡ opts.exact_errors }
         ensures sink { result.sink ≡ sink }
     {
@@ -71,7 +72,7 @@ impl<Sink: TokenSink<Token<A>>, A: Allocator + Copy> Tokenizer<Sink, A> {
             sink,
             alloc,
             exact_errors: opts.exact_errors,
-            position: Position::new(&opts),
+            position: Position::new(alloc, &opts),
             failed: false,
             ended: false,
         }
@@ -87,7 +88,7 @@ impl<Sink: TokenSink<Token<A>>, A: Allocator + Copy> Tokenizer<Sink, A> {
 
         // What an `Ok` says: all that waited was taken, and exactly what it decides was told.
         ensures reads { OnOk result
-            (ReadsOn Sink.state Sink.step self.old self.new (feed queue.old.text).taken) }
+            (ReadsOn Sink.state Sink.step Sink.reply self.old self.new (feed queue.old.text).taken) }
         ensures answer { IfOk result (λ answer. answer ≡ TokenizerResult.Done) }
         ensures left { OnOk result (queue.new.text ≡ (feed queue.old.text).left) }
 
@@ -95,7 +96,9 @@ impl<Sink: TokenSink<Token<A>>, A: Allocator + Copy> Tokenizer<Sink, A> {
         ensures failed_before { (result ≡ Err TokenizerError.Failed) ↔ (self.old.failed ≡ true) }
         ensures unchanged { self.old.failed ≡ true
             → (self.new ≡ self.old) × (queue.new ≡ queue.old) }
-        ensures stops { IfErr result (λ error. StopsReading Sink.state Sink.step Sink.faulted
+        ensures not_yet { result ≡ Err TokenizerError.NotYet
+            → MeetsNotBuilt Sink.state Sink.step Sink.reply self.old queue.old.text }
+        ensures stops { IfErr result (λ error. StopsReading Sink.state Sink.step Sink.reply Sink.faulted
             error self.old queue.old.text (Sink.state self.new.sink)) }
         ensures faults { Sink.faults self.new.sink ≡ Sink.faults self.old.sink + faults_of result }
         ensures failed { self.new.failed ≡ is_err result }
@@ -131,12 +134,12 @@ impl<Sink: TokenSink<Token<A>>, A: Allocator + Copy> Tokenizer<Sink, A> {
 
         // What an `Ok` says: the whole reading was told, and the sink has finished.
         ensures finishes { OnOk result
-            (Finishes Sink.state Sink.step Sink.finish self.old (Sink.state self.new.sink)) }
+            (Finishes Sink.state Sink.step Sink.reply Sink.finish self.old (Sink.state self.new.sink)) }
 
         // When each error comes, and what it leaves.
         ensures failed_before { (result ≡ Err TokenizerError.Failed) ↔ (self.old.failed ≡ true) }
         ensures unchanged { self.old.failed ≡ true → self.new ≡ self.old }
-        ensures stops { IfErr result (λ error. StopsEnding Sink.state Sink.step Sink.faulted
+        ensures stops { IfErr result (λ error. StopsEnding Sink.state Sink.step Sink.reply Sink.faulted
             Sink.end_faulted error self.old (Sink.state self.new.sink)) }
         ensures faults { Sink.faults self.new.sink ≡ Sink.faults self.old.sink + faults_of result }
         ensures failed { self.new.failed ≡ is_err result }
@@ -145,7 +148,7 @@ impl<Sink: TokenSink<Token<A>>, A: Allocator + Copy> Tokenizer<Sink, A> {
         if self.failed {
             return Err(TokenizerError::Failed);
         }
-        let result = tell_end(&mut self.sink, self.position.line());
+        let result = tell_end(self.alloc, &mut self.sink, self.exact_errors, &self.position);
         self.failed = result.is_err();
         self.ended = result.is_ok();
         result
@@ -174,110 +177,24 @@ impl<Sink: TokenSink<Token<A>>, A: Allocator + Copy> Tokenizer<Sink, A> {
 }
 
 // Tells the end of the input, and has the sink finish.
-fn tell_end<S: TokenSink<Token<A>>, A: Allocator>(
+fn tell_end<S: TokenSink<Token<A>>, A: Allocator + Copy>(
+    alloc: A,
     sink: &mut S,
-    line: u64,
+    exact_errors: bool,
+    position: &Position<A>,
 ) -> Result<(), TokenizerError>
+    requires { IsBuilt position.now.opened }
     ensures ok { OnOk result
-        (S.state sink.new ≡ S.finish (stepped S.step (S.state sink.old) (on_line line (End ∷ [])))) }
+        (S.state sink.new ≡ S.finish (stepped S.step (S.state sink.old)
+        (on_line position.now.input.line (told_at_end_of exact_errors position.now.opened)))) }
     ensures err { IfErr result (λ error. EndStops S.step S.faulted S.end_faulted error
-        (S.state sink.old) (on_line line (End ∷ [])) (S.state sink.new)) }
+        (S.state sink.old) (on_line position.now.input.line (told_at_end_of exact_errors position.now.opened)) (S.state sink.new)) }
     ensures faults { S.faults sink.new ≡ S.faults sink.old + faults_of result }
+    ensures fits { position.now.input.line < 2 ^ 64 }
 {
-    tell(sink, Token::EOFToken, line)?;
+    position.tell_end_of_input(alloc, sink, exact_errors)?;
     match sink.end() {
         Ok(()) => Ok(()),
         Err(SinkFault) => Err(TokenizerError::Sink),
     }
-}
-
-// Reads one character of the stream.
-fn read_character<S: TokenSink<Token<A>>, A: Allocator + Copy>(
-    alloc: A,
-    sink: &mut S,
-    exact_errors: bool,
-    position: &mut Position,
-    c: char,
-) -> Result<(), TokenizerError>
-    ensures tells { Tells S.step S.faulted result (S.state sink.old)
-        (messages (told exact_errors position.old (c ∷ []))) (S.state sink.new) }
-    ensures moves { position.new ≡ after position.old (c ∷ []) }
-    ensures faults { S.faults sink.new ≡ S.faults sink.old + faults_of result }
-{
-    let Some(c) = position.advance(c) else {
-        return Ok(());
-    };
-    let line = position.line();
-    report_bad_character(alloc, sink, exact_errors, c, line)?;
-    plaintext_state(alloc, sink, exact_errors, c, line)
-}
-
-// Takes what can be read at once: a run of characters that tell themselves alone, where errors
-// are not exact and no first character may be dropped, and else one character.
-fn pop_item<A: Allocator + Copy>(
-    exact_errors: bool,
-    position: &Position,
-    breaks: SmallCharSet,
-    queue: &mut BufferQueue<A>,
-) -> Result<Option<SetResult<A>>, AllocError>
-    requires { (c : ℕ) → IsMember breaks c ↔ Contains (null ∷ line_feed ∷ carriage_return ∷ []) c }
-    ensures ok { IfOk result (TakesItem exact_errors position.now queue.old queue.new) }
-    ensures err { OnErr result (queue.new ≡ queue.old) }
-    ensures empty { queue.old.text ≡ [] → IsOk result }
-{
-    if queue.is_empty() {
-        return Ok(None);
-    }
-    if exact_errors || !position.is_past_start() {
-        let Some(c) = queue.next() else {
-            return Ok(None);
-        };
-        return Ok(Some(SetResult::FromSet(c)));
-    }
-    queue.pop_except_from(breaks)
-}
-
-// Reads what was taken at once.
-fn read_item<S: TokenSink<Token<A>>, A: Allocator + Copy>(
-    alloc: A,
-    sink: &mut S,
-    exact_errors: bool,
-    position: &mut Position,
-    item: SetResult<A>,
-) -> Result<(), TokenizerError>
-    requires { CanRead exact_errors position.old item }
-    ensures tells { Tells S.step S.faulted result (S.state sink.old)
-        (messages (told exact_errors position.old (item_text item))) (S.state sink.new) }
-    ensures moves { position.new ≡ after position.old (item_text item) }
-    ensures faults { S.faults sink.new ≡ S.faults sink.old + faults_of result }
-{
-    match item {
-        SetResult::FromSet(c) => read_character(alloc, sink, exact_errors, position, c),
-        SetResult::NotFromSet(run) => tell(sink, Token::CharacterTokens(run), position.line()),
-    }
-}
-
-// Reads all that waits in the queue.
-fn read_queue<S: TokenSink<Token<A>>, A: Allocator + Copy>(
-    alloc: A,
-    sink: &mut S,
-    exact_errors: bool,
-    position: &mut Position,
-    queue: &mut BufferQueue<A>,
-) -> Result<(), TokenizerError>
-    ensures tells { Tells S.step S.faulted result (S.state sink.old)
-        (messages (told exact_errors position.old queue.old.text)) (S.state sink.new) }
-    ensures moves { OnOk result (position.new ≡ after position.old queue.old.text) }
-    ensures emptied { OnOk result (queue.new.text ≡ []) }
-    ensures left { IsEndOf queue.new.text queue.old.text }
-    ensures taken { queue.new.taken + length queue.new.text ≡ queue.old.taken + length queue.old.text }
-    ensures handed_in { queue.new.handed_in ≡ queue.old.handed_in }
-    ensures faults { S.faults sink.new ≡ S.faults sink.old + faults_of result }
-    ensures empty { queue.old.text ≡ [] → IsOk result }
-{
-    let breaks = SmallCharSet::of(b"\0\n\r");
-    while let Some(item) = pop_item(exact_errors, position, breaks, queue)? {
-        read_item(alloc, sink, exact_errors, position, item)?;
-    }
-    Ok(())
 }

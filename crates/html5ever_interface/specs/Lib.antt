@@ -1,3 +1,5 @@
+pub mod States
 pub mod Token
 pub mod Sink
-pub mod States
+pub mod Options
+pub mod Collected

@@ -1,34 +1,81 @@
 -- What a sink is told, and what it replies, as contracts speak of them: texts are the bytes of their UTF-8.
-use Rattle.std.specs.Prelude.{ℕ, Bool, true, false, List}
-use Rattle.std.specs.String.{string_bytes}
-use Rattle.html5ever_interface.specs.declared.token.TagKind.{TagKind}
-use Rattle.html5ever_interface.specs.declared.token.Token.{Token}
-use Rattle.html5ever_interface.specs.declared.token.Token.TheVariants.{TagToken, CharacterTokens, EOFToken, ParseError}
-use Rattle.html5ever_interface.specs.declared.token.TokenSinkResult.{TokenSinkResult}
-use Rattle.html5ever_interface.specs.declared.token.TokenSinkResult.TheVariants.{Continue, Script, Plaintext, EncodingIndicator}
+use Rattle.std.specs.Prelude.{ℕ, Bool, true, false, List, Option, None, option_map, map, string_bytes}
+use Rattle.markup5ever.specs.Names.{AttributeOf, attribute_of}
+use Rattle.html5ever_interface.specs.declared.interface.token.TagKind.{TagKind}
+use Rattle.html5ever_interface.specs.declared.interface.token.Tag.{Tag as RustTag}
+use Rattle.html5ever_interface.specs.declared.interface.token.Doctype.{Doctype as RustDoctype}
+use Rattle.html5ever_interface.specs.declared.interface.token.Token.{Token}
+use Rattle.html5ever_interface.specs.declared.interface.token.Token.TheVariants.{DoctypeToken, TagToken, CommentToken, CharacterTokens, NullCharacterToken, EOFToken, ParseError}
+use Rattle.html5ever_interface.specs.declared.interface.token.TokenSinkResult.{TokenSinkResult}
+use Rattle.html5ever_interface.specs.declared.interface.token.TokenSinkResult.TheVariants.{Continue, Script, Plaintext, RawData, EncodingIndicator}
+use Rattle.html5ever_interface.specs.declared.states.RawKind.{RawKind}
+
+pub record TagOf : Type 0 where
+  pub kind : TagKind
+  pub name : List ℕ
+  pub self_closing : Bool
+  pub attributes : List AttributeOf
+  pub had_duplicate_attributes : Bool
+
+pub record DoctypeOf : Type 0 where
+  pub name : Option (List ℕ)
+  pub public_id : Option (List ℕ)
+  pub system_id : Option (List ℕ)
+  pub force_quirks : Bool
 
 pub data Told : Type 0 where
   Text : List ℕ → Told
+  Null : Told
   Error : List ℕ → Told
-  Tag : TagKind → List ℕ → Told
+  Tag : TagOf → Told
+  Comment : List ℕ → Told
+  Doctype : DoctypeOf → Told
   End : Told
+
+abbrev pub tag_of : {Z : Type 0} → RustTag Z → TagOf
+tag_of tag = record {
+  kind = tag.kind;
+  name = string_bytes tag.name.0;
+  self_closing = tag.self_closing;
+  attributes = map attribute_of tag.attrs.items;
+  had_duplicate_attributes = tag.had_duplicate_attributes;
+}
+
+abbrev pub doctype_of : {Z : Type 0} → RustDoctype Z → DoctypeOf
+doctype_of doctype = record {
+  name = option_map string_bytes doctype.name;
+  public_id = option_map string_bytes doctype.public_id;
+  system_id = option_map string_bytes doctype.system_id;
+  force_quirks = doctype.force_quirks;
+}
+
+-- a DOCTYPE with nothing in it
+abbrev pub empty_doctype : DoctypeOf
+empty_doctype = record { name = None; public_id = None; system_id = None; force_quirks = false }
 
 -- what a token tells
 abbrev pub told_by : {Z : Type 0} → Token Z → Told
-told_by (TagToken tag) = Tag tag.kind (string_bytes tag.name.0)
+told_by (DoctypeToken doctype) = Doctype (doctype_of doctype)
+told_by (TagToken tag) = Tag (tag_of tag)
+told_by (CommentToken text) = Comment (string_bytes text)
 told_by (CharacterTokens text) = Text (string_bytes text)
-told_by (ParseError message) = Error (string_bytes message)
+told_by NullCharacterToken = Null
 told_by EOFToken = End
+told_by (ParseError message) = Error (string_bytes message)
 
 abbrev pub is_tag : Told → Bool
-is_tag (Tag kind name) = true
+is_tag (Tag tag) = true
 is_tag (Text text) = false
+is_tag Null = false
 is_tag (Error message) = false
+is_tag (Comment text) = false
+is_tag (Doctype doctype) = false
 is_tag End = false
 
 pub data Reply (H : Type 0) : Type 0 where
   KeepOn : Reply H
   ReadPlainText : Reply H
+  ReadRawData : RawKind → Reply H
   RunScript : H → Reply H
   SwitchEncoding : List ℕ → Reply H
 
@@ -37,4 +84,5 @@ abbrev pub reply_of : {H T : Type 0} → (T → List ℕ) → TokenSinkResult H 
 reply_of bytes Continue = KeepOn
 reply_of bytes (Script handle) = RunScript handle
 reply_of bytes Plaintext = ReadPlainText
+reply_of bytes (RawData kind) = ReadRawData kind
 reply_of bytes (EncodingIndicator text) = SwitchEncoding (bytes text)

@@ -1,6 +1,7 @@
-//! What a tokenizer and its sink say to each other: tokens, replies and options.
+//! What a tokenizer of HTML and its callers speak of: states, tokens, sinks and options.
 #![tactic(auto)]
 
+pub mod collect;
+pub mod interface;
 pub mod options;
-pub mod sink;
-pub mod token;
+pub mod states;

@@ -1,2 +1,8 @@
+pub mod Machine
+pub mod Slices
+pub mod InputLemmas
+pub mod Traces
+pub mod Cases
 pub mod ReadingLemmas
-pub mod Advances
+pub mod Steps
+pub mod Going

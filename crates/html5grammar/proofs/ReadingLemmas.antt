@@ -1,79 +1,27 @@
 -- Reading a text in two parts: the second is read anew from the start behind the first.
-use Rattle.std.proofs.Common.{◌≡◌, ℕ, ◌<◌, ◌^◌, Bool, true, false, cond, List, [], ◌∷◌, ◌++◌, refl, ap, sym, ◌∙◌, arith, inl, inr}
+use Rattle.std.proofs.Common.{◌≡◌, ℕ, ◌+◌, ◌<◌, ◌^◌, Bool, true, false, cond, List, [], ◌∷◌, ◌++◌, refl, ap, sym, ◌∙◌, arith, inl, inr, min}
 use Rattle.std.specs.Prelude.{map, take_while, ◌==◌, ◌&&◌}
 use Rattle.std.proofs.lemmas.Bool.{eqb-true, and_parts, or_cases}
 use Rattle.std.proofs.lemmas.List.{append_assoc, append-nil}
-use Rattle.std.proofs.lemmas.List.{map-append}
 use Rattle.std.proofs.lemmas.List.Sums.{sum_by-append}
 use native.Mathlib.Numerals.{one-add}
+use Rattle.html5ever_interface.specs.Sink.{Message, stepped, on_line}
+use Rattle.html5ever_interface.specs.Token.{Told, Reply}
+use Rattle.html5ever_interface.specs.Token.Told.{Tag}
 use Rattle.html5grammar.specs.Characters.{line_feed, carriage_return, byte_order_mark}
-use Rattle.html5grammar.specs.NormalisedText.{with_line_feeds, without_dropped_first, normalised, drops_first}
-use Rattle.html5grammar.specs.PlainText.{bad_character_error, text_item, told_at}
-use Rattle.html5grammar.specs.Reading.{Event, is_character, events_at, events_from, end_events, reading, told, messages, line_after, after, ends_with_carriage_return}
-use Rattle.html5ever_interface.specs.Sink.{Message, on_line}
-use Rattle.html5grammar.specs.Start.{Start, Mode}
-use Rattle.html5grammar.specs.Start.Mode.{Plain}
-use Rattle.html5ever_interface.specs.Token.{Told}
-
--- normalised text
-
-with_line_feeds-append : (b : Bool) (X Z : List ℕ)
-    → with_line_feeds b (X ++ Z) ≡ with_line_feeds b X ++ with_line_feeds (ends_with_carriage_return b X) Z
-unfolding with_line_feeds ends_with_carriage_return
-with_line_feeds-append b [] Z = refl
-with_line_feeds-append b (c ∷ X) Z =
-    elim (c == carriage_return) as (λ v. cond v (line_feed ∷ with_line_feeds true (X ++ Z)) (cond (b && (c == line_feed)) (with_line_feeds false (X ++ Z)) (c ∷ with_line_feeds false (X ++ Z)))
-    ≡ cond v (line_feed ∷ with_line_feeds true X) (cond (b && (c == line_feed)) (with_line_feeds false X) (c ∷ with_line_feeds false X)) ++ with_line_feeds (ends_with_carriage_return v X) Z) [
-      | true ↦ ap (λ l. line_feed ∷ l) (with_line_feeds-append true X Z)
-      | false ↦
-          elim (b && (c == line_feed)) as (λ v. cond v (with_line_feeds false (X ++ Z)) (c ∷ with_line_feeds false (X ++ Z))
-          ≡ cond v (with_line_feeds false X) (c ∷ with_line_feeds false X) ++ with_line_feeds (ends_with_carriage_return false X) Z) [
-            | true ↦ with_line_feeds-append false X Z
-            | false ↦ ap (λ l. c ∷ l) (with_line_feeds-append false X Z)
-          ]
-    ]
-
--- a character that is dropped first is no CR
-pub dropped-no_cr : (K : Start) (c : ℕ) → drops_first K c ≡ true → (c == carriage_return) ≡ false
-dropped-no_cr K c d =
-    let here : (x : ℕ) → (x == carriage_return) ≡ false → (b : Bool) → (b && (c == x)) ≡ true → (c == carriage_return) ≡ false =
-    λ x other b h. rw (eqb-true c x (and_parts b (c == x) h).1) other in
-    elim (or_cases (K.drops_byte_order_mark && (c == byte_order_mark)) (K.after_carriage_return && (c == line_feed)) d) [
-      | inl h ↦ here byte_order_mark refl K.drops_byte_order_mark h
-      | inr h ↦ here line_feed refl K.after_carriage_return h
-    ]
-
--- a LF after a CR may be dropped before the rest is normalised
-with_line_feeds-first : (b : Bool) (c : ℕ) (Z : List ℕ) (d : Bool) → (b && (c == line_feed)) ≡ d
-    → with_line_feeds b (c ∷ Z) ≡ with_line_feeds false (cond d Z (c ∷ Z))
-unfolding with_line_feeds
-with_line_feeds-first b c Z true h = rw (h, eqb-true c line_feed (and_parts b (c == line_feed) h).1) refl
-with_line_feeds-first b c Z false h = rw h refl
-
--- a text that goes on is normalised from the flag that the text before leaves
-with_line_feeds-restart : (K : Start) (b : Bool) (Z : List ℕ) → K.after_carriage_return ≡ b → K.drops_byte_order_mark ≡ false
-    → with_line_feeds b Z ≡ normalised K Z
-unfolding with_line_feeds normalised without_dropped_first
-with_line_feeds-restart K b [] cr bom = refl
-with_line_feeds-restart K b (c ∷ Z) cr bom = rw (bom, cr) (with_line_feeds-first b c Z (b && (c == line_feed)) refl)
-
--- what follows a text is normalised from the start behind it
-normalised-cons-append : (K : Start) (c : ℕ) (X Z : List ℕ) (d : Bool) → drops_first K c ≡ d
-    → with_line_feeds false (cond d (X ++ Z) (c ∷ X ++ Z))
-    ≡ with_line_feeds false (cond d X (c ∷ X)) ++ with_line_feeds (ends_with_carriage_return false (c ∷ X)) Z
-unfolding ends_with_carriage_return
-normalised-cons-append K c X Z true h = rw (dropped-no_cr K c h) (with_line_feeds-append false X Z)
-normalised-cons-append K c X Z false h = with_line_feeds-append false (c ∷ X) Z
-
-pub normalised-append : (K : Start) (X Z : List ℕ) → normalised K (X ++ Z) ≡ normalised K X ++ normalised (after K X) Z
-unfolding normalised without_dropped_first after with_line_feeds
-normalised-append K [] Z = refl
-normalised-append K (c ∷ X) Z =
-    normalised-cons-append K c X Z (drops_first K c) refl
-    ∙ ap (λ l. normalised K (c ∷ X) ++ l)
-    (with_line_feeds-restart (after K (c ∷ X)) (ends_with_carriage_return false (c ∷ X)) Z refl refl)
-
--- the events that characters decide come first, and are those at the places of the text
+use Rattle.html5grammar.specs.Cutting.{rest_of}
+use Rattle.html5grammar.specs.EndOfInput.{told_at_end_of}
+use Rattle.html5grammar.specs.ErrorText.{bad_character_error}
+use Rattle.html5grammar.specs.NormalisedText.{with_line_feeds, without_dropped_first, normalised, line_after, input_after}
+use Rattle.html5grammar.specs.Reading.{Event, Here, Read, here, is_character, events_at, read_here, read_from, read, end_events, reading, told, messages, after, open_after_reply}
+use Rattle.html5grammar.specs.Reading.Here.{Tells, TellsTag, Stops}
+use Rattle.html5grammar.specs.Slice.{Slice, cut_off}
+use Rattle.html5grammar.specs.Start.{Input, Start, Open}
+use Rattle.html5grammar.specs.Start.Place.{InName, BeforeAttribute, InAttributeName, AfterAttributeName, BeforeValue, InValue, AfterQuotedValue, AfterSolidus}
+use Rattle.html5grammar.specs.Start.Open.{Between, LessThan, LessThanSolidus, InTag, NotBuilt}
+use Rattle.html5grammar.proofs.Machine.{step_at}
+use Rattle.html5grammar.proofs.InputLemmas.{line_past, lines_past, line_after-past, normalised-append, input_after-line_none, input_after-append, input_after-line_one}
+use Rattle.html5grammar.proofs.Traces.{Trace, Traces, with_messages, trace, trace_here, traces, messages-append}
 
 take_while-cons : {X : Type 0} → (p : X → Bool) (x : X) (xs : List X) → p x ≡ true → take_while p (x ∷ xs) ≡ x ∷ take_while p xs
 take_while-cons p x xs h = rw (h, one-add) refl
@@ -84,145 +32,231 @@ take_while-map p f h [] ys = refl
 take_while-map p f h (x ∷ xs) ys =
     take_while-cons p (f x) (map f xs ++ ys) (h x) ∙ ap (λ l. f x ∷ l) (take_while-map p f h xs ys)
 
-events_from-decided : (exact : Bool) (K : Start) (before Y : List ℕ) (E : List Event)
-    → take_while (λ e. is_character e.decided_by) (events_from exact K before Y ++ E)
-    ≡ events_from exact K before Y ++ take_while (λ e. is_character e.decided_by) E
-unfolding events_from events_at
-events_from-decided exact K before [] E = refl
-events_from-decided exact K before (c ∷ Y) E =
-    rw (append_assoc (events_at exact K before c) (events_from exact K (before ++ c ∷ []) Y) E)
-    (take_while-map (λ e. is_character e.decided_by) _ (λ token. refl) (told_at exact K.mode c) (events_from exact K (before ++ c ∷ []) Y ++ E)
-    ∙ ap (λ l. events_at exact K before c ++ l) (events_from-decided exact K (before ++ c ∷ []) Y E)
-    ∙ sym (append_assoc (events_at exact K before c) (events_from exact K (before ++ c ∷ []) Y) (take_while (λ e. is_character e.decided_by) E)))
-
-pub told-events : (exact : Bool) (K : Start) (X : List ℕ) → told exact K X ≡ events_from exact K [] (normalised K X)
-unfolding told reading end_events
-told-events exact K X =
-    events_from-decided exact K [] (normalised K X) (end_events K (normalised K X)) ∙ append-nil (events_from exact K [] (normalised K X))
-
-pub reading-events : (exact : Bool) (K : Start) (X : List ℕ) → reading exact K X ≡ told exact K X ++ end_events K (normalised K X)
-unfolding reading
-reading-events exact K X = rw (told-events exact K X) refl
-
-events_from-append : (exact : Bool) (K : Start) (before Y W : List ℕ)
-    → events_from exact K before (Y ++ W) ≡ events_from exact K before Y ++ events_from exact K (before ++ Y) W
-unfolding events_from
-events_from-append exact K before [] W = rw append-nil refl
-events_from-append exact K before (c ∷ Y) W =
-    ap (λ l. events_at exact K before c ++ l) (events_from-append exact K (before ++ c ∷ []) Y W)
-    ∙ rw (append_assoc before (c ∷ []) Y) (sym (append_assoc (events_at exact K before c) (events_from exact K (before ++ c ∷ []) Y) (events_from exact K (before ++ c ∷ Y) W)))
-
--- lines
-
--- no character is on the start's line
-pub line_after-none : (K : Start) → K.line < 2 ^ 64 → line_after K [] ≡ K.line
-unfolding line_after
-line_after-none K h = omega arith
-
--- what is past the start of a text counts on from the line that the text before it reached
-line_after-append : (K L : Start) (Y W : List ℕ) → L.line ≡ line_after K Y → line_after K (Y ++ W) ≡ line_after L W
-unfolding line_after
-line_after-append K L Y W e = rw (e, sum_by-append (λ (c : ℕ). cond (c == line_feed) 1 0) Y W) (omega arith)
-
--- the messages at a character on a line
-abbrev pub messages_at : Bool → Mode → ℕ → ℕ → List Message
-messages_at exact mode line c = map (λ token. record { token = token; line = line }) (told_at exact mode c)
-
-messages-map : (f : Told → Event) (g : Told → Message) → ((t : Told) → (f t).message ≡ g t) → (ts : List Told) → messages (map f ts) ≡ map g ts
-messages-map f g h [] = refl
-messages-map f g h (t ∷ ts) = rw (h t) (ap (λ l. g t ∷ l) (messages-map f g h ts))
-
-pub messages-events_at : (exact : Bool) (K : Start) (before : List ℕ) (c : ℕ)
-    → messages (events_at exact K before c) ≡ messages_at exact K.mode (line_after K (before ++ c ∷ [])) c
+decided-events_at : (I : Input) (before : List ℕ) (c : ℕ) (tokens : List Told) (F E : List Event)
+    → take_while (λ e. is_character e.decided_by) (F ++ E) ≡ F ++ take_while (λ e. is_character e.decided_by) E
+    → take_while (λ e. is_character e.decided_by) ((events_at I before c tokens ++ F) ++ E)
+    ≡ (events_at I before c tokens ++ F) ++ take_while (λ e. is_character e.decided_by) E
 unfolding events_at
-messages-events_at exact K before c = messages-map _ _ (λ t. refl) (told_at exact K.mode c)
+decided-events_at I before c tokens F E ih =
+    rw (append_assoc (events_at I before c tokens) F E)
+    (take_while-map (λ e. is_character e.decided_by) _ (λ token. refl) tokens (F ++ E)
+    ∙ ap (λ l. events_at I before c tokens ++ l) ih
+    ∙ sym (append_assoc (events_at I before c tokens) F (take_while (λ e. is_character e.decided_by) E)))
 
-pub messages-append : (E F : List Event) → messages (E ++ F) ≡ messages E ++ messages F
-messages-append E F = map-append (λ (e : Event). e.message) E F
+decided-told_at_end : (exact : Bool) (opened : Open) (f : Told → Event) → ((x : Told) → is_character (f x).decided_by ≡ false)
+    → take_while (λ (e : Event). is_character e.decided_by) (map f (told_at_end_of exact opened)) ≡ []
+unfolding told_at_end_of
+decided-told_at_end exact (Between mode) f h = rw (h _) refl
+decided-told_at_end exact LessThan f h = rw (h _) refl
+decided-told_at_end exact LessThanSolidus f h = rw (h _) refl
+decided-told_at_end exact (InTag place tag) f h = rw (h _) refl
+decided-told_at_end exact NotBuilt f h = refl
 
--- the messages at the places of W are those of a reading that starts on the line reached
-messages-restart : (exact : Bool) (K L : Start) (before past W : List ℕ) → L.mode ≡ K.mode
-    → ((Z : List ℕ) → line_after K (before ++ Z) ≡ line_after L (past ++ Z))
-    → messages (events_from exact K before W) ≡ messages (events_from exact L past W)
-unfolding events_from
-messages-restart exact K L before past [] mode lines = refl
-messages-restart exact K L before past (c ∷ W) mode lines =
-    let here : messages (events_at exact K before c) ≡ messages (events_at exact L past c) =
-    messages-events_at exact K before c ∙ rw (lines (c ∷ []), ← mode) (sym (messages-events_at exact L past c)) in
-    let later : (Z : List ℕ) → line_after K ((before ++ c ∷ []) ++ Z) ≡ line_after L ((past ++ c ∷ []) ++ Z) =
-    λ Z. rw (append_assoc before (c ∷ []) Z, append_assoc past (c ∷ []) Z) (lines (c ∷ Z)) in
-    messages-append (events_at exact K before c) (events_from exact K (before ++ c ∷ []) W)
-    ∙ rw (here, messages-restart exact K L (before ++ c ∷ []) (past ++ c ∷ []) W mode later)
-    (sym (messages-append (events_at exact L past c) (events_from exact L (past ++ c ∷ []) W)))
+pub stepped-append : {S : Type 0} → (step : S → Told → ℕ → S) (s : S) (M N : List Message) → stepped step s (M ++ N) ≡ stepped step (stepped step s M) N
+unfolding stepped
+stepped-append step s [] N = refl
+stepped-append step s (m ∷ M) N = stepped-append step (step s m.token m.line) M N
 
-after-mode : (K : Start) (X : List ℕ) → (after K X).mode ≡ K.mode
-unfolding after
-after-mode K [] = refl
-after-mode K (c ∷ X) = refl
+module _ {S H : Type 0} (step : S → Told → ℕ → S) (reply : S → Told → ℕ → Reply H) (exact : Bool) where
+  abbrev pub start_behind : Start → S → List ℕ → Start
+  start_behind K s X = after step reply exact K s X
 
-after-lines : (K : Start) (X Z : List ℕ) → line_after K (normalised K X ++ Z) ≡ line_after (after K X) Z
-unfolding after normalised without_dropped_first with_line_feeds
-after-lines K [] Z = refl
-after-lines K (c ∷ X) Z = line_after-append K (after K (c ∷ X)) (normalised K (c ∷ X)) Z refl
+  -- the events of a reading are decided by characters, but for those of the end
 
--- forgetting: what a text tells is what its first part tells, then what the rest tells from the start behind that
-pub told-append : (exact : Bool) (K : Start) (X Z : List ℕ)
-    → messages (told exact K (X ++ Z)) ≡ messages (told exact K X) ++ messages (told exact (after K X) Z)
-told-append exact K X Z =
-    rw (
-      told-events exact K (X ++ Z),
-      told-events exact K X,
-      told-events exact (after K X) Z,
-      normalised-append K X Z,
-      events_from-append exact K [] (normalised K X) (normalised (after K X) Z),
-    )
-    (messages-append (events_from exact K [] (normalised K X)) (events_from exact K (normalised K X) (normalised (after K X) Z))
-    ∙ ap (λ l. messages (events_from exact K [] (normalised K X)) ++ l)
-    (messages-restart exact K (after K X) (normalised K X) [] (normalised (after K X) Z) (after-mode K X) (after-lines K X)))
+  decided-end : (K : Start) (opened : Open) (Y : List ℕ)
+      → take_while (λ (e : Event). is_character e.decided_by) (end_events step reply exact K opened Y) ≡ []
+  unfolding end_events
+  decided-end K opened Y = decided-told_at_end exact opened _ (λ x. refl)
 
--- no character
+  decided-here : (K : Start) (s : S) (before : List ℕ) (c : ℕ) (h : Here Slice) (rest : S → Slice → Read) (E : List Event)
+      → ((t : S) (slice : Slice) → take_while (λ e. is_character e.decided_by) ((rest t slice).events ++ E) ≡ (rest t slice).events ++ take_while (λ e. is_character e.decided_by) E)
+      → take_while (λ e. is_character e.decided_by) ((read_here step reply exact K rest cut_off s before c h).events ++ E)
+      ≡ (read_here step reply exact K rest cut_off s before c h).events ++ take_while (λ e. is_character e.decided_by) E
+  decided-here K s before c (Tells told goes_on) rest E ih = decided-events_at K.input before c _ (rest _ goes_on).events E (ih _ goes_on)
+  decided-here K s before c (TellsTag told tag) rest E ih = decided-events_at K.input before c _ (rest _ _).events E (ih _ _)
+  decided-here K s before c (Stops told) rest E ih =
+      rw (← append-nil (events_at K.input before c told)) (decided-events_at K.input before c told [] E refl)
 
-pub told-nil : (exact : Bool) (K : Start) → messages (told exact K []) ≡ []
-unfolding normalised without_dropped_first with_line_feeds events_from
-told-nil exact K = rw (told-events exact K []) refl
+  decided-read_from : (K : Start) (s : S) (before : List ℕ) (slice : Slice) (Y : List ℕ) (E : List Event)
+      → take_while (λ e. is_character e.decided_by) ((read_from step reply exact K s before slice Y).events ++ E)
+      ≡ (read_from step reply exact K s before slice Y).events ++ take_while (λ e. is_character e.decided_by) E
+  unfolding read_from
+  decided-read_from K s before slice [] E = refl
+  decided-read_from K s before slice (c ∷ Y) E =
+      decided-here K s before c (here exact slice c Y) (λ t rest. read_from step reply exact K t (before ++ c ∷ []) rest Y) E
+      (λ t rest. decided-read_from K t (before ++ c ∷ []) rest Y E)
 
--- one character further
+  pub told-events : (K : Start) (s : S) (X : List ℕ) → told step reply exact K s X ≡ (read step reply exact K s X).events
+  unfolding told reading read
+  told-events K s X =
+      decided-read_from K s [] (rest_of exact K.opened (normalised K.input X)) (normalised K.input X) _
+      ∙ rw (decided-end K (read step reply exact K s X).opened (normalised K.input X)) (append-nil (read step reply exact K s X).events)
 
-pub plain_mode : (K : Start) → K.mode ≡ Plain
-plain_mode K = elim K.mode as (λ mode. mode ≡ Plain) [ Plain ↦ refl ]
+  pub reading-events : (K : Start) (s : S) (X : List ℕ)
+      → reading step reply exact K s X ≡ told step reply exact K s X ++ end_events step reply exact K (read step reply exact K s X).opened (normalised K.input X)
+  unfolding reading
+  reading-events K s X = rw (told-events K s X) refl
 
-after-line : (K : Start) (c : ℕ) (Y : List ℕ) → normalised K (c ∷ []) ≡ Y → (after K (c ∷ [])).line ≡ line_after K Y
-unfolding after
-after-line K c Y e = rw e refl
+  -- the trace of a text
 
--- a character that is dropped tells nothing
-pub told-none : (exact : Bool) (K : Start) (c : ℕ) → normalised K (c ∷ []) ≡ [] → messages (told exact K (c ∷ [])) ≡ []
-unfolding events_from
-told-none exact K c e = rw (told-events exact K (c ∷ []), e) refl
+  pub read-traces : (K : Start) (s : S) (X : List ℕ)
+      → Traces (read step reply exact K s X) (trace step reply exact s (line_after K.input []) K.opened (normalised K.input X))
+  unfolding read
+  read-traces K s X = traces step reply exact K s [] K.opened (normalised K.input X)
 
--- the messages at d, the character that is read for c
-pub told-one : (exact : Bool) (K : Start) (c d : ℕ) → normalised K (c ∷ []) ≡ d ∷ []
-    → messages (told exact K (c ∷ []))
-    ≡ on_line (after K (c ∷ [])).line (bad_character_error exact d) ++ on_line (after K (c ∷ [])).line (text_item exact Plain d)
-unfolding events_from told_at line_after
-told-one exact K c d e =
-    rw (told-events exact K (c ∷ []), e, append-nil (events_at exact K [] d), messages-events_at exact K [] d, after-line K c (d ∷ []) e, plain_mode K)
-    (map-append (λ (token : Told). record { token = token; line = line_after K (d ∷ []) }) (bad_character_error exact d) (text_item exact Plain d))
+  pub told-trace : (K : Start) (s : S) (X : List ℕ)
+      → messages (told step reply exact K s X) ≡ (trace step reply exact s (line_after K.input []) K.opened (normalised K.input X)).messages
+  told-trace K s X = ap messages (told-events K s X) ∙ (read-traces K s X).messages
 
--- the start behind two parts is the start behind the second, from the start behind the first
+  -- nothing is told where what isn't built yet was met
+  trace-not_built : (s : S) (line : ℕ) (W : List ℕ) → trace step reply exact s line NotBuilt W ≡ record { messages = []; opened = NotBuilt }
+  unfolding trace trace_here step_at
+  trace-not_built s line [] = refl
+  trace-not_built s line (c ∷ W) = refl
 
-ends_with_carriage_return-append : (b : Bool) (X Z : List ℕ)
-    → ends_with_carriage_return b (X ++ Z) ≡ ends_with_carriage_return (ends_with_carriage_return b X) Z
-unfolding ends_with_carriage_return
-ends_with_carriage_return-append b [] Z = refl
-ends_with_carriage_return-append b (c ∷ X) Z = ends_with_carriage_return-append (c == carriage_return) X Z
+  abbrev going_on : S → ℕ → Trace → List ℕ → Trace
+  going_on s line t W = with_messages t.messages (trace step reply exact (stepped step s t.messages) line t.opened W)
 
-pub after-append : (K : Start) (X Z : List ℕ) → after K (X ++ Z) ≡ after (after K X) Z
-unfolding after ends_with_carriage_return
-after-append K [] Z = refl
-after-append K (c ∷ X) [] = ap (λ l. after K l) (append-nil (c ∷ X))
-after-append K (c ∷ X) (d ∷ Z) =
-    let L : Start = after K (c ∷ X) in
-    let line : line_after K (normalised K ((c ∷ X) ++ d ∷ Z)) ≡ line_after L (normalised L (d ∷ Z)) =
-    ap (λ l. line_after K l) (normalised-append K (c ∷ X) (d ∷ Z)) ∙ line_after-append K L (normalised K (c ∷ X)) (normalised L (d ∷ Z)) refl in
-    rw (line, ends_with_carriage_return-append false (c ∷ X) (d ∷ Z)) refl
+  going_on-with : (s : S) (line : ℕ) (M : List Message) (t : Trace) (W : List ℕ)
+      → with_messages M (going_on (stepped step s M) line t W) ≡ going_on s line (with_messages M t) W
+  going_on-with s line M t W =
+      rw (stepped-append step s M t.messages) (ap (λ l. record { messages = l; opened = (trace step reply exact (stepped step (stepped step s M) t.messages) line t.opened W).opened })
+      (sym (append_assoc M t.messages (trace step reply exact (stepped step (stepped step s M) t.messages) line t.opened W).messages)))
+
+  stepped-last : (s : S) (line : ℕ) (tokens : List Told) (token : Told)
+      → step (stepped step s (on_line line tokens)) token line ≡ stepped step s (on_line line (tokens ++ token ∷ []))
+  unfolding stepped
+  stepped-last s line [] token = refl
+  stepped-last s line (x ∷ tokens) token = stepped-last (step s x line) line tokens token
+
+  trace-append-here : (s : S) (line : ℕ) (c : ℕ) (Y W : List ℕ) (h : Here Open)
+      → ((t : S) (later : Open) → trace step reply exact t line later (Y ++ W) ≡ going_on t (lines_past line Y) (trace step reply exact t line later Y) W)
+      → trace_here step reply exact (λ t later. trace step reply exact t line later (Y ++ W)) s line c h
+      ≡ going_on s (lines_past line Y) (trace_here step reply exact (λ t later. trace step reply exact t line later Y) s line c h) W
+  unfolding trace_here
+  trace-append-here s line c Y W (Tells told later) ih =
+      let M : List Message = on_line line (bad_character_error exact c ++ told) in
+      ap (with_messages M) (ih (stepped step s M) later)
+      ∙ going_on-with s (lines_past line Y) M (trace step reply exact (stepped step s M) line later Y) W
+  trace-append-here s line c Y W (TellsTag told tag) ih =
+      let tokens : List Told = bad_character_error exact c ++ told in
+      let M : List Message = on_line line (tokens ++ Tag tag ∷ []) in
+      let later : Open = open_after_reply (reply (stepped step s (on_line line tokens)) (Tag tag) line) in
+      rw (stepped-last s line tokens (Tag tag))
+      (ap (with_messages M) (ih (stepped step s M) later)
+      ∙ going_on-with s (lines_past line Y) M (trace step reply exact (stepped step s M) line later Y) W)
+  trace-append-here s line c Y W (Stops told) ih =
+      rw (trace-not_built (stepped step s (on_line line told)) (lines_past line Y) W, append-nil (on_line line told)) refl
+
+  trace-append : (s : S) (line : ℕ) (opened : Open) (Y W : List ℕ)
+      → trace step reply exact s line opened (Y ++ W) ≡ going_on s (lines_past line Y) (trace step reply exact s line opened Y) W
+  unfolding trace lines_past stepped
+  trace-append s line opened [] W = refl
+  trace-append s line opened (c ∷ Y) W =
+      trace-append-here s (line_past line c) c Y W (step_at exact opened c) (λ t later. trace-append t (line_past line c) later Y W)
+
+  pub after-opened : (K : Start) (s : S) (X : List ℕ)
+      → (start_behind K s X).opened ≡ (trace step reply exact s (line_after K.input []) K.opened (normalised K.input X)).opened
+  after-opened K s X = (read-traces K s X).opened
+
+  -- forgetting: what a text tells is what its first part tells, then what the rest tells from the start behind that
+
+  abbrev pub state_behind : Start → S → List ℕ → S
+  state_behind K s X = stepped step s (messages (told step reply exact K s X))
+
+  trace-behind : (K : Start) (s : S) (X Z : List ℕ)
+      → trace step reply exact s (line_after K.input []) K.opened (normalised K.input (X ++ Z))
+      ≡ with_messages (messages (told step reply exact K s X))
+      (trace step reply exact (state_behind K s X) (line_after (input_after K.input X) []) (start_behind K s X).opened (normalised (input_after K.input X) Z))
+  trace-behind K s X Z =
+      rw (normalised-append K.input X Z, trace-append s (line_after K.input []) K.opened (normalised K.input X) (normalised (input_after K.input X) Z), told-trace K s X, input_after-line_none K.input X, after-opened K s X) refl
+
+  pub told-append : (K : Start) (s : S) (X Z : List ℕ)
+      → messages (told step reply exact K s (X ++ Z))
+      ≡ messages (told step reply exact K s X) ++ messages (told step reply exact (start_behind K s X) (state_behind K s X) Z)
+  told-append K s X Z =
+      told-trace K s (X ++ Z)
+      ∙ ap (λ (t : Trace). t.messages) (trace-behind K s X Z)
+      ∙ ap (λ M. messages (told step reply exact K s X) ++ M) (sym (told-trace (start_behind K s X) (state_behind K s X) Z))
+
+  opened-append : (K : Start) (s : S) (X Z : List ℕ)
+      → (start_behind K s (X ++ Z)).opened ≡ (start_behind (start_behind K s X) (state_behind K s X) Z).opened
+  opened-append K s X Z =
+      after-opened K s (X ++ Z)
+      ∙ ap (λ (t : Trace). t.opened) (trace-behind K s X Z)
+      ∙ sym (after-opened (start_behind K s X) (state_behind K s X) Z)
+
+  -- the start behind two parts is the start behind the second, from the start behind the first
+  pub after-append : (K : Start) (s : S) (X Z : List ℕ) → start_behind K s (X ++ Z) ≡ start_behind (start_behind K s X) (state_behind K s X) Z
+  after-append K s X Z =
+      rw (opened-append K s X Z, input_after-append K.input X Z) refl
+
+  -- no character
+
+  pub told-nil : (K : Start) (s : S) → messages (told step reply exact K s []) ≡ []
+  unfolding normalised without_dropped_first with_line_feeds trace
+  told-nil K s = rw (told-trace K s []) refl
+
+  pub after-nil : (K : Start) (s : S) → start_behind K s [] ≡ K
+  unfolding input_after normalised without_dropped_first with_line_feeds trace
+  after-nil K s = rw (after-opened K s []) refl
+
+  -- one character further: one that is dropped tells nothing
+
+  pub told-none : (K : Start) (s : S) (c : ℕ) → normalised K.input (c ∷ []) ≡ [] → messages (told step reply exact K s (c ∷ [])) ≡ []
+  unfolding trace
+  told-none K s c e = rw (told-trace K s (c ∷ []), e) refl
+
+  pub after-none : (K : Start) (s : S) (c : ℕ) → normalised K.input (c ∷ []) ≡ []
+      → start_behind K s (c ∷ []) ≡ record { opened = K.opened; input = input_after K.input (c ∷ []) }
+  unfolding trace
+  after-none K s c e = rw (after-opened K s (c ∷ []), e) refl
+
+  -- the messages at d, the character that is read for c, and what is open behind it
+
+  unfoldable pub messages_here : ℕ → ℕ → Here Open → List Message
+  messages_here line d (Tells told later) = on_line line (bad_character_error exact d ++ told)
+  messages_here line d (TellsTag told tag) = on_line line ((bad_character_error exact d ++ told) ++ Tag tag ∷ [])
+  messages_here line d (Stops told) = on_line line told
+
+  unfoldable pub opened_here : S → ℕ → ℕ → Here Open → Open
+  opened_here s line d (Tells told later) = later
+  opened_here s line d (TellsTag told tag) = open_after_reply (reply (stepped step s (on_line line (bad_character_error exact d ++ told))) (Tag tag) line)
+  opened_here s line d (Stops told) = NotBuilt
+
+  trace_here-one : (s : S) (line : ℕ) (d : ℕ) (h : Here Open)
+      → trace_here step reply exact (λ t later. record { messages = []; opened = later }) s line d h
+      ≡ record { messages = messages_here line d h; opened = opened_here s line d h }
+  unfolding trace_here messages_here opened_here
+  trace_here-one s line d (Tells told later) = rw (append-nil (on_line line (bad_character_error exact d ++ told))) refl
+  trace_here-one s line d (TellsTag told tag) = rw (append-nil (on_line line ((bad_character_error exact d ++ told) ++ Tag tag ∷ []))) refl
+  trace_here-one s line d (Stops told) = refl
+
+  trace-one : (K : Start) (s : S) (c d : ℕ) → normalised K.input (c ∷ []) ≡ d ∷ []
+      → trace step reply exact s (line_after K.input []) K.opened (normalised K.input (c ∷ []))
+      ≡ record {
+        messages = messages_here (input_after K.input (c ∷ [])).line d (step_at exact K.opened d);
+        opened = opened_here s (input_after K.input (c ∷ [])).line d (step_at exact K.opened d);
+      }
+  unfolding trace
+  trace-one K s c d e =
+      let line : line_past (line_after K.input []) d ≡ (input_after K.input (c ∷ [])).line = input_after-line_one K.input c d e in
+      rw (e, line) (trace_here-one s (input_after K.input (c ∷ [])).line d (step_at exact K.opened d))
+
+  pub told-one : (K : Start) (s : S) (c d : ℕ) → normalised K.input (c ∷ []) ≡ d ∷ []
+      → messages (told step reply exact K s (c ∷ [])) ≡ messages_here (input_after K.input (c ∷ [])).line d (step_at exact K.opened d)
+  told-one K s c d e = told-trace K s (c ∷ []) ∙ ap (λ (t : Trace). t.messages) (trace-one K s c d e)
+
+  pub after-one : (K : Start) (s : S) (c d : ℕ) → normalised K.input (c ∷ []) ≡ d ∷ []
+      → start_behind K s (c ∷ []) ≡ record {
+        opened = opened_here s (input_after K.input (c ∷ [])).line d (step_at exact K.opened d);
+        input = input_after K.input (c ∷ []);
+      }
+  after-one K s c d e = rw (after-opened K s (c ∷ []), trace-one K s c d e) refl
+
+  -- where what isn't built yet was met, nothing more is told
+  pub told-not_built : (K : Start) (s : S) (X : List ℕ) → K.opened ≡ NotBuilt → messages (told step reply exact K s X) ≡ []
+  told-not_built K s X e = told-trace K s X ∙ rw (e, trace-not_built s (line_after K.input []) (normalised K.input X)) refl
+
+  pub after-not_built : (K : Start) (s : S) (X : List ℕ) → K.opened ≡ NotBuilt → (start_behind K s X).opened ≡ NotBuilt
+  after-not_built K s X e = after-opened K s X ∙ rw (e, trace-not_built s (line_after K.input []) (normalised K.input X)) refl

@@ -2,5 +2,9 @@ pub mod Characters
 pub mod Start
 pub mod NormalisedText
 pub mod ErrorText
-pub mod PlainText
+pub mod Slice
+pub mod Tag
+pub mod Text
+pub mod EndOfInput
+pub mod Cutting
 pub mod Reading

@@ -1,17 +1,28 @@
 -- The reading of a text: its events, which of them its characters decide, and the start behind it.
-use Rattle.std.specs.Prelude.{ℕ, ◌+◌, ◌-◌, ◌^◌, min, Bool, true, false, List, [], ◌∷◌, ◌++◌, ◌==◌, length, map, count_by, take_while}
-use Rattle.html5grammar.specs.Characters.{line_feed, carriage_return}
-use Rattle.html5grammar.specs.NormalisedText.{normalised}
-use Rattle.html5grammar.specs.PlainText.{told_at}
-use Rattle.html5ever_interface.specs.Sink.{Message}
-use Rattle.html5grammar.specs.Start.{Start}
-use Rattle.html5ever_interface.specs.Token.{Told}
-use Rattle.html5ever_interface.specs.Token.Told.{End}
+use Rattle.std.specs.Prelude.{ℕ, Bool, true, false, List, [], ◌∷◌, ◌++◌, length, map, take_while}
+use Rattle.html5ever_interface.specs.Sink.{Message, stepped, on_line}
+use Rattle.html5ever_interface.specs.Token.{Told, TagOf, Reply}
+use Rattle.html5ever_interface.specs.Token.Told.{Tag}
+use Rattle.html5ever_interface.specs.Token.Reply.{KeepOn, ReadPlainText, ReadRawData, RunScript, SwitchEncoding}
+use Rattle.html5grammar.specs.Cutting.{rest_of, slice_at}
+use Rattle.html5grammar.specs.EndOfInput.{told_at_end_of}
+use Rattle.html5grammar.specs.ErrorText.{bad_character_error}
+use Rattle.html5grammar.specs.NormalisedText.{normalised, line_after, input_after}
+use Rattle.html5grammar.specs.Slice.{Slice, Cell, Behind, cut_off}
+use Rattle.html5grammar.specs.Slice.Cell.{Says, Ends}
+use Rattle.html5grammar.specs.Slice.Behind.{Leaves, StopsAt}
+use Rattle.html5grammar.specs.Start.{Input, Start, Open}
+use Rattle.html5grammar.specs.Start.Mode.{Data}
+use Rattle.html5grammar.specs.Start.Open.{Between, NotBuilt}
 
 -- a character of the normalised text, counted from 0, or the end of input
 pub data Place : Type 0 where
   Character : ℕ → Place
   EndOfInput : Place
+
+abbrev pub is_character : Place → Bool
+is_character (Character k) = true
+is_character EndOfInput = false
 
 -- a message, the place where it stands, and the place that decides it
 pub record Event : Type 0 where
@@ -19,64 +30,104 @@ pub record Event : Type 0 where
   pub stands : Place
   pub decided_by : Place
 
--- line numbers stop here
-abbrev pub last_line : ℕ
-last_line = 2 ^ 64 - 1
-
--- the line that is reached after `past`, which ends with the character in question
-unfoldable pub line_after : Start → List ℕ → ℕ
-line_after K past = min (K.line + count_by (λ c. c == line_feed) past) last_line
-
--- the events at the place of c, with `before` in front of it
-unfoldable pub events_at : Bool → Start → List ℕ → ℕ → List Event
-events_at exact K before c =
+-- the events of tokens that are told at the place of c, with `before` in front of it
+unfoldable pub events_at : Input → List ℕ → ℕ → List Told → List Event
+events_at input before c tokens =
     let place = Character (length before) in
     let event : Told → Event = λ token. record {
-      message = record { token = token; line = line_after K (before ++ c ∷ []) };
+      message = record { token = token; line = line_after input (before ++ c ∷ []) };
       stands = place;
       decided_by = place;
     } in
-    map event (told_at exact K.mode c)
+    map event tokens
 
--- the events at the places of Y, with `before` in front of them
-unfoldable pub events_from : Bool → Start → List ℕ → List ℕ → List Event
-events_from exact K before [] = []
-events_from exact K before (c ∷ Y) = events_at exact K before c ++ events_from exact K (before ++ c ∷ []) Y
+-- what is told at a character besides a bad character, and how the text goes on behind it
+pub data Here (G : Type 0) : Type 0 where
+  Tells : List Told → G → Here G
+  -- a tag is told last, and the sink's reply chooses
+  TellsTag : List Told → TagOf → Here G
+  -- the character begins what is not built yet
+  Stops : List Told → Here G
 
--- what the end of input tells after Y: nothing is open in plain text, so the end alone
-unfoldable pub end_events : Start → List ℕ → List Event
-end_events K Y = record {
-  message = record { token = End; line = line_after K Y };
-  stands = EndOfInput;
-  decided_by = EndOfInput;
-} ∷ []
+-- what is told at the first character of a slice
+abbrev pub at_first : List Cell → Behind → Here Slice
+at_first (Says told ∷ cells) behind = Tells told (record { cells = cells; behind = behind })
+at_first (Ends told tag ∷ cells) behind = TellsTag told tag
+at_first [] (Leaves before opened) = Stops before
+at_first [] (StopsAt before) = Stops before
 
--- all events of the text X, taken as ended
-unfoldable pub reading : Bool → Start → List ℕ → List Event
-reading exact K X = let Y = normalised K X in events_from exact K [] Y ++ end_events K Y
+unfoldable pub here : Bool → Slice → ℕ → List ℕ → Here Slice
+here exact slice c text =
+    let next : Slice = slice_at exact slice.cells slice.behind c text in
+    at_first next.cells next.behind
 
-abbrev pub is_character : Place → Bool
-is_character (Character k) = true
-is_character EndOfInput = false
+-- the events of a text, and what is open behind it
+pub record Read : Type 0 where
+  pub events : List Event
+  pub opened : Open
 
--- the events before the first that the end decides: those are told however the text goes on
-unfoldable pub told : Bool → Start → List ℕ → List Event
-told exact K X = take_while (λ e. is_character e.decided_by) (reading exact K X)
+abbrev pub with_events : List Event → Read → Read
+with_events events read = record { events = events ++ read.events; opened = read.opened }
+
+-- what is open behind the last character of a text
+abbrev pub open_behind : Behind → Open
+open_behind (Leaves before opened) = opened
+open_behind (StopsAt before) = NotBuilt
+
+-- what is open behind a tag, by the sink's reply
+abbrev pub open_after_reply : {H : Type 0} → Reply H → Open
+open_after_reply KeepOn = Between Data
+open_after_reply ReadPlainText = NotBuilt
+open_after_reply (ReadRawData kind) = NotBuilt
+open_after_reply (RunScript handle) = NotBuilt
+open_after_reply (SwitchEncoding text) = NotBuilt
+
+module _ {S H : Type 0} (step : S → Told → ℕ → S) (reply : S → Told → ℕ → Reply H) (exact : Bool) (K : Start) where
+  -- the events at the place of c, and those behind it, which `rest` reads from a sink's state and what goes on
+  abbrev pub read_here : {G : Type 0} → (S → G → Read) → (Open → G) → S → List ℕ → ℕ → Here G → Read
+  read_here rest begin s before c (Tells told goes_on) =
+      let tokens : List Told = bad_character_error exact c ++ told in
+      with_events (events_at K.input before c tokens) (rest (stepped step s (on_line (line_after K.input (before ++ c ∷ [])) tokens)) goes_on)
+  read_here rest begin s before c (TellsTag told tag) =
+      let tokens : List Told = bad_character_error exact c ++ told in
+      let line : ℕ = line_after K.input (before ++ c ∷ []) in
+      let t : S = stepped step s (on_line line tokens) in
+      with_events (events_at K.input before c (tokens ++ Tag tag ∷ []))
+      (rest (step t (Tag tag) line) (begin (open_after_reply (reply t (Tag tag) line))))
+  read_here rest begin s before c (Stops told) =
+      record { events = events_at K.input before c told; opened = NotBuilt }
+
+  -- the events at the places of a text, with `before` in front of it, where the sink has the state s
+  unfoldable pub read_from : S → List ℕ → Slice → List ℕ → Read
+  read_from s before slice [] = record { events = []; opened = open_behind slice.behind }
+  read_from s before slice (c ∷ text) =
+      read_here (λ t rest. read_from t (before ++ c ∷ []) rest text) cut_off s before c (here exact slice c text)
+
+  -- the events that the characters of X decide, and what is open behind them
+  unfoldable pub read : S → List ℕ → Read
+  read s X = let Y = normalised K.input X in read_from s [] (rest_of exact K.opened Y) Y
+
+  -- what the end of input tells after Y
+  unfoldable pub end_events : Open → List ℕ → List Event
+  end_events opened Y =
+      let event : Told → Event = λ token. record {
+        message = record { token = token; line = line_after K.input Y };
+        stands = EndOfInput;
+        decided_by = EndOfInput;
+      } in
+      map event (told_at_end_of exact opened)
+
+  -- all events of the text X, taken as ended
+  unfoldable pub reading : S → List ℕ → List Event
+  reading s X = (read s X).events ++ end_events (read s X).opened (normalised K.input X)
+
+  -- the events before the first that the end decides: those are told however the text goes on
+  unfoldable pub told : S → List ℕ → List Event
+  told s X = take_while (λ e. is_character e.decided_by) (reading s X)
+
+  -- the start of what follows X
+  abbrev pub after : S → List ℕ → Start
+  after s X = record { opened = (read s X).opened; input = input_after K.input X }
 
 abbrev pub messages : List Event → List Message
 messages E = map (λ e. e.message) E
-
--- whether X ends with a CR, where `otherwise` stands for a text before it
-unfoldable pub ends_with_carriage_return : Bool → List ℕ → Bool
-ends_with_carriage_return otherwise [] = otherwise
-ends_with_carriage_return otherwise (c ∷ X) = ends_with_carriage_return (c == carriage_return) X
-
--- the start of what follows X: nothing is open behind a plain text, so that can be read anew
-unfoldable pub after : Start → List ℕ → Start
-after K [] = K
-after K (c ∷ X) = record {
-  mode = K.mode;
-  line = line_after K (normalised K (c ∷ X));
-  after_carriage_return = ends_with_carriage_return false (c ∷ X);
-  drops_byte_order_mark = false;
-}

@@ -1,34 +1,81 @@
--- Where the reading of a text starts.
-use Rattle.std.specs.Prelude.{ℕ, Bool, false, unwrap_or}
-use Rattle.html5ever_interface.specs.declared.options.State.{State}
-use Rattle.html5ever_interface.specs.declared.options.State.TheVariants.{Plaintext}
-use Rattle.html5ever_interface.specs.declared.options.TokenizerOpts.{TokenizerOpts}
+-- Where the reading of a text starts, and what is open there.
+use Rattle.std.specs.Prelude.{ℕ, Bool, false, List, [], Option, None, Some}
+use Rattle.html5ever_interface.specs.Options.{OptionsOf}
+use Rattle.html5ever_interface.specs.declared.interface.token.TagKind.{TagKind}
+use Rattle.html5ever_interface.specs.declared.states.AttrValueKind.{AttrValueKind}
+use Rattle.html5ever_interface.specs.declared.states.State.{State}
+use Rattle.html5ever_interface.specs.declared.states.State.TheVariants as state
+use Rattle.markup5ever.specs.Names.{AttributeOf}
 
--- how the characters of the text are read
+-- how the characters of the text are read between items
 pub data Mode : Type 0 where
+  Data : Mode
   Plain : Mode
 
-pub record Start : Type 0 where
-  pub mode : Mode
+-- a tag that was begun, with its texts in bytes
+pub record OpenTag : Type 0 where
+  pub kind : TagKind
+  -- the name so far, in lower case
+  pub name : List ℕ
+  -- the attributes before the last one, without those whose name came before
+  pub attributes : List AttributeOf
+  pub had_duplicate_attributes : Bool
+  -- the last attribute so far: its name, which is empty where there is none, and its value
+  pub last_name : List ℕ
+  pub last_value : List ℕ
+
+-- a place in a tag
+pub data Place : Type 0 where
+  InName : Place
+  BeforeAttribute : Place
+  InAttributeName : Place
+  -- in white space behind an attribute's name
+  AfterAttributeName : Place
+  -- behind `=`
+  BeforeValue : Place
+  InValue : AttrValueKind → Place
+  -- directly behind the closing quote of a value
+  AfterQuotedValue : Place
+  -- directly behind a `/` outside a value
+  AfterSolidus : Place
+
+-- what is open at the end of a text
+pub data Open : Type 0 where
+  -- nothing
+  Between : Mode → Open
+  -- `<` in the mode Data
+  LessThan : Open
+  -- `</` in the mode Data
+  LessThanSolidus : Open
+  InTag : Place → OpenTag → Open
+  -- the text met what is not built yet: nothing more is told
+  NotBuilt : Open
+
+-- how the characters of a stream come in
+pub record Input : Type 0 where
+  -- the line that was reached, counted from 1
   pub line : ℕ
   -- a CR stands before the text, so a LF that comes first belongs to its line break
   pub after_carriage_return : Bool
   -- U+FEFF is dropped where it comes first
   pub drops_byte_order_mark : Bool
 
--- the mode of a state between items
-abbrev pub mode_of : State → Mode
-mode_of Plaintext = Plain
+pub record Start : Type 0 where
+  pub opened : Open
+  pub input : Input
 
--- the state that a stream starts in
-abbrev pub initial_state : TokenizerOpts → State
-initial_state opts = unwrap_or opts.initial_state Plaintext
+-- a tag of which nothing was read
+abbrev pub begun : TagKind → OpenTag
+begun kind = record { kind = kind; name = []; attributes = []; had_duplicate_attributes = false; last_name = []; last_value = [] }
+
+-- the mode that a stream starts in: without a choice that is Data
+abbrev pub initial_mode : Option State → Mode
+initial_mode (Some state.Plaintext) = Plain
+initial_mode _ = Data
 
 -- the start of a stream
-abbrev pub start_of : TokenizerOpts → Start
+abbrev pub start_of : OptionsOf → Start
 start_of opts = record {
-  mode = mode_of (initial_state opts);
-  line = 1;
-  after_carriage_return = false;
-  drops_byte_order_mark = opts.discard_bom;
+  opened = Between (initial_mode opts.initial_state);
+  input = record { line = 1; after_carriage_return = false; drops_byte_order_mark = opts.discard_bom };
 }

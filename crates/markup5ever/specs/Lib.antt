@@ -1,3 +1,4 @@
 pub mod BufferQueue
 pub mod SetResult
 pub mod SmallCharSet
+pub mod Names

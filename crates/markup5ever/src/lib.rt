@@ -1,10 +1,12 @@
-//! What markup tokenizers share: the queue of the text that waits, counts and sets of characters.
+//! What markup tokenizers share: names and attributes, the queue of the text that waits, counts and sets of characters.
 #![tactic(auto)]
 
 pub mod buffer_queue;
 pub mod count;
+pub mod interface;
 pub mod small_char_set;
 
 pub use crate::buffer_queue::{BufferQueue, SetResult};
 pub use crate::count::Count;
+pub use crate::interface::{Attribute, LocalName, Namespace, Prefix, QualName};
 pub use crate::small_char_set::SmallCharSet;

@@ -1,9 +1,9 @@
 use Rattle.std.proofs.Common.{[], sym}
-use Rattle.html5ever.proofs.Tellings.{Tells-from_memory, messages_of-char, cons≢nil}
+use Rattle.html5ever.proofs.Tellings.{tells_from_memory, messages_of-char, cons≢nil}
 use Rattle.html5ever.proofs.tell.emit_char.Goals as goal
 
 pub returns-in_err-text_of-clause-tells : goal.returns-in_err-text_of-clause-tells
-returns-in_err-text_of-clause-tells g c = Tells-from_memory _ _ c.from_residual.result _ _ c.from_residual.ensures.1
+returns-in_err-text_of-clause-tells g c = tells_from_memory _ _ c.from_residual.result _ _ c.from_residual.ensures.1
 
 pub tell-requires-clause-nonempty : goal.tell-requires-clause-nonempty
 tell-requires-clause-nonempty g c =

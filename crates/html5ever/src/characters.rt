@@ -1,0 +1,71 @@
+//! Kinds of characters.
+ghost use Rattle.std.specs.Prelude.{◌≡◌, ◌==◌, ◌||◌, ◌&&◌};
+ghost use Rattle.html5grammar.specs.Characters.{null, is_white_space, is_letter, shown};
+ghost use Rattle.html5grammar.specs.Tag.{is_odd_in_name, is_odd_at_name, is_odd_in_unquoted, quote_of};
+
+use html5ever_interface::states::AttrValueKind;
+
+#[tactic(auto, unfolding(html5grammar::specs::Characters::is_white_space))]
+pub fn is_white_space(c: char) -> bool
+    ensures { result ≡ is_white_space c }
+{
+    matches!(c, '\t' | '\n' | '\x0C' | ' ')
+}
+
+/// Whether the character is an ASCII letter.
+#[tactic(auto, unfolding(html5grammar::specs::Characters::is_letter))]
+pub fn is_letter(c: char) -> bool
+    ensures { result ≡ is_letter c }
+{
+    matches!(c, 'A'..='Z' | 'a'..='z')
+}
+
+/// The character that stands for one in names and values: U+FFFD for NUL.
+#[tactic(auto, unfolding(html5grammar::specs::Characters::shown))]
+pub fn shown(c: char) -> char
+    ensures { result ≡ shown c }
+{
+    if c == '\0' { '\u{fffd}' } else { c }
+}
+
+/// Whether the character is an error in an attribute's name.
+#[tactic(auto, unfolding(html5grammar::specs::Tag::is_odd_in_name))]
+pub fn is_odd_in_name(c: char) -> bool
+    ensures { result ≡ is_odd_in_name c }
+{
+    matches!(c, '\0' | '"' | '\'' | '<')
+}
+
+/// Whether the character is an error as the first of an attribute's name.
+#[tactic(auto, unfolding(html5grammar::specs::Tag::is_odd_at_name))]
+pub fn is_odd_at_name(c: char) -> bool
+    ensures { result ≡ is_odd_at_name c }
+{
+    is_odd_in_name(c) || c == '='
+}
+
+// Whether exact errors report the character in a value without quotes.
+#[tactic(auto, unfolding(html5grammar::specs::Tag::is_odd_in_unquoted))]
+fn is_odd_in_unquoted(c: char) -> bool
+    ensures { result ≡ is_odd_in_unquoted c }
+{
+    matches!(c, '"' | '\'' | '<' | '=' | '`')
+}
+
+/// Whether the character is an error in a value without quotes.
+pub fn is_unquoted_error(exact_errors: bool, c: char) -> bool
+    ensures { result ≡ ((c == null) || (exact_errors && is_odd_in_unquoted c)) }
+{
+    c == '\0' || exact_errors && is_odd_in_unquoted(c)
+}
+
+/// The quote that ends a value.
+pub fn quote_of(kind: AttrValueKind) -> char
+    ensures { result ≡ quote_of kind }
+{
+    match kind {
+        AttrValueKind::DoubleQuoted => '"',
+        AttrValueKind::SingleQuoted => '\'',
+        AttrValueKind::Unquoted => '>',
+    }
+}

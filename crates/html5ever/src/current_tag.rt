@@ -1,0 +1,117 @@
+//! The tag that is open, and what the standard does with it.
+ghost use Rattle.std.specs.Prelude.{◌≡◌, ◌+◌, ◌∷◌, [], ◌++◌, map, OnOk, IfErr, string_bytes};
+ghost use Rattle.html5ever_interface.specs.Sink.{on_line};
+ghost use Rattle.html5grammar.specs.Characters.{name_bytes, value_bytes};
+ghost use Rattle.html5grammar.specs.Start.{begun};
+ghost use Rattle.html5grammar.specs.Tag.{attribute, has_attribute, with_last_attribute, duplicate_error, end_tag_errors};
+ghost use Rattle.html5ever.specs.CurrentTag.{open_tag};
+ghost use Rattle.html5ever.specs.Telling.{Tells, IsRefusal, faults_of};
+ghost use Rattle.markup5ever.specs.Names.{attribute_of};
+
+use crate::characters::shown;
+use crate::error::TokenizerError;
+use crate::tell::emit_message;
+use html5ever_interface::interface::sink::TokenSink;
+use html5ever_interface::interface::token::{TagKind, Token};
+use markup5ever::interface::{Attribute, LocalName, Namespace, QualName};
+use std::alloc::{AllocError, Allocator, Global};
+use std::mem;
+
+/// The tag that is open. Its last attribute is still being read; without a name there is none.
+#[derive(Drop)]
+pub struct CurrentTag<A: Allocator = Global> {
+    pub kind: TagKind,
+    pub name: String<A>,
+    pub attrs: Vec<Attribute<A>, A>,
+    pub had_duplicate_attributes: bool,
+    pub attr_name: String<A>,
+    pub attr_value: String<A>,
+}
+
+impl<A: Allocator + Copy> CurrentTag<A> {
+    /// A tag of which nothing was read.
+    pub fn new(alloc: A, kind: TagKind) -> CurrentTag<A>
+        ensures { open_tag result ≡ begun kind }
+    {
+        CurrentTag {
+            kind,
+            name: String::new(alloc),
+            attrs: Vec::new(alloc),
+            had_duplicate_attributes: false,
+            attr_name: String::new(alloc),
+            attr_value: String::new(alloc),
+        }
+    }
+}
+
+/// Appends a character to a name, a letter in lower case.
+#[tactic(auto, unfolding(html5grammar::specs::Characters::name_bytes))]
+pub fn push_name<A: Allocator>(name: &mut String<A>, c: char) -> Result<(), AllocError>
+    ensures { OnOk result (string_bytes name.new ≡ string_bytes name.old ++ name_bytes c) }
+{
+    name.push(shown(c).to_ascii_lowercase())
+}
+
+/// Appends a character to a value.
+#[tactic(auto, unfolding(html5grammar::specs::Characters::value_bytes))]
+pub fn push_value<A: Allocator>(value: &mut String<A>, c: char) -> Result<(), AllocError>
+    ensures { OnOk result (string_bytes value.new ≡ string_bytes value.old ++ value_bytes c) }
+{
+    value.push(shown(c))
+}
+
+// Whether one of the attributes has the name.
+#[tactic(auto, unfolding(html5grammar::specs::Tag::has_attribute))]
+fn has_attribute<A: Allocator>(attrs: &[Attribute<A>], name: &str) -> bool
+    ensures { result ≡ has_attribute (map attribute_of attrs.now) name.now }
+{
+    for attr in attrs {
+        if attr.name.local.0.as_str() == name {
+            return true;
+        }
+    }
+    false
+}
+
+// Appends an attribute with no prefix, in no namespace.
+fn push_attribute<A: Allocator + Copy>(
+    alloc: A,
+    attrs: &mut Vec<Attribute<A>, A>,
+    name: String<A>,
+    value: String<A>,
+) -> Result<(), AllocError>
+    ensures { OnOk result (map attribute_of attrs.new.items
+        ≡ map attribute_of attrs.old.items ++ attribute (string_bytes name) (string_bytes value) ∷ []) }
+{
+    let name = QualName::new(None, Namespace(String::new(alloc)), LocalName(name));
+    attrs.push(Attribute { name, value })?;
+    Ok(())
+}
+
+/// Ends the last attribute, where there is one: it is dropped, with an error, where its name stands
+/// in the tag already.
+#[tactic(auto, using(crate::proofs::Tellings::tells_from_memory), unfolding(html5grammar::specs::Tag::with_last_attribute, html5grammar::specs::Tag::duplicate_error, html5grammar::specs::Tag::repeats_attribute, html5ever_interface::specs::Sink::stepped))]
+pub fn finish_attribute<S: TokenSink<Token<A>>, A: Allocator + Copy>(
+    alloc: A,
+    sink: &mut S,
+    tag: &mut CurrentTag<A>,
+    line: u64,
+) -> Result<(), TokenizerError>
+    ensures tells { Tells S.step S.faulted result (S.state sink.old)
+        (on_line line (duplicate_error (open_tag tag.old))) (S.state sink.new) }
+    ensures finished { OnOk result (open_tag tag.new ≡ with_last_attribute (open_tag tag.old)) }
+    ensures faults { S.faults sink.new ≡ S.faults sink.old + faults_of result }
+    ensures refusal { IfErr result IsRefusal }
+{
+    if tag.attr_name.is_empty() {
+        return Ok(());
+    }
+    let name = mem::replace(&mut tag.attr_name, String::new(alloc));
+    let value = mem::replace(&mut tag.attr_value, String::new(alloc));
+    if has_attribute(&tag.attrs, &name) {
+        tag.had_duplicate_attributes = true;
+        return emit_message(alloc, sink, "Duplicate attribute", line);
+    }
+    push_attribute(alloc, &mut tag.attrs, name, value)?;
+    Ok(())
+}

@@ -1,0 +1,86 @@
+ghost use Rattle.std.specs.Prelude.{◌≡◌, ◌^◌, ◌<◌, ◌↔◌, [], ◌∷◌, false, IsTrue, MatchOption};
+ghost use Rattle.html5grammar.specs.NormalisedText.{normalised, drops_first, input_after};
+
+use std::marker::Model;
+
+/// How the characters of a stream come in: the line that was reached, and whether the next character
+/// may be dropped.
+#[derive(Drop)]
+pub struct Input {
+    current_line: u64,
+    ignore_lf: bool,
+    discard_bom: bool,
+}
+
+impl Model for Input {
+    ghost use Rattle.std.specs.Prelude.{◌^◌, ◌<◌};
+    ghost use Rattle.html5grammar.specs.Start.{Input};
+
+    ghost Value = { Input };
+
+    ghost view = { λ p. record {
+      line = p.current_line;
+      after_carriage_return = p.ignore_lf;
+      drops_byte_order_mark = p.discard_bom;
+    } };
+
+    ghost invariant = { λ p. p.current_line < 2 ^ 64 };
+}
+
+impl Input {
+    /// The start of a stream.
+    pub fn new(discard_bom: bool) -> Input
+        ensures line { result.line ≡ 1 }
+        ensures no_carriage_return { result.after_carriage_return ≡ false }
+        ensures byte_order_mark { result.drops_byte_order_mark ≡ discard_bom }
+    {
+        Input {
+            current_line: 1,
+            ignore_lf: false,
+            discard_bom,
+        }
+    }
+
+    /// The line that was reached.
+    pub fn line(&self) -> u64
+        ensures line { result ≡ self.now.line }
+        ensures fits { self.now.line < 2 ^ 64 }
+    {
+        self.current_line
+    }
+
+    /// Whether characters from here on are read as they stand, but for line breaks.
+    pub fn is_past_start(&self) -> bool
+        ensures { IsTrue result
+            ↔ ((self.now.after_carriage_return ≡ false) × (self.now.drops_byte_order_mark ≡ false)) }
+    {
+        !self.ignore_lf && !self.discard_bom
+    }
+
+    /// Whether the next character is no part of the text: a byte order mark, or a LF behind a CR.
+    fn drops(&self, c: char) -> bool
+        ensures { result ≡ drops_first self.now c }
+    {
+        self.discard_bom && c == '\u{feff}' || self.ignore_lf && c == '\n'
+    }
+
+    /// Takes a character of the stream, and answers the one that is read for it, if any.
+    pub fn advance(&mut self, c: char) -> Option<char>
+        ensures moves { self.new ≡ input_after self.old (c ∷ []) }
+        ensures reads { let read = normalised self.old (c ∷ []) in
+            MatchOption result (read ≡ []) (λ d. read ≡ d ∷ []) }
+    {
+        let dropped = self.drops(c);
+        self.discard_bom = false;
+        self.ignore_lf = false;
+        if dropped {
+            return None;
+        }
+        if c != '\r' && c != '\n' {
+            return Some(c);
+        }
+        self.ignore_lf = c == '\r';
+        self.current_line = self.current_line.saturating_add(1);
+        Some('\n')
+    }
+}

@@ -1,0 +1,99 @@
+//! Reading the queue.
+ghost use Rattle.std.specs.Prelude.{◌≡◌, ℕ, ◌+◌, ◌↔◌, ◌∷◌, [], Contains, IsOk, IfOk, IfErr, OnOk, OnErr, length};
+ghost use Rattle.html5grammar.specs.Characters.{null, line_feed, carriage_return};
+ghost use Rattle.html5grammar.specs.NormalisedText.{input_after};
+ghost use Rattle.html5grammar.specs.Reading.{told, messages, after};
+ghost use Rattle.html5grammar.specs.Start.Open.{NotBuilt};
+ghost use Rattle.html5ever.specs.Feed.{IsEndOf};
+ghost use Rattle.html5ever.specs.Runs.{TakesItem, CanRead, item_text};
+ghost use Rattle.html5ever.specs.Steps.{IsBuilt, Leads};
+ghost use Rattle.html5ever.specs.Telling.{Tells, IsNotFailed, faults_of};
+ghost use Rattle.markup5ever.specs.SmallCharSet.{IsMember};
+
+use crate::error::TokenizerError;
+use crate::position::{Position, read_character};
+use crate::tell::tell;
+use html5ever_interface::interface::sink::TokenSink;
+use html5ever_interface::interface::token::Token;
+use markup5ever::buffer_queue::{BufferQueue, SetResult};
+use markup5ever::small_char_set::SmallCharSet;
+use std::alloc::{AllocError, Allocator};
+
+// Takes what can be read at once: a run of plain text, where errors are not exact and no first
+// character may be dropped, and else one character.
+fn pop_item<A: Allocator + Copy>(
+    exact_errors: bool,
+    position: &Position<A>,
+    breaks: SmallCharSet,
+    queue: &mut BufferQueue<A>,
+) -> Result<Option<SetResult<A>>, AllocError>
+    requires { (c : ℕ) → IsMember breaks c ↔ Contains (null ∷ line_feed ∷ carriage_return ∷ []) c }
+    ensures ok { IfOk result (TakesItem exact_errors position.now queue.old queue.new) }
+    ensures err { OnErr result (queue.new ≡ queue.old) }
+    ensures empty { queue.old.text ≡ [] → IsOk result }
+{
+    if queue.is_empty() {
+        return Ok(None);
+    }
+    if exact_errors || !position.is_in_plain_text() {
+        let Some(c) = queue.next() else {
+            return Ok(None);
+        };
+        return Ok(Some(SetResult::FromSet(c)));
+    }
+    queue.pop_except_from(breaks)
+}
+
+// Reads what was taken at once.
+fn read_item<S: TokenSink<Token<A>>, A: Allocator + Copy>(
+    alloc: A,
+    sink: &mut S,
+    exact_errors: bool,
+    position: &mut Position<A>,
+    item: SetResult<A>,
+) -> Result<(), TokenizerError>
+    requires item { CanRead exact_errors position.old item }
+    requires built { IsBuilt position.old.opened }
+    ensures tells { Tells S.step S.faulted result (S.state sink.old)
+        (messages (told S.step S.reply exact_errors position.old (S.state sink.old) (item_text item))) (S.state sink.new) }
+    ensures leads { Leads result position.new.opened
+        (after S.step S.reply exact_errors position.old (S.state sink.old) (item_text item)).opened }
+    ensures input { position.new.input ≡ input_after position.old.input (item_text item) }
+    ensures faults { S.faults sink.new ≡ S.faults sink.old + faults_of result }
+{
+    match item {
+        SetResult::FromSet(c) => read_character(alloc, sink, exact_errors, position, c),
+        SetResult::NotFromSet(run) => tell(sink, Token::CharacterTokens(run), position.line()),
+    }
+}
+
+/// Reads all that waits in the queue.
+pub fn read_queue<S: TokenSink<Token<A>>, A: Allocator + Copy>(
+    alloc: A,
+    sink: &mut S,
+    exact_errors: bool,
+    position: &mut Position<A>,
+    queue: &mut BufferQueue<A>,
+) -> Result<(), TokenizerError>
+    requires { IsBuilt position.old.opened }
+    ensures tells { Tells S.step S.faulted result (S.state sink.old)
+        (messages (told S.step S.reply exact_errors position.old (S.state sink.old) queue.old.text)) (S.state sink.new) }
+    ensures moves { OnOk result
+        (position.new ≡ after S.step S.reply exact_errors position.old (S.state sink.old) queue.old.text) }
+    ensures built { OnOk result (IsBuilt position.new.opened) }
+    ensures not_yet { result ≡ Err TokenizerError.NotYet
+        → (after S.step S.reply exact_errors position.old (S.state sink.old) queue.old.text).opened ≡ NotBuilt }
+    ensures not_failed { IfErr result IsNotFailed }
+    ensures emptied { OnOk result (queue.new.text ≡ []) }
+    ensures left { IsEndOf queue.new.text queue.old.text }
+    ensures taken { queue.new.taken + length queue.new.text ≡ queue.old.taken + length queue.old.text }
+    ensures handed_in { queue.new.handed_in ≡ queue.old.handed_in }
+    ensures faults { S.faults sink.new ≡ S.faults sink.old + faults_of result }
+    ensures empty { queue.old.text ≡ [] → IsOk result }
+{
+    let breaks = SmallCharSet::of(b"\0\n\r");
+    while let Some(item) = pop_item(exact_errors, position, breaks, queue)? {
+        read_item(alloc, sink, exact_errors, position, item)?;
+    }
+    Ok(())
+}

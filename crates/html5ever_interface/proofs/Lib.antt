@@ -1,0 +1,2 @@
+pub mod Clones
+pub mod Entries

@@ -1,0 +1,162 @@
+-- A bad character begins nothing that isn't built yet, but for one behind `</`.
+use Rattle.std.proofs.Common.{◌≡◌, ◌≢◌, ◌⊎◌, inl, inr, ℕ, ◌<◌, ◌≤◌, ◌%◌, Bool, true, false, List, [], ◌∷◌, refl, ap, sym, ◌∙◌, arith}
+use Rattle.std.specs.Prelude.{◌==◌, ◌||◌, ◌&&◌, leb, if◌then◌else◌}
+use Rattle.std.proofs.lemmas.Bool.{eqb-true, ne_eqb, false≢true, and_parts, or_cases, lt-leb, leb-true}
+use Rattle.std.proofs.Math.Bool.{and-false}
+use native.Mathlib.Nat.{mod-eq_of_lt}
+use Rattle.html5ever_interface.specs.Token.{Told}
+use Rattle.html5ever_interface.specs.declared.interface.token.TagKind.TheVariants.{StartTag}
+use Rattle.html5ever_interface.specs.declared.states.AttrValueKind.TheVariants.{Unquoted, SingleQuoted, DoubleQuoted}
+use Rattle.html5grammar.specs.Characters.{null, exclamation_mark, quotation_mark, ampersand, apostrophe, solidus, less_than, equals_sign, greater_than, question_mark, is_between, is_bad_character, is_letter, is_white_space}
+use Rattle.html5grammar.specs.Reading.{Here}
+use Rattle.html5grammar.specs.Reading.Here.{Tells, TellsTag, Stops}
+use Rattle.html5grammar.specs.Start.{OpenTag, Place, Open, begun}
+use Rattle.html5grammar.specs.Start.Mode.{Data, Plain}
+use Rattle.html5grammar.specs.Start.Place.{InName, BeforeAttribute, InAttributeName, AfterAttributeName, BeforeValue, InValue, AfterQuotedValue, AfterSolidus}
+use Rattle.html5grammar.specs.Start.Open.{Between, LessThan, LessThanSolidus, InTag, NotBuilt}
+use Rattle.html5grammar.specs.Tag.{in_tag_name, in_attribute_name, in_quoted, in_unquoted}
+use Rattle.html5grammar.proofs.Machine.{step_at, tag_step, closing_step, tag_name_step, part_step, attribute_name_step, after_attribute_name_step, quoted_step, unquoted_step, before_value_step, data_step, less_than_step, solidus_step}
+
+-- the step goes on
+abbrev pub Goes : Here Open → Type 0
+Goes (Tells told later) = Unit {0}
+Goes (TellsTag told tag) = Unit {0}
+Goes (Stops told) = ⊥
+
+Goes-if : (test : Bool) (p q : Here Open) → Goes p → Goes q → Goes (if test then p else q)
+Goes-if true p q f g = f
+Goes-if false p q f g = g
+
+-- where the test asks for a character that isn't bad
+Goes-unless : (test : Bool) (p q : Here Open) → test ≡ false → Goes q → Goes (if test then p else q)
+Goes-unless test p q h g = rw h g
+
+not_bad : (c d : ℕ) → is_bad_character c ≡ true → is_bad_character d ≡ false → (c == d) ≡ false
+not_bad c d bad other =
+    let cases : (b : Bool) → (c == d) ≡ b → b ≡ false = λ b. elim b as (λ v. (c == d) ≡ v → v ≡ false) [
+      | true ↦ λ h. absurd (false≢true (sym other ∙ ap is_bad_character (sym (eqb-true c d h)) ∙ bad))
+      | false ↦ λ h. refl
+    ] in
+    cases (c == d) refl
+
+-- a letter isn't bad
+
+outside : (low high c : ℕ) → (c < low) ⊎ (high < c) → is_between low high c ≡ false
+outside low high c (inl below) = rw (lt-leb low c below) refl
+outside low high c (inr above) = rw (lt-leb c high above) (and-false (leb low c))
+
+within : (low high c : ℕ) → is_between low high c ≡ true → (low ≤ c) × (c ≤ high)
+within low high c both =
+    let parts = and_parts (leb low c) (leb c high) both in
+    (leb-true low c parts.0, leb-true c high parts.1)
+
+good_between : (c : ℕ) → 0x41 ≤ c → c ≤ 0x7A → is_bad_character c ≡ false
+unfolding is_bad_character
+good_between c low high =
+    let small : c % 0x1_0000 ≡ c = mod-eq_of_lt (omega (arith, high)) in
+    rw (
+      outside 0x01 0x08 c (inr (omega (arith, low))),
+      ne_eqb c 0x0B (λ e. omega (arith, low, e)),
+      outside 0x0E 0x1F c (inr (omega (arith, low))),
+      outside 0x7F 0x9F c (inl (omega (arith, high))),
+      outside 0xFDD0 0xFDEF c (inl (omega (arith, high))),
+      small,
+      lt-leb 0xFFFE c (omega (arith, high)),
+    )
+    refl
+
+letter_is_good : (c : ℕ) (b : Bool) → is_letter c ≡ b → is_bad_character c ≡ true → b ≡ false
+unfolding is_letter
+letter_is_good c false letter bad = refl
+letter_is_good c true letter bad =
+    let good : is_bad_character c ≡ false = elim (or_cases (is_between 0x41 0x5A c) (is_between 0x61 0x7A c) letter) [
+      | inl upper ↦ good_between c (within 0x41 0x5A c upper).0 (omega (arith, (within 0x41 0x5A c upper).1))
+      | inr lower ↦ good_between c (omega (arith, (within 0x61 0x7A c lower).0)) (within 0x61 0x7A c lower).1
+    ] in
+    sym bad ∙ good
+
+module _ (exact : Bool) (c : ℕ) (bad : is_bad_character c ≡ true) where
+  no_ampersand : (c == ampersand) ≡ false
+  unfolding is_bad_character
+  no_ampersand = not_bad c ampersand bad refl
+
+  no_mark : ((c == exclamation_mark) || (c == question_mark)) ≡ false
+  unfolding is_bad_character
+  no_mark = rw (not_bad c exclamation_mark bad refl, not_bad c question_mark bad refl) refl
+
+  Goes-closing : (errors : List Told) (tag : OpenTag) (self_closing : Bool) → Goes (closing_step errors tag self_closing)
+  unfolding closing_step
+  Goes-closing errors tag self_closing = tt
+
+  Goes-tag_name : (tag : OpenTag) → Goes (tag_name_step exact tag c)
+  unfolding tag_name_step
+  Goes-tag_name tag =
+      Goes-if (in_tag_name c) _ _ tt (Goes-if (is_white_space c) _ _ tt (Goes-if (c == solidus) _ _ tt (Goes-closing [] tag false)))
+
+  Goes-part : (place : Place) (tag : OpenTag) → Goes (part_step exact place tag c)
+  unfolding part_step
+  Goes-part place tag =
+      Goes-if (c == greater_than) _ _ (Goes-closing _ tag _) (Goes-if (is_white_space c) _ _ tt (Goes-if (c == solidus) _ _ tt tt))
+
+  Goes-attribute_name : (tag : OpenTag) → Goes (attribute_name_step exact tag c)
+  unfolding attribute_name_step
+  Goes-attribute_name tag =
+      Goes-if (in_attribute_name c) _ _ tt (Goes-if (is_white_space c) _ _ tt (Goes-if (c == solidus) _ _ tt (Goes-if (c == equals_sign) _ _ tt (Goes-closing [] tag false))))
+
+  Goes-after_attribute_name : (tag : OpenTag) → Goes (after_attribute_name_step exact tag c)
+  unfolding after_attribute_name_step
+  Goes-after_attribute_name tag =
+      Goes-if (is_white_space c) _ _ tt (Goes-if (c == equals_sign) _ _ tt (Goes-part AfterAttributeName tag))
+
+  Goes-unquoted : (tag : OpenTag) → Goes (unquoted_step exact tag c)
+  unfolding unquoted_step
+  Goes-unquoted tag =
+      Goes-if (in_unquoted c) _ _ tt (Goes-unless (c == ampersand) _ _ no_ampersand (Goes-if (c == greater_than) _ _ (Goes-closing [] tag false) tt))
+
+  Goes-data : (before : List Told) → Goes (data_step exact before c)
+  unfolding data_step
+  Goes-data before =
+      Goes-if (c == less_than) _ _ tt (Goes-unless (c == ampersand) _ _ no_ampersand (Goes-if (c == null) _ _ tt tt))
+
+  Goes-tag : (place : Place) (tag : OpenTag) → Goes (tag_step exact place tag c)
+  unfolding tag_step quoted_step before_value_step
+  Goes-tag InName tag = Goes-tag_name tag
+  Goes-tag BeforeAttribute tag = Goes-part BeforeAttribute tag
+  Goes-tag InAttributeName tag = Goes-attribute_name tag
+  Goes-tag AfterAttributeName tag = Goes-after_attribute_name tag
+  Goes-tag BeforeValue tag =
+      Goes-if (is_white_space c) _ _ tt (Goes-if (c == quotation_mark) _ _ tt (Goes-if (c == apostrophe) _ _ tt (Goes-if (c == greater_than) _ _ (Goes-closing _ tag false) (Goes-unquoted tag))))
+  Goes-tag (InValue Unquoted) tag = Goes-unquoted tag
+  Goes-tag (InValue SingleQuoted) tag = Goes-if (in_quoted SingleQuoted c) _ _ tt (Goes-unless (c == ampersand) _ _ no_ampersand tt)
+  Goes-tag (InValue DoubleQuoted) tag = Goes-if (in_quoted DoubleQuoted c) _ _ tt (Goes-unless (c == ampersand) _ _ no_ampersand tt)
+  Goes-tag AfterQuotedValue tag = Goes-part AfterQuotedValue tag
+  Goes-tag AfterSolidus tag = Goes-part AfterSolidus tag
+
+  pub bad_goes_tag : (place : Place) (tag : OpenTag) → Goes (step_at exact (InTag place tag) c)
+  unfolding step_at
+  bad_goes_tag place tag = Goes-tag place tag
+
+  pub bad_goes_data : Goes (step_at exact (Between Data) c)
+  unfolding step_at
+  bad_goes_data = Goes-data []
+
+  pub bad_goes_plain : Goes (step_at exact (Between Plain) c)
+  unfolding step_at
+  bad_goes_plain = tt
+
+  pub bad_goes_less_than : Goes (step_at exact LessThan c)
+  unfolding step_at less_than_step
+  bad_goes_less_than =
+      Goes-if (is_letter c) _ _ (Goes-tag_name (begun StartTag)) (Goes-if (c == solidus) _ _ tt (Goes-unless ((c == exclamation_mark) || (c == question_mark)) _ _ no_mark (Goes-data _)))
+
+  -- behind `</` it stops
+  not_bad_greater_than : (c == greater_than) ≡ false
+  unfolding is_bad_character
+  not_bad_greater_than = not_bad c greater_than bad refl
+
+  no_letter : is_letter c ≡ false
+  no_letter = letter_is_good c (is_letter c) refl bad
+
+  pub bad_stops : step_at exact LessThanSolidus c ≡ Stops []
+  unfolding step_at solidus_step
+  bad_stops = rw (no_letter, not_bad_greater_than) refl

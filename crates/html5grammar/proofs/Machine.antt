@@ -1,0 +1,120 @@
+-- The machine between the slices and the code: what one character tells where something is open, and what is open then.
+use Rattle.std.specs.Prelude.{ℕ, Bool, true, false, List, [], ◌∷◌, ◌++◌, ◌==◌, ◌||◌, codes, encode_utf8, if◌then◌else◌}
+use Rattle.html5ever_interface.specs.Token.{Told}
+use Rattle.html5ever_interface.specs.Token.Told.{Text, Null, Error}
+use Rattle.html5ever_interface.specs.declared.interface.token.TagKind.TheVariants.{StartTag, EndTag}
+use Rattle.html5ever_interface.specs.declared.states.AttrValueKind.{AttrValueKind}
+use Rattle.html5ever_interface.specs.declared.states.AttrValueKind.TheVariants.{Unquoted, SingleQuoted, DoubleQuoted}
+use Rattle.html5ever_interface.specs.declared.states.State.{State}
+use Rattle.html5ever_interface.specs.declared.states.State.TheVariants as state
+use Rattle.html5grammar.specs.Characters.{null, exclamation_mark, quotation_mark, ampersand, apostrophe, solidus, less_than, equals_sign, greater_than, question_mark, is_letter, is_white_space}
+use Rattle.html5grammar.specs.ErrorText.{saw, error_in}
+use Rattle.html5grammar.specs.Reading.{Here}
+use Rattle.html5grammar.specs.Reading.Here.{Tells, TellsTag, Stops}
+use Rattle.html5grammar.specs.Start.{OpenTag, Place, Open, begun}
+use Rattle.html5grammar.specs.Start.Mode.{Data, Plain}
+use Rattle.html5grammar.specs.Start.Place.{InName, BeforeAttribute, InAttributeName, AfterAttributeName, BeforeValue, InValue, AfterQuotedValue, AfterSolidus}
+use Rattle.html5grammar.specs.Start.Open.{Between, LessThan, LessThanSolidus, InTag, NotBuilt}
+use Rattle.html5grammar.specs.Tag.{with_last_attribute, duplicate_error, end_tag_errors, told_tag, null_error, with_value, in_quoted, in_unquoted, unquoted_error, in_attribute_name, attribute_name_error, with_last_name, place_error, first_error, is_after_solidus, in_tag_name, with_name}
+use Rattle.html5grammar.specs.Text.{plain_text}
+
+-- a step with more told in front
+abbrev pub told_first : List Told → Here Open → Here Open
+told_first before (Tells told later) = Tells (before ++ told) later
+told_first before (TellsTag told tag) = TellsTag (before ++ told) tag
+told_first before (Stops told) = Stops (before ++ told)
+
+unfoldable pub closing_step : List Told → OpenTag → Bool → Here Open
+closing_step errors tag self_closing =
+    let closed : OpenTag = with_last_attribute tag in
+    TellsTag (errors ++ (duplicate_error tag ++ end_tag_errors closed self_closing)) (told_tag closed self_closing)
+
+unfoldable pub tag_name_step : Bool → OpenTag → ℕ → Here Open
+tag_name_step exact tag c =
+    if in_tag_name c then Tells (null_error exact state.TagName c) (InTag InName (with_name tag (c ∷ [])))
+    else if is_white_space c then Tells [] (InTag BeforeAttribute tag)
+    else if c == solidus then Tells [] (InTag AfterSolidus tag)
+    else closing_step [] tag false
+
+unfoldable pub part_step : Bool → Place → OpenTag → ℕ → Here Open
+part_step exact place tag c =
+    let errors : List Told = place_error exact place c in
+    if c == greater_than then closing_step errors tag (is_after_solidus place)
+    else if is_white_space c then Tells errors (InTag BeforeAttribute tag)
+    else if c == solidus then Tells errors (InTag AfterSolidus tag)
+    else Tells (errors ++ (first_error exact place c ++ duplicate_error tag)) (InTag InAttributeName (with_last_name (with_last_attribute tag) (c ∷ [])))
+
+unfoldable pub attribute_name_step : Bool → OpenTag → ℕ → Here Open
+attribute_name_step exact tag c =
+    if in_attribute_name c then Tells (attribute_name_error exact c) (InTag InAttributeName (with_last_name tag (c ∷ [])))
+    else if is_white_space c then Tells [] (InTag AfterAttributeName tag)
+    else if c == solidus then Tells [] (InTag AfterSolidus tag)
+    else if c == equals_sign then Tells [] (InTag BeforeValue tag)
+    else closing_step [] tag false
+
+unfoldable pub after_attribute_name_step : Bool → OpenTag → ℕ → Here Open
+after_attribute_name_step exact tag c =
+    if is_white_space c then Tells [] (InTag AfterAttributeName tag)
+    else if c == equals_sign then Tells [] (InTag BeforeValue tag)
+    else part_step exact AfterAttributeName tag c
+
+unfoldable pub quoted_step : Bool → AttrValueKind → OpenTag → ℕ → Here Open
+quoted_step exact kind tag c =
+    if in_quoted kind c then Tells (null_error exact (state.AttributeValue kind) c) (InTag (InValue kind) (with_value tag (c ∷ [])))
+    else if c == ampersand then Stops []
+    else Tells [] (InTag AfterQuotedValue tag)
+
+unfoldable pub unquoted_step : Bool → OpenTag → ℕ → Here Open
+unquoted_step exact tag c =
+    if in_unquoted c then Tells (unquoted_error exact c) (InTag (InValue Unquoted) (with_value tag (c ∷ [])))
+    else if c == ampersand then Stops []
+    else if c == greater_than then closing_step [] tag false
+    else Tells [] (InTag BeforeAttribute tag)
+
+unfoldable pub before_value_step : Bool → OpenTag → ℕ → Here Open
+before_value_step exact tag c =
+    if is_white_space c then Tells [] (InTag BeforeValue tag)
+    else if c == quotation_mark then Tells [] (InTag (InValue DoubleQuoted) tag)
+    else if c == apostrophe then Tells [] (InTag (InValue SingleQuoted) tag)
+    else if c == greater_than then closing_step (error_in exact state.BeforeAttributeValue equals_sign ∷ []) tag false
+    else unquoted_step exact tag c
+
+unfoldable pub tag_step : Bool → Place → OpenTag → ℕ → Here Open
+tag_step exact InName tag c = tag_name_step exact tag c
+tag_step exact InAttributeName tag c = attribute_name_step exact tag c
+tag_step exact AfterAttributeName tag c = after_attribute_name_step exact tag c
+tag_step exact BeforeValue tag c = before_value_step exact tag c
+tag_step exact (InValue Unquoted) tag c = unquoted_step exact tag c
+tag_step exact (InValue SingleQuoted) tag c = quoted_step exact SingleQuoted tag c
+tag_step exact (InValue DoubleQuoted) tag c = quoted_step exact DoubleQuoted tag c
+tag_step exact BeforeAttribute tag c = part_step exact BeforeAttribute tag c
+tag_step exact AfterQuotedValue tag c = part_step exact AfterQuotedValue tag c
+tag_step exact AfterSolidus tag c = part_step exact AfterSolidus tag c
+
+unfoldable pub data_step : Bool → List Told → ℕ → Here Open
+data_step exact before c =
+    if c == less_than then Tells before LessThan
+    else if c == ampersand then Stops before
+    else if c == null then Tells (before ++ error_in exact state.Data c ∷ Null ∷ []) (Between Data)
+    else Tells (before ++ Text (encode_utf8 c) ∷ []) (Between Data)
+
+unfoldable pub less_than_step : Bool → ℕ → Here Open
+less_than_step exact c =
+    if is_letter c then tag_name_step exact (begun StartTag) c
+    else if c == solidus then Tells [] LessThanSolidus
+    else if (c == exclamation_mark) || (c == question_mark) then Stops []
+    else data_step exact (error_in exact state.TagOpen c ∷ Text (codes "<") ∷ []) c
+
+unfoldable pub solidus_step : Bool → ℕ → Here Open
+solidus_step exact c =
+    if is_letter c then tag_name_step exact (begun EndTag) c
+    else if c == greater_than then Tells (error_in exact state.EndTagOpen c ∷ []) (Between Data)
+    else Stops []
+
+unfoldable pub step_at : Bool → Open → ℕ → Here Open
+step_at exact (Between Data) c = data_step exact [] c
+step_at exact (Between Plain) c = Tells (plain_text exact c) (Between Plain)
+step_at exact LessThan c = less_than_step exact c
+step_at exact LessThanSolidus c = solidus_step exact c
+step_at exact (InTag place tag) c = tag_step exact place tag c
+step_at exact NotBuilt c = Stops []

@@ -1,0 +1,43 @@
+-- Steps that are another with more told in front: a character that is read again.
+use Rattle.std.proofs.Common.{◌≡◌, ◌≢◌, ℕ, Bool, true, false, cond, List, [], ◌∷◌, ◌++◌, refl, ap, sym, ◌∙◌}
+use Rattle.std.specs.Prelude.{◌==◌, ◌||◌, if◌then◌else◌}
+use Rattle.std.proofs.lemmas.Bool.{ne_eqb}
+use Rattle.std.proofs.lemmas.List.{append_assoc, append-nil}
+use Rattle.html5ever_interface.specs.Token.{Told}
+use Rattle.html5ever_interface.specs.declared.states.State.TheVariants as state
+use Rattle.html5grammar.specs.Characters.{null, ampersand, solidus, less_than, greater_than, is_white_space}
+use Rattle.html5grammar.specs.ErrorText.{error_in}
+use Rattle.html5grammar.specs.Reading.{Here}
+use Rattle.html5grammar.specs.Reading.Here.{Tells, TellsTag, Stops}
+use Rattle.html5grammar.specs.Start.{OpenTag, Open}
+use Rattle.html5grammar.specs.Start.Place.{BeforeAttribute, AfterQuotedValue, AfterSolidus}
+use Rattle.html5grammar.specs.Tag.{place_error, first_error}
+use Rattle.html5grammar.proofs.Machine.{told_first, closing_step, part_step, data_step}
+
+told_first-if : (before : List Told) (test : Bool) (p q p2 q2 : Here Open) → p2 ≡ told_first before p → q2 ≡ told_first before q
+    → (if test then p2 else q2) ≡ told_first before (if test then p else q)
+told_first-if before true p q p2 q2 e f = e
+told_first-if before false p q p2 q2 e f = f
+
+Tells-nil : (before : List Told) (later : Open) → Tells before later ≡ told_first before (Tells [] later)
+Tells-nil before later = ap (λ told. Tells told later) (sym (append-nil before))
+
+pub data_step-before : (exact : Bool) (before : List Told) (c : ℕ) → data_step exact before c ≡ told_first before (data_step exact [] c)
+unfolding data_step
+data_step-before exact before c =
+    told_first-if before (c == less_than) _ _ _ _ (Tells-nil before _)
+    (told_first-if before (c == ampersand) _ _ _ _ (ap Stops (sym (append-nil before)))
+    (told_first-if before (c == null) _ _ _ _ refl refl))
+
+-- behind `/` or a quoted value another part is read as before an attribute, behind the error of the place
+pub part-after_solidus : (exact : Bool) (tag : OpenTag) (c : ℕ) → (c == greater_than) ≡ false
+    → part_step exact AfterSolidus tag c ≡ told_first (error_in exact state.SelfClosingStartTag c ∷ []) (part_step exact BeforeAttribute tag c)
+unfolding part_step place_error first_error
+part-after_solidus exact tag c h =
+    let error : List Told = error_in exact state.SelfClosingStartTag c ∷ [] in
+    rw h (told_first-if error (is_white_space c) _ _ _ _ refl (told_first-if error (c == solidus) _ _ _ _ refl refl))
+
+pub part-after_quoted : (exact : Bool) (tag : OpenTag) (c : ℕ) → (c == greater_than) ≡ false → (c == solidus) ≡ false → is_white_space c ≡ false
+    → part_step exact AfterQuotedValue tag c ≡ told_first (error_in exact state.AfterAttributeValueQuoted c ∷ []) (part_step exact BeforeAttribute tag c)
+unfolding part_step place_error first_error
+part-after_quoted exact tag c h solid white = rw (h, solid, white) refl

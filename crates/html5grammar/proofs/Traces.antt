@@ -1,0 +1,131 @@
+-- What the machine tells of a text, with the lines that it counts.
+use Rattle.std.proofs.Common.{◌≡◌, ℕ, ◌+◌, ◌<◌, ◌^◌, Bool, true, false, cond, List, [], ◌∷◌, ◌++◌, refl, ap, sym, ◌∙◌, arith, min}
+use Rattle.std.specs.Prelude.{map, ◌==◌, if◌then◌else◌}
+use Rattle.std.proofs.lemmas.List.{append_assoc, append-nil, map-append}
+use Rattle.html5ever_interface.specs.Sink.{Message, stepped, on_line}
+use Rattle.html5ever_interface.specs.Token.{Told, TagOf, Reply}
+use Rattle.html5ever_interface.specs.Token.Told.{Tag}
+use Rattle.html5ever_interface.specs.Token.Reply.{KeepOn, ReadPlainText, ReadRawData, RunScript, SwitchEncoding}
+use Rattle.html5ever_interface.specs.declared.states.AttrValueKind.TheVariants.{Unquoted, SingleQuoted, DoubleQuoted}
+use Rattle.html5grammar.specs.Cutting.{rest_of, slice_at}
+use Rattle.html5grammar.specs.ErrorText.{bad_character_error}
+use Rattle.html5grammar.specs.Reading.{Event, Here, Read, here, at_first, events_at, messages, open_behind, open_after_reply, read_here, read_from}
+use Rattle.html5grammar.specs.NormalisedText.{line_after}
+use Rattle.html5grammar.proofs.InputLemmas.{line_past, line_after-past}
+use Rattle.html5grammar.specs.Reading.Here.{Tells, TellsTag, Stops}
+use Rattle.html5grammar.specs.Slice.{Slice, cut_off, with_run, run_of, behind_run}
+use Rattle.html5grammar.specs.Start.{Start, Open}
+use Rattle.html5grammar.specs.Start.Mode.{Data, Plain}
+use Rattle.html5grammar.specs.Start.Place.{InName, BeforeAttribute, InAttributeName, AfterAttributeName, BeforeValue, InValue, AfterQuotedValue, AfterSolidus}
+use Rattle.html5grammar.specs.Start.Open.{Between, LessThan, LessThanSolidus, InTag, NotBuilt}
+use Rattle.html5grammar.specs.Tag.{tag_name, behind_tag_name, attribute_behind_first, behind_attribute_name, behind_name_and_space, value_or_next, value_behind_space, value, quoted_value, behind_quoted, unquoted_value, behind_unquoted}
+use Rattle.html5grammar.specs.Text.{behind_less_than, behind_solidus}
+use Rattle.html5grammar.proofs.Machine.{step_at}
+use Rattle.html5grammar.proofs.Slices.{going, rest_of-step_at, with_name-nil, with_last_name-nil, with_value-nil}
+
+-- the messages of a text, and what is open behind it
+pub record Trace : Type 0 where
+  pub messages : List Message
+  pub opened : Open
+
+abbrev pub with_messages : List Message → Trace → Trace
+with_messages M trace = record { messages = M ++ trace.messages; opened = trace.opened }
+
+module _ {S H : Type 0} (step : S → Told → ℕ → S) (reply : S → Told → ℕ → Reply H) (exact : Bool) where
+  -- what is told at a character, on its line, and then by what goes on
+  unfoldable pub trace_here : (S → Open → Trace) → S → ℕ → ℕ → Here Open → Trace
+  trace_here rest s line c (Tells told opened) =
+      let M : List Message = on_line line (bad_character_error exact c ++ told) in
+      with_messages M (rest (stepped step s M) opened)
+  trace_here rest s line c (TellsTag told tag) =
+      let t : S = stepped step s (on_line line (bad_character_error exact c ++ told)) in
+      with_messages (on_line line ((bad_character_error exact c ++ told) ++ Tag tag ∷ []))
+      (rest (step t (Tag tag) line) (open_after_reply (reply t (Tag tag) line)))
+  trace_here rest s line c (Stops told) = record { messages = on_line line told; opened = NotBuilt }
+
+  unfoldable pub trace : S → ℕ → Open → List ℕ → Trace
+  trace s line opened [] = record { messages = []; opened = opened }
+  trace s line opened (c ∷ text) =
+      trace_here (λ t later. trace t (line_past line c) later text) s (line_past line c) c (step_at exact opened c)
+
+-- what is open where a slice has no more
+
+rest_of-nil : (exact : Bool) (opened : Open) → open_behind (rest_of exact opened []).behind ≡ opened
+unfolding rest_of tag_name behind_tag_name attribute_behind_first behind_attribute_name behind_name_and_space value_or_next value_behind_space value quoted_value behind_quoted unquoted_value behind_unquoted behind_less_than behind_solidus run_of behind_run
+rest_of-nil exact (Between mode) = refl
+rest_of-nil exact LessThan = refl
+rest_of-nil exact LessThanSolidus = refl
+rest_of-nil exact (InTag InName tag) = ap (InTag InName) (with_name-nil tag)
+rest_of-nil exact (InTag BeforeAttribute tag) = refl
+rest_of-nil exact (InTag InAttributeName tag) = ap (InTag InAttributeName) (with_last_name-nil tag)
+rest_of-nil exact (InTag AfterAttributeName tag) = refl
+rest_of-nil exact (InTag BeforeValue tag) = refl
+rest_of-nil exact (InTag (InValue Unquoted) tag) = ap (InTag (InValue Unquoted)) (with_value-nil tag)
+rest_of-nil exact (InTag (InValue SingleQuoted) tag) = ap (InTag (InValue SingleQuoted)) (with_value-nil tag)
+rest_of-nil exact (InTag (InValue DoubleQuoted) tag) = ap (InTag (InValue DoubleQuoted)) (with_value-nil tag)
+rest_of-nil exact (InTag AfterQuotedValue tag) = refl
+rest_of-nil exact (InTag AfterSolidus tag) = refl
+rest_of-nil exact NotBuilt = refl
+
+-- behind a tag a new slice begins
+rest_of-reply : {H : Type 0} → (exact : Bool) (r : Reply H) (text : List ℕ) → cut_off (open_after_reply r) ≡ rest_of exact (open_after_reply r) text
+unfolding rest_of
+rest_of-reply exact KeepOn text = refl
+rest_of-reply exact ReadPlainText text = refl
+rest_of-reply exact (ReadRawData kind) text = refl
+rest_of-reply exact (RunScript handle) text = refl
+rest_of-reply exact (SwitchEncoding bytes) text = refl
+
+messages-map : (f : Told → Event) (g : Told → Message) → ((t : Told) → (f t).message ≡ g t) → (ts : List Told) → messages (map f ts) ≡ map g ts
+messages-map f g h [] = refl
+messages-map f g h (t ∷ ts) = rw (h t) (ap (λ l. g t ∷ l) (messages-map f g h ts))
+
+pub messages-append : (E F : List Event) → messages (E ++ F) ≡ messages E ++ messages F
+messages-append E F = map-append (λ (e : Event). e.message) E F
+
+-- a reading tells the messages of the trace, and leaves the same open
+pub record Traces (read : Read) (trace : Trace) : Type 0 where
+  pub messages : messages read.events ≡ trace.messages
+  pub opened : read.opened ≡ trace.opened
+
+module _ {S H : Type 0} (step : S → Told → ℕ → S) (reply : S → Told → ℕ → Reply H) (exact : Bool) (K : Start) where
+  messages-events_at : (before : List ℕ) (c : ℕ) (tokens : List Told)
+      → messages (events_at K.input before c tokens) ≡ on_line (line_past (line_after K.input before) c) tokens
+  unfolding events_at
+  messages-events_at before c tokens =
+      messages-map _ _ (λ t. refl) tokens ∙ ap (λ line. on_line line tokens) (line_after-past K.input before c)
+
+  Traces-with : (E : List Event) (M : List Message) (read : Read) (trace : Trace) → messages E ≡ M → Traces read trace
+      → Traces (record { events = E ++ read.events; opened = read.opened }) (with_messages M trace)
+  Traces-with E M read trace e t = record {
+    messages = messages-append E read.events ∙ rw (e, t.messages) refl;
+    opened = t.opened;
+  }
+
+  traces-here : (s : S) (before : List ℕ) (c : ℕ) (text : List ℕ) (h : Here Open)
+      → ((t : S) (opened : Open) → Traces (read_from step reply exact K t (before ++ c ∷ []) (rest_of exact opened text) text) (trace step reply exact t (line_past (line_after K.input before) c) opened text))
+      → Traces
+      (read_here step reply exact K (λ t rest. read_from step reply exact K t (before ++ c ∷ []) rest text) cut_off s before c (going (λ opened. rest_of exact opened text) h))
+      (trace_here step reply exact (λ t later. trace step reply exact t (line_past (line_after K.input before) c) later text) s (line_past (line_after K.input before) c) c h)
+  unfolding trace_here
+  traces-here s before c text (Tells told opened) ih =
+      rw (line_after-past K.input before c)
+      (Traces-with _ _ _ _ (messages-events_at before c (bad_character_error exact c ++ told)) (ih _ opened))
+  traces-here s before c text (TellsTag told tag) ih =
+      let line : ℕ = line_past (line_after K.input before) c in
+      let t : S = stepped step s (on_line line (bad_character_error exact c ++ told)) in
+      rw (line_after-past K.input before c, rest_of-reply exact (reply t (Tag tag) line) text)
+      (Traces-with _ _ _ _ (messages-events_at before c ((bad_character_error exact c ++ told) ++ Tag tag ∷ [])) (ih _ _))
+  traces-here s before c text (Stops told) ih = record {
+    messages = messages-events_at before c told;
+    opened = refl;
+  }
+
+  pub traces : (s : S) (before : List ℕ) (opened : Open) (text : List ℕ)
+      → Traces (read_from step reply exact K s before (rest_of exact opened text) text) (trace step reply exact s (line_after K.input before) opened text)
+  unfolding read_from trace
+  traces s before opened [] = record { messages = refl; opened = rest_of-nil exact opened }
+  traces s before opened (c ∷ text) =
+      rw (rest_of-step_at exact c text opened)
+      (traces-here s before c text (step_at exact opened c)
+      (λ t later. rw (← line_after-past K.input before c) (traces t (before ++ c ∷ []) later text)))

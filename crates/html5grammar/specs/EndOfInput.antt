@@ -1,0 +1,30 @@
+-- What the end of input tells, by what is open there.
+use Rattle.std.specs.Prelude.{Bool, List, [], ◌∷◌, codes}
+use Rattle.html5ever_interface.specs.Token.{Told}
+use Rattle.html5ever_interface.specs.Token.Told.{Text, End}
+use Rattle.html5ever_interface.specs.declared.states.State.{State}
+use Rattle.html5ever_interface.specs.declared.states.AttrValueKind.TheVariants.{Unquoted}
+use Rattle.html5ever_interface.specs.declared.states.State.TheVariants as state
+use Rattle.html5grammar.specs.ErrorText.{end_error_in}
+use Rattle.html5grammar.specs.Start.{Place, Open}
+use Rattle.html5grammar.specs.Start.Place.{InName, BeforeAttribute, InAttributeName, AfterAttributeName, BeforeValue, InValue, AfterQuotedValue, AfterSolidus}
+use Rattle.html5grammar.specs.Start.Open.{Between, LessThan, LessThanSolidus, InTag, NotBuilt}
+
+-- the state that the error of a tag without its end names
+unfoldable pub state_at : Place → State
+state_at InName = state.TagName
+state_at BeforeAttribute = state.BeforeAttributeName
+state_at InAttributeName = state.AttributeName
+state_at AfterAttributeName = state.AfterAttributeName
+state_at BeforeValue = state.AttributeValue Unquoted
+state_at (InValue kind) = state.AttributeValue kind
+state_at AfterQuotedValue = state.AfterAttributeValueQuoted
+state_at AfterSolidus = state.SelfClosingStartTag
+
+-- what is told at the end: a tag without its end is an error, and is not told
+unfoldable pub told_at_end_of : Bool → Open → List Told
+told_at_end_of exact (Between mode) = End ∷ []
+told_at_end_of exact LessThan = end_error_in exact state.TagOpen ∷ Text (codes "<") ∷ End ∷ []
+told_at_end_of exact LessThanSolidus = end_error_in exact state.EndTagOpen ∷ Text (codes "<") ∷ Text (codes "/") ∷ End ∷ []
+told_at_end_of exact (InTag place tag) = end_error_in exact (state_at place) ∷ End ∷ []
+told_at_end_of exact NotBuilt = []

@@ -1,0 +1,52 @@
+-- Slices of a text: what is told at each of their characters, and how the text goes on behind them.
+use Rattle.std.specs.Prelude.{ℕ, Bool, List, [], ◌∷◌, ◌++◌, map, if◌then◌else◌}
+use Rattle.html5ever_interface.specs.Token.{Told, TagOf}
+use Rattle.html5grammar.specs.Start.{Open}
+
+-- what is told at a character
+pub data Cell : Type 0 where
+  Says : List Told → Cell
+  -- a tag is told last, and the sink's reply chooses how the text goes on
+  Ends : List Told → TagOf → Cell
+
+-- how a text goes on behind a slice
+pub data Behind : Type 0 where
+  -- first something is told at the next character, and this is open
+  Leaves : List Told → Open → Behind
+  -- the next character begins what is not built yet; before that something is told
+  StopsAt : List Told → Behind
+
+pub record Slice : Type 0 where
+  -- what is told at each character
+  pub cells : List Cell
+  pub behind : Behind
+
+-- a slice of no character
+abbrev pub no_character : Behind → Slice
+no_character behind = record { cells = []; behind = behind }
+
+-- the text ends within a slice
+abbrev pub cut_off : Open → Slice
+cut_off opened = no_character (Leaves [] opened)
+
+-- a slice of one character
+abbrev pub one_character : List Told → Open → Slice
+one_character told opened = record { cells = Says told ∷ []; behind = Leaves [] opened }
+
+-- a slice with a character in front
+abbrev pub with_character : List Told → Slice → Slice
+with_character told slice = record { cells = Says told ∷ slice.cells; behind = slice.behind }
+
+-- a slice with some characters in front, each of which tells its own
+abbrev pub with_run : (ℕ → List Told) → List ℕ → Slice → Slice
+with_run tells run slice = record { cells = map (λ c. Says (tells c)) run ++ slice.cells; behind = slice.behind }
+
+-- the longest run of characters of a kind with which a text begins
+unfoldable pub run_of : (ℕ → Bool) → List ℕ → List ℕ
+run_of is_kind [] = []
+run_of is_kind (c ∷ text) = if is_kind c then c ∷ run_of is_kind text else []
+
+-- what follows that run
+unfoldable pub behind_run : (ℕ → Bool) → List ℕ → List ℕ
+behind_run is_kind [] = []
+behind_run is_kind (c ∷ text) = if is_kind c then behind_run is_kind text else c ∷ text

@@ -1,0 +1,250 @@
+-- Tags: a name, then parts up to `>`. The parts are white space, `/`, and attributes, each a name and, where white space
+-- and `=` follow it, a value.
+use Rattle.std.specs.Prelude.{ℕ, Bool, true, false, List, [], ◌∷◌, ◌++◌, ◌==◌, ◌||◌, ◌&&◌, flat_map, codes, not, length, nat_eq, if◌then◌else◌}
+use Rattle.std.specs.Str.{bytes_eq}
+use Rattle.html5ever_interface.specs.Token.{Told, TagOf}
+use Rattle.html5ever_interface.specs.Token.Told.{Error}
+use Rattle.html5ever_interface.specs.declared.interface.token.TagKind.{TagKind}
+use Rattle.html5ever_interface.specs.declared.interface.token.TagKind.TheVariants.{StartTag, EndTag}
+use Rattle.html5ever_interface.specs.declared.states.AttrValueKind.{AttrValueKind}
+use Rattle.html5ever_interface.specs.declared.states.AttrValueKind.TheVariants.{Unquoted, SingleQuoted, DoubleQuoted}
+use Rattle.html5ever_interface.specs.declared.states.State.{State}
+use Rattle.html5ever_interface.specs.declared.states.State.TheVariants as state
+use Rattle.html5grammar.specs.Characters.{null, quotation_mark, ampersand, apostrophe, solidus, less_than, equals_sign, greater_than, grave_accent, is_white_space, value_bytes, name_bytes}
+use Rattle.html5grammar.specs.ErrorText.{saw, error_in, where_true}
+use Rattle.html5grammar.specs.Slice.{Slice, Behind, no_character, cut_off, one_character, with_character, with_run, run_of, behind_run}
+use Rattle.html5grammar.specs.Slice.Behind.{Leaves, StopsAt}
+use Rattle.html5grammar.specs.Slice.Cell.{Ends}
+use Rattle.html5grammar.specs.Start.{OpenTag, Place, Open}
+use Rattle.html5grammar.specs.Start.Place.{InName, BeforeAttribute, InAttributeName, AfterAttributeName, BeforeValue, InValue, AfterQuotedValue, AfterSolidus}
+use Rattle.html5grammar.specs.Start.Mode.{Data}
+use Rattle.html5grammar.specs.Start.Open.{Between, InTag}
+use Rattle.markup5ever.specs.Names.{AttributeOf, plain_name}
+
+-- ---- attributes and their names
+
+-- whether the tag has a last attribute
+abbrev pub has_last : OpenTag → Bool
+has_last tag = not (nat_eq (length tag.last_name) 0)
+
+-- the attribute of that name and value, with no prefix and in no namespace
+abbrev pub attribute : List ℕ → List ℕ → AttributeOf
+attribute name value = record { name = plain_name name; value = value }
+
+-- whether one of the attributes has the name
+unfoldable pub has_attribute : List AttributeOf → List ℕ → Bool
+has_attribute [] name = false
+has_attribute (a ∷ attributes) name = bytes_eq a.name.local name || has_attribute attributes name
+
+-- whether the name of the last attribute stands in the tag already
+unfoldable pub repeats_attribute : OpenTag → Bool
+repeats_attribute tag = has_attribute tag.attributes tag.last_name
+
+-- the tag behind its last attribute: one whose name stands in the tag already is dropped
+unfoldable pub with_last_attribute : OpenTag → OpenTag
+with_last_attribute tag =
+    if not (has_last tag) then tag
+    else if repeats_attribute tag then record tag { had_duplicate_attributes = true; last_name = []; last_value = [] }
+    else record tag { attributes = tag.attributes ++ attribute tag.last_name tag.last_value ∷ []; last_name = []; last_value = [] }
+
+-- the error of a repeated attribute, told where the next one begins or the tag ends
+unfoldable pub duplicate_error : OpenTag → List Told
+duplicate_error tag = where_true (has_last tag && repeats_attribute tag) (Error (codes "Duplicate attribute"))
+
+-- ---- the end of a tag
+
+abbrev pub is_end_tag : TagKind → Bool
+is_end_tag StartTag = false
+is_end_tag EndTag = true
+
+-- the errors of what an end tag should not have
+abbrev pub attributes_error : OpenTag → List Told
+attributes_error tag = where_true (is_end_tag tag.kind && not (nat_eq (length tag.attributes) 0)) (Error (codes "Attributes on an end tag"))
+
+abbrev pub self_closing_error : OpenTag → Bool → List Told
+self_closing_error tag self_closing = where_true (is_end_tag tag.kind && self_closing) (Error (codes "Self-closing end tag"))
+
+unfoldable pub end_tag_errors : OpenTag → Bool → List Told
+end_tag_errors tag self_closing = attributes_error tag ++ self_closing_error tag self_closing
+
+-- the tag that is told
+abbrev pub told_tag : OpenTag → Bool → TagOf
+told_tag tag self_closing = record {
+  kind = tag.kind;
+  name = tag.name;
+  self_closing = self_closing;
+  attributes = tag.attributes;
+  had_duplicate_attributes = tag.had_duplicate_attributes;
+}
+
+-- the `>` of a tag, with errors of its place
+unfoldable pub closing : List Told → OpenTag → Bool → Slice
+closing errors tag self_closing =
+    let closed : OpenTag = with_last_attribute tag in
+    record {
+      cells = Ends (errors ++ (duplicate_error tag ++ end_tag_errors closed self_closing)) (told_tag closed self_closing) ∷ [];
+      behind = Leaves [] (Between Data);
+    }
+
+-- ---- values
+
+-- NUL is an error in names and values, and shown as U+FFFD
+abbrev pub null_error : Bool → State → ℕ → List Told
+null_error exact state c = where_true (c == null) (error_in exact state c)
+
+-- the tag with more of its last attribute's value
+abbrev pub with_value : OpenTag → List ℕ → OpenTag
+with_value tag run = record tag { last_value = tag.last_value ++ flat_map value_bytes run }
+
+abbrev pub quote_of : AttrValueKind → ℕ
+quote_of DoubleQuoted = quotation_mark
+quote_of SingleQuoted = apostrophe
+quote_of Unquoted = greater_than
+
+-- a value in quotes runs to its quote
+unfoldable pub behind_quoted : AttrValueKind → OpenTag → List ℕ → Slice
+behind_quoted kind tag [] = cut_off (InTag (InValue kind) tag)
+behind_quoted kind tag (c ∷ text) =
+    if c == ampersand then no_character (StopsAt []) else one_character [] (InTag AfterQuotedValue tag)
+
+unfoldable pub in_quoted : AttrValueKind → ℕ → Bool
+in_quoted kind c = not ((c == quote_of kind) || (c == ampersand))
+
+unfoldable pub quoted_value : Bool → AttrValueKind → OpenTag → List ℕ → Slice
+quoted_value exact kind tag text =
+    let run : List ℕ = run_of (in_quoted kind) text in
+    with_run (null_error exact (state.AttributeValue kind)) run (behind_quoted kind (with_value tag run) (behind_run (in_quoted kind) text))
+
+-- a value without quotes runs to white space or `>`
+unfoldable pub behind_unquoted : OpenTag → List ℕ → Slice
+behind_unquoted tag [] = cut_off (InTag (InValue Unquoted) tag)
+behind_unquoted tag (c ∷ text) =
+    if c == ampersand then no_character (StopsAt [])
+    else if c == greater_than then closing [] tag false
+    else one_character [] (InTag BeforeAttribute tag)
+
+unfoldable pub in_unquoted : ℕ → Bool
+in_unquoted c = not (is_white_space c || (c == greater_than) || (c == ampersand))
+
+-- the characters that are errors in a value without quotes, with exact errors alone
+unfoldable pub is_odd_in_unquoted : ℕ → Bool
+is_odd_in_unquoted c = (c == quotation_mark) || (c == apostrophe) || (c == less_than) || (c == equals_sign) || (c == grave_accent)
+
+unfoldable pub unquoted_error : Bool → ℕ → List Told
+unquoted_error exact c =
+    where_true ((c == null) || (exact && is_odd_in_unquoted c)) (error_in exact (state.AttributeValue Unquoted) c)
+
+unfoldable pub unquoted_value : Bool → OpenTag → List ℕ → Slice
+unquoted_value exact tag text =
+    let run : List ℕ = run_of in_unquoted text in
+    with_run (unquoted_error exact) run (behind_unquoted (with_value tag run) (behind_run in_unquoted text))
+
+-- a value, behind `=` and white space
+unfoldable pub value : Bool → OpenTag → List ℕ → Slice
+value exact tag [] = cut_off (InTag BeforeValue tag)
+value exact tag (c ∷ text) =
+    if c == quotation_mark then with_character [] (quoted_value exact DoubleQuoted tag text)
+    else if c == apostrophe then with_character [] (quoted_value exact SingleQuoted tag text)
+    else if c == greater_than then closing (error_in exact state.BeforeAttributeValue equals_sign ∷ []) tag false
+    else unquoted_value exact tag (c ∷ text)
+
+-- what white space tells
+abbrev pub silent : ℕ → List Told
+silent c = []
+
+unfoldable pub value_behind_space : Bool → OpenTag → List ℕ → Slice
+value_behind_space exact tag text =
+    with_run silent (run_of is_white_space text) (value exact tag (behind_run is_white_space text))
+
+-- ---- attributes
+
+-- behind an attribute's name and white space
+unfoldable pub value_or_next : Bool → OpenTag → List ℕ → Slice
+value_or_next exact tag [] = cut_off (InTag AfterAttributeName tag)
+value_or_next exact tag (c ∷ text) =
+    if c == equals_sign then with_character [] (value_behind_space exact tag text)
+    else cut_off (InTag AfterAttributeName tag)
+
+unfoldable pub behind_name_and_space : Bool → OpenTag → List ℕ → Slice
+behind_name_and_space exact tag text =
+    with_run silent (run_of is_white_space text) (value_or_next exact tag (behind_run is_white_space text))
+
+-- behind an attribute's name
+unfoldable pub behind_attribute_name : Bool → OpenTag → List ℕ → Slice
+behind_attribute_name exact tag [] = cut_off (InTag InAttributeName tag)
+behind_attribute_name exact tag (c ∷ text) =
+    if is_white_space c then with_character [] (behind_name_and_space exact tag text)
+    else if c == solidus then one_character [] (InTag AfterSolidus tag)
+    else if c == equals_sign then with_character [] (value_behind_space exact tag text)
+    else closing [] tag false
+
+unfoldable pub in_attribute_name : ℕ → Bool
+in_attribute_name c = not (is_white_space c || (c == solidus) || (c == greater_than) || (c == equals_sign))
+
+-- the characters that are errors in an attribute's name, and those that are errors as its first
+unfoldable pub is_odd_in_name : ℕ → Bool
+is_odd_in_name c = (c == null) || (c == quotation_mark) || (c == apostrophe) || (c == less_than)
+
+unfoldable pub is_odd_at_name : ℕ → Bool
+is_odd_at_name c = is_odd_in_name c || (c == equals_sign)
+
+abbrev pub attribute_name_error : Bool → ℕ → List Told
+attribute_name_error exact c = where_true (is_odd_in_name c) (error_in exact state.AttributeName c)
+
+-- the tag with more of its last attribute's name
+abbrev pub with_last_name : OpenTag → List ℕ → OpenTag
+with_last_name tag run = record tag { last_name = tag.last_name ++ flat_map name_bytes run }
+
+-- an attribute behind the first character of its name
+unfoldable pub attribute_behind_first : Bool → OpenTag → List ℕ → Slice
+attribute_behind_first exact tag text =
+    let run : List ℕ = run_of in_attribute_name text in
+    with_run (attribute_name_error exact) run (behind_attribute_name exact (with_last_name tag run) (behind_run in_attribute_name text))
+
+-- ---- the parts of a tag
+
+-- a character that its place in the tag doesn't expect
+unfoldable pub place_error : Bool → Place → ℕ → List Told
+place_error exact AfterSolidus c = where_true (not (c == greater_than)) (error_in exact state.SelfClosingStartTag c)
+place_error exact AfterQuotedValue c =
+    where_true (not (is_white_space c || (c == solidus) || (c == greater_than))) (error_in exact state.AfterAttributeValueQuoted c)
+place_error exact place c = []
+
+-- a character that should not be the first of an attribute's name
+unfoldable pub first_error : Bool → Place → ℕ → List Told
+first_error exact AfterAttributeName c = where_true (is_odd_at_name c) (error_in exact state.AfterAttributeName c)
+first_error exact place c = where_true (is_odd_at_name c) (error_in exact state.BeforeAttributeName c)
+
+abbrev pub is_after_solidus : Place → Bool
+is_after_solidus AfterSolidus = true
+is_after_solidus place = false
+
+-- the part that c begins at a place between two parts
+unfoldable pub part : Bool → Place → OpenTag → ℕ → List ℕ → Slice
+part exact place tag c text =
+    let errors : List Told = place_error exact place c in
+    if c == greater_than then closing errors tag (is_after_solidus place)
+    else if is_white_space c then one_character errors (InTag BeforeAttribute tag)
+    else if c == solidus then one_character errors (InTag AfterSolidus tag)
+    else with_character (errors ++ (first_error exact place c ++ duplicate_error tag)) (attribute_behind_first exact (with_last_name (with_last_attribute tag) (c ∷ [])) text)
+
+-- ---- the name of a tag
+
+unfoldable pub behind_tag_name : OpenTag → List ℕ → Slice
+behind_tag_name tag [] = cut_off (InTag InName tag)
+behind_tag_name tag (c ∷ text) =
+    if is_white_space c then one_character [] (InTag BeforeAttribute tag)
+    else if c == solidus then one_character [] (InTag AfterSolidus tag)
+    else closing [] tag false
+
+unfoldable pub in_tag_name : ℕ → Bool
+in_tag_name c = not (is_white_space c || (c == solidus) || (c == greater_than))
+
+-- the tag with more of its name
+abbrev pub with_name : OpenTag → List ℕ → OpenTag
+with_name tag run = record tag { name = tag.name ++ flat_map name_bytes run }
+
+unfoldable pub tag_name : Bool → OpenTag → List ℕ → Slice
+tag_name exact tag text =
+    let run : List ℕ = run_of in_tag_name text in
+    with_run (null_error exact state.TagName) run (behind_tag_name (with_name tag run) (behind_run in_tag_name text))

@@ -1,0 +1,223 @@
+use super::*;
+use markup5ever::interface::{LocalName, Namespace, QualName};
+use refusing::Refusing;
+use std::test::Fail;
+
+// Whether the sink took a token, and answered to keep on.
+fn told<A: Allocator + Copy>(sink: &mut PrintSink<A>, token: Token<A>, line: u64) -> bool {
+    matches!(
+        sink.process_token(token, line),
+        Ok(TokenSinkResult::Continue)
+    )
+}
+
+fn text_of<A: Allocator>(alloc: A, text: &str) -> Result<Token<A>, AllocError> {
+    Ok(Token::CharacterTokens(String::from_str(alloc, text)?))
+}
+
+fn error_of<A: Allocator>(alloc: A, message: &str) -> Result<Token<A>, AllocError> {
+    Ok(Token::ParseError(String::from_str(alloc, message)?))
+}
+
+fn comment_of<A: Allocator>(alloc: A, text: &str) -> Result<Token<A>, AllocError> {
+    Ok(Token::CommentToken(String::from_str(alloc, text)?))
+}
+
+fn attribute_of<A: Allocator + Copy>(
+    alloc: A,
+    name: &str,
+    value: &str,
+) -> Result<Attribute<A>, AllocError> {
+    let ns = Namespace(String::new(alloc));
+    let local = LocalName(String::from_str(alloc, name)?);
+    let value = String::from_str(alloc, value)?;
+    Ok(Attribute {
+        name: QualName::new(None, ns, local),
+        value,
+    })
+}
+
+// A tag with no more than its name.
+fn bare_tag<A: Allocator + Copy>(
+    alloc: A,
+    kind: TagKind,
+    name: &str,
+) -> Result<Tag<A>, AllocError> {
+    let name = LocalName(String::from_str(alloc, name)?);
+    Ok(Tag {
+        kind,
+        name,
+        self_closing: false,
+        attrs: Vec::new(alloc),
+        had_duplicate_attributes: false,
+    })
+}
+
+fn tag_of<A: Allocator + Copy>(
+    alloc: A,
+    kind: TagKind,
+    name: &str,
+) -> Result<Token<A>, AllocError> {
+    Ok(Token::TagToken(bare_tag(alloc, kind, name)?))
+}
+
+// A start tag with two attributes, and both marks.
+fn full_tag<A: Allocator + Copy>(alloc: A) -> Result<Token<A>, AllocError> {
+    let mut tag = bare_tag(alloc, TagKind::StartTag, "some-long-name-of-a-tag")?;
+    tag.attrs.push(attribute_of(alloc, "href", "?a=\"b\"")?)?;
+    tag.attrs.push(attribute_of(alloc, "\u{1}", "")?)?;
+    tag.self_closing = true;
+    tag.had_duplicate_attributes = true;
+    Ok(Token::TagToken(tag))
+}
+
+// A DOCTYPE with all its parts.
+fn full_doctype<A: Allocator + Copy>(alloc: A) -> Result<Token<A>, AllocError> {
+    let name = String::from_str(alloc, "html")?;
+    let public_id = String::from_str(alloc, "-//W3C//DTD HTML 4.01//EN")?;
+    let system_id = String::from_str(alloc, "a \"quoted\" place")?;
+    Ok(Token::DoctypeToken(Doctype {
+        name: Some(name),
+        public_id: Some(public_id),
+        system_id: Some(system_id),
+        force_quirks: true,
+    }))
+}
+
+#[test]
+fn quotes_bytes(rt: HostRuntime) -> Result<(), Fail> {
+    let quotes = [
+        ("a\"b", "a\\\"b"),
+        ("a\\b", "a\\\\b"),
+        ("\n", "\\n"),
+        ("\u{1}", "\\u{1}"),
+        ("\t", "\\u{9}"),
+        ("\u{1f}", "\\u{1f}"),
+        (" ", " "),
+        ("~\u{7f}\u{80}", "~\\u{7f}\u{80}"),
+        ("\u{e9}\u{1f600}.", "\u{e9}\u{1f600}."),
+        ("\\\"\n\0ab", "\\\\\\\"\\n\\u{0}ab"),
+    ];
+    for (text, quoted) in quotes {
+        let mut sink = PrintSink::new(rt.alloc(), false);
+        assert!(rt; told(&mut sink, text_of(rt.alloc(), text)?, 1));
+        assert!(rt; told(&mut sink, Token::EOFToken, 1));
+        let expected = format!(in rt.alloc(); "text \"{quoted}\"\neof 1\n")?;
+        assert_eq!(rt; sink.page(), expected.as_bytes(), "{quoted}");
+    }
+    Ok(())
+}
+
+#[test]
+fn prints_a_line_each_but_for_texts(rt: HostRuntime) -> Result<(), Fail> {
+    let alloc = rt.alloc();
+    let mut sink = PrintSink::new(alloc, true);
+    assert!(rt; sink.adjusted_current_node_present_but_not_in_html_namespace());
+    assert!(rt; told(&mut sink, tag_of(alloc, TagKind::StartTag, "p")?, 1));
+    assert!(rt; told(&mut sink, text_of(alloc, "")?, 1));
+    assert!(rt; told(&mut sink, error_of(alloc, "Saw \" in state Data")?, 2));
+    assert!(rt; told(&mut sink, text_of(alloc, "one ")?, 2));
+    assert!(rt; told(&mut sink, text_of(alloc, "")?, 2));
+    assert!(rt; told(&mut sink, text_of(alloc, "two\n")?, 3));
+    assert!(rt; told(&mut sink, tag_of(alloc, TagKind::EndTag, "p")?, 120));
+    assert!(rt; told(&mut sink, Token::EOFToken, u64::MAX));
+    assert!(rt; sink.end().is_ok());
+    let expected =
+        "start 1 \"p\"\nerror 2 \"Saw \\\" in state Data\"\ntext \"one two\\n\"\nend 120 \"p\"\neof 18446744073709551615\n";
+    assert_eq!(rt; sink.page(), expected.as_bytes());
+    Ok(())
+}
+
+// Tokens, and the line of each where it comes at line 7 behind the open text "x".
+fn worked_lines<A: Allocator + Copy>(
+    alloc: A,
+) -> Result<Vec<(Token<A>, &'static str), A>, AllocError> {
+    let mut duplicates = bare_tag(alloc, TagKind::EndTag, "b")?;
+    duplicates.attrs.push(attribute_of(alloc, "c", "d\n")?)?;
+    duplicates.had_duplicate_attributes = true;
+    let mut closing = bare_tag(alloc, TagKind::StartTag, "br")?;
+    closing.self_closing = true;
+    let mut lines = Vec::new(alloc);
+    lines.push((tag_of(alloc, TagKind::StartTag, "p")?, "start 7 \"p\"\n"))?;
+    lines.push((
+        full_tag(alloc)?,
+        "start 7 \"some-long-name-of-a-tag\" \"href\"=\"?a=\\\"b\\\"\" \"\\u{1}\"=\"\" self-closing duplicates\n",
+    ))?;
+    lines.push((
+        Token::TagToken(duplicates),
+        "end 7 \"b\" \"c\"=\"d\\n\" duplicates\n",
+    ))?;
+    lines.push((Token::TagToken(closing), "start 7 \"br\" self-closing\n"))?;
+    lines.push((Token::DoctypeToken(Doctype::default()), "doctype 7 - - -\n"))?;
+    lines.push((
+        full_doctype(alloc)?,
+        "doctype 7 \"html\" \"-//W3C//DTD HTML 4.01//EN\" \"a \\\"quoted\\\" place\" quirks\n",
+    ))?;
+    lines.push((
+        comment_of(alloc, " a \"b\"\n")?,
+        "comment 7 \" a \\\"b\\\"\\n\"\n",
+    ))?;
+    lines.push((comment_of(alloc, "")?, "comment 7 \"\"\n"))?;
+    lines.push((error_of(alloc, "wrong")?, "error 7 \"wrong\"\n"))?;
+    lines.push((Token::NullCharacterToken, "null 7\n"))?;
+    lines.push((Token::EOFToken, "eof 7\n"))?;
+    Ok(lines)
+}
+
+#[test]
+fn prints_the_worked_lines(rt: HostRuntime) -> Result<(), Fail> {
+    for (token, line) in worked_lines(rt.alloc())? {
+        let mut sink = PrintSink::new(rt.alloc(), false);
+        assert!(rt; told(&mut sink, text_of(rt.alloc(), "x")?, 1), "{line}");
+        assert!(rt; told(&mut sink, token, 7), "{line}");
+        let expected = format!(in rt.alloc(); "text \"x\"\n{line}")?;
+        assert_eq!(rt; sink.page(), expected.as_bytes(), "{line}");
+    }
+    Ok(())
+}
+
+// Tokens of each kind. Most are behind a text, so they close it.
+fn one_of_each<A: Allocator + Copy>(alloc: A) -> Result<Vec<Token<A>, A>, AllocError> {
+    let mut tokens = Vec::new(alloc);
+    tokens.push(text_of(alloc, "a text with \u{1} and \" in it")?)?;
+    tokens.push(error_of(alloc, "an error with\nlines in it")?)?;
+    tokens.push(full_doctype(alloc)?)?;
+    tokens.push(text_of(alloc, "a text")?)?;
+    tokens.push(full_tag(alloc)?)?;
+    tokens.push(text_of(
+        alloc,
+        "\u{7f}\u{7f}\u{7f}\u{7f}\u{7f}\u{7f}\u{7f}\u{7f}\u{7f}",
+    )?)?;
+    tokens.push(Token::NullCharacterToken)?;
+    tokens.push(comment_of(alloc, "a comment with \u{1f} in it")?)?;
+    tokens.push(Token::EOFToken)?;
+    Ok(tokens)
+}
+
+#[test]
+fn a_refused_growth_leaves_no_part_of_a_line(rt: HostRuntime) -> Result<(), Fail> {
+    let mut refused = 0u64;
+    for admitted in 0..1000u64 {
+        let heap = Refusing::new(rt.alloc(), admitted);
+        let Ok(tokens) = one_of_each(&heap) else {
+            continue;
+        };
+        let mut sink: PrintSink<&Refusing<Global>> = PrintSink::new(&heap, false);
+        for token in tokens {
+            let before = Vec::from_slice(rt.alloc(), sink.page())?;
+            if told(&mut sink, token, 10) {
+                assert!(rt; before.len() < sink.page().len(), "after {admitted}");
+                assert!(rt; sink.page().starts_with(&before), "after {admitted}");
+            } else {
+                refused = refused.wrapping_add(1);
+                assert!(rt; heap.has_refused(), "after {admitted}");
+                assert_eq!(rt; sink.page(), before.as_slice(), "after {admitted}");
+            }
+        }
+        if !heap.has_refused() {
+            break;
+        }
+    }
+    assert!(rt; refused > 5);
+    Ok(())
+}
