@@ -13,7 +13,6 @@ use html5ever_interface::interface::token::{
 use markup5ever::count::Count;
 use markup5ever::interface::Attribute;
 use std::alloc::{AllocError, Allocator, Global};
-use std::convert::Infallible;
 use std::marker::Model;
 
 #[cfg(test)]
@@ -400,7 +399,7 @@ impl<A: Allocator + Copy> TokenSink<Token<A>> for PrintSink<A> {
     ghost use Rattle.std.specs.Prelude.{◌≡◌};
     ghost use Rattle.html5print.specs.Page.{Page, page_step, page_reply, page_faulted, page_joins, page_empty, page_any_line, page_keeps_on};
 
-    type Handle = Infallible;
+    type Handle = ();
 
     ghost State = { Page };
 
@@ -432,7 +431,7 @@ impl<A: Allocator + Copy> TokenSink<Token<A>> for PrintSink<A> {
         &mut self,
         token: Token<A>,
         line_number: u64,
-    ) -> Result<TokenSinkResult<Infallible, String<A>>, SinkFault> {
+    ) -> Result<TokenSinkResult<(), String<A>>, SinkFault> {
         let printed = self.page.len();
         match push_token(&mut self.page, self.in_text, &token, line_number) {
             Ok(()) => {

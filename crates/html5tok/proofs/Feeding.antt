@@ -5,14 +5,14 @@ use Rattle.std.proofs.Math.Seq.{take-add}
 use Rattle.std.proofs.lemmas.List.{append-nil, append_assoc}
 use Rattle.std.proofs.lemmas.Str.{chars-append, chars-nil}
 use Rattle.markup5ever.specs.BufferQueue.{TextQueue}
-use Rattle.html5tok.specs.Page.{Printer, page_step}
+use Rattle.html5print.specs.Page.{Printer, page_step, page_reply}
 use Rattle.html5ever.specs.Tokenizer.{Tokenizing, ReadsOn}
 use Rattle.html5tok.proofs.Cuts.{IsCut, IsCut-start, IsCut-front}
 
 -- the first bytes of the text were fed, up to a place between two characters
 pub record FedTo (first now : Tokenizing Printer) (text : List ℕ) (start : ℕ) (queue : TextQueue) : Type 0 where
   pub cut : IsCut text start
-  pub reads : ReadsOn (λ (sink : Printer). sink.page) page_step first now (chars (take start text))
+  pub reads : ReadsOn (λ (sink : Printer). sink.page) page_step (page_reply {H = Unit {0}}) first now (chars (take start text))
   pub exact : now.exact ≡ first.exact
   pub going_on : now.ended ≡ false
   pub not_failed : now.failed ≡ false
@@ -31,7 +31,7 @@ FedTo-start first text queue utf8 going_on not_failed waiting = record {
 
 pub FedTo-more : (first now next : Tokenizing Printer) (text piece : List ℕ) (start len : ℕ) (queue later : TextQueue)
     → FedTo first now text start queue → IsUtf8 text → IsCut text (start + len) → piece ≡ take len (drop start text)
-    → ReadsOn (λ (sink : Printer). sink.page) page_step now next (chars piece)
+    → ReadsOn (λ (sink : Printer). sink.page) page_step (page_reply {H = Unit {0}}) now next (chars piece)
     → next.exact ≡ now.exact → next.ended ≡ false → next.failed ≡ false → later.text ≡ []
     → FedTo first next text (start + len) later
 FedTo-more first now next text piece start len queue later fed utf8 cut is_piece reads exact going_on not_failed waiting =

@@ -1,36 +1,87 @@
 -- The page of a whole reading, and what is known of the bytes of a reader that was read to its end.
-use Rattle.std.proofs.Common.{◌≡◌, ℕ, Bool, List, [], ◌∷◌, ◌++◌, Option, None, Some, refl, ap, sym, ◌∙◌}
-use Rattle.std.specs.Prelude.{IfSome}
+use Rattle.std.proofs.Common.{◌≡◌, ℕ, Bool, List, [], ◌∷◌, ◌++◌, Option, None, Some, refl, ap, sym, ◌∙◌, subst}
+use Rattle.std.specs.Prelude.{IfSome, map, codes}
 use Rattle.std.specs.Io.KnownBytes.{Consumes, IsAtEnd, Keeps}
 use Rattle.std.specs.Str.{chars}
-use Rattle.std.proofs.lemmas.List.{append-nil}
+use Rattle.std.proofs.lemmas.List.{append-nil, append_assoc, map-append}
+use Rattle.html5ever_interface.specs.Sink.{Message, stepped, on_line}
+use Rattle.html5ever_interface.specs.Token.{Told, Reply}
+use Rattle.html5ever_interface.specs.Token.Told.{Text, End}
+use Rattle.html5ever_interface.specs.declared.states.State.TheVariants as state
+use Rattle.html5grammar.specs.EndOfInput.{told_at_end_of, state_at}
+use Rattle.html5grammar.specs.ErrorText.{end_error_in}
+use Rattle.html5grammar.specs.NormalisedText.{normalised, line_after}
+use Rattle.html5grammar.specs.Reading.{Event, end_events, read, reading, told, messages, after}
+use Rattle.html5grammar.specs.Start.{Start, Open, start_of}
+use Rattle.html5grammar.specs.Start.Open.{Between, LessThan, LessThanSolidus, InTag, NotBuilt}
+use Rattle.html5grammar.proofs.ReadingLemmas.{reading-events}
+use Rattle.html5grammar.proofs.Traces.{messages-append}
+use Rattle.html5ever.specs.Steps.{IsBuilt}
+use Rattle.html5ever.specs.Tokenizer.{Tokenizing, StandsAt}
+use Rattle.html5print.specs.Page.{Page, Printer, page_step, page_reply, blank_page}
+use Rattle.html5print.proofs.Pages.{lines-stepped}
 use Rattle.html5tok.specs.Device.{ConsumesBeginning}
-use Rattle.html5grammar.specs.NormalisedText.{normalised}
-use Rattle.html5tok.specs.Page.{Page, page_step, blank_page}
-use Rattle.html5tok.specs.Printing.{printed_reading}
-use Rattle.html5grammar.specs.Reading.{end_events, reading, told, messages, line_after}
-use Rattle.html5ever_interface.specs.Sink.{Message, stepped}
-use Rattle.html5grammar.specs.Start.{Start, start_of}
-use Rattle.html5ever_interface.specs.Token.Told.{End}
-use Rattle.html5tok.specs.declared.print.Settings.{Settings}
-use Rattle.html5tok.proofs.Pages.{lines-stepped}
-use Rattle.html5grammar.proofs.ReadingLemmas.{reading-events, messages-append}
+use Rattle.html5tok.specs.Printing.{IsWholeBuilt, printed_reading}
+use Rattle.html5tok.specs.Settings.{SettingsOf}
 
--- a reading ends with the end of input
-reading-ends : (exact : Bool) (K : Start) (X : List ℕ)
-    → messages (reading exact K X) ≡ messages (told exact K X) ++ record { token = End; line = line_after K (normalised K X) } ∷ []
-unfolding end_events
-reading-ends exact K X =
-    ap (λ E. messages E) (reading-events exact K X) ∙ messages-append (told exact K X) (end_events K (normalised K X))
+-- the end of what was built tells the end last
+EndsWithEnd : List Told → Type 0
+EndsWithEnd tokens = (front : List Told) × (tokens ≡ front ++ End ∷ [])
+
+told_at_end_of-ends : (exact : Bool) (opened : Open) → IsBuilt opened → EndsWithEnd (told_at_end_of exact opened)
+unfolding told_at_end_of EndsWithEnd
+told_at_end_of-ends exact (Between mode) built = ([], refl)
+told_at_end_of-ends exact LessThan built = (end_error_in exact state.TagOpen ∷ Text (codes "<") ∷ [], refl)
+told_at_end_of-ends exact LessThanSolidus built = (end_error_in exact state.EndTagOpen ∷ Text (codes "<") ∷ Text (codes "/") ∷ [], refl)
+told_at_end_of-ends exact (InTag place tag) built = (end_error_in exact (state_at place) ∷ [], refl)
+told_at_end_of-ends exact NotBuilt built = absurd built
+
+messages-map : (f : Told → Event) (line : ℕ) → ((t : Told) → (f t).message ≡ record { token = t; line = line }) → (ts : List Told) → messages (map f ts) ≡ on_line line ts
+messages-map f line h [] = refl
+messages-map f line h (t ∷ ts) = rw (h t) (ap (λ l. record { token = t; line = line } ∷ l) (messages-map f line h ts))
+
+-- a reading of what is built ends with the end of input
+module _ (exact : Bool) (K : Start) (p : Page) (X : List ℕ) where
+  abbrev reply : Page → Told → ℕ → Reply (Unit {0})
+  reply = page_reply
+
+  front-messages : List Told → List Message
+  front-messages tokens = messages (told page_step reply exact K p X) ++ on_line (line_after K.input (normalised K.input X)) tokens
+
+  reading-ends : (tokens : List Told) → told_at_end_of exact (read page_step reply exact K p X).opened ≡ tokens ++ End ∷ []
+      → messages (reading page_step reply exact K p X)
+      ≡ front-messages tokens ++ record { token = End; line = line_after K.input (normalised K.input X) } ∷ []
+  unfolding end_events front-messages
+  reading-ends tokens ends =
+      let line : ℕ = line_after K.input (normalised K.input X) in
+      ap (λ E. messages E) (reading-events page_step reply exact K p X)
+      ∙ messages-append (told page_step reply exact K p X) (end_events page_step reply exact K (read page_step reply exact K p X).opened (normalised K.input X))
+      ∙ ap (λ M. messages (told page_step reply exact K p X) ++ M)
+      (messages-map _ line (λ t. refl) (told_at_end_of exact (read page_step reply exact K p X).opened)
+      ∙ ap (on_line line) ends
+      ∙ map-append (λ (token : Told). record { token = token; line = line }) tokens (End ∷ []))
+      ∙ sym (append_assoc (messages (told page_step reply exact K p X)) (on_line line tokens) (record { token = End; line = line } ∷ []))
 
 -- a page that a reading was printed to has its lines
-pub printed-page : (exact : Bool) (settings : Settings) (p : Page) (foreign : Bool) (bytes : List ℕ)
-    → exact ≡ settings.opts.exact_errors → p ≡ blank_page foreign
-    → (stepped page_step p (messages (reading exact (start_of settings.opts) (chars bytes)))).lines ≡ printed_reading settings bytes
-unfolding printed_reading
-printed-page exact settings p foreign bytes same blank =
-    let M : List Message = messages (reading settings.opts.exact_errors (start_of settings.opts) (chars bytes)) in
-    rw (same, blank) (lines-stepped (blank_page foreign) M _ _ refl (reading-ends settings.opts.exact_errors (start_of settings.opts) (chars bytes)))
+pub printed-page : (exact : Bool) (settings : SettingsOf) (p : Page) (bytes : List ℕ)
+    → exact ≡ settings.opts.exact_errors → p ≡ blank_page settings.foreign → IsWholeBuilt settings bytes
+    → (stepped page_step p (messages (reading page_step (page_reply {H = Unit {0}}) exact (start_of settings.opts) p (chars bytes)))).lines ≡ printed_reading settings bytes
+unfolding printed_reading EndsWithEnd
+printed-page exact settings p bytes same blank built =
+    let M : List Message = messages (reading page_step (page_reply {H = Unit {0}}) settings.opts.exact_errors (start_of settings.opts) (blank_page settings.foreign) (chars bytes)) in
+    let ends = told_at_end_of-ends settings.opts.exact_errors (read page_step (page_reply {H = Unit {0}}) settings.opts.exact_errors (start_of settings.opts) (blank_page settings.foreign) (chars bytes)).opened built in
+    rw (same, blank) (lines-stepped (blank_page settings.foreign) M _ _ refl
+    (reading-ends settings.opts.exact_errors (start_of settings.opts) (blank_page settings.foreign) (chars bytes) ends.0 ends.1))
+
+-- a tokenizer that stands behind the text met nothing that isn't built yet
+pub built-reading : (settings : SettingsOf) (t : Tokenizing Printer) (p : Page) (bytes : List ℕ)
+    → t.exact ≡ settings.opts.exact_errors → p ≡ blank_page settings.foreign
+    → StandsAt (λ (sink : Printer). sink.page) page_step (page_reply {H = Unit {0}}) t (start_of settings.opts) p (chars bytes)
+    → IsWholeBuilt settings bytes
+built-reading settings t p bytes exact blank stands =
+    let position : t.position ≡ after page_step (page_reply {H = Unit {0}}) settings.opts.exact_errors (start_of settings.opts) (blank_page settings.foreign) (chars bytes) =
+    stands.position ∙ rw (exact, blank) refl in
+    subst (λ (P : Start). IsBuilt P.opened) position stands.built
 
 -- bytes that were read to their end are all that there was
 pub Consumes-whole : (old new : Option (List ℕ)) (bytes : List ℕ) → IfSome old (λ xs. bytes ≡ xs) → IsAtEnd new → ConsumesBeginning old new → Consumes old new bytes

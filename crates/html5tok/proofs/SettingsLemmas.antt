@@ -11,50 +11,49 @@ use Rattle.std.specs.Option.{option_map, option_and_then, option_or}
 use Rattle.std.specs.Str.{bytes_eq, all_ascii_digits}
 use Rattle.std.proofs.lemmas.Bool.{false_from_ne_true}
 use Rattle.std.proofs.lemmas.Slice.Eq.{bytes_eq-Decides}
-use Rattle.html5ever_interface.specs.declared.options.State.{State}
-use Rattle.html5tok.specs.declared.print.Settings.{Settings}
-use Rattle.html5tok.specs.Settings.{state_said, cut_said, flag_said, value_said, said_after, with_exact_errors, with_byte_order_mark, with_state, with_cut}
+use Rattle.html5ever_interface.specs.declared.states.State.{State}
+use Rattle.html5tok.specs.Settings.{SettingsOf, state_said, cut_said, flag_said, value_said, said_after, with_exact_errors, with_byte_order_mark, with_state, with_cut}
 
 option_or-none : {X : Type 0} (o : Option X) → option_or o None ≡ o
 option_or-none None = refl
 option_or-none (Some x) = refl
 
-pub said_after-exact : (s : Settings) (W : List (List ℕ)) → said_after s (codes "--exact" ∷ W) ≡ said_after (with_exact_errors s) W
+pub said_after-exact : (s : SettingsOf) (W : List (List ℕ)) → said_after s (codes "--exact" ∷ W) ≡ said_after (with_exact_errors s) W
 unfolding said_after flag_said value_said
 said_after-exact s [] = refl
 said_after-exact s (v ∷ W) = option_or-none (said_after (with_exact_errors s) (v ∷ W))
 
-pub said_after-keep_bom : (s : Settings) (W : List (List ℕ)) → said_after s (codes "--keep-bom" ∷ W) ≡ said_after (with_byte_order_mark s) W
+pub said_after-keep_bom : (s : SettingsOf) (W : List (List ℕ)) → said_after s (codes "--keep-bom" ∷ W) ≡ said_after (with_byte_order_mark s) W
 unfolding said_after flag_said value_said
 said_after-keep_bom s [] = refl
 said_after-keep_bom s (v ∷ W) = option_or-none (said_after (with_byte_order_mark s) (v ∷ W))
 
-pub said_after-no_state : (s : Settings) → said_after s (codes "--state" ∷ []) ≡ None
+pub said_after-no_state : (s : SettingsOf) → said_after s (codes "--state" ∷ []) ≡ None
 unfolding said_after flag_said value_said
 said_after-no_state s = refl
 
-pub said_after-state : (s : Settings) (v : List ℕ) (W : List (List ℕ)) → said_after s (codes "--state" ∷ v ∷ W) ≡ option_and_then (λ state. said_after (with_state s state) W) (state_said v)
+pub said_after-state : (s : SettingsOf) (v : List ℕ) (W : List (List ℕ)) → said_after s (codes "--state" ∷ v ∷ W) ≡ option_and_then (λ state. said_after (with_state s state) W) (state_said v)
 unfolding said_after flag_said value_said
 said_after-state s v W = elim (state_said v) as (λ o. option_and_then (λ t. said_after t W) (option_map (with_state s) o) ≡ option_and_then (λ state. said_after (with_state s state) W) o) [ None ↦ refl | Some state ↦ refl ]
 
-pub said_after-no_cut : (s : Settings) → said_after s (codes "--cut" ∷ []) ≡ None
+pub said_after-no_cut : (s : SettingsOf) → said_after s (codes "--cut" ∷ []) ≡ None
 unfolding said_after flag_said value_said
 said_after-no_cut s = refl
 
-pub said_after-cut : (s : Settings) (v : List ℕ) (W : List (List ℕ)) → said_after s (codes "--cut" ∷ v ∷ W) ≡ option_and_then (λ cut. said_after (with_cut s cut) W) (cut_said v)
+pub said_after-cut : (s : SettingsOf) (v : List ℕ) (W : List (List ℕ)) → said_after s (codes "--cut" ∷ v ∷ W) ≡ option_and_then (λ cut. said_after (with_cut s cut) W) (cut_said v)
 unfolding said_after flag_said value_said
 said_after-cut s v W = elim (cut_said v) as (λ o. option_and_then (λ t. said_after t W) (option_map (with_cut s) o) ≡ option_and_then (λ cut. said_after (with_cut s cut) W) o) [ None ↦ refl | Some cut ↦ refl ]
 
 differs : (w p : List ℕ) → w ≢ p → bytes_eq w p ≡ false
 differs w p n = false_from_ne_true (bytes_eq w p) (λ e. n ((bytes_eq-Decides w p).0 e))
 
-pub said_after-unknown : (s : Settings) (w : List ℕ) (W : List (List ℕ)) → w ≢ codes "--exact" → w ≢ codes "--keep-bom" → w ≢ codes "--state" → w ≢ codes "--cut" → said_after s (w ∷ W) ≡ None
+pub said_after-unknown : (s : SettingsOf) (w : List ℕ) (W : List (List ℕ)) → w ≢ codes "--exact" → w ≢ codes "--keep-bom" → w ≢ codes "--state" → w ≢ codes "--cut" → said_after s (w ∷ W) ≡ None
 unfolding said_after flag_said value_said
 said_after-unknown s w [] a b c d = rw (differs w (codes "--exact") a, differs w (codes "--keep-bom") b) refl
 said_after-unknown s w (v ∷ W) a b c d = rw (differs w (codes "--exact") a, differs w (codes "--keep-bom") b, differs w (codes "--state") c, differs w (codes "--cut") d) refl
 
 -- the same in a loop over texts, where `all` is what the words say
-module _ {Z : Type 0} (s : Settings) (texts rest : List (String Z)) (word : String Z) (all : Option Settings) (h : said_after s (map string_bytes texts) ≡ all) (e : texts ≡ word ∷ rest) where
+module _ {Z : Type 0} (s : SettingsOf) (texts rest : List (String Z)) (word : String Z) (all : Option SettingsOf) (h : said_after s (map string_bytes texts) ≡ all) (e : texts ≡ word ∷ rest) where
   first : (p : List ℕ) → string_bytes word ≡ p → said_after s (p ∷ map string_bytes rest) ≡ all
   first p f = sym (ap (λ l. said_after s (map string_bytes l)) e ∙ ap (λ q. said_after s (q ∷ map string_bytes rest)) f) ∙ h
 
@@ -93,16 +92,10 @@ module _ {Z : Type 0} (s : Settings) (texts rest : List (String Z)) (word : Stri
     read-bad_cut f v = sym (ap (λ o. option_and_then (λ t. said_after (with_cut s t) (map string_bytes later)) o) v) ∙ cut_first f
 
 -- behind the last word
-module _ {Z : Type 0} (s : Settings) (texts : List (String Z)) (all : Option Settings) (h : said_after s (map string_bytes texts) ≡ all) (e : texts ≡ []) where
-  last : (o : Option State) → s.opts.initial_state ≡ o → (if is_some o then Some s else None) ≡ all
+module _ {Z : Type 0} (s : SettingsOf) (texts : List (String Z)) (all : Option SettingsOf) (h : said_after s (map string_bytes texts) ≡ all) (e : texts ≡ []) where
+  pub read-end : Some s ≡ all
   unfolding said_after
-  last o i = sym (ap (λ l. said_after s (map string_bytes l)) e ∙ ap (λ t. if is_some t then Some s else None) i) ∙ h
-
-  pub read-end : (state : State) → s.opts.initial_state ≡ Some state → Some s ≡ all
-  read-end state i = last (Some state) i
-
-  pub read-no_end : s.opts.initial_state ≡ None → None ≡ all
-  read-no_end i = last None i
+  read-end = sym (ap (λ l. said_after s (map string_bytes l)) e) ∙ h
 
 own : IsNumeralModel (λ ds. all_ascii_digits ds ≡ true) (digits_value 10)
 own = numerals_by_value _ tells_all_ascii_digits

@@ -4,7 +4,7 @@ use Rattle.std.specs.Io.KnownBytes.{Appends}
 use Rattle.html5tok.specs.Device.{AppendsBeginning, device_failures}
 use Rattle.html5tok.specs.Printing.{PrintsReading, PrintsBeginning}
 use Rattle.html5tok.specs.Settings.{settings_said}
-use Rattle.html5tok.specs.declared.fault.Fault.TheVariants.{NotUtf8, Memory, Device}
+use Rattle.html5tok.specs.declared.fault.Fault.TheVariants.{NotUtf8, Memory, Device, NotYet}
 use Rattle.html5tok.specs.declared.run.Ending.{Ending}
 use Rattle.html5tok.specs.declared.run.Ending.TheVariants.{Printed, Usage, Faulted}
 
@@ -14,6 +14,7 @@ status_of Usage = 2
 status_of (Faulted NotUtf8) = 3
 status_of (Faulted Memory) = 5
 status_of (Faulted Device) = 6
+status_of (Faulted NotYet) = 7
 
 abbrev pub line_of : Ending → List ℕ
 line_of Printed = []
@@ -21,6 +22,7 @@ line_of Usage = codes "usage: html5tok [--exact] [--keep-bom] [--foreign] [--sta
 line_of (Faulted NotUtf8) = codes "input is not UTF-8\n"
 line_of (Faulted Memory) = codes "out of memory\n"
 line_of (Faulted Device) = codes "read or write failed\n"
+line_of (Faulted NotYet) = codes "not built yet\n"
 
 -- how many failures of its devices an ending tells
 abbrev pub failures_of : Ending → ℕ

@@ -3,30 +3,39 @@ use Rattle.std.specs.Prelude.{ℕ, List, Option}
 use Rattle.std.specs.Io.KnownBytes.{Appends, Consumes, IsAtEnd, Keeps}
 use Rattle.std.specs.Str.{IsUtf8, chars}
 use Rattle.html5tok.specs.Device.{AppendsBeginning}
-use Rattle.html5tok.specs.Printed.{printed}
-use Rattle.html5grammar.specs.Reading.{reading, messages}
+use Rattle.html5print.specs.Page.{blank_page, page_step, page_reply}
+use Rattle.html5print.specs.Printed.{printed}
+use Rattle.html5grammar.specs.Reading.{reading, messages, after}
 use Rattle.html5grammar.specs.Start.{start_of}
-use Rattle.html5tok.specs.declared.print.Settings.{Settings}
+use Rattle.html5tok.specs.Settings.{SettingsOf}
+use Rattle.html5ever.specs.Steps.{IsBuilt}
 
 -- the printed lines of the reading of a text, whose bytes are given: the cut is not in it
-unfoldable pub printed_reading : Settings → List ℕ → List ℕ
+unfoldable pub printed_reading : SettingsOf → List ℕ → List ℕ
 printed_reading settings bytes =
-    printed (messages (reading settings.opts.exact_errors (start_of settings.opts) (chars bytes)))
+    printed (messages (reading page_step (page_reply {H = Unit {0}}) settings.opts.exact_errors (start_of settings.opts) (blank_page settings.foreign) (chars bytes)))
+
+-- the text of the bytes meets nothing that isn't built yet
+abbrev pub IsWholeBuilt : SettingsOf → List ℕ → Type 0
+IsWholeBuilt settings bytes =
+    IsBuilt (after page_step (page_reply {H = Unit {0}}) settings.opts.exact_errors (start_of settings.opts) (blank_page settings.foreign) (chars bytes)).opened
 
 -- the reader was read to its end, what it gave is UTF-8, and what was written is its printed reading
-pub record PrintsReading (settings : Settings) (unread left written after : Option (List ℕ)) : Type 0 where
+pub record PrintsReading (settings : SettingsOf) (unread left written after : Option (List ℕ)) : Type 0 where
   pub bytes : List ℕ
   pub consumed : Consumes unread left bytes
   pub at_end : IsAtEnd left
   pub utf8 : IsUtf8 bytes
+  pub built : IsWholeBuilt settings bytes
   pub printed : Appends written after (printed_reading settings bytes)
 
 -- the same, but only a beginning was written
-pub record PrintsBeginning (settings : Settings) (unread left written after : Option (List ℕ)) : Type 0 where
+pub record PrintsBeginning (settings : SettingsOf) (unread left written after : Option (List ℕ)) : Type 0 where
   pub bytes : List ℕ
   pub consumed : Consumes unread left bytes
   pub at_end : IsAtEnd left
   pub utf8 : IsUtf8 bytes
+  pub built : IsWholeBuilt settings bytes
   pub printed : AppendsBeginning written after (printed_reading settings bytes)
 
 -- the reader was read to its end, what it gave is no UTF-8, and nothing was written

@@ -1,31 +1,27 @@
 //! The words of the command line.
 ghost use Rattle.std.specs.Prelude.{◌≡◌, ◌<◌, ◌^◌, false, IfSome, map, string_bytes};
-ghost use Rattle.html5tok.specs.Settings.{state_said, cut_said, settings_said};
+ghost use Rattle.std.specs.Option.{option_map};
+ghost use Rattle.html5ever.specs.Tokenizer.{CanStart};
+ghost use Rattle.html5tok.specs.Settings.{said_by, state_said, cut_said, settings_said};
 
 use crate::print::Settings;
-use html5ever_interface::options::{State, TokenizerOpts};
+use html5ever_interface::options::TokenizerOpts;
+use html5ever_interface::states::State;
 use std::alloc::Allocator;
-
-// What the words before the first one say: no state yet.
-const UNSAID: Settings = Settings {
-    opts: TokenizerOpts {
-        exact_errors: false,
-        discard_bom: true,
-        initial_state: None,
-    },
-    foreign: false,
-    cut: 0,
-};
 
 /// The settings that the words behind the program's name say, if they are ones that it knows. Of an
 /// option that is given more than once the last counts.
-pub fn settings_of<A: Allocator>(words: &[String<A>]) -> Option<Settings>
-    ensures said { result ≡ settings_said (map string_bytes words.now) }
-    ensures state { IfSome result (λ settings. settings.opts.initial_state ≡ Some State.Plaintext) }
+pub fn settings_of<A: Allocator>(words: &[String<A>]) -> Option<Settings<A>>
+    ensures said { option_map said_by result ≡ settings_said (map string_bytes words.now) }
+    ensures state { IfSome result (λ settings. CanStart settings.opts.initial_state) }
     ensures foreign { IfSome result (λ settings. settings.foreign ≡ false) }
     ensures cut { IfSome result (λ settings. settings.cut < 2 ^ 32) }
 {
-    let mut settings = UNSAID;
+    let mut settings = Settings {
+        opts: TokenizerOpts::default(),
+        foreign: false,
+        cut: 0,
+    };
     let mut words = words.iter();
     while let Some(word) = words.next() {
         match word.as_str() {
@@ -36,18 +32,17 @@ pub fn settings_of<A: Allocator>(words: &[String<A>]) -> Option<Settings>
             _ => return None,
         }
     }
-    match settings.opts.initial_state {
-        Some(State::Plaintext) => Some(settings),
-        None => None,
-    }
+    Some(settings)
 }
 
 // The state of that name.
 #[tactic(auto, unfolding(crate::specs::Settings::state_said))]
 fn state_of(name: &str) -> Option<State>
-    ensures { result ≡ state_said name.now }
+    ensures said { result ≡ state_said name.now }
+    ensures state { CanStart result }
 {
     match name {
+        "data" => Some(State::Data),
         "plaintext" => Some(State::Plaintext),
         _ => None,
     }

@@ -4,10 +4,7 @@
 mod arguments;
 mod device;
 mod fault;
-#[cfg(test)]
-mod feed_tests;
 mod print;
-mod print_sink;
 mod run;
 
 use crate::device::{ReadSource, WriteTarget};

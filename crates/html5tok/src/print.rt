@@ -1,24 +1,26 @@
 ghost use Rattle.std.specs.Prelude.{◌≡◌, ◌≢◌, ◌+◌, ◌<◌, ◌≤◌, ◌⊎◌, [], false, IfOk, IfErr, OnOk, OnErr, length, take, drop, string_bytes};
 ghost use Rattle.std.specs.Io.KnownBytes.{Keeps};
 ghost use Rattle.std.specs.Str.{IsUtf8, chars};
-ghost use Rattle.html5tok.specs.Device.{reported_failures};
-ghost use Rattle.html5tok.specs.Page.{page_step};
-ghost use Rattle.html5tok.specs.Printing.{printed_reading, PrintsReading, PrintsBeginning, PrintsNothing};
-ghost use Rattle.html5ever.specs.Tokenizer.{ReadsOn};
+ghost use Rattle.html5tok.specs.Device.{IsRefusal, reported_failures};
+ghost use Rattle.html5print.specs.Page.{page_step, page_reply};
+ghost use Rattle.html5tok.specs.Settings.{said_by};
+ghost use Rattle.html5tok.specs.Printing.{printed_reading, IsWholeBuilt, PrintsReading, PrintsBeginning, PrintsNothing};
+ghost use Rattle.html5ever.specs.Tokenizer.{CanStart, ReadsOn};
 
 use crate::device::{Source, Target, read_to_end, write_all};
 use crate::fault::Fault;
-use crate::print_sink::PrintSink;
+use html5print::print_sink::PrintSink;
 use html5ever::error::TokenizerError;
 use html5ever::tokenizer::Tokenizer;
-use html5ever_interface::options::{State, TokenizerOpts};
+use html5ever_interface::options::TokenizerOpts;
 use markup5ever::buffer_queue::BufferQueue;
-use std::alloc::Allocator;
+use std::alloc::{Allocator, Global};
 
 /// How the program reads its input.
-#[derive(Clone, Copy, Debug, PartialEq, Eq)]
-pub struct Settings {
-    pub opts: TokenizerOpts,
+#[derive(Drop)]
+#[derive_where(Debug, PartialEq, Eq)]
+pub struct Settings<A: Allocator = Global> {
+    pub opts: TokenizerOpts<A>,
     /// The sink's answer about foreign content.
     pub foreign: bool,
     /// How many characters are fed at once, and 0 for all of them.
@@ -28,10 +30,11 @@ pub struct Settings {
 // The fault that a refused call of the tokenizer means: its sink fails for want of memory alone.
 fn fault_of(error: TokenizerError) -> Fault
     requires { error ≢ TokenizerError.Failed }
-    ensures { result ≡ Fault.Memory }
+    ensures { IsRefusal result }
 {
     match error {
         TokenizerError::Memory | TokenizerError::Sink => Fault::Memory,
+        TokenizerError::NotYet => Fault::NotYet,
         TokenizerError::Failed => unreachable!(),
     }
 }
@@ -45,13 +48,13 @@ fn feed_piece<A: Allocator + Copy>(
     requires waiting { queue.old.text ≡ [] }
     requires going_on { tokenizer.old.ended ≡ false }
     requires not_failed { tokenizer.old.failed ≡ false }
-    ensures reads { OnOk result (ReadsOn (λ sink. sink.page) page_step
+    ensures reads { OnOk result (ReadsOn (λ sink. sink.page) page_step (page_reply {H = Unit {0}})
         tokenizer.old tokenizer.new (chars (string_bytes piece))) }
     ensures taken { OnOk result (queue.new.text ≡ []) }
     ensures exact { tokenizer.new.exact ≡ tokenizer.old.exact }
     ensures going_on { tokenizer.new.ended ≡ false }
     ensures not_failed { OnOk result (tokenizer.new.failed ≡ false) }
-    ensures err { IfErr result (λ fault. fault ≡ Fault.Memory) }
+    ensures err { IfErr result IsRefusal }
 {
     if queue.push_back(piece).is_err() {
         return Err(Fault::Memory);
@@ -90,12 +93,12 @@ fn feed_text<A: Allocator + Copy>(
 ) -> Result<(), Fault>
     requires going_on { tokenizer.old.ended ≡ false }
     requires not_failed { tokenizer.old.failed ≡ false }
-    ensures reads { OnOk result (ReadsOn (λ sink. sink.page) page_step
+    ensures reads { OnOk result (ReadsOn (λ sink. sink.page) page_step (page_reply {H = Unit {0}})
         tokenizer.old tokenizer.new (chars (string_bytes text))) }
     ensures exact { tokenizer.new.exact ≡ tokenizer.old.exact }
     ensures going_on { tokenizer.new.ended ≡ false }
     ensures not_failed { OnOk result (tokenizer.new.failed ≡ false) }
-    ensures err { IfErr result (λ fault. fault ≡ Fault.Memory) }
+    ensures err { IfErr result IsRefusal }
 {
     let mut queue = BufferQueue::new(alloc);
     if cut == 0 {
@@ -115,14 +118,15 @@ fn feed_text<A: Allocator + Copy>(
 fn print_text<A: Allocator + Copy>(
     alloc: A,
     text: String<A>,
-    settings: &Settings,
+    settings: &Settings<A>,
 ) -> Result<PrintSink<A>, Fault>
-    requires { settings.now.opts.initial_state ≡ Some State.Plaintext }
-    ensures ok { IfOk result (λ sink. sink.page.lines ≡ printed_reading settings.now (string_bytes text)) }
-    ensures err { IfErr result (λ fault. fault ≡ Fault.Memory) }
+    requires { CanStart settings.now.opts.initial_state }
+    ensures ok { IfOk result (λ sink. sink.page.lines ≡ printed_reading (said_by settings.now) (string_bytes text)) }
+    ensures built { OnOk result (IsWholeBuilt (said_by settings.now) (string_bytes text)) }
+    ensures err { IfErr result IsRefusal }
 {
     let sink = PrintSink::new(alloc, settings.foreign);
-    let mut tokenizer = Tokenizer::new(alloc, sink, settings.opts);
+    let mut tokenizer = Tokenizer::new(alloc, sink, settings.opts.try_clone()?);
     feed_text(alloc, &mut tokenizer, text, settings.cut)?;
     match tokenizer.end() {
         Ok(()) => Ok(tokenizer.into_sink()),
@@ -135,10 +139,10 @@ pub fn print_tokens<R: Source, W: Target, A: Allocator + Copy>(
     alloc: A,
     reader: &mut R,
     writer: &mut W,
-    settings: &Settings,
+    settings: &Settings<A>,
 ) -> Result<(), Fault>
-    requires { settings.now.opts.initial_state ≡ Some State.Plaintext }
-    ensures ok { OnOk result (PrintsReading settings.now
+    requires { CanStart settings.now.opts.initial_state }
+    ensures ok { OnOk result (PrintsReading (said_by settings.now)
         (R.remaining reader.old) (R.remaining reader.new) (W.contents writer.old) (W.contents writer.new)) }
 
     // When each fault comes, and what it leaves.
@@ -146,7 +150,7 @@ pub fn print_tokens<R: Source, W: Target, A: Allocator + Copy>(
         → PrintsNothing
         (R.remaining reader.old) (R.remaining reader.new) (W.contents writer.old) (W.contents writer.new) }
     ensures beginning { OnErr result (Keeps (W.contents writer.old) (W.contents writer.new)
-        ⊎ PrintsBeginning settings.now
+        ⊎ PrintsBeginning (said_by settings.now)
         (R.remaining reader.old) (R.remaining reader.new) (W.contents writer.old) (W.contents writer.new)) }
     ensures failed_read { R.failures reader.new ≢ R.failures reader.old
         → Keeps (W.contents writer.old) (W.contents writer.new) }

@@ -40,6 +40,7 @@ impl Ending {
             Ending::Faulted(Fault::NotUtf8) => 3,
             Ending::Faulted(Fault::Memory) => 5,
             Ending::Faulted(Fault::Device) => 6,
+            Ending::Faulted(Fault::NotYet) => 7,
         }
     }
 
@@ -55,6 +56,7 @@ impl Ending {
             Ending::Faulted(Fault::NotUtf8) => "input is not UTF-8\n",
             Ending::Faulted(Fault::Memory) => "out of memory\n",
             Ending::Faulted(Fault::Device) => "read or write failed\n",
+            Ending::Faulted(Fault::NotYet) => "not built yet\n",
         }
     }
 }
@@ -129,7 +131,7 @@ pub fn run<R: Source, W: Target, E: Target, A: Allocator + Copy>(
     writer: &mut W,
     errors: &mut E,
 ) -> u8
-    ensures status { Contains (0 ∷ 2 ∷ 3 ∷ 5 ∷ 6 ∷ []) result }
+    ensures status { Contains (0 ∷ 2 ∷ 3 ∷ 5 ∷ 6 ∷ 7 ∷ []) result }
 
     // What each status says.
     ensures printed { result ≡ 0

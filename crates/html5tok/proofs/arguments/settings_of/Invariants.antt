@@ -1,10 +1,12 @@
 use Rattle.std.proofs.Common.{◌≡◌, ◌<◌, ◌^◌, false, map, string_bytes}
 use Rattle.std.specs.Slice.Iter.{iter_rest}
-use Rattle.html5tok.specs.Settings.{said_after, settings_said}
+use Rattle.html5tok.specs.Settings.{said_by, said_after, settings_said}
+use Rattle.html5ever.specs.Tokenizer.{CanStart}
 use Rattle.html5tok.proofs.arguments.settings_of.Given as goal
 
 abbrev pub invariant-loop-word : goal.invariant-loop-word
 invariant-loop-word g l =
     (l.settings.foreign ≡ false)
     × (l.settings.cut < 2 ^ 32)
-    × (said_after l.settings (map string_bytes (iter_rest l.words)) ≡ settings_said (map string_bytes l.fn.words))
+    × CanStart l.settings.opts.initial_state
+    × (said_after (said_by l.settings) (map string_bytes (iter_rest l.words)) ≡ settings_said (map string_bytes l.fn.words))
