@@ -1,9 +1,9 @@
 -- Reading one character: what the machine tells of it, with the error of a bad character in front.
-use Rattle.std.proofs.Common.{◌≡◌, ℕ, Bool, true, false, List, [], ◌∷◌, ◌++◌, refl, ap, sym, ◌∙◌, subst}
-use Rattle.std.specs.Prelude.{map, ◌&&◌}
+use Rattle.std.proofs.Common.{◌≡◌, ℕ, Bool, true, false, [], ◌∷◌, ◌++◌, refl, ap, sym, ◌∙◌}
+use Rattle.std.specs.Prelude.{◌&&◌}
 use Rattle.std.proofs.lemmas.Bool.{and_parts, false≢true}
-use Rattle.std.proofs.lemmas.List.{append_assoc, append-nil, map-append}
-use Rattle.html5ever_interface.specs.Sink.{Message, stepped, on_line}
+use Rattle.std.proofs.lemmas.List.{append_assoc, map-append}
+use Rattle.html5ever_interface.specs.Sink.{stepped, on_line}
 use Rattle.html5ever_interface.specs.Token.{Told, Reply}
 use Rattle.html5ever_interface.specs.Token.Told.{Tag}
 use Rattle.html5ever_interface.specs.declared.states.State.{State}
@@ -18,7 +18,8 @@ use Rattle.html5grammar.specs.Start.Open.{NotBuilt}
 use Rattle.html5grammar.specs.Start.Place.{InName, BeforeAttribute, InAttributeName, AfterAttributeName, BeforeValue, InValue, AfterQuotedValue, AfterSolidus}
 use Rattle.html5grammar.proofs.Going.{Goes, bad_goes_tag, bad_goes_data, bad_goes_plain, bad_goes_less_than, bad_stops}
 use Rattle.html5grammar.proofs.Machine.{step_at}
-use Rattle.html5grammar.proofs.ReadingLemmas.{messages_here, opened_here, stepped-append, told-none, after-none, told-one, after-one}
+use Rattle.html5grammar.proofs.ReadingLemmas.{messages_here, opened_here, told-none, after-none, told-one, after-one}
+use Rattle.html5ever_interface.proofs.Steppings.{stepped-append}
 use Rattle.html5ever.specs.CurrentTag.{open_of, open_tag, stops_at_bad}
 use Rattle.html5ever.specs.Steps.{tokens_of, behind}
 use Rattle.html5ever.specs.declared.current_tag.CurrentTag.{CurrentTag}

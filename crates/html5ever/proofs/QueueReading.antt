@@ -1,5 +1,5 @@
 -- A loop that reads the queue: what it has read so far, and what that gives when it goes on, ends or is refused.
-use Rattle.std.proofs.Common.{◌≡◌, ◌≢◌, ◌↔◌, ℕ, Bool, false, List, [], ◌∷◌, ◌++◌, refl, ap, sym, ◌∙◌, arith, subst, length-append, Option, None, Some, lit<}
+use Rattle.std.proofs.Common.{◌≡◌, ◌≢◌, ◌↔◌, ℕ, Bool, false, List, [], ◌∷◌, ◌++◌, refl, ap, sym, ◌∙◌, arith, length-append, Option, None, Some, lit<}
 use Rattle.std.specs.Prelude.{Contains}
 use Rattle.std.specs.Str.{chars}
 use Rattle.std.specs.String.{string_bytes}
@@ -25,7 +25,8 @@ use Rattle.markup5ever.specs.declared.buffer_queue.SetResult.{SetResult}
 use Rattle.markup5ever.specs.declared.buffer_queue.SetResult.TheVariants.{FromSet, NotFromSet}
 use Rattle.html5ever.specs.declared.error.TokenizerError.{TokenizerError}
 use Rattle.html5ever.specs.declared.error.TokenizerError.TheVariants.{Memory, Sink, Failed, NotYet}
-use Rattle.html5grammar.proofs.ReadingLemmas.{told-nil, told-append, after-nil, after-append, told-not_built, after-not_built, stepped-append}
+use Rattle.html5grammar.proofs.ReadingLemmas.{told-nil, told-append, after-nil, after-append, told-not_built, after-not_built}
+use Rattle.html5ever_interface.proofs.Steppings.{stepped-append}
 use Rattle.html5ever.proofs.Tellings.{cons≢nil, stops_before, stops_after, Memory-at_once}
 
 memory≢not_yet : Memory ≡ NotYet → ⊥

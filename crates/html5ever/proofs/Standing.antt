@@ -1,6 +1,5 @@
 -- Where a tokenizer stands, after more text and at the end.
 use Rattle.std.proofs.Common.{◌≡◌, ℕ, ◌<◌, ◌^◌, arith, Bool, false, List, [], ◌∷◌, ◌++◌, refl, ap, sym, ◌∙◌, subst, length, drop}
-use Rattle.std.specs.Prelude.{map}
 use Rattle.std.proofs.Math.Seq.{drop-append_seam}
 use Rattle.std.proofs.lemmas.List.{length-map}
 use Rattle.html5ever_interface.specs.Sink.{Message, stepped, on_line}
@@ -8,10 +7,11 @@ use Rattle.html5ever_interface.specs.Token.{Told, Reply}
 use Rattle.html5grammar.specs.EndOfInput.{told_at_end_of}
 use Rattle.html5grammar.specs.NormalisedText.{with_line_feeds, without_dropped_first, normalised, line_after, input_after}
 use Rattle.html5grammar.specs.Reading.{Event, end_events, reading, told, messages, after, read}
-use Rattle.html5grammar.specs.Start.{Start, Input, Open}
+use Rattle.html5grammar.specs.Start.{Start, Input}
 use Rattle.html5grammar.specs.Start.Open.{NotBuilt}
-use Rattle.html5grammar.proofs.ReadingLemmas.{told-nil, told-append, after-nil, after-append, reading-events, stepped-append}
-use Rattle.html5grammar.proofs.Traces.{messages-append}
+use Rattle.html5grammar.proofs.ReadingLemmas.{told-nil, told-append, after-nil, after-append, reading-events}
+use Rattle.html5ever_interface.proofs.Steppings.{stepped-append}
+use Rattle.html5grammar.proofs.Traces.{messages-append, messages-map}
 use Rattle.html5ever.specs.Feed.{told_beyond, told_at_end}
 use Rattle.html5ever.specs.Steps.{IsBuilt}
 use Rattle.html5ever.specs.Telling.{Stops}
@@ -23,10 +23,6 @@ position-line : (I : Input) (X : List ℕ) → (input_after I X).line < 2 ^ 64 �
 unfolding input_after normalised without_dropped_first with_line_feeds line_after
 position-line I [] h = omega arith
 position-line I (c ∷ X) h = refl
-
-messages-map : (f : Told → Event) (line : ℕ) → ((t : Told) → (f t).message ≡ record { token = t; line = line }) → (ts : List Told) → messages (map f ts) ≡ on_line line ts
-messages-map f line h [] = refl
-messages-map f line h (t ∷ ts) = rw (h t) (ap (λ l. record { token = t; line = line } ∷ l) (messages-map f line h ts))
 
 module _ {X S H : Type 0} (state : X → S) (step : S → Told → ℕ → S) (reply : S → Told → ℕ → Reply H) where
   -- what is told beyond X is what the rest tells from the start behind X
@@ -45,7 +41,7 @@ module _ {X S H : Type 0} (state : X → S) (step : S → Told → ℕ → S) (r
       ≡ on_line (after step reply exact K s X).input.line (told_at_end_of exact (after step reply exact K s X).opened)
   unfolding end_events
   messages-end exact K s X h =
-      messages-map _ (line_after K.input (normalised K.input X)) (λ t. refl) (told_at_end_of exact (read step reply exact K s X).opened)
+      messages-map _ _ (λ t. refl) (told_at_end_of exact (read step reply exact K s X).opened)
       ∙ ap (λ line. on_line line (told_at_end_of exact (read step reply exact K s X).opened)) (sym (position-line K.input X h))
 
   -- the reading is what was told, and then the end

@@ -7,6 +7,7 @@ use Rattle.std.proofs.lemmas.Result.{err_from_is_err_and}
 use Rattle.std.proofs.lemmas.Str.{encodes-chars, IsUtf8-string_bytes, IsUtf8-encode, chars_past_char, chars-nil}
 use Rattle.std.specs.Char.{IsScalar}
 use Rattle.std.specs.Result.{IsErrAnd}
+use Rattle.html5ever_interface.proofs.Steppings.{stepped-append}
 use Rattle.html5ever_interface.specs.Sink.{Message, stepped, on_line}
 use Rattle.html5ever.specs.Steps.{tokens_of, behind, IsBuilt, Leads}
 use Rattle.html5ever.specs.Telling.{IsRefusal, messages_of, Stops, Tells}
@@ -55,11 +56,6 @@ module _ {S : Type 0} (step faulted : S → Told → ℕ → S) where
   stepped-token joins empty s EOFToken line = refl
   stepped-token joins empty s (ParseError message) line = refl
 
-  pub stepped-append : (s : S) (M N : List Message) → stepped step s (M ++ N) ≡ stepped step (stepped step s M) N
-  unfolding stepped
-  stepped-append s [] N = refl
-  stepped-append s (m ∷ M) N = stepped-append (step s m.token m.line) M N
-
   -- a token that was told, and one at which the sink faulted
   pub token-tells : {Z : Type 0}
       → ((s : S) (a b : List ℕ) (line : ℕ) → step (step s (Text a) line) (Text b) line ≡ step s (Text (a ++ b)) line)
@@ -88,7 +84,7 @@ module _ {S : Type 0} (step faulted : S → Told → ℕ → S) where
     before = M ++ stop.before;
     rest = stop.rest;
     parts = rw (append_assoc M stop.before stop.rest, stop.parts) refl;
-    state = stop.state ∙ rw (told, stepped-append s M stop.before) refl;
+    state = stop.state ∙ rw (told, stepped-append step s M stop.before) refl;
   }
   stops_after Sink s t u M N told stop = record {
     before = M ++ stop.before;
@@ -97,14 +93,14 @@ module _ {S : Type 0} (step faulted : S → Told → ℕ → S) where
     rest = stop.rest;
     parts = rw (append_assoc M stop.before (messages_of stop.token stop.line ++ stop.rest), stop.parts) refl;
     nonempty = stop.nonempty;
-    state = stop.state ∙ rw (told, stepped-append s M stop.before) refl;
+    state = stop.state ∙ rw (told, stepped-append step s M stop.before) refl;
   }
   stops_after Failed s t u M N told stop = stop
-  stops_after NotYet s t u M N told stop = stop ∙ rw (told, stepped-append s M N) refl
+  stops_after NotYet s t u M N told stop = stop ∙ rw (told, stepped-append step s M N) refl
 
   pub tells_after : (r : Result (Unit {0}) TokenizerError) (s t u : S) (M N : List Message) → t ≡ stepped step s M
       → Tells step faulted r t N u → Tells step faulted r s (M ++ N) u
-  tells_after (Ok x) s t u M N told tells = tells ∙ rw (told, stepped-append s M N) refl
+  tells_after (Ok x) s t u M N told tells = tells ∙ rw (told, stepped-append step s M N) refl
   tells_after (Err e) s t u M N told tells = stops_after e s t u M N told tells
 
   -- a refusal before further messages
@@ -156,11 +152,6 @@ module _ {S : Type 0} (step faulted : S → Told → ℕ → S) where
       subst (λ M. Tells step faulted r s M t) (sym (map-append (λ (token : Told). record { token = token; line = line }) A B))
       (tells_from_stop r e s t (on_line line A) (on_line line B) h refusal stop)
 
-  pub told_memory : (r : Result (Unit {0}) TokenizerError) (s t : S) (line : ℕ) (A B : List Told)
-      → IsErrAnd r (λ x. x ≡ Memory) → t ≡ stepped step s (on_line line A) → Tells step faulted r s (on_line line (A ++ B)) t
-  told_memory r s t line A B h told =
-      told_then r s t t line A B told (tells_from_memory r t (on_line line B) h)
-
   -- the exit of a `?` behind all that is told
   pub tells_stop : (r : Result (Unit {0}) TokenizerError) (e : TokenizerError) (s t : S) (M : List Message)
       → IsErrAnd r (λ x. x ≡ e) → Stops step faulted e s M t → Tells step faulted r s M t
@@ -201,7 +192,7 @@ module _ {S : Type 0} (step faulted : S → Told → ℕ → S) where
   behind-told_first reply s t line before (Here.TellsTag told tag) e =
       ap (λ u. open_after_reply (reply u (Told.Tag tag) line))
       (ap (stepped step s) (map-append (λ (token : Told). record { token = token; line = line }) before told)
-      ∙ (stepped-append s (on_line line before) (on_line line told) ∙ ap (λ u. stepped step u (on_line line told)) (sym e)))
+      ∙ (stepped-append step s (on_line line before) (on_line line told) ∙ ap (λ u. stepped step u (on_line line told)) (sym e)))
   behind-told_first reply s t line before (Here.Stops told) e = refl
 
   pub leads_first : {H : Type 0} → (reply : S → Told → ℕ → Reply H) (r : Result (Unit {0}) TokenizerError) (now : Open) (s t : S) (line : ℕ) (before : List Told) (all later : Here Open)
@@ -218,12 +209,6 @@ leads_told (Err Memory) now later refusal same built = tt
 leads_told (Err Sink) now later refusal same built = tt
 leads_told (Err Failed) now later refusal same built = refusal
 leads_told (Err NotYet) now later refusal same built = absurd refusal
-
-pub leads_refused : (r : Result (Unit {0}) TokenizerError) (e : TokenizerError) (now later : Open) → IsErrAnd r (λ x. x ≡ e) → IsRefusal e → Leads r now later
-leads_refused r Memory now later h refusal = let p = err_from_is_err_and r h in rw (p.1, p.2) tt
-leads_refused r Sink now later h refusal = let p = err_from_is_err_and r h in rw (p.1, p.2) tt
-leads_refused r Failed now later h refusal = absurd refusal
-leads_refused r NotYet now later h refusal = absurd refusal
 
 -- a character is one message
 pub messages_of-char : (c line : ℕ) → IsScalar c

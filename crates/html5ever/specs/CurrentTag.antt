@@ -1,6 +1,5 @@
 -- What a tokenizer keeps of what is open, as the grammar speaks of it.
-use Rattle.std.specs.Prelude.{Bool, true, false, List, map, string_bytes}
-use Rattle.html5ever_interface.specs.declared.states.AttrValueKind.{AttrValueKind}
+use Rattle.std.specs.Prelude.{Bool, true, false, map, string_bytes}
 use Rattle.html5ever_interface.specs.declared.states.State.{State}
 use Rattle.html5ever_interface.specs.declared.states.State.TheVariants as state
 use Rattle.html5grammar.specs.Start.{OpenTag, Open}

@@ -3,7 +3,7 @@ ghost use Rattle.std.specs.Prelude.{◌≡◌, ◌+◌, ◌∷◌, [], ◌++◌,
 ghost use Rattle.html5ever_interface.specs.Sink.{on_line};
 ghost use Rattle.html5grammar.specs.Characters.{name_bytes, value_bytes};
 ghost use Rattle.html5grammar.specs.Start.{begun};
-ghost use Rattle.html5grammar.specs.Tag.{attribute, has_attribute, with_last_attribute, duplicate_error, end_tag_errors};
+ghost use Rattle.html5grammar.specs.Tag.{attribute, has_attribute, with_last_attribute, duplicate_error};
 ghost use Rattle.html5ever.specs.CurrentTag.{open_tag};
 ghost use Rattle.html5ever.specs.Telling.{Tells, IsRefusal, faults_of};
 ghost use Rattle.markup5ever.specs.Names.{attribute_of};

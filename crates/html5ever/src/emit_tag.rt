@@ -1,14 +1,14 @@
 //! The end of a tag: its last attribute, its errors, and the tag itself, told to the sink.
 ghost use Rattle.std.specs.Prelude.{◌≡◌, ◌+◌, ◌∷◌, [], ◌++◌, ◌&&◌, not, nat_eq, length};
-ghost use Rattle.std.specs.Prelude.{OnOk, IfErr, MatchBool, map, string_bytes};
+ghost use Rattle.std.specs.Prelude.{OnOk, IfErr, MatchBool, string_bytes};
 ghost use Rattle.html5ever_interface.specs.Sink.{on_line};
-ghost use Rattle.html5ever_interface.specs.Token.{tag_of, reply_of};
-ghost use Rattle.html5ever_interface.specs.Token.{Told};
+ghost use Rattle.html5ever_interface.specs.Token.{Told, tag_of, reply_of};
 ghost use Rattle.html5grammar.proofs.Machine.{closing_step};
 ghost use Rattle.html5grammar.specs.Reading.{open_after_reply};
 ghost use Rattle.html5grammar.specs.Start.Mode.{Data};
 ghost use Rattle.html5grammar.specs.Start.Open.{Between, NotBuilt};
-ghost use Rattle.html5grammar.specs.Tag.{is_end_tag, end_tag_errors, duplicate_error, with_last_attribute, told_tag};
+ghost use Rattle.html5grammar.specs.Tag.{is_end_tag, duplicate_error, end_tag_errors};
+ghost use Rattle.html5grammar.specs.Tag.{with_last_attribute, told_tag};
 ghost use Rattle.html5ever.specs.CurrentTag.{open_tag, open_of};
 ghost use Rattle.html5ever.specs.Steps.{tokens_of, behind, Leads};
 ghost use Rattle.html5ever.specs.Telling.{Tells, IsRefusal, faults_of};

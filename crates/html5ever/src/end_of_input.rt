@@ -108,7 +108,8 @@ fn end_in_end_tag_open<S: TokenSink<Token<A>>, A: Allocator + Copy>(
     line: u64,
 ) -> Result<(), TokenizerError>
     ensures tells { Tells S.step S.faulted result (S.state sink.old)
-        (on_line line (end_error_in exact_errors State.EndTagOpen ∷ Text (codes "<") ∷ Text (codes "/") ∷ End ∷ []))
+        (on_line line (end_error_in exact_errors State.EndTagOpen
+        ∷ Text (codes "<") ∷ Text (codes "/") ∷ End ∷ []))
         (S.state sink.new) }
     ensures faults { S.faults sink.new ≡ S.faults sink.old + faults_of result }
     ensures refusal { IfErr result IsRefusal }

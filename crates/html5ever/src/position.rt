@@ -82,7 +82,14 @@ impl<A: Allocator + Copy> Position<A> {
         ensures refusal { IfErr result IsRefusal }
         ensures fits { self.now.input.line < 2 ^ 64 }
     {
-        tell_end_of_input(alloc, sink, exact_errors, self.state, &self.tag, self.input.line())
+        tell_end_of_input(
+            alloc,
+            sink,
+            exact_errors,
+            self.state,
+            &self.tag,
+            self.input.line(),
+        )
     }
 
     /// Whether plain text goes on, with no first character that may be dropped.
@@ -160,5 +167,13 @@ pub fn read_character<S: TokenSink<Token<A>>, A: Allocator + Copy>(
         return Err(TokenizerError::NotYet);
     }
     report_bad_character(alloc, sink, exact_errors, c, line)?;
-    step(alloc, sink, exact_errors, &mut position.state, &mut position.tag, c, line)
+    step(
+        alloc,
+        sink,
+        exact_errors,
+        &mut position.state,
+        &mut position.tag,
+        c,
+        line,
+    )
 }

@@ -269,11 +269,13 @@ pub fn read_before_attribute<S: TokenSink<Token<A>>, A: Allocator + Copy>(
     line: u64,
 ) -> Result<(), TokenizerError>
     ensures tells { Tells S.step S.faulted result (S.state sink.old)
-        (on_line line (tokens_of (told_first (error_in exact_errors expected c ∷ []) (part_step exact_errors BeforeAttribute (open_tag tag.old) c))))
+        (on_line line (tokens_of (told_first (error_in exact_errors expected c ∷ [])
+        (part_step exact_errors BeforeAttribute (open_tag tag.old) c))))
         (S.state sink.new) }
     ensures leads { Leads result (open_of state.new tag.new)
         (behind S.step S.reply (S.state sink.old) line
-        (told_first (error_in exact_errors expected c ∷ []) (part_step exact_errors BeforeAttribute (open_tag tag.old) c))) }
+        (told_first (error_in exact_errors expected c ∷ [])
+        (part_step exact_errors BeforeAttribute (open_tag tag.old) c))) }
     ensures faults { S.faults sink.new ≡ S.faults sink.old + faults_of result }
 {
     emit_unexpected(alloc, sink, exact_errors, c, expected, line)?;

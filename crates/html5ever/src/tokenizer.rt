@@ -12,23 +12,24 @@ ghost use Rattle.html5ever.specs.Tokenizer.{CanStart, StandsAt, ReadsOn, Finishe
 use crate::error::TokenizerError;
 use crate::position::Position;
 use crate::reading::read_queue;
-use html5ever_interface::interface::sink::TokenSink;
-use html5ever_interface::interface::token::{SinkFault, Token};
-use html5ever_interface::options::TokenizerOpts;
-use markup5ever::buffer_queue::BufferQueue;
 use std::alloc::{Allocator, Global};
 use std::marker::Model;
 
-/// What a call of `feed` answers.
-#[derive(Debug, PartialEq, Eq, Drop)]
-pub enum TokenizerResult<Handle, Text> {
-    /// The queue is empty.
-    Done,
-    /// The sink asked to run a script after the tag that was told last.
-    Script(Handle),
-    /// The sink asked to look at an encoding after the tag that was told last.
-    EncodingIndicator(Text),
-}
+pub mod collect;
+pub mod states;
+
+pub use html5ever_interface::interface::sink::TokenSink;
+pub use html5ever_interface::interface::token::TagKind::{EndTag, StartTag};
+pub use html5ever_interface::interface::token::Token::{
+    CharacterTokens, CommentToken, DoctypeToken, EOFToken, NullCharacterToken, ParseError, TagToken,
+};
+pub use html5ever_interface::interface::token::{
+    Doctype, ProcessResult, SinkFault, Tag, TagKind, Token, TokenSinkResult,
+};
+pub use html5ever_interface::options::TokenizerOpts;
+pub use markup5ever::buffer_queue::SetResult::{FromSet, NotFromSet};
+pub use markup5ever::buffer_queue::{BufferQueue, SetResult};
+pub use markup5ever::tokenizer_result::TokenizerResult;
 
 /// Reads a stream of text and tells its sink the tokens.
 #[derive(Drop)]
@@ -148,7 +149,12 @@ impl<Sink: TokenSink<Token<A>>, A: Allocator + Copy> Tokenizer<Sink, A> {
         if self.failed {
             return Err(TokenizerError::Failed);
         }
-        let result = tell_end(self.alloc, &mut self.sink, self.exact_errors, &self.position);
+        let result = tell_end(
+            self.alloc,
+            &mut self.sink,
+            self.exact_errors,
+            &self.position,
+        );
         self.failed = result.is_err();
         self.ended = result.is_ok();
         result

@@ -71,11 +71,13 @@ fn end_without_value<S: TokenSink<Token<A>>, A: Allocator + Copy>(
     line: u64,
 ) -> Result<(), TokenizerError>
     ensures tells { Tells S.step S.faulted result (S.state sink.old)
-        (on_line line (tokens_of (closing_step (error_in exact_errors State.BeforeAttributeValue equals_sign ∷ []) (open_tag tag.old) false)))
+        (on_line line (tokens_of (closing_step
+        (error_in exact_errors State.BeforeAttributeValue equals_sign ∷ []) (open_tag tag.old) false)))
         (S.state sink.new) }
     ensures leads { Leads result (open_of state.new tag.new)
         (behind S.step S.reply (S.state sink.old) line
-        (closing_step (error_in exact_errors State.BeforeAttributeValue equals_sign ∷ []) (open_tag tag.old) false)) }
+        (closing_step
+        (error_in exact_errors State.BeforeAttributeValue equals_sign ∷ []) (open_tag tag.old) false)) }
     ensures faults { S.faults sink.new ≡ S.faults sink.old + faults_of result }
 {
     let expected = State::BeforeAttributeValue;

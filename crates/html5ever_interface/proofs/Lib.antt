@@ -1,2 +1,3 @@
 pub mod Clones
 pub mod Entries
+pub mod Steppings

@@ -1,14 +1,12 @@
 -- Reading a text in two parts: the second is read anew from the start behind the first.
-use Rattle.std.proofs.Common.{◌≡◌, ℕ, ◌+◌, ◌<◌, ◌^◌, Bool, true, false, cond, List, [], ◌∷◌, ◌++◌, refl, ap, sym, ◌∙◌, arith, inl, inr, min}
-use Rattle.std.specs.Prelude.{map, take_while, ◌==◌, ◌&&◌}
-use Rattle.std.proofs.lemmas.Bool.{eqb-true, and_parts, or_cases}
+use Rattle.std.proofs.Common.{◌≡◌, ℕ, Bool, true, false, List, [], ◌∷◌, ◌++◌, refl, ap, sym, ◌∙◌}
+use Rattle.std.specs.Prelude.{map, take_while}
 use Rattle.std.proofs.lemmas.List.{append_assoc, append-nil}
-use Rattle.std.proofs.lemmas.List.Sums.{sum_by-append}
 use native.Mathlib.Numerals.{one-add}
+use Rattle.html5ever_interface.proofs.Steppings.{stepped-append}
 use Rattle.html5ever_interface.specs.Sink.{Message, stepped, on_line}
 use Rattle.html5ever_interface.specs.Token.{Told, Reply}
 use Rattle.html5ever_interface.specs.Token.Told.{Tag}
-use Rattle.html5grammar.specs.Characters.{line_feed, carriage_return, byte_order_mark}
 use Rattle.html5grammar.specs.Cutting.{rest_of}
 use Rattle.html5grammar.specs.EndOfInput.{told_at_end_of}
 use Rattle.html5grammar.specs.ErrorText.{bad_character_error}
@@ -17,11 +15,10 @@ use Rattle.html5grammar.specs.Reading.{Event, Here, Read, here, is_character, ev
 use Rattle.html5grammar.specs.Reading.Here.{Tells, TellsTag, Stops}
 use Rattle.html5grammar.specs.Slice.{Slice, cut_off}
 use Rattle.html5grammar.specs.Start.{Input, Start, Open}
-use Rattle.html5grammar.specs.Start.Place.{InName, BeforeAttribute, InAttributeName, AfterAttributeName, BeforeValue, InValue, AfterQuotedValue, AfterSolidus}
 use Rattle.html5grammar.specs.Start.Open.{Between, LessThan, LessThanSolidus, InTag, NotBuilt}
 use Rattle.html5grammar.proofs.Machine.{step_at}
-use Rattle.html5grammar.proofs.InputLemmas.{line_past, lines_past, line_after-past, normalised-append, input_after-line_none, input_after-append, input_after-line_one}
-use Rattle.html5grammar.proofs.Traces.{Trace, Traces, with_messages, trace, trace_here, traces, messages-append}
+use Rattle.html5grammar.proofs.InputLemmas.{line_past, lines_past, normalised-append, input_after-line_none, input_after-append, input_after-line_one}
+use Rattle.html5grammar.proofs.Traces.{Trace, Traces, with_messages, trace, trace_here, traces}
 
 take_while-cons : {X : Type 0} → (p : X → Bool) (x : X) (xs : List X) → p x ≡ true → take_while p (x ∷ xs) ≡ x ∷ take_while p xs
 take_while-cons p x xs h = rw (h, one-add) refl
@@ -51,11 +48,6 @@ decided-told_at_end exact LessThan f h = rw (h _) refl
 decided-told_at_end exact LessThanSolidus f h = rw (h _) refl
 decided-told_at_end exact (InTag place tag) f h = rw (h _) refl
 decided-told_at_end exact NotBuilt f h = refl
-
-pub stepped-append : {S : Type 0} → (step : S → Told → ℕ → S) (s : S) (M N : List Message) → stepped step s (M ++ N) ≡ stepped step (stepped step s M) N
-unfolding stepped
-stepped-append step s [] N = refl
-stepped-append step s (m ∷ M) N = stepped-append step (step s m.token m.line) M N
 
 module _ {S H : Type 0} (step : S → Told → ℕ → S) (reply : S → Told → ℕ → Reply H) (exact : Bool) where
   abbrev pub start_behind : Start → S → List ℕ → Start

@@ -1,23 +1,22 @@
 -- The slices do at each character what the machine does.
-use Rattle.std.proofs.Common.{◌≡◌, ℕ, Bool, true, false, cond, List, [], ◌∷◌, ◌++◌, refl, ap, sym, ◌∙◌}
-use Rattle.std.specs.Prelude.{◌==◌, ◌||◌, flat_map, codes, map, if◌then◌else◌}
+use Rattle.std.proofs.Common.{◌≡◌, ℕ, Bool, true, false, List, [], ◌∷◌, ◌++◌, refl, ap, sym, ◌∙◌}
+use Rattle.std.specs.Prelude.{◌==◌, ◌||◌, flat_map, codes, if◌then◌else◌}
 use Rattle.std.proofs.lemmas.List.{append_assoc, append-nil}
 use Rattle.html5ever_interface.specs.Token.{Told}
-use Rattle.html5ever_interface.specs.Token.Told.{Text, Error}
+use Rattle.html5ever_interface.specs.Token.Told.{Text}
 use Rattle.html5ever_interface.specs.declared.interface.token.TagKind.TheVariants.{StartTag, EndTag}
 use Rattle.html5ever_interface.specs.declared.states.AttrValueKind.{AttrValueKind}
 use Rattle.html5ever_interface.specs.declared.states.AttrValueKind.TheVariants.{Unquoted, SingleQuoted, DoubleQuoted}
 use Rattle.html5ever_interface.specs.declared.states.State.TheVariants as state
 use Rattle.html5grammar.specs.Characters.{null, exclamation_mark, quotation_mark, ampersand, apostrophe, solidus, less_than, equals_sign, greater_than, question_mark, is_letter, is_white_space, name_bytes, value_bytes}
-use Rattle.html5grammar.specs.Tag.{with_last_attribute, duplicate_error, null_error, with_value, in_quoted, in_unquoted, unquoted_error, in_attribute_name, attribute_name_error, with_last_name, place_error, first_error, is_after_solidus, in_tag_name, with_name, closing, behind_tag_name, tag_name, behind_quoted, quoted_value, behind_unquoted, unquoted_value, value, silent, value_behind_space, value_or_next, behind_name_and_space, behind_attribute_name, attribute_behind_first, part}
-use Rattle.html5grammar.specs.Text.{plain_text, behind_solidus, behind_less_than, data_text}
-use Rattle.html5grammar.specs.ErrorText.{saw, error_in}
+use Rattle.html5grammar.specs.Tag.{null_error, with_value, in_quoted, in_unquoted, unquoted_error, in_attribute_name, attribute_name_error, with_last_name, place_error, is_after_solidus, in_tag_name, with_name, closing, behind_tag_name, tag_name, behind_quoted, quoted_value, behind_unquoted, unquoted_value, value, silent, value_behind_space, value_or_next, behind_name_and_space, behind_attribute_name, attribute_behind_first, part}
+use Rattle.html5grammar.specs.Text.{behind_solidus, behind_less_than, data_text}
+use Rattle.html5grammar.specs.ErrorText.{error_in}
 use Rattle.html5grammar.specs.Cutting.{rest_of, next_slice, slice_at}
 use Rattle.html5grammar.specs.Reading.{Here, at_first, here}
 use Rattle.html5grammar.specs.Reading.Here.{Tells, TellsTag, Stops}
-use Rattle.html5grammar.specs.Slice.{Slice, Cell, Behind, with_run, run_of, behind_run}
-use Rattle.html5grammar.specs.Slice.Cell.{Says, Ends}
-use Rattle.html5grammar.specs.Slice.Behind.{Leaves, StopsAt}
+use Rattle.html5grammar.specs.Slice.{Slice, with_run, run_of, behind_run}
+use Rattle.html5grammar.specs.Slice.Cell.{Says}
 use Rattle.html5grammar.specs.Start.{OpenTag, Place, Open, begun}
 use Rattle.html5grammar.specs.Start.Mode.{Data, Plain}
 use Rattle.html5grammar.specs.Start.Place.{InName, BeforeAttribute, InAttributeName, AfterAttributeName, BeforeValue, InValue, AfterQuotedValue, AfterSolidus}

@@ -1,18 +1,17 @@
 -- Steps that are another with more told in front: a character that is read again.
-use Rattle.std.proofs.Common.{◌≡◌, ◌≢◌, ℕ, Bool, true, false, cond, List, [], ◌∷◌, ◌++◌, refl, ap, sym, ◌∙◌}
-use Rattle.std.specs.Prelude.{◌==◌, ◌||◌, if◌then◌else◌}
-use Rattle.std.proofs.lemmas.Bool.{ne_eqb}
-use Rattle.std.proofs.lemmas.List.{append_assoc, append-nil}
+use Rattle.std.proofs.Common.{◌≡◌, ℕ, Bool, true, false, List, [], ◌∷◌, refl, ap, sym}
+use Rattle.std.specs.Prelude.{◌==◌, if◌then◌else◌}
+use Rattle.std.proofs.lemmas.List.{append-nil}
 use Rattle.html5ever_interface.specs.Token.{Told}
 use Rattle.html5ever_interface.specs.declared.states.State.TheVariants as state
 use Rattle.html5grammar.specs.Characters.{null, ampersand, solidus, less_than, greater_than, is_white_space}
 use Rattle.html5grammar.specs.ErrorText.{error_in}
 use Rattle.html5grammar.specs.Reading.{Here}
-use Rattle.html5grammar.specs.Reading.Here.{Tells, TellsTag, Stops}
+use Rattle.html5grammar.specs.Reading.Here.{Tells, Stops}
 use Rattle.html5grammar.specs.Start.{OpenTag, Open}
 use Rattle.html5grammar.specs.Start.Place.{BeforeAttribute, AfterQuotedValue, AfterSolidus}
 use Rattle.html5grammar.specs.Tag.{place_error, first_error}
-use Rattle.html5grammar.proofs.Machine.{told_first, closing_step, part_step, data_step}
+use Rattle.html5grammar.proofs.Machine.{told_first, part_step, data_step}
 
 told_first-if : (before : List Told) (test : Bool) (p q p2 q2 : Here Open) → p2 ≡ told_first before p → q2 ≡ told_first before q
     → (if test then p2 else q2) ≡ told_first before (if test then p else q)

@@ -1,21 +1,20 @@
 -- What the machine tells of a text, with the lines that it counts.
-use Rattle.std.proofs.Common.{◌≡◌, ℕ, ◌+◌, ◌<◌, ◌^◌, Bool, true, false, cond, List, [], ◌∷◌, ◌++◌, refl, ap, sym, ◌∙◌, arith, min}
-use Rattle.std.specs.Prelude.{map, ◌==◌, if◌then◌else◌}
-use Rattle.std.proofs.lemmas.List.{append_assoc, append-nil, map-append}
+use Rattle.std.proofs.Common.{◌≡◌, ℕ, Bool, List, [], ◌∷◌, ◌++◌, refl, ap, ◌∙◌}
+use Rattle.std.specs.Prelude.{map}
+use Rattle.std.proofs.lemmas.List.{map-append}
 use Rattle.html5ever_interface.specs.Sink.{Message, stepped, on_line}
-use Rattle.html5ever_interface.specs.Token.{Told, TagOf, Reply}
+use Rattle.html5ever_interface.specs.Token.{Told, Reply}
 use Rattle.html5ever_interface.specs.Token.Told.{Tag}
 use Rattle.html5ever_interface.specs.Token.Reply.{KeepOn, ReadPlainText, ReadRawData, RunScript, SwitchEncoding}
 use Rattle.html5ever_interface.specs.declared.states.AttrValueKind.TheVariants.{Unquoted, SingleQuoted, DoubleQuoted}
-use Rattle.html5grammar.specs.Cutting.{rest_of, slice_at}
+use Rattle.html5grammar.specs.Cutting.{rest_of}
 use Rattle.html5grammar.specs.ErrorText.{bad_character_error}
-use Rattle.html5grammar.specs.Reading.{Event, Here, Read, here, at_first, events_at, messages, open_behind, open_after_reply, read_here, read_from}
+use Rattle.html5grammar.specs.Reading.{Event, Here, Read, events_at, messages, open_behind, open_after_reply, read_here, read_from}
 use Rattle.html5grammar.specs.NormalisedText.{line_after}
 use Rattle.html5grammar.proofs.InputLemmas.{line_past, line_after-past}
 use Rattle.html5grammar.specs.Reading.Here.{Tells, TellsTag, Stops}
-use Rattle.html5grammar.specs.Slice.{Slice, cut_off, with_run, run_of, behind_run}
+use Rattle.html5grammar.specs.Slice.{cut_off, run_of, behind_run}
 use Rattle.html5grammar.specs.Start.{Start, Open}
-use Rattle.html5grammar.specs.Start.Mode.{Data, Plain}
 use Rattle.html5grammar.specs.Start.Place.{InName, BeforeAttribute, InAttributeName, AfterAttributeName, BeforeValue, InValue, AfterQuotedValue, AfterSolidus}
 use Rattle.html5grammar.specs.Start.Open.{Between, LessThan, LessThanSolidus, InTag, NotBuilt}
 use Rattle.html5grammar.specs.Tag.{tag_name, behind_tag_name, attribute_behind_first, behind_attribute_name, behind_name_and_space, value_or_next, value_behind_space, value, quoted_value, behind_quoted, unquoted_value, behind_unquoted}
@@ -76,7 +75,7 @@ rest_of-reply exact (ReadRawData kind) text = refl
 rest_of-reply exact (RunScript handle) text = refl
 rest_of-reply exact (SwitchEncoding bytes) text = refl
 
-messages-map : (f : Told → Event) (g : Told → Message) → ((t : Told) → (f t).message ≡ g t) → (ts : List Told) → messages (map f ts) ≡ map g ts
+pub messages-map : (f : Told → Event) (g : Told → Message) → ((t : Told) → (f t).message ≡ g t) → (ts : List Told) → messages (map f ts) ≡ map g ts
 messages-map f g h [] = refl
 messages-map f g h (t ∷ ts) = rw (h t) (ap (λ l. g t ∷ l) (messages-map f g h ts))
 

@@ -1,5 +1,5 @@
 -- Where the reading of a text starts, and what is open there.
-use Rattle.std.specs.Prelude.{ℕ, Bool, false, List, [], Option, None, Some}
+use Rattle.std.specs.Prelude.{ℕ, Bool, false, List, [], Option, Some}
 use Rattle.html5ever_interface.specs.Options.{OptionsOf}
 use Rattle.html5ever_interface.specs.declared.interface.token.TagKind.{TagKind}
 use Rattle.html5ever_interface.specs.declared.states.AttrValueKind.{AttrValueKind}

@@ -11,11 +11,11 @@ use Rattle.html5ever_interface.specs.declared.states.AttrValueKind.TheVariants.{
 use Rattle.html5ever_interface.specs.declared.states.State.{State}
 use Rattle.html5ever_interface.specs.declared.states.State.TheVariants as state
 use Rattle.html5grammar.specs.Characters.{null, quotation_mark, ampersand, apostrophe, solidus, less_than, equals_sign, greater_than, grave_accent, is_white_space, value_bytes, name_bytes}
-use Rattle.html5grammar.specs.ErrorText.{saw, error_in, where_true}
-use Rattle.html5grammar.specs.Slice.{Slice, Behind, no_character, cut_off, one_character, with_character, with_run, run_of, behind_run}
+use Rattle.html5grammar.specs.ErrorText.{error_in, where_true}
+use Rattle.html5grammar.specs.Slice.{Slice, no_character, cut_off, one_character, with_character, with_run, run_of, behind_run}
 use Rattle.html5grammar.specs.Slice.Behind.{Leaves, StopsAt}
 use Rattle.html5grammar.specs.Slice.Cell.{Ends}
-use Rattle.html5grammar.specs.Start.{OpenTag, Place, Open}
+use Rattle.html5grammar.specs.Start.{OpenTag, Place}
 use Rattle.html5grammar.specs.Start.Place.{InName, BeforeAttribute, InAttributeName, AfterAttributeName, BeforeValue, InValue, AfterQuotedValue, AfterSolidus}
 use Rattle.html5grammar.specs.Start.Mode.{Data}
 use Rattle.html5grammar.specs.Start.Open.{Between, InTag}

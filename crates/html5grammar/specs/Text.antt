@@ -8,9 +8,9 @@ use Rattle.html5grammar.specs.Characters.{null, replacement_character, exclamati
 use Rattle.html5grammar.specs.ErrorText.{error_in}
 use Rattle.html5grammar.specs.Slice.{Slice, no_character, cut_off, one_character, with_character}
 use Rattle.html5grammar.specs.Slice.Behind.{Leaves, StopsAt}
-use Rattle.html5grammar.specs.Start.{Open, begun}
-use Rattle.html5grammar.specs.Start.Mode.{Data, Plain}
-use Rattle.html5grammar.specs.Start.Open.{Between, LessThan, LessThanSolidus, InTag}
+use Rattle.html5grammar.specs.Start.{begun}
+use Rattle.html5grammar.specs.Start.Mode.{Data}
+use Rattle.html5grammar.specs.Start.Open.{Between, LessThan, LessThanSolidus}
 use Rattle.html5grammar.specs.Tag.{tag_name}
 
 -- a character of plain text is text; NUL is an error and U+FFFD

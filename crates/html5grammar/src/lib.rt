@@ -1,11 +1,26 @@
-//! The grammar: what a text tells, by slices of the whole text.
+//! The grammar: what a text tells, by slices of the whole text. Its definitions are in specs/; here
+//! stands the law that readers of a text in pieces rest on.
 #![tactic(auto)]
-ghost use Rattle.std.specs.Prelude.{◌≡◌};
-ghost use Rattle.html5grammar.specs.Reading.{told};
 
-/// One.
-pub fn one() -> u8
-    ensures { result ≡ 1 }
-{
-    1
-}
+ghost use Rattle.std.specs.Prelude.{◌≡◌, ℕ, Bool, List, ◌++◌};
+ghost use Rattle.html5ever_interface.specs.Sink.{stepped};
+ghost use Rattle.html5grammar.specs.Reading.{told, messages, after};
+ghost use Rattle.html5grammar.specs.Start.{Start};
+
+use html5ever_interface::interface::sink::TokenSink;
+use html5ever_interface::interface::token::Token;
+
+/// Forgetting: what a text tells is what its first part tells, then what its rest tells from the
+/// start behind that part, in the state of the sink that the first part leaves. So a reader may
+/// forget all but that start, wherever a text is cut.
+pub fn forgetting<S: TokenSink<Token>>()
+    ensures told { (exact : Bool) (K : Start) (s : S.State) (text rest : List ℕ) →
+        messages (told S.step S.reply exact K s (text ++ rest))
+        ≡ messages (told S.step S.reply exact K s text)
+        ++ messages (told S.step S.reply exact (after S.step S.reply exact K s text)
+        (stepped S.step s (messages (told S.step S.reply exact K s text))) rest) }
+    ensures after { (exact : Bool) (K : Start) (s : S.State) (text rest : List ℕ) →
+        after S.step S.reply exact K s (text ++ rest)
+        ≡ after S.step S.reply exact (after S.step S.reply exact K s text)
+        (stepped S.step s (messages (told S.step S.reply exact K s text))) rest }
+{}

@@ -3,6 +3,7 @@ use Rattle.std.proofs.Common.{◌≡◌, ℕ, Bool, true, false, List, [], ◌�
 use Rattle.std.proofs.lemmas.List.{append-nil, append_assoc}
 use Rattle.html5print.specs.Page.{Page, text_opening, text_closing, added_by_text, added_by, open_behind, page_step, quoted_bytes-append}
 use Rattle.html5print.specs.Printed.{quoted_bytes, quoted, printed_line, told_text, is_text, first_text, behind_first_text, joined_first, joined, printed_lines, printed}
+use Rattle.html5ever_interface.proofs.Steppings.{stepped-append}
 use Rattle.html5ever_interface.specs.Sink.{Message, stepped}
 use Rattle.html5ever_interface.specs.Token.{Told}
 use Rattle.html5ever_interface.specs.Token.Told.{Text, End}
@@ -71,12 +72,6 @@ pub closed_lines-stepped : (p : Page) (M : List Message) → p.in_text ≡ false
     → closed_lines (stepped page_step p M) ≡ p.lines ++ printed M
 unfolding printed added
 closed_lines-stepped p M closed = stepped-added p M ∙ ap (λ in_text. p.lines ++ added in_text (joined M)) closed
-
-stepped-append : {S : Type 0} (step : S → Told → ℕ → S) (s : S) (M N : List Message)
-    → stepped step s (M ++ N) ≡ stepped step (stepped step s M) N
-unfolding stepped
-stepped-append step s [] N = refl
-stepped-append step s (m ∷ M) N = stepped-append step (step s m.token m.line) M N
 
 in_text-stepped : (p : Page) (N : List Message) (line : ℕ)
     → (stepped page_step p (N ++ record { token = End; line = line } ∷ [])).in_text ≡ false

@@ -1,6 +1,6 @@
 -- The page of a whole reading, and what is known of the bytes of a reader that was read to its end.
 use Rattle.std.proofs.Common.{◌≡◌, ℕ, Bool, List, [], ◌∷◌, ◌++◌, Option, None, Some, refl, ap, sym, ◌∙◌, subst}
-use Rattle.std.specs.Prelude.{IfSome, map, codes}
+use Rattle.std.specs.Prelude.{IfSome, codes}
 use Rattle.std.specs.Io.KnownBytes.{Consumes, IsAtEnd, Keeps}
 use Rattle.std.specs.Str.{chars}
 use Rattle.std.proofs.lemmas.List.{append-nil, append_assoc, map-append}
@@ -11,11 +11,11 @@ use Rattle.html5ever_interface.specs.declared.states.State.TheVariants as state
 use Rattle.html5grammar.specs.EndOfInput.{told_at_end_of, state_at}
 use Rattle.html5grammar.specs.ErrorText.{end_error_in}
 use Rattle.html5grammar.specs.NormalisedText.{normalised, line_after}
-use Rattle.html5grammar.specs.Reading.{Event, end_events, read, reading, told, messages, after}
+use Rattle.html5grammar.specs.Reading.{end_events, read, reading, told, messages, after}
 use Rattle.html5grammar.specs.Start.{Start, Open, start_of}
 use Rattle.html5grammar.specs.Start.Open.{Between, LessThan, LessThanSolidus, InTag, NotBuilt}
 use Rattle.html5grammar.proofs.ReadingLemmas.{reading-events}
-use Rattle.html5grammar.proofs.Traces.{messages-append}
+use Rattle.html5grammar.proofs.Traces.{messages-append, messages-map}
 use Rattle.html5ever.specs.Steps.{IsBuilt}
 use Rattle.html5ever.specs.Tokenizer.{Tokenizing, StandsAt}
 use Rattle.html5print.specs.Page.{Page, Printer, page_step, page_reply, blank_page}
@@ -36,10 +36,6 @@ told_at_end_of-ends exact LessThanSolidus built = (end_error_in exact state.EndT
 told_at_end_of-ends exact (InTag place tag) built = (end_error_in exact (state_at place) ∷ [], refl)
 told_at_end_of-ends exact NotBuilt built = absurd built
 
-messages-map : (f : Told → Event) (line : ℕ) → ((t : Told) → (f t).message ≡ record { token = t; line = line }) → (ts : List Told) → messages (map f ts) ≡ on_line line ts
-messages-map f line h [] = refl
-messages-map f line h (t ∷ ts) = rw (h t) (ap (λ l. record { token = t; line = line } ∷ l) (messages-map f line h ts))
-
 -- a reading of what is built ends with the end of input
 module _ (exact : Bool) (K : Start) (p : Page) (X : List ℕ) where
   abbrev reply : Page → Told → ℕ → Reply (Unit {0})
@@ -57,7 +53,7 @@ module _ (exact : Bool) (K : Start) (p : Page) (X : List ℕ) where
       ap (λ E. messages E) (reading-events page_step reply exact K p X)
       ∙ messages-append (told page_step reply exact K p X) (end_events page_step reply exact K (read page_step reply exact K p X).opened (normalised K.input X))
       ∙ ap (λ M. messages (told page_step reply exact K p X) ++ M)
-      (messages-map _ line (λ t. refl) (told_at_end_of exact (read page_step reply exact K p X).opened)
+      (messages-map _ _ (λ t. refl) (told_at_end_of exact (read page_step reply exact K p X).opened)
       ∙ ap (on_line line) ends
       ∙ map-append (λ (token : Told). record { token = token; line = line }) tokens (End ∷ []))
       ∙ sym (append_assoc (messages (told page_step reply exact K p X)) (on_line line tokens) (record { token = End; line = line } ∷ []))

@@ -9,10 +9,10 @@ ghost use Rattle.html5ever.specs.Tokenizer.{CanStart, ReadsOn};
 
 use crate::device::{Source, Target, read_to_end, write_all};
 use crate::fault::Fault;
-use html5print::print_sink::PrintSink;
 use html5ever::error::TokenizerError;
 use html5ever::tokenizer::Tokenizer;
 use html5ever_interface::options::TokenizerOpts;
+use html5print::print_sink::PrintSink;
 use markup5ever::buffer_queue::BufferQueue;
 use std::alloc::{Allocator, Global};
 

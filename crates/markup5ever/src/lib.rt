@@ -5,8 +5,10 @@ pub mod buffer_queue;
 pub mod count;
 pub mod interface;
 pub mod small_char_set;
+pub mod tokenizer_result;
 
 pub use crate::buffer_queue::{BufferQueue, SetResult};
 pub use crate::count::Count;
 pub use crate::interface::{Attribute, LocalName, Namespace, Prefix, QualName};
 pub use crate::small_char_set::SmallCharSet;
+pub use crate::tokenizer_result::TokenizerResult;

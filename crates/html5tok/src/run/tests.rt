@@ -1,10 +1,11 @@
-ghost use Rattle.std.specs.Prelude.{◌≡◌};
+ghost use Rattle.html5ever.specs.Tokenizer.{CanStart};
 
 use super::*;
 use crate::device::fakes::{FailingSource, FailingTarget, Refusal};
 use crate::device::{ReadSource, WriteTarget};
 use crate::print::Settings;
-use html5ever_interface::options::{State, TokenizerOpts};
+use html5ever_interface::options::TokenizerOpts;
+use html5ever_interface::states::State;
 use refusing::Refusing;
 use std::alloc::{AllocError, Global};
 use std::env::FillError;
@@ -54,6 +55,20 @@ fn run_over(alloc: Global, words: &[&str], input: &[u8]) -> Result<Ran, AllocErr
     })
 }
 
+// Runs the program on an input of plain text as `prints` does.
+fn prints_plain(
+    rt: &impl Abort,
+    alloc: Global,
+    options: &[&str],
+    input: &str,
+    output: &str,
+) -> Result<(), Fail> {
+    let mut words = Vec::new(alloc);
+    words.extend_from_slice(&PLAIN)?;
+    words.extend_from_slice(options)?;
+    prints(rt, alloc, &words, input, output)
+}
+
 // Runs the program on an input, whole and cut in pieces of 1, 2 and 3 characters, and expects the same output each time.
 fn prints(
     rt: &impl Abort,
@@ -64,7 +79,6 @@ fn prints(
 ) -> Result<(), Fail> {
     for cut in ["", "1", "2", "3"] {
         let mut words = Vec::new(alloc);
-        words.extend_from_slice(&PLAIN)?;
         words.extend_from_slice(options)?;
         if !cut.is_empty() {
             words.extend_from_slice(&["--cut", cut])?;
@@ -83,12 +97,12 @@ fn prints(
 
 #[test]
 fn plain_text_with_line_breaks_and_nul(rt: HostRuntime) -> Result<(), Fail> {
-    prints(&rt, rt.alloc(), &[], "a\r\nb\0c", MIXED_LINES)
+    prints_plain(&rt, rt.alloc(), &[], "a\r\nb\0c", MIXED_LINES)
 }
 
 #[test]
 fn exact_errors_drop_the_byte_order_mark(rt: HostRuntime) -> Result<(), Fail> {
-    prints(
+    prints_plain(
         &rt,
         rt.alloc(),
         &["--exact"],
@@ -118,14 +132,14 @@ fn prints_plain_text(rt: HostRuntime) -> Result<(), Fail> {
         ),
     ];
     for (input, output) in cases {
-        prints(&rt, rt.alloc(), &[], input, output)?;
+        prints_plain(&rt, rt.alloc(), &[], input, output)?;
     }
     Ok(())
 }
 
 #[test]
 fn exact_errors_name_no_state(rt: HostRuntime) -> Result<(), Fail> {
-    prints(
+    prints_plain(
         &rt,
         rt.alloc(),
         &["--exact"],
@@ -136,13 +150,59 @@ fn exact_errors_name_no_state(rt: HostRuntime) -> Result<(), Fail> {
 
 #[test]
 fn keeps_the_byte_order_mark_on_request(rt: HostRuntime) -> Result<(), Fail> {
-    prints(
+    prints_plain(
         &rt,
         rt.alloc(),
         &["--keep-bom"],
         "\u{feff}a",
         "text \"\u{feff}a\"\neof 1\n",
     )
+}
+
+#[test]
+fn prints_tags(rt: HostRuntime) -> Result<(), Fail> {
+    let cases = [
+        (
+            "<p>x</p>",
+            "start 1 \"p\"\ntext \"x\"\nend 1 \"p\"\neof 1\n",
+        ),
+        (
+            "<DIV CLASS=a class=b/>\n",
+            "error 1 \"Duplicate attribute\"\nstart 1 \"div\" \"class\"=\"a\" duplicates\ntext \"\\n\"\neof 2\n",
+        ),
+        (
+            "<br b=\"1\"/>",
+            "start 1 \"br\" \"b\"=\"1\" self-closing\neof 1\n",
+        ),
+        (
+            "a\0b",
+            "text \"a\"\nerror 1 \"Saw \\u{0} in state Data\"\nnull 1\ntext \"b\"\neof 1\n",
+        ),
+        (
+            "<a b",
+            "error 1 \"Saw EOF in state AttributeName\"\neof 1\n",
+        ),
+    ];
+    for (input, output) in cases {
+        prints(&rt, rt.alloc(), &[], input, output)?;
+        prints(&rt, rt.alloc(), &["--state", "data"], input, output)?;
+    }
+    Ok(())
+}
+
+#[test]
+fn tells_what_is_not_built_yet(rt: HostRuntime) -> Result<(), Fail> {
+    for input in ["<b>&amp;", "<!", "<?x>", "</1", "<a b='&"] {
+        let ran = run_over(rt.alloc(), &["--cut", "1"], input.as_bytes())?;
+        assert_eq!(rt; ran.status, 7, "{input:?}");
+        assert_eq!(rt; ran.output.len(), 0, "{input:?}");
+        assert_eq!(rt;
+            ran.errors.as_slice(),
+            b"not built yet\n".as_slice(),
+            "{input:?}"
+        );
+    }
+    Ok(())
 }
 
 #[test]
@@ -163,10 +223,10 @@ fn refuses_input_that_is_no_text(rt: HostRuntime) -> Result<(), Fail> {
 #[test]
 fn refuses_words_that_it_does_not_know(rt: HostRuntime) -> Result<(), Fail> {
     let faults: [&[&str]; 27] = [
-        &[],
-        &["--exact"],
+        &["--exact", "--state"],
+        &["--foreign"],
         &["--state"],
-        &["--state", "data"],
+        &["--state", "rcdata"],
         &["--state", "Plaintext"],
         &["--state", ""],
         &["--state", "--exact"],
@@ -193,7 +253,7 @@ fn refuses_words_that_it_does_not_know(rt: HostRuntime) -> Result<(), Fail> {
             "100000000000000000000000000000000000000001",
         ],
         &["--state", "plaintext", "--cut", "0", "--cut", "1"],
-        &["--state", "data", "--state", "plaintext"],
+        &["--state", "cdata", "--state", "plaintext"],
         &["--state", "plaintext", "--cut", "--exact"],
     ];
     for words in faults {
@@ -205,77 +265,81 @@ fn refuses_words_that_it_does_not_know(rt: HostRuntime) -> Result<(), Fail> {
     Ok(())
 }
 
-// The settings that plain text without further options has.
-fn plain() -> Settings
-    ensures { result.opts.initial_state ≡ Some State.Plaintext }
+// The settings of a stream that starts in a state, with errors and a byte order mark as they are
+// without further options.
+fn settings_in<A: Allocator>(initial_state: Option<State>) -> Settings<A>
+    requires { CanStart initial_state }
+    ensures { CanStart result.opts.initial_state }
 {
     Settings {
         opts: TokenizerOpts {
             exact_errors: false,
             discard_bom: true,
-            initial_state: Some(State::Plaintext),
+            initial_state,
+            last_start_tag_name: None,
         },
         foreign: false,
         cut: 0,
     }
 }
 
+fn says(
+    rt: &impl Abort,
+    alloc: Global,
+    words: &[&str],
+    settings: Settings,
+) -> Result<(), AllocError> {
+    let said = words_of(alloc, words)?;
+    assert_eq!(rt; settings_of(&said), Some(settings), "{words:?}");
+    Ok(())
+}
+
 #[test]
-fn reads_settings(rt: HostRuntime) -> Result<(), Fail> {
+fn reads_states(rt: HostRuntime) -> Result<(), Fail> {
     let alloc = rt.alloc();
-    let cut = |cut: usize| Settings { cut, ..plain() };
-    let cases: [(&[&str], Settings); 7] = [
-        (&["--state", "plaintext"], plain()),
-        (&["--cut", "007", "--state", "plaintext"], cut(7)),
-        (
-            &["--state", "plaintext", "--cut", "4294967295"],
-            cut(4294967295),
-        ),
-        (
-            &["--cut", "2", "--state", "plaintext", "--cut", "3"],
-            cut(3),
-        ),
-        (
-            &[
-                "--state",
-                "plaintext",
-                "--cut",
-                "0000000000000000000000000000000000000001",
-            ],
-            cut(1),
-        ),
-        (
-            &[
-                "--exact",
-                "--state",
-                "plaintext",
-                "--exact",
-                "--state",
-                "plaintext",
-            ],
-            Settings {
-                opts: TokenizerOpts {
-                    exact_errors: true,
-                    ..plain().opts
-                },
-                ..plain()
-            },
-        ),
-        (
-            &["--keep-bom", "--state", "plaintext"],
-            Settings {
-                opts: TokenizerOpts {
-                    discard_bom: false,
-                    ..plain().opts
-                },
-                ..plain()
-            },
-        ),
+    says(&rt, alloc, &[], settings_in(None))?;
+    says(
+        &rt,
+        alloc,
+        &["--state", "data"],
+        settings_in(Some(State::Data)),
+    )?;
+    says(&rt, alloc, &PLAIN, settings_in(Some(State::Plaintext)))?;
+    says(
+        &rt,
+        alloc,
+        &["--state", "data", "--state", "plaintext"],
+        settings_in(Some(State::Plaintext)),
+    )?;
+    Ok(())
+}
+
+#[test]
+fn reads_cuts(rt: HostRuntime) -> Result<(), Fail> {
+    let alloc = rt.alloc();
+    let cases: [(&[&str], usize); 4] = [
+        (&["--cut", "007"], 7),
+        (&["--cut", "4294967295"], 4294967295),
+        (&["--cut", "2", "--cut", "3"], 3),
+        (&["--cut", "0000000000000000000000000000000000000001"], 1),
     ];
-    for (words, settings) in cases {
-        let said = words_of(alloc, words)?;
-        assert_eq!(rt; settings_of(&said), Some(settings), "{words:?}");
+    for (words, cut) in cases {
+        let mut settings: Settings = settings_in(None);
+        settings.cut = cut;
+        says(&rt, alloc, words, settings)?;
     }
+    Ok(())
+}
+
+#[test]
+fn reads_flags(rt: HostRuntime) -> Result<(), Fail> {
+    let alloc = rt.alloc();
+    let mut exact: Settings = settings_in(None);
+    exact.opts.exact_errors = true;
+    says(&rt, alloc, &["--exact", "--exact"], exact)?;
+    let mut kept: Settings = settings_in(None);
+    kept.opts.discard_bom = false;
+    says(&rt, alloc, &["--keep-bom"], kept)?;
     Ok(())
 }
 
@@ -321,7 +385,8 @@ fn prints_nothing_wrong_once_memory_ran_out(rt: HostRuntime) {
         let heap = Refusing::new(rt.alloc(), admitted);
         let mut reader = ReadSource::new(MIXED);
         let mut writer = WriteTarget::new(Vec::new(rt.alloc()));
-        let answer = print_tokens(&heap, &mut reader, &mut writer, &plain());
+        let settings = settings_in(Some(State::Plaintext));
+        let answer = print_tokens(&heap, &mut reader, &mut writer, &settings);
         let output: Vec<u8> = writer.into_inner();
         if !heap.has_refused() {
             assert_eq!(rt; answer, Ok(()));
@@ -397,7 +462,7 @@ fn a_line_that_fails_changes_nothing(rt: HostRuntime) -> Result<(), Fail> {
     for refusal in [Refusal::Error, Refusal::Nothing] {
         for (words, input, status, taken) in [
             (PLAIN, b"\xff".as_slice(), 3, "inp"),
-            (["--state", "data"], b"a", 2, "usa"),
+            (["--state", "cdata"], b"a", 2, "usa"),
             (PLAIN, b"a", 0, ""),
         ] {
             let mut reader = ReadSource::new(input);

@@ -1,13 +1,10 @@
-use Rattle.std.proofs.Common.{◌≡◌, ℕ, [], ◌∷◌, refl, ap, sym, ◌∙◌}
+use Rattle.std.proofs.Common.{◌≡◌, [], ◌∷◌, refl, ap, sym, ◌∙◌}
 use Rattle.html5ever_interface.specs.Sink.{stepped}
 use Rattle.html5grammar.specs.ErrorText.{bad_character_error}
 use Rattle.html5grammar.specs.NormalisedText.{input_after}
-use Rattle.html5grammar.specs.Start.{Start, Input}
-use Rattle.html5grammar.proofs.Machine.{step_at}
-use Rattle.html5ever.specs.CurrentTag.{open_of}
-use Rattle.html5ever.specs.Steps.{tokens_of}
+use Rattle.html5grammar.specs.Start.{Input}
 use Rattle.html5ever.proofs.CharacterReading.{told-dropped, after-dropped, told-character, after-character, told-stopped, after-stopped}
-use Rattle.html5ever.proofs.Tellings.{told_then, told_stop, leads_refused}
+use Rattle.html5ever.proofs.Tellings.{told_then, told_stop}
 use Rattle.html5ever.proofs.position.read_character.Goals as goal
 
 pub returns-in_default-clause-tells : goal.returns-in_default-clause-tells

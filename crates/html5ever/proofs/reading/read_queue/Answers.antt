@@ -20,7 +20,7 @@ loop-item-preserved g c =
     let taken = rw c.in-Some.is at c.in_ok-item.ensures.ok in
     let leads = c.in_ok-read_item.ensures.leads in (
       HasRead-more g.S.TokenSink.step g.S.TokenSink.reply c.args.exact_errors _ _ _ _ _ _ _ _ _ (item_text c.in-Some.item) c.loop-item.invariant.0 taken.0 c.in_ok-read_item.ensures.tells
-      (moved-behind g.S.TokenSink.step g.S.TokenSink.reply c.args.exact_errors _ _ _ (item_text c.in-Some.item) leads.0 c.read_item.ensures.input),
+          (moved-behind g.S.TokenSink.step g.S.TokenSink.reply c.args.exact_errors _ _ _ (item_text c.in-Some.item) leads.0 c.read_item.ensures.input),
       omega (arith, c.in_ok-read_item.ensures.faults, c.loop-item.invariant.1),
       c.loop-item.invariant.2,
       rw leads.0 leads.1,

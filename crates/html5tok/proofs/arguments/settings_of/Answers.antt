@@ -10,9 +10,12 @@ use Rattle.html5tok.proofs.arguments.settings_of.Goals as goal
 pub loop-word-init : goal.loop-word-init
 unfolding settings_said
 loop-word-init g c =
-    let opts : options_of c.default.result ≡ default_options = c.default.ensures in
-    (refl, omega arith, rw (ap (λ (o : OptionsOf). o.initial_state) opts) tt,
-    rw opts (ap (λ l. said_after unsaid (map string_bytes l)) c.iter-words.ensures.rest))
+    let opts : options_of c.default.result ≡ default_options = c.default.ensures in (
+      refl,
+      omega arith,
+      rw (ap (λ (o : OptionsOf). o.initial_state) opts) tt,
+      rw opts (ap (λ l. said_after unsaid (map string_bytes l)) c.iter-words.ensures.rest),
+    )
 
 pub loop-word-preserved-then-str_eq : goal.loop-word-preserved-then-str_eq
 loop-word-preserved-then-str_eq g c =

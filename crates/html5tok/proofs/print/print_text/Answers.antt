@@ -1,13 +1,11 @@
-use Rattle.std.proofs.Common.{◌≡◌, [], ◌∙◌, sym, ap, string_bytes, subst}
+use Rattle.std.proofs.Common.{◌≡◌, [], ◌∙◌, ap, string_bytes, subst}
 use Rattle.std.specs.Str.{chars}
 use Rattle.html5ever_interface.specs.Sink.{stepped}
 use Rattle.html5ever.specs.Tokenizer.{StandsAt}
 use Rattle.html5grammar.specs.Reading.{reading, messages}
 use Rattle.html5grammar.specs.Start.{Start, start_of}
-use Rattle.html5ever.specs.Steps.{IsBuilt}
 use Rattle.html5ever_interface.specs.Options.{OptionsOf, options_of}
-use Rattle.html5print.specs.Page.{Page, Printer, page_step, page_reply, blank_page}
-use Rattle.html5tok.specs.Printing.{IsWholeBuilt}
+use Rattle.html5print.specs.Page.{Page, Printer, page_step, page_reply}
 use Rattle.html5tok.specs.Settings.{said_by}
 use Rattle.html5tok.proofs.PrintedPages.{printed-page, built-reading}
 use Rattle.html5tok.proofs.print.print_text.Goals as goal
