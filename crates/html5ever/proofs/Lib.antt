@@ -3,3 +3,4 @@ pub mod RunLemmas
 pub mod QueueReading
 pub mod Standing
 pub mod CharacterReading
+pub mod Wholes

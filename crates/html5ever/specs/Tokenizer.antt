@@ -1,5 +1,5 @@
 -- Where a tokenizer stands in a text, and what its calls make of that.
-use Rattle.std.specs.Prelude.{◌≡◌, ℕ, Bool, false, List, ◌++◌, ◌⊎◌, Option, None, Some}
+use Rattle.std.specs.Prelude.{◌≡◌, ℕ, Bool, false, List, [], ◌++◌, ◌⊎◌, Option, None, Some}
 use Rattle.html5ever_interface.specs.Sink.{Message, stepped}
 use Rattle.html5ever_interface.specs.Token.{Told, Reply}
 use Rattle.html5ever_interface.specs.declared.states.State.{State}
@@ -77,3 +77,23 @@ module _ {X S H : Type 0} (state : X → S) (step : S → Told → ℕ → S) (r
   StopsEnding end_faulted e old t =
       (K : Start) (s : S) (text : List ℕ) → StandsAt state step reply old K s text
       → EndStops step faulted end_faulted e (state old.sink) (told_at_end step reply old.exact K s text) t
+
+-- what a refusal within the reading of a whole text leaves of its messages: all was told where it is what isn't built yet
+abbrev pub WholeStops : {S : Type 0} → (S → Told → ℕ → S) → (S → Told → ℕ → S) → (S → S) → TokenizerError → S → List Message → S → Type 0
+WholeStops step faulted end_faulted Memory s M t = StopsWithin step faulted s M t
+WholeStops step faulted end_faulted Sink s M t = FaultsWithin step faulted s M t ⊎ (t ≡ end_faulted (stepped step s M))
+WholeStops step faulted end_faulted Failed s M t = ⊥
+WholeStops step faulted end_faulted NotYet s M t = t ≡ stepped step s M
+
+module _ {X S H : Type 0} (state : X → S) (step : S → Told → ℕ → S) (reply : S → Told → ℕ → Reply H) where
+  -- from wherever the tokenizer stood, the reading of what was taken and `more` was told, and then the sink finished
+  abbrev pub ReadsWhole : (S → S) → Tokenizing X → List ℕ → S → Type 0
+  ReadsWhole finish old more t =
+      (K : Start) (s : S) (text : List ℕ) → StandsAt state step reply old K s text
+      → t ≡ finish (stepped step s (messages (reading step reply old.exact K s (text ++ more))))
+
+  -- from the start of a text, the tokenizer stopped within the reading of `more`
+  abbrev pub StopsWhole : (S → Told → ℕ → S) → (S → S) → TokenizerError → Tokenizing X → List ℕ → S → Type 0
+  StopsWhole faulted end_faulted e old more t =
+      (K : Start) (s : S) → StandsAt state step reply old K s []
+      → WholeStops step faulted end_faulted e s (messages (reading step reply old.exact K s more)) t

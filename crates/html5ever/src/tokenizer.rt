@@ -16,6 +16,7 @@ use std::alloc::{Allocator, Global};
 use std::marker::Model;
 
 pub mod collect;
+pub mod laws;
 pub mod states;
 
 pub use html5ever_interface::interface::sink::TokenSink;

@@ -1,0 +1,99 @@
+-- A whole text: what feeding it and ending leave.
+use Rattle.std.proofs.Common.{◌≡◌, inl, inr, ℕ, Bool, List, [], ◌++◌, refl, ap, sym, ◌∙◌, length, drop}
+use Rattle.std.proofs.lemmas.List.{append-nil}
+use Rattle.html5ever_interface.proofs.Steppings.{stepped-append}
+use Rattle.html5ever_interface.specs.Sink.{Message, stepped}
+use Rattle.html5ever_interface.specs.Token.{Told, Reply}
+use Rattle.html5grammar.specs.Reading.{Event, end_events, read, reading, told, messages, after}
+use Rattle.html5grammar.specs.NormalisedText.{normalised}
+use Rattle.html5grammar.specs.Start.{Start}
+use Rattle.html5grammar.proofs.ReadingLemmas.{told-nil, reading-events}
+use Rattle.html5grammar.proofs.Traces.{messages-append}
+use Rattle.html5ever.specs.Feed.{told_beyond, told_at_end}
+use Rattle.html5ever.specs.Telling.{Stops, StopsWithin}
+use Rattle.html5ever.specs.Tokenizer.{Tokenizing, StandsAt, EndStops, WholeStops}
+use Rattle.html5ever.specs.declared.error.TokenizerError.{TokenizerError}
+use Rattle.html5ever.specs.declared.error.TokenizerError.TheVariants.{Memory, Sink, Failed, NotYet}
+use Rattle.markup5ever.specs.BufferQueue.{TextQueue, Gains}
+use Rattle.html5ever.proofs.Tellings.{stops_before, stops_after}
+use Rattle.std.proofs.Math.Seq.{drop-append_seam}
+use Rattle.std.proofs.lemmas.List.{length-map}
+use Rattle.html5grammar.specs.EndOfInput.{told_at_end_of}
+use Rattle.html5grammar.specs.Start.Open.{NotBuilt}
+
+module _ {X S H : Type 0} (state : X → S) (step : S → Told → ℕ → S) (reply : S → Told → ℕ → Reply H) (faulted : S → Told → ℕ → S) where
+  -- the reading is what is told, and then what the end tells
+  reading-parts : (exact : Bool) (K : Start) (s : S) (text : List ℕ)
+      → messages (reading step reply exact K s text) ≡ messages (told step reply exact K s text) ++ told_at_end step reply exact K s text
+  reading-parts exact K s text =
+      let E : List Event = told step reply exact K s text in
+      let N : List Message = messages (end_events step reply exact K (read step reply exact K s text).opened (normalised K.input text)) in
+      let whole : messages (reading step reply exact K s text) ≡ messages E ++ N =
+      ap (λ F. messages F) (reading-events step reply exact K s text)
+      ∙ messages-append E (end_events step reply exact K (read step reply exact K s text).opened (normalised K.input text)) in
+      whole
+      ∙ ap (λ l. messages E ++ l)
+      (sym (ap (λ l. drop (length E) l) whole
+      ∙ ap (λ n. drop n (messages E ++ N)) (sym (length-map E (λ (e : Event). e.message)))
+      ∙ drop-append_seam (messages E) N))
+
+  -- nothing was told before the text
+  told_beyond-start : (exact : Bool) (K : Start) (s : S) (text : List ℕ) → told_beyond step reply exact K s [] text ≡ messages (told step reply exact K s text)
+  told_beyond-start exact K s text =
+      ap (λ n. drop n (messages (told step reply exact K s text)))
+      (sym (length-map (told step reply exact K s []) (λ (e : Event). e.message)) ∙ ap length (told-nil step reply exact K s))
+
+  state-start : (t : Tokenizing X) (K : Start) (s : S) → StandsAt state step reply t K s [] → state t.sink ≡ s
+  unfolding stepped
+  state-start t K s stands = stands.told ∙ ap (stepped step s) (told-nil step reply t.exact K s)
+
+  -- where what isn't built yet was met, the end tells nothing
+  end-not_built : (exact : Bool) (K : Start) (s : S) (text : List ℕ) → (after step reply exact K s text).opened ≡ NotBuilt
+      → messages (reading step reply exact K s text) ≡ messages (told step reply exact K s text)
+  unfolding end_events told_at_end_of
+  end-not_built exact K s text met =
+      ap (λ F. messages F) (reading-events step reply exact K s text)
+      ∙ messages-append (told step reply exact K s text) (end_events step reply exact K (read step reply exact K s text).opened (normalised K.input text))
+      ∙ rw met (append-nil (messages (told step reply exact K s text)))
+
+  pub whole-feed_stops : (end_faulted : S → S) (e : TokenizerError) (t : Tokenizing X) (K : Start) (s u : S) (text : List ℕ)
+      → StandsAt state step reply t K s []
+      → (e ≡ NotYet → (after step reply t.exact K s text).opened ≡ NotBuilt)
+      → Stops step faulted e (state t.sink) (told_beyond step reply t.exact K s [] text) u
+      → WholeStops step faulted end_faulted e s (messages (reading step reply t.exact K s text)) u
+  whole-feed_stops end_faulted Memory t K s u text stands met stops =
+      rw (reading-parts t.exact K s text)
+      (stops_before step faulted Memory s u (messages (told step reply t.exact K s text)) (told_at_end step reply t.exact K s text) tt
+      (rw (told_beyond-start t.exact K s text, state-start t K s stands) at stops))
+  whole-feed_stops end_faulted Sink t K s u text stands met stops =
+      rw (reading-parts t.exact K s text)
+      (inl (stops_before step faulted Sink s u (messages (told step reply t.exact K s text)) (told_at_end step reply t.exact K s text) tt
+      (rw (told_beyond-start t.exact K s text, state-start t K s stands) at stops)))
+  whole-feed_stops end_faulted Failed t K s u text stands met stops = stops
+  whole-feed_stops end_faulted NotYet t K s u text stands met stops =
+      rw (end-not_built t.exact K s text (met refl)) (rw (told_beyond-start t.exact K s text, state-start t K s stands) at stops)
+
+  pub whole-end_stops : (end_faulted : S → S) (e : TokenizerError) (t : Tokenizing X) (K : Start) (s u : S) (text : List ℕ)
+      → StandsAt state step reply t K s text
+      → EndStops step faulted end_faulted e (state t.sink) (told_at_end step reply t.exact K s text) u
+      → WholeStops step faulted end_faulted e s (messages (reading step reply t.exact K s text)) u
+  whole-end_stops end_faulted Memory t K s u text stands stops =
+      rw (reading-parts t.exact K s text)
+      (stops_after step faulted Memory s (state t.sink) u (messages (told step reply t.exact K s text)) (told_at_end step reply t.exact K s text) stands.told stops)
+  whole-end_stops end_faulted Sink t K s u text stands (inl stops) =
+      rw (reading-parts t.exact K s text)
+      (inl (stops_after step faulted Sink s (state t.sink) u (messages (told step reply t.exact K s text)) (told_at_end step reply t.exact K s text) stands.told stops))
+  whole-end_stops end_faulted Sink t K s u text stands (inr ended) =
+      rw (reading-parts t.exact K s text)
+      (inr (ended ∙ ap end_faulted (rw (stands.told) (sym (stepped-append step s (messages (told step reply t.exact K s text)) (told_at_end step reply t.exact K s text))))))
+  whole-end_stops end_faulted Failed t K s u text stands stops = stops
+  whole-end_stops end_faulted NotYet t K s u text stands stops = absurd stops
+
+  pub whole-memory : (t : Tokenizing X) (K : Start) (s : S) (M : List Message) → StandsAt state step reply t K s []
+      → StopsWithin step faulted s M (state t.sink)
+  unfolding stepped
+  whole-memory t K s M stands = record { before = []; rest = M; parts = refl; state = state-start t K s stands }
+
+-- the queue has the text alone
+pub queued : (old new : TextQueue) (text : List ℕ) → old.text ≡ [] → Gains old new text → new.text ≡ text
+queued old new text none gains = gains.text ∙ ap (λ l. l ++ text) none

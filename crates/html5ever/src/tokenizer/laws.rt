@@ -1,0 +1,61 @@
+//! Laws of whole texts, on calls that read one.
+ghost use Rattle.std.specs.Prelude.{◌≡◌, ◌+◌, false, IfErr, OnOk, string_bytes};
+ghost use Rattle.std.specs.Str.{chars};
+ghost use Rattle.html5ever_interface.specs.Options.{options_of};
+ghost use Rattle.html5ever_interface.specs.Sink.{stepped};
+ghost use Rattle.html5grammar.specs.Reading.{reading, messages};
+ghost use Rattle.html5grammar.specs.Start.{start_of};
+ghost use Rattle.html5ever.specs.Telling.{faults_of};
+ghost use Rattle.html5ever.specs.Tokenizer.{CanStart, ReadsWhole, StopsWhole, WholeStops};
+
+use crate::error::TokenizerError;
+use crate::tokenizer::Tokenizer;
+use html5ever_interface::interface::sink::TokenSink;
+use html5ever_interface::interface::token::Token;
+use html5ever_interface::options::TokenizerOpts;
+use markup5ever::buffer_queue::BufferQueue;
+use std::alloc::Allocator;
+
+// Feeds a tokenizer a text, and ends.
+fn read_whole<S: TokenSink<Token<A>>, A: Allocator + Copy>(
+    alloc: A,
+    tokenizer: &mut Tokenizer<S, A>,
+    text: String<A>,
+) -> Result<(), TokenizerError>
+    requires going_on { tokenizer.old.ended ≡ false }
+    requires not_failed { tokenizer.old.failed ≡ false }
+    ensures finishes { OnOk result (ReadsWhole S.state S.step S.reply S.finish tokenizer.old
+        (chars (string_bytes text)) (S.state tokenizer.new.sink)) }
+    ensures stops { IfErr result (λ error. StopsWhole S.state S.step S.reply S.faulted S.end_faulted
+        error tokenizer.old (chars (string_bytes text)) (S.state tokenizer.new.sink)) }
+    ensures faults { S.faults tokenizer.new.sink ≡ S.faults tokenizer.old.sink + faults_of result }
+{
+    let mut queue = BufferQueue::new(alloc);
+    let Ok(()) = queue.push_back(text) else {
+        return Err(TokenizerError::Memory);
+    };
+    tokenizer.feed(&mut queue)?;
+    tokenizer.end()
+}
+
+/// Reads a whole text from the start of a stream, and hands the sink back: it has finished behind
+/// all that the text tells, or after a refusal it was told a beginning of that.
+pub fn closed<S: TokenSink<Token<A>>, A: Allocator + Copy>(
+    alloc: A,
+    sink: S,
+    opts: TokenizerOpts<A>,
+    text: String<A>,
+) -> (S, Result<(), TokenizerError>)
+    requires { CanStart opts.initial_state }
+    ensures finishes { OnOk result.1 (S.state result.0 ≡ S.finish (stepped S.step (S.state sink)
+        (messages (reading S.step S.reply opts.exact_errors (start_of (options_of opts)) (S.state sink)
+        (chars (string_bytes text)))))) }
+    ensures stops { IfErr result.1 (λ error. WholeStops S.step S.faulted S.end_faulted error (S.state sink)
+        (messages (reading S.step S.reply opts.exact_errors (start_of (options_of opts)) (S.state sink)
+        (chars (string_bytes text)))) (S.state result.0)) }
+    ensures faults { S.faults result.0 ≡ S.faults sink + faults_of result.1 }
+{
+    let mut tokenizer = Tokenizer::new(alloc, sink, opts);
+    let result = read_whole(alloc, &mut tokenizer, text);
+    (tokenizer.into_sink(), result)
+}
