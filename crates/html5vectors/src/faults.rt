@@ -1,0 +1,89 @@
+//! Where a sink faults, the tokenizer stops.
+use crate::refused::{check_refused, drained};
+use crate::running::{options, push_text};
+use crate::sinks::FaultySink;
+use html5ever::error::TokenizerError;
+use html5ever::tokenizer::{Tokenizer, TokenizerResult};
+use markup5ever::buffer_queue::BufferQueue;
+use std::alloc::{AllocError, Global};
+use std::process::Abort;
+use std::test::Fail;
+
+// A text and whether it is plain, how many of its tokens are taken, whether one of them is no text,
+// and what the queue keeps.
+type Stop<'a> = (&'a str, bool, usize, bool, &'a str);
+
+const STOPS: [Stop<'static>; 11] = [
+    ("a\0bc", true, 0, false, "\0bc"),
+    ("a\0bc", true, 1, false, "bc"),
+    ("a\0bc", true, 2, true, "bc"),
+    ("a\0bc", true, 3, true, ""),
+    ("<a>b", false, 0, false, "b"),
+    ("<a>b", false, 1, true, ""),
+    ("<a b=\"1\"c='2'c>x", false, 0, false, "='2'c>x"),
+    ("<a b=\"1\"c='2'c>x", false, 1, true, ">x"),
+    ("<a b=\"1\"c='2'c>x", false, 2, true, "x"),
+    ("<a b=\"1\"c='2'c>x", false, 3, true, "x"),
+    ("<a b=\"1\"c='2'c>x", false, 4, true, ""),
+];
+
+// Feeds a text to a sink that faults.
+fn check_stop(rt: &impl Abort, alloc: Global, stop: Stop) -> Result<(), AllocError> {
+    let (text, plain, taken, took_another, left) = stop;
+    let opts = options(false, plain);
+    let mut tokenizer = Tokenizer::new(alloc, FaultySink::new(taken, false), opts);
+    let mut queue = BufferQueue::new(alloc);
+    push_text(alloc, &mut queue, text)?;
+    assert_eq!(rt;
+        tokenizer.feed(&mut queue),
+        Err(TokenizerError::Sink),
+        "{text} at {taken}"
+    );
+    check_refused(rt, &mut tokenizer, &mut queue, text);
+    assert_eq!(rt;
+        drained(alloc, &mut queue)?.as_str(),
+        left,
+        "{text} at {taken}"
+    );
+    let sink = tokenizer.into_sink();
+    assert_eq!(rt; sink.took_another, took_another, "{text} at {taken}");
+    Ok(())
+}
+
+#[test]
+fn stops_where_the_sink_faults(rt: HostRuntime) -> Result<(), Fail> {
+    for stop in STOPS {
+        check_stop(&rt, rt.alloc(), stop)?;
+    }
+    Ok(())
+}
+
+// Feeds a text whole. At its end the sink faults, at a token or when it finishes.
+fn check_end(
+    rt: &impl Abort,
+    alloc: Global,
+    plain: bool,
+    taken: usize,
+    end_faults: bool,
+) -> Result<(), AllocError> {
+    let opts = options(false, plain);
+    let mut tokenizer = Tokenizer::new(alloc, FaultySink::new(taken, end_faults), opts);
+    let mut queue = BufferQueue::new(alloc);
+    push_text(alloc, &mut queue, "a")?;
+    assert_eq!(rt; tokenizer.feed(&mut queue), Ok(TokenizerResult::Done));
+    assert!(rt; queue.is_empty());
+    assert_eq!(rt; tokenizer.end(), Err(TokenizerError::Sink));
+    check_refused(rt, &mut tokenizer, &mut queue, "the end");
+    assert_eq!(rt; tokenizer.sink.took_another, end_faults);
+    Ok(())
+}
+
+#[test]
+fn stops_where_the_sink_faults_at_the_end(rt: HostRuntime) -> Result<(), Fail> {
+    for plain in [false, true] {
+        // The end of input is the second token.
+        check_end(&rt, rt.alloc(), plain, 1, false)?;
+        check_end(&rt, rt.alloc(), plain, 2, true)?;
+    }
+    Ok(())
+}

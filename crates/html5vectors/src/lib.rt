@@ -1,0 +1,25 @@
+//! Worked cases of the tokenizer.
+#![tactic(auto)]
+
+#[cfg(test)]
+mod end_cases;
+#[cfg(test)]
+mod faults;
+#[cfg(test)]
+mod lines;
+#[cfg(test)]
+mod memory;
+#[cfg(test)]
+mod not_built;
+#[cfg(test)]
+mod refused;
+#[cfg(test)]
+mod running;
+#[cfg(test)]
+mod sinks;
+#[cfg(test)]
+mod tag_cases;
+#[cfg(test)]
+mod text_cases;
+#[cfg(test)]
+mod wholes;

@@ -1,0 +1,121 @@
+//! Entries of a collector, written as lines.
+use html5ever_interface::interface::token::{Tag, TagKind, Token};
+use markup5ever::interface::Attribute;
+use std::alloc::{AllocError, Allocator, Global};
+
+// Appends a character, a control or a quote by its escape.
+fn push_escaped(alloc: Global, out: &mut String, c: char) -> Result<(), AllocError> {
+    match c {
+        '\\' => out.push_str("\\\\"),
+        '"' => out.push_str("\\\""),
+        '\n' => out.push_str("\\n"),
+        '\0'..='\x1f' | '\x7f' => {
+            let code = c as u32;
+            let digits = format!(in alloc; "{code:x}")?;
+            out.push_str("\\u{")?;
+            out.push_str(&digits)?;
+            out.push('}')
+        }
+        _ => out.push(c),
+    }
+}
+
+// Appends a text in quotes.
+fn push_quoted(alloc: Global, out: &mut String, text: &str) -> Result<(), AllocError> {
+    out.push('"')?;
+    for c in text.chars() {
+        push_escaped(alloc, out, c)?;
+    }
+    out.push('"')
+}
+
+// Appends a word and the number of a line.
+fn push_head(alloc: Global, out: &mut String, word: &str, line: u64) -> Result<(), AllocError> {
+    let head = format!(in alloc; "{word} {line}")?;
+    out.push_str(&head)
+}
+
+// Appends a word, the number of a line, and a text in quotes.
+fn push_message(
+    alloc: Global,
+    out: &mut String,
+    word: &str,
+    line: u64,
+    text: &str,
+) -> Result<(), AllocError> {
+    push_head(alloc, out, word, line)?;
+    out.push(' ')?;
+    push_quoted(alloc, out, text)
+}
+
+// Appends an attribute behind a space.
+fn push_attribute<A: Allocator>(
+    alloc: Global,
+    out: &mut String,
+    attribute: &Attribute<A>,
+) -> Result<(), AllocError> {
+    out.push(' ')?;
+    push_quoted(alloc, out, attribute.name.local.0.as_str())?;
+    out.push('=')?;
+    push_quoted(alloc, out, attribute.value.as_str())
+}
+
+// Appends a tag.
+fn push_tag<A: Allocator>(
+    alloc: Global,
+    out: &mut String,
+    tag: &Tag<A>,
+    line: u64,
+) -> Result<(), AllocError> {
+    let word = match tag.kind {
+        TagKind::StartTag => "start",
+        TagKind::EndTag => "end",
+    };
+    push_message(alloc, out, word, line, tag.name.0.as_str())?;
+    for attribute in &tag.attrs {
+        push_attribute(alloc, out, attribute)?;
+    }
+    if tag.self_closing {
+        out.push_str(" self-closing")?;
+    }
+    if tag.had_duplicate_attributes {
+        out.push_str(" duplicates")?;
+    }
+    Ok(())
+}
+
+// Appends a token. No DOCTYPE is told yet.
+fn push_token<A: Allocator>(
+    alloc: Global,
+    out: &mut String,
+    token: &Token<A>,
+    line: u64,
+) -> Result<(), AllocError> {
+    match token {
+        Token::DoctypeToken(_) => push_head(alloc, out, "doctype", line),
+        Token::TagToken(tag) => push_tag(alloc, out, tag, line),
+        Token::CommentToken(text) => push_message(alloc, out, "comment", line, text.as_str()),
+        Token::CharacterTokens(text) => {
+            out.push_str("text ")?;
+            push_quoted(alloc, out, text.as_str())
+        }
+        Token::NullCharacterToken => push_head(alloc, out, "null", line),
+        Token::EOFToken => push_head(alloc, out, "eof", line),
+        Token::ParseError(text) => push_message(alloc, out, "error", line, text.as_str()),
+    }
+}
+
+/// The entries as lines, joined by LF.
+pub fn lines_of<A: Allocator>(
+    alloc: Global,
+    entries: &[(Token<A>, u64)],
+) -> Result<String, AllocError> {
+    let mut out = String::new(alloc);
+    for (token, line) in entries {
+        if !out.is_empty() {
+            out.push('\n')?;
+        }
+        push_token(alloc, &mut out, token, *line)?;
+    }
+    Ok(out)
+}

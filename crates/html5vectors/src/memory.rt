@@ -1,0 +1,102 @@
+//! Each request for memory refused in turn.
+ghost use Rattle.std.specs.Prelude.{◌≡◌, false};
+
+use crate::lines::lines_of;
+use crate::refused::check_refused;
+use crate::running::{options, push_text};
+use html5ever::error::TokenizerError;
+use html5ever::tokenizer::Tokenizer;
+use html5ever_interface::collect::Collector;
+use markup5ever::buffer_queue::BufferQueue;
+use refusing::Refusing;
+use std::alloc::{AllocError, Global};
+use std::process::Abort;
+use std::test::Fail;
+
+// A heap that refuses a request, and a tokenizer on it.
+type Heap<'h> = &'h Refusing<Global>;
+
+type TokenizerOn<'h> = Tokenizer<Collector<Heap<'h>>, Heap<'h>>;
+
+// Reads the text that waits, and its end.
+fn read_all<'h>(
+    tokenizer: &mut TokenizerOn<'h>,
+    queue: &mut BufferQueue<Heap<'h>>,
+) -> Result<(), TokenizerError>
+    requires going_on { tokenizer.old.ended ≡ false }
+{
+    tokenizer.feed(queue)?;
+    tokenizer.end()
+}
+
+// Reads a text on the heap. Answers what was told, and why a call was refused; `None` where the text
+// itself could not be handed in.
+fn told_on(
+    rt: &impl Abort,
+    ample: Global,
+    heap: Heap,
+    text: &str,
+) -> Result<Option<(String, Option<TokenizerError>)>, AllocError> {
+    let mut queue = BufferQueue::new(heap);
+    if push_text(heap, &mut queue, text).is_err() {
+        return Ok(None);
+    }
+    let opts = options(false, false);
+    let mut tokenizer = Tokenizer::new(heap, Collector::new(heap, false), opts);
+    let refused = read_all(&mut tokenizer, &mut queue).err();
+    if refused.is_some() {
+        check_refused(rt, &mut tokenizer, &mut queue, text);
+    }
+    Ok(Some((lines_of(ample, tokenizer.sink.entries())?, refused)))
+}
+
+// Whether the lines are the first ones of others.
+fn is_beginning(alloc: Global, lines: &str, others: &str) -> Result<bool, AllocError> {
+    let mut ended = String::from_str(alloc, lines)?;
+    if !lines.is_empty() {
+        ended.push('\n')?;
+    }
+    let mut whole = String::from_str(alloc, others)?;
+    whole.push('\n')?;
+    Ok(whole.as_str().starts_with(ended.as_str()))
+}
+
+#[test]
+fn a_refused_request_leaves_a_beginning(rt: HostRuntime) -> Result<(), Fail> {
+    let lines = "error 1 \"Saw c in state AfterAttributeValueQuoted\"\n\
+                 error 1 \"Saw c in state AfterAttributeValueQuoted\"\n\
+                 error 1 \"Duplicate attribute\"\n\
+                 start 1 \"a\" \"b\"=\"1\" \"c\"=\"2\" duplicates\n\
+                 eof 1";
+    let mut in_tokenizer = 0u64;
+    let mut in_sink = 0u64;
+    let mut is_whole = false;
+    for admitted in 0..1000u64 {
+        let heap = Refusing::new(rt.alloc(), admitted);
+        let Some((told, refused)) = told_on(&rt, rt.alloc(), &heap, "<a b=\"1\"c='2'c>")? else {
+            continue;
+        };
+        assert_eq!(rt; refused.is_some(), heap.has_refused(), "after {admitted}");
+        assert!(rt;
+            is_beginning(rt.alloc(), &told, lines)?,
+            "after {admitted}: {told}"
+        );
+        match refused {
+            Some(TokenizerError::Memory) => in_tokenizer = in_tokenizer.wrapping_add(1),
+            Some(error) => {
+                assert_eq!(rt; error, TokenizerError::Sink, "after {admitted}");
+                in_sink = in_sink.wrapping_add(1);
+            }
+            None => {
+                assert_eq!(rt; told.as_str(), lines);
+                is_whole = true;
+                break;
+            }
+        }
+    }
+    assert!(rt; is_whole);
+    // Each of the two makes more than one request.
+    assert!(rt; in_tokenizer > 1);
+    assert!(rt; in_sink > 1);
+    Ok(())
+}

@@ -1,0 +1,82 @@
+//! What is not built yet is refused, behind all that was decided before it.
+use crate::lines::lines_of;
+use crate::refused::{check_refused, drained};
+use crate::running::{options, push_text};
+use crate::sinks::ParagraphSink;
+use html5ever::error::TokenizerError;
+use html5ever::tokenizer::{Tokenizer, TokenizerResult};
+use html5ever_interface::collect::Collector;
+use markup5ever::buffer_queue::BufferQueue;
+use std::alloc::{AllocError, Global};
+use std::process::Abort;
+use std::test::Fail;
+
+// A text, whether errors are exact, what is told of it, and what it leaves in the queue.
+type Stop<'a> = (&'a str, bool, &'a str, &'a str);
+
+const STOPS: [Stop<'static>; 11] = [
+    ("<b>&amp;", false, "start 1 \"b\"", "amp;"),
+    (
+        "<&",
+        false,
+        "error 1 \"Saw & in state TagOpen\"\ntext \"<\"",
+        "",
+    ),
+    ("</\u{1}x", true, "", "x"),
+    ("a</\u{1}x", false, "text \"a\"", "x"),
+    ("<!", false, "", ""),
+    ("<?", false, "", ""),
+    ("</1", false, "", ""),
+    ("<a b='&", false, "", ""),
+    ("<a b=\"&", false, "", ""),
+    ("<a b=&", false, "", ""),
+    ("\0<a b=c&", true, "error 1 \"Bad character\"\nnull 1", ""),
+];
+
+// Feeds a text that meets what is not built.
+fn check_stop(rt: &impl Abort, alloc: Global, stop: Stop) -> Result<(), AllocError> {
+    let (text, exact, lines, left) = stop;
+    let opts = options(exact, false);
+    let mut tokenizer = Tokenizer::new(alloc, Collector::new(alloc, false), opts);
+    let mut queue = BufferQueue::new(alloc);
+    push_text(alloc, &mut queue, text)?;
+    assert_eq!(rt;
+        tokenizer.feed(&mut queue),
+        Err(TokenizerError::NotYet),
+        "{text}"
+    );
+    check_refused(rt, &mut tokenizer, &mut queue, text);
+    let told = lines_of(alloc, tokenizer.sink.entries())?;
+    assert_eq!(rt; told.as_str(), lines, "{text}");
+    assert!(rt; !tokenizer.sink.is_finished(), "{text}");
+    assert_eq!(rt; drained(alloc, &mut queue)?.as_str(), left, "{text}");
+    Ok(())
+}
+
+#[test]
+fn refuses_what_is_not_built(rt: HostRuntime) -> Result<(), Fail> {
+    for stop in STOPS {
+        check_stop(&rt, rt.alloc(), stop)?;
+    }
+    Ok(())
+}
+
+#[test]
+fn refuses_a_reply_that_is_not_built(rt: HostRuntime) -> Result<(), Fail> {
+    let alloc = rt.alloc();
+    let opts = options(false, false);
+    let mut tokenizer = Tokenizer::new(alloc, ParagraphSink::new(alloc), opts);
+    let mut queue = BufferQueue::new(alloc);
+    push_text(alloc, &mut queue, "<a></p><pp>")?;
+    assert_eq!(rt; tokenizer.feed(&mut queue), Ok(TokenizerResult::Done));
+    push_text(alloc, &mut queue, "b<P x=1>y")?;
+    assert_eq!(rt; tokenizer.feed(&mut queue), Err(TokenizerError::NotYet));
+    check_refused(&rt, &mut tokenizer, &mut queue, "a reply");
+    let told = lines_of(alloc, tokenizer.sink.inner.entries())?;
+    assert_eq!(rt;
+        told.as_str(),
+        "start 1 \"a\"\nend 1 \"p\"\nstart 1 \"pp\"\ntext \"b\"\nstart 1 \"p\" \"x\"=\"1\""
+    );
+    assert_eq!(rt; drained(alloc, &mut queue)?.as_str(), "y");
+    Ok(())
+}

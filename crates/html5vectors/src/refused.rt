@@ -1,0 +1,38 @@
+//! What a refused tokenizer does.
+use html5ever::error::TokenizerError;
+use html5ever::tokenizer::Tokenizer;
+use html5ever_interface::interface::sink::TokenSink;
+use html5ever_interface::interface::token::Token;
+use markup5ever::buffer_queue::BufferQueue;
+use std::alloc::{AllocError, Allocator, Global};
+use std::process::Abort;
+
+/// Every further call of a tokenizer that was refused is refused, too.
+pub fn check_refused<S: TokenSink<Token<A>>, A: Allocator + Copy>(
+    rt: &impl Abort,
+    tokenizer: &mut Tokenizer<S, A>,
+    queue: &mut BufferQueue<A>,
+    name: &str,
+) {
+    assert!(rt; tokenizer.has_failed(), "{name}");
+    assert!(rt; !tokenizer.is_ended(), "{name}");
+    let fed = matches!(tokenizer.feed(queue), Err(TokenizerError::Failed));
+    assert!(rt; fed, "{name}");
+    assert!(rt; !tokenizer.is_ended(), "{name}");
+    let ended = matches!(tokenizer.end(), Err(TokenizerError::Failed));
+    assert!(rt; ended, "{name}");
+    assert!(rt; tokenizer.has_failed(), "{name}");
+    assert!(rt; !tokenizer.is_ended(), "{name}");
+}
+
+/// What waits in a queue, up to 16 characters.
+pub fn drained(alloc: Global, queue: &mut BufferQueue) -> Result<String, AllocError> {
+    let mut text = String::new(alloc);
+    for _ in 0..16 {
+        match queue.next() {
+            Some(c) => text.push(c)?,
+            None => break,
+        }
+    }
+    Ok(text)
+}

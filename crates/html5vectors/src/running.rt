@@ -1,0 +1,151 @@
+//! Running the tokenizer on a text that comes in pieces.
+ghost use Rattle.std.specs.Prelude.{◌≡◌};
+ghost use Rattle.html5ever.specs.Tokenizer.{CanStart};
+
+use crate::lines::lines_of;
+use html5ever::tokenizer::{Tokenizer, TokenizerResult};
+use html5ever_interface::collect::Collector;
+use html5ever_interface::options::TokenizerOpts;
+use html5ever_interface::states::State;
+use markup5ever::buffer_queue::BufferQueue;
+use std::alloc::{AllocError, Allocator, Global};
+use std::process::Abort;
+
+/// The name of a case, the pieces that are fed, whether errors are exact, and the lines that a
+/// collector then holds.
+pub type Case<'a> = (&'a str, &'a [&'a str], bool, &'a str);
+
+/// The default options, but for the errors and the state.
+pub fn options<A: Allocator>(exact_errors: bool, plain: bool) -> TokenizerOpts<A>
+    ensures starts { CanStart result.initial_state }
+{
+    TokenizerOpts {
+        exact_errors,
+        discard_bom: true,
+        initial_state: if plain { Some(State::Plaintext) } else { None },
+        last_start_tag_name: None,
+    }
+}
+
+/// Hands in a text.
+pub fn push_text<A: Allocator + Copy>(
+    alloc: A,
+    queue: &mut BufferQueue<A>,
+    text: &str,
+) -> Result<(), AllocError> {
+    match queue.push_back(String::from_str(alloc, text)?) {
+        Ok(()) => Ok(()),
+        Err(_) => Err(AllocError),
+    }
+}
+
+// Feeds a piece, which is taken whole.
+fn feed_piece(
+    rt: &impl Abort,
+    alloc: Global,
+    tokenizer: &mut Tokenizer<Collector>,
+    queue: &mut BufferQueue,
+    piece: &str,
+) -> Result<(), AllocError> {
+    push_text(alloc, queue, piece)?;
+    assert!(rt; !tokenizer.is_ended());
+    assert_eq!(rt; tokenizer.feed(queue), Ok(TokenizerResult::Done));
+    assert!(rt; queue.is_empty());
+    Ok(())
+}
+
+// Ends the text. Answers the lines that were told.
+fn end_of(
+    rt: &impl Abort,
+    alloc: Global,
+    mut tokenizer: Tokenizer<Collector>,
+) -> Result<String, AllocError> {
+    assert!(rt; !tokenizer.is_ended());
+    assert_eq!(rt; tokenizer.end(), Ok(()));
+    assert!(rt; tokenizer.is_ended());
+    assert!(rt; !tokenizer.has_failed());
+    let sink = tokenizer.into_sink();
+    assert!(rt; sink.is_finished());
+    lines_of(alloc, sink.entries())
+}
+
+// The lines that the pieces tell.
+fn lines_of_pieces(
+    rt: &impl Abort,
+    alloc: Global,
+    opts: TokenizerOpts,
+    pieces: &[&str],
+) -> Result<String, AllocError>
+    requires starts { CanStart opts.initial_state }
+{
+    let mut tokenizer = Tokenizer::new(alloc, Collector::new(alloc, false), opts);
+    let mut queue = BufferQueue::new(alloc);
+    for piece in pieces {
+        feed_piece(rt, alloc, &mut tokenizer, &mut queue, piece)?;
+    }
+    end_of(rt, alloc, tokenizer)
+}
+
+// The lines that a text tells, fed one character at a time.
+fn lines_of_characters(
+    rt: &impl Abort,
+    alloc: Global,
+    opts: TokenizerOpts,
+    text: &str,
+) -> Result<String, AllocError>
+    requires starts { CanStart opts.initial_state }
+{
+    let mut tokenizer = Tokenizer::new(alloc, Collector::new(alloc, false), opts);
+    let mut queue = BufferQueue::new(alloc);
+    for c in text.chars() {
+        let mut piece = String::new(alloc);
+        piece.push(c)?;
+        feed_piece(rt, alloc, &mut tokenizer, &mut queue, &piece)?;
+    }
+    end_of(rt, alloc, tokenizer)
+}
+
+// The pieces as one text.
+fn joined(alloc: Global, pieces: &[&str]) -> Result<String, AllocError> {
+    let mut text = String::new(alloc);
+    for piece in pieces {
+        text.push_str(piece)?;
+    }
+    Ok(text)
+}
+
+// A text in two parts, the first with so many characters.
+fn cut(alloc: Global, text: &str, count: usize) -> Result<(String, String), AllocError> {
+    let mut first = String::new(alloc);
+    let mut second = String::new(alloc);
+    for (place, c) in text.chars().enumerate() {
+        if place < count {
+            first.push(c)?;
+        } else {
+            second.push(c)?;
+        }
+    }
+    Ok((first, second))
+}
+
+/// Runs a case: fed in its pieces, in any two, and in single characters it tells the same lines.
+pub fn check_case(
+    rt: &impl Abort,
+    alloc: Global,
+    plain: bool,
+    case: Case,
+) -> Result<(), AllocError> {
+    let (name, pieces, exact, lines) = case;
+    let told = lines_of_pieces(rt, alloc, options(exact, plain), pieces)?;
+    assert_eq!(rt; told.as_str(), lines, "{name}");
+    let text = joined(alloc, pieces)?;
+    for count in 0..text.len() {
+        let (first, second) = cut(alloc, &text, count)?;
+        let parts = [first.as_str(), second.as_str()];
+        let told = lines_of_pieces(rt, alloc, options(exact, plain), &parts)?;
+        assert_eq!(rt; told.as_str(), lines, "{name}, cut at {count}");
+    }
+    let told = lines_of_characters(rt, alloc, options(exact, plain), &text)?;
+    assert_eq!(rt; told.as_str(), lines, "{name}, in characters");
+    Ok(())
+}

@@ -1,0 +1,181 @@
+//! Sinks that fault, and that reply.
+ghost use Rattle.std.specs.Prelude.{◌≡◌};
+ghost use Rattle.html5ever_interface.specs.Token.{told_by};
+ghost use Rattle.html5vectors.specs.Sinks.{is_paragraph};
+
+use html5ever_interface::collect::Collector;
+use html5ever_interface::interface::sink::TokenSink;
+use html5ever_interface::interface::token::{SinkFault, TagKind, Token, TokenSinkResult};
+use markup5ever::count::Count;
+use std::alloc::Global;
+use std::convert::Infallible;
+
+/// Takes some tokens and faults at the next, or faults at its end. It knows whether it took a token
+/// that is no text.
+#[derive(Drop)]
+pub struct FaultySink {
+    left: usize,
+    end_faults: bool,
+    pub took_another: bool,
+    faults: Count,
+}
+
+impl FaultySink {
+    pub fn new(left: usize, end_faults: bool) -> FaultySink {
+        FaultySink {
+            left,
+            end_faults,
+            took_another: false,
+            faults: Count::new(),
+        }
+    }
+}
+
+impl TokenSink<Token> for FaultySink {
+    ghost use Rattle.std.specs.Prelude.{Bool, true, false, refl, if◌then◌else◌};
+    ghost use Rattle.html5ever_interface.specs.Token.Reply.{KeepOn};
+    ghost use Rattle.html5vectors.specs.Sinks.{is_text};
+
+    type Handle = Infallible;
+
+    ghost State = { Bool };
+
+    ghost state = { λ s. s.took_another };
+
+    ghost faults = { λ s. s.faults.total };
+
+    ghost step = { λ took_another told line. if is_text told then took_another else true };
+
+    ghost reply = { λ took_another told line. KeepOn };
+
+    ghost foreign = { λ took_another. false };
+
+    ghost finish = { λ took_another. took_another };
+
+    ghost faulted = { λ took_another told line. took_another };
+
+    ghost end_faulted = { λ took_another. took_another };
+
+    ghost joins = { λ took_another a b line. refl };
+
+    ghost empty = { λ took_another line. refl };
+
+    ghost any_line = { λ took_another a line other. refl };
+
+    ghost keeps_on = { λ took_another told line no_tag. refl };
+
+    fn process_token(
+        &mut self,
+        token: Token,
+        _line_number: u64,
+    ) -> Result<TokenSinkResult<Infallible, String>, SinkFault> {
+        if self.left == 0 {
+            self.faults.add(1);
+            return Err(SinkFault);
+        }
+        self.left -= 1;
+        match token {
+            Token::CharacterTokens(_) => {}
+            _ => self.took_another = true,
+        }
+        Ok(TokenSinkResult::Continue)
+    }
+
+    fn end(&mut self) -> Result<(), SinkFault> {
+        if self.end_faults {
+            self.faults.add(1);
+            return Err(SinkFault);
+        }
+        Ok(())
+    }
+
+    fn adjusted_current_node_present_but_not_in_html_namespace(&self) -> bool {
+        false
+    }
+}
+
+// Whether the token is the start tag `p`.
+fn is_paragraph(token: &Token) -> bool
+    ensures { result ≡ is_paragraph (told_by token.now) }
+{
+    match token {
+        Token::TagToken(tag) => match tag.kind {
+            TagKind::StartTag => tag.name.0.as_str() == "p",
+            TagKind::EndTag => false,
+        },
+        _ => false,
+    }
+}
+
+/// Collects tokens, and asks for plain text behind each start tag `p`.
+#[derive(Drop)]
+pub struct ParagraphSink {
+    pub inner: Collector,
+}
+
+impl ParagraphSink {
+    pub fn new(alloc: Global) -> ParagraphSink {
+        ParagraphSink {
+            inner: Collector::new(alloc, false),
+        }
+    }
+}
+
+impl TokenSink<Token> for ParagraphSink {
+    ghost use Rattle.html5ever_interface.specs.Collected.{Collected, collected_step, collected_faulted, collected_finish, collected_joins, collected_empty, collected_any_line};
+    ghost use Rattle.html5vectors.specs.Sinks.{paragraph_reply, paragraph_keeps_on};
+
+    type Handle = ();
+
+    ghost State = { Collected };
+
+    ghost state = { λ s. s.inner.collected };
+
+    ghost faults = { λ s. s.inner.faults };
+
+    ghost step = { collected_step };
+
+    ghost reply = { paragraph_reply };
+
+    ghost foreign = { λ c. c.foreign };
+
+    ghost finish = { collected_finish };
+
+    ghost faulted = { collected_faulted };
+
+    ghost end_faulted = { λ c. c };
+
+    ghost joins = { collected_joins };
+
+    ghost empty = { collected_empty };
+
+    ghost any_line = { collected_any_line };
+
+    ghost keeps_on = { paragraph_keeps_on };
+
+    fn process_token(
+        &mut self,
+        token: Token,
+        line_number: u64,
+    ) -> Result<TokenSinkResult<(), String>, SinkFault> {
+        let paragraph = is_paragraph(&token);
+        match self.inner.process_token(token, line_number) {
+            Ok(_) => {}
+            Err(SinkFault) => return Err(SinkFault),
+        }
+        if paragraph {
+            Ok(TokenSinkResult::Plaintext)
+        } else {
+            Ok(TokenSinkResult::Continue)
+        }
+    }
+
+    fn end(&mut self) -> Result<(), SinkFault> {
+        self.inner.end()
+    }
+
+    fn adjusted_current_node_present_but_not_in_html_namespace(&self) -> bool {
+        self.inner
+            .adjusted_current_node_present_but_not_in_html_namespace()
+    }
+}

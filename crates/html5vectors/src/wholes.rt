@@ -1,0 +1,36 @@
+//! Texts that one call reads whole.
+use crate::lines::lines_of;
+use crate::running::options;
+use html5ever::error::TokenizerError;
+use html5ever::tokenizer::laws::closed;
+use html5ever_interface::collect::Collector;
+use std::test::Fail;
+
+#[test]
+fn reads_a_whole_text(rt: HostRuntime) -> Result<(), Fail> {
+    let alloc = rt.alloc();
+    let cases = [
+        (
+            "<a b=1>x",
+            Ok(()),
+            true,
+            "start 1 \"a\" \"b\"=\"1\"\ntext \"x\"\neof 1",
+        ),
+        ("", Ok(()), true, "eof 1"),
+        (
+            "<b>&amp;",
+            Err(TokenizerError::NotYet),
+            false,
+            "start 1 \"b\"",
+        ),
+    ];
+    for (text, answer, finished, lines) in cases {
+        let sink = Collector::new(alloc, false);
+        let text = String::from_str(alloc, text)?;
+        let (sink, read) = closed(alloc, sink, options(false, false), text);
+        assert_eq!(rt; read, answer, "{lines}");
+        assert_eq!(rt; sink.is_finished(), finished, "{lines}");
+        assert_eq!(rt; lines_of(alloc, sink.entries())?.as_str(), lines);
+    }
+    Ok(())
+}
