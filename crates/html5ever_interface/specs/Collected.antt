@@ -32,12 +32,7 @@ message_of entry = record { token = told_by entry.0; line = entry.1 }
 -- the text that is told, where it is one
 abbrev pub told_text : Told → Option (List ℕ)
 told_text (Text text) = Some text
-told_text Null = None
-told_text (Error message) = None
-told_text (Tag tag) = None
-told_text (Comment text) = None
-told_text (Doctype doctype) = None
-told_text End = None
+told_text other = None
 
 -- a text as it is kept: its line is 0
 abbrev pub kept_text : List ℕ → Message

@@ -65,12 +65,11 @@ told_by (ParseError message) = Error (string_bytes message)
 
 abbrev pub is_tag : Told → Bool
 is_tag (Tag tag) = true
-is_tag (Text text) = false
-is_tag Null = false
-is_tag (Error message) = false
-is_tag (Comment text) = false
-is_tag (Doctype doctype) = false
-is_tag End = false
+is_tag other = false
+
+abbrev pub is_text : Told → Bool
+is_text (Text text) = true
+is_text other = false
 
 pub data Reply (H : Type 0) : Type 0 where
   KeepOn : Reply H

@@ -4,7 +4,7 @@ use Rattle.std.specs.List.{flat_map}
 use Rattle.std.specs.Fmt.{decimal, digits}
 use Rattle.markup5ever.specs.Names.{AttributeOf}
 use Rattle.html5ever_interface.specs.Sink.{Message}
-use Rattle.html5ever_interface.specs.Token.{Told, TagOf, DoctypeOf}
+use Rattle.html5ever_interface.specs.Token.{is_text, Told, TagOf, DoctypeOf}
 use Rattle.html5ever_interface.specs.Token.Told.{Text, Null, Error, Tag, Comment, Doctype, End}
 use Rattle.html5ever_interface.specs.declared.interface.token.TagKind.{TagKind}
 use Rattle.html5ever_interface.specs.declared.interface.token.TagKind.TheVariants.{StartTag, EndTag}
@@ -101,10 +101,6 @@ printed_line End line = line_with_number (codes "eof ") line
 abbrev pub told_text : Told → List ℕ
 told_text (Text text) = text
 told_text other = []
-
-abbrev pub is_text : Told → Bool
-is_text (Text text) = true
-is_text other = false
 
 -- the text of the first message, if that is a text
 unfoldable pub first_text : List Message → List ℕ

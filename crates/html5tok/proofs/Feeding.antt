@@ -1,12 +1,20 @@
 -- A loop that feeds a text in pieces.
 use Rattle.std.proofs.Common.{◌≡◌, ℕ, ◌+◌, false, List, [], ◌++◌, refl, ap, sym, ◌∙◌, take, drop}
+use Rattle.std.proofs.Common.{Result, Ok, Err}
+use Rattle.std.specs.Result.{IsErrAnd}
 use Rattle.std.specs.Str.{IsUtf8, chars}
 use Rattle.std.proofs.Math.Seq.{take-add}
 use Rattle.std.proofs.lemmas.List.{append-nil, append_assoc}
 use Rattle.std.proofs.lemmas.Str.{chars-append, chars-nil}
 use Rattle.markup5ever.specs.BufferQueue.{TextQueue}
 use Rattle.html5print.specs.Page.{Printer, page_step, page_reply}
-use Rattle.html5ever.specs.Tokenizer.{Tokenizing, ReadsOn}
+use Rattle.html5ever.specs.Tokenizer.{Tokenizing, ReadsOn, MeetsNotBuilt}
+use Rattle.html5grammar.specs.Reading.{after}
+use Rattle.html5grammar.specs.Start.{Start}
+use Rattle.html5grammar.specs.Start.Open.{NotBuilt}
+use Rattle.html5grammar.proofs.ReadingLemmas.{after-append, after-not_built}
+use Rattle.markup5ever.proofs.TextLemmas.{chars_cut}
+use Rattle.html5tok.specs.declared.fault.Fault.{Fault}
 use Rattle.html5tok.proofs.Cuts.{IsCut, IsCut-start, IsCut-front}
 
 -- the first bytes of the text were fed, up to a place between two characters
@@ -47,3 +55,29 @@ FedTo-more first now next text piece start len queue later fed utf8 cut is_piece
       not_failed = not_failed;
       waiting = waiting;
     }
+
+-- a piece that meets what isn't built yet, with whatever follows it
+pub FedTo-met : (first now : Tokenizing Printer) (text piece : List ℕ) (start len : ℕ) (queue : TextQueue)
+    → FedTo first now text start queue → IsUtf8 text → IsCut text (start + len) → piece ≡ take len (drop start text)
+    → MeetsNotBuilt (λ (sink : Printer). sink.page) page_step (page_reply {H = Unit {0}}) now (chars piece)
+    → MeetsNotBuilt (λ (sink : Printer). sink.page) page_step (page_reply {H = Unit {0}}) first (chars text)
+FedTo-met first now text piece start len queue fed utf8 cut is_piece met K s X stands =
+    let front : chars (take (start + len) text) ≡ chars (take start text) ++ chars piece =
+    ap chars (take-add start len text)
+    ∙ chars-append (take start text) (take len (drop start text)) (IsCut-front text start utf8 fed.cut)
+    ∙ ap (λ l. chars (take start text) ++ chars l) (sym is_piece) in
+    let whole : chars text ≡ (chars (take start text) ++ chars piece) ++ chars (drop (start + len) text) =
+    chars_cut text (start + len) (IsCut-front text (start + len) utf8 cut) ∙ ap (λ l. l ++ chars (drop (start + len) text)) front in
+    let here : (after page_step (page_reply {H = Unit {0}}) first.exact K s (X ++ (chars (take start text) ++ chars piece))).opened ≡ NotBuilt =
+    ap (λ l. (after page_step (page_reply {H = Unit {0}}) first.exact K s l).opened) (sym (append_assoc X (chars (take start text)) (chars piece)))
+    ∙ ap (λ x. (after page_step (page_reply {H = Unit {0}}) x K s ((X ++ chars (take start text)) ++ chars piece)).opened) (sym fed.exact)
+    ∙ met K s (X ++ chars (take start text)) (fed.reads K s X stands) in
+    ap (λ l. (after page_step (page_reply {H = Unit {0}}) first.exact K s (X ++ l)).opened) whole
+    ∙ ap (λ l. (after page_step (page_reply {H = Unit {0}}) first.exact K s l).opened) (sym (append_assoc X (chars (take start text) ++ chars piece) (chars (drop (start + len) text))))
+    ∙ ap (λ (P : Start). P.opened) (after-append page_step (page_reply {H = Unit {0}}) first.exact K s (X ++ (chars (take start text) ++ chars piece)) (chars (drop (start + len) text)))
+    ∙ after-not_built page_step (page_reply {H = Unit {0}}) first.exact _ _ (chars (drop (start + len) text)) here
+
+-- the fault of a `?`
+pub fault_is : {T : Type 0} (r : Result T Fault) (e f : Fault) → IsErrAnd r (λ x. x ≡ e) → r ≡ Err f → e ≡ f
+fault_is (Ok x) e f h same = absurd h
+fault_is (Err x) e f h same = sym h ∙ cc

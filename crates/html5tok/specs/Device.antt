@@ -28,6 +28,13 @@ IsRefusal Memory = Unit {0}
 IsRefusal Device = ⊥
 IsRefusal NotYet = Unit {0}
 
+-- a fault of a call that reads bytes
+abbrev pub IsReadFault : Fault → Type 0
+IsReadFault NotUtf8 = ⊥
+IsReadFault Memory = Unit {0}
+IsReadFault Device = Unit {0}
+IsReadFault NotYet = ⊥
+
 -- how many failures of its device a call reports
 abbrev pub reported_failures : {T : Type 0} → Result T Fault → ℕ
 reported_failures (Ok x) = 0

@@ -2,7 +2,7 @@
 use Rattle.std.specs.Prelude.{◌≡◌, ℕ, ◌+◌, List, [], ◌⊎◌, Option, IsSomeAnd, codes}
 use Rattle.std.specs.Io.KnownBytes.{Appends}
 use Rattle.html5tok.specs.Device.{AppendsBeginning, device_failures}
-use Rattle.html5tok.specs.Printing.{PrintsReading, PrintsBeginning}
+use Rattle.html5tok.specs.Printing.{PrintsReading, PrintsBeginning, PrintsNotYet}
 use Rattle.html5tok.specs.Settings.{settings_said}
 use Rattle.html5tok.specs.declared.fault.Fault.TheVariants.{NotUtf8, Memory, Device, NotYet}
 use Rattle.html5tok.specs.declared.run.Ending.{Ending}
@@ -44,3 +44,8 @@ PrintsAsSaid words unread left written after =
 abbrev pub PrintsBeginningAsSaid : List (List ℕ) → Option (List ℕ) → Option (List ℕ) → Option (List ℕ) → Option (List ℕ) → Type 0
 PrintsBeginningAsSaid words unread left written after =
     IsSomeAnd (settings_said words) (λ settings. PrintsBeginning settings unread left written after)
+
+-- the words say some settings, and by these the text meets what isn't built yet, so nothing was printed
+abbrev pub PrintsNotYetAsSaid : List (List ℕ) → Option (List ℕ) → Option (List ℕ) → Option (List ℕ) → Option (List ℕ) → Type 0
+PrintsNotYetAsSaid words unread left written after =
+    IsSomeAnd (settings_said words) (λ settings. PrintsNotYet settings unread left written after)

@@ -1,12 +1,13 @@
 -- The printed reading of bytes, and what printing it leaves at the reader and the writer.
-use Rattle.std.specs.Prelude.{ℕ, List, Option}
+use Rattle.std.specs.Prelude.{◌≡◌, ℕ, List, Option}
 use Rattle.std.specs.Io.KnownBytes.{Appends, Consumes, IsAtEnd, Keeps}
 use Rattle.std.specs.Str.{IsUtf8, chars}
 use Rattle.html5tok.specs.Device.{AppendsBeginning}
 use Rattle.html5print.specs.Page.{blank_page, page_step, page_reply}
 use Rattle.html5print.specs.Printed.{printed}
 use Rattle.html5grammar.specs.Reading.{reading, messages, after}
-use Rattle.html5grammar.specs.Start.{start_of}
+use Rattle.html5grammar.specs.Start.{Open, start_of}
+use Rattle.html5grammar.specs.Start.Open.{NotBuilt}
 use Rattle.html5tok.specs.Settings.{SettingsOf}
 use Rattle.html5ever.specs.Steps.{IsBuilt}
 
@@ -15,10 +16,14 @@ unfoldable pub printed_reading : SettingsOf → List ℕ → List ℕ
 printed_reading settings bytes =
     printed (messages (reading page_step (page_reply {H = Unit {0}}) settings.opts.exact_errors (start_of settings.opts) (blank_page settings.foreign) (chars bytes)))
 
+-- what is open behind the text of the bytes
+abbrev pub open_behind_text : SettingsOf → List ℕ → Open
+open_behind_text settings bytes =
+    (after page_step (page_reply {H = Unit {0}}) settings.opts.exact_errors (start_of settings.opts) (blank_page settings.foreign) (chars bytes)).opened
+
 -- the text of the bytes meets nothing that isn't built yet
 abbrev pub IsWholeBuilt : SettingsOf → List ℕ → Type 0
-IsWholeBuilt settings bytes =
-    IsBuilt (after page_step (page_reply {H = Unit {0}}) settings.opts.exact_errors (start_of settings.opts) (blank_page settings.foreign) (chars bytes)).opened
+IsWholeBuilt settings bytes = IsBuilt (open_behind_text settings bytes)
 
 -- the reader was read to its end, what it gave is UTF-8, and what was written is its printed reading
 pub record PrintsReading (settings : SettingsOf) (unread left written after : Option (List ℕ)) : Type 0 where
@@ -44,4 +49,13 @@ pub record PrintsNothing (unread left written after : Option (List ℕ)) : Type 
   pub consumed : Consumes unread left bytes
   pub at_end : IsAtEnd left
   pub no_utf8 : ¬ IsUtf8 bytes
+  pub kept : Keeps written after
+
+-- the reader was read to its end, what it gave is UTF-8, its text meets what isn't built yet, and nothing was written
+pub record PrintsNotYet (settings : SettingsOf) (unread left written after : Option (List ℕ)) : Type 0 where
+  pub bytes : List ℕ
+  pub consumed : Consumes unread left bytes
+  pub at_end : IsAtEnd left
+  pub utf8 : IsUtf8 bytes
+  pub not_built : open_behind_text settings bytes ≡ NotBuilt
   pub kept : Keeps written after

@@ -1,11 +1,12 @@
-ghost use Rattle.std.specs.Prelude.{◌≡◌, ◌≢◌, ◌+◌, ◌<◌, ◌≤◌, ◌⊎◌, [], false, IfOk, IfErr, OnOk, OnErr, length, take, drop, string_bytes};
+ghost use Rattle.std.specs.Prelude.{◌≡◌, ◌≢◌, ◌↔◌, ◌+◌, ◌<◌, ◌≤◌, ◌⊎◌, [], false, IfOk, IfErr, OnOk, OnErr, length, take, drop, string_bytes};
 ghost use Rattle.std.specs.Io.KnownBytes.{Keeps};
 ghost use Rattle.std.specs.Str.{IsUtf8, chars};
 ghost use Rattle.html5tok.specs.Device.{IsRefusal, reported_failures};
 ghost use Rattle.html5print.specs.Page.{page_step, page_reply};
 ghost use Rattle.html5tok.specs.Settings.{said_by};
-ghost use Rattle.html5tok.specs.Printing.{printed_reading, IsWholeBuilt, PrintsReading, PrintsBeginning, PrintsNothing};
-ghost use Rattle.html5ever.specs.Tokenizer.{CanStart, ReadsOn};
+ghost use Rattle.html5tok.specs.Printing.{printed_reading, open_behind_text, IsWholeBuilt, PrintsNotYet, PrintsReading, PrintsBeginning, PrintsNothing};
+ghost use Rattle.html5grammar.specs.Start.Open.{NotBuilt};
+ghost use Rattle.html5ever.specs.Tokenizer.{CanStart, ReadsOn, MeetsNotBuilt};
 
 use crate::device::{Source, Target, read_to_end, write_all};
 use crate::fault::Fault;
@@ -30,7 +31,8 @@ pub struct Settings<A: Allocator = Global> {
 // The fault that a refused call of the tokenizer means: its sink fails for want of memory alone.
 fn fault_of(error: TokenizerError) -> Fault
     requires { error ≢ TokenizerError.Failed }
-    ensures { IsRefusal result }
+    ensures refusal { IsRefusal result }
+    ensures not_yet { (result ≡ Fault.NotYet) ↔ (error ≡ TokenizerError.NotYet) }
 {
     match error {
         TokenizerError::Memory | TokenizerError::Sink => Fault::Memory,
@@ -51,6 +53,9 @@ fn feed_piece<A: Allocator + Copy>(
     ensures reads { OnOk result (ReadsOn (λ sink. sink.page) page_step (page_reply {H = Unit {0}})
         tokenizer.old tokenizer.new (chars (string_bytes piece))) }
     ensures taken { OnOk result (queue.new.text ≡ []) }
+    ensures not_yet { result ≡ Err Fault.NotYet
+        → MeetsNotBuilt (λ sink. sink.page) page_step (page_reply {H = Unit {0}})
+        tokenizer.old (chars (string_bytes piece)) }
     ensures exact { tokenizer.new.exact ≡ tokenizer.old.exact }
     ensures going_on { tokenizer.new.ended ≡ false }
     ensures not_failed { OnOk result (tokenizer.new.failed ≡ false) }
@@ -95,6 +100,9 @@ fn feed_text<A: Allocator + Copy>(
     requires not_failed { tokenizer.old.failed ≡ false }
     ensures reads { OnOk result (ReadsOn (λ sink. sink.page) page_step (page_reply {H = Unit {0}})
         tokenizer.old tokenizer.new (chars (string_bytes text))) }
+    ensures not_yet { result ≡ Err Fault.NotYet
+        → MeetsNotBuilt (λ sink. sink.page) page_step (page_reply {H = Unit {0}})
+        tokenizer.old (chars (string_bytes text)) }
     ensures exact { tokenizer.new.exact ≡ tokenizer.old.exact }
     ensures going_on { tokenizer.new.ended ≡ false }
     ensures not_failed { OnOk result (tokenizer.new.failed ≡ false) }
@@ -123,6 +131,8 @@ fn print_text<A: Allocator + Copy>(
     requires { CanStart settings.now.opts.initial_state }
     ensures ok { IfOk result (λ sink. sink.page.lines ≡ printed_reading (said_by settings.now) (string_bytes text)) }
     ensures built { OnOk result (IsWholeBuilt (said_by settings.now) (string_bytes text)) }
+    ensures not_yet { result ≡ Err Fault.NotYet
+        → open_behind_text (said_by settings.now) (string_bytes text) ≡ NotBuilt }
     ensures err { IfErr result IsRefusal }
 {
     let sink = PrintSink::new(alloc, settings.foreign);
@@ -148,6 +158,9 @@ pub fn print_tokens<R: Source, W: Target, A: Allocator + Copy>(
     // When each fault comes, and what it leaves.
     ensures not_utf8 { result ≡ Err Fault.NotUtf8
         → PrintsNothing
+        (R.remaining reader.old) (R.remaining reader.new) (W.contents writer.old) (W.contents writer.new) }
+    ensures not_yet { result ≡ Err Fault.NotYet
+        → PrintsNotYet (said_by settings.now)
         (R.remaining reader.old) (R.remaining reader.new) (W.contents writer.old) (W.contents writer.new) }
     ensures beginning { OnErr result (Keeps (W.contents writer.old) (W.contents writer.new)
         ⊎ PrintsBeginning (said_by settings.now)

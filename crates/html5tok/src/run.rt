@@ -1,7 +1,7 @@
 //! A run of the program, over any devices.
 ghost use Rattle.std.specs.Prelude.{◌≡◌, ◌≢◌, ◌+◌, ◌⊎◌, ◌↔◌, ◌∷◌, [], Contains, IsNone, IfErr, map, string_bytes, nat_eq, if◌then◌else◌};
 ghost use Rattle.std.specs.Io.KnownBytes.{Keeps};
-ghost use Rattle.html5tok.specs.Ending.{status_of, line_of, failures_of, TriesLine, PrintsAsSaid, PrintsBeginningAsSaid};
+ghost use Rattle.html5tok.specs.Ending.{status_of, line_of, failures_of, TriesLine, PrintsAsSaid, PrintsBeginningAsSaid, PrintsNotYetAsSaid};
 ghost use Rattle.html5tok.specs.Printing.{PrintsNothing};
 ghost use Rattle.html5tok.specs.Settings.{settings_said};
 ghost use Rattle.html5tok.specs.declared.run.Ending.{Ending};
@@ -94,6 +94,9 @@ fn print_by_words<R: Source, W: Target, A: Allocator + Copy>(
     ensures not_utf8 { result ≡ Ending.Faulted Fault.NotUtf8
         → PrintsNothing
         (R.remaining reader.old) (R.remaining reader.new) (W.contents writer.old) (W.contents writer.new) }
+    ensures not_yet { result ≡ Ending.Faulted Fault.NotYet
+        → PrintsNotYetAsSaid (map string_bytes words.now)
+        (R.remaining reader.old) (R.remaining reader.new) (W.contents writer.old) (W.contents writer.new) }
     ensures beginning { result ≢ Ending.Printed → Keeps (W.contents writer.old) (W.contents writer.new)
         ⊎ PrintsBeginningAsSaid (map string_bytes words.now)
         (R.remaining reader.old) (R.remaining reader.new) (W.contents writer.old) (W.contents writer.new) }
@@ -141,6 +144,9 @@ pub fn run<R: Source, W: Target, E: Target, A: Allocator + Copy>(
     ensures untouched { result ≡ 2 → (reader.new ≡ reader.old) × (writer.new ≡ writer.old) }
     ensures not_utf8 { result ≡ 3
         → PrintsNothing
+        (R.remaining reader.old) (R.remaining reader.new) (W.contents writer.old) (W.contents writer.new) }
+    ensures not_yet { result ≡ 7
+        → PrintsNotYetAsSaid (map string_bytes words.items)
         (R.remaining reader.old) (R.remaining reader.new) (W.contents writer.old) (W.contents writer.new) }
     ensures beginning { result ≢ 0 → Keeps (W.contents writer.old) (W.contents writer.new)
         ⊎ PrintsBeginningAsSaid (map string_bytes words.items)

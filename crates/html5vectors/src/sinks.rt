@@ -34,7 +34,7 @@ impl FaultySink {
 impl TokenSink<Token> for FaultySink {
     ghost use Rattle.std.specs.Prelude.{Bool, true, false, refl, if◌then◌else◌};
     ghost use Rattle.html5ever_interface.specs.Token.Reply.{KeepOn};
-    ghost use Rattle.html5vectors.specs.Sinks.{is_text};
+    ghost use Rattle.html5ever_interface.specs.Token.{is_text};
 
     type Handle = Infallible;
 

@@ -2,7 +2,7 @@
 ghost use Rattle.std.specs.Prelude.{◌≡◌, ◌≢◌, ℕ, ◌+◌, ◌<◌, List, length, vec_len, Option, IfOk, IfErr, IfSome, OnOk, OnErr};
 ghost use Rattle.std.specs.Io.{ReadsAtMost, StartsWith, appended_bytes};
 ghost use Rattle.std.specs.Io.KnownBytes.{ReadConsumes, Consumes, IsAtEnd};
-ghost use Rattle.html5tok.specs.Device.{Metered, reported_failures, ConsumesBeginning};
+ghost use Rattle.html5tok.specs.Device.{Metered, IsReadFault, reported_failures, ConsumesBeginning};
 
 use crate::fault::Fault;
 use markup5ever::count::Count;
@@ -84,7 +84,7 @@ pub fn read_to_end<R: Source, A: Allocator>(alloc: A, source: &mut R) -> Result<
     ensures end { OnOk result (IsAtEnd (R.remaining source.new)) }
     ensures in_order { ConsumesBeginning (R.remaining source.old) (R.remaining source.new) }
     ensures failures { R.failures source.new ≡ R.failures source.old + reported_failures result }
-    ensures any_bytes { IfErr result (λ fault. fault ≢ Fault.NotUtf8) }
+    ensures any_bytes { IfErr result IsReadFault }
 {
     let mut bytes = Vec::new(alloc);
     let mut buffer = [0; CHUNK];
@@ -109,7 +109,7 @@ fn read_more<R: Source, A: Allocator>(
     ensures end { IfOk result (λ n. n ≡ 0 → IsAtEnd (R.remaining source.new)) }
     ensures err { OnErr result (ConsumesBeginning (R.remaining source.old) (R.remaining source.new)) }
     ensures failures { R.failures source.new ≡ R.failures source.old + reported_failures result }
-    ensures any_bytes { IfErr result (λ fault. fault ≢ Fault.NotUtf8) }
+    ensures any_bytes { IfErr result IsReadFault }
 {
     let Ok(n) = source.read(buffer) else {
         return Err(Fault::Device);
