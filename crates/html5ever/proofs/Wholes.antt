@@ -1,16 +1,17 @@
 -- A whole text: what feeding it and ending leave.
-use Rattle.std.proofs.Common.{◌≡◌, inl, inr, ℕ, Bool, List, [], ◌++◌, refl, ap, sym, ◌∙◌, length, drop}
+use Rattle.std.proofs.Common.{◌≡◌, inl, inr, ℕ, Bool, List, [], ◌++◌, refl, ap, sym, ◌∙◌, length, drop, subst}
 use Rattle.std.proofs.lemmas.List.{append-nil}
 use Rattle.html5ever_interface.proofs.Steppings.{stepped-append}
 use Rattle.html5ever_interface.specs.Sink.{Message, stepped}
 use Rattle.html5ever_interface.specs.Token.{Told, Reply}
 use Rattle.html5grammar.specs.Reading.{Event, end_events, read, reading, told, messages, after}
 use Rattle.html5grammar.specs.NormalisedText.{normalised}
-use Rattle.html5grammar.specs.Start.{Start}
+use Rattle.html5grammar.specs.Start.{Start, Open}
 use Rattle.html5grammar.proofs.ReadingLemmas.{told-nil, reading-events}
 use Rattle.html5grammar.proofs.Traces.{messages-append}
 use Rattle.html5ever.specs.Feed.{told_beyond, told_at_end}
-use Rattle.html5ever.specs.Telling.{Stops, StopsWithin}
+use Rattle.html5ever.specs.Steps.{IsBuilt}
+use Rattle.html5ever.specs.Telling.{Stops, StopsWithin, IsNotFailed, IsRefusal}
 use Rattle.html5ever.specs.Tokenizer.{Tokenizing, StandsAt, EndStops, WholeStops}
 use Rattle.html5ever.specs.declared.error.TokenizerError.{TokenizerError}
 use Rattle.html5ever.specs.declared.error.TokenizerError.TheVariants.{Memory, Sink, Failed, NotYet}
@@ -97,3 +98,18 @@ module _ {X S H : Type 0} (state : X → S) (step : S → Told → ℕ → S) (r
 -- the queue has the text alone
 pub queued : (old new : TextQueue) (text : List ℕ) → old.text ≡ [] → Gains old new text → new.text ≡ text
 queued old new text none gains = gains.text ∙ ap (λ l. l ++ text) none
+
+-- the reading of a whole text isn't refused for an earlier refusal
+pub whole-not_failed : {S : Type 0} → (step faulted : S → Told → ℕ → S) (end_faulted : S → S) (e : TokenizerError) (s : S) (M : List Message) (t : S)
+    → WholeStops step faulted end_faulted e s M t → IsNotFailed e
+whole-not_failed step faulted end_faulted Memory s M t stops = tt
+whole-not_failed step faulted end_faulted Sink s M t stops = tt
+whole-not_failed step faulted end_faulted Failed s M t stops = stops
+whole-not_failed step faulted end_faulted NotYet s M t stops = tt
+
+-- a text that meets nothing that isn't built yet is refused for want of memory or for a fault alone
+pub whole-refusal : (e : TokenizerError) (opened : Open) → IsNotFailed e → (e ≡ NotYet → opened ≡ NotBuilt) → IsBuilt opened → IsRefusal e
+whole-refusal Memory opened not_failed met built = tt
+whole-refusal Sink opened not_failed met built = tt
+whole-refusal Failed opened not_failed met built = not_failed
+whole-refusal NotYet opened not_failed met built = absurd (subst IsBuilt (met refl) built)

@@ -6,3 +6,8 @@ pub mod Cases
 pub mod ReadingLemmas
 pub mod Steps
 pub mod Going
+pub mod OneTagSteps
+pub mod OneTagParts
+pub mod OneTagReading
+pub mod OneTagCollected
+mod OneTagCases

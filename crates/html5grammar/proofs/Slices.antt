@@ -60,13 +60,13 @@ bytes-cons : (bytes : ℕ → List ℕ) (front : List ℕ) (c : ℕ) (run : List
     → front ++ flat_map bytes (c ∷ run) ≡ (front ++ flat_map bytes (c ∷ [])) ++ flat_map bytes run
 bytes-cons bytes front c run = rw (append-nil (bytes c)) (sym (append_assoc front (bytes c) (flat_map bytes run)))
 
-with_name-cons : (tag : OpenTag) (c : ℕ) (run : List ℕ) → with_name tag (c ∷ run) ≡ with_name (with_name tag (c ∷ [])) run
+pub with_name-cons : (tag : OpenTag) (c : ℕ) (run : List ℕ) → with_name tag (c ∷ run) ≡ with_name (with_name tag (c ∷ [])) run
 with_name-cons tag c run = ap (λ name. record tag { name = name }) (bytes-cons name_bytes tag.name c run)
 
-with_last_name-cons : (tag : OpenTag) (c : ℕ) (run : List ℕ) → with_last_name tag (c ∷ run) ≡ with_last_name (with_last_name tag (c ∷ [])) run
+pub with_last_name-cons : (tag : OpenTag) (c : ℕ) (run : List ℕ) → with_last_name tag (c ∷ run) ≡ with_last_name (with_last_name tag (c ∷ [])) run
 with_last_name-cons tag c run = ap (λ name. record tag { last_name = name }) (bytes-cons name_bytes tag.last_name c run)
 
-with_value-cons : (tag : OpenTag) (c : ℕ) (run : List ℕ) → with_value tag (c ∷ run) ≡ with_value (with_value tag (c ∷ [])) run
+pub with_value-cons : (tag : OpenTag) (c : ℕ) (run : List ℕ) → with_value tag (c ∷ run) ≡ with_value (with_value tag (c ∷ [])) run
 with_value-cons tag c run = ap (λ value. record tag { last_value = value }) (bytes-cons value_bytes tag.last_value c run)
 
 module _ (exact : Bool) (c : ℕ) (text : List ℕ) where

@@ -8,3 +8,4 @@ pub mod Text
 pub mod EndOfInput
 pub mod Cutting
 pub mod Reading
+pub mod OneTag

@@ -2,7 +2,7 @@
 use crate::lines::lines_of;
 use crate::running::options;
 use html5ever::error::TokenizerError;
-use html5ever::tokenizer::laws::closed;
+use html5ever::tokenizer::laws::{closed, tag};
 use html5ever_interface::collect::Collector;
 use std::test::Fail;
 
@@ -30,6 +30,33 @@ fn reads_a_whole_text(rt: HostRuntime) -> Result<(), Fail> {
         let (sink, read) = closed(alloc, sink, options(false, false), text);
         assert_eq!(rt; read, answer, "{lines}");
         assert_eq!(rt; sink.is_finished(), finished, "{lines}");
+        assert_eq!(rt; lines_of(alloc, sink.entries())?.as_str(), lines);
+    }
+    Ok(())
+}
+
+#[test]
+fn reads_one_tag(rt: HostRuntime) -> Result<(), Fail> {
+    let alloc = rt.alloc();
+    let cases = [
+        (
+            "<DIV CLASS=a class=b/>",
+            "error 1 \"Duplicate attribute\"\n\
+             start 1 \"div\" \"class\"=\"a\" duplicates\n\
+             eof 1",
+        ),
+        (
+            "</a b/>",
+            "error 1 \"Attributes on an end tag\"\n\
+             error 1 \"Self-closing end tag\"\n\
+             end 1 \"a\" \"b\"=\"\" self-closing\n\
+             eof 1",
+        ),
+    ];
+    for (text, lines) in cases {
+        let text = String::from_str(alloc, text)?;
+        let sink = tag(alloc, options(false, false), false, text)?;
+        assert!(rt; sink.is_finished(), "{lines}");
         assert_eq!(rt; lines_of(alloc, sink.entries())?.as_str(), lines);
     }
     Ok(())

@@ -1,15 +1,19 @@
 //! Laws of whole texts, on calls that read one.
-ghost use Rattle.std.specs.Prelude.{◌≡◌, ◌+◌, false, IfErr, OnOk, string_bytes};
+ghost use Rattle.std.specs.Prelude.{◌≡◌, ◌+◌, true, false, IfErr, IfOk, OnOk, string_bytes};
 ghost use Rattle.std.specs.Str.{chars};
+ghost use Rattle.html5ever_interface.specs.Collected.{none_collected, collected_step, collected_reply, collected_finish};
 ghost use Rattle.html5ever_interface.specs.Options.{options_of};
 ghost use Rattle.html5ever_interface.specs.Sink.{stepped};
-ghost use Rattle.html5grammar.specs.Reading.{reading, messages};
+ghost use Rattle.html5grammar.specs.OneTag.{WrittenTag, IsTag, tag_messages};
+ghost use Rattle.html5grammar.specs.Reading.{reading, messages, after};
 ghost use Rattle.html5grammar.specs.Start.{start_of};
-ghost use Rattle.html5ever.specs.Telling.{faults_of};
-ghost use Rattle.html5ever.specs.Tokenizer.{CanStart, ReadsWhole, StopsWhole, WholeStops};
+ghost use Rattle.html5grammar.specs.Start.Open.{NotBuilt};
+ghost use Rattle.html5ever.specs.Telling.{IsRefusal, IsNotFailed, faults_of};
+ghost use Rattle.html5ever.specs.Tokenizer.{CanStart, MeetsNotBuilt, ReadsWhole, StopsWhole, WholeStops};
 
 use crate::error::TokenizerError;
 use crate::tokenizer::Tokenizer;
+use html5ever_interface::collect::Collector;
 use html5ever_interface::interface::sink::TokenSink;
 use html5ever_interface::interface::token::Token;
 use html5ever_interface::options::TokenizerOpts;
@@ -28,6 +32,8 @@ fn read_whole<S: TokenSink<Token<A>>, A: Allocator + Copy>(
         (chars (string_bytes text)) (S.state tokenizer.new.sink)) }
     ensures stops { IfErr result (λ error. StopsWhole S.state S.step S.reply S.faulted S.end_faulted
         error tokenizer.old (chars (string_bytes text)) (S.state tokenizer.new.sink)) }
+    ensures not_yet { result ≡ Err TokenizerError.NotYet
+        → MeetsNotBuilt S.state S.step S.reply tokenizer.old (chars (string_bytes text)) }
     ensures faults { S.faults tokenizer.new.sink ≡ S.faults tokenizer.old.sink + faults_of result }
 {
     let mut queue = BufferQueue::new(alloc);
@@ -53,9 +59,45 @@ pub fn closed<S: TokenSink<Token<A>>, A: Allocator + Copy>(
     ensures stops { IfErr result.1 (λ error. WholeStops S.step S.faulted S.end_faulted error (S.state sink)
         (messages (reading S.step S.reply opts.exact_errors (start_of (options_of opts)) (S.state sink)
         (chars (string_bytes text)))) (S.state result.0)) }
+    ensures not_yet { result.1 ≡ Err TokenizerError.NotYet
+        → (after S.step S.reply opts.exact_errors (start_of (options_of opts)) (S.state sink)
+        (chars (string_bytes text))).opened ≡ NotBuilt }
     ensures faults { S.faults result.0 ≡ S.faults sink + faults_of result.1 }
 {
     let mut tokenizer = Tokenizer::new(alloc, sink, opts);
     let result = read_whole(alloc, &mut tokenizer, text);
     (tokenizer.into_sink(), result)
+}
+
+/// Reads a whole text by a collector. Where the text is one tag, written out, the collector then
+/// holds the errors of the tag, each at its character, the tag, and the end.
+pub fn tag<A: Allocator + Copy>(
+    alloc: A,
+    opts: TokenizerOpts<A>,
+    foreign: bool,
+    text: String<A>,
+) -> Result<Collector<A>, TokenizerError>
+    requires { CanStart opts.initial_state }
+    ensures reads { IfOk result (λ sink. sink.collected ≡ collected_finish
+        (stepped collected_step (none_collected foreign) (messages (reading collected_step
+        (collected_reply {H = Unit {0}}) opts.exact_errors (start_of (options_of opts))
+        (none_collected foreign) (chars (string_bytes text)))))) }
+    ensures tag { IfOk result (λ sink. (tag : WrittenTag) →
+        IsTag (start_of (options_of opts)) (chars (string_bytes text)) tag →
+        sink.collected ≡ record {
+          messages = tag_messages opts.exact_errors (start_of (options_of opts)).input tag;
+          finished = true;
+          foreign = foreign;
+        }) }
+    ensures no_fault { IfOk result (λ sink. sink.faults ≡ 0) }
+    ensures not_failed { IfErr result IsNotFailed }
+    ensures refusals { IfErr result (λ error. (tag : WrittenTag) →
+        IsTag (start_of (options_of opts)) (chars (string_bytes text)) tag → IsRefusal error) }
+{
+    let sink = Collector::new(alloc, foreign);
+    let (sink, read) = closed(alloc, sink, opts, text);
+    match read {
+        Ok(()) => Ok(sink),
+        Err(error) => Err(error),
+    }
 }
