@@ -97,6 +97,8 @@ impl<A: Allocator + Copy> Position<A> {
         ensures plain { result ≡ true → self.now.opened ≡ Between Plain }
         ensures past_line_break { result ≡ true → self.now.input.after_carriage_return ≡ false }
         ensures past_stream_start { result ≡ true → self.now.input.drops_byte_order_mark ≡ false }
+        ensures found { self.now.opened ≡ Between Plain → self.now.input.after_carriage_return ≡ false
+            → self.now.input.drops_byte_order_mark ≡ false → result ≡ true }
     {
         self.input.is_past_start() && self.state == State::Plaintext
     }
