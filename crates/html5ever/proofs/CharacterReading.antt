@@ -1,10 +1,10 @@
 -- Reading one character: what the machine tells of it, with the error of a bad character in front.
-use Rattle.std.proofs.Common.{◌≡◌, ℕ, Bool, true, false, [], ◌∷◌, ◌++◌, refl, ap, sym, ◌∙◌}
+use Rattle.std.proofs.Common.{◌≡◌, ℕ, Bool, true, false, List, [], ◌∷◌, ◌++◌, refl, ap, sym, ◌∙◌, Result, Err}
 use Rattle.std.specs.Prelude.{◌&&◌}
 use Rattle.std.proofs.lemmas.Bool.{and_parts, false≢true}
-use Rattle.std.proofs.lemmas.List.{append_assoc, map-append}
+use Rattle.std.proofs.lemmas.List.{append-nil, append_assoc, map-append}
 use Rattle.html5ever_interface.specs.Sink.{stepped, on_line}
-use Rattle.html5ever_interface.specs.Token.{Told, Reply}
+use Rattle.html5ever_interface.specs.Token.{Told, TagOf, Reply}
 use Rattle.html5ever_interface.specs.Token.Told.{Tag}
 use Rattle.html5ever_interface.specs.declared.states.State.{State}
 use Rattle.html5ever_interface.specs.declared.states.State.TheVariants as state
@@ -14,15 +14,29 @@ use Rattle.html5grammar.specs.Reading.{Here, open_after_reply, told, messages, a
 use Rattle.html5grammar.specs.NormalisedText.{normalised, input_after}
 use Rattle.html5grammar.specs.Reading.Here.{Tells, TellsTag, Stops}
 use Rattle.html5grammar.specs.Start.{Input, Start, Open}
-use Rattle.html5grammar.specs.Start.Open.{NotBuilt}
+use Rattle.html5grammar.specs.Start.Mode.{Data}
+use Rattle.html5grammar.specs.Start.Open.{Between, NotBuilt}
 use Rattle.html5grammar.specs.Start.Place.{InName, BeforeAttribute, InAttributeName, AfterAttributeName, BeforeValue, InValue, AfterQuotedValue, AfterSolidus}
 use Rattle.html5grammar.proofs.Going.{Goes, bad_goes_tag, bad_goes_data, bad_goes_plain, bad_goes_less_than, bad_stops}
 use Rattle.html5grammar.proofs.Machine.{step_at}
 use Rattle.html5grammar.proofs.ReadingLemmas.{messages_here, opened_here, told-none, after-none, told-one, after-one}
 use Rattle.html5ever_interface.proofs.Steppings.{stepped-append}
 use Rattle.html5ever.specs.CurrentTag.{open_of, open_tag, stops_at_bad}
-use Rattle.html5ever.specs.Steps.{tokens_of, behind}
+use Rattle.html5ever.specs.Steps.{tokens_of, Next, behind}
+use Rattle.html5ever.specs.Steps.Next.{Opens, Closes}
 use Rattle.html5ever.specs.declared.current_tag.CurrentTag.{CurrentTag}
+use Rattle.html5ever.specs.declared.error.TokenizerError.{TokenizerError}
+use Rattle.html5ever.specs.declared.error.TokenizerError.TheVariants.{Memory, Sink, Failed, NotYet}
+use Rattle.html5ever.specs.Feed.{first_pause}
+use Rattle.html5ever.specs.Steps.{Leads, Ends}
+use Rattle.html5ever.specs.Telling as telling
+use Rattle.html5ever.proofs.Pauses.{first_pause-none, first_pause-append, first_pause-no_tags, no_tag_messages}
+use Rattle.html5ever.proofs.Tellings.{told_then, told_stop, tells_stop}
+use Rattle.html5grammar.proofs.NoTags.{NoTags, NoTagsHere, no_tags-append, no_tags-bad, no_tags-step_at}
+use Rattle.html5ever_interface.specs.Token.{is_tag}
+use Rattle.html5ever_interface.specs.Token.Reply.{KeepOn}
+use Rattle.std.specs.Result.{IsErrAnd}
+use Rattle.std.proofs.lemmas.Result.{err_from_is_err_and}
 
 pub goes_at_bad : {Z : Type 0} → (exact : Bool) (s : State) (tag : CurrentTag Z) (c : ℕ) → is_bad_character c ≡ true → stops_at_bad s ≡ false
     → Goes (step_at exact (open_of s tag) c)
@@ -39,30 +53,81 @@ goes_at_bad exact state.AfterAttributeValueQuoted tag c bad goes = bad_goes_tag 
 goes_at_bad exact state.SelfClosingStartTag tag c bad goes = bad_goes_tag exact c bad AfterSolidus (open_tag tag)
 goes_at_bad exact other tag c bad goes = absurd (false≢true (sym goes))
 
+-- the tag that is told last, where one ends
+abbrev pub tag_in : Next → List Told
+tag_in (Opens later) = []
+tag_in (Closes tag later) = Tag tag ∷ []
+
+-- what is open behind a character, in the sink's state before that tag
+abbrev pub open_behind : {S H : Type 0} → (S → Told → ℕ → Reply H) → S → ℕ → Next → Open
+open_behind reply s line (Opens later) = later
+open_behind reply s line (Closes tag later) = open_after_reply (reply s (Tag tag) line)
+
+-- behind a tag Data goes on, unless the reply to it chooses
+pub closes-open : (h : Here Open) (tag : TagOf) (later : Open) → Closes tag later ≡ behind h → later ≡ Between Data
+unfolding behind
+closes-open (Tells told opened) tag later e = cc
+closes-open (TellsTag told ended) tag later e = cc
+closes-open (Stops told) tag later e = cc
+
+-- a refusal within what a state tells, where a tag may follow
+pub ended_stops : {S T : Type 0} (Z : Type 0) (step faulted : S → Told → ℕ → S) (r : Result T TokenizerError) (e : TokenizerError) (now : Open) (next : Next) (s u : S) (line : ℕ) (tokens : List Told)
+    → IsErrAnd r (λ x. x ≡ e) → Ends {Z = Z} (Err e) now next → telling.Stops step faulted e s (on_line line tokens) u
+    → telling.Tells step faulted r s (on_line line (tokens ++ tag_in next)) u
+ended_stops Z step faulted r Memory now next s u line tokens h ends stop = told_stop step faulted r Memory s u line tokens (tag_in next) h tt stop
+ended_stops Z step faulted r Sink now next s u line tokens h ends stop = told_stop step faulted r Sink s u line tokens (tag_in next) h tt stop
+ended_stops Z step faulted r Failed now next s u line tokens h ends stop = absurd ends
+ended_stops Z step faulted r NotYet now next s u line tokens h ends stop =
+    rw (ends, append-nil tokens) (tells_stop step faulted r NotYet s u (on_line line tokens) h stop)
+
+pub ended_leads : {S H T : Type 0} (Z : Type 0) (reply : S → Told → ℕ → Reply H) (r : Result T TokenizerError) (e : TokenizerError) (now then_open : Open) (next : Next) (t : S) (line : ℕ)
+    → IsErrAnd r (λ x. x ≡ e) → Ends {Z = Z} (Err e) now next → Leads r then_open (open_behind reply t line next)
+ended_leads Z reply r Memory now later next t line h ends = let p = err_from_is_err_and r h in rw (p.1, p.2) tt
+ended_leads Z reply r Sink now later next t line h ends = let p = err_from_is_err_and r h in rw (p.1, p.2) tt
+ended_leads Z reply r Failed now later next t line h ends = absurd ends
+ended_leads Z reply r NotYet now later next t line h ends = let p = err_from_is_err_and r h in rw (p.1, p.2) (ap (open_behind reply t line) ends)
+
+-- a state tells no tag before the one that ends
+no_tags-tokens : (h : Here Open) → NoTagsHere h → NoTags (tokens_of h)
+unfolding tokens_of NoTagsHere
+no_tags-tokens (Tells told later) none = none
+no_tags-tokens (TellsTag told tag) none = none
+no_tags-tokens (Stops told) none = none
+
 module _ {S H : Type 0} (step : S → Told → ℕ → S) (reply : S → Told → ℕ → Reply H) (exact : Bool) where
+  -- nothing but the tag that ends pauses
+  pub pause-character : ((s : S) (told : Told) (line : ℕ) → is_tag told ≡ false → reply s told line ≡ KeepOn)
+      → (s : S) (line d : ℕ) (opened : Open) (last : List Told)
+      → first_pause step reply s (on_line line ((bad_character_error exact d ++ tokens_of (step_at exact opened d)) ++ last))
+      ≡ first_pause step reply (stepped step s (on_line line (bad_character_error exact d ++ tokens_of (step_at exact opened d)))) (on_line line last)
+  pause-character keeps_on s line d opened last =
+      let tokens : List Told = bad_character_error exact d ++ tokens_of (step_at exact opened d) in
+      let quiet : first_pause step reply s (on_line line tokens) ≡ KeepOn =
+      first_pause-no_tags step reply keeps_on s (on_line line tokens)
+      (no_tag_messages line tokens (no_tags-append _ _ (no_tags-bad exact d) (no_tags-tokens (step_at exact opened d) (no_tags-step_at exact d opened)))) in
+      ap (first_pause step reply s) (map-append (λ (token : Told). record { token = token; line = line }) tokens last)
+      ∙ first_pause-append step reply s (on_line line tokens) (on_line line last)
+      ∙ rw quiet refl
+
   no_bad_character : (d : ℕ) (bad : Bool) → (exact && is_bad_character d) ≡ bad → (bad ≡ true → ⊥) → bad_character_error exact d ≡ []
   no_bad_character d true h excluded = absurd (excluded refl)
   no_bad_character d false h excluded = rw h refl
 
-  -- nothing but what goes on has a bad character in front
+  -- nothing but what goes on has a bad character in front; a tag that ends is told last
   messages-tokens : (line d : ℕ) (h : Here Open) → ((exact && is_bad_character d) ≡ true → Goes h)
-      → messages_here step reply exact line d h ≡ on_line line (bad_character_error exact d ++ tokens_of h)
-  unfolding messages_here tokens_of
-  messages-tokens line d (Tells told later) goes = refl
-  messages-tokens line d (TellsTag told tag) goes =
-      ap (on_line line) (append_assoc (bad_character_error exact d) told (Tag tag ∷ []))
+      → messages_here step reply exact line d h ≡ on_line line ((bad_character_error exact d ++ tokens_of h) ++ tag_in (behind h))
+  unfolding messages_here tokens_of behind
+  messages-tokens line d (Tells told later) goes = ap (on_line line) (sym (append-nil (bad_character_error exact d ++ told)))
+  messages-tokens line d (TellsTag told tag) goes = refl
   messages-tokens line d (Stops before) goes =
-      rw (no_bad_character d (exact && is_bad_character d) refl goes) refl
+      rw (no_bad_character d (exact && is_bad_character d) refl goes, append-nil before) refl
 
   -- the reply to a tag is asked behind all that was told before
   opened-behind : (s : S) (line d : ℕ) (h : Here Open)
-      → opened_here step reply exact s line d h ≡ behind step reply (stepped step s (on_line line (bad_character_error exact d))) line h
-  unfolding opened_here behind
+      → opened_here step reply exact s line d h ≡ open_behind reply (stepped step s (on_line line (bad_character_error exact d ++ tokens_of h))) line (behind h)
+  unfolding opened_here tokens_of behind
   opened-behind s line d (Tells told later) = refl
-  opened-behind s line d (TellsTag told tag) =
-      ap (λ t. open_after_reply (reply t (Tag tag) line))
-      (ap (stepped step s) (map-append (λ (token : Told). record { token = token; line = line }) (bad_character_error exact d) told)
-      ∙ stepped-append step s (on_line line (bad_character_error exact d)) (on_line line told))
+  opened-behind s line d (TellsTag told tag) = refl
   opened-behind s line d (Stops told) = refl
 
   -- a character that is dropped
@@ -82,15 +147,15 @@ module _ {S H : Type 0} (step : S → Told → ℕ → S) (reply : S → Told �
     goes_on not_stopped both =
         goes_at_bad exact now tag d (and_parts exact (is_bad_character d) both).1 (rw both at not_stopped)
 
-    pub told-character : (exact && is_bad_character d && stops_at_bad now) ≡ false
+    told-character : (exact && is_bad_character d && stops_at_bad now) ≡ false
         → messages (told step reply exact start s (c ∷ []))
-        ≡ on_line (input_after input (c ∷ [])).line (bad_character_error exact d ++ tokens_of (step_at exact (open_of now tag) d))
+        ≡ on_line (input_after input (c ∷ [])).line ((bad_character_error exact d ++ tokens_of (step_at exact (open_of now tag) d)) ++ tag_in (behind (step_at exact (open_of now tag) d)))
     told-character not_stopped =
         told-one step reply exact start s c d one
         ∙ messages-tokens (input_after input (c ∷ [])).line d (step_at exact (open_of now tag) d) (goes_on not_stopped)
 
-    pub after-character : (after step reply exact start s (c ∷ [])).opened
-        ≡ behind step reply (stepped step s (on_line (input_after input (c ∷ [])).line (bad_character_error exact d))) (input_after input (c ∷ [])).line (step_at exact (open_of now tag) d)
+    after-character : (after step reply exact start s (c ∷ [])).opened
+        ≡ open_behind reply (stepped step s (on_line (input_after input (c ∷ [])).line (bad_character_error exact d ++ tokens_of (step_at exact (open_of now tag) d)))) (input_after input (c ∷ [])).line (behind (step_at exact (open_of now tag) d))
     after-character =
         ap (λ (P : Start). P.opened) (after-one step reply exact start s c d one)
         ∙ opened-behind s (input_after input (c ∷ [])).line d (step_at exact (open_of now tag) d)
@@ -124,3 +189,93 @@ module _ {S H : Type 0} (step : S → Told → ℕ → S) (reply : S → Told �
     pub after-stopped : (exact && is_bad_character d && stops_at_bad now) ≡ true → (after step reply exact start s (c ∷ [])).opened ≡ NotBuilt
     unfolding opened_here
     after-stopped stopped = ap (λ (P : Start). P.opened) (after-one step reply exact start s c d one) ∙ rw (stopped-step stopped) refl
+
+    -- a character that is read: the bad character, the tokens of its state and then the tag that it ends, told by calls
+    module _ (not_stopped : (exact && is_bad_character d && stops_at_bad now) ≡ false) (line : ℕ) (same : line ≡ (input_after input (c ∷ [])).line) where
+      abbrev here_tokens : List Told
+      here_tokens = bad_character_error exact d ++ tokens_of (step_at exact (open_of now tag) d)
+
+      abbrev next : Next
+      next = behind (step_at exact (open_of now tag) d)
+
+      whole-told : messages (told step reply exact start s (c ∷ [])) ≡ on_line line (here_tokens ++ tag_in next)
+      whole-told = told-character not_stopped ∙ ap (λ n. on_line n (here_tokens ++ tag_in next)) (sym same)
+
+      whole-opened : (u : S) → u ≡ stepped step s (on_line line here_tokens) → (after step reply exact start s (c ∷ [])).opened ≡ open_behind reply u line next
+      whole-opened u e =
+          after-character
+          ∙ ap (λ n. open_behind reply (stepped step s (on_line n here_tokens)) n next) (sym same)
+          ∙ ap (λ v. open_behind reply v line next) (sym e)
+
+      module _ (t u : S) (bad_told : t ≡ stepped step s (on_line line (bad_character_error exact d))) where
+        both-told : u ≡ stepped step t (on_line line (tokens_of (step_at exact (open_of now tag) d))) → u ≡ stepped step s (on_line line here_tokens)
+        both-told e =
+            e ∙ ap (λ v. stepped step v (on_line line (tokens_of (step_at exact (open_of now tag) d)))) bad_told
+            ∙ sym (stepped-append step s (on_line line (bad_character_error exact d)) (on_line line (tokens_of (step_at exact (open_of now tag) d))))
+            ∙ ap (stepped step s) (sym (map-append (λ (token : Told). record { token = token; line = line }) (bad_character_error exact d) (tokens_of (step_at exact (open_of now tag) d))))
+
+        pub tells-ended : {T : Type 0} (faulted : S → Told → ℕ → S) (r : Result T TokenizerError) (told_tag : TagOf) (later : Open) (v : S)
+            → u ≡ stepped step t (on_line line (tokens_of (step_at exact (open_of now tag) d))) → Closes told_tag later ≡ next
+            → telling.Tells step faulted r u (on_line line (Tag told_tag ∷ [])) v
+            → telling.Tells step faulted r s (messages (told step reply exact start s (c ∷ []))) v
+        tells-ended faulted r told_tag later v e is tells =
+            rw (whole-told, ← is) (told_then step faulted r s u v line here_tokens (Tag told_tag ∷ []) (both-told e) tells)
+
+        pub opened-ended : (told_tag : TagOf) (later : Open)
+            → u ≡ stepped step t (on_line line (tokens_of (step_at exact (open_of now tag) d))) → Closes told_tag later ≡ next
+            → open_after_reply (reply u (Tag told_tag) line) ≡ (after step reply exact start s (c ∷ [])).opened
+        opened-ended told_tag later e is = ap (open_behind reply u line) is ∙ sym (whole-opened u (both-told e))
+
+        pub pause-ended : ((s : S) (told : Told) (line : ℕ) → is_tag told ≡ false → reply s told line ≡ KeepOn)
+            → (told_tag : TagOf) (later : Open)
+            → u ≡ stepped step t (on_line line (tokens_of (step_at exact (open_of now tag) d))) → Closes told_tag later ≡ next
+            → first_pause step reply u (on_line line (Tag told_tag ∷ [])) ≡ first_pause step reply s (messages (told step reply exact start s (c ∷ [])))
+        pause-ended keeps_on told_tag later e is =
+            ap (λ v. first_pause step reply v (on_line line (Tag told_tag ∷ []))) (both-told e)
+            ∙ ap (λ m. first_pause step reply (stepped step s (on_line line here_tokens)) (on_line line (tag_in m))) is
+            ∙ sym (pause-character keeps_on s line d (open_of now tag) (tag_in next))
+            ∙ ap (first_pause step reply s) (sym whole-told)
+
+        pub tells-going : (later : Open)
+            → u ≡ stepped step t (on_line line (tokens_of (step_at exact (open_of now tag) d))) → Opens later ≡ next
+            → u ≡ stepped step s (messages (told step reply exact start s (c ∷ [])))
+        tells-going later e is =
+            both-told e
+            ∙ ap (λ l. stepped step s (on_line line l)) (sym (append-nil here_tokens) ∙ ap (λ m. here_tokens ++ tag_in m) is)
+            ∙ ap (stepped step s) (sym whole-told)
+
+        pub opened-going : (later : Open)
+            → u ≡ stepped step t (on_line line (tokens_of (step_at exact (open_of now tag) d))) → Opens later ≡ next
+            → later ≡ (after step reply exact start s (c ∷ [])).opened
+        opened-going later e is = ap (open_behind reply u line) is ∙ sym (whole-opened u (both-told e))
+
+        pub pause-going : ((s : S) (told : Told) (line : ℕ) → is_tag told ≡ false → reply s told line ≡ KeepOn)
+            → (later : Open) → Opens later ≡ next
+            → KeepOn ≡ first_pause step reply s (messages (told step reply exact start s (c ∷ [])))
+        pause-going keeps_on later is =
+            sym (first_pause-none step reply (stepped step s (on_line line here_tokens)))
+            ∙ ap (λ m. first_pause step reply (stepped step s (on_line line here_tokens)) (on_line line (tag_in m))) is
+            ∙ sym (pause-character keeps_on s line d (open_of now tag) (tag_in next))
+            ∙ ap (first_pause step reply s) (sym whole-told)
+
+        pub tells-refused : {T : Type 0} (Z : Type 0) (faulted : S → Told → ℕ → S) (r : Result T TokenizerError) (e : TokenizerError) (opened : Open)
+            → IsErrAnd r (λ x. x ≡ e) → Ends {Z = Z} (Err e) opened next
+            → telling.Stops step faulted e t (on_line line (tokens_of (step_at exact (open_of now tag) d))) u
+            → telling.Tells step faulted r s (messages (told step reply exact start s (c ∷ []))) u
+        tells-refused Z faulted r e opened h ends stop =
+            rw (whole-told, append_assoc (bad_character_error exact d) (tokens_of (step_at exact (open_of now tag) d)) (tag_in next))
+            (told_then step faulted r s t u line (bad_character_error exact d) (tokens_of (step_at exact (open_of now tag) d) ++ tag_in next) bad_told
+            (ended_stops Z step faulted r e opened next t u line (tokens_of (step_at exact (open_of now tag) d)) h ends stop))
+
+      pub leads-refused : {T : Type 0} (Z : Type 0) (r : Result T TokenizerError) (e : TokenizerError) (opened later : Open)
+          → IsErrAnd r (λ x. x ≡ e) → Ends {Z = Z} (Err e) opened next → Leads r later (after step reply exact start s (c ∷ [])).opened
+      leads-refused Z r e opened later h ends =
+          rw (whole-opened (stepped step s (on_line line here_tokens)) refl)
+          (ended_leads Z reply r e opened later next (stepped step s (on_line line here_tokens)) line h ends)
+
+      pub tells-bad : {T : Type 0} (faulted : S → Told → ℕ → S) (r : Result T TokenizerError) (e : TokenizerError) (t : S)
+          → IsErrAnd r (λ x. x ≡ e) → telling.IsRefusal e → telling.Stops step faulted e s (on_line line (bad_character_error exact d)) t
+          → telling.Tells step faulted r s (messages (told step reply exact start s (c ∷ []))) t
+      tells-bad faulted r e t h refusal stop =
+          rw (whole-told, append_assoc (bad_character_error exact d) (tokens_of (step_at exact (open_of now tag) d)) (tag_in next))
+          (told_stop step faulted r e s t line (bad_character_error exact d) (tokens_of (step_at exact (open_of now tag) d) ++ tag_in next) h refusal stop)

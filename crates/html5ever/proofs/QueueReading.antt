@@ -1,5 +1,5 @@
 -- A loop that reads the queue: what it has read so far, and what that gives when it goes on, ends or is refused.
-use Rattle.std.proofs.Common.{◌≡◌, ◌≢◌, ◌↔◌, ℕ, Bool, false, List, [], ◌∷◌, ◌++◌, refl, ap, sym, ◌∙◌, arith, length-append, Option, None, Some, lit<}
+use Rattle.std.proofs.Common.{◌≡◌, ◌≢◌, ◌↔◌, ℕ, Bool, true, false, List, [], ◌∷◌, ◌++◌, refl, ap, sym, ◌∙◌, arith, length, ◌+◌, length-append, Option, None, Some, lit<}
 use Rattle.std.specs.Prelude.{Contains}
 use Rattle.std.specs.Str.{chars}
 use Rattle.std.specs.String.{string_bytes}
@@ -8,9 +8,9 @@ use Rattle.std.proofs.lemmas.List.Elements.{All-weaker}
 use Rattle.markup5ever.specs.BufferQueue.{TextQueue, Takes}
 use Rattle.html5grammar.specs.Characters.{null, line_feed, carriage_return}
 use Rattle.html5grammar.specs.Reading.{told, messages, after}
-use Rattle.html5ever.specs.Runs.{IsOrdinary, TakesItem, CanRead, item_text}
+use Rattle.html5ever.specs.Runs.{IsOrdinary, IsRun, TakesItem, CanRead, item_text}
 use Rattle.markup5ever.specs.SetResult.{Pops}
-use Rattle.html5ever_interface.specs.Sink.{stepped}
+use Rattle.html5ever_interface.specs.Sink.{Message, stepped}
 use Rattle.markup5ever.specs.SmallCharSet.{IsMember}
 use Rattle.html5grammar.specs.Start.{Start, Open}
 use Rattle.html5grammar.specs.Start.Mode.{Plain}
@@ -20,16 +20,20 @@ use Rattle.html5ever.specs.Telling.{Stops, IsRefusal}
 use Rattle.html5grammar.specs.NormalisedText.{input_after}
 use Rattle.std.specs.Result.{IsErrAnd}
 use Rattle.std.proofs.Common.{Result, Ok, Err}
-use Rattle.html5ever_interface.specs.Token.{Told, Reply}
+use Rattle.html5ever_interface.specs.Token.{Told, Reply, is_tag}
+use Rattle.html5ever_interface.specs.Token.Reply.{KeepOn}
+use Rattle.std.proofs.lemmas.Bool.{false≢true}
+use Rattle.html5ever.specs.Feed.{Feed, pauses, takes_before, first_pause, feed, IsEndOf}
+use Rattle.html5ever.proofs.Pauses.{first_pause-no_tags, no_tags-told, state_behind-append, pause_here, feed-goes_on, feed-takes, feed-pauses}
 use Rattle.markup5ever.specs.declared.buffer_queue.SetResult.{SetResult}
 use Rattle.markup5ever.specs.declared.buffer_queue.SetResult.TheVariants.{FromSet, NotFromSet}
 use Rattle.html5ever.specs.declared.error.TokenizerError.{TokenizerError}
 use Rattle.html5ever.specs.declared.error.TokenizerError.TheVariants.{Memory, Sink, Failed, NotYet}
-use Rattle.html5grammar.proofs.ReadingLemmas.{told-nil, told-append, after-nil, after-append, told-not_built, after-not_built}
+use Rattle.html5grammar.proofs.ReadingLemmas.{state_behind, told-nil, told-append, after-nil, after-append, told-not_built, after-not_built}
 use Rattle.html5ever_interface.proofs.Steppings.{stepped-append}
 use Rattle.html5ever.proofs.Tellings.{cons≢nil, stops_before, stops_after, Memory-at_once}
 
-memory≢not_yet : Memory ≡ NotYet → ⊥
+pub memory≢not_yet : Memory ≡ NotYet → ⊥
 memory≢not_yet e = cc
 
 sink≢not_yet : Sink ≡ NotYet → ⊥
@@ -69,13 +73,25 @@ pub item_text-filled : {Z : Type 0} (exact : Bool) (K : Start) (item : SetResult
 item_text-filled exact K (FromSet c) can = cons≢nil c []
 item_text-filled exact K (NotFromSet run) can = can.filled
 
+-- what nothing pauses in is followed by what it leaves
+takes_before-twice : {H : Type 0} → (front item : List ℕ) (rest : Feed H) → takes_before front (takes_before item rest) ≡ takes_before (front ++ item) rest
+takes_before-twice front item rest = ap (λ l. record { taken = l; left = rest.left; answer = rest.answer }) (sym (append_assoc front item rest.taken))
+
 module _ {S H : Type 0} (step : S → Told → ℕ → S) (reply : S → Told → ℕ → Reply H) (exact : Bool) where
-  -- the characters taken so far were told, and the tokenizer stands behind them
+  -- the messages of a text that is taken, and the start behind it
+  abbrev told_of : Start → S → List ℕ → List Message
+  told_of K s X = messages (told step reply exact K s X)
+
+  abbrev pub fed : Start → S → List ℕ → Feed H
+  fed K s Q = feed step reply exact K s [] Q
+
+  -- the characters taken so far were told, the tokenizer stands behind them, and none of them paused
   pub record HasRead (K L : Start) (old new : TextQueue) (s t : S) : Type 0 where
     pub front : List ℕ
     pub takes : Takes old new front
     pub state : t ≡ stepped step s (messages (told step reply exact K s front))
     pub position : L ≡ after step reply exact K s front
+    pub feeds : feed step reply exact K s [] old.text ≡ takes_before front (feed step reply exact L t [] new.text)
 
   pub HasRead-none : (K : Start) (old : TextQueue) (s : S) → HasRead K K old old s s
   unfolding stepped
@@ -84,115 +100,245 @@ module _ {S H : Type 0} (step : S → Told → ℕ → S) (reply : S → Told �
     takes = record { text = refl; handed_in = refl; taken = omega arith };
     state = rw (told-nil step reply exact K s) refl;
     position = sym (after-nil step reply exact K s);
+    feeds = refl;
+  }
+
+  state-more : (K L : Start) (s t u : S) (front item : List ℕ) → t ≡ state_behind step reply exact K s front → L ≡ after step reply exact K s front
+      → u ≡ stepped step t (told_of L t item) → u ≡ stepped step s (told_of K s (front ++ item))
+  state-more K L s t u front item state position told_now =
+      told_now
+      ∙ ap (λ P. stepped step t (told_of P t item)) position
+      ∙ ap (λ v. stepped step v (told_of (after step reply exact K s front) v item)) state
+      ∙ sym (state_behind-append step reply exact K s front item)
+
+  position-more : (K L N : Start) (s t : S) (front item : List ℕ) → t ≡ state_behind step reply exact K s front → L ≡ after step reply exact K s front
+      → N ≡ after step reply exact L t item → N ≡ after step reply exact K s (front ++ item)
+  position-more K L N s t front item state position moved =
+      moved
+      ∙ ap (λ P. after step reply exact P t item) position
+      ∙ ap (λ v. after step reply exact (after step reply exact K s front) v item) state
+      ∙ sym (after-append step reply exact K s front item)
+
+  takes-more : (old mid new : TextQueue) (front item : List ℕ) → Takes old mid front → Takes mid new item → Takes old new (front ++ item)
+  takes-more old mid new front item first taken = record {
+    text = first.text ∙ ap (λ l. front ++ l) taken.text ∙ sym (append_assoc front item new.text);
+    handed_in = taken.handed_in ∙ first.handed_in;
+    taken = omega (arith, taken.taken, first.taken, length-append front item);
   }
 
   pub HasRead-more : (K L N : Start) (old mid new : TextQueue) (s t u : S) (item : List ℕ)
       → HasRead K L old mid s t → Takes mid new item
       → u ≡ stepped step t (messages (told step reply exact L t item)) → N ≡ after step reply exact L t item
+      → pauses (first_pause step reply t (messages (told step reply exact L t item))) ≡ false
       → HasRead K N old new s u
-  HasRead-more K L N old mid new s t u item read taken told_now moved = record {
+  HasRead-more K L N old mid new s t u item read taken told_now moved quiet = record {
     front = read.front ++ item;
-    takes = record {
-      text = read.takes.text ∙ ap (λ l. read.front ++ l) taken.text ∙ sym (append_assoc read.front item new.text);
-      handed_in = taken.handed_in ∙ read.takes.handed_in;
-      taken = omega (arith, taken.taken, read.takes.taken, length-append read.front item);
-    };
-    state =
-        told_now
-        ∙ ap (λ P. stepped step t (messages (told step reply exact P t item))) read.position
-        ∙ ap (λ v. stepped step v (messages (told step reply exact (after step reply exact K s read.front) v item))) read.state
-        ∙ sym (stepped-append step s (messages (told step reply exact K s read.front)) (messages (told step reply exact (after step reply exact K s read.front) (stepped step s (messages (told step reply exact K s read.front))) item)))
-        ∙ ap (λ M. stepped step s M) (sym (told-append step reply exact K s read.front item));
-    position =
-        moved
-        ∙ ap (λ P. after step reply exact P t item) read.position
-        ∙ ap (λ v. after step reply exact (after step reply exact K s read.front) v item) read.state
-        ∙ sym (after-append step reply exact K s read.front item);
+    takes = takes-more old mid new read.front item read.takes taken;
+    state = state-more K L s t u read.front item read.state read.position told_now;
+    position = position-more K L N s t read.front item read.state read.position moved;
+    feeds =
+        read.feeds
+        ∙ ap (takes_before read.front)
+        (ap (fed L t) taken.text ∙ feed-goes_on step reply exact L t item new.text quiet
+        ∙ ap (λ P. takes_before item (fed P (stepped step t (told_of L t item)) new.text)) (sym moved)
+        ∙ ap (λ v. takes_before item (fed N v new.text)) (sym told_now))
+        ∙ takes_before-twice read.front item (fed N u new.text);
   }
 
-  -- what the rest of the queue tells follows what was told
-  told-rest : (K L : Start) (old mid : TextQueue) (s t : S) → HasRead K L old mid s t → (front : List ℕ)
-      → old.text ≡ front ++ mid.text → t ≡ stepped step s (messages (told step reply exact K s front)) → L ≡ after step reply exact K s front
-      → messages (told step reply exact K s old.text) ≡ messages (told step reply exact K s front) ++ messages (told step reply exact L t mid.text)
-  told-rest K L old mid s t read front text state position =
-      rw (text, state, position) (told-append step reply exact K s front mid.text)
+  -- an item that was taken is a beginning of what a feed takes
+  pub record IsTaken (L : Start) (t : S) (item rest : List ℕ) : Type 0 where
+    pub more : List ℕ
+    pub parts : (feed step reply exact L t [] (item ++ rest)).taken ≡ item ++ more
 
-  after-rest : (K L : Start) (old mid : TextQueue) (s t : S) → HasRead K L old mid s t
-      → after step reply exact K s old.text ≡ after step reply exact L t mid.text
-  after-rest K L old mid s t read =
-      rw (read.takes.text, read.position, read.state) (after-append step reply exact K s read.front mid.text)
+  -- nothing pauses in a run
+  pub run-quiet : (keeps_on : (s : S) (told : Told) (line : ℕ) → is_tag told ≡ false → reply s told line ≡ KeepOn)
+      (L : Start) (t : S) (run : List ℕ) → IsRun exact L run → first_pause step reply t (messages (told step reply exact L t run)) ≡ KeepOn
+  run-quiet keeps_on L t run is_run = first_pause-no_tags step reply keeps_on t _ (no_tags-told step reply exact L t run is_run.plain)
 
-  module _ (faulted : S → Told → ℕ → S) where
-    pub HasRead-stops : (e : TokenizerError) (K L : Start) (old mid new : TextQueue) (s t u : S) (item : List ℕ)
-        → HasRead K L old mid s t → Takes mid new item → IsRefusal e
-        → Stops step faulted e t (messages (told step reply exact L t item)) u
-        → Stops step faulted e s (messages (told step reply exact K s old.text)) u
-    HasRead-stops e K L old mid new s t u item read taken refusal stops =
-        let whole : messages (told step reply exact K s old.text)
-        ≡ messages (told step reply exact K s read.front) ++ (messages (told step reply exact L t item) ++ messages (told step reply exact (after step reply exact L t item) (stepped step t (messages (told step reply exact L t item))) new.text)) =
-        told-rest K L old mid s t read read.front read.takes.text read.state read.position
-        ∙ ap (λ M. messages (told step reply exact K s read.front) ++ M) (ap (λ X. messages (told step reply exact L t X)) taken.text ∙ told-append step reply exact L t item new.text) in
-        rw whole (stops_after step faulted e s t u (messages (told step reply exact K s read.front)) _ read.state
-        (stops_before step faulted e t u (messages (told step reply exact L t item)) _ refusal stops))
+  pub item-taken : {Z : Type 0} (keeps_on : (s : S) (told : Told) (line : ℕ) → is_tag told ≡ false → reply s told line ≡ KeepOn)
+      (L : Start) (t : S) (item : SetResult Z) (rest : List ℕ) → CanRead exact L item → IsTaken L t (item_text item) rest
+  item-taken keeps_on L t (FromSet c) rest can =
+      let takes = feed-takes step reply exact L t c rest in record { more = takes.0; parts = takes.1 }
+  item-taken keeps_on L t (NotFromSet run) rest can = record {
+    more = (fed (after step reply exact L t (chars (string_bytes run))) (state_behind step reply exact L t (chars (string_bytes run))) rest).taken;
+    parts =
+        ap (λ (f : Feed H). f.taken)
+        (feed-goes_on step reply exact L t (chars (string_bytes run)) rest (ap pauses (run-quiet keeps_on L t (chars (string_bytes run)) can)));
+  }
 
-    pub HasRead-memory : (K L : Start) (old mid : TextQueue) (s t : S)
-        → HasRead K L old mid s t → Stops step faulted Memory s (messages (told step reply exact K s old.text)) t
-    HasRead-memory K L old mid s t read =
-        rw (told-rest K L old mid s t read read.front read.takes.text read.state read.position)
-        (stops_after step faulted Memory s t t (messages (told step reply exact K s read.front)) _ read.state (Memory-at_once step faulted t _))
+  -- an item at which the feed pauses is one character
+  pub item-pauses : {Z : Type 0} (keeps_on : (s : S) (told : Told) (line : ℕ) → is_tag told ≡ false → reply s told line ≡ KeepOn)
+      (L : Start) (t : S) (item : SetResult Z) (rest : List ℕ) → CanRead exact L item
+      → pauses (first_pause step reply t (messages (told step reply exact L t (item_text item)))) ≡ true
+      → feed step reply exact L t [] (item_text item ++ rest)
+      ≡ record { taken = item_text item; left = rest; answer = first_pause step reply t (messages (told step reply exact L t (item_text item))) }
+  unfolding pause_here
+  item-pauses keeps_on L t (FromSet c) rest can pausing = feed-pauses step reply exact L t c rest pausing
+  item-pauses keeps_on L t (NotFromSet run) rest can pausing =
+      absurd (false≢true (sym (ap pauses (run-quiet keeps_on L t (chars (string_bytes run)) can)) ∙ pausing))
 
-    -- nothing is told behind what isn't built yet, so all that the queue tells was told
-    pub HasRead-not_built : (K L : Start) (old mid new : TextQueue) (s t u : S) (item : List ℕ)
-        → HasRead K L old mid s t → Takes mid new item
-        → u ≡ stepped step t (messages (told step reply exact L t item)) → (after step reply exact L t item).opened ≡ NotBuilt
-        → Stops step faulted NotYet s (messages (told step reply exact K s old.text)) u
-    HasRead-not_built K L old mid new s t u item read taken told_now stopped =
-        let more : HasRead K (after step reply exact L t item) old new s u =
-        HasRead-more K L (after step reply exact L t item) old mid new s t u item read taken told_now refl in
-        let rest : messages (told step reply exact K s old.text) ≡ messages (told step reply exact K s more.front) =
-        told-rest K (after step reply exact L t item) old new s u more more.front more.takes.text more.state more.position
-        ∙ ap (λ M. messages (told step reply exact K s more.front) ++ M) (told-not_built step reply exact (after step reply exact L t item) u new.text stopped)
-        ∙ append-nil (messages (told step reply exact K s more.front)) in
-        more.state ∙ ap (λ M. stepped step s M) (sym rest)
+  -- what the whole feed takes, around an item
+  taken-parts : (K L : Start) (old mid new : TextQueue) (s t : S) (item : List ℕ) → (read : HasRead K L old mid s t) → Takes mid new item
+      → (is_taken : IsTaken L t item new.text) → (fed K s old.text).taken ≡ read.front ++ (item ++ is_taken.more)
+  taken-parts K L old mid new s t item read taken is_taken =
+      ap (λ (f : Feed H). f.taken) read.feeds
+      ∙ ap (λ l. read.front ++ l) (ap (λ Q. (fed L t Q).taken) taken.text ∙ is_taken.parts)
 
-  pub not_built-rest : (K L : Start) (old mid new : TextQueue) (s t u : S) (item : List ℕ)
-      → HasRead K L old mid s t → Takes mid new item
-      → u ≡ stepped step t (messages (told step reply exact L t item)) → (after step reply exact L t item).opened ≡ NotBuilt
-      → (after step reply exact K s old.text).opened ≡ NotBuilt
-  not_built-rest K L old mid new s t u item read taken told_now stopped =
-      let more : HasRead K (after step reply exact L t item) old new s u =
-      HasRead-more K L (after step reply exact L t item) old mid new s t u item read taken told_now refl in
-      ap (λ (P : Start). P.opened) (after-rest K (after step reply exact L t item) old new s u more)
-      ∙ after-not_built step reply exact (after step reply exact L t item) u new.text stopped
+  -- and what it tells
+  told-parts : (K L : Start) (old mid new : TextQueue) (s t : S) (item : List ℕ) → (read : HasRead K L old mid s t) → Takes mid new item
+      → (is_taken : IsTaken L t item new.text)
+      → told_of K s (fed K s old.text).taken
+      ≡ told_of K s read.front ++ (told_of L t item ++ told_of (after step reply exact L t item) (state_behind step reply exact L t item) is_taken.more)
+  told-parts K L old mid new s t item read taken is_taken =
+      ap (told_of K s) (taken-parts K L old mid new s t item read taken is_taken)
+      ∙ told-append step reply exact K s read.front (item ++ is_taken.more)
+      ∙ ap (λ P. told_of K s read.front ++ told_of P (state_behind step reply exact K s read.front) (item ++ is_taken.more)) (sym read.position)
+      ∙ ap (λ v. told_of K s read.front ++ told_of L v (item ++ is_taken.more)) (sym read.state)
+      ∙ ap (λ M. told_of K s read.front ++ M) (told-append step reply exact L t item is_taken.more)
+
+  -- the start behind it
+  after-parts : (K L : Start) (old mid new : TextQueue) (s t : S) (item : List ℕ) → (read : HasRead K L old mid s t) → Takes mid new item
+      → (is_taken : IsTaken L t item new.text)
+      → after step reply exact K s (fed K s old.text).taken
+      ≡ after step reply exact (after step reply exact L t item) (state_behind step reply exact L t item) is_taken.more
+  after-parts K L old mid new s t item read taken is_taken =
+      ap (after step reply exact K s) (taken-parts K L old mid new s t item read taken is_taken)
+      ∙ after-append step reply exact K s read.front (item ++ is_taken.more)
+      ∙ ap (λ P. after step reply exact P (state_behind step reply exact K s read.front) (item ++ is_taken.more)) (sym read.position)
+      ∙ ap (λ v. after step reply exact L v (item ++ is_taken.more)) (sym read.state)
+      ∙ after-append step reply exact L t item is_taken.more
 
   -- a start is what is open and how characters come in
   pub moved-behind : (N K : Start) (s : S) (X : List ℕ) → N.opened ≡ (after step reply exact K s X).opened → N.input ≡ input_after K.input X → N ≡ after step reply exact K s X
   moved-behind N K s X opened input = rw (← opened, ← input) refl
 
-  -- a refusal at an item is one within all that the queue tells
-  pub HasRead-refused : (faulted : S → Told → ℕ → S) (e : TokenizerError) (K L : Start) (now : Open) (old mid new : TextQueue) (s t u : S) (item : List ℕ)
-      → HasRead K L old mid s t → Takes mid new item
-      → Stops step faulted e t (messages (told step reply exact L t item)) u
-      → Leads (Err e) now (after step reply exact L t item).opened
-      → Stops step faulted e s (messages (told step reply exact K s old.text)) u
-  HasRead-refused faulted Memory K L now old mid new s t u item read taken stops leads = HasRead-stops faulted Memory K L old mid new s t u item read taken tt stops
-  HasRead-refused faulted Sink K L now old mid new s t u item read taken stops leads = HasRead-stops faulted Sink K L old mid new s t u item read taken tt stops
-  HasRead-refused faulted Failed K L now old mid new s t u item read taken stops leads = stops
-  HasRead-refused faulted NotYet K L now old mid new s t u item read taken stops leads = HasRead-not_built faulted K L old mid new s t u item read taken stops leads
+  module _ (faulted : S → Told → ℕ → S) where
+    HasRead-stops : (e : TokenizerError) (K L : Start) (old mid new : TextQueue) (s t u : S) (item : List ℕ)
+        → HasRead K L old mid s t → Takes mid new item → IsTaken L t item new.text → IsRefusal e
+        → Stops step faulted e t (told_of L t item) u
+        → Stops step faulted e s (told_of K s (fed K s old.text).taken) u
+    HasRead-stops e K L old mid new s t u item read taken is_taken refusal stops =
+        rw (told-parts K L old mid new s t item read taken is_taken)
+        (stops_after step faulted e s t u (told_of K s read.front) _ read.state
+        (stops_before step faulted e t u (told_of L t item) _ refusal stops))
 
-  pub HasRead-met : (e : TokenizerError) (K L : Start) (faulted : S → Told → ℕ → S) (now : Open) (old mid new : TextQueue) (s t u : S) (item : List ℕ)
-      → e ≡ NotYet → HasRead K L old mid s t → Takes mid new item
-      → Stops step faulted e t (messages (told step reply exact L t item)) u
-      → Leads (Err e) now (after step reply exact L t item).opened
-      → (after step reply exact K s old.text).opened ≡ NotBuilt
-  HasRead-met Memory K L faulted now old mid new s t u item same read taken stops leads = absurd (memory≢not_yet same)
-  HasRead-met Sink K L faulted now old mid new s t u item same read taken stops leads = absurd (sink≢not_yet same)
-  HasRead-met Failed K L faulted now old mid new s t u item same read taken stops leads = absurd leads
-  HasRead-met NotYet K L faulted now old mid new s t u item same read taken stops leads = not_built-rest K L old mid new s t u item read taken stops leads
+    pub HasRead-memory : (K L : Start) (old mid : TextQueue) (s t : S)
+        → HasRead K L old mid s t → Stops step faulted Memory s (messages (told step reply exact K s (feed step reply exact K s [] old.text).taken)) t
+    HasRead-memory K L old mid s t read =
+        rw (ap (λ (f : Feed H). told_of K s f.taken) read.feeds ∙ told-append step reply exact K s read.front (fed L t mid.text).taken)
+        (stops_after step faulted Memory s t t (told_of K s read.front) _ read.state (Memory-at_once step faulted t _))
+
+    -- nothing is told behind what isn't built yet, so all that the feed tells was told
+    HasRead-not_built : (K L : Start) (old mid new : TextQueue) (s t u : S) (item : List ℕ)
+        → HasRead K L old mid s t → Takes mid new item → IsTaken L t item new.text
+        → u ≡ stepped step t (told_of L t item) → (after step reply exact L t item).opened ≡ NotBuilt
+        → Stops step faulted NotYet s (told_of K s (fed K s old.text).taken) u
+    HasRead-not_built K L old mid new s t u item read taken is_taken told_now stopped =
+        let whole : told_of K s (fed K s old.text).taken ≡ told_of K s read.front ++ told_of L t item =
+        told-parts K L old mid new s t item read taken is_taken
+        ∙ ap (λ M. told_of K s read.front ++ (told_of L t item ++ M)) (told-not_built step reply exact (after step reply exact L t item) (state_behind step reply exact L t item) is_taken.more stopped)
+        ∙ ap (λ M. told_of K s read.front ++ M) (append-nil (told_of L t item)) in
+        told_now ∙ ap (λ v. stepped step v (told_of L t item)) read.state
+        ∙ sym (stepped-append step s (told_of K s read.front) (told_of L t item))
+        ∙ ap (stepped step s) (sym whole)
+
+    -- a refusal at an item is one within all that the feed tells
+    pub HasRead-refused : (e : TokenizerError) (K L : Start) (now : Open) (old mid new : TextQueue) (s t u : S) (item : List ℕ)
+        → HasRead K L old mid s t → Takes mid new item → IsTaken L t item new.text
+        → Stops step faulted e t (messages (told step reply exact L t item)) u
+        → Leads {T = Unit {0}} (Err e) now (after step reply exact L t item).opened
+        → Stops step faulted e s (messages (told step reply exact K s (feed step reply exact K s [] old.text).taken)) u
+    HasRead-refused Memory K L now old mid new s t u item read taken is_taken stops leads = HasRead-stops Memory K L old mid new s t u item read taken is_taken tt stops
+    HasRead-refused Sink K L now old mid new s t u item read taken is_taken stops leads = HasRead-stops Sink K L old mid new s t u item read taken is_taken tt stops
+    HasRead-refused Failed K L now old mid new s t u item read taken is_taken stops leads = stops
+    HasRead-refused NotYet K L now old mid new s t u item read taken is_taken stops leads = HasRead-not_built K L old mid new s t u item read taken is_taken stops leads
+
+  not_built-rest : (K L : Start) (old mid new : TextQueue) (s t : S) (item : List ℕ)
+      → HasRead K L old mid s t → Takes mid new item → IsTaken L t item new.text → (after step reply exact L t item).opened ≡ NotBuilt
+      → (after step reply exact K s (fed K s old.text).taken).opened ≡ NotBuilt
+  not_built-rest K L old mid new s t item read taken is_taken stopped =
+      ap (λ (P : Start). P.opened) (after-parts K L old mid new s t item read taken is_taken)
+      ∙ after-not_built step reply exact (after step reply exact L t item) (state_behind step reply exact L t item) is_taken.more stopped
+
+  pub HasRead-met : (e : TokenizerError) (K L : Start) (now : Open) (old mid new : TextQueue) (s t : S) (item : List ℕ)
+      → e ≡ NotYet → HasRead K L old mid s t → Takes mid new item → IsTaken L t item new.text
+      → Leads {T = Unit {0}} (Err e) now (after step reply exact L t item).opened
+      → (after step reply exact K s (feed step reply exact K s [] old.text).taken).opened ≡ NotBuilt
+  HasRead-met Memory K L now old mid new s t item same read taken is_taken leads = absurd (memory≢not_yet same)
+  HasRead-met Sink K L now old mid new s t item same read taken is_taken leads = absurd (sink≢not_yet same)
+  HasRead-met Failed K L now old mid new s t item same read taken is_taken leads = absurd leads
+  HasRead-met NotYet K L now old mid new s t item same read taken is_taken leads = not_built-rest K L old mid new s t item read taken is_taken leads
+
+  -- what is left behind an item is an end of the text
+  pub end-behind : (K L : Start) (old mid new : TextQueue) (s t : S) (item : List ℕ) → HasRead K L old mid s t → Takes mid new item → IsEndOf new.text old.text
+  end-behind K L old mid new s t item read taken = record {
+    front = read.front ++ item;
+    parts = read.takes.text ∙ ap (λ l. read.front ++ l) taken.text ∙ sym (append_assoc read.front item new.text);
+  }
+
+  -- as many characters were taken as left the queue
+  pub count-behind : (K L : Start) (old mid new : TextQueue) (s t : S) (item : List ℕ) → HasRead K L old mid s t → Takes mid new item
+      → new.taken + length new.text ≡ old.taken + length old.text
+  count-behind K L old mid new s t item read taken =
+      let first : length old.text ≡ length read.front + length mid.text = ap length read.takes.text ∙ length-append read.front mid.text in
+      let second : length mid.text ≡ length item + length new.text = ap length taken.text ∙ length-append item new.text in
+      omega (arith, first, second, taken.taken, read.takes.taken)
+
+  -- where an item was taken, something waited
+  pub not-empty : {Z : Type 0} (K L : Start) (old mid new : TextQueue) (s t : S) (item : SetResult Z) → HasRead K L old mid s t → Takes mid new (item_text item)
+      → CanRead exact L item → old.text ≡ [] → ⊥
+  not-empty K L old mid new s t item read taken can nothing =
+      let waits : mid.text ≡ [] = (nil-from_append read.front mid.text (sym read.takes.text ∙ nothing)).1 in
+      item_text-filled exact L item can (nil-from_append (item_text item) new.text (sym taken.text ∙ waits)).0
+
+  -- the end of a feed: all was taken, or it pauses behind an item
+  pub record HasFed (K N : Start) (old new : TextQueue) (s u : S) (answer : Reply H) : Type 0 where
+    pub told_all : u ≡ stepped step s (messages (told step reply exact K s (feed step reply exact K s [] old.text).taken))
+    pub position : N ≡ after step reply exact K s (feed step reply exact K s [] old.text).taken
+    pub answers : answer ≡ (feed step reply exact K s [] old.text).answer
+    pub left : new.text ≡ (feed step reply exact K s [] old.text).left
+
+  pub HasFed-all : (K L : Start) (old new : TextQueue) (s t : S) → HasRead K L old new s t → new.text ≡ [] → HasFed K L old new s t KeepOn
+  unfolding feed
+  HasFed-all K L old new s t read none =
+      let whole : fed K s old.text ≡ record { taken = read.front; left = []; answer = KeepOn } =
+      read.feeds ∙ ap (λ Q. takes_before read.front (fed L t Q)) none ∙ ap (λ l. record { taken = l; left = []; answer = KeepOn }) (append-nil read.front) in
+      record {
+        told_all = read.state ∙ ap (λ (f : Feed H). stepped step s (told_of K s f.taken)) (sym whole);
+        position = read.position ∙ ap (λ (f : Feed H). after step reply exact K s f.taken) (sym whole);
+        answers = ap (λ (f : Feed H). f.answer) (sym whole);
+        left = none ∙ ap (λ (f : Feed H). f.left) (sym whole);
+      }
+
+  pub HasFed-pause : {Z : Type 0} (keeps_on : (s : S) (told : Told) (line : ℕ) → is_tag told ≡ false → reply s told line ≡ KeepOn)
+      (K L N : Start) (old mid new : TextQueue) (s t u : S) (item : SetResult Z) (answer : Reply H)
+      → HasRead K L old mid s t → Takes mid new (item_text item) → CanRead exact L item
+      → u ≡ stepped step t (messages (told step reply exact L t (item_text item))) → N ≡ after step reply exact L t (item_text item)
+      → answer ≡ first_pause step reply t (messages (told step reply exact L t (item_text item))) → pauses answer ≡ true
+      → HasFed K N old new s u answer
+  HasFed-pause keeps_on K L N old mid new s t u item answer read taken can told_now moved is_first pausing =
+      let whole : fed K s old.text ≡ record { taken = read.front ++ item_text item; left = new.text; answer = answer } =
+      read.feeds
+      ∙ ap (takes_before read.front)
+      (ap (fed L t) taken.text
+      ∙ item-pauses keeps_on L t item new.text can (sym (ap pauses is_first) ∙ pausing)
+      ∙ ap (λ r. record { taken = item_text item; left = new.text; answer = r }) (sym is_first)) in
+      record {
+        told_all = state-more K L s t u read.front (item_text item) read.state read.position told_now ∙ ap (λ (f : Feed H). stepped step s (told_of K s f.taken)) (sym whole);
+        position = position-more K L N s t read.front (item_text item) read.state read.position moved ∙ ap (λ (f : Feed H). after step reply exact K s f.taken) (sym whole);
+        answers = ap (λ (f : Feed H). f.answer) (sym whole);
+        left = ap (λ (f : Feed H). f.left) (sym whole);
+      }
+
+-- nothing was taken where nothing waits
+pub none-taken : {Z : Type 0} (exact : Bool) (K : Start) (old new : TextQueue) (o : Option (SetResult Z)) → ((item : SetResult Z) → o ≡ Some item → ⊥)
+    → TakesItem exact K old new o → (old.text ≡ []) × (new ≡ old)
+none-taken exact K old new None other taken = taken
+none-taken exact K old new (Some item) other taken = absurd (other item refl)
 
 -- the error of a `?`
-pub error_of : (r : Result (Unit {0}) TokenizerError) (e f : TokenizerError) → IsErrAnd r (λ x. x ≡ e) → r ≡ Err f → e ≡ f
-error_of (Ok u) e f h same = absurd h
+pub error_of : {T : Type 0} (r : Result T TokenizerError) (e f : TokenizerError) → IsErrAnd r (λ x. x ≡ e) → r ≡ Err f → e ≡ f
+error_of (Ok x) e f h same = absurd h
 error_of (Err x) e f h same = sym h ∙ cc
 
 pub error_is : {T : Type 0} {e f : TokenizerError} (r : Result T TokenizerError) → r ≡ Err e → r ≡ Err f → e ≡ f

@@ -8,14 +8,19 @@ use Rattle.html5grammar.specs.EndOfInput.{told_at_end_of}
 use Rattle.html5grammar.specs.NormalisedText.{with_line_feeds, without_dropped_first, normalised, line_after, input_after}
 use Rattle.html5grammar.specs.Reading.{Event, end_events, reading, told, messages, after, read}
 use Rattle.html5grammar.specs.Start.{Start, Input}
-use Rattle.html5grammar.specs.Start.Open.{NotBuilt}
+use Rattle.html5grammar.specs.Start.Mode.{Plain}
+use Rattle.html5grammar.specs.Start.Open.{Between, NotBuilt}
 use Rattle.html5grammar.proofs.ReadingLemmas.{told-nil, told-append, after-nil, after-append, reading-events}
 use Rattle.html5ever_interface.proofs.Steppings.{stepped-append}
 use Rattle.html5grammar.proofs.Traces.{messages-append, messages-map}
-use Rattle.html5ever.specs.Feed.{told_beyond, told_at_end}
+use Rattle.html5ever.specs.Feed.{Feed, pauses, reply_in, told_beyond, told_at_end, feed}
+use Rattle.html5ever.proofs.Pauses.{told_beyond-behind, feed-anew, feed-done, feed-shorter, reply_in-pauses}
+use Rattle.markup5ever.specs.declared.tokenizer_result.TokenizerResult.{TokenizerResult}
+use Rattle.markup5ever.specs.declared.tokenizer_result.TokenizerResult.TheVariants.{Done, Script, EncodingIndicator}
+use Rattle.std.specs.Prelude.{Result, Ok, Err, OnOk, IfOk, IfErr, is_err, ◌≢◌}
 use Rattle.html5ever.specs.Steps.{IsBuilt}
-use Rattle.html5ever.specs.Telling.{Stops}
-use Rattle.html5ever.specs.Tokenizer.{Tokenizing, StandsAt, EndStops}
+use Rattle.html5ever.specs.Telling.{Stops, Tells}
+use Rattle.html5ever.specs.Tokenizer.{Tokenizing, StandsAt, FeedsOn, HandsOn, LeavesWaiting, FeedMeetsNotBuilt, StopsFeeding, EndStops}
 use Rattle.html5ever.specs.declared.error.TokenizerError.{TokenizerError}
 
 -- the line on which the tokenizer stands is the one that the text has reached
@@ -24,17 +29,16 @@ unfolding input_after normalised without_dropped_first with_line_feeds line_afte
 position-line I [] h = omega arith
 position-line I (c ∷ X) h = refl
 
-module _ {X S H : Type 0} (state : X → S) (step : S → Told → ℕ → S) (reply : S → Told → ℕ → Reply H) where
-  -- what is told beyond X is what the rest tells from the start behind X
-  told_beyond-rest : (exact : Bool) (K : Start) (s : S) (X Z : List ℕ)
-      → told_beyond step reply exact K s X Z ≡ messages (told step reply exact (after step reply exact K s X) (stepped step s (messages (told step reply exact K s X))) Z)
-  told_beyond-rest exact K s X Z =
-      let E : List Event = told step reply exact K s X in
-      let M : List Message = messages (told step reply exact (after step reply exact K s X) (stepped step s (messages E)) Z) in
-      ap (λ l. drop (length E) l) (told-append step reply exact K s X Z)
-      ∙ ap (λ n. drop n (messages E ++ M)) (sym (length-map E (λ (e : Event). e.message)))
-      ∙ drop-append_seam (messages E) M
+script≢done : {H T E : Type 0} (handle : H) (r q : Result (TokenizerResult H T) E) → r ≡ Ok (Script handle) → q ≡ Ok Done → r ≡ q → ⊥
+script≢done handle r q h k e = cc
 
+encoding≢done : {H T E : Type 0} (text : T) (r q : Result (TokenizerResult H T) E) → r ≡ Ok (EncodingIndicator text) → q ≡ Ok Done → r ≡ q → ⊥
+encoding≢done text r q h k e = cc
+
+err≢ok : {T E : Type 0} {e : E} {x : T} → Err e ≡ Ok x → ⊥
+err≢ok e = cc
+
+module _ {X S H : Type 0} (state : X → S) (step : S → Told → ℕ → S) (reply : S → Told → ℕ → Reply H) where
   -- what the end tells, by what is open
   messages-end : (exact : Bool) (K : Start) (s : S) (X : List ℕ) → (after step reply exact K s X).input.line < 2 ^ 64
       → messages (end_events step reply exact K (read step reply exact K s X).opened (normalised K.input X))
@@ -73,6 +77,17 @@ module _ {X S H : Type 0} (state : X → S) (step : S → Told → ℕ → S) (r
     not_ended = not_ended;
   }
 
+  -- another sink, where nothing is pending
+  pub StandsAt-anew : (t : Tokenizing X) (x : X) → (t.failed ≡ false → IsBuilt t.position.opened) → t.failed ≡ false → t.ended ≡ false
+      → StandsAt state step reply (record t { sink = x }) t.position (state x) []
+  StandsAt-anew t x built not_failed not_ended = StandsAt-start (record t { sink = x }) t.position refl (built not_failed) not_failed not_ended
+
+  -- plain text from here on
+  pub StandsAt-plain : (t : Tokenizing X) (before : Start) → t.position.opened ≡ Between Plain → t.position.input ≡ before.input → t.failed ≡ false → t.ended ≡ false
+      → StandsAt state step reply t (record before { opened = Between Plain }) (state t.sink) []
+  StandsAt-plain t before opened input not_failed not_ended =
+      StandsAt-start t (record before { opened = Between Plain }) (rw (← opened, ← input) refl) (rw opened tt) not_failed not_ended
+
   pub StandsAt-more : (t u : Tokenizing X) (K : Start) (s : S) (text more : List ℕ)
       → u.exact ≡ t.exact → state u.sink ≡ stepped step (state t.sink) (messages (told step reply t.exact t.position (state t.sink) more))
       → u.position ≡ after step reply t.exact t.position (state t.sink) more → IsBuilt u.position.opened → u.failed ≡ false → u.ended ≡ t.ended
@@ -100,13 +115,31 @@ module _ {X S H : Type 0} (state : X → S) (step : S → Told → ℕ → S) (r
   not_built-more t K s text more met stands =
       ap (λ (P : Start). P.opened) (after-append step reply t.exact K s text more) ∙ rw (← stands.told, ← stands.position) met
 
+  -- what a feed does is told by where the tokenizer stands
+  pub feed-stands : (t : Tokenizing X) (K : Start) (s : S) (text queue : List ℕ) → StandsAt state step reply t K s text
+      → feed step reply t.exact K s text queue ≡ feed step reply t.exact t.position (state t.sink) [] queue
+  feed-stands t K s text queue stands =
+      feed-anew step reply t.exact K s text queue
+      ∙ ap (λ P. feed step reply t.exact P (stepped step s (messages (told step reply t.exact K s text))) [] queue) (sym stands.position)
+      ∙ ap (λ v. feed step reply t.exact t.position v [] queue) (sym stands.told)
+
   module _ (faulted : S → Told → ℕ → S) where
+    -- a feed that read what it takes
+    pub FeedsOn-read : {T : Type 0} → (r : Result T TokenizerError) (t u : Tokenizing X) (queue : List ℕ)
+        → u.exact ≡ t.exact → u.failed ≡ is_err r → u.ended ≡ t.ended
+        → Tells step faulted r (state t.sink) (messages (told step reply t.exact t.position (state t.sink) (feed step reply t.exact t.position (state t.sink) [] queue).taken)) (state u.sink)
+        → OnOk r (u.position ≡ after step reply t.exact t.position (state t.sink) (feed step reply t.exact t.position (state t.sink) [] queue).taken)
+        → OnOk r (IsBuilt u.position.opened) → OnOk r (FeedsOn state step reply t u queue)
+    FeedsOn-read (Ok x) t u queue exact failed ended tells moves built = λ K s text stands.
+        rw (feed-stands t K s text queue stands) (StandsAt-more t u K s text _ exact tells moves built failed ended stands)
+    FeedsOn-read (Err e) t u queue exact failed ended tells moves built = tt
+
     pub Stops-beyond : (e : TokenizerError) (t : Tokenizing X) (K : Start) (s v : S) (text more : List ℕ)
         → StandsAt state step reply t K s text
         → Stops step faulted e (state t.sink) (messages (told step reply t.exact t.position (state t.sink) more)) v
         → Stops step faulted e (state t.sink) (told_beyond step reply t.exact K s text more) v
     Stops-beyond e t K s v text more stands stops =
-        rw (told_beyond-rest t.exact K s text more, ← stands.told, ← stands.position) stops
+        rw (told_beyond-behind step reply t.exact K s text more, ← stands.told, ← stands.position) stops
 
     -- the end of a text
     pub StandsAt-finished : (t : Tokenizing X) (K : Start) (s : S) (text : List ℕ) (finish : S → S) (v : S) → t.position.input.line < 2 ^ 64
@@ -128,3 +161,52 @@ module _ {X S H : Type 0} (state : X → S) (step : S → Told → ℕ → S) (r
         let fits : (after step reply t.exact K s text).input.line < 2 ^ 64 = subst (λ (P : Start). P.input.line < 2 ^ 64) stands.position h in
         subst (λ M. EndStops step faulted end_faulted e (state t.sink) M v)
         (ap (λ (P : Start). on_line P.input.line (told_at_end_of t.exact P.opened)) stands.position ∙ sym (told_at_end-end t.exact K s text fits)) stops
+
+-- what a feed hands on and leaves
+
+module _ {X S H : Type 0} (state : X → S) (step : S → Told → ℕ → S) (reply : S → Told → ℕ → Reply H) where
+  pub HandsOn-stands : (t : Tokenizing X) (queue : List ℕ) (answer : Reply H)
+      → answer ≡ (feed step reply t.exact t.position (state t.sink) [] queue).answer → HandsOn state step reply t queue answer
+  HandsOn-stands t queue answer is K s text stands =
+      is ∙ ap (λ (f : Feed H). f.answer) (sym (feed-stands state step reply t K s text queue stands))
+
+  pub LeavesWaiting-stands : (t : Tokenizing X) (queue left : List ℕ)
+      → left ≡ (feed step reply t.exact t.position (state t.sink) [] queue).left → LeavesWaiting state step reply t queue left
+  LeavesWaiting-stands t queue left is K s text stands =
+      is ∙ ap (λ (f : Feed H). f.left) (sym (feed-stands state step reply t K s text queue stands))
+
+  pub FeedMeets-stands : (t : Tokenizing X) (queue : List ℕ)
+      → (after step reply t.exact t.position (state t.sink) (feed step reply t.exact t.position (state t.sink) [] queue).taken).opened ≡ NotBuilt
+      → FeedMeetsNotBuilt state step reply t queue
+  FeedMeets-stands t queue met K s text stands =
+      rw (feed-stands state step reply t K s text queue stands) (not_built-more state step reply t K s text _ met stands)
+
+  StopsFeeding-stands : (faulted : S → Told → ℕ → S) (e : TokenizerError) (t : Tokenizing X) (queue : List ℕ) (v : S)
+      → Stops step faulted e (state t.sink) (messages (told step reply t.exact t.position (state t.sink) (feed step reply t.exact t.position (state t.sink) [] queue).taken)) v
+      → StopsFeeding state step reply faulted e t queue v
+  StopsFeeding-stands faulted e t queue v stops K s text stands =
+      rw (feed-stands state step reply t K s text queue stands) (Stops-beyond state step reply faulted e t K s v text _ stands stops)
+
+  pub StopsFeeding-read : {T : Type 0} → (faulted : S → Told → ℕ → S) (r : Result T TokenizerError) (t : Tokenizing X) (queue : List ℕ) (v : S)
+      → Tells step faulted r (state t.sink) (messages (told step reply t.exact t.position (state t.sink) (feed step reply t.exact t.position (state t.sink) [] queue).taken)) v
+      → IfErr r (λ e. StopsFeeding state step reply faulted e t queue v)
+  StopsFeeding-read faulted (Ok x) t queue v tells = tt
+  StopsFeeding-read faulted (Err e) t queue v tells = StopsFeeding-stands faulted e t queue v tells
+
+  -- an answer `Done` leaves nothing, and every other one less than there was
+  module _ {T : Type 0} (bytes : T → List ℕ) (exact : Bool) (P : Start) (s : S) (queue left : List ℕ) where
+    pub left-done : (r : Result (TokenizerResult H T) TokenizerError)
+        → IfOk r (λ answer. reply_in bytes answer ≡ (feed step reply exact P s [] queue).answer)
+        → OnOk r (left ≡ (feed step reply exact P s [] queue).left) → r ≡ Ok Done → left ≡ []
+    left-done (Ok Done) answers leaves same = leaves ∙ feed-done step reply exact P s [] queue (ap pauses (sym answers))
+    left-done (Ok (Script handle)) answers leaves same = absurd (script≢done handle _ _ refl refl same)
+    left-done (Ok (EncodingIndicator text)) answers leaves same = absurd (encoding≢done text _ _ refl refl same)
+    left-done (Err e) answers leaves same = absurd (err≢ok same)
+
+    pub left-shorter : (r : Result (TokenizerResult H T) TokenizerError)
+        → IfOk r (λ answer. reply_in bytes answer ≡ (feed step reply exact P s [] queue).answer)
+        → OnOk r (left ≡ (feed step reply exact P s [] queue).left)
+        → IfOk r (λ answer. answer ≢ Done → length left < length queue)
+    left-shorter (Ok answer) answers leaves = λ other.
+        rw leaves (feed-shorter step reply exact P s [] queue (sym (ap pauses answers) ∙ reply_in-pauses bytes answer other))
+    left-shorter (Err e) answers leaves = tt

@@ -9,18 +9,19 @@ use Rattle.std.specs.Char.{IsScalar}
 use Rattle.std.specs.Result.{IsErrAnd}
 use Rattle.html5ever_interface.proofs.Steppings.{stepped-append}
 use Rattle.html5ever_interface.specs.Sink.{Message, stepped, on_line}
-use Rattle.html5ever.specs.Steps.{tokens_of, behind, IsBuilt, Leads}
+use Rattle.html5ever.specs.Steps.{tokens_of, Next, behind, IsBuilt, Leads, Ends}
 use Rattle.html5ever.specs.Telling.{IsRefusal, messages_of, Stops, Tells}
 use Rattle.html5grammar.specs.ErrorText.{where_true}
-use Rattle.html5grammar.specs.Reading.{Here, open_after_reply}
+use Rattle.html5grammar.specs.Reading.{Here}
 use Rattle.html5grammar.specs.Start.{Open}
 use Rattle.html5grammar.proofs.Machine.{told_first}
-use Rattle.std.specs.Prelude.{IfErr}
+use Rattle.std.specs.Prelude.{IfErr, Option}
 use Rattle.html5ever.specs.declared.error.TokenizerError.{TokenizerError}
 use Rattle.html5ever.specs.declared.error.TokenizerError.TheVariants.{Memory, Sink, Failed, NotYet}
 use Rattle.html5ever_interface.specs.declared.interface.token.Token.{Token}
 use Rattle.html5ever_interface.specs.declared.interface.token.Token.TheVariants.{DoctypeToken, TagToken, CommentToken, CharacterTokens, NullCharacterToken, EOFToken, ParseError}
-use Rattle.html5ever_interface.specs.Token.{Told, Reply, told_by}
+use Rattle.html5ever_interface.specs.declared.interface.token.Tag.{Tag}
+use Rattle.html5ever_interface.specs.Token.{Told, told_by}
 use Rattle.html5ever_interface.specs.Token.Told.{Text}
 
 -- a text steps as its characters do
@@ -61,11 +62,11 @@ module _ {S : Type 0} (step faulted : S → Told → ℕ → S) where
       → ((s : S) (a b : List ℕ) (line : ℕ) → step (step s (Text a) line) (Text b) line ≡ step s (Text (a ++ b)) line)
       → ((s : S) (line : ℕ) → step s (Text []) line ≡ s)
       → (s t : S) (token : Token Z) (line : ℕ) → t ≡ step s (told_by token) line
-      → Tells step faulted (Ok tt) s (messages_of (told_by token) line) t
+      → Tells step faulted {T = Unit {0}} (Ok tt) s (messages_of (told_by token) line) t
   token-tells joins empty s t token line e = e ∙ stepped-token joins empty s token line
 
   pub token-faults : (s t : S) (token : Told) (line : ℕ) → messages_of token line ≢ [] → t ≡ faulted s token line
-      → Tells step faulted (Err Sink) s (messages_of token line) t
+      → Stops step faulted Sink s (messages_of token line) t
   unfolding stepped
   token-faults s t token line ne e = record {
     before = [];
@@ -98,7 +99,7 @@ module _ {S : Type 0} (step faulted : S → Told → ℕ → S) where
   stops_after Failed s t u M N told stop = stop
   stops_after NotYet s t u M N told stop = stop ∙ rw (told, stepped-append step s M N) refl
 
-  pub tells_after : (r : Result (Unit {0}) TokenizerError) (s t u : S) (M N : List Message) → t ≡ stepped step s M
+  pub tells_after : {T : Type 0} → (r : Result T TokenizerError) (s t u : S) (M N : List Message) → t ≡ stepped step s M
       → Tells step faulted r t N u → Tells step faulted r s (M ++ N) u
   tells_after (Ok x) s t u M N told tells = tells ∙ rw (told, stepped-append step s M N) refl
   tells_after (Err e) s t u M N told tells = stops_after e s t u M N told tells
@@ -130,34 +131,34 @@ module _ {S : Type 0} (step faulted : S → Told → ℕ → S) where
   Memory-at_once s M = record { before = []; rest = M; parts = refl; state = refl }
 
   -- the exit of a `?`: want of memory before anything was told, and a stop of the call before
-  pub tells_from_memory : (r : Result (Unit {0}) TokenizerError) (s : S) (M : List Message)
+  pub tells_from_memory : {T : Type 0} → (r : Result T TokenizerError) (s : S) (M : List Message)
       → IsErrAnd r (λ e. e ≡ Memory) → Tells step faulted r s M s
   tells_from_memory r s M h = let p = err_from_is_err_and r h in rw (p.1, p.2) (Memory-at_once s M)
 
-  pub tells_from_stop : (r : Result (Unit {0}) TokenizerError) (e : TokenizerError) (s t : S) (M N : List Message)
+  pub tells_from_stop : {T : Type 0} → (r : Result T TokenizerError) (e : TokenizerError) (s t : S) (M N : List Message)
       → IsErrAnd r (λ x. x ≡ e) → IsRefusal e → Stops step faulted e s M t → Tells step faulted r s (M ++ N) t
   tells_from_stop r e s t M N h refusal stop = let p = err_from_is_err_and r h in rw (p.1, p.2) (stops_before e s t M N refusal stop)
 
   -- tokens on one line, told by two calls: by both, by the first and then a stop of the first, and want of memory between
 
-  pub told_then : (r : Result (Unit {0}) TokenizerError) (s t u : S) (line : ℕ) (A B : List Told) → t ≡ stepped step s (on_line line A)
+  pub told_then : {T : Type 0} → (r : Result T TokenizerError) (s t u : S) (line : ℕ) (A B : List Told) → t ≡ stepped step s (on_line line A)
       → Tells step faulted r t (on_line line B) u → Tells step faulted r s (on_line line (A ++ B)) u
   told_then r s t u line A B told tells =
       subst (λ M. Tells step faulted r s M u) (sym (map-append (λ (token : Told). record { token = token; line = line }) A B))
       (tells_after r s t u (on_line line A) (on_line line B) told tells)
 
-  pub told_stop : (r : Result (Unit {0}) TokenizerError) (e : TokenizerError) (s t : S) (line : ℕ) (A B : List Told)
+  pub told_stop : {T : Type 0} → (r : Result T TokenizerError) (e : TokenizerError) (s t : S) (line : ℕ) (A B : List Told)
       → IsErrAnd r (λ x. x ≡ e) → IsRefusal e → Stops step faulted e s (on_line line A) t → Tells step faulted r s (on_line line (A ++ B)) t
   told_stop r e s t line A B h refusal stop =
       subst (λ M. Tells step faulted r s M t) (sym (map-append (λ (token : Told). record { token = token; line = line }) A B))
       (tells_from_stop r e s t (on_line line A) (on_line line B) h refusal stop)
 
   -- the exit of a `?` behind all that is told
-  pub tells_stop : (r : Result (Unit {0}) TokenizerError) (e : TokenizerError) (s t : S) (M : List Message)
+  pub tells_stop : {T : Type 0} → (r : Result T TokenizerError) (e : TokenizerError) (s t : S) (M : List Message)
       → IsErrAnd r (λ x. x ≡ e) → Stops step faulted e s M t → Tells step faulted r s M t
   tells_stop r e s t M h stop = let p = err_from_is_err_and r h in rw (p.1, p.2) stop
 
-  pub tells_memory : (r : Result (Unit {0}) TokenizerError) (s t : S) (M : List Message)
+  pub tells_memory : {T : Type 0} → (r : Result T TokenizerError) (s t : S) (M : List Message)
       → IsErrAnd r (λ x. x ≡ Memory) → t ≡ stepped step s M → Tells step faulted r s M t
   tells_memory r s t M h told =
       let p = err_from_is_err_and r h in
@@ -167,48 +168,50 @@ module _ {S : Type 0} (step faulted : S → Told → ℕ → S) where
   tokens-told_first : (before : List Told) (step : Here Open) → tokens_of (told_first before step) ≡ before ++ tokens_of step
   unfolding tokens_of
   tokens-told_first before (Here.Tells told later) = refl
-  tokens-told_first before (Here.TellsTag told tag) = append_assoc before told (Told.Tag tag ∷ [])
+  tokens-told_first before (Here.TellsTag told tag) = refl
   tokens-told_first before (Here.Stops told) = refl
 
-  pub first_then : (r : Result (Unit {0}) TokenizerError) (s t u : S) (line : ℕ) (before : List Told) (all later : Here Open)
+  pub first_then : {T : Type 0} → (r : Result T TokenizerError) (s t u : S) (line : ℕ) (before : List Told) (all later : Here Open)
       → all ≡ told_first before later → t ≡ stepped step s (on_line line before)
       → Tells step faulted r t (on_line line (tokens_of later)) u → Tells step faulted r s (on_line line (tokens_of all)) u
   first_then r s t u line before all later same told tells =
       subst (λ tokens. Tells step faulted r s (on_line line tokens) u) (sym (ap tokens_of same ∙ tokens-told_first before later))
       (told_then r s t u line before (tokens_of later) told tells)
 
-  pub first_stop : (r : Result (Unit {0}) TokenizerError) (e : TokenizerError) (s t : S) (line : ℕ) (before : List Told) (all later : Here Open)
+  pub first_stop : {T : Type 0} → (r : Result T TokenizerError) (e : TokenizerError) (s t : S) (line : ℕ) (before : List Told) (all later : Here Open)
       → all ≡ told_first before later → IsErrAnd r (λ x. x ≡ e) → IsRefusal e → Stops step faulted e s (on_line line before) t
       → Tells step faulted r s (on_line line (tokens_of all)) t
   first_stop r e s t line before all later same h refusal stop =
       subst (λ tokens. Tells step faulted r s (on_line line tokens) t) (sym (ap tokens_of same ∙ tokens-told_first before later))
       (told_stop r e s t line before (tokens_of later) h refusal stop)
 
-  behind-told_first : {H : Type 0} → (reply : S → Told → ℕ → Reply H) (s t : S) (line : ℕ) (before : List Told) (later : Here Open)
-      → t ≡ stepped step s (on_line line before)
-      → behind step reply s line (told_first before later) ≡ behind step reply t line later
-  unfolding behind
-  behind-told_first reply s t line before (Here.Tells told later) e = refl
-  behind-told_first reply s t line before (Here.TellsTag told tag) e =
-      ap (λ u. open_after_reply (reply u (Told.Tag tag) line))
-      (ap (stepped step s) (map-append (λ (token : Told). record { token = token; line = line }) before told)
-      ∙ (stepped-append step s (on_line line before) (on_line line told) ∙ ap (λ u. stepped step u (on_line line told)) (sym e)))
-  behind-told_first reply s t line before (Here.Stops told) e = refl
+behind-told_first : (before : List Told) (later : Here Open) → behind (told_first before later) ≡ behind later
+unfolding behind
+behind-told_first before (Here.Tells told later) = refl
+behind-told_first before (Here.TellsTag told tag) = refl
+behind-told_first before (Here.Stops told) = refl
 
-  pub leads_first : {H : Type 0} → (reply : S → Told → ℕ → Reply H) (r : Result (Unit {0}) TokenizerError) (now : Open) (s t : S) (line : ℕ) (before : List Told) (all later : Here Open)
-      → all ≡ told_first before later → t ≡ stepped step s (on_line line before)
-      → Leads r now (behind step reply t line later) → Leads r now (behind step reply s line all)
-  leads_first reply r now s t line before all later same e leads =
-      subst (Leads r now) (sym (ap (behind step reply s line) same ∙ behind-told_first reply s t line before later e)) leads
+pub leads_first : {Z : Type 0} → (r : Result (Option (Tag Z)) TokenizerError) (now : Open) (before : List Told) (all later : Here Open)
+    → all ≡ told_first before later → Ends r now (behind later) → Ends r now (behind all)
+leads_first r now before all later same leads =
+    subst (Ends r now) (sym (ap behind same ∙ behind-told_first before later)) leads
 
 -- where a call leads that tells last, and one that is refused
 
-pub leads_told : (r : Result (Unit {0}) TokenizerError) (now later : Open) → IfErr r IsRefusal → now ≡ later → IsBuilt later → Leads r now later
-leads_told (Ok u) now later refusal same built = (same, built)
+pub leads_told : {T : Type 0} → (r : Result T TokenizerError) (now later : Open) → IfErr r IsRefusal → now ≡ later → IsBuilt later → Leads r now later
+leads_told (Ok x) now later refusal same built = (same, built)
 leads_told (Err Memory) now later refusal same built = tt
 leads_told (Err Sink) now later refusal same built = tt
 leads_told (Err Failed) now later refusal same built = refusal
 leads_told (Err NotYet) now later refusal same built = absurd refusal
+
+-- where a call leads that is refused, and ends no tag
+pub ends_refused : {Z : Type 0} → (r : Result (Option (Tag Z)) TokenizerError) (e : TokenizerError) (now : Open) (next : Next)
+    → IsErrAnd r (λ x. x ≡ e) → IsRefusal e → Ends r now next
+ends_refused r Memory now next h refusal = let p = err_from_is_err_and r h in rw (p.1, p.2) tt
+ends_refused r Sink now next h refusal = let p = err_from_is_err_and r h in rw (p.1, p.2) tt
+ends_refused r Failed now next h refusal = absurd refusal
+ends_refused r NotYet now next h refusal = absurd refusal
 
 -- a character is one message
 pub messages_of-char : (c line : ℕ) → IsScalar c

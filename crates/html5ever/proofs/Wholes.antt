@@ -1,13 +1,14 @@
 -- A whole text: what feeding it and ending leave.
 use Rattle.std.proofs.Common.{◌≡◌, inl, inr, ℕ, Bool, List, [], ◌++◌, refl, ap, sym, ◌∙◌, length, drop, subst}
-use Rattle.std.proofs.lemmas.List.{append-nil}
+use Rattle.std.proofs.lemmas.List.{append-nil, append_assoc}
 use Rattle.html5ever_interface.proofs.Steppings.{stepped-append}
 use Rattle.html5ever_interface.specs.Sink.{Message, stepped}
 use Rattle.html5ever_interface.specs.Token.{Told, Reply}
 use Rattle.html5grammar.specs.Reading.{Event, end_events, read, reading, told, messages, after}
 use Rattle.html5grammar.specs.NormalisedText.{normalised}
 use Rattle.html5grammar.specs.Start.{Start, Open}
-use Rattle.html5grammar.proofs.ReadingLemmas.{told-nil, reading-events}
+use Rattle.html5grammar.proofs.ReadingLemmas.{told-nil, told-append, told-not_built, after-append, after-not_built, reading-events}
+use Rattle.html5ever.proofs.Draining.{told-beyond}
 use Rattle.html5grammar.proofs.Traces.{messages-append}
 use Rattle.html5ever.specs.Feed.{told_beyond, told_at_end}
 use Rattle.html5ever.specs.Steps.{IsBuilt}
@@ -38,12 +39,6 @@ module _ {X S H : Type 0} (state : X → S) (step : S → Told → ℕ → S) (r
       ∙ ap (λ n. drop n (messages E ++ N)) (sym (length-map E (λ (e : Event). e.message)))
       ∙ drop-append_seam (messages E) N))
 
-  -- nothing was told before the text
-  told_beyond-start : (exact : Bool) (K : Start) (s : S) (text : List ℕ) → told_beyond step reply exact K s [] text ≡ messages (told step reply exact K s text)
-  told_beyond-start exact K s text =
-      ap (λ n. drop n (messages (told step reply exact K s text)))
-      (sym (length-map (told step reply exact K s []) (λ (e : Event). e.message)) ∙ ap length (told-nil step reply exact K s))
-
   state-start : (t : Tokenizing X) (K : Start) (s : S) → StandsAt state step reply t K s [] → state t.sink ≡ s
   unfolding stepped
   state-start t K s stands = stands.told ∙ ap (stepped step s) (told-nil step reply t.exact K s)
@@ -57,22 +52,59 @@ module _ {X S H : Type 0} (state : X → S) (step : S → Told → ℕ → S) (r
       ∙ messages-append (told step reply exact K s text) (end_events step reply exact K (read step reply exact K s text).opened (normalised K.input text))
       ∙ rw met (append-nil (messages (told step reply exact K s text)))
 
+  -- the reading of a text in three parts
+  reading-within : (exact : Bool) (K : Start) (s : S) (text taken more : List ℕ)
+      → messages (reading step reply exact K s ((text ++ taken) ++ more))
+      ≡ messages (told step reply exact K s text)
+      ++ (told_beyond step reply exact K s text taken ++ (told_beyond step reply exact K s (text ++ taken) more ++ told_at_end step reply exact K s ((text ++ taken) ++ more)))
+  reading-within exact K s text taken more =
+      let T : List Message = messages (told step reply exact K s text) in
+      let B : List Message = told_beyond step reply exact K s text taken in
+      let C : List Message = told_beyond step reply exact K s (text ++ taken) more in
+      let E : List Message = told_at_end step reply exact K s ((text ++ taken) ++ more) in
+      reading-parts exact K s ((text ++ taken) ++ more)
+      ∙ ap (λ l. l ++ E) (told-beyond step reply exact K s (text ++ taken) more ∙ ap (λ l. l ++ C) (told-beyond step reply exact K s text taken))
+      ∙ append_assoc (T ++ B) C E
+      ∙ append_assoc T B (C ++ E)
+
+  -- a feed that is refused within a run
+  pub whole-within_stops : (end_faulted : S → S) (e : TokenizerError) (t : Tokenizing X) (K : Start) (s u : S) (text taken more : List ℕ)
+      → StandsAt state step reply t K s text
+      → (e ≡ NotYet → (after step reply t.exact K s (text ++ taken)).opened ≡ NotBuilt)
+      → Stops step faulted e (state t.sink) (told_beyond step reply t.exact K s text taken) u
+      → WholeStops step faulted end_faulted e s (messages (reading step reply t.exact K s ((text ++ taken) ++ more))) u
+  whole-within_stops end_faulted Memory t K s u text taken more stands met stops =
+      rw (reading-within t.exact K s text taken more)
+      (stops_after step faulted Memory s (state t.sink) u (messages (told step reply t.exact K s text)) _ stands.told
+      (stops_before step faulted Memory (state t.sink) u (told_beyond step reply t.exact K s text taken) _ tt stops))
+  whole-within_stops end_faulted Sink t K s u text taken more stands met stops =
+      rw (reading-within t.exact K s text taken more)
+      (inl (stops_after step faulted Sink s (state t.sink) u (messages (told step reply t.exact K s text)) _ stands.told
+      (stops_before step faulted Sink (state t.sink) u (told_beyond step reply t.exact K s text taken) _ tt stops)))
+  whole-within_stops end_faulted Failed t K s u text taken more stands met stops = stops
+  whole-within_stops end_faulted NotYet t K s u text taken more stands met stops =
+      let behind : (after step reply t.exact K s ((text ++ taken) ++ more)).opened ≡ NotBuilt =
+      ap (λ (P : Start). P.opened) (after-append step reply t.exact K s (text ++ taken) more)
+      ∙ after-not_built step reply t.exact (after step reply t.exact K s (text ++ taken)) _ more (met refl) in
+      let whole : messages (reading step reply t.exact K s ((text ++ taken) ++ more))
+      ≡ messages (told step reply t.exact K s text) ++ told_beyond step reply t.exact K s text taken =
+      end-not_built t.exact K s ((text ++ taken) ++ more) behind
+      ∙ told-append step reply t.exact K s (text ++ taken) more
+      ∙ ap (λ l. messages (told step reply t.exact K s (text ++ taken)) ++ l) (told-not_built step reply t.exact (after step reply t.exact K s (text ++ taken)) _ more (met refl))
+      ∙ append-nil (messages (told step reply t.exact K s (text ++ taken)))
+      ∙ told-beyond step reply t.exact K s text taken in
+      stops
+      ∙ ap (λ v. stepped step v (told_beyond step reply t.exact K s text taken)) stands.told
+      ∙ sym (stepped-append step s (messages (told step reply t.exact K s text)) (told_beyond step reply t.exact K s text taken))
+      ∙ ap (stepped step s) (sym whole)
+
   pub whole-feed_stops : (end_faulted : S → S) (e : TokenizerError) (t : Tokenizing X) (K : Start) (s u : S) (text : List ℕ)
       → StandsAt state step reply t K s []
       → (e ≡ NotYet → (after step reply t.exact K s text).opened ≡ NotBuilt)
       → Stops step faulted e (state t.sink) (told_beyond step reply t.exact K s [] text) u
       → WholeStops step faulted end_faulted e s (messages (reading step reply t.exact K s text)) u
-  whole-feed_stops end_faulted Memory t K s u text stands met stops =
-      rw (reading-parts t.exact K s text)
-      (stops_before step faulted Memory s u (messages (told step reply t.exact K s text)) (told_at_end step reply t.exact K s text) tt
-      (rw (told_beyond-start t.exact K s text, state-start t K s stands) at stops))
-  whole-feed_stops end_faulted Sink t K s u text stands met stops =
-      rw (reading-parts t.exact K s text)
-      (inl (stops_before step faulted Sink s u (messages (told step reply t.exact K s text)) (told_at_end step reply t.exact K s text) tt
-      (rw (told_beyond-start t.exact K s text, state-start t K s stands) at stops)))
-  whole-feed_stops end_faulted Failed t K s u text stands met stops = stops
-  whole-feed_stops end_faulted NotYet t K s u text stands met stops =
-      rw (end-not_built t.exact K s text (met refl)) (rw (told_beyond-start t.exact K s text, state-start t K s stands) at stops)
+  whole-feed_stops end_faulted e t K s u text stands met stops =
+      rw (← append-nil text) (whole-within_stops end_faulted e t K s u [] text [] stands met stops)
 
   pub whole-end_stops : (end_faulted : S → S) (e : TokenizerError) (t : Tokenizing X) (K : Start) (s u : S) (text : List ℕ)
       → StandsAt state step reply t K s text

@@ -1,19 +1,42 @@
--- What a feed takes of the text that waits, what is told of a text that goes on or ends, and what a feed may cost.
-use Rattle.std.specs.Prelude.{◌≡◌, ℕ, ◌+◌, ◌*◌, ◌≤◌, Bool, List, [], ◌++◌, length, drop}
-use Rattle.html5ever_interface.specs.Sink.{Message}
+-- What a feed takes of the text that waits and what it answers, what is told of a text that goes on or ends, and what a
+-- feed may cost.
+use Rattle.std.specs.Prelude.{◌≡◌, ℕ, ◌+◌, ◌*◌, ◌≤◌, Bool, true, false, List, [], ◌∷◌, ◌++◌, length, drop, if◌then◌else◌}
+use Rattle.html5ever_interface.specs.Sink.{Message, stepped}
 use Rattle.html5ever_interface.specs.Token.{Told, Reply}
+use Rattle.html5ever_interface.specs.Token.Reply.{KeepOn, RunScript, SwitchEncoding}
 use Rattle.html5grammar.specs.Reading.{reading, told, messages}
 use Rattle.html5grammar.specs.Start.{Start}
 use Rattle.markup5ever.specs.BufferQueue.{TextQueue}
+use Rattle.markup5ever.specs.declared.tokenizer_result.TokenizerResult.{TokenizerResult}
+use Rattle.markup5ever.specs.declared.tokenizer_result.TokenizerResult.TheVariants.{Done, Script, EncodingIndicator}
 
--- the beginning of the queue's text that one feed takes, and the rest that it leaves
-pub record Feed : Type 0 where
+-- whether the tokenizer pauses behind a tag that gets this reply
+abbrev pub pauses : {H : Type 0} → Reply H → Bool
+pauses (RunScript handle) = true
+pauses (SwitchEncoding text) = true
+pauses other = false
+
+-- the reply that an answer hands on: one that pauses, or none, where `bytes` are those of a text
+abbrev pub reply_in : {H T : Type 0} → (T → List ℕ) → TokenizerResult H T → Reply H
+reply_in bytes Done = KeepOn
+reply_in bytes (Script handle) = RunScript handle
+reply_in bytes (EncodingIndicator text) = SwitchEncoding (bytes text)
+
+-- the beginning of the queue's text that one feed takes, the rest that it leaves, and the reply that it hands on
+pub record Feed (H : Type 0) : Type 0 where
   pub taken : List ℕ
   pub left : List ℕ
+  pub answer : Reply H
 
--- no reply pauses yet, so a feed takes all that waits; a run takes what its feeds take, one after another
-abbrev pub feed : List ℕ → Feed
-feed queue = record { taken = queue; left = [] }
+-- a feed that takes a text before the rest
+abbrev pub takes_before : {H : Type 0} → List ℕ → Feed H → Feed H
+takes_before text feed = record { taken = text ++ feed.taken; left = feed.left; answer = feed.answer }
+
+-- a feed of c and a text: it ends behind c where the reply there pauses, and else it is c and then the feed `rest`
+unfoldable pub up_to_pause : {H : Type 0} → Reply H → ℕ → List ℕ → Feed H → Feed H
+up_to_pause reply c text rest =
+    if pauses reply then record { taken = c ∷ []; left = text; answer = reply }
+    else takes_before (c ∷ []) rest
 
 module _ {S H : Type 0} (step : S → Told → ℕ → S) (reply : S → Told → ℕ → Reply H) (exact : Bool) where
   -- what is told of a text that goes on, beyond what was told of it before
@@ -24,6 +47,23 @@ module _ {S H : Type 0} (step : S → Told → ℕ → S) (reply : S → Told �
   -- what is told at the end of a text, beyond what was told of it before
   abbrev pub told_at_end : Start → S → List ℕ → List Message
   told_at_end K s text = drop (length (told step reply exact K s text)) (messages (reading step reply exact K s text))
+
+module _ {S H : Type 0} (step : S → Told → ℕ → S) (reply : S → Told → ℕ → Reply H) where
+  -- the first reply to some messages that pauses, and to keep on where none does
+  unfoldable pub first_pause : S → List Message → Reply H
+  first_pause s [] = KeepOn
+  first_pause s (m ∷ M) =
+      if pauses (reply s m.token m.line) then reply s m.token m.line else first_pause (step s m.token m.line) M
+
+  -- the reply that pauses at c, behind a text, where one does
+  abbrev pub pause_at : Bool → Start → S → List ℕ → ℕ → Reply H
+  pause_at exact K s text c =
+      first_pause (stepped step s (messages (told step reply exact K s text))) (told_beyond step reply exact K s text (c ∷ []))
+
+  -- what a feed of a queue's text does behind `text`: it ends behind the first tag whose reply pauses
+  unfoldable pub feed : Bool → Start → S → List ℕ → List ℕ → Feed H
+  feed exact K s text [] = record { taken = []; left = []; answer = KeepOn }
+  feed exact K s text (c ∷ queue) = up_to_pause (pause_at exact K s text c) c queue (feed exact K s (text ++ c ∷ []) queue)
 
 -- what is left of a text is an end of it
 pub record IsEndOf (left text : List ℕ) : Type 0 where

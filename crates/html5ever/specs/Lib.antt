@@ -4,3 +4,4 @@ pub mod Telling
 pub mod Feed
 pub mod Tokenizer
 pub mod Runs
+pub mod RunSteps

@@ -40,8 +40,8 @@ module _ {S : Type 0} (step faulted : S → Told → ℕ → S) where
   Stops NotYet s M t = t ≡ stepped step s M
 
   -- told all the messages, or stopped within them
-  abbrev pub Tells : Result (Unit {0}) TokenizerError → S → List Message → S → Type 0
-  Tells (Ok u) s M t = t ≡ stepped step s M
+  abbrev pub Tells : {T : Type 0} → Result T TokenizerError → S → List Message → S → Type 0
+  Tells (Ok x) s M t = t ≡ stepped step s M
   Tells (Err e) s M t = Stops e s M t
 
 -- how far a call's answer raises the sink's count of faults

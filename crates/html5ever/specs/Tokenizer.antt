@@ -7,7 +7,7 @@ use Rattle.html5ever_interface.specs.declared.states.State.TheVariants.{Data, Pl
 use Rattle.html5grammar.specs.Reading.{reading, told, messages, after}
 use Rattle.html5grammar.specs.Start.{Start}
 use Rattle.html5grammar.specs.Start.Open.{NotBuilt}
-use Rattle.html5ever.specs.Feed.{told_beyond, told_at_end}
+use Rattle.html5ever.specs.Feed.{told_beyond, told_at_end, feed}
 use Rattle.html5ever.specs.Steps.{IsBuilt}
 use Rattle.html5ever.specs.Telling.{Stops, StopsWithin, FaultsWithin}
 use Rattle.html5ever.specs.declared.error.TokenizerError.{TokenizerError}
@@ -48,6 +48,27 @@ module _ {X S H : Type 0} (state : X → S) (step : S → Told → ℕ → S) (r
   abbrev pub ReadsOn : Tokenizing X → Tokenizing X → List ℕ → Type 0
   ReadsOn old new more = (K : Start) (s : S) (text : List ℕ) → StandsAt old K s text → StandsAt new K s (text ++ more)
 
+  -- from wherever it stood, the tokenizer was taken further by what a feed of the queue's text takes
+  abbrev pub FeedsOn : Tokenizing X → Tokenizing X → List ℕ → Type 0
+  FeedsOn old new queue =
+      (K : Start) (s : S) (text : List ℕ) → StandsAt old K s text → StandsAt new K s (text ++ (feed step reply old.exact K s text queue).taken)
+
+  -- from wherever the tokenizer stood, a feed of the queue's text hands on that reply
+  abbrev pub HandsOn : Tokenizing X → List ℕ → Reply H → Type 0
+  HandsOn old queue answer =
+      (K : Start) (s : S) (text : List ℕ) → StandsAt old K s text → answer ≡ (feed step reply old.exact K s text queue).answer
+
+  -- from wherever the tokenizer stood, a feed of the queue's text leaves that much of it
+  abbrev pub LeavesWaiting : Tokenizing X → List ℕ → List ℕ → Type 0
+  LeavesWaiting old queue left =
+      (K : Start) (s : S) (text : List ℕ) → StandsAt old K s text → left ≡ (feed step reply old.exact K s text queue).left
+
+  -- from wherever the tokenizer stood, a feed of the queue's text meets what isn't built yet
+  abbrev pub FeedMeetsNotBuilt : Tokenizing X → List ℕ → Type 0
+  FeedMeetsNotBuilt old queue =
+      (K : Start) (s : S) (text : List ℕ) → StandsAt old K s text
+      → (after step reply old.exact K s (text ++ (feed step reply old.exact K s text queue).taken)).opened ≡ NotBuilt
+
   -- from wherever the tokenizer stood, the whole reading was told, and then the sink finished
   abbrev pub Finishes : (S → S) → Tokenizing X → S → Type 0
   Finishes finish old t =
@@ -71,6 +92,12 @@ module _ {X S H : Type 0} (state : X → S) (step : S → Told → ℕ → S) (r
   StopsReading e old more t =
       (K : Start) (s : S) (text : List ℕ) → StandsAt state step reply old K s text
       → Stops step faulted e (state old.sink) (told_beyond step reply old.exact K s text more) t
+
+  -- from wherever it stood, the tokenizer stopped within what a feed of the queue's text would have told
+  abbrev pub StopsFeeding : TokenizerError → Tokenizing X → List ℕ → S → Type 0
+  StopsFeeding e old queue t =
+      (K : Start) (s : S) (text : List ℕ) → StandsAt state step reply old K s text
+      → Stops step faulted e (state old.sink) (told_beyond step reply old.exact K s text (feed step reply old.exact K s text queue).taken) t
 
   -- from wherever it stood, the tokenizer stopped within what the end would have told
   abbrev pub StopsEnding : (S → S) → TokenizerError → Tokenizing X → S → Type 0

@@ -1,9 +1,13 @@
 //! Kinds of characters.
-ghost use Rattle.std.specs.Prelude.{◌≡◌, ◌==◌, ◌||◌, ◌&&◌};
+ghost use Rattle.std.specs.Prelude.{◌≡◌, ◌==◌, ◌||◌, ◌&&◌, IfSome, is_some};
+ghost use Rattle.std.specs.Char.{to_ascii_lowercase};
 ghost use Rattle.html5grammar.specs.Characters.{null, is_white_space, is_letter, shown};
 ghost use Rattle.html5grammar.specs.Tag.{is_odd_in_name, is_odd_at_name, is_odd_in_unquoted, quote_of};
 
 use html5ever_interface::states::AttrValueKind;
+
+#[cfg(test)]
+mod tests;
 
 #[tactic(auto, unfolding(html5grammar::specs::Characters::is_white_space))]
 pub fn is_white_space(c: char) -> bool
@@ -18,6 +22,19 @@ pub fn is_letter(c: char) -> bool
     ensures { result ≡ is_letter c }
 {
     matches!(c, 'A'..='Z' | 'a'..='z')
+}
+
+/// The letter in lower case, where the character is an ASCII letter.
+#[tactic(auto, unfolding(html5grammar::specs::Characters::is_letter))]
+pub fn lower_ascii_letter(c: char) -> Option<char>
+    ensures letter { is_some result ≡ is_letter c }
+    ensures lower { IfSome result (λ letter. letter ≡ to_ascii_lowercase c) }
+{
+    match c {
+        'a'..='z' => Some(c),
+        'A'..='Z' => Some(c.to_ascii_lowercase()),
+        _ => None,
+    }
 }
 
 /// The character that stands for one in names and values: U+FFFD for NUL.

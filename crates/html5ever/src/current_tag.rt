@@ -8,7 +8,7 @@ ghost use Rattle.html5ever.specs.CurrentTag.{open_tag};
 ghost use Rattle.html5ever.specs.Telling.{Tells, IsRefusal, faults_of};
 ghost use Rattle.markup5ever.specs.Names.{attribute_of};
 
-use crate::characters::shown;
+use crate::characters::{lower_ascii_letter, shown};
 use crate::error::TokenizerError;
 use crate::tell::emit_message;
 use html5ever_interface::interface::sink::TokenSink;
@@ -45,11 +45,14 @@ impl<A: Allocator + Copy> CurrentTag<A> {
 }
 
 /// Appends a character to a name, a letter in lower case.
-#[tactic(auto, unfolding(html5grammar::specs::Characters::name_bytes))]
+#[tactic(auto, unfolding(html5grammar::specs::Characters::name_bytes, html5grammar::specs::Characters::shown, html5grammar::specs::Characters::is_letter))]
 pub fn push_name<A: Allocator>(name: &mut String<A>, c: char) -> Result<(), AllocError>
     ensures { OnOk result (string_bytes name.new ≡ string_bytes name.old ++ name_bytes c) }
 {
-    name.push(shown(c).to_ascii_lowercase())
+    match lower_ascii_letter(c) {
+        Some(letter) => name.push(letter),
+        None => name.push(shown(c)),
+    }
 }
 
 /// Appends a character to a value.

@@ -1,4 +1,4 @@
-//! The end of a tag: its last attribute, its errors, and the tag itself, told to the sink.
+//! The end of a tag: its last attribute, its errors, and the tag that is to be told.
 ghost use Rattle.std.specs.Prelude.{◌≡◌, ◌+◌, ◌∷◌, [], ◌++◌, ◌&&◌, not, nat_eq, length};
 ghost use Rattle.std.specs.Prelude.{OnOk, IfErr, MatchBool, string_bytes};
 ghost use Rattle.html5ever_interface.specs.Sink.{on_line};
@@ -10,14 +10,14 @@ ghost use Rattle.html5grammar.specs.Start.Open.{Between, NotBuilt};
 ghost use Rattle.html5grammar.specs.Tag.{is_end_tag, duplicate_error, end_tag_errors};
 ghost use Rattle.html5grammar.specs.Tag.{with_last_attribute, told_tag};
 ghost use Rattle.html5ever.specs.CurrentTag.{open_tag, open_of};
-ghost use Rattle.html5ever.specs.Steps.{tokens_of, behind, Leads};
+ghost use Rattle.html5ever.specs.Steps.{tokens_of, behind, Ends};
 ghost use Rattle.html5ever.specs.Telling.{Tells, IsRefusal, faults_of};
 
 use crate::current_tag::{CurrentTag, finish_attribute};
 use crate::error::TokenizerError;
 use crate::tell::emit_message_where;
 use html5ever_interface::interface::sink::TokenSink;
-use html5ever_interface::interface::token::{SinkFault, Tag, TagKind, Token, TokenSinkResult};
+use html5ever_interface::interface::token::{Tag, TagKind, Token};
 use html5ever_interface::states::State;
 use markup5ever::interface::LocalName;
 use std::alloc::Allocator;
@@ -82,42 +82,6 @@ fn finish_tag<S: TokenSink<Token<A>>, A: Allocator + Copy>(
     report_end_tag(alloc, sink, tag, self_closing, line)
 }
 
-// Whether the tokenizer keeps on after an answer of the sink: what the others ask isn't built yet.
-fn keeps_on<H, A: Allocator>(answer: &TokenSinkResult<H, String<A>>) -> bool
-    ensures { MatchBool result
-        (open_after_reply (reply_of string_bytes answer.now) ≡ Between Data)
-        (open_after_reply (reply_of string_bytes answer.now) ≡ NotBuilt) }
-{
-    matches!(answer, TokenSinkResult::Continue)
-}
-
-// Tells the sink a tag. What it replies is not built yet, but to keep on.
-#[tactic(auto, unfolding(html5ever_interface::specs::Sink::stepped))]
-fn tell_tag<S: TokenSink<Token<A>>, A: Allocator>(
-    sink: &mut S,
-    state: &mut State,
-    tag: Tag<A>,
-    line: u64,
-) -> Result<(), TokenizerError>
-    ensures tells { Tells S.step S.faulted result (S.state sink.old)
-        (on_line line (Told.Tag (tag_of tag) ∷ [])) (S.state sink.new) }
-    ensures leads { Leads result (Between Data)
-        (open_after_reply (S.reply (S.state sink.old) (Told.Tag (tag_of tag)) line)) }
-    ensures state { state.new ≡ State.Data }
-    ensures faults { S.faults sink.new ≡ S.faults sink.old + faults_of result }
-{
-    *state = State::Data;
-    let answer = match sink.process_token(Token::TagToken(tag), line) {
-        Ok(answer) => answer,
-        Err(SinkFault) => return Err(TokenizerError::Sink),
-    };
-    if keeps_on(&answer) {
-        Ok(())
-    } else {
-        Err(TokenizerError::NotYet)
-    }
-}
-
 // The tag that is told.
 fn ended_tag<A: Allocator>(tag: CurrentTag<A>, self_closing: bool) -> Tag<A>
     ensures { tag_of result ≡ told_tag (open_tag tag) self_closing }
@@ -131,7 +95,8 @@ fn ended_tag<A: Allocator>(tag: CurrentTag<A>, self_closing: bool) -> Tag<A>
     }
 }
 
-/// Ends the open tag at its `>`.
+/// Ends the open tag at its `>`, and answers it: it is told last, and the sink's reply to it may
+/// choose another state than Data.
 pub fn emit_tag<S: TokenSink<Token<A>>, A: Allocator + Copy>(
     alloc: A,
     sink: &mut S,
@@ -139,16 +104,16 @@ pub fn emit_tag<S: TokenSink<Token<A>>, A: Allocator + Copy>(
     tag: &mut CurrentTag<A>,
     self_closing: bool,
     line: u64,
-) -> Result<(), TokenizerError>
+) -> Result<Option<Tag<A>>, TokenizerError>
     ensures tells { Tells S.step S.faulted result (S.state sink.old)
         (on_line line (tokens_of (closing_step [] (open_tag tag.old) self_closing)))
         (S.state sink.new) }
-    ensures leads { Leads result (open_of state.new tag.new)
-        (behind S.step S.reply (S.state sink.old) line
-        (closing_step [] (open_tag tag.old) self_closing)) }
+    ensures leads { Ends result (open_of state.new tag.new)
+        (behind (closing_step [] (open_tag tag.old) self_closing)) }
     ensures faults { S.faults sink.new ≡ S.faults sink.old + faults_of result }
 {
+    *state = State::Data;
     finish_tag(alloc, sink, tag, self_closing, line)?;
     let ended = mem::replace(tag, CurrentTag::new(alloc, TagKind::StartTag));
-    tell_tag(sink, state, ended_tag(ended, self_closing), line)
+    Ok(Some(ended_tag(ended, self_closing)))
 }

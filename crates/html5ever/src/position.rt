@@ -1,16 +1,18 @@
 //! Where a tokenizer stands in its stream.
-ghost use Rattle.std.specs.Prelude.{◌≡◌, ◌^◌, ◌<◌, ◌+◌, ◌&&◌, ◌∷◌, [], true, false, IfErr};
+ghost use Rattle.std.specs.Prelude.{◌≡◌, ◌^◌, ◌<◌, ◌+◌, ◌&&◌, ◌∷◌, [], true, false, IfOk, IfErr, string_bytes};
 ghost use Rattle.html5ever_interface.specs.Options.{options_of};
 ghost use Rattle.html5ever_interface.specs.Sink.{stepped, on_line};
+ghost use Rattle.html5ever_interface.specs.Token.{Told, tag_of};
 ghost use Rattle.html5grammar.specs.Characters.{is_bad_character};
 ghost use Rattle.html5grammar.specs.EndOfInput.{told_at_end_of};
 ghost use Rattle.html5grammar.specs.ErrorText.{bad_character_error};
 ghost use Rattle.html5grammar.specs.NormalisedText.{input_after};
-ghost use Rattle.html5grammar.specs.Reading.{told, messages, after};
-ghost use Rattle.html5grammar.specs.Start.{start_of};
-ghost use Rattle.html5grammar.specs.Start.Mode.{Plain};
+ghost use Rattle.html5grammar.specs.Reading.{told, messages, after, open_after_reply};
+ghost use Rattle.html5grammar.specs.Start.{start_of, is_clean};
+ghost use Rattle.html5grammar.specs.Start.Mode.{Data, Plain};
 ghost use Rattle.html5grammar.specs.Start.Open.{Between};
 ghost use Rattle.html5ever.specs.CurrentTag.{stops_at_bad};
+ghost use Rattle.html5ever.specs.Feed.{reply_in, first_pause};
 ghost use Rattle.html5ever.specs.Steps.{IsBuilt, Leads};
 ghost use Rattle.html5ever.specs.Telling.{Tells, IsRefusal, faults_of};
 ghost use Rattle.html5ever.specs.Tokenizer.{CanStart};
@@ -23,9 +25,10 @@ use crate::message::{bad_character_message, is_bad};
 use crate::step::step;
 use crate::tell::emit_error;
 use html5ever_interface::interface::sink::TokenSink;
-use html5ever_interface::interface::token::{TagKind, Token};
+use html5ever_interface::interface::token::{SinkFault, Tag, TagKind, Token, TokenSinkResult};
 use html5ever_interface::options::TokenizerOpts;
 use html5ever_interface::states::State;
+use markup5ever::tokenizer_result::TokenizerResult;
 use std::alloc::{Allocator, Global};
 use std::marker::Model;
 
@@ -92,6 +95,21 @@ impl<A: Allocator + Copy> Position<A> {
         )
     }
 
+    /// Whether nothing is open.
+    pub fn is_clean(&self) -> bool
+        ensures { result ≡ is_clean self.now.opened }
+    {
+        matches!(self.state, State::Data | State::Plaintext)
+    }
+
+    /// Reads plain text from here on.
+    pub fn set_plaintext(&mut self)
+        ensures opened { self.new.opened ≡ Between Plain }
+        ensures input { self.new.input ≡ self.old.input }
+    {
+        self.state = State::Plaintext;
+    }
+
     /// Whether plain text goes on, with no first character that may be dropped.
     pub fn is_in_plain_text(&self) -> bool
         ensures plain { result ≡ true → self.now.opened ≡ Between Plain }
@@ -146,30 +164,66 @@ fn report_bad_character<S: TokenSink<Token<A>>, A: Allocator + Copy>(
     emit_error(sink, message, line)
 }
 
-/// Reads one character of the stream.
+// Tells the sink a tag, and goes on as it replies.
+#[tactic(auto, unfolding(html5ever_interface::specs::Sink::stepped, crate::specs::Feed::first_pause))]
+fn tell_tag<S: TokenSink<Token<A>>, A: Allocator + Copy>(
+    sink: &mut S,
+    position: &mut Position<A>,
+    tag: Tag<A>,
+    line: u64,
+) -> Result<TokenizerResult<S::Handle, String<A>>, TokenizerError>
+    requires { position.old.opened ≡ Between Data }
+    ensures tells { Tells S.step S.faulted result (S.state sink.old)
+        (on_line line (Told.Tag (tag_of tag) ∷ [])) (S.state sink.new) }
+    ensures leads { Leads result position.new.opened
+        (open_after_reply (S.reply (S.state sink.old) (Told.Tag (tag_of tag)) line)) }
+    ensures answer { IfOk result (λ answer. reply_in string_bytes answer
+        ≡ first_pause S.step S.reply (S.state sink.old) (on_line line (Told.Tag (tag_of tag) ∷ []))) }
+    ensures input { position.new.input ≡ position.old.input }
+    ensures faults { S.faults sink.new ≡ S.faults sink.old + faults_of result }
+{
+    match sink.process_token(Token::TagToken(tag), line) {
+        Ok(TokenSinkResult::Continue) => Ok(TokenizerResult::Done),
+        Ok(TokenSinkResult::Plaintext) => {
+            position.set_plaintext();
+            Ok(TokenizerResult::Done)
+        }
+        Ok(TokenSinkResult::Script(handle)) => Ok(TokenizerResult::Script(handle)),
+        Ok(TokenSinkResult::EncodingIndicator(text)) => {
+            Ok(TokenizerResult::EncodingIndicator(text))
+        }
+        Ok(TokenSinkResult::RawData(_)) => Err(TokenizerError::NotYet),
+        Err(SinkFault) => Err(TokenizerError::Sink),
+    }
+}
+
+/// Reads one character of the stream. The answer is `Done`, but behind a tag whose reply pauses.
 pub fn read_character<S: TokenSink<Token<A>>, A: Allocator + Copy>(
     alloc: A,
     sink: &mut S,
     exact_errors: bool,
     position: &mut Position<A>,
     c: char,
-) -> Result<(), TokenizerError>
+) -> Result<TokenizerResult<S::Handle, String<A>>, TokenizerError>
     ensures tells { Tells S.step S.faulted result (S.state sink.old)
         (messages (told S.step S.reply exact_errors position.old (S.state sink.old) (c ∷ []))) (S.state sink.new) }
     ensures leads { IsBuilt position.old.opened → Leads result position.new.opened
         (after S.step S.reply exact_errors position.old (S.state sink.old) (c ∷ [])).opened }
+    ensures answer { IfOk result (λ answer. reply_in string_bytes answer
+        ≡ first_pause S.step S.reply (S.state sink.old)
+        (messages (told S.step S.reply exact_errors position.old (S.state sink.old) (c ∷ [])))) }
     ensures input { position.new.input ≡ input_after position.old.input (c ∷ []) }
     ensures faults { S.faults sink.new ≡ S.faults sink.old + faults_of result }
 {
     let Some(c) = position.input.advance(c) else {
-        return Ok(());
+        return Ok(TokenizerResult::Done);
     };
     let line = position.input.line();
     if stops_at(exact_errors, position.state, c) {
         return Err(TokenizerError::NotYet);
     }
     report_bad_character(alloc, sink, exact_errors, c, line)?;
-    step(
+    let ended = step(
         alloc,
         sink,
         exact_errors,
@@ -177,5 +231,9 @@ pub fn read_character<S: TokenSink<Token<A>>, A: Allocator + Copy>(
         &mut position.tag,
         c,
         line,
-    )
+    )?;
+    match ended {
+        Some(tag) => tell_tag(sink, position, tag, line),
+        None => Ok(TokenizerResult::Done),
+    }
 }

@@ -1,10 +1,10 @@
 //! Reading the queue.
-ghost use Rattle.std.specs.Prelude.{◌≡◌, ℕ, ◌+◌, ◌↔◌, ◌∷◌, [], Contains, IsOk, IfOk, IfErr, OnOk, OnErr, length};
+ghost use Rattle.std.specs.Prelude.{◌≡◌, ℕ, ◌+◌, ◌↔◌, ◌∷◌, [], Contains, IsOk, IfOk, IfErr, OnOk, OnErr, length, string_bytes};
 ghost use Rattle.html5grammar.specs.Characters.{null, line_feed, carriage_return};
 ghost use Rattle.html5grammar.specs.NormalisedText.{input_after};
 ghost use Rattle.html5grammar.specs.Reading.{told, messages, after};
 ghost use Rattle.html5grammar.specs.Start.Open.{NotBuilt};
-ghost use Rattle.html5ever.specs.Feed.{IsEndOf};
+ghost use Rattle.html5ever.specs.Feed.{IsEndOf, reply_in, first_pause, feed};
 ghost use Rattle.html5ever.specs.Runs.{TakesItem, CanRead, item_text};
 ghost use Rattle.html5ever.specs.Steps.{IsBuilt, Leads};
 ghost use Rattle.html5ever.specs.Telling.{Tells, IsNotFailed, faults_of};
@@ -17,6 +17,7 @@ use html5ever_interface::interface::sink::TokenSink;
 use html5ever_interface::interface::token::Token;
 use markup5ever::buffer_queue::{BufferQueue, SetResult};
 use markup5ever::small_char_set::SmallCharSet;
+use markup5ever::tokenizer_result::TokenizerResult;
 use std::alloc::{AllocError, Allocator};
 
 // Takes what can be read at once: a run of plain text, where errors are not exact and no first
@@ -44,48 +45,60 @@ fn pop_item<A: Allocator + Copy>(
     queue.pop_except_from(breaks)
 }
 
-// Reads what was taken at once.
+// Reads what was taken at once. A run has no tag, so nothing pauses in it.
 fn read_item<S: TokenSink<Token<A>>, A: Allocator + Copy>(
     alloc: A,
     sink: &mut S,
     exact_errors: bool,
     position: &mut Position<A>,
     item: SetResult<A>,
-) -> Result<(), TokenizerError>
+) -> Result<TokenizerResult<S::Handle, String<A>>, TokenizerError>
     requires item { CanRead exact_errors position.old item }
     requires built { IsBuilt position.old.opened }
     ensures tells { Tells S.step S.faulted result (S.state sink.old)
         (messages (told S.step S.reply exact_errors position.old (S.state sink.old) (item_text item))) (S.state sink.new) }
     ensures leads { Leads result position.new.opened
         (after S.step S.reply exact_errors position.old (S.state sink.old) (item_text item)).opened }
+    ensures answer { IfOk result (λ answer. reply_in string_bytes answer
+        ≡ first_pause S.step S.reply (S.state sink.old)
+        (messages (told S.step S.reply exact_errors position.old (S.state sink.old) (item_text item)))) }
     ensures input { position.new.input ≡ input_after position.old.input (item_text item) }
     ensures faults { S.faults sink.new ≡ S.faults sink.old + faults_of result }
 {
     match item {
         SetResult::FromSet(c) => read_character(alloc, sink, exact_errors, position, c),
-        SetResult::NotFromSet(run) => tell(sink, Token::CharacterTokens(run), position.line()),
+        SetResult::NotFromSet(run) => {
+            tell(sink, Token::CharacterTokens(run), position.line())?;
+            Ok(TokenizerResult::Done)
+        }
     }
 }
 
-/// Reads all that waits in the queue.
+/// Reads what waits in the queue, up to the first tag whose reply pauses.
 pub fn read_queue<S: TokenSink<Token<A>>, A: Allocator + Copy>(
     alloc: A,
     sink: &mut S,
     exact_errors: bool,
     position: &mut Position<A>,
     queue: &mut BufferQueue<A>,
-) -> Result<(), TokenizerError>
+) -> Result<TokenizerResult<S::Handle, String<A>>, TokenizerError>
     requires { IsBuilt position.old.opened }
     ensures tells { Tells S.step S.faulted result (S.state sink.old)
-        (messages (told S.step S.reply exact_errors position.old (S.state sink.old) queue.old.text)) (S.state sink.new) }
+        (messages (told S.step S.reply exact_errors position.old (S.state sink.old)
+        (feed S.step S.reply exact_errors position.old (S.state sink.old) [] queue.old.text).taken)) (S.state sink.new) }
     ensures moves { OnOk result
-        (position.new ≡ after S.step S.reply exact_errors position.old (S.state sink.old) queue.old.text) }
+        (position.new ≡ after S.step S.reply exact_errors position.old (S.state sink.old)
+        (feed S.step S.reply exact_errors position.old (S.state sink.old) [] queue.old.text).taken) }
     ensures built { OnOk result (IsBuilt position.new.opened) }
+    ensures answer { IfOk result (λ answer. reply_in string_bytes answer
+        ≡ (feed S.step S.reply exact_errors position.old (S.state sink.old) [] queue.old.text).answer) }
+    ensures left { OnOk result
+        (queue.new.text ≡ (feed S.step S.reply exact_errors position.old (S.state sink.old) [] queue.old.text).left) }
     ensures not_yet { result ≡ Err TokenizerError.NotYet
-        → (after S.step S.reply exact_errors position.old (S.state sink.old) queue.old.text).opened ≡ NotBuilt }
+        → (after S.step S.reply exact_errors position.old (S.state sink.old)
+        (feed S.step S.reply exact_errors position.old (S.state sink.old) [] queue.old.text).taken).opened ≡ NotBuilt }
     ensures not_failed { IfErr result IsNotFailed }
-    ensures emptied { OnOk result (queue.new.text ≡ []) }
-    ensures left { IsEndOf queue.new.text queue.old.text }
+    ensures end_of_queue { IsEndOf queue.new.text queue.old.text }
     ensures taken { queue.new.taken + length queue.new.text ≡ queue.old.taken + length queue.old.text }
     ensures handed_in { queue.new.handed_in ≡ queue.old.handed_in }
     ensures faults { S.faults sink.new ≡ S.faults sink.old + faults_of result }
@@ -93,7 +106,10 @@ pub fn read_queue<S: TokenSink<Token<A>>, A: Allocator + Copy>(
 {
     let breaks = SmallCharSet::of(b"\0\n\r");
     while let Some(item) = pop_item(exact_errors, position, breaks, queue)? {
-        read_item(alloc, sink, exact_errors, position, item)?;
+        match read_item(alloc, sink, exact_errors, position, item)? {
+            TokenizerResult::Done => {}
+            pause => return Ok(pause),
+        }
     }
-    Ok(())
+    Ok(TokenizerResult::Done)
 }

@@ -4,7 +4,7 @@ ghost use Rattle.html5ever_interface.specs.Sink.{on_line};
 ghost use Rattle.html5grammar.proofs.Machine.{step_at, tag_step};
 ghost use Rattle.html5grammar.specs.Start.Place.{InValue};
 ghost use Rattle.html5ever.specs.CurrentTag.{open_tag, open_of};
-ghost use Rattle.html5ever.specs.Steps.{tokens_of, behind, Leads};
+ghost use Rattle.html5ever.specs.Steps.{tokens_of, behind, Ends};
 ghost use Rattle.html5ever.specs.Telling.{Tells, faults_of};
 
 use crate::current_tag::CurrentTag;
@@ -19,7 +19,7 @@ use crate::value_states::{
     attribute_value_unquoted_state, before_attribute_value_state,
 };
 use html5ever_interface::interface::sink::TokenSink;
-use html5ever_interface::interface::token::Token;
+use html5ever_interface::interface::token::{Tag, Token};
 use html5ever_interface::states::{AttrValueKind, State};
 use std::alloc::Allocator;
 
@@ -34,14 +34,13 @@ fn attribute_value_state<S: TokenSink<Token<A>>, A: Allocator + Copy>(
     kind: AttrValueKind,
     c: char,
     line: u64,
-) -> Result<(), TokenizerError>
+) -> Result<Option<Tag<A>>, TokenizerError>
     requires state { state.old ≡ State.AttributeValue kind }
     ensures tells { Tells S.step S.faulted result (S.state sink.old)
         (on_line line (tokens_of (tag_step exact_errors (InValue kind) (open_tag tag.old) c)))
         (S.state sink.new) }
-    ensures leads { Leads result (open_of state.new tag.new)
-        (behind S.step S.reply (S.state sink.old) line
-        (tag_step exact_errors (InValue kind) (open_tag tag.old) c)) }
+    ensures leads { Ends result (open_of state.new tag.new)
+        (behind (tag_step exact_errors (InValue kind) (open_tag tag.old) c)) }
     ensures faults { S.faults sink.new ≡ S.faults sink.old + faults_of result }
 {
     match kind {
@@ -64,7 +63,7 @@ fn step_in_tag<S: TokenSink<Token<A>>, A: Allocator + Copy>(
     tag: &mut CurrentTag<A>,
     c: char,
     line: u64,
-) -> Result<(), TokenizerError>
+) -> Result<Option<Tag<A>>, TokenizerError>
     requires not_data { state.old ≢ State.Data }
     requires not_plaintext { state.old ≢ State.Plaintext }
     requires not_tag_open { state.old ≢ State.TagOpen }
@@ -72,9 +71,8 @@ fn step_in_tag<S: TokenSink<Token<A>>, A: Allocator + Copy>(
     ensures tells { Tells S.step S.faulted result (S.state sink.old)
         (on_line line (tokens_of (step_at exact_errors (open_of state.old tag.old) c)))
         (S.state sink.new) }
-    ensures leads { Leads result (open_of state.new tag.new)
-        (behind S.step S.reply (S.state sink.old) line
-        (step_at exact_errors (open_of state.old tag.old) c)) }
+    ensures leads { Ends result (open_of state.new tag.new)
+        (behind (step_at exact_errors (open_of state.old tag.old) c)) }
     ensures faults { S.faults sink.new ≡ S.faults sink.old + faults_of result }
 {
     match *state {
@@ -114,18 +112,20 @@ pub fn step<S: TokenSink<Token<A>>, A: Allocator + Copy>(
     tag: &mut CurrentTag<A>,
     c: char,
     line: u64,
-) -> Result<(), TokenizerError>
+) -> Result<Option<Tag<A>>, TokenizerError>
     ensures tells { Tells S.step S.faulted result (S.state sink.old)
         (on_line line (tokens_of (step_at exact_errors (open_of state.old tag.old) c)))
         (S.state sink.new) }
-    ensures leads { Leads result (open_of state.new tag.new)
-        (behind S.step S.reply (S.state sink.old) line
-        (step_at exact_errors (open_of state.old tag.old) c)) }
+    ensures leads { Ends result (open_of state.new tag.new)
+        (behind (step_at exact_errors (open_of state.old tag.old) c)) }
     ensures faults { S.faults sink.new ≡ S.faults sink.old + faults_of result }
 {
     match *state {
         State::Data => data_state(alloc, sink, exact_errors, state, tag, c, line),
-        State::Plaintext => plaintext_state(alloc, sink, exact_errors, c, line),
+        State::Plaintext => {
+            plaintext_state(alloc, sink, exact_errors, c, line)?;
+            Ok(None)
+        }
         State::TagOpen => tag_open_state(alloc, sink, exact_errors, state, tag, c, line),
         State::EndTagOpen => end_tag_open_state(alloc, sink, exact_errors, state, tag, c, line),
         _ => step_in_tag(alloc, sink, exact_errors, state, tag, c, line),

@@ -8,7 +8,7 @@ ghost use Rattle.html5grammar.specs.Start.Place.{BeforeAttribute, AfterSolidus};
 ghost use Rattle.html5grammar.specs.Tag.{is_odd_at_name, duplicate_error};
 ghost use Rattle.html5grammar.specs.Tag.{with_last_attribute, with_last_name};
 ghost use Rattle.html5ever.specs.CurrentTag.{open_tag, open_of};
-ghost use Rattle.html5ever.specs.Steps.{tokens_of, behind, Leads};
+ghost use Rattle.html5ever.specs.Steps.{tokens_of, behind, Ends};
 ghost use Rattle.html5ever.specs.Telling.{Tells, IsRefusal, faults_of};
 
 use crate::characters::{is_odd_at_name, is_odd_in_name, is_white_space};
@@ -17,7 +17,7 @@ use crate::emit_tag::emit_tag;
 use crate::error::TokenizerError;
 use crate::tell::{emit_unexpected, emit_unexpected_where};
 use html5ever_interface::interface::sink::TokenSink;
-use html5ever_interface::interface::token::Token;
+use html5ever_interface::interface::token::{Tag, Token};
 use html5ever_interface::states::State;
 use std::alloc::Allocator;
 
@@ -31,31 +31,31 @@ pub fn tag_name_state<S: TokenSink<Token<A>>, A: Allocator + Copy>(
     tag: &mut CurrentTag<A>,
     c: char,
     line: u64,
-) -> Result<(), TokenizerError>
+) -> Result<Option<Tag<A>>, TokenizerError>
     requires state { state.old ≡ State.TagName }
     ensures tells { Tells S.step S.faulted result (S.state sink.old)
         (on_line line (tokens_of (tag_name_step exact_errors (open_tag tag.old) c)))
         (S.state sink.new) }
-    ensures leads { Leads result (open_of state.new tag.new)
-        (behind S.step S.reply (S.state sink.old) line
-        (tag_name_step exact_errors (open_tag tag.old) c)) }
+    ensures leads { Ends result (open_of state.new tag.new)
+        (behind (tag_name_step exact_errors (open_tag tag.old) c)) }
     ensures faults { S.faults sink.new ≡ S.faults sink.old + faults_of result }
 {
     if is_white_space(c) {
         *state = State::BeforeAttributeName;
-        return Ok(());
+        return Ok(None);
     }
     match c {
         '/' => {
             *state = State::SelfClosingStartTag;
-            Ok(())
+            Ok(None)
         }
         '>' => emit_tag(alloc, sink, state, tag, false, line),
         _ => {
             push_name(&mut tag.name, c)?;
             let null = c == '\0';
             let expected = State::TagName;
-            emit_unexpected_where(alloc, sink, exact_errors, null, c, expected, line)
+            emit_unexpected_where(alloc, sink, exact_errors, null, c, expected, line)?;
+            Ok(None)
         }
     }
 }
@@ -70,13 +70,12 @@ pub fn before_attribute_name_state<S: TokenSink<Token<A>>, A: Allocator + Copy>(
     tag: &mut CurrentTag<A>,
     c: char,
     line: u64,
-) -> Result<(), TokenizerError>
+) -> Result<Option<Tag<A>>, TokenizerError>
     ensures tells { Tells S.step S.faulted result (S.state sink.old)
         (on_line line (tokens_of (part_step exact_errors BeforeAttribute (open_tag tag.old) c)))
         (S.state sink.new) }
-    ensures leads { Leads result (open_of state.new tag.new)
-        (behind S.step S.reply (S.state sink.old) line
-        (part_step exact_errors BeforeAttribute (open_tag tag.old) c)) }
+    ensures leads { Ends result (open_of state.new tag.new)
+        (behind (part_step exact_errors BeforeAttribute (open_tag tag.old) c)) }
     ensures faults { S.faults sink.new ≡ S.faults sink.old + faults_of result }
 {
     if c == '>' {
@@ -84,16 +83,17 @@ pub fn before_attribute_name_state<S: TokenSink<Token<A>>, A: Allocator + Copy>(
     }
     if is_white_space(c) {
         *state = State::BeforeAttributeName;
-        return Ok(());
+        return Ok(None);
     }
     match c {
         '/' => {
             *state = State::SelfClosingStartTag;
-            Ok(())
+            Ok(None)
         }
         _ => {
             let expected = State::BeforeAttributeName;
-            create_attribute(alloc, sink, exact_errors, state, tag, c, expected, line)
+            create_attribute(alloc, sink, exact_errors, state, tag, c, expected, line)?;
+            Ok(None)
         }
     }
 }
@@ -108,35 +108,35 @@ pub fn attribute_name_state<S: TokenSink<Token<A>>, A: Allocator + Copy>(
     tag: &mut CurrentTag<A>,
     c: char,
     line: u64,
-) -> Result<(), TokenizerError>
+) -> Result<Option<Tag<A>>, TokenizerError>
     requires state { state.old ≡ State.AttributeName }
     ensures tells { Tells S.step S.faulted result (S.state sink.old)
         (on_line line (tokens_of (attribute_name_step exact_errors (open_tag tag.old) c)))
         (S.state sink.new) }
-    ensures leads { Leads result (open_of state.new tag.new)
-        (behind S.step S.reply (S.state sink.old) line
-        (attribute_name_step exact_errors (open_tag tag.old) c)) }
+    ensures leads { Ends result (open_of state.new tag.new)
+        (behind (attribute_name_step exact_errors (open_tag tag.old) c)) }
     ensures faults { S.faults sink.new ≡ S.faults sink.old + faults_of result }
 {
     if is_white_space(c) {
         *state = State::AfterAttributeName;
-        return Ok(());
+        return Ok(None);
     }
     match c {
         '/' => {
             *state = State::SelfClosingStartTag;
-            Ok(())
+            Ok(None)
         }
         '=' => {
             *state = State::BeforeAttributeValue;
-            Ok(())
+            Ok(None)
         }
         '>' => emit_tag(alloc, sink, state, tag, false, line),
         _ => {
             push_name(&mut tag.attr_name, c)?;
             let odd = is_odd_in_name(c);
             let expected = State::AttributeName;
-            emit_unexpected_where(alloc, sink, exact_errors, odd, c, expected, line)
+            emit_unexpected_where(alloc, sink, exact_errors, odd, c, expected, line)?;
+            Ok(None)
         }
     }
 }
@@ -151,32 +151,32 @@ pub fn after_attribute_name_state<S: TokenSink<Token<A>>, A: Allocator + Copy>(
     tag: &mut CurrentTag<A>,
     c: char,
     line: u64,
-) -> Result<(), TokenizerError>
+) -> Result<Option<Tag<A>>, TokenizerError>
     requires state { state.old ≡ State.AfterAttributeName }
     ensures tells { Tells S.step S.faulted result (S.state sink.old)
         (on_line line (tokens_of (after_attribute_name_step exact_errors (open_tag tag.old) c)))
         (S.state sink.new) }
-    ensures leads { Leads result (open_of state.new tag.new)
-        (behind S.step S.reply (S.state sink.old) line
-        (after_attribute_name_step exact_errors (open_tag tag.old) c)) }
+    ensures leads { Ends result (open_of state.new tag.new)
+        (behind (after_attribute_name_step exact_errors (open_tag tag.old) c)) }
     ensures faults { S.faults sink.new ≡ S.faults sink.old + faults_of result }
 {
     if is_white_space(c) {
-        return Ok(());
+        return Ok(None);
     }
     match c {
         '/' => {
             *state = State::SelfClosingStartTag;
-            Ok(())
+            Ok(None)
         }
         '=' => {
             *state = State::BeforeAttributeValue;
-            Ok(())
+            Ok(None)
         }
         '>' => emit_tag(alloc, sink, state, tag, false, line),
         _ => {
             let expected = State::AfterAttributeName;
-            create_attribute(alloc, sink, exact_errors, state, tag, c, expected, line)
+            create_attribute(alloc, sink, exact_errors, state, tag, c, expected, line)?;
+            Ok(None)
         }
     }
 }
@@ -241,13 +241,12 @@ pub fn self_closing_start_tag_state<S: TokenSink<Token<A>>, A: Allocator + Copy>
     tag: &mut CurrentTag<A>,
     c: char,
     line: u64,
-) -> Result<(), TokenizerError>
+) -> Result<Option<Tag<A>>, TokenizerError>
     ensures tells { Tells S.step S.faulted result (S.state sink.old)
         (on_line line (tokens_of (part_step exact_errors AfterSolidus (open_tag tag.old) c)))
         (S.state sink.new) }
-    ensures leads { Leads result (open_of state.new tag.new)
-        (behind S.step S.reply (S.state sink.old) line
-        (part_step exact_errors AfterSolidus (open_tag tag.old) c)) }
+    ensures leads { Ends result (open_of state.new tag.new)
+        (behind (part_step exact_errors AfterSolidus (open_tag tag.old) c)) }
     ensures faults { S.faults sink.new ≡ S.faults sink.old + faults_of result }
 {
     if c == '>' {
@@ -267,14 +266,13 @@ pub fn read_before_attribute<S: TokenSink<Token<A>>, A: Allocator + Copy>(
     c: char,
     expected: State,
     line: u64,
-) -> Result<(), TokenizerError>
+) -> Result<Option<Tag<A>>, TokenizerError>
     ensures tells { Tells S.step S.faulted result (S.state sink.old)
         (on_line line (tokens_of (told_first (error_in exact_errors expected c ∷ [])
         (part_step exact_errors BeforeAttribute (open_tag tag.old) c))))
         (S.state sink.new) }
-    ensures leads { Leads result (open_of state.new tag.new)
-        (behind S.step S.reply (S.state sink.old) line
-        (told_first (error_in exact_errors expected c ∷ [])
+    ensures leads { Ends result (open_of state.new tag.new)
+        (behind (told_first (error_in exact_errors expected c ∷ [])
         (part_step exact_errors BeforeAttribute (open_tag tag.old) c))) }
     ensures faults { S.faults sink.new ≡ S.faults sink.old + faults_of result }
 {

@@ -7,7 +7,7 @@ ghost use Rattle.html5grammar.specs.ErrorText.{error_in};
 ghost use Rattle.html5grammar.specs.Start.{begun};
 ghost use Rattle.html5grammar.specs.Text.{plain_text};
 ghost use Rattle.html5ever.specs.CurrentTag.{open_of};
-ghost use Rattle.html5ever.specs.Steps.{tokens_of, behind, Leads};
+ghost use Rattle.html5ever.specs.Steps.{tokens_of, behind, Ends};
 ghost use Rattle.html5ever.specs.Telling.{Tells, IsRefusal, faults_of};
 
 use crate::characters::is_letter;
@@ -16,7 +16,7 @@ use crate::error::TokenizerError;
 use crate::tag_states::tag_name_state;
 use crate::tell::{emit_char, emit_unexpected, tell};
 use html5ever_interface::interface::sink::TokenSink;
-use html5ever_interface::interface::token::{TagKind, Token};
+use html5ever_interface::interface::token::{Tag, TagKind, Token};
 use html5ever_interface::states::State;
 use std::alloc::Allocator;
 
@@ -88,22 +88,28 @@ pub fn data_state<S: TokenSink<Token<A>>, A: Allocator + Copy>(
     tag: &CurrentTag<A>,
     c: char,
     line: u64,
-) -> Result<(), TokenizerError>
+) -> Result<Option<Tag<A>>, TokenizerError>
     requires state { state.old ≡ State.Data }
     ensures tells { Tells S.step S.faulted result (S.state sink.old)
         (on_line line (tokens_of (data_step exact_errors [] c))) (S.state sink.new) }
-    ensures leads { Leads result (open_of state.new tag.now)
-        (behind S.step S.reply (S.state sink.old) line (data_step exact_errors [] c)) }
+    ensures leads { Ends result (open_of state.new tag.now)
+        (behind (data_step exact_errors [] c)) }
     ensures faults { S.faults sink.new ≡ S.faults sink.old + faults_of result }
 {
     match c {
         '<' => {
             *state = State::TagOpen;
-            Ok(())
+            Ok(None)
         }
         '&' => Err(TokenizerError::NotYet),
-        '\0' => emit_null(alloc, sink, exact_errors, c, line),
-        _ => emit_char(alloc, sink, c, line),
+        '\0' => {
+            emit_null(alloc, sink, exact_errors, c, line)?;
+            Ok(None)
+        }
+        _ => {
+            emit_char(alloc, sink, c, line)?;
+            Ok(None)
+        }
     }
 }
 
@@ -116,12 +122,12 @@ fn read_in_data<S: TokenSink<Token<A>>, A: Allocator + Copy>(
     tag: &CurrentTag<A>,
     c: char,
     line: u64,
-) -> Result<(), TokenizerError>
+) -> Result<Option<Tag<A>>, TokenizerError>
     ensures tells { Tells S.step S.faulted result (S.state sink.old)
         (on_line line (tokens_of (data_step exact_errors
         (error_in exact_errors State.TagOpen c ∷ Text (codes "<") ∷ []) c))) (S.state sink.new) }
-    ensures leads { Leads result (open_of state.new tag.now)
-        (behind S.step S.reply (S.state sink.old) line (data_step exact_errors
+    ensures leads { Ends result (open_of state.new tag.now)
+        (behind (data_step exact_errors
         (error_in exact_errors State.TagOpen c ∷ Text (codes "<") ∷ []) c)) }
     ensures faults { S.faults sink.new ≡ S.faults sink.old + faults_of result }
 {
@@ -140,12 +146,11 @@ fn create_tag<S: TokenSink<Token<A>>, A: Allocator + Copy>(
     kind: TagKind,
     c: char,
     line: u64,
-) -> Result<(), TokenizerError>
+) -> Result<Option<Tag<A>>, TokenizerError>
     ensures tells { Tells S.step S.faulted result (S.state sink.old)
         (on_line line (tokens_of (tag_name_step exact_errors (begun kind) c))) (S.state sink.new) }
-    ensures leads { Leads result (open_of state.new tag.new)
-        (behind S.step S.reply (S.state sink.old) line
-        (tag_name_step exact_errors (begun kind) c)) }
+    ensures leads { Ends result (open_of state.new tag.new)
+        (behind (tag_name_step exact_errors (begun kind) c)) }
     ensures faults { S.faults sink.new ≡ S.faults sink.old + faults_of result }
 {
     *state = State::TagName;
@@ -163,11 +168,11 @@ pub fn tag_open_state<S: TokenSink<Token<A>>, A: Allocator + Copy>(
     tag: &mut CurrentTag<A>,
     c: char,
     line: u64,
-) -> Result<(), TokenizerError>
+) -> Result<Option<Tag<A>>, TokenizerError>
     ensures tells { Tells S.step S.faulted result (S.state sink.old)
         (on_line line (tokens_of (less_than_step exact_errors c))) (S.state sink.new) }
-    ensures leads { Leads result (open_of state.new tag.new)
-        (behind S.step S.reply (S.state sink.old) line (less_than_step exact_errors c)) }
+    ensures leads { Ends result (open_of state.new tag.new)
+        (behind (less_than_step exact_errors c)) }
     ensures faults { S.faults sink.new ≡ S.faults sink.old + faults_of result }
 {
     if is_letter(c) {
@@ -177,7 +182,7 @@ pub fn tag_open_state<S: TokenSink<Token<A>>, A: Allocator + Copy>(
     match c {
         '/' => {
             *state = State::EndTagOpen;
-            Ok(())
+            Ok(None)
         }
         '!' | '?' => Err(TokenizerError::NotYet),
         _ => read_in_data(alloc, sink, exact_errors, state, tag, c, line),
@@ -194,11 +199,11 @@ pub fn end_tag_open_state<S: TokenSink<Token<A>>, A: Allocator + Copy>(
     tag: &mut CurrentTag<A>,
     c: char,
     line: u64,
-) -> Result<(), TokenizerError>
+) -> Result<Option<Tag<A>>, TokenizerError>
     ensures tells { Tells S.step S.faulted result (S.state sink.old)
         (on_line line (tokens_of (solidus_step exact_errors c))) (S.state sink.new) }
-    ensures leads { Leads result (open_of state.new tag.new)
-        (behind S.step S.reply (S.state sink.old) line (solidus_step exact_errors c)) }
+    ensures leads { Ends result (open_of state.new tag.new)
+        (behind (solidus_step exact_errors c)) }
     ensures faults { S.faults sink.new ≡ S.faults sink.old + faults_of result }
 {
     if is_letter(c) {
@@ -209,5 +214,6 @@ pub fn end_tag_open_state<S: TokenSink<Token<A>>, A: Allocator + Copy>(
         return Err(TokenizerError::NotYet);
     }
     *state = State::Data;
-    emit_unexpected(alloc, sink, exact_errors, c, State::EndTagOpen, line)
+    emit_unexpected(alloc, sink, exact_errors, c, State::EndTagOpen, line)?;
+    Ok(None)
 }

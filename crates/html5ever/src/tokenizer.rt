@@ -1,13 +1,17 @@
 //! The tokenizer.
-ghost use Rattle.std.specs.Prelude.{◌≡◌, ◌^◌, ◌<◌, ◌+◌, ◌↔◌, [], true, false, IsOk, IfOk, IfErr, OnOk, is_ok, is_err};
+ghost use Rattle.std.specs.Prelude.{◌≡◌, ◌≢◌, ℕ, ◌^◌, ◌<◌, ◌+◌, ◌↔◌, ◌&&◌, not, List, [], true, false, IsOk, IfOk, IfErr, OnOk, is_ok, is_err, length, string_bytes};
 ghost use Rattle.html5ever_interface.specs.Options.{options_of};
 ghost use Rattle.html5ever_interface.specs.Sink.{stepped, on_line};
 ghost use Rattle.html5grammar.specs.EndOfInput.{told_at_end_of};
-ghost use Rattle.html5grammar.specs.Start.{start_of};
-ghost use Rattle.html5ever.specs.Feed.{feed, IsEndOf, IsLinear};
+ghost use Rattle.html5grammar.specs.Reading.{after};
+ghost use Rattle.html5grammar.specs.Start.{Start, start_of, is_clean};
+ghost use Rattle.html5grammar.specs.Start.Mode.{Plain};
+ghost use Rattle.html5grammar.specs.Start.Open.{Between};
+ghost use Rattle.html5ever.specs.Feed.{reply_in, IsEndOf, IsLinear};
 ghost use Rattle.html5ever.specs.Steps.{IsBuilt};
 ghost use Rattle.html5ever.specs.Telling.{faults_of};
-ghost use Rattle.html5ever.specs.Tokenizer.{CanStart, StandsAt, ReadsOn, Finishes, MeetsNotBuilt, StopsReading, StopsEnding, EndStops};
+ghost use Rattle.html5ever.specs.Tokenizer.{CanStart, StandsAt, FeedsOn, HandsOn, LeavesWaiting, FeedMeetsNotBuilt};
+ghost use Rattle.html5ever.specs.Tokenizer.{StopsFeeding, Finishes, StopsEnding, EndStops};
 
 use crate::error::TokenizerError;
 use crate::position::Position;
@@ -18,6 +22,7 @@ use std::marker::Model;
 pub mod collect;
 pub mod laws;
 pub mod states;
+pub mod steps;
 
 pub use html5ever_interface::interface::sink::TokenSink;
 pub use html5ever_interface::interface::token::TagKind::{EndTag, StartTag};
@@ -80,27 +85,35 @@ impl<Sink: TokenSink<Token<A>>, A: Allocator + Copy> Tokenizer<Sink, A> {
         }
     }
 
-    /// Reads the text that waits in the queue. After a refusal the queue holds an end of the text
-    /// that it held, and every further call is refused.
+    /// Reads the text that waits in the queue, up to the first tag behind which the sink asks to
+    /// pause: then the queue holds what follows that tag's `>`, text may be put in front of it, and
+    /// the caller goes on by feeding again. After a refusal the queue holds an end of the text that
+    /// it held, and every further call is refused.
     pub fn feed(
         &mut self,
         queue: &mut BufferQueue<A>,
     ) -> Result<TokenizerResult<Sink::Handle, String<A>>, TokenizerError>
         requires { self.old.ended ≡ false }
 
-        // What an `Ok` says: all that waited was taken, and exactly what it decides was told.
+        // What an `Ok` says: a beginning of the queue's text was taken, and exactly what it decides
+        // was told; the rest waits, and the answer is the reply that pauses.
         ensures reads { OnOk result
-            (ReadsOn Sink.state Sink.step Sink.reply self.old self.new (feed queue.old.text).taken) }
-        ensures answer { IfOk result (λ answer. answer ≡ TokenizerResult.Done) }
-        ensures left { OnOk result (queue.new.text ≡ (feed queue.old.text).left) }
+            (FeedsOn Sink.state Sink.step Sink.reply self.old self.new queue.old.text) }
+        ensures answer { IfOk result (λ answer. HandsOn Sink.state Sink.step Sink.reply self.old queue.old.text
+            (reply_in string_bytes answer)) }
+        ensures left { OnOk result
+            (LeavesWaiting Sink.state Sink.step Sink.reply self.old queue.old.text queue.new.text) }
+        ensures done { result ≡ Ok TokenizerResult.Done → queue.new.text ≡ [] }
+        ensures shorter { IfOk result (λ answer. answer ≢ TokenizerResult.Done
+            → length queue.new.text < length queue.old.text) }
 
         // When each error comes, and what it leaves.
         ensures failed_before { (result ≡ Err TokenizerError.Failed) ↔ (self.old.failed ≡ true) }
         ensures unchanged { self.old.failed ≡ true
             → (self.new ≡ self.old) × (queue.new ≡ queue.old) }
         ensures not_yet { result ≡ Err TokenizerError.NotYet
-            → MeetsNotBuilt Sink.state Sink.step Sink.reply self.old queue.old.text }
-        ensures stops { IfErr result (λ error. StopsReading Sink.state Sink.step Sink.reply Sink.faulted
+            → FeedMeetsNotBuilt Sink.state Sink.step Sink.reply self.old queue.old.text }
+        ensures stops { IfErr result (λ error. StopsFeeding Sink.state Sink.step Sink.reply Sink.faulted
             error self.old queue.old.text (Sink.state self.new.sink)) }
         ensures faults { Sink.faults self.new.sink ≡ Sink.faults self.old.sink + faults_of result }
         ensures failed { self.new.failed ≡ is_err result }
@@ -124,10 +137,7 @@ impl<Sink: TokenSink<Token<A>>, A: Allocator + Copy> Tokenizer<Sink, A> {
             queue,
         );
         self.failed = result.is_err();
-        match result {
-            Ok(()) => Ok(TokenizerResult::Done),
-            Err(error) => Err(error),
-        }
+        result
     }
 
     /// Tells the end of the input, and has the sink finish. Nothing can be fed afterwards.
@@ -159,6 +169,36 @@ impl<Sink: TokenSink<Token<A>>, A: Allocator + Copy> Tokenizer<Sink, A> {
         self.failed = result.is_err();
         self.ended = result.is_ok();
         result
+    }
+
+    /// Whether nothing is pending: no item is open, and no call was refused, nor the end told. A CR
+    /// that may be followed by its LF is no bar. What follows can then be told to another sink, put
+    /// in the field `sink`.
+    pub fn nothing_pending(&self) -> bool
+        ensures exact { result ≡ (is_clean self.now.position.opened && not self.now.failed && not self.now.ended) }
+        ensures clean { (K : Start) (s : Sink.State) (text : List ℕ)
+            → StandsAt Sink.state Sink.step Sink.reply self.now K s text
+            → result ≡ is_clean (after Sink.step Sink.reply self.now.exact K s text).opened }
+        ensures anew { result ≡ true → (x : Sink)
+            → StandsAt Sink.state Sink.step Sink.reply (record self.now { sink = x }) self.now.position (Sink.state x) [] }
+    {
+        if self.failed || self.ended {
+            return false;
+        }
+        self.position.is_clean()
+    }
+
+    /// Reads the rest of the stream as plain text.
+    pub fn set_plaintext_state(&mut self)
+        requires clean { is_clean self.old.position.opened ≡ true }
+        requires not_failed { self.old.failed ≡ false }
+        requires going_on { self.old.ended ≡ false }
+        ensures anew { (x : Sink) → StandsAt Sink.state Sink.step Sink.reply (record self.new { sink = x })
+            (record self.old.position { opened = Between Plain }) (Sink.state x) [] }
+        ensures sink { self.new.sink ≡ self.old.sink }
+        ensures exact { self.new.exact ≡ self.old.exact }
+    {
+        self.position.set_plaintext();
     }
 
     /// Whether the end of the input was told.

@@ -7,7 +7,7 @@ ghost use Rattle.html5grammar.specs.Characters.{equals_sign};
 ghost use Rattle.html5grammar.specs.ErrorText.{error_in};
 ghost use Rattle.html5grammar.specs.Start.Place.{AfterQuotedValue};
 ghost use Rattle.html5ever.specs.CurrentTag.{open_tag, open_of};
-ghost use Rattle.html5ever.specs.Steps.{tokens_of, behind, Leads};
+ghost use Rattle.html5ever.specs.Steps.{tokens_of, behind, Ends};
 ghost use Rattle.html5ever.specs.Telling.{Tells, faults_of};
 
 use crate::characters::{is_unquoted_error, is_white_space, quote_of};
@@ -17,7 +17,7 @@ use crate::error::TokenizerError;
 use crate::tag_states::read_before_attribute;
 use crate::tell::{emit_unexpected, emit_unexpected_where};
 use html5ever_interface::interface::sink::TokenSink;
-use html5ever_interface::interface::token::Token;
+use html5ever_interface::interface::token::{Tag, Token};
 use html5ever_interface::states::{AttrValueKind, State};
 use std::alloc::Allocator;
 
@@ -31,27 +31,26 @@ pub fn before_attribute_value_state<S: TokenSink<Token<A>>, A: Allocator + Copy>
     tag: &mut CurrentTag<A>,
     c: char,
     line: u64,
-) -> Result<(), TokenizerError>
+) -> Result<Option<Tag<A>>, TokenizerError>
     requires state { state.old ≡ State.BeforeAttributeValue }
     ensures tells { Tells S.step S.faulted result (S.state sink.old)
         (on_line line (tokens_of (before_value_step exact_errors (open_tag tag.old) c)))
         (S.state sink.new) }
-    ensures leads { Leads result (open_of state.new tag.new)
-        (behind S.step S.reply (S.state sink.old) line
-        (before_value_step exact_errors (open_tag tag.old) c)) }
+    ensures leads { Ends result (open_of state.new tag.new)
+        (behind (before_value_step exact_errors (open_tag tag.old) c)) }
     ensures faults { S.faults sink.new ≡ S.faults sink.old + faults_of result }
 {
     if is_white_space(c) {
-        return Ok(());
+        return Ok(None);
     }
     match c {
         '"' => {
             *state = State::AttributeValue(AttrValueKind::DoubleQuoted);
-            Ok(())
+            Ok(None)
         }
         '\'' => {
             *state = State::AttributeValue(AttrValueKind::SingleQuoted);
-            Ok(())
+            Ok(None)
         }
         '>' => end_without_value(alloc, sink, exact_errors, state, tag, line),
         _ => {
@@ -69,14 +68,13 @@ fn end_without_value<S: TokenSink<Token<A>>, A: Allocator + Copy>(
     state: &mut State,
     tag: &mut CurrentTag<A>,
     line: u64,
-) -> Result<(), TokenizerError>
+) -> Result<Option<Tag<A>>, TokenizerError>
     ensures tells { Tells S.step S.faulted result (S.state sink.old)
         (on_line line (tokens_of (closing_step
         (error_in exact_errors State.BeforeAttributeValue equals_sign ∷ []) (open_tag tag.old) false)))
         (S.state sink.new) }
-    ensures leads { Leads result (open_of state.new tag.new)
-        (behind S.step S.reply (S.state sink.old) line
-        (closing_step
+    ensures leads { Ends result (open_of state.new tag.new)
+        (behind (closing_step
         (error_in exact_errors State.BeforeAttributeValue equals_sign ∷ []) (open_tag tag.old) false)) }
     ensures faults { S.faults sink.new ≡ S.faults sink.old + faults_of result }
 {
@@ -97,14 +95,13 @@ pub fn attribute_value_quoted_state<S: TokenSink<Token<A>>, A: Allocator + Copy>
     kind: AttrValueKind,
     c: char,
     line: u64,
-) -> Result<(), TokenizerError>
+) -> Result<Option<Tag<A>>, TokenizerError>
     requires state { state.old ≡ State.AttributeValue kind }
     ensures tells { Tells S.step S.faulted result (S.state sink.old)
         (on_line line (tokens_of (quoted_step exact_errors kind (open_tag tag.old) c)))
         (S.state sink.new) }
-    ensures leads { Leads result (open_of state.new tag.new)
-        (behind S.step S.reply (S.state sink.old) line
-        (quoted_step exact_errors kind (open_tag tag.old) c)) }
+    ensures leads { Ends result (open_of state.new tag.new)
+        (behind (quoted_step exact_errors kind (open_tag tag.old) c)) }
     ensures faults { S.faults sink.new ≡ S.faults sink.old + faults_of result }
 {
     if c == '&' {
@@ -112,11 +109,12 @@ pub fn attribute_value_quoted_state<S: TokenSink<Token<A>>, A: Allocator + Copy>
     }
     if c == quote_of(kind) {
         *state = State::AfterAttributeValueQuoted;
-        return Ok(());
+        return Ok(None);
     }
     push_value(&mut tag.attr_value, c)?;
     let expected = State::AttributeValue(kind);
-    emit_unexpected_where(alloc, sink, exact_errors, c == '\0', c, expected, line)
+    emit_unexpected_where(alloc, sink, exact_errors, c == '\0', c, expected, line)?;
+    Ok(None)
 }
 
 /// The standard's "attribute value (unquoted) state".
@@ -129,14 +127,13 @@ pub fn attribute_value_unquoted_state<S: TokenSink<Token<A>>, A: Allocator + Cop
     tag: &mut CurrentTag<A>,
     c: char,
     line: u64,
-) -> Result<(), TokenizerError>
+) -> Result<Option<Tag<A>>, TokenizerError>
     requires state { state.old ≡ State.AttributeValue AttrValueKind.Unquoted }
     ensures tells { Tells S.step S.faulted result (S.state sink.old)
         (on_line line (tokens_of (unquoted_step exact_errors (open_tag tag.old) c)))
         (S.state sink.new) }
-    ensures leads { Leads result (open_of state.new tag.new)
-        (behind S.step S.reply (S.state sink.old) line
-        (unquoted_step exact_errors (open_tag tag.old) c)) }
+    ensures leads { Ends result (open_of state.new tag.new)
+        (behind (unquoted_step exact_errors (open_tag tag.old) c)) }
     ensures faults { S.faults sink.new ≡ S.faults sink.old + faults_of result }
 {
     if c == '&' {
@@ -147,12 +144,13 @@ pub fn attribute_value_unquoted_state<S: TokenSink<Token<A>>, A: Allocator + Cop
     }
     if is_white_space(c) {
         *state = State::BeforeAttributeName;
-        return Ok(());
+        return Ok(None);
     }
     push_value(&mut tag.attr_value, c)?;
     let wrong = is_unquoted_error(exact_errors, c);
     let expected = State::AttributeValue(AttrValueKind::Unquoted);
-    emit_unexpected_where(alloc, sink, exact_errors, wrong, c, expected, line)
+    emit_unexpected_where(alloc, sink, exact_errors, wrong, c, expected, line)?;
+    Ok(None)
 }
 
 /// The standard's "after attribute value (quoted) state".
@@ -165,13 +163,12 @@ pub fn after_attribute_value_quoted_state<S: TokenSink<Token<A>>, A: Allocator +
     tag: &mut CurrentTag<A>,
     c: char,
     line: u64,
-) -> Result<(), TokenizerError>
+) -> Result<Option<Tag<A>>, TokenizerError>
     ensures tells { Tells S.step S.faulted result (S.state sink.old)
         (on_line line (tokens_of (part_step exact_errors AfterQuotedValue (open_tag tag.old) c)))
         (S.state sink.new) }
-    ensures leads { Leads result (open_of state.new tag.new)
-        (behind S.step S.reply (S.state sink.old) line
-        (part_step exact_errors AfterQuotedValue (open_tag tag.old) c)) }
+    ensures leads { Ends result (open_of state.new tag.new)
+        (behind (part_step exact_errors AfterQuotedValue (open_tag tag.old) c)) }
     ensures faults { S.faults sink.new ≡ S.faults sink.old + faults_of result }
 {
     if c == '>' {
@@ -179,11 +176,11 @@ pub fn after_attribute_value_quoted_state<S: TokenSink<Token<A>>, A: Allocator +
     }
     if is_white_space(c) {
         *state = State::BeforeAttributeName;
-        return Ok(());
+        return Ok(None);
     }
     if c == '/' {
         *state = State::SelfClosingStartTag;
-        return Ok(());
+        return Ok(None);
     }
     let expected = State::AfterAttributeValueQuoted;
     read_before_attribute(alloc, sink, exact_errors, state, tag, c, expected, line)

@@ -6,6 +6,7 @@ pub mod Cases
 pub mod ReadingLemmas
 pub mod Steps
 pub mod Going
+pub mod NoTags
 pub mod OneTagSteps
 pub mod OneTagParts
 pub mod OneTagReading

@@ -12,7 +12,7 @@ use Rattle.html5grammar.specs.Slice.{Slice, Cell, Behind, cut_off}
 use Rattle.html5grammar.specs.Slice.Cell.{Says, Ends}
 use Rattle.html5grammar.specs.Slice.Behind.{Leaves, StopsAt}
 use Rattle.html5grammar.specs.Start.{Input, Start, Open}
-use Rattle.html5grammar.specs.Start.Mode.{Data}
+use Rattle.html5grammar.specs.Start.Mode.{Data, Plain}
 use Rattle.html5grammar.specs.Start.Open.{Between, NotBuilt}
 
 -- a character of the normalised text, counted from 0, or the end of input
@@ -77,10 +77,10 @@ open_behind (StopsAt before) = NotBuilt
 -- what is open behind a tag, by the sink's reply
 abbrev pub open_after_reply : {H : Type 0} → Reply H → Open
 open_after_reply KeepOn = Between Data
-open_after_reply ReadPlainText = NotBuilt
+open_after_reply ReadPlainText = Between Plain
 open_after_reply (ReadRawData kind) = NotBuilt
-open_after_reply (RunScript handle) = NotBuilt
-open_after_reply (SwitchEncoding text) = NotBuilt
+open_after_reply (RunScript handle) = Between Data
+open_after_reply (SwitchEncoding text) = Between Data
 
 module _ {S H : Type 0} (step : S → Told → ℕ → S) (reply : S → Told → ℕ → Reply H) (exact : Bool) (K : Start) where
   -- the events at the place of c, and those behind it, which `rest` reads from a sink's state and what goes on

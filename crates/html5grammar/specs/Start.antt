@@ -1,5 +1,5 @@
 -- Where the reading of a text starts, and what is open there.
-use Rattle.std.specs.Prelude.{ℕ, Bool, false, List, [], Option, Some}
+use Rattle.std.specs.Prelude.{ℕ, Bool, true, false, List, [], Option, Some}
 use Rattle.html5ever_interface.specs.Options.{OptionsOf}
 use Rattle.html5ever_interface.specs.declared.interface.token.TagKind.{TagKind}
 use Rattle.html5ever_interface.specs.declared.states.AttrValueKind.{AttrValueKind}
@@ -50,6 +50,11 @@ pub data Open : Type 0 where
   InTag : Place → OpenTag → Open
   -- the text met what is not built yet: nothing more is told
   NotBuilt : Open
+
+-- nothing is open, so that what follows can be read anew
+abbrev pub is_clean : Open → Bool
+is_clean (Between mode) = true
+is_clean other = false
 
 -- how the characters of a stream come in
 pub record Input : Type 0 where

@@ -12,6 +12,18 @@ pub pieces-more : (old page next front piece : List ℕ) → page ≡ old ++ fro
 pieces-more old page next front piece before printed =
     printed ∙ ap (λ l. l ++ piece) before ∙ append_assoc old front piece
 
+-- three pieces, of which the last could fail
+pub pieces-three : {T E : Type 0} (r : Result T E) (old one two next a b c : List ℕ)
+    → one ≡ old ++ a
+    → two ≡ one ++ b
+    → next ≡ (if is_ok r then two ++ c else two)
+    → OnOk r (next ≡ old ++ (a ++ b ++ c))
+pieces-three r old one two next a b c printed_one printed_two printed =
+    let front : two ≡ old ++ (a ++ b) = pieces-more old one two a b printed_one printed_two in
+    on_ok_weaker r
+    (λ (whole : next ≡ two ++ c). pieces-more old two next (a ++ b) c front whole ∙ ap (λ l. old ++ l) (simp append_assoc))
+    (ok_from_if r next (two ++ c) two printed)
+
 -- five pieces, of which two came at once and the last could fail
 pub pieces-five : {T E : Type 0} (r : Result T E) (old two three four next a b c d e : List ℕ)
     → two ≡ old ++ (a ++ b)

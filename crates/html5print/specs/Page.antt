@@ -4,8 +4,9 @@ use Rattle.std.proofs.Common.{ap, sym, ◌∙◌}
 use Rattle.std.proofs.lemmas.List.{append-nil, append_assoc}
 use Rattle.std.proofs.lemmas.List.Concat.{flat_map-append}
 use Rattle.html5print.specs.Printed.{quoted_byte, quoted_bytes, printed_line}
+use Rattle.html5print.specs.Replies.{reply_to}
 use Rattle.html5ever_interface.specs.Token.{Told, Reply, is_tag}
-use Rattle.html5ever_interface.specs.Token.Told.{Text}
+use Rattle.html5ever_interface.specs.Token.Told.{Text, Tag}
 use Rattle.html5ever_interface.specs.Token.Reply.{KeepOn}
 
 pub record Page : Type 0 where
@@ -55,9 +56,9 @@ unfoldable pub page_step : Page → Told → ℕ → Page
 page_step p told line =
     record p { lines = p.lines ++ added_by p.in_text told line; in_text = open_behind p.in_text told }
 
--- no tag gets another reply
-abbrev pub page_reply : {H : Type 0} → Page → Told → ℕ → Reply H
-page_reply p told line = KeepOn
+-- the reply is by the token alone
+abbrev pub page_reply : Page → Told → ℕ → Reply (Unit {0})
+page_reply p told line = reply_to told
 
 -- a token that could not be printed leaves nothing
 abbrev pub page_faulted : Page → Told → ℕ → Page
@@ -94,5 +95,6 @@ pub page_any_line : (p : Page) (a : List ℕ) (line other : ℕ) → page_step p
 unfolding page_step added_by
 page_any_line p a line other = refl
 
-pub page_keeps_on : {H : Type 0} → (p : Page) (told : Told) (line : ℕ) → is_tag told ≡ false → page_reply {H = H} p told line ≡ KeepOn
-page_keeps_on p told line no_tag = refl
+pub page_keeps_on : (p : Page) (told : Told) (line : ℕ) → is_tag told ≡ false → page_reply p told line ≡ KeepOn
+page_keeps_on p (Tag tag) line no_tag = absurd cc
+page_keeps_on p other line no_tag = refl

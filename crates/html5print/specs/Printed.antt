@@ -3,9 +3,11 @@ use Rattle.std.specs.Prelude.{ℕ, Bool, true, false, List, [], ◌∷◌, ◌++
 use Rattle.std.specs.List.{flat_map}
 use Rattle.std.specs.Fmt.{decimal, digits}
 use Rattle.markup5ever.specs.Names.{AttributeOf}
+use Rattle.html5print.specs.Replies.{reply_to_tag}
 use Rattle.html5ever_interface.specs.Sink.{Message}
-use Rattle.html5ever_interface.specs.Token.{is_text, Told, TagOf, DoctypeOf}
+use Rattle.html5ever_interface.specs.Token.{is_text, Told, TagOf, DoctypeOf, Reply}
 use Rattle.html5ever_interface.specs.Token.Told.{Text, Null, Error, Tag, Comment, Doctype, End}
+use Rattle.html5ever_interface.specs.Token.Reply.{RunScript, SwitchEncoding}
 use Rattle.html5ever_interface.specs.declared.interface.token.TagKind.{TagKind}
 use Rattle.html5ever_interface.specs.declared.interface.token.TagKind.TheVariants.{StartTag, EndTag}
 
@@ -78,6 +80,12 @@ tag_line tag line =
     ++ tag_marks tag
     ++ codes "\n"
 
+-- the line behind a tag's, where the reply to the tag pauses
+unfoldable pub pause_line : Reply (Unit {0}) → List ℕ
+pause_line (RunScript handle) = codes "pause script\n"
+pause_line (SwitchEncoding charset) = codes "pause encoding " ++ quoted charset ++ codes "\n"
+pause_line other = []
+
 unfoldable pub doctype_line : DoctypeOf → ℕ → List ℕ
 doctype_line doctype line =
     codes "doctype " ++ decimal line
@@ -87,12 +95,12 @@ doctype_line doctype line =
     ++ mark_where doctype.force_quirks (codes " quirks")
     ++ codes "\n"
 
--- the line of a token
+-- the line of a token, and of a tag the pause line too
 unfoldable pub printed_line : Told → ℕ → List ℕ
 printed_line (Text text) line = codes "text " ++ quoted text ++ codes "\n"
 printed_line Null line = line_with_number (codes "null ") line
 printed_line (Error message) line = line_with_text (codes "error ") line message
-printed_line (Tag tag) line = tag_line tag line
+printed_line (Tag tag) line = tag_line tag line ++ pause_line (reply_to_tag tag)
 printed_line (Comment text) line = line_with_text (codes "comment ") line text
 printed_line (Doctype doctype) line = doctype_line doctype line
 printed_line End line = line_with_number (codes "eof ") line
@@ -128,6 +136,6 @@ joined (m ∷ M) = joined_first m.token m.line (joined M)
 unfoldable pub printed_lines : List Message → List ℕ
 printed_lines M = flat_map (λ m. printed_line m.token m.line) M
 
--- the lines of messages: a line for each but an empty text, where adjacent texts share one
+-- the lines of messages: a line for each but an empty text, where adjacent texts share one, and the pause lines
 unfoldable pub printed : List Message → List ℕ
 printed M = printed_lines (joined M)

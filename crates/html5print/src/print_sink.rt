@@ -1,9 +1,11 @@
 //! A sink that prints what it is told.
-ghost use Rattle.std.specs.Prelude.{◌≡◌, ◌<◌, ◌++◌, false, map, option_map, string_bytes, OnOk, OnErr, decimal};
+ghost use Rattle.std.specs.Prelude.{◌≡◌, ◌<◌, ◌++◌, false, map, option_map, string_bytes, IfOk, OnOk, OnErr, decimal};
 ghost use Rattle.std.specs.Fmt.{digits, digit_glyph};
 ghost use Rattle.html5print.specs.Page.{BeginsWith, blank_page, text_closing, added_by_text, added_by, open_behind};
-ghost use Rattle.html5print.specs.Printed.{needs_escape, escape, quoted_bytes, quoted, kind_word, mark_where, printed_attribute, printed_attributes, printed_option, line_with_number, numbered_text, line_with_text, tag_marks, tag_line, doctype_line};
-ghost use Rattle.html5ever_interface.specs.Token.{told_by, tag_of, doctype_of};
+ghost use Rattle.html5print.specs.Printed.{needs_escape, escape, quoted_bytes, quoted, kind_word, mark_where, printed_attribute, printed_attributes, printed_option, line_with_number, numbered_text, line_with_text, tag_marks, tag_line, pause_line, doctype_line};
+ghost use Rattle.html5print.specs.Replies.{charset_of, reply_to_charset, reply_to_start, reply_to_end, reply_to_tag, reply_to};
+ghost use Rattle.html5ever_interface.specs.Token.{told_by, tag_of, doctype_of, reply_of};
+ghost use Rattle.html5ever_interface.specs.Token.Reply.{SwitchEncoding};
 ghost use Rattle.markup5ever.specs.Names.{attribute_of};
 
 use html5ever_interface::interface::sink::TokenSink;
@@ -275,6 +277,57 @@ fn push_tag<A: Allocator + Copy>(
     page.extend_from_slice(b"\n")
 }
 
+// Appends the line of a pause at which the encoding is switched.
+#[tactic(auto, unfolding(crate::specs::Printed::pause_line))]
+fn push_encoding_pause<A: Allocator>(
+    page: &mut Vec<u8, A>,
+    charset: &[u8],
+) -> Result<(), AllocError>
+    ensures ok { OnOk result
+        (page.new.items ≡ page.old.items ++ pause_line (SwitchEncoding charset.now)) }
+    ensures err { OnErr result (BeginsWith page.new.items page.old.items) }
+{
+    page.extend_from_slice(b"pause encoding ")?;
+    push_quoted(page, charset)?;
+    page.extend_from_slice(b"\n")
+}
+
+// Appends the pause line, where the reply pauses.
+#[tactic(auto, unfolding(crate::specs::Printed::pause_line))]
+fn push_pause<A: Allocator>(
+    page: &mut Vec<u8, A>,
+    reply: &TokenSinkResult<(), String<A>>,
+) -> Result<(), AllocError>
+    ensures ok { OnOk result
+        (page.new.items ≡ page.old.items ++ pause_line (reply_of string_bytes reply.now)) }
+    ensures err { OnErr result (BeginsWith page.new.items page.old.items) }
+{
+    match reply {
+        TokenSinkResult::Script(()) => page.extend_from_slice(b"pause script\n"),
+        TokenSinkResult::EncodingIndicator(charset) => {
+            push_encoding_pause(page, charset.as_bytes())
+        }
+        _ => Ok(()),
+    }
+}
+
+// Appends the line of a tag, and the pause line.
+fn push_tag_and_pause<A: Allocator + Copy>(
+    page: &mut Vec<u8, A>,
+    in_text: bool,
+    tag: &Tag<A>,
+    line: u64,
+    reply: &TokenSinkResult<(), String<A>>,
+) -> Result<(), AllocError>
+    ensures ok { OnOk result
+        (page.new.items ≡ page.old.items ++ (text_closing in_text
+        ++ (tag_line (tag_of tag.now) line ++ pause_line (reply_of string_bytes reply.now)))) }
+    ensures err { OnErr result (BeginsWith page.new.items page.old.items) }
+{
+    push_tag(page, in_text, tag, line)?;
+    push_pause(page, reply)
+}
+
 // Appends a part of a DOCTYPE, which it may lack.
 fn push_option<A: Allocator>(
     page: &mut Vec<u8, A>,
@@ -314,21 +367,23 @@ fn push_doctype<A: Allocator + Copy>(
     page.extend_from_slice(b"\n")
 }
 
-// Appends what a token adds to a page.
+// Appends what a token adds to a page, where `reply` is what is replied to it.
 #[tactic(auto, unfolding(crate::specs::Page::added_by, crate::specs::Printed::printed_line))]
 fn push_token<A: Allocator + Copy>(
     page: &mut Vec<u8, A>,
     in_text: bool,
     token: &Token<A>,
     line: u64,
+    reply: &TokenSinkResult<(), String<A>>,
 ) -> Result<(), AllocError>
+    requires { reply_of string_bytes reply.now ≡ reply_to (told_by token.now) }
     ensures ok { OnOk result
         (page.new.items ≡ page.old.items ++ added_by in_text (told_by token.now) line) }
     ensures err { OnErr result (BeginsWith page.new.items page.old.items) }
 {
     match token {
         Token::DoctypeToken(doctype) => push_doctype(page, in_text, doctype, line),
-        Token::TagToken(tag) => push_tag(page, in_text, tag, line),
+        Token::TagToken(tag) => push_tag_and_pause(page, in_text, tag, line, reply),
         Token::CommentToken(text) => {
             push_line_with_text(page, in_text, "comment ", line, text.as_bytes())
         }
@@ -352,8 +407,101 @@ fn is_open_behind<A: Allocator>(in_text: bool, token: &Token<A>) -> bool
     }
 }
 
+// The value of the first attribute named `charset`.
+#[tactic(auto, unfolding(crate::specs::Replies::charset_of))]
+fn charset_of<A: Allocator>(attributes: &[Attribute<A>]) -> Option<&String<A>>
+    ensures { option_map (λ charset. string_bytes charset.now) result
+        ≡ charset_of (map attribute_of attributes.now) }
+{
+    for attribute in attributes {
+        if attribute.name.local.0.as_str() == "charset" {
+            return Some(&attribute.value);
+        }
+    }
+    None
+}
+
+// What is replied to a tag that may name a character set.
+fn reply_to_charset<A: Allocator + Copy>(
+    charset: Option<&String<A>>,
+) -> Result<TokenSinkResult<(), String<A>>, AllocError>
+    ensures { IfOk result (λ reply. reply_of string_bytes reply
+        ≡ reply_to_charset (option_map (λ text. string_bytes text.now) charset.entry)) }
+{
+    match charset {
+        None => Ok(TokenSinkResult::Continue),
+        Some(charset) => Ok(TokenSinkResult::EncodingIndicator(charset.clone()?)),
+    }
+}
+
+// What is replied to a start tag.
+#[tactic(auto, unfolding(crate::specs::Replies::reply_to_start))]
+fn reply_to_start<A: Allocator + Copy>(
+    name: &str,
+    attributes: &[Attribute<A>],
+) -> Result<TokenSinkResult<(), String<A>>, AllocError>
+    ensures { IfOk result (λ reply. reply_of string_bytes reply
+        ≡ reply_to_start name.now (map attribute_of attributes.now)) }
+{
+    if name == "plaintext" {
+        return Ok(TokenSinkResult::Plaintext);
+    }
+    if name == "meta" {
+        return reply_to_charset(charset_of(attributes));
+    }
+    Ok(TokenSinkResult::Continue)
+}
+
+// What is replied to an end tag.
+#[tactic(auto, unfolding(crate::specs::Replies::reply_to_end))]
+fn reply_to_end<A: Allocator>(name: &str) -> TokenSinkResult<(), String<A>>
+    ensures { reply_of string_bytes result ≡ reply_to_end name.now }
+{
+    if name == "script" {
+        TokenSinkResult::Script(())
+    } else {
+        TokenSinkResult::Continue
+    }
+}
+
+// What is replied to a token.
+fn reply_to<A: Allocator + Copy>(
+    token: &Token<A>,
+) -> Result<TokenSinkResult<(), String<A>>, AllocError>
+    ensures { IfOk result (λ reply. reply_of string_bytes reply ≡ reply_to (told_by token.now)) }
+{
+    let Token::TagToken(tag) = token else {
+        return Ok(TokenSinkResult::Continue);
+    };
+    match tag.kind {
+        TagKind::StartTag => reply_to_start(&tag.name.0, &tag.attrs),
+        TagKind::EndTag => Ok(reply_to_end(&tag.name.0)),
+    }
+}
+
+// Appends what a token adds to a page, and replies to it.
+fn print_and_reply<A: Allocator + Copy>(
+    page: &mut Vec<u8, A>,
+    in_text: bool,
+    token: &Token<A>,
+    line: u64,
+) -> Result<TokenSinkResult<(), String<A>>, AllocError>
+    ensures ok { OnOk result
+        (page.new.items ≡ page.old.items ++ added_by in_text (told_by token.now) line) }
+    ensures replies { IfOk result
+        (λ reply. reply_of string_bytes reply ≡ reply_to (told_by token.now)) }
+    ensures err { OnErr result (BeginsWith page.new.items page.old.items) }
+{
+    let reply = reply_to(token)?;
+    push_token(page, in_text, token, line, &reply)?;
+    Ok(reply)
+}
+
 /// Prints what it is told: a line for each token, where adjacent texts share one and an empty text
-/// has none. A token that could not be printed leaves no part of a line.
+/// has none, and a line for each pause. A token that could not be printed leaves no part of a line.
+///
+/// It replies to the start tag `plaintext` to read plain text, to a start tag `meta` with an
+/// attribute `charset` to switch the encoding, and to the end tag `script` to run the script.
 #[derive(Drop)]
 pub struct PrintSink<A: Allocator = Global> {
     page: Vec<u8, A>,
@@ -433,10 +581,10 @@ impl<A: Allocator + Copy> TokenSink<Token<A>> for PrintSink<A> {
         line_number: u64,
     ) -> Result<TokenSinkResult<(), String<A>>, SinkFault> {
         let printed = self.page.len();
-        match push_token(&mut self.page, self.in_text, &token, line_number) {
-            Ok(()) => {
+        match print_and_reply(&mut self.page, self.in_text, &token, line_number) {
+            Ok(reply) => {
                 self.in_text = is_open_behind(self.in_text, &token);
-                Ok(TokenSinkResult::Continue)
+                Ok(reply)
             }
             Err(AllocError) => {
                 self.page.truncate(printed);

@@ -61,21 +61,21 @@ module _ (exact : Bool) (K : Start) (p : Page) (X : List ℕ) where
 -- a page that a reading was printed to has its lines
 pub printed-page : (exact : Bool) (settings : SettingsOf) (p : Page) (bytes : List ℕ)
     → exact ≡ settings.opts.exact_errors → p ≡ blank_page settings.foreign → IsWholeBuilt settings bytes
-    → (stepped page_step p (messages (reading page_step (page_reply {H = Unit {0}}) exact (start_of settings.opts) p (chars bytes)))).lines ≡ printed_reading settings bytes
+    → (stepped page_step p (messages (reading page_step page_reply exact (start_of settings.opts) p (chars bytes)))).lines ≡ printed_reading settings bytes
 unfolding printed_reading EndsWithEnd
 printed-page exact settings p bytes same blank built =
-    let M : List Message = messages (reading page_step (page_reply {H = Unit {0}}) settings.opts.exact_errors (start_of settings.opts) (blank_page settings.foreign) (chars bytes)) in
-    let ends = told_at_end_of-ends settings.opts.exact_errors (read page_step (page_reply {H = Unit {0}}) settings.opts.exact_errors (start_of settings.opts) (blank_page settings.foreign) (chars bytes)).opened built in
+    let M : List Message = messages (reading page_step page_reply settings.opts.exact_errors (start_of settings.opts) (blank_page settings.foreign) (chars bytes)) in
+    let ends = told_at_end_of-ends settings.opts.exact_errors (read page_step page_reply settings.opts.exact_errors (start_of settings.opts) (blank_page settings.foreign) (chars bytes)).opened built in
     rw (same, blank) (lines-stepped (blank_page settings.foreign) M _ _ refl
     (reading-ends settings.opts.exact_errors (start_of settings.opts) (blank_page settings.foreign) (chars bytes) ends.0 ends.1))
 
 -- a tokenizer that stands behind the text met nothing that isn't built yet
 pub built-reading : (settings : SettingsOf) (t : Tokenizing Printer) (p : Page) (bytes : List ℕ)
     → t.exact ≡ settings.opts.exact_errors → p ≡ blank_page settings.foreign
-    → StandsAt (λ (sink : Printer). sink.page) page_step (page_reply {H = Unit {0}}) t (start_of settings.opts) p (chars bytes)
+    → StandsAt (λ (sink : Printer). sink.page) page_step page_reply t (start_of settings.opts) p (chars bytes)
     → IsWholeBuilt settings bytes
 built-reading settings t p bytes exact blank stands =
-    let position : t.position ≡ after page_step (page_reply {H = Unit {0}}) settings.opts.exact_errors (start_of settings.opts) (blank_page settings.foreign) (chars bytes) =
+    let position : t.position ≡ after page_step page_reply settings.opts.exact_errors (start_of settings.opts) (blank_page settings.foreign) (chars bytes) =
     stands.position ∙ rw (exact, blank) refl in
     subst (λ (P : Start). IsBuilt P.opened) position stands.built
 

@@ -14,12 +14,12 @@ use Rattle.html5ever.specs.Steps.{IsBuilt}
 -- the printed lines of the reading of a text, whose bytes are given: the cut is not in it
 unfoldable pub printed_reading : SettingsOf → List ℕ → List ℕ
 printed_reading settings bytes =
-    printed (messages (reading page_step (page_reply {H = Unit {0}}) settings.opts.exact_errors (start_of settings.opts) (blank_page settings.foreign) (chars bytes)))
+    printed (messages (reading page_step page_reply settings.opts.exact_errors (start_of settings.opts) (blank_page settings.foreign) (chars bytes)))
 
 -- what is open behind the text of the bytes
 abbrev pub open_behind_text : SettingsOf → List ℕ → Open
 open_behind_text settings bytes =
-    (after page_step (page_reply {H = Unit {0}}) settings.opts.exact_errors (start_of settings.opts) (blank_page settings.foreign) (chars bytes)).opened
+    (after page_step page_reply settings.opts.exact_errors (start_of settings.opts) (blank_page settings.foreign) (chars bytes)).opened
 
 -- the text of the bytes meets nothing that isn't built yet
 abbrev pub IsWholeBuilt : SettingsOf → List ℕ → Type 0

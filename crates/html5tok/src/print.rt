@@ -12,6 +12,7 @@ use crate::device::{Source, Target, read_to_end, write_all};
 use crate::fault::Fault;
 use html5ever::error::TokenizerError;
 use html5ever::tokenizer::Tokenizer;
+use html5ever::tokenizer::steps::feed_until_done;
 use html5ever_interface::options::TokenizerOpts;
 use html5print::print_sink::PrintSink;
 use markup5ever::buffer_queue::BufferQueue;
@@ -41,7 +42,7 @@ fn fault_of(error: TokenizerError) -> Fault
     }
 }
 
-// Feeds one piece of the text.
+// Feeds one piece of the text, past its pauses.
 fn feed_piece<A: Allocator + Copy>(
     tokenizer: &mut Tokenizer<PrintSink<A>, A>,
     queue: &mut BufferQueue<A>,
@@ -50,11 +51,11 @@ fn feed_piece<A: Allocator + Copy>(
     requires waiting { queue.old.text ≡ [] }
     requires going_on { tokenizer.old.ended ≡ false }
     requires not_failed { tokenizer.old.failed ≡ false }
-    ensures reads { OnOk result (ReadsOn (λ sink. sink.page) page_step (page_reply {H = Unit {0}})
+    ensures reads { OnOk result (ReadsOn (λ sink. sink.page) page_step page_reply
         tokenizer.old tokenizer.new (chars (string_bytes piece))) }
     ensures taken { OnOk result (queue.new.text ≡ []) }
     ensures not_yet { result ≡ Err Fault.NotYet
-        → MeetsNotBuilt (λ sink. sink.page) page_step (page_reply {H = Unit {0}})
+        → MeetsNotBuilt (λ sink. sink.page) page_step page_reply
         tokenizer.old (chars (string_bytes piece)) }
     ensures exact { tokenizer.new.exact ≡ tokenizer.old.exact }
     ensures going_on { tokenizer.new.ended ≡ false }
@@ -64,8 +65,8 @@ fn feed_piece<A: Allocator + Copy>(
     if queue.push_back(piece).is_err() {
         return Err(Fault::Memory);
     }
-    match tokenizer.feed(queue) {
-        Ok(_) => Ok(()),
+    match feed_until_done(tokenizer, queue) {
+        Ok(()) => Ok(()),
         Err(error) => Err(fault_of(error)),
     }
 }
@@ -98,10 +99,10 @@ fn feed_text<A: Allocator + Copy>(
 ) -> Result<(), Fault>
     requires going_on { tokenizer.old.ended ≡ false }
     requires not_failed { tokenizer.old.failed ≡ false }
-    ensures reads { OnOk result (ReadsOn (λ sink. sink.page) page_step (page_reply {H = Unit {0}})
+    ensures reads { OnOk result (ReadsOn (λ sink. sink.page) page_step page_reply
         tokenizer.old tokenizer.new (chars (string_bytes text))) }
     ensures not_yet { result ≡ Err Fault.NotYet
-        → MeetsNotBuilt (λ sink. sink.page) page_step (page_reply {H = Unit {0}})
+        → MeetsNotBuilt (λ sink. sink.page) page_step page_reply
         tokenizer.old (chars (string_bytes text)) }
     ensures exact { tokenizer.new.exact ≡ tokenizer.old.exact }
     ensures going_on { tokenizer.new.ended ≡ false }

@@ -1,25 +1,38 @@
--- The sinks of the tests: what they are told that matters to them, and what they reply.
-use Rattle.std.specs.Prelude.{◌≡◌, ℕ, Bool, true, false, refl, ◌&&◌, if◌then◌else◌, codes, bytes_eq}
+-- The sinks of the tests: what they reply to what they are told.
+use Rattle.std.specs.Prelude.{◌≡◌, ℕ, Bool, true, false, List, refl, ◌&&◌, if◌then◌else◌, codes, bytes_eq}
 use Rattle.html5ever_interface.specs.Collected.{Collected}
 use Rattle.html5ever_interface.specs.Token.{Told, Reply, is_tag}
 use Rattle.html5ever_interface.specs.Token.Told.{Tag}
-use Rattle.html5ever_interface.specs.Token.Reply.{KeepOn, ReadPlainText}
+use Rattle.html5ever_interface.specs.Token.Reply.{KeepOn, ReadPlainText, ReadRawData, RunScript}
 use Rattle.html5ever_interface.specs.declared.interface.token.TagKind.{TagKind}
 use Rattle.html5ever_interface.specs.declared.interface.token.TagKind.TheVariants.{StartTag, EndTag}
+use Rattle.html5ever_interface.specs.declared.states.RawKind.TheVariants.{Rawtext}
 
 abbrev pub is_start_tag : TagKind → Bool
 is_start_tag StartTag = true
 is_start_tag EndTag = false
 
--- the start tag `p`
-abbrev pub is_paragraph : Told → Bool
-is_paragraph (Tag tag) = is_start_tag tag.kind && bytes_eq tag.name (codes "p")
-is_paragraph other = false
+-- whether a start tag of that name is told
+abbrev pub is_start_of : List ℕ → Told → Bool
+is_start_of name (Tag tag) = is_start_tag tag.kind && bytes_eq tag.name name
+is_start_of name other = false
 
--- behind the start tag `p` all is plain text
-abbrev pub paragraph_reply : {H : Type 0} → Collected → Told → ℕ → Reply H
-paragraph_reply c told line = if is_tag told && is_paragraph told then ReadPlainText else KeepOn
+-- behind the start tag `p` all is plain text, and behind the start tag `s` a script is run
+abbrev pub steering_reply : Collected → Told → ℕ → Reply ℕ
+steering_reply c told line =
+    if is_start_of (codes "p") told then ReadPlainText
+    else if is_start_of (codes "s") told then RunScript 7
+    else KeepOn
 
-pub paragraph_keeps_on : {H : Type 0} → (c : Collected) (told : Told) (line : ℕ) → is_tag told ≡ false
-    → paragraph_reply {H = H} c told line ≡ KeepOn
-paragraph_keeps_on c told line no_tag = rw no_tag refl
+pub steering_keeps_on : (c : Collected) (told : Told) (line : ℕ) → is_tag told ≡ false → steering_reply c told line ≡ KeepOn
+steering_keeps_on c (Tag tag) line no_tag = absurd cc
+steering_keeps_on c other line no_tag = refl
+
+-- behind the start tag `x` a raw text stands
+abbrev pub raw_text_reply : {H : Type 0} → Collected → Told → ℕ → Reply H
+raw_text_reply c told line = if is_start_of (codes "x") told then ReadRawData Rawtext else KeepOn
+
+pub raw_text_keeps_on : {H : Type 0} → (c : Collected) (told : Told) (line : ℕ) → is_tag told ≡ false
+    → raw_text_reply {H = H} c told line ≡ KeepOn
+raw_text_keeps_on c (Tag tag) line no_tag = absurd cc
+raw_text_keeps_on c other line no_tag = refl

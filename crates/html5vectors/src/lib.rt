@@ -12,6 +12,8 @@ mod memory;
 #[cfg(test)]
 mod not_built;
 #[cfg(test)]
+mod pause_cases;
+#[cfg(test)]
 mod refused;
 #[cfg(test)]
 mod running;

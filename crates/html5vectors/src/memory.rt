@@ -50,8 +50,8 @@ fn told_on(
     Ok(Some((lines_of(ample, tokenizer.sink.entries())?, refused)))
 }
 
-// Whether the lines are the first ones of others.
-fn is_beginning(alloc: Global, lines: &str, others: &str) -> Result<bool, AllocError> {
+/// Whether the lines are the first ones of others.
+pub fn is_beginning(alloc: Global, lines: &str, others: &str) -> Result<bool, AllocError> {
     let mut ended = String::from_str(alloc, lines)?;
     if !lines.is_empty() {
         ended.push('\n')?;

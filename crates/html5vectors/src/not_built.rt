@@ -2,7 +2,7 @@
 use crate::lines::lines_of;
 use crate::refused::{check_refused, drained};
 use crate::running::{options, push_text};
-use crate::sinks::ParagraphSink;
+use crate::sinks::RawTextSink;
 use html5ever::error::TokenizerError;
 use html5ever::tokenizer::{Tokenizer, TokenizerResult};
 use html5ever_interface::collect::Collector;
@@ -65,17 +65,17 @@ fn refuses_what_is_not_built(rt: HostRuntime) -> Result<(), Fail> {
 fn refuses_a_reply_that_is_not_built(rt: HostRuntime) -> Result<(), Fail> {
     let alloc = rt.alloc();
     let opts = options(false, false);
-    let mut tokenizer = Tokenizer::new(alloc, ParagraphSink::new(alloc), opts);
+    let mut tokenizer = Tokenizer::new(alloc, RawTextSink::new(alloc), opts);
     let mut queue = BufferQueue::new(alloc);
-    push_text(alloc, &mut queue, "<a></p><pp>")?;
+    push_text(alloc, &mut queue, "<a></x><xx>")?;
     assert_eq!(rt; tokenizer.feed(&mut queue), Ok(TokenizerResult::Done));
-    push_text(alloc, &mut queue, "b<P x=1>y")?;
+    push_text(alloc, &mut queue, "b<X c=1>y")?;
     assert_eq!(rt; tokenizer.feed(&mut queue), Err(TokenizerError::NotYet));
     check_refused(&rt, &mut tokenizer, &mut queue, "a reply");
     let told = lines_of(alloc, tokenizer.sink.inner.entries())?;
     assert_eq!(rt;
         told.as_str(),
-        "start 1 \"a\"\nend 1 \"p\"\nstart 1 \"pp\"\ntext \"b\"\nstart 1 \"p\" \"x\"=\"1\""
+        "start 1 \"a\"\nend 1 \"x\"\nstart 1 \"xx\"\ntext \"b\"\nstart 1 \"x\" \"c\"=\"1\""
     );
     assert_eq!(rt; drained(alloc, &mut queue)?.as_str(), "y");
     Ok(())

@@ -114,8 +114,8 @@ fn joined(alloc: Global, pieces: &[&str]) -> Result<String, AllocError> {
     Ok(text)
 }
 
-// A text in two parts, the first with so many characters.
-fn cut(alloc: Global, text: &str, count: usize) -> Result<(String, String), AllocError> {
+/// A text in two parts, the first with so many characters.
+pub fn cut(alloc: Global, text: &str, count: usize) -> Result<(String, String), AllocError> {
     let mut first = String::new(alloc);
     let mut second = String::new(alloc);
     for (place, c) in text.chars().enumerate() {

@@ -1,13 +1,14 @@
 //! Sinks that fault, and that reply.
 ghost use Rattle.std.specs.Prelude.{◌≡◌};
 ghost use Rattle.html5ever_interface.specs.Token.{told_by};
-ghost use Rattle.html5vectors.specs.Sinks.{is_paragraph};
+ghost use Rattle.html5vectors.specs.Sinks.{is_start_of};
 
 use html5ever_interface::collect::Collector;
 use html5ever_interface::interface::sink::TokenSink;
 use html5ever_interface::interface::token::{SinkFault, TagKind, Token, TokenSinkResult};
+use html5ever_interface::states::RawKind;
 use markup5ever::count::Count;
-use std::alloc::Global;
+use std::alloc::{Allocator, Global};
 use std::convert::Infallible;
 
 /// Takes some tokens and faults at the next, or faults at its end. It knows whether it took a token
@@ -94,38 +95,39 @@ impl TokenSink<Token> for FaultySink {
     }
 }
 
-// Whether the token is the start tag `p`.
-fn is_paragraph(token: &Token) -> bool
-    ensures { result ≡ is_paragraph (told_by token.now) }
+// Whether the token is the start tag of that name.
+fn is_start_of<A: Allocator>(token: &Token<A>, name: &str) -> bool
+    ensures { result ≡ is_start_of name.now (told_by token.now) }
 {
     match token {
         Token::TagToken(tag) => match tag.kind {
-            TagKind::StartTag => tag.name.0.as_str() == "p",
+            TagKind::StartTag => tag.name.0.as_str() == name,
             TagKind::EndTag => false,
         },
         _ => false,
     }
 }
 
-/// Collects tokens, and asks for plain text behind each start tag `p`.
+/// Collects tokens. It asks for plain text behind each start tag `p`, and to run a script behind
+/// each start tag `s`.
 #[derive(Drop)]
-pub struct ParagraphSink {
-    pub inner: Collector,
+pub struct Steering<A: Allocator = Global> {
+    pub inner: Collector<A>,
 }
 
-impl ParagraphSink {
-    pub fn new(alloc: Global) -> ParagraphSink {
-        ParagraphSink {
+impl<A: Allocator> Steering<A> {
+    pub fn new(alloc: A) -> Steering<A> {
+        Steering {
             inner: Collector::new(alloc, false),
         }
     }
 }
 
-impl TokenSink<Token> for ParagraphSink {
+impl<A: Allocator + Copy> TokenSink<Token<A>> for Steering<A> {
     ghost use Rattle.html5ever_interface.specs.Collected.{Collected, collected_step, collected_faulted, collected_finish, collected_joins, collected_empty, collected_any_line};
-    ghost use Rattle.html5vectors.specs.Sinks.{paragraph_reply, paragraph_keeps_on};
+    ghost use Rattle.html5vectors.specs.Sinks.{steering_reply, steering_keeps_on};
 
-    type Handle = ();
+    type Handle = u32;
 
     ghost State = { Collected };
 
@@ -135,7 +137,7 @@ impl TokenSink<Token> for ParagraphSink {
 
     ghost step = { collected_step };
 
-    ghost reply = { paragraph_reply };
+    ghost reply = { steering_reply };
 
     ghost foreign = { λ c. c.foreign };
 
@@ -151,20 +153,96 @@ impl TokenSink<Token> for ParagraphSink {
 
     ghost any_line = { collected_any_line };
 
-    ghost keeps_on = { paragraph_keeps_on };
+    ghost keeps_on = { steering_keeps_on };
+
+    fn process_token(
+        &mut self,
+        token: Token<A>,
+        line_number: u64,
+    ) -> Result<TokenSinkResult<u32, String<A>>, SinkFault> {
+        let plain = is_start_of(&token, "p");
+        let script = is_start_of(&token, "s");
+        match self.inner.process_token(token, line_number) {
+            Ok(_) => {}
+            Err(SinkFault) => return Err(SinkFault),
+        }
+        if plain {
+            Ok(TokenSinkResult::Plaintext)
+        } else if script {
+            Ok(TokenSinkResult::Script(7))
+        } else {
+            Ok(TokenSinkResult::Continue)
+        }
+    }
+
+    fn end(&mut self) -> Result<(), SinkFault> {
+        self.inner.end()
+    }
+
+    fn adjusted_current_node_present_but_not_in_html_namespace(&self) -> bool {
+        self.inner
+            .adjusted_current_node_present_but_not_in_html_namespace()
+    }
+}
+
+/// Collects tokens, and asks for a raw text behind each start tag `x`.
+#[derive(Drop)]
+pub struct RawTextSink {
+    pub inner: Collector,
+}
+
+impl RawTextSink {
+    pub fn new(alloc: Global) -> RawTextSink {
+        RawTextSink {
+            inner: Collector::new(alloc, false),
+        }
+    }
+}
+
+impl TokenSink<Token> for RawTextSink {
+    ghost use Rattle.html5ever_interface.specs.Collected.{Collected, collected_step, collected_faulted, collected_finish, collected_joins, collected_empty, collected_any_line};
+    ghost use Rattle.html5vectors.specs.Sinks.{raw_text_reply, raw_text_keeps_on};
+
+    type Handle = Infallible;
+
+    ghost State = { Collected };
+
+    ghost state = { λ s. s.inner.collected };
+
+    ghost faults = { λ s. s.inner.faults };
+
+    ghost step = { collected_step };
+
+    ghost reply = { raw_text_reply };
+
+    ghost foreign = { λ c. c.foreign };
+
+    ghost finish = { collected_finish };
+
+    ghost faulted = { collected_faulted };
+
+    ghost end_faulted = { λ c. c };
+
+    ghost joins = { collected_joins };
+
+    ghost empty = { collected_empty };
+
+    ghost any_line = { collected_any_line };
+
+    ghost keeps_on = { raw_text_keeps_on };
 
     fn process_token(
         &mut self,
         token: Token,
         line_number: u64,
-    ) -> Result<TokenSinkResult<(), String>, SinkFault> {
-        let paragraph = is_paragraph(&token);
+    ) -> Result<TokenSinkResult<Infallible, String>, SinkFault> {
+        let raw = is_start_of(&token, "x");
         match self.inner.process_token(token, line_number) {
             Ok(_) => {}
             Err(SinkFault) => return Err(SinkFault),
         }
-        if paragraph {
-            Ok(TokenSinkResult::Plaintext)
+        if raw {
+            Ok(TokenSinkResult::RawData(RawKind::Rawtext))
         } else {
             Ok(TokenSinkResult::Continue)
         }

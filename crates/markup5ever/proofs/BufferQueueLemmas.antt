@@ -1,11 +1,11 @@
-use Rattle.std.proofs.Common.{◌≡◌, ◌↔◌, ℕ, ◌<◌, ◌≤◌, List, [], ◌∷◌, ◌++◌, length, get_or, drop, String, refl, sym, ap, ◌∙◌, arith, length-append, length-drop}
-use Rattle.std.specs.Str.{IsCharBoundary, chars}
+use Rattle.std.proofs.Common.{◌≡◌, ◌↔◌, ℕ, ◌<◌, ◌≤◌, List, [], ◌∷◌, ◌++◌, length, get_or, set, drop, String, refl, sym, ap, ◌∙◌, arith, length-append, length-drop}
+use Rattle.std.specs.Str.{IsUtf8, IsCharBoundary, chars}
 use Rattle.std.specs.String.{string_bytes}
 use Rattle.std.proofs.lemmas.List.{append-nil, append_assoc, drop_all}
 use Rattle.std.proofs.lemmas.List.Concat.{flat_map-append}
-use Rattle.std.proofs.lemmas.List.Elements.{All-head, All-tail}
-use Rattle.std.proofs.lemmas.Str.{chars-nil, IsUtf8-string_bytes, IsCharBoundary-from_drop}
-use Rattle.markup5ever.specs.BufferQueue.{TextQueue, Gains, all_chars, unread, waiting, waiting_after, AllFilled, IsReadTo}
+use Rattle.std.proofs.lemmas.List.Elements.{All-nil, All-cons, All-head, All-tail}
+use Rattle.std.proofs.lemmas.Str.{chars-nil, chars-append, IsUtf8-string_bytes, IsCharBoundary-from_drop}
+use Rattle.markup5ever.specs.BufferQueue.{TextQueue, Gains, GainsFront, all_chars, unread, waiting, waiting_after, AllFilled, IsReadTo}
 use Rattle.markup5ever.specs.SetResult.{TakesRun}
 use Rattle.markup5ever.specs.SmallCharSet.{IsMember}
 use Rattle.markup5ever.proofs.TextLemmas.{nil_from_length, filled_length, filled_chars}
@@ -56,6 +56,11 @@ module _ {Z : Type 0} where
       let IsFilled : String Z → Type 0 = λ text. string_bytes text ≡ [] → ⊥ in
       (filled_length (string_bytes first) (All-head IsFilled first later filled), IsUtf8-string_bytes first, All-tail IsFilled first later filled)
 
+  AllFilled-unread : (texts : List (String Z)) → IsReadTo texts 0 → AllFilled texts
+  AllFilled-unread [] read = All-nil (λ (text : String Z). string_bytes text ≡ [] → ⊥)
+  AllFilled-unread (first ∷ later) read =
+      All-cons (λ (text : String Z). string_bytes text ≡ [] → ⊥) first later (λ none. omega (arith, read.0, ap length none)) read.2
+
   waiting_from_start : (texts : List (String Z)) → waiting texts 0 ≡ all_chars texts
   waiting_from_start [] = rw chars-nil
   waiting_from_start (first ∷ later) = refl
@@ -80,7 +85,37 @@ module _ {Z : Type 0} where
   waiting-push (first ∷ later) offset text read =
       rw (flat_map-append (λ t. chars (string_bytes t)) later (text ∷ []), append-nil) (sym (append_assoc (chars (drop offset (string_bytes first))) (all_chars later) (chars (string_bytes text))))
 
+  -- ---- the texts with one more in front, where nothing was read of the first
+
+  pub IsReadTo-push_front : (texts : List (String Z)) (offset : ℕ) (text : String Z) → offset ≡ 0 → (string_bytes text ≡ [] → ⊥) → IsReadTo texts offset → IsReadTo (text ∷ texts) offset
+  IsReadTo-push_front texts offset text at_start filled read =
+      rw at_start (filled_length (string_bytes text) filled, IsUtf8-string_bytes text, AllFilled-unread texts (rw at_start at read))
+
+  pub waiting-push_front : (texts : List (String Z)) (offset : ℕ) (text : String Z) → offset ≡ 0 → waiting (text ∷ texts) offset ≡ chars (string_bytes text) ++ waiting texts offset
+  waiting-push_front texts offset text at_start =
+      rw at_start (ap (λ cs. chars (string_bytes text) ++ cs) (sym (waiting_from_start texts)))
+
+  -- ---- the texts with another first, where bytes stand in front of what waits of the first
+
+  pub IsReadTo-refront : (texts : List (String Z)) (old new : String Z) (offset : ℕ) (front : List ℕ) → IsReadTo texts offset → (offset ≡ 0 → ⊥) → old ≡ get_or texts 0 old → string_bytes new ≡ front ++ drop offset (string_bytes old) → IsReadTo (set texts 0 new) 0
+  IsReadTo-refront [] old new offset front read begun is_first new_is = absurd (begun read)
+  IsReadTo-refront (first ∷ later) old new offset front read begun is_first new_is =
+      let rest = drop offset (string_bytes first) in
+      let bytes : string_bytes new ≡ front ++ rest = rw is_first at new_is in
+      let filled : 0 < length (string_bytes new) = omega (arith, read.0, ap length bytes, length-append front rest, length-drop offset (string_bytes first)) in
+      (filled, IsUtf8-string_bytes new, read.2)
+
+  pub waiting-refront : (texts : List (String Z)) (old new : String Z) (offset : ℕ) (front : List ℕ) → IsReadTo texts offset → (offset ≡ 0 → ⊥) → old ≡ get_or texts 0 old → string_bytes new ≡ front ++ drop offset (string_bytes old) → IsUtf8 front → waiting (set texts 0 new) 0 ≡ chars front ++ waiting texts offset
+  waiting-refront [] old new offset front read begun is_first new_is utf8 = absurd (begun read)
+  waiting-refront (first ∷ later) old new offset front read begun is_first new_is utf8 =
+      let rest = drop offset (string_bytes first) in
+      let bytes : string_bytes new ≡ front ++ rest = rw is_first at new_is in
+      ap (λ cs. cs ++ all_chars later) (ap chars bytes ∙ chars-append front rest utf8) ∙ append_assoc (chars front) (chars rest) (all_chars later)
+
 -- ---- what a queue gains and gives
+
+pub GainsFront-none : (queue : TextQueue) (cs : List ℕ) → cs ≡ [] → GainsFront queue queue cs
+GainsFront-none queue cs none = rw none (record { text = refl; handed_in = omega arith; taken = refl })
 
 pub Gains-none : (queue : TextQueue) (cs : List ℕ) → length cs ≡ 0 → Gains queue queue cs
 Gains-none queue cs none =

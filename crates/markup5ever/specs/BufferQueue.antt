@@ -15,6 +15,12 @@ pub record Gains (old new : TextQueue) (back : List ℕ) : Type 0 where
   pub handed_in : new.handed_in ≡ old.handed_in + length back
   pub taken : new.taken ≡ old.taken
 
+-- these characters came in at the front
+pub record GainsFront (old new : TextQueue) (front : List ℕ) : Type 0 where
+  pub text : new.text ≡ front ++ old.text
+  pub handed_in : new.handed_in ≡ old.handed_in + length front
+  pub taken : new.taken ≡ old.taken
+
 -- these characters were taken from the front
 pub record Takes (old new : TextQueue) (front : List ℕ) : Type 0 where
   pub text : old.text ≡ front ++ new.text

@@ -1,9 +1,9 @@
 //! The text that waits to be read.
-ghost use Rattle.std.specs.Prelude.{◌≡◌, ℕ, ◌<◌, ◌≤◌, ◌↔◌, List, [], ◌∷◌, length, take, drop, IsTrue, IsNone, IsOk, IfOk, IfErr, IfSome, IfNone, OnOk, OnErr};
+ghost use Rattle.std.specs.Prelude.{◌≡◌, ◌≢◌, ℕ, ◌<◌, ◌≤◌, ◌↔◌, List, [], ◌∷◌, ◌++◌, length, take, drop, IsTrue, IsNone, IsOk, IfOk, IfErr, IfSome, IfNone, OnOk, OnErr};
 ghost use Rattle.std.specs.Char.{IsScalar};
 ghost use Rattle.std.specs.Str.{IsUtf8, chars};
 ghost use Rattle.std.specs.String.{string_bytes};
-ghost use Rattle.markup5ever.specs.BufferQueue.{Gains, Takes, unread, waiting, waiting_after, IsReadTo};
+ghost use Rattle.markup5ever.specs.BufferQueue.{Gains, GainsFront, Takes, unread, waiting, waiting_after, IsReadTo};
 ghost use Rattle.markup5ever.specs.SmallCharSet.{IsMember};
 
 use crate::count::Count;
@@ -87,6 +87,26 @@ impl<A: Allocator> BufferQueue<A> {
         }
     }
 
+    /// Hands in a text in front of what waits. It comes back where there is no memory for it.
+    pub fn push_front(&mut self, text: String<A>) -> Result<(), String<A>>
+        ensures ok { OnOk result (GainsFront self.old self.new (chars (string_bytes text))) }
+        ensures err { OnErr result (self.new ≡ self.old) }
+        ensures returned { IfErr result (λ back. string_bytes back ≡ string_bytes text) }
+        ensures empty { string_bytes text ≡ [] → IsOk result }
+    {
+        if text.is_empty() {
+            return Ok(());
+        }
+        let characters = char_count(&text);
+        match put_in_front(&mut self.buffers, &mut self.offset, text) {
+            Ok(()) => {
+                self.handed_in.add(characters);
+                Ok(())
+            }
+            Err(text) => Err(text),
+        }
+    }
+
     /// Takes the first character.
     pub fn next(&mut self) -> Option<char>
         ensures none { IsNone result ↔ (self.old.text ≡ []) }
@@ -141,6 +161,39 @@ fn front<A: Allocator>(buffers: &VecDeque<String<A>, A>, offset: usize) -> &str
     match buffers.front() {
         Some(first) => &first[offset..],
         None => "",
+    }
+}
+
+// Puts a text in front of what waits. It takes the place of what was read of the first text.
+fn put_in_front<A: Allocator>(
+    buffers: &mut VecDeque<String<A>, A>,
+    offset: &mut usize,
+    text: String<A>,
+) -> Result<(), String<A>>
+    requires read { IsReadTo buffers.old.items offset.old }
+    requires filled { string_bytes text ≢ [] }
+    ensures read { IsReadTo buffers.new.items offset.new }
+    ensures ok { OnOk result (waiting buffers.new.items offset.new
+        ≡ chars (string_bytes text) ++ waiting buffers.old.items offset.old) }
+    ensures err { OnErr result (waiting buffers.new.items offset.new
+        ≡ waiting buffers.old.items offset.old) }
+    ensures returned { IfErr result (λ back. string_bytes back ≡ string_bytes text) }
+{
+    if *offset == 0 {
+        return match buffers.push_front(text) {
+            Ok(()) => Ok(()),
+            Err(failed) => Err(failed.value),
+        };
+    }
+    let Some(first) = buffers.front_mut() else {
+        unreachable!();
+    };
+    match first.replace_range(..*offset, &text) {
+        Ok(()) => {
+            *offset = 0;
+            Ok(())
+        }
+        Err(AllocError) => Err(text),
     }
 }
 
@@ -245,6 +298,45 @@ mod tests {
             assert!(rt; !queue.is_empty());
             assert_eq!(rt; queue.next(), Some(c));
         }
+        assert_eq!(rt; queue.next(), None);
+        Ok(())
+    }
+
+    #[test]
+    fn push_front_puts_a_text_before_what_waits(rt: HostRuntime) -> Result<(), Fail> {
+        let alloc = rt.alloc();
+        let set = SmallCharSet::of(b"<");
+        let mut queue = BufferQueue::new(alloc);
+        assert!(rt; queue.push_front(String::new(alloc)).is_ok());
+        assert!(rt; queue.is_empty());
+        assert!(rt; queue.push_front(String::from_str(alloc, "é<")?).is_ok());
+        assert!(rt; queue.push_back(String::from_str(alloc, "€bc")?).is_ok());
+        assert_eq!(rt; taken(alloc, &mut queue, set)?.as_str(), "é[<]€bc");
+        assert!(rt; queue.push_back(String::from_str(alloc, "€bc")?).is_ok());
+        assert_eq!(rt; queue.next(), Some('€'));
+        assert!(rt; queue.push_front(String::new(alloc)).is_ok());
+        let longer = String::from_str(alloc, "<longer than what was read>")?;
+        assert!(rt; queue.push_front(longer).is_ok());
+        assert!(rt; queue.push_front(String::from_str(alloc, "x")?).is_ok());
+        assert!(rt; queue.push_back(String::from_str(alloc, "d")?).is_ok());
+        assert_eq!(rt; queue.next(), Some('x'));
+        assert_eq!(rt;
+            taken(alloc, &mut queue, set)?.as_str(),
+            "[<]longer than what was read>bcd"
+        );
+        assert!(rt; queue.is_empty());
+        Ok(())
+    }
+
+    #[test]
+    fn push_front_behind_a_read_character(rt: HostRuntime) -> Result<(), Fail> {
+        let alloc = rt.alloc();
+        let mut queue = BufferQueue::new(alloc);
+        assert!(rt; queue.push_back(String::from_str(alloc, "bc")?).is_ok());
+        assert_eq!(rt; queue.next(), Some('b'));
+        assert!(rt; queue.push_front(String::from_str(alloc, "x")?).is_ok());
+        assert_eq!(rt; queue.next(), Some('x'));
+        assert_eq!(rt; queue.next(), Some('c'));
         assert_eq!(rt; queue.next(), None);
         Ok(())
     }

@@ -1,18 +1,22 @@
 //! Laws of whole texts, on calls that read one.
-ghost use Rattle.std.specs.Prelude.{◌≡◌, ◌+◌, true, false, IfErr, IfOk, OnOk, string_bytes};
+ghost use Rattle.std.specs.Prelude.{◌≡◌, ℕ, ◌+◌, Bool, true, false, List, [], map, IfErr, IfOk, OnOk, string_bytes};
+ghost use Rattle.std.specs.List.{concat};
 ghost use Rattle.std.specs.Str.{chars};
 ghost use Rattle.html5ever_interface.specs.Collected.{none_collected, collected_step, collected_reply, collected_finish};
 ghost use Rattle.html5ever_interface.specs.Options.{options_of};
 ghost use Rattle.html5ever_interface.specs.Sink.{stepped};
 ghost use Rattle.html5grammar.specs.OneTag.{WrittenTag, IsTag, tag_messages};
 ghost use Rattle.html5grammar.specs.Reading.{reading, messages, after};
-ghost use Rattle.html5grammar.specs.Start.{start_of};
+ghost use Rattle.html5grammar.specs.Start.{Start, start_of};
 ghost use Rattle.html5grammar.specs.Start.Open.{NotBuilt};
+ghost use Rattle.html5ever.specs.RunSteps.{run_text};
+ghost use Rattle.html5ever.specs.RunSteps.StepOf.{AtBack};
 ghost use Rattle.html5ever.specs.Telling.{IsRefusal, IsNotFailed, faults_of};
 ghost use Rattle.html5ever.specs.Tokenizer.{CanStart, MeetsNotBuilt, ReadsWhole, StopsWhole, WholeStops};
 
 use crate::error::TokenizerError;
 use crate::tokenizer::Tokenizer;
+use crate::tokenizer::steps::feed_until_done;
 use html5ever_interface::collect::Collector;
 use html5ever_interface::interface::sink::TokenSink;
 use html5ever_interface::interface::token::Token;
@@ -40,7 +44,7 @@ fn read_whole<S: TokenSink<Token<A>>, A: Allocator + Copy>(
     let Ok(()) = queue.push_back(text) else {
         return Err(TokenizerError::Memory);
     };
-    tokenizer.feed(&mut queue)?;
+    feed_until_done(tokenizer, &mut queue)?;
     tokenizer.end()
 }
 
@@ -101,3 +105,17 @@ pub fn tag<A: Allocator + Copy>(
         Err(error) => Err(error),
     }
 }
+
+/// The law of cutting: runs that push the same text in all, however it is cut, take the same text.
+/// So, by the contract of `run_steps`, they leave lawful sinks in equal states, where they begin with
+/// equal options and equal states and both answer `Ok`.
+pub fn cutting<S: TokenSink<Token>>()
+    ensures text { (exact : Bool) (K : Start) (s : S.State) (pieces : List (List ℕ)) →
+        run_text S.step S.reply exact K s [] [] (map AtBack pieces) ≡ concat pieces }
+    ensures states { (exact : Bool) (K : Start) (s : S.State) (pieces others : List (List ℕ)) →
+        concat pieces ≡ concat others →
+        S.finish (stepped S.step s (messages (reading S.step S.reply exact K s
+        (run_text S.step S.reply exact K s [] [] (map AtBack pieces)))))
+        ≡ S.finish (stepped S.step s (messages (reading S.step S.reply exact K s
+        (run_text S.step S.reply exact K s [] [] (map AtBack others))))) }
+{}

@@ -176,6 +176,96 @@ fn prints_the_worked_lines(rt: HostRuntime) -> Result<(), Fail> {
     Ok(())
 }
 
+// A tag with one attribute.
+fn tag_with<A: Allocator + Copy>(
+    alloc: A,
+    kind: TagKind,
+    name: &str,
+    attribute: &str,
+    value: &str,
+) -> Result<Token<A>, AllocError> {
+    let mut tag = bare_tag(alloc, kind, name)?;
+    tag.attrs.push(attribute_of(alloc, attribute, value)?)?;
+    Ok(Token::TagToken(tag))
+}
+
+// A start tag `meta` whose second attribute names a character set.
+fn meta_with_two<A: Allocator + Copy>(alloc: A) -> Result<Token<A>, AllocError> {
+    let mut tag = bare_tag(alloc, TagKind::StartTag, "meta")?;
+    tag.attrs.push(attribute_of(alloc, "name", "charset")?)?;
+    tag.attrs.push(attribute_of(alloc, "charset", "a\"b")?)?;
+    Ok(Token::TagToken(tag))
+}
+
+// Whether the sink replies so to a token at line 1, and prints so.
+fn replies<A: Allocator + Copy>(
+    alloc: A,
+    token: Token<A>,
+    reply: TokenSinkResult<(), String<A>>,
+    printed: &str,
+) -> bool {
+    let mut sink = PrintSink::new(alloc, false);
+    let replied = sink.process_token(token, 1);
+    replied == Ok(reply) && sink.page() == printed.as_bytes()
+}
+
+#[test]
+fn asks_for_the_encoding_that_a_meta_tag_names(rt: HostRuntime) -> Result<(), Fail> {
+    let alloc = rt.alloc();
+    let charset = tag_with(alloc, TagKind::StartTag, "meta", "charset", "utf-8")?;
+    let printed = "start 1 \"meta\" \"charset\"=\"utf-8\"\npause encoding \"utf-8\"\n";
+    let reply = TokenSinkResult::EncodingIndicator(String::from_str(alloc, "utf-8")?);
+    assert!(rt; replies(alloc, charset, reply, printed));
+    let empty = tag_with(alloc, TagKind::StartTag, "meta", "charset", "")?;
+    let printed = "start 1 \"meta\" \"charset\"=\"\"\npause encoding \"\"\n";
+    let reply = TokenSinkResult::EncodingIndicator(String::new(alloc));
+    assert!(rt; replies(alloc, empty, reply, printed));
+    let printed =
+        "start 1 \"meta\" \"name\"=\"charset\" \"charset\"=\"a\\\"b\"\npause encoding \"a\\\"b\"\n";
+    let reply = TokenSinkResult::EncodingIndicator(String::from_str(alloc, "a\"b")?);
+    assert!(rt; replies(alloc, meta_with_two(alloc)?, reply, printed));
+    Ok(())
+}
+
+#[test]
+fn keeps_on_at_other_tags_with_those_names(rt: HostRuntime) -> Result<(), Fail> {
+    let alloc = rt.alloc();
+    let meta = tag_of(alloc, TagKind::StartTag, "meta")?;
+    assert!(rt; replies(alloc, meta, TokenSinkResult::Continue, "start 1 \"meta\"\n"));
+    let named = tag_with(alloc, TagKind::StartTag, "meta", "name", "charset")?;
+    let printed = "start 1 \"meta\" \"name\"=\"charset\"\n";
+    assert!(rt; replies(alloc, named, TokenSinkResult::Continue, printed));
+    let end = tag_with(alloc, TagKind::EndTag, "meta", "charset", "utf-8")?;
+    let printed = "end 1 \"meta\" \"charset\"=\"utf-8\"\n";
+    assert!(rt; replies(alloc, end, TokenSinkResult::Continue, printed));
+    let script = tag_with(alloc, TagKind::StartTag, "script", "charset", "utf-8")?;
+    let printed = "start 1 \"script\" \"charset\"=\"utf-8\"\n";
+    assert!(rt; replies(alloc, script, TokenSinkResult::Continue, printed));
+    let plaintext = tag_of(alloc, TagKind::EndTag, "plaintext")?;
+    let printed = "end 1 \"plaintext\"\n";
+    assert!(rt; replies(alloc, plaintext, TokenSinkResult::Continue, printed));
+    Ok(())
+}
+
+#[test]
+fn pauses_behind_a_script_and_not_before_plain_text(rt: HostRuntime) -> Result<(), Fail> {
+    let alloc = rt.alloc();
+    let script = tag_of(alloc, TagKind::EndTag, "script")?;
+    let printed = "end 1 \"script\"\npause script\n";
+    assert!(rt; replies(alloc, script, TokenSinkResult::Script(()), printed));
+    let plaintext = tag_of(alloc, TagKind::StartTag, "plaintext")?;
+    let printed = "start 1 \"plaintext\"\n";
+    assert!(rt; replies(alloc, plaintext, TokenSinkResult::Plaintext, printed));
+    let mut sink = PrintSink::new(alloc, false);
+    assert!(rt; told(&mut sink, text_of(alloc, "x")?, 1));
+    let script = tag_of(alloc, TagKind::EndTag, "script")?;
+    assert!(rt; sink.process_token(script, 2).is_ok());
+    assert!(rt; told(&mut sink, text_of(alloc, "y")?, 3));
+    let expected = "text \"x\"\nend 2 \"script\"\npause script\ntext \"y";
+    assert_eq!(rt; sink.page(), expected.as_bytes());
+    Ok(())
+}
+
 // Tokens of each kind. Most are behind a text, so they close it.
 fn one_of_each<A: Allocator + Copy>(alloc: A) -> Result<Vec<Token<A>, A>, AllocError> {
     let mut tokens = Vec::new(alloc);
@@ -184,6 +274,9 @@ fn one_of_each<A: Allocator + Copy>(alloc: A) -> Result<Vec<Token<A>, A>, AllocE
     tokens.push(full_doctype(alloc)?)?;
     tokens.push(text_of(alloc, "a text")?)?;
     tokens.push(full_tag(alloc)?)?;
+    tokens.push(text_of(alloc, "a")?)?;
+    tokens.push(meta_with_two(alloc)?)?;
+    tokens.push(tag_of(alloc, TagKind::EndTag, "script")?)?;
     tokens.push(text_of(
         alloc,
         "\u{7f}\u{7f}\u{7f}\u{7f}\u{7f}\u{7f}\u{7f}\u{7f}\u{7f}",
@@ -205,7 +298,7 @@ fn a_refused_growth_leaves_no_part_of_a_line(rt: HostRuntime) -> Result<(), Fail
         let mut sink: PrintSink<&Refusing<Global>> = PrintSink::new(&heap, false);
         for token in tokens {
             let before = Vec::from_slice(rt.alloc(), sink.page())?;
-            if told(&mut sink, token, 10) {
+            if sink.process_token(token, 10).is_ok() {
                 assert!(rt; before.len() < sink.page().len(), "after {admitted}");
                 assert!(rt; sink.page().starts_with(&before), "after {admitted}");
             } else {

@@ -191,6 +191,39 @@ fn prints_tags(rt: HostRuntime) -> Result<(), Fail> {
 }
 
 #[test]
+fn prints_pauses(rt: HostRuntime) -> Result<(), Fail> {
+    let cases = [
+        (
+            "<meta charset=utf-8>x",
+            "start 1 \"meta\" \"charset\"=\"utf-8\"\npause encoding \"utf-8\"\ntext \"x\"\neof 1\n",
+        ),
+        (
+            "<meta charset>x",
+            "start 1 \"meta\" \"charset\"=\"\"\npause encoding \"\"\ntext \"x\"\neof 1\n",
+        ),
+        (
+            "a</script>b",
+            "text \"a\"\nend 1 \"script\"\npause script\ntext \"b\"\neof 1\n",
+        ),
+    ];
+    for (input, output) in cases {
+        prints(&rt, rt.alloc(), &[], input, output)?;
+    }
+    Ok(())
+}
+
+#[test]
+fn prints_plain_text_behind_its_tag(rt: HostRuntime) -> Result<(), Fail> {
+    prints(
+        &rt,
+        rt.alloc(),
+        &[],
+        "<plaintext><b>&",
+        "start 1 \"plaintext\"\ntext \"<b>&\"\neof 1\n",
+    )
+}
+
+#[test]
 fn tells_what_is_not_built_yet(rt: HostRuntime) -> Result<(), Fail> {
     for input in ["<b>&amp;", "<!", "<?x>", "</1", "<a b='&"] {
         let ran = run_over(rt.alloc(), &["--cut", "1"], input.as_bytes())?;

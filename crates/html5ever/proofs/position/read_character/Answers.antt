@@ -1,10 +1,11 @@
-use Rattle.std.proofs.Common.{◌≡◌, [], ◌∷◌, refl, ap, sym, ◌∙◌}
+use Rattle.std.proofs.Common.{◌≡◌, [], ◌∷◌, ◌∙◌, refl, ap, sym, subst}
+use Rattle.std.proofs.lemmas.Result.{IfOk-weaker}
 use Rattle.html5ever_interface.specs.Sink.{stepped}
-use Rattle.html5grammar.specs.ErrorText.{bad_character_error}
+use Rattle.html5ever.specs.Steps.{IsBuilt, IsNextBuilt, Leads}
 use Rattle.html5grammar.specs.NormalisedText.{input_after}
 use Rattle.html5grammar.specs.Start.{Input}
-use Rattle.html5ever.proofs.CharacterReading.{told-dropped, after-dropped, told-character, after-character, told-stopped, after-stopped}
-use Rattle.html5ever.proofs.Tellings.{told_then, told_stop}
+use Rattle.html5ever.proofs.CharacterReading.{told-dropped, after-dropped, told-stopped, after-stopped, closes-open, tells-ended, opened-ended, pause-ended, tells-going, opened-going, pause-going, tells-refused, leads-refused, tells-bad}
+use Rattle.html5ever.proofs.Pauses.{first_pause-none}
 use Rattle.html5ever.proofs.position.read_character.Goals as goal
 
 pub returns-in_default-clause-tells : goal.returns-in_default-clause-tells
@@ -29,28 +30,83 @@ returns-then-stops_at-clause-leads g c =
     rw (← c.position.view_is) (λ built.
     after-stopped g.S.TokenSink.step g.S.TokenSink.reply c.args.exact_errors c.position.inside.state c.position.inside.tag c.position.inside.input (g.S.TokenSink.state c.args.sink.now) c.args.c c.in-Some.c c.in-Some.ensures.reads (sym c.stops_at.ensures ∙ c.if-stops_at.true))
 
+pub returns-in_default-clause-answer : goal.returns-in_default-clause-answer
+returns-in_default-clause-answer g c =
+    rw (← c.position.view_is)
+    (rw (told-dropped g.S.TokenSink.step g.S.TokenSink.reply c.args.exact_errors c.position.inside.state c.position.inside.tag c.position.inside.input (g.S.TokenSink.state c.args.sink.now) c.args.c c.in_default.ensures.reads) (sym (first_pause-none g.S.TokenSink.step g.S.TokenSink.reply _)))
+
 pub returns-in_err-report_bad_character-clause-tells : goal.returns-in_err-report_bad_character-clause-tells
 returns-in_err-report_bad_character-clause-tells g c =
     let line : c.line-line.result ≡ (input_after c.position.inside.input (c.args.c ∷ [])).line =
     c.line-line.ensures.line ∙ ap (λ (I : Input). I.line) c.in-Some.ensures.moves in
     rw (← c.position.view_is)
-    (rw (told-character g.S.TokenSink.step g.S.TokenSink.reply c.args.exact_errors c.position.inside.state c.position.inside.tag c.position.inside.input (g.S.TokenSink.state c.args.sink.now) c.args.c c.in-Some.c c.in-Some.ensures.reads (sym c.stops_at.ensures ∙ c.if-stops_at.false), ← line)
-    (told_stop g.S.TokenSink.step g.S.TokenSink.faulted c.from_residual.result _ _ _ c.line-line.result (bad_character_error c.args.exact_errors c.in-Some.c) _
-    c.from_residual.ensures.1 c.in_err-report_bad_character.ensures.refusal c.in_err-report_bad_character.ensures.tells))
+    (tells-bad g.S.TokenSink.step g.S.TokenSink.reply c.args.exact_errors c.position.inside.state c.position.inside.tag c.position.inside.input (g.S.TokenSink.state c.args.sink.now) c.args.c c.in-Some.c c.in-Some.ensures.reads (sym c.stops_at.ensures ∙ c.if-stops_at.false) c.line-line.result line g.S.TokenSink.faulted c.from_residual.result _ _
+    c.from_residual.ensures.1 c.in_err-report_bad_character.ensures.refusal c.in_err-report_bad_character.ensures.tells)
 
-pub returns-clause-tells : goal.returns-clause-tells
-returns-clause-tells g c =
+pub returns-in_err-ended-clause-tells : goal.returns-in_err-ended-clause-tells
+returns-in_err-ended-clause-tells g c =
     let line : c.line-line.result ≡ (input_after c.position.inside.input (c.args.c ∷ [])).line =
     c.line-line.ensures.line ∙ ap (λ (I : Input). I.line) c.in-Some.ensures.moves in
     rw (← c.position.view_is)
-    (rw (told-character g.S.TokenSink.step g.S.TokenSink.reply c.args.exact_errors c.position.inside.state c.position.inside.tag c.position.inside.input (g.S.TokenSink.state c.args.sink.now) c.args.c c.in-Some.c c.in-Some.ensures.reads (sym c.stops_at.ensures ∙ c.if-stops_at.false), ← line)
-    (told_then g.S.TokenSink.step g.S.TokenSink.faulted c.step.result _ _ _ c.line-line.result (bad_character_error c.args.exact_errors c.in-Some.c) _
-    c.in_ok-report_bad_character.ensures.tells c.step.ensures.tells))
+    (tells-refused g.S.TokenSink.step g.S.TokenSink.reply c.args.exact_errors c.position.inside.state c.position.inside.tag c.position.inside.input (g.S.TokenSink.state c.args.sink.now) c.args.c c.in-Some.c c.in-Some.ensures.reads (sym c.stops_at.ensures ∙ c.if-stops_at.false) c.line-line.result line _ _ c.in_ok-report_bad_character.ensures.tells g.row.A.Denot g.S.TokenSink.faulted c.from_residual-in_err-ended.result _ _
+    c.from_residual-in_err-ended.ensures.1 c.in_err-ended.ensures.leads c.in_err-ended.ensures.tells)
 
-pub returns-clause-leads : goal.returns-clause-leads
-returns-clause-leads g c =
+pub returns-in_err-ended-clause-leads : goal.returns-in_err-ended-clause-leads
+returns-in_err-ended-clause-leads g c =
     let line : c.line-line.result ≡ (input_after c.position.inside.input (c.args.c ∷ [])).line =
     c.line-line.ensures.line ∙ ap (λ (I : Input). I.line) c.in-Some.ensures.moves in
-    rw (← c.position.view_is) (λ built.
-    rw (after-character g.S.TokenSink.step g.S.TokenSink.reply c.args.exact_errors c.position.inside.state c.position.inside.tag c.position.inside.input (g.S.TokenSink.state c.args.sink.now) c.args.c c.in-Some.c c.in-Some.ensures.reads, ← line, ← c.in_ok-report_bad_character.ensures.tells)
-    c.step.ensures.leads)
+    rw (← c.position.view_is)
+    (λ built. leads-refused g.S.TokenSink.step g.S.TokenSink.reply c.args.exact_errors c.position.inside.state c.position.inside.tag c.position.inside.input (g.S.TokenSink.state c.args.sink.now) c.args.c c.in-Some.c c.in-Some.ensures.reads (sym c.stops_at.ensures ∙ c.if-stops_at.false) c.line-line.result line g.row.A.Denot c.from_residual-in_err-ended.result _ _ _
+    c.from_residual-in_err-ended.ensures.1 c.in_err-ended.ensures.leads)
+
+pub tell_tag-requires : goal.tell_tag-requires
+tell_tag-requires g c = closes-open _ _ _ (rw c.in-Some-ended.is at c.in_ok-ended.ensures.leads.0)
+
+pub returns-in-Some-ended-clause-tells : goal.returns-in-Some-ended-clause-tells
+returns-in-Some-ended-clause-tells g c =
+    let line : c.line-line.result ≡ (input_after c.position.inside.input (c.args.c ∷ [])).line =
+    c.line-line.ensures.line ∙ ap (λ (I : Input). I.line) c.in-Some.ensures.moves in
+    rw (← c.position.view_is)
+    (tells-ended g.S.TokenSink.step g.S.TokenSink.reply c.args.exact_errors c.position.inside.state c.position.inside.tag c.position.inside.input (g.S.TokenSink.state c.args.sink.now) c.args.c c.in-Some.c c.in-Some.ensures.reads (sym c.stops_at.ensures ∙ c.if-stops_at.false) c.line-line.result line _ _ c.in_ok-report_bad_character.ensures.tells g.S.TokenSink.faulted c.tell_tag.result _ _ _ c.in_ok-ended.ensures.tells (rw c.in-Some-ended.is at c.in_ok-ended.ensures.leads.0) c.tell_tag.ensures.tells)
+
+pub returns-in-Some-ended-clause-leads : goal.returns-in-Some-ended-clause-leads
+returns-in-Some-ended-clause-leads g c =
+    let line : c.line-line.result ≡ (input_after c.position.inside.input (c.args.c ∷ [])).line =
+    c.line-line.ensures.line ∙ ap (λ (I : Input). I.line) c.in-Some.ensures.moves in
+    rw (← c.position.view_is)
+    (λ built. subst (λ o. Leads c.tell_tag.result c.tell_tag.new.position.opened o)
+    (opened-ended g.S.TokenSink.step g.S.TokenSink.reply c.args.exact_errors c.position.inside.state c.position.inside.tag c.position.inside.input (g.S.TokenSink.state c.args.sink.now) c.args.c c.in-Some.c c.in-Some.ensures.reads (sym c.stops_at.ensures ∙ c.if-stops_at.false) c.line-line.result line _ _ c.in_ok-report_bad_character.ensures.tells _ _ c.in_ok-ended.ensures.tells (rw c.in-Some-ended.is at c.in_ok-ended.ensures.leads.0))
+    c.tell_tag.ensures.leads)
+
+pub returns-in-Some-ended-clause-answer : goal.returns-in-Some-ended-clause-answer
+returns-in-Some-ended-clause-answer g c =
+    let line : c.line-line.result ≡ (input_after c.position.inside.input (c.args.c ∷ [])).line =
+    c.line-line.ensures.line ∙ ap (λ (I : Input). I.line) c.in-Some.ensures.moves in
+    rw (← c.position.view_is)
+    (IfOk-weaker c.tell_tag.result _ _
+    (λ answer is. is ∙ pause-ended g.S.TokenSink.step g.S.TokenSink.reply c.args.exact_errors c.position.inside.state c.position.inside.tag c.position.inside.input (g.S.TokenSink.state c.args.sink.now) c.args.c c.in-Some.c c.in-Some.ensures.reads (sym c.stops_at.ensures ∙ c.if-stops_at.false) c.line-line.result line _ _ c.in_ok-report_bad_character.ensures.tells g.met.S.TokenSink.keeps_on _ _ c.in_ok-ended.ensures.tells (rw c.in-Some-ended.is at c.in_ok-ended.ensures.leads.0))
+    c.tell_tag.ensures.answer)
+
+pub returns-in-None-clause-tells : goal.returns-in-None-clause-tells
+returns-in-None-clause-tells g c =
+    let line : c.line-line.result ≡ (input_after c.position.inside.input (c.args.c ∷ [])).line =
+    c.line-line.ensures.line ∙ ap (λ (I : Input). I.line) c.in-Some.ensures.moves in
+    rw (← c.position.view_is)
+    (tells-going g.S.TokenSink.step g.S.TokenSink.reply c.args.exact_errors c.position.inside.state c.position.inside.tag c.position.inside.input (g.S.TokenSink.state c.args.sink.now) c.args.c c.in-Some.c c.in-Some.ensures.reads (sym c.stops_at.ensures ∙ c.if-stops_at.false) c.line-line.result line _ _ c.in_ok-report_bad_character.ensures.tells _ c.in_ok-ended.ensures.tells (rw c.in-None.is at c.in_ok-ended.ensures.leads.0))
+
+pub returns-in-None-clause-leads : goal.returns-in-None-clause-leads
+returns-in-None-clause-leads g c =
+    let line : c.line-line.result ≡ (input_after c.position.inside.input (c.args.c ∷ [])).line =
+    c.line-line.ensures.line ∙ ap (λ (I : Input). I.line) c.in-Some.ensures.moves in
+    rw (← c.position.view_is)
+    (λ built.
+    let leads = rw c.in-None.is at c.in_ok-ended.ensures.leads in
+    let opened = opened-going g.S.TokenSink.step g.S.TokenSink.reply c.args.exact_errors c.position.inside.state c.position.inside.tag c.position.inside.input (g.S.TokenSink.state c.args.sink.now) c.args.c c.in-Some.c c.in-Some.ensures.reads (sym c.stops_at.ensures ∙ c.if-stops_at.false) c.line-line.result line _ _ c.in_ok-report_bad_character.ensures.tells _ c.in_ok-ended.ensures.tells leads.0 in
+    (opened, subst IsBuilt opened (subst IsNextBuilt (sym leads.0) leads.1)))
+
+pub returns-in-None-clause-answer : goal.returns-in-None-clause-answer
+returns-in-None-clause-answer g c =
+    let line : c.line-line.result ≡ (input_after c.position.inside.input (c.args.c ∷ [])).line =
+    c.line-line.ensures.line ∙ ap (λ (I : Input). I.line) c.in-Some.ensures.moves in
+    rw (← c.position.view_is)
+    (pause-going g.S.TokenSink.step g.S.TokenSink.reply c.args.exact_errors c.position.inside.state c.position.inside.tag c.position.inside.input (g.S.TokenSink.state c.args.sink.now) c.args.c c.in-Some.c c.in-Some.ensures.reads (sym c.stops_at.ensures ∙ c.if-stops_at.false) c.line-line.result line _ (g.S.TokenSink.state c.step.new.sink) c.in_ok-report_bad_character.ensures.tells g.met.S.TokenSink.keeps_on _ (rw c.in-None.is at c.in_ok-ended.ensures.leads.0))

@@ -18,5 +18,5 @@ returns-clause-tells g c =
 
 pub returns-clause-leads : goal.returns-clause-leads
 returns-clause-leads g c =
-    leads_first g.S.TokenSink.step g.S.TokenSink.faulted g.S.TokenSink.reply _ _ _ _ c.args.line (error_in c.args.exact_errors c.args.expected c.args.c ∷ []) _ (part_step c.args.exact_errors BeforeAttribute (open_tag c.args.tag.now) c.args.c)
-    refl c.in_ok-emit_unexpected.ensures.tells c.before_attribute_name_state.ensures.leads
+    leads_first _ _ (error_in c.args.exact_errors c.args.expected c.args.c ∷ []) _ (part_step c.args.exact_errors BeforeAttribute (open_tag c.args.tag.now) c.args.c)
+    refl c.before_attribute_name_state.ensures.leads

@@ -23,5 +23,5 @@ returns-clause-tells g c =
 pub returns-clause-leads : goal.returns-clause-leads
 unfolding lib.Utf8.encode
 returns-clause-leads g c =
-    leads_first g.S.TokenSink.step g.S.TokenSink.faulted g.S.TokenSink.reply _ _ _ _ c.args.line (error_in c.args.exact_errors state.TagOpen c.args.c ∷ Text (codes "<") ∷ []) _ (data_step c.args.exact_errors [] c.args.c)
-    (data_step-before _ _ _) c.in_ok-emit_unexpected_then.ensures.tells c.data_state.ensures.leads
+    leads_first _ _ (error_in c.args.exact_errors state.TagOpen c.args.c ∷ Text (codes "<") ∷ []) _ (data_step c.args.exact_errors [] c.args.c)
+    (data_step-before _ _ _) c.data_state.ensures.leads

@@ -22,5 +22,5 @@ returns-clause-tells g c =
 pub returns-clause-leads : goal.returns-clause-leads
 unfolding Rattle.html5grammar.proofs.Machine.closing_step
 returns-clause-leads g c =
-    leads_first g.S.TokenSink.step g.S.TokenSink.faulted g.S.TokenSink.reply _ _ _ _ c.args.line (error_in c.args.exact_errors state.BeforeAttributeValue equals_sign ∷ []) _ (closing_step [] (open_tag c.args.tag.now) false)
-    refl c.in_ok-emit_unexpected.ensures.tells c.emit_tag.ensures.leads
+    leads_first _ _ (error_in c.args.exact_errors state.BeforeAttributeValue equals_sign ∷ []) _ (closing_step [] (open_tag c.args.tag.now) false)
+    refl c.emit_tag.ensures.leads

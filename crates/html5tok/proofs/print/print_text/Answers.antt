@@ -18,9 +18,9 @@ returns-in-Ok-clause-ok g c =
     let exact = c.in_ok-feed_text.ensures.exact ∙ c.new-tokenizer.ensures.exact in
     ap (λ (s : Printer). s.page.lines) c.into_sink.ensures
     ∙ ap (λ (p : Page). p.lines) (c.in-Ok.ensures.finishes K c.new-sink.result.page (chars (string_bytes c.args.text)) stands)
-    ∙ ap (λ (o : OptionsOf). (stepped page_step c.new-sink.result.page (messages (reading page_step (page_reply {H = Unit {0}}) c.feed_text.new.tokenizer.exact (start_of o) c.new-sink.result.page (chars (string_bytes c.args.text))))).lines) same
+    ∙ ap (λ (o : OptionsOf). (stepped page_step c.new-sink.result.page (messages (reading page_step page_reply c.feed_text.new.tokenizer.exact (start_of o) c.new-sink.result.page (chars (string_bytes c.args.text))))).lines) same
     ∙ printed-page c.feed_text.new.tokenizer.exact (said_by c.args.settings.now) c.new-sink.result.page (string_bytes c.args.text)
     (exact ∙ ap (λ (o : OptionsOf). o.exact_errors) same) c.new-sink.ensures.page
     (built-reading (said_by c.args.settings.now) c.feed_text.new.tokenizer c.new-sink.result.page (string_bytes c.args.text)
     (exact ∙ ap (λ (o : OptionsOf). o.exact_errors) same) c.new-sink.ensures.page
-    (subst (λ (o : OptionsOf). StandsAt (λ (sink : Printer). sink.page) page_step (page_reply {H = Unit {0}}) c.feed_text.new.tokenizer (start_of o) c.new-sink.result.page (chars (string_bytes c.args.text))) same stands))
+    (subst (λ (o : OptionsOf). StandsAt (λ (sink : Printer). sink.page) page_step page_reply c.feed_text.new.tokenizer (start_of o) c.new-sink.result.page (chars (string_bytes c.args.text))) same stands))

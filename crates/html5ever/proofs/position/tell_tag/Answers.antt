@@ -1,5 +1,5 @@
 use Rattle.html5ever.proofs.Tellings.{token-faults, cons≢nil}
-use Rattle.html5ever.proofs.emit_tag.tell_tag.Goals as goal
+use Rattle.html5ever.proofs.position.tell_tag.Goals as goal
 
 pub returns-in-Err-clause-tells : goal.returns-in-Err-clause-tells
 returns-in-Err-clause-tells g c = token-faults g.S.TokenSink.step g.S.TokenSink.faulted _ _ _ _ (cons≢nil _ _) c.in-Err.ensures.fault

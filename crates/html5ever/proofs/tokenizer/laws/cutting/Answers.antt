@@ -1,0 +1,13 @@
+use Rattle.std.proofs.Common.{ap, sym, ◌∙◌}
+use Rattle.html5ever_interface.specs.Sink.{stepped}
+use Rattle.html5grammar.specs.Reading.{reading, messages}
+use Rattle.html5ever.proofs.StepRuns.{cutting-text}
+use Rattle.html5ever.proofs.tokenizer.laws.cutting.Goals as goal
+
+pub returns-clause-text : goal.returns-clause-text
+returns-clause-text g c = λ exact K s pieces. cutting-text g.S.TokenSink.step g.S.TokenSink.reply exact K s pieces
+
+pub returns-clause-states : goal.returns-clause-states
+returns-clause-states g c = λ exact K s pieces others same.
+    ap (λ text. g.S.TokenSink.finish (stepped g.S.TokenSink.step s (messages (reading g.S.TokenSink.step g.S.TokenSink.reply exact K s text))))
+    (cutting-text g.S.TokenSink.step g.S.TokenSink.reply exact K s pieces ∙ same ∙ sym (cutting-text g.S.TokenSink.step g.S.TokenSink.reply exact K s others))

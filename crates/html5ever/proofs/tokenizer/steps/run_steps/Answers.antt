@@ -1,0 +1,25 @@
+use Rattle.std.proofs.Common.{◌≡◌, [], subst, map}
+use Rattle.std.proofs.lemmas.Result.{on_ok_weaker, IfErr-weaker}
+use Rattle.html5ever_interface.specs.Options.{options_of}
+use Rattle.html5ever_interface.specs.Sink.{stepped}
+use Rattle.html5grammar.specs.Reading.{reading, messages}
+use Rattle.html5grammar.specs.Start.{start_of}
+use Rattle.html5ever.specs.RunSteps.{step_of, run_text}
+use Rattle.html5ever.specs.Tokenizer.{WholeStops}
+use Rattle.html5ever.proofs.tokenizer.steps.run_steps.Goals as goal
+
+pub returns-clause-finishes : goal.returns-clause-finishes
+returns-clause-finishes g c =
+    rw c.into_sink.ensures
+    (on_ok_weaker c.take_steps-result.result
+    (λ finishes. subst (λ b. g.S.TokenSink.state c.take_steps-result.new.tokenizer.sink ≡ g.S.TokenSink.finish (stepped g.S.TokenSink.step (g.S.TokenSink.state c.args.sink) (messages (reading g.S.TokenSink.step g.S.TokenSink.reply b (start_of (options_of c.args.opts)) (g.S.TokenSink.state c.args.sink) (run_text g.S.TokenSink.step g.S.TokenSink.reply b (start_of (options_of c.args.opts)) (g.S.TokenSink.state c.args.sink) [] [] (map step_of c.args.steps.items))))))
+    c.new-tokenizer.ensures.exact (finishes (start_of (options_of c.args.opts)) (g.S.TokenSink.state c.args.sink) c.new-tokenizer.ensures.stands))
+    c.take_steps-result.ensures.finishes)
+
+pub returns-clause-stops : goal.returns-clause-stops
+returns-clause-stops g c =
+    rw c.into_sink.ensures
+    (IfErr-weaker c.take_steps-result.result _ _
+    (λ e stops. subst (λ b. WholeStops g.S.TokenSink.step g.S.TokenSink.faulted g.S.TokenSink.end_faulted e (g.S.TokenSink.state c.args.sink) (messages (reading g.S.TokenSink.step g.S.TokenSink.reply b (start_of (options_of c.args.opts)) (g.S.TokenSink.state c.args.sink) (run_text g.S.TokenSink.step g.S.TokenSink.reply b (start_of (options_of c.args.opts)) (g.S.TokenSink.state c.args.sink) [] [] (map step_of c.args.steps.items)))) (g.S.TokenSink.state c.take_steps-result.new.tokenizer.sink))
+    c.new-tokenizer.ensures.exact (stops (start_of (options_of c.args.opts)) (g.S.TokenSink.state c.args.sink) c.new-tokenizer.ensures.stands))
+    c.take_steps-result.ensures.stops)

@@ -1,0 +1,158 @@
+//! Runs of a tokenizer: past its pauses, and by steps that put text at the back or at the front.
+ghost use Rattle.std.specs.Prelude.{◌≡◌, ◌+◌, ◌↔◌, [], true, false, OnOk, IfErr, is_err, map};
+ghost use Rattle.html5ever_interface.specs.Options.{options_of};
+ghost use Rattle.html5ever_interface.specs.Sink.{stepped};
+ghost use Rattle.html5grammar.specs.Reading.{reading, messages, after};
+ghost use Rattle.html5grammar.specs.Start.{start_of};
+ghost use Rattle.html5grammar.specs.Start.Open.{NotBuilt};
+ghost use Rattle.html5ever.specs.Feed.{IsEndOf, IsLinear};
+ghost use Rattle.html5ever.specs.Telling.{faults_of};
+ghost use Rattle.html5ever.specs.RunSteps.{step_of, waiting_with, run_text, FinishesRun, StopsRun, MeetsInRun};
+ghost use Rattle.html5ever.specs.Tokenizer.{CanStart, ReadsOn, MeetsNotBuilt, StopsReading, WholeStops};
+ghost use Rattle.html5ever.specs.Tokenizer.{FeedsOn, LeavesWaiting, FeedMeetsNotBuilt, StopsFeeding};
+
+use crate::error::TokenizerError;
+use crate::tokenizer::Tokenizer;
+use html5ever_interface::interface::sink::TokenSink;
+use html5ever_interface::interface::token::Token;
+use html5ever_interface::options::TokenizerOpts;
+use markup5ever::buffer_queue::BufferQueue;
+use markup5ever::tokenizer_result::TokenizerResult;
+use std::alloc::{Allocator, Global};
+
+/// Feeds a tokenizer until it answers `Done`, past all pauses.
+pub fn feed_until_done<S: TokenSink<Token<A>>, A: Allocator + Copy>(
+    tokenizer: &mut Tokenizer<S, A>,
+    queue: &mut BufferQueue<A>,
+) -> Result<(), TokenizerError>
+    requires { tokenizer.old.ended ≡ false }
+
+    // What an `Ok` says: all that waited was taken, and exactly what it decides was told.
+    ensures reads { OnOk result (ReadsOn S.state S.step S.reply tokenizer.old tokenizer.new queue.old.text) }
+    ensures taken { OnOk result (queue.new.text ≡ []) }
+
+    // When each error comes, and what it leaves.
+    ensures failed_before { (result ≡ Err TokenizerError.Failed) ↔ (tokenizer.old.failed ≡ true) }
+    ensures not_yet { result ≡ Err TokenizerError.NotYet
+        → MeetsNotBuilt S.state S.step S.reply tokenizer.old queue.old.text }
+    ensures stops { IfErr result (λ error. StopsReading S.state S.step S.reply S.faulted
+        error tokenizer.old queue.old.text (S.state tokenizer.new.sink)) }
+    ensures faults { S.faults tokenizer.new.sink ≡ S.faults tokenizer.old.sink + faults_of result }
+    ensures failed { tokenizer.new.failed ≡ is_err result }
+    ensures end_of_queue { IsEndOf queue.new.text queue.old.text }
+
+    // What it keeps.
+    ensures linear { IsLinear queue.old queue.new }
+    ensures handed_in { queue.new.handed_in ≡ queue.old.handed_in }
+    ensures exact { tokenizer.new.exact ≡ tokenizer.old.exact }
+    ensures going_on { tokenizer.new.ended ≡ false }
+{
+    loop {
+        match tokenizer.feed(queue)? {
+            TokenizerResult::Done => return Ok(()),
+            TokenizerResult::Script(_) | TokenizerResult::EncodingIndicator(_) => {}
+        }
+    }
+}
+
+/// What a run hands in before it feeds once more.
+#[derive(Drop)]
+pub enum Step<A: Allocator = Global> {
+    /// A text behind what waits.
+    Push(String<A>),
+    /// A text in front of what waits.
+    Insert(String<A>),
+}
+
+// Hands in the text of a step.
+fn hand_in<A: Allocator>(queue: &mut BufferQueue<A>, step: Step<A>) -> Result<(), TokenizerError>
+    ensures ok { OnOk result (queue.new.text ≡ waiting_with (step_of step) queue.old.text) }
+    ensures err { IfErr result (λ error. error ≡ TokenizerError.Memory) }
+{
+    let handed_in = match step {
+        Step::Push(text) => queue.push_back(text),
+        Step::Insert(text) => queue.push_front(text),
+    };
+    match handed_in {
+        Ok(()) => Ok(()),
+        Err(_) => Err(TokenizerError::Memory),
+    }
+}
+
+// Feeds once, and goes on behind a pause as behind `Done`.
+fn feed_once<S: TokenSink<Token<A>>, A: Allocator + Copy>(
+    tokenizer: &mut Tokenizer<S, A>,
+    queue: &mut BufferQueue<A>,
+) -> Result<(), TokenizerError>
+    requires going_on { tokenizer.old.ended ≡ false }
+    requires not_failed { tokenizer.old.failed ≡ false }
+    ensures reads { OnOk result (FeedsOn S.state S.step S.reply tokenizer.old tokenizer.new queue.old.text) }
+    ensures left { OnOk result (LeavesWaiting S.state S.step S.reply tokenizer.old queue.old.text queue.new.text) }
+    ensures not_yet { result ≡ Err TokenizerError.NotYet
+        → FeedMeetsNotBuilt S.state S.step S.reply tokenizer.old queue.old.text }
+    ensures stops { IfErr result (λ error. StopsFeeding S.state S.step S.reply S.faulted
+        error tokenizer.old queue.old.text (S.state tokenizer.new.sink)) }
+    ensures faults { S.faults tokenizer.new.sink ≡ S.faults tokenizer.old.sink + faults_of result }
+    ensures end_of_queue { IsEndOf queue.new.text queue.old.text }
+    ensures exact { tokenizer.new.exact ≡ tokenizer.old.exact }
+    ensures going_on { tokenizer.new.ended ≡ false }
+    ensures not_failed { OnOk result (tokenizer.new.failed ≡ false) }
+{
+    match tokenizer.feed(queue) {
+        Ok(_) => Ok(()),
+        Err(error) => Err(error),
+    }
+}
+
+// Takes the steps one after another, feeds until nothing waits, and ends.
+fn take_steps<S: TokenSink<Token<A>>, A: Allocator + Copy>(
+    alloc: A,
+    tokenizer: &mut Tokenizer<S, A>,
+    steps: Vec<Step<A>, A>,
+) -> Result<(), TokenizerError>
+    requires going_on { tokenizer.old.ended ≡ false }
+    requires not_failed { tokenizer.old.failed ≡ false }
+    ensures finishes { OnOk result (FinishesRun S.state S.step S.reply S.finish tokenizer.old
+        (map step_of steps.items) (S.state tokenizer.new.sink)) }
+    ensures stops { IfErr result (λ error. StopsRun S.state S.step S.reply S.faulted S.end_faulted
+        error tokenizer.old (map step_of steps.items) (S.state tokenizer.new.sink)) }
+    ensures not_yet { result ≡ Err TokenizerError.NotYet
+        → MeetsInRun S.state S.step S.reply tokenizer.old (map step_of steps.items) }
+    ensures faults { S.faults tokenizer.new.sink ≡ S.faults tokenizer.old.sink + faults_of result }
+{
+    let mut queue = BufferQueue::new(alloc);
+    for step in steps {
+        hand_in(&mut queue, step)?;
+        feed_once(tokenizer, &mut queue)?;
+    }
+    feed_until_done(tokenizer, &mut queue)?;
+    tokenizer.end()
+}
+
+/// Runs a tokenizer from the start of a stream: each step hands in its text and feeds once; behind
+/// the last one it feeds until nothing waits, and ends. Hands the sink back: it has finished behind
+/// all that the text taken tells, or after a refusal it was told a beginning of that.
+pub fn run_steps<S: TokenSink<Token<A>>, A: Allocator + Copy>(
+    alloc: A,
+    sink: S,
+    opts: TokenizerOpts<A>,
+    steps: Vec<Step<A>, A>,
+) -> (S, Result<(), TokenizerError>)
+    requires { CanStart opts.initial_state }
+    ensures finishes { OnOk result.1 (S.state result.0 ≡ S.finish (stepped S.step (S.state sink)
+        (messages (reading S.step S.reply opts.exact_errors (start_of (options_of opts)) (S.state sink)
+        (run_text S.step S.reply opts.exact_errors (start_of (options_of opts)) (S.state sink) [] [] (map step_of steps.items)))))) }
+    ensures stops { IfErr result.1 (λ error. WholeStops S.step S.faulted S.end_faulted error (S.state sink)
+        (messages (reading S.step S.reply opts.exact_errors (start_of (options_of opts)) (S.state sink)
+        (run_text S.step S.reply opts.exact_errors (start_of (options_of opts)) (S.state sink) [] [] (map step_of steps.items))))
+        (S.state result.0)) }
+    ensures not_yet { result.1 ≡ Err TokenizerError.NotYet
+        → (after S.step S.reply opts.exact_errors (start_of (options_of opts)) (S.state sink)
+        (run_text S.step S.reply opts.exact_errors (start_of (options_of opts)) (S.state sink) [] [] (map step_of steps.items))).opened
+        ≡ NotBuilt }
+    ensures faults { S.faults result.0 ≡ S.faults sink + faults_of result.1 }
+{
+    let mut tokenizer = Tokenizer::new(alloc, sink, opts);
+    let result = take_steps(alloc, &mut tokenizer, steps);
+    (tokenizer.into_sink(), result)
+}

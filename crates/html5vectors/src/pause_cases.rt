@@ -1,0 +1,337 @@
+//! Pauses: where a feed stops, what its queue then holds, and text that is put in front of that.
+use crate::lines::lines_of;
+use crate::memory::is_beginning;
+use crate::refused::drained;
+use crate::running::{cut, options, push_text};
+use crate::sinks::Steering;
+use html5ever::error::TokenizerError;
+use html5ever::tokenizer::laws::closed;
+use html5ever::tokenizer::steps::{Step, feed_until_done, run_steps};
+use html5ever::tokenizer::{Tokenizer, TokenizerResult};
+use html5ever_interface::collect::Collector;
+use markup5ever::buffer_queue::BufferQueue;
+use refusing::Refusing;
+use std::alloc::{AllocError, Allocator, Global};
+use std::process::Abort;
+use std::test::Fail;
+
+// A text that a step hands in: behind what waits, or in front of it.
+#[derive(Clone, Copy, Debug)]
+enum Piece<'a> {
+    Behind(&'a str),
+    InFront(&'a str),
+}
+
+// The steps that hand in the pieces.
+fn steps_of<A: Allocator + Copy>(
+    alloc: A,
+    pieces: &[Piece],
+) -> Result<Vec<Step<A>, A>, AllocError> {
+    let mut steps = Vec::new(alloc);
+    for piece in pieces {
+        let step = match piece {
+            Piece::Behind(text) => Step::Push(String::from_str(alloc, text)?),
+            Piece::InFront(text) => Step::Insert(String::from_str(alloc, text)?),
+        };
+        steps.push(step)?;
+    }
+    Ok(steps)
+}
+
+// A step for each character of a text.
+fn steps_of_characters(alloc: Global, text: &str) -> Result<Vec<Step>, AllocError> {
+    let mut steps = Vec::new(alloc);
+    for c in text.chars() {
+        let mut piece = String::new(alloc);
+        piece.push(c)?;
+        steps.push(Step::Push(piece))?;
+    }
+    Ok(steps)
+}
+
+// The lines that a run of the steps tells.
+fn lines_of_steps(rt: &impl Abort, alloc: Global, steps: Vec<Step>) -> Result<String, AllocError> {
+    let (sink, read) = run_steps(alloc, Steering::new(alloc), options(false, false), steps);
+    assert_eq!(rt; read, Ok(()));
+    assert!(rt; sink.inner.is_finished());
+    lines_of(alloc, sink.inner.entries())
+}
+
+// The lines that a text tells which one call reads whole.
+fn lines_of_whole(rt: &impl Abort, alloc: Global, text: &str) -> Result<String, AllocError> {
+    let text = String::from_str(alloc, text)?;
+    let (sink, read) = closed(alloc, Steering::new(alloc), options(false, false), text);
+    assert_eq!(rt; read, Ok(()));
+    assert!(rt; sink.inner.is_finished());
+    lines_of(alloc, sink.inner.entries())
+}
+
+// Ends the text. Answers the lines that were told.
+fn end_of(
+    rt: &impl Abort,
+    alloc: Global,
+    mut tokenizer: Tokenizer<Steering>,
+) -> Result<String, AllocError> {
+    assert!(rt; !tokenizer.is_ended());
+    assert_eq!(rt; tokenizer.end(), Ok(()));
+    let sink = tokenizer.into_sink();
+    assert!(rt; sink.inner.is_finished());
+    lines_of(alloc, sink.inner.entries())
+}
+
+#[test]
+fn pauses_directly_behind_a_tag(rt: HostRuntime) -> Result<(), Fail> {
+    let alloc = rt.alloc();
+    // A text, and what follows the tag that pauses.
+    let cases = [
+        ("<s>x", "x"),
+        ("<s>\r\nx", "\r\nx"),
+        ("a<S b>\n<s>", "\n<s>"),
+        ("<s>", ""),
+    ];
+    for (text, left) in cases {
+        let opts = options(false, false);
+        let mut tokenizer = Tokenizer::new(alloc, Steering::new(alloc), opts);
+        let mut queue = BufferQueue::new(alloc);
+        push_text(alloc, &mut queue, text)?;
+        let fed = tokenizer.feed(&mut queue);
+        assert_eq!(rt; fed, Ok(TokenizerResult::Script(7)), "{text}");
+        assert!(rt; tokenizer.nothing_pending(), "{text}");
+        assert_eq!(rt; drained(alloc, &mut queue)?.as_str(), left, "{text}");
+        assert!(rt; queue.is_empty(), "{text}");
+    }
+    Ok(())
+}
+
+#[test]
+fn reads_what_is_put_in_front_at_a_pause(rt: HostRuntime) -> Result<(), Fail> {
+    let alloc = rt.alloc();
+    let mut tokenizer = Tokenizer::new(alloc, Steering::new(alloc), options(false, false));
+    let mut queue = BufferQueue::new(alloc);
+    push_text(alloc, &mut queue, "<s>x")?;
+    assert_eq!(rt; tokenizer.feed(&mut queue), Ok(TokenizerResult::Script(7)));
+    let front = String::from_str(alloc, "<b>")?;
+    assert!(rt; queue.push_front(front).is_ok());
+    assert_eq!(rt; feed_until_done(&mut tokenizer, &mut queue), Ok(()));
+    assert!(rt; queue.is_empty());
+    assert_eq!(rt;
+        end_of(&rt, alloc, tokenizer)?.as_str(),
+        "start 1 \"s\"\nstart 1 \"b\"\ntext \"x\"\neof 1"
+    );
+    Ok(())
+}
+
+#[test]
+fn pauses_twice_in_a_text(rt: HostRuntime) -> Result<(), Fail> {
+    let alloc = rt.alloc();
+    let lines = "start 1 \"s\"\nstart 1 \"s\"\ntext \"x\"\neof 1";
+    let mut tokenizer = Tokenizer::new(alloc, Steering::new(alloc), options(false, false));
+    let mut queue = BufferQueue::new(alloc);
+    push_text(alloc, &mut queue, "<s><s>x")?;
+    assert_eq!(rt; tokenizer.feed(&mut queue), Ok(TokenizerResult::Script(7)));
+    assert_eq!(rt; tokenizer.feed(&mut queue), Ok(TokenizerResult::Script(7)));
+    assert_eq!(rt; tokenizer.feed(&mut queue), Ok(TokenizerResult::Done));
+    assert!(rt; queue.is_empty());
+    assert_eq!(rt; end_of(&rt, alloc, tokenizer)?.as_str(), lines);
+    assert_eq!(rt; lines_of_whole(&rt, alloc, "<s><s>x")?.as_str(), lines);
+    Ok(())
+}
+
+#[test]
+fn is_done_where_no_reply_pauses(rt: HostRuntime) -> Result<(), Fail> {
+    let alloc = rt.alloc();
+    let mut tokenizer = Tokenizer::new(alloc, Collector::new(alloc, false), options(false, false));
+    let mut queue = BufferQueue::new(alloc);
+    push_text(alloc, &mut queue, "<a><s>")?;
+    assert_eq!(rt; tokenizer.feed(&mut queue), Ok(TokenizerResult::Done));
+    assert!(rt; queue.is_empty());
+    Ok(())
+}
+
+// The pieces of a run, and the lines that it tells.
+type Run<'a> = (&'a [Piece<'a>], &'a str);
+
+// A CR and a LF are one line break, also where one of them was put in front of what waits.
+const RUNS: [Run<'static>; 5] = [
+    (
+        &[Piece::Behind("<s>x"), Piece::InFront("<b>")],
+        "start 1 \"s\"\nstart 1 \"b\"\ntext \"x\"\neof 1",
+    ),
+    (
+        &[Piece::Behind("<s>\r\nx")],
+        "start 1 \"s\"\ntext \"\\nx\"\neof 2",
+    ),
+    (
+        &[Piece::Behind("<s>\nx"), Piece::InFront("a\r")],
+        "start 1 \"s\"\ntext \"a\\nx\"\neof 2",
+    ),
+    (
+        &[Piece::Behind("a\r"), Piece::InFront("\nb")],
+        "text \"a\\nb\"\neof 2",
+    ),
+    (&[], "eof 1"),
+];
+
+#[test]
+fn tells_what_its_steps_hand_in(rt: HostRuntime) -> Result<(), Fail> {
+    let alloc = rt.alloc();
+    for (pieces, lines) in RUNS {
+        let steps = steps_of(alloc, pieces)?;
+        let told = lines_of_steps(&rt, alloc, steps)?;
+        assert_eq!(rt; told.as_str(), lines, "{pieces:?}");
+    }
+    Ok(())
+}
+
+#[test]
+fn reads_plain_text_behind_a_tag_that_asks_for_it(rt: HostRuntime) -> Result<(), Fail> {
+    let alloc = rt.alloc();
+    let text = "<a><p>&<i>";
+    let lines = "start 1 \"a\"\nstart 1 \"p\"\ntext \"&<i>\"\neof 1";
+    assert_eq!(rt; lines_of_whole(&rt, alloc, text)?.as_str(), lines);
+    for count in 0..=text.len() {
+        let (first, second) = cut(alloc, text, count)?;
+        let pieces = [Piece::Behind(&first), Piece::Behind(&second)];
+        let steps = steps_of(alloc, &pieces)?;
+        let told = lines_of_steps(&rt, alloc, steps)?;
+        assert_eq!(rt; told.as_str(), lines, "cut at {count}");
+    }
+    Ok(())
+}
+
+#[test]
+fn tells_the_same_whole_and_in_characters(rt: HostRuntime) -> Result<(), Fail> {
+    let alloc = rt.alloc();
+    let cases = [
+        ("<s>x", "start 1 \"s\"\ntext \"x\"\neof 1"),
+        ("<s>\r\nx", "start 1 \"s\"\ntext \"\\nx\"\neof 2"),
+        ("<s><s>x", "start 1 \"s\"\nstart 1 \"s\"\ntext \"x\"\neof 1"),
+        (
+            "<a><p>&<i>",
+            "start 1 \"a\"\nstart 1 \"p\"\ntext \"&<i>\"\neof 1",
+        ),
+    ];
+    for (text, lines) in cases {
+        assert_eq!(rt; lines_of_whole(&rt, alloc, text)?.as_str(), lines, "{text}");
+        let steps = steps_of_characters(alloc, text)?;
+        let told = lines_of_steps(&rt, alloc, steps)?;
+        assert_eq!(rt; told.as_str(), lines, "{text}, in characters");
+    }
+    Ok(())
+}
+
+#[test]
+fn reads_plain_text_where_it_is_set(rt: HostRuntime) -> Result<(), Fail> {
+    let alloc = rt.alloc();
+    let mut tokenizer = Tokenizer::new(alloc, Collector::new(alloc, false), options(false, false));
+    let mut queue = BufferQueue::new(alloc);
+    push_text(alloc, &mut queue, "<b>")?;
+    assert_eq!(rt; tokenizer.feed(&mut queue), Ok(TokenizerResult::Done));
+    assert!(rt; tokenizer.nothing_pending());
+    tokenizer.set_plaintext_state();
+    push_text(alloc, &mut queue, "</b>&")?;
+    assert!(rt; !tokenizer.is_ended());
+    assert_eq!(rt; tokenizer.feed(&mut queue), Ok(TokenizerResult::Done));
+    assert_eq!(rt; tokenizer.end(), Ok(()));
+    assert_eq!(rt;
+        lines_of(alloc, tokenizer.sink.entries())?.as_str(),
+        "start 1 \"b\"\ntext \"</b>&\"\neof 1"
+    );
+    Ok(())
+}
+
+#[test]
+fn says_whether_nothing_is_pending(rt: HostRuntime) -> Result<(), Fail> {
+    let alloc = rt.alloc();
+    // A text, whether it is plain, and whether nothing is pending behind it.
+    let cases = [
+        ("", false, true),
+        ("a\r", false, true),
+        ("<", false, false),
+        ("<a", false, false),
+        ("<a>", false, true),
+        ("<", true, true),
+    ];
+    for (text, plain, expected) in cases {
+        let opts = options(false, plain);
+        let mut tokenizer = Tokenizer::new(alloc, Collector::new(alloc, false), opts);
+        let mut queue = BufferQueue::new(alloc);
+        assert!(rt; tokenizer.nothing_pending(), "before {text:?}");
+        push_text(alloc, &mut queue, text)?;
+        assert_eq!(rt;
+            tokenizer.feed(&mut queue),
+            Ok(TokenizerResult::Done),
+            "{text:?}"
+        );
+        assert_eq!(rt; tokenizer.nothing_pending(), expected, "{text:?}");
+        assert_eq!(rt; tokenizer.end(), Ok(()), "{text:?}");
+        assert!(rt; !tokenizer.nothing_pending(), "behind the end of {text:?}");
+    }
+    Ok(())
+}
+
+#[test]
+fn something_is_pending_behind_a_refusal(rt: HostRuntime) -> Result<(), Fail> {
+    let alloc = rt.alloc();
+    let mut tokenizer = Tokenizer::new(alloc, Collector::new(alloc, false), options(false, false));
+    let mut queue = BufferQueue::new(alloc);
+    push_text(alloc, &mut queue, "a&")?;
+    assert_eq!(rt; tokenizer.feed(&mut queue), Err(TokenizerError::NotYet));
+    assert!(rt; !tokenizer.nothing_pending());
+    Ok(())
+}
+
+// Runs the pieces on a heap. Answers what was told, and why a call was refused; `None` where a piece
+// itself could not be made.
+fn told_on(
+    ample: Global,
+    heap: &Refusing<Global>,
+    pieces: &[Piece],
+) -> Result<Option<(String, Option<TokenizerError>)>, AllocError> {
+    let Ok(steps) = steps_of(heap, pieces) else {
+        return Ok(None);
+    };
+    let (sink, read) = run_steps(heap, Steering::new(heap), options(false, false), steps);
+    Ok(Some((lines_of(ample, sink.inner.entries())?, read.err())))
+}
+
+// Refuses each request of a run in turn, until none is left. Answers how many it refused.
+fn refusals_of(
+    rt: &impl Abort,
+    alloc: Global,
+    pieces: &[Piece],
+    lines: &str,
+) -> Result<u64, AllocError> {
+    let mut refusals = 0u64;
+    for admitted in 0..1000u64 {
+        let heap = Refusing::new(alloc, admitted);
+        let Some((told, refused)) = told_on(alloc, &heap, pieces)? else {
+            continue;
+        };
+        assert_eq!(rt; refused.is_some(), heap.has_refused(), "after {admitted}");
+        assert!(rt;
+            is_beginning(alloc, &told, lines)?,
+            "after {admitted}: {told}"
+        );
+        let Some(error) = refused else {
+            assert_eq!(rt; told.as_str(), lines);
+            return Ok(refusals);
+        };
+        let wants_memory = matches!(error, TokenizerError::Memory | TokenizerError::Sink);
+        assert!(rt; wants_memory, "after {admitted}: {error:?}");
+        refusals = refusals.wrapping_add(1);
+    }
+    Ok(0)
+}
+
+#[test]
+fn a_refused_request_leaves_a_beginning_of_a_run(rt: HostRuntime) -> Result<(), Fail> {
+    let alloc = rt.alloc();
+    let (pieces, lines) = RUNS[0];
+    let refusals = refusals_of(&rt, alloc, pieces, lines)?;
+    assert!(rt; refusals > 3);
+    // A text in front that is longer than what was read of the first text needs room.
+    let longer = [Piece::Behind("<s>x"), Piece::InFront("<b    >")];
+    assert!(rt; refusals_of(&rt, alloc, &longer, lines)? > refusals);
+    Ok(())
+}
