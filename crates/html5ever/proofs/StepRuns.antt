@@ -12,7 +12,8 @@ use Rattle.html5grammar.specs.Start.Open.{NotBuilt}
 use Rattle.html5ever.specs.Feed.{Feed, feed, told_beyond, IsEndOf}
 use Rattle.html5ever.specs.RunSteps.StepOf.{AtBack}
 use Rattle.html5ever.proofs.Pauses.{feed-parts}
-use Rattle.html5ever.specs.RunSteps.{StepOf, waiting_with, run_text, FinishesRun, StopsRun, MeetsInRun}
+use Rattle.html5ever.specs.RunSteps.{StepOf, waiting_with, run_text, FinishesRun, StopsRun, IsBuiltInRun, MeetsInRun}
+use Rattle.html5ever.specs.Steps.{IsBuilt}
 use Rattle.html5ever.specs.Telling.{Stops}
 use Rattle.html5ever.specs.Tokenizer.{Tokenizing, StandsAt, ReadsOn, FeedsOn, LeavesWaiting, Finishes, FeedMeetsNotBuilt, MeetsNotBuilt, StopsFeeding, StopsReading, StopsEnding, WholeStops}
 use Rattle.html5ever.specs.declared.error.TokenizerError.{TokenizerError}
@@ -123,6 +124,17 @@ module _ {X S H : Type 0} (state : X → S) (step : S → Told → ℕ → S) (r
       finishes K s (taken.front ++ queue) (reads K s taken.front (taken.reads K s [] stands))
       ∙ ap (λ b. finish (stepped step s (messages (reading step reply b K s (taken.front ++ queue))))) (exact ∙ taken.exact)
       ∙ ap (λ l. finish (stepped step s (messages (reading step reply first.exact K s l)))) (sym text)
+
+  -- where all was read, nothing that isn't built yet was met
+  pub HasTaken-built : (first now last : Tokenizing X) (steps : List StepOf) (queue : List ℕ) → HasTaken first now steps [] queue
+      → ReadsOn state step reply now last queue → last.exact ≡ now.exact → IsBuiltInRun state step reply first steps
+  HasTaken-built first now last steps queue taken reads exact K s stands =
+      let text : run_text step reply first.exact K s [] [] steps ≡ taken.front ++ queue =
+      taken.runs K s stands ∙ run_text-last step reply first.exact K s taken.front queue in
+      let standing : StandsAt state step reply last K s (taken.front ++ queue) = reads K s taken.front (taken.reads K s [] stands) in
+      subst (λ l. IsBuilt (after step reply first.exact K s l).opened) (sym text)
+      (subst (λ b. IsBuilt (after step reply b K s (taken.front ++ queue)).opened) (exact ∙ taken.exact)
+      (subst (λ (P : Start). IsBuilt P.opened) standing.position standing.built))
 
   -- what isn't built yet, met in what the run takes next
   meets-within : (first now : Tokenizing X) (steps rest : List StepOf) (queue fed more : List ℕ) → (taken : HasTaken first now steps rest queue)

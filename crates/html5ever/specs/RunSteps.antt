@@ -8,6 +8,7 @@ use Rattle.html5grammar.specs.Reading.{reading, messages, after}
 use Rattle.html5grammar.specs.Start.{Start}
 use Rattle.html5grammar.specs.Start.Open.{NotBuilt}
 use Rattle.html5ever.specs.Feed.{Feed, feed}
+use Rattle.html5ever.specs.Steps.{IsBuilt}
 use Rattle.html5ever.specs.Tokenizer.{Tokenizing, StandsAt, WholeStops}
 use Rattle.html5ever.specs.declared.error.TokenizerError.{TokenizerError}
 use Rattle.html5ever.specs.declared.tokenizer.steps.Step.{Step}
@@ -54,3 +55,9 @@ module _ {X S H : Type 0} (state : X → S) (step : S → Told → ℕ → S) (r
   MeetsInRun old steps =
       (K : Start) (s : S) → StandsAt state step reply old K s []
       → (after step reply old.exact K s (run_text step reply old.exact K s [] [] steps)).opened ≡ NotBuilt
+
+  -- from the start of a text, what the steps make the tokenizer take meets nothing that isn't built yet
+  abbrev pub IsBuiltInRun : Tokenizing X → List StepOf → Type 0
+  IsBuiltInRun old steps =
+      (K : Start) (s : S) → StandsAt state step reply old K s []
+      → IsBuilt (after step reply old.exact K s (run_text step reply old.exact K s [] [] steps)).opened

@@ -79,6 +79,11 @@ module _ {X S H : Type 0} (state : X → S) (step : S → Told → ℕ → S) (r
   MeetsNotBuilt old more =
       (K : Start) (s : S) (text : List ℕ) → StandsAt old K s text → (after step reply old.exact K s (text ++ more)).opened ≡ NotBuilt
 
+  -- from wherever the tokenizer stood, the text meets in `more` nothing that isn't built yet
+  abbrev pub IsBuiltBehind : Tokenizing X → List ℕ → Type 0
+  IsBuiltBehind old more =
+      (K : Start) (s : S) (text : List ℕ) → StandsAt old K s text → IsBuilt (after step reply old.exact K s (text ++ more)).opened
+
 -- what a refused end leaves of the messages that it tells: the sink may also fault at its own end
 abbrev pub EndStops : {S : Type 0} → (S → Told → ℕ → S) → (S → Told → ℕ → S) → (S → S) → TokenizerError → S → List Message → S → Type 0
 EndStops step faulted end_faulted Memory s M t = StopsWithin step faulted s M t
@@ -107,10 +112,8 @@ module _ {X S H : Type 0} (state : X → S) (step : S → Told → ℕ → S) (r
 
 -- what a refusal within the reading of a whole text leaves of its messages: all was told where it is what isn't built yet
 abbrev pub WholeStops : {S : Type 0} → (S → Told → ℕ → S) → (S → Told → ℕ → S) → (S → S) → TokenizerError → S → List Message → S → Type 0
-WholeStops step faulted end_faulted Memory s M t = StopsWithin step faulted s M t
-WholeStops step faulted end_faulted Sink s M t = FaultsWithin step faulted s M t ⊎ (t ≡ end_faulted (stepped step s M))
-WholeStops step faulted end_faulted Failed s M t = ⊥
 WholeStops step faulted end_faulted NotYet s M t = t ≡ stepped step s M
+WholeStops step faulted end_faulted other s M t = EndStops step faulted end_faulted other s M t
 
 module _ {X S H : Type 0} (state : X → S) (step : S → Told → ℕ → S) (reply : S → Told → ℕ → Reply H) where
   -- from wherever the tokenizer stood, the reading of what was taken and `more` was told, and then the sink finished

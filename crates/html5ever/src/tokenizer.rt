@@ -24,6 +24,7 @@ pub mod laws;
 pub mod states;
 pub mod steps;
 
+pub use crate::tokenizer::steps::{Step, feed_until_done, run_steps};
 pub use html5ever_interface::interface::sink::TokenSink;
 pub use html5ever_interface::interface::token::TagKind::{EndTag, StartTag};
 pub use html5ever_interface::interface::token::Token::{

@@ -9,11 +9,12 @@ ghost use Rattle.html5grammar.specs.Start.{Start};
 
 use html5ever_interface::interface::sink::TokenSink;
 use html5ever_interface::interface::token::Token;
+use std::alloc::Allocator;
 
 /// Forgetting: what a text tells is what its first part tells, then what its rest tells from the
 /// start behind that part, in the state of the sink that the first part leaves. So a reader may
 /// forget all but that start, wherever a text is cut.
-pub fn forgetting<S: TokenSink<Token>>()
+pub fn forgetting<S: TokenSink<Token<A>>, A: Allocator>()
     ensures told { (exact : Bool) (K : Start) (s : S.State) (text rest : List ℕ) →
         messages (told S.step S.reply exact K s (text ++ rest))
         ≡ messages (told S.step S.reply exact K s text)

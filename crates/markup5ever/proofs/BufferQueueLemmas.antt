@@ -1,4 +1,6 @@
-use Rattle.std.proofs.Common.{◌≡◌, ◌↔◌, ℕ, ◌<◌, ◌≤◌, List, [], ◌∷◌, ◌++◌, length, get_or, set, drop, String, refl, sym, ap, ◌∙◌, arith, length-append, length-drop}
+use Rattle.std.proofs.Common.{Option, ◌≡◌, ◌↔◌, ℕ, ◌<◌, ◌≤◌, List, [], ◌∷◌, ◌++◌, length, get_or, set, drop, String, refl, sym, ap, ◌∙◌, arith, length-append, length-drop}
+use Rattle.std.specs.List.{slice_get}
+use Rattle.std.specs.Prelude.{IfSome}
 use Rattle.std.specs.Str.{IsUtf8, IsCharBoundary, chars}
 use Rattle.std.specs.String.{string_bytes}
 use Rattle.std.proofs.lemmas.List.{append-nil, append_assoc, drop_all}
@@ -125,6 +127,11 @@ Gains-none queue cs none =
 pub takes_text : (old new unread front rest later : List ℕ) → unread ++ later ≡ old → unread ≡ front ++ rest → new ≡ rest ++ later → old ≡ front ++ new
 takes_text old new unread front rest later was split is =
     sym was ∙ ap (λ cs. cs ++ later) split ∙ append_assoc front rest later ∙ ap (λ cs. front ++ cs) (sym is)
+
+-- the first character, where there is one
+pub first_waits : (front later text : List ℕ) (r : Option ℕ) → r ≡ slice_get front 0 → front ++ later ≡ text → IfSome r (λ c. (rest : List ℕ) × (text ≡ c ∷ rest))
+first_waits [] later text r is was = rw is tt
+first_waits (c ∷ front) later text r is was = rw is (front ++ later, sym was)
 
 -- a run is taken only where something waits, and not where a member of the set is first
 pub TakesRun-some : (set : ℕ) (old new : TextQueue) (run : List ℕ) → TakesRun set old new run → old.text ≡ [] → ⊥

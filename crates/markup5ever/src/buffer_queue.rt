@@ -107,6 +107,15 @@ impl<A: Allocator> BufferQueue<A> {
         }
     }
 
+    /// The first character, which goes on waiting.
+    pub fn peek(&self) -> Option<char>
+        ensures none { IsNone result ↔ (self.now.text ≡ []) }
+        ensures some { IfSome result (λ c. (rest : List ℕ) × (self.now.text ≡ c ∷ rest)) }
+    {
+        let waiting = front(&self.buffers, self.offset);
+        waiting.chars().next()
+    }
+
     /// Takes the first character.
     pub fn next(&mut self) -> Option<char>
         ensures none { IsNone result ↔ (self.old.text ≡ []) }
@@ -299,6 +308,22 @@ mod tests {
             assert_eq!(rt; queue.next(), Some(c));
         }
         assert_eq!(rt; queue.next(), None);
+        Ok(())
+    }
+
+    #[test]
+    fn peek_leaves_the_first_character(rt: HostRuntime) -> Result<(), Fail> {
+        let alloc = rt.alloc();
+        let mut queue = BufferQueue::new(alloc);
+        assert_eq!(rt; queue.peek(), None);
+        assert!(rt; queue.push_back(String::from_str(alloc, "é€")?).is_ok());
+        assert!(rt; queue.push_back(String::from_str(alloc, "b")?).is_ok());
+        for c in ['é', '€', 'b'] {
+            assert_eq!(rt; queue.peek(), Some(c));
+            assert_eq!(rt; queue.peek(), Some(c));
+            assert_eq!(rt; queue.next(), Some(c));
+        }
+        assert_eq!(rt; queue.peek(), None);
         Ok(())
     }
 

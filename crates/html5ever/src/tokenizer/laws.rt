@@ -12,7 +12,8 @@ ghost use Rattle.html5grammar.specs.Start.Open.{NotBuilt};
 ghost use Rattle.html5ever.specs.RunSteps.{run_text};
 ghost use Rattle.html5ever.specs.RunSteps.StepOf.{AtBack};
 ghost use Rattle.html5ever.specs.Telling.{IsRefusal, IsNotFailed, faults_of};
-ghost use Rattle.html5ever.specs.Tokenizer.{CanStart, MeetsNotBuilt, ReadsWhole, StopsWhole, WholeStops};
+ghost use Rattle.html5ever.specs.Steps.{IsBuilt};
+ghost use Rattle.html5ever.specs.Tokenizer.{CanStart, IsBuiltBehind, MeetsNotBuilt, ReadsWhole, StopsWhole, WholeStops};
 
 use crate::error::TokenizerError;
 use crate::tokenizer::Tokenizer;
@@ -36,6 +37,7 @@ fn read_whole<S: TokenSink<Token<A>>, A: Allocator + Copy>(
         (chars (string_bytes text)) (S.state tokenizer.new.sink)) }
     ensures stops { IfErr result (λ error. StopsWhole S.state S.step S.reply S.faulted S.end_faulted
         error tokenizer.old (chars (string_bytes text)) (S.state tokenizer.new.sink)) }
+    ensures built { OnOk result (IsBuiltBehind S.state S.step S.reply tokenizer.old (chars (string_bytes text))) }
     ensures not_yet { result ≡ Err TokenizerError.NotYet
         → MeetsNotBuilt S.state S.step S.reply tokenizer.old (chars (string_bytes text)) }
     ensures faults { S.faults tokenizer.new.sink ≡ S.faults tokenizer.old.sink + faults_of result }
@@ -63,6 +65,8 @@ pub fn closed<S: TokenSink<Token<A>>, A: Allocator + Copy>(
     ensures stops { IfErr result.1 (λ error. WholeStops S.step S.faulted S.end_faulted error (S.state sink)
         (messages (reading S.step S.reply opts.exact_errors (start_of (options_of opts)) (S.state sink)
         (chars (string_bytes text)))) (S.state result.0)) }
+    ensures built { OnOk result.1 (IsBuilt (after S.step S.reply opts.exact_errors (start_of (options_of opts))
+        (S.state sink) (chars (string_bytes text))).opened) }
     ensures not_yet { result.1 ≡ Err TokenizerError.NotYet
         → (after S.step S.reply opts.exact_errors (start_of (options_of opts)) (S.state sink)
         (chars (string_bytes text))).opened ≡ NotBuilt }
@@ -93,6 +97,11 @@ pub fn tag<A: Allocator + Copy>(
           finished = true;
           foreign = foreign;
         }) }
+    ensures built { OnOk result (IsBuilt (after collected_step (collected_reply {H = Unit {0}}) opts.exact_errors
+        (start_of (options_of opts)) (none_collected foreign) (chars (string_bytes text))).opened) }
+    ensures not_yet { result ≡ Err TokenizerError.NotYet
+        → (after collected_step (collected_reply {H = Unit {0}}) opts.exact_errors
+        (start_of (options_of opts)) (none_collected foreign) (chars (string_bytes text))).opened ≡ NotBuilt }
     ensures no_fault { IfOk result (λ sink. sink.faults ≡ 0) }
     ensures not_failed { IfErr result IsNotFailed }
     ensures refusals { IfErr result (λ error. (tag : WrittenTag) →
@@ -109,7 +118,7 @@ pub fn tag<A: Allocator + Copy>(
 /// The law of cutting: runs that push the same text in all, however it is cut, take the same text.
 /// So, by the contract of `run_steps`, they leave lawful sinks in equal states, where they begin with
 /// equal options and equal states and both answer `Ok`.
-pub fn cutting<S: TokenSink<Token>>()
+pub fn cutting<S: TokenSink<Token<A>>, A: Allocator>()
     ensures text { (exact : Bool) (K : Start) (s : S.State) (pieces : List (List ℕ)) →
         run_text S.step S.reply exact K s [] [] (map AtBack pieces) ≡ concat pieces }
     ensures states { (exact : Bool) (K : Start) (s : S.State) (pieces others : List (List ℕ)) →

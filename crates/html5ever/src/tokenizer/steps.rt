@@ -1,5 +1,5 @@
 //! Runs of a tokenizer: past its pauses, and by steps that put text at the back or at the front.
-ghost use Rattle.std.specs.Prelude.{◌≡◌, ◌+◌, ◌↔◌, [], true, false, OnOk, IfErr, is_err, map};
+ghost use Rattle.std.specs.Prelude.{◌≡◌, ◌+◌, ◌↔◌, [], true, false, IsOk, OnOk, IfErr, is_err, map};
 ghost use Rattle.html5ever_interface.specs.Options.{options_of};
 ghost use Rattle.html5ever_interface.specs.Sink.{stepped};
 ghost use Rattle.html5grammar.specs.Reading.{reading, messages, after};
@@ -7,7 +7,8 @@ ghost use Rattle.html5grammar.specs.Start.{start_of};
 ghost use Rattle.html5grammar.specs.Start.Open.{NotBuilt};
 ghost use Rattle.html5ever.specs.Feed.{IsEndOf, IsLinear};
 ghost use Rattle.html5ever.specs.Telling.{faults_of};
-ghost use Rattle.html5ever.specs.RunSteps.{step_of, waiting_with, run_text, FinishesRun, StopsRun, MeetsInRun};
+ghost use Rattle.html5ever.specs.RunSteps.{step_of, waiting_with, run_text, FinishesRun, StopsRun, IsBuiltInRun, MeetsInRun};
+ghost use Rattle.html5ever.specs.Steps.{IsBuilt};
 ghost use Rattle.html5ever.specs.Tokenizer.{CanStart, ReadsOn, MeetsNotBuilt, StopsReading, WholeStops};
 ghost use Rattle.html5ever.specs.Tokenizer.{FeedsOn, LeavesWaiting, FeedMeetsNotBuilt, StopsFeeding};
 
@@ -40,6 +41,7 @@ pub fn feed_until_done<S: TokenSink<Token<A>>, A: Allocator + Copy>(
     ensures faults { S.faults tokenizer.new.sink ≡ S.faults tokenizer.old.sink + faults_of result }
     ensures failed { tokenizer.new.failed ≡ is_err result }
     ensures end_of_queue { IsEndOf queue.new.text queue.old.text }
+    ensures empty { queue.old.text ≡ [] → tokenizer.old.failed ≡ false → IsOk result }
 
     // What it keeps.
     ensures linear { IsLinear queue.old queue.new }
@@ -116,6 +118,7 @@ fn take_steps<S: TokenSink<Token<A>>, A: Allocator + Copy>(
         (map step_of steps.items) (S.state tokenizer.new.sink)) }
     ensures stops { IfErr result (λ error. StopsRun S.state S.step S.reply S.faulted S.end_faulted
         error tokenizer.old (map step_of steps.items) (S.state tokenizer.new.sink)) }
+    ensures built { OnOk result (IsBuiltInRun S.state S.step S.reply tokenizer.old (map step_of steps.items)) }
     ensures not_yet { result ≡ Err TokenizerError.NotYet
         → MeetsInRun S.state S.step S.reply tokenizer.old (map step_of steps.items) }
     ensures faults { S.faults tokenizer.new.sink ≡ S.faults tokenizer.old.sink + faults_of result }
@@ -146,6 +149,8 @@ pub fn run_steps<S: TokenSink<Token<A>>, A: Allocator + Copy>(
         (messages (reading S.step S.reply opts.exact_errors (start_of (options_of opts)) (S.state sink)
         (run_text S.step S.reply opts.exact_errors (start_of (options_of opts)) (S.state sink) [] [] (map step_of steps.items))))
         (S.state result.0)) }
+    ensures built { OnOk result.1 (IsBuilt (after S.step S.reply opts.exact_errors (start_of (options_of opts)) (S.state sink)
+        (run_text S.step S.reply opts.exact_errors (start_of (options_of opts)) (S.state sink) [] [] (map step_of steps.items))).opened) }
     ensures not_yet { result.1 ≡ Err TokenizerError.NotYet
         → (after S.step S.reply opts.exact_errors (start_of (options_of opts)) (S.state sink)
         (run_text S.step S.reply opts.exact_errors (start_of (options_of opts)) (S.state sink) [] [] (map step_of steps.items))).opened

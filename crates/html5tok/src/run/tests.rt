@@ -4,8 +4,11 @@ use super::*;
 use crate::device::fakes::{FailingSource, FailingTarget, Refusal};
 use crate::device::{ReadSource, WriteTarget};
 use crate::print::Settings;
+use html5ever::tokenizer::{Tokenizer, TokenizerResult};
 use html5ever_interface::options::TokenizerOpts;
 use html5ever_interface::states::State;
+use html5print::print_sink::PrintSink;
+use markup5ever::buffer_queue::BufferQueue;
 use refusing::Refusing;
 use std::alloc::{AllocError, Global};
 use std::env::FillError;
@@ -209,6 +212,22 @@ fn prints_pauses(rt: HostRuntime) -> Result<(), Fail> {
     for (input, output) in cases {
         prints(&rt, rt.alloc(), &[], input, output)?;
     }
+    Ok(())
+}
+
+#[test]
+fn pauses_for_the_encoding_that_a_tag_names(rt: HostRuntime) -> Result<(), Fail> {
+    let alloc = rt.alloc();
+    let sink = PrintSink::new(alloc, false);
+    let mut tokenizer = Tokenizer::new(alloc, sink, TokenizerOpts::default());
+    let mut queue = BufferQueue::new(alloc);
+    let text = String::from_str(alloc, "<meta charset=utf-8>x")?;
+    let named = String::from_str(alloc, "utf-8")?;
+    assert!(rt; queue.push_back(text).is_ok());
+    let answer = tokenizer.feed(&mut queue);
+    assert_eq!(rt; answer, Ok(TokenizerResult::EncodingIndicator(named)));
+    assert_eq!(rt; queue.next(), Some('x'));
+    assert!(rt; queue.is_empty());
     Ok(())
 }
 

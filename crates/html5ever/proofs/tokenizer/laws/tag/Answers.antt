@@ -7,6 +7,7 @@ use Rattle.html5grammar.specs.Reading.{reading, messages}
 use Rattle.html5grammar.specs.Start.{start_of}
 use Rattle.html5grammar.proofs.OneTagCollected.{collects-tag}
 use Rattle.html5grammar.proofs.OneTagReading.{after-tag}
+use Rattle.html5ever.proofs.QueueReading.{error_is}
 use Rattle.html5ever.proofs.Wholes.{whole-not_failed, whole-refusal}
 use Rattle.html5ever.proofs.tokenizer.laws.tag.Goals as goal
 
@@ -26,3 +27,8 @@ pub returns-in-Err-clause-refusals : goal.returns-in-Err-clause-refusals
 returns-in-Err-clause-refusals g c = λ tag one.
     whole-refusal c.in-Err.error _ (returns-in-Err-clause-not_failed g c) (λ same. c.closed-sink.ensures.not_yet (c.in-Err.is ∙ ap Err same))
     (rw (after-tag collected_step (collected_reply {H = Unit {0}}) c.args.opts.exact_errors (start_of (options_of c.args.opts)) c.new-sink.result.collected (chars (string_bytes c.args.text)) tag (λ t line. refl) one) tt)
+
+pub returns-in-Err-clause-not_yet : goal.returns-in-Err-clause-not_yet
+returns-in-Err-clause-not_yet g c = λ same.
+    let met = c.closed-sink.ensures.not_yet (c.in-Err.is ∙ ap Err (error_is _ refl same)) in
+    rw c.new-sink.ensures.collected at met

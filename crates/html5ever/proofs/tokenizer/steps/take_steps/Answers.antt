@@ -1,7 +1,7 @@
 use Rattle.std.proofs.Common.{refl, ◌∙◌, ap, sym, Err, arith, length}
 use Rattle.std.proofs.lemmas.Result.{err_from_is_err_and, on_ok_weaker, IfErr-weaker}
 use Rattle.html5ever.specs.RunSteps.{step_of}
-use Rattle.html5ever.proofs.StepRuns.{HasTaken-none, HasTaken-more, HasTaken-finishes, HasTaken-memory, HasTaken-stops, HasTaken-drain_stops, HasTaken-end_stops, HasTaken-met, HasTaken-drain_met, HasTaken-end_met, nothing_left}
+use Rattle.html5ever.proofs.StepRuns.{HasTaken-none, HasTaken-more, HasTaken-finishes, HasTaken-memory, HasTaken-stops, HasTaken-drain_stops, HasTaken-end_stops, HasTaken-met, HasTaken-drain_met, HasTaken-end_met, HasTaken-built, nothing_left}
 use Rattle.html5ever.proofs.QueueReading.{error_of, memory≢not_yet}
 use Rattle.html5ever.proofs.tokenizer.steps.take_steps.Goals as goal
 
@@ -74,3 +74,11 @@ returns-clause-not_yet g c = λ same.
     rw (← c.into_iter-step-iterator.ensures.into_iter_gives.0)
     (HasTaken-end_met g.S.TokenSink.state g.S.TokenSink.step g.S.TokenSink.reply g.S.TokenSink.faulted g.S.TokenSink.end_faulted c.end.result _ _ _ _ _ _ same c.end.ensures.stops
     (rw (nothing_left _ (sym c.loop-step.invariant.2 ∙ c.in-None.ensures.steps.0)) at c.loop-step.invariant.0) c.in_ok-feed_until_done.ensures.reads)
+
+pub returns-clause-built : goal.returns-clause-built
+returns-clause-built g c =
+    rw (← c.into_iter-step-iterator.ensures.into_iter_gives.0)
+    (on_ok_weaker c.end.result
+    (λ finishes. HasTaken-built g.S.TokenSink.state g.S.TokenSink.step g.S.TokenSink.reply _ _ _ _ _ (rw (nothing_left _ (sym c.loop-step.invariant.2 ∙ c.in-None.ensures.steps.0)) at c.loop-step.invariant.0)
+    c.in_ok-feed_until_done.ensures.reads c.in_ok-feed_until_done.ensures.exact)
+    c.end.ensures.finishes)
