@@ -18,22 +18,32 @@ import tempfile
 import time
 
 CRATE = pathlib.Path(__file__).resolve().parent.parent / "crates" / "html5tok"
+STATES = ["plaintext", "data"]
 SIZES = [1_000_000, 8_000_000]
 CUTS = [None, 4096, 1]
 WORDS = (
     "the quick brown fox jumps over a lazy dog while many other animals look on and wonder whether it was worth it "
     "café naïve Größe señor Ελλάδα слово 日本語 한국어 עברית 🦊 𝄞 \"quoted\" it's <p> &amp; back\\slash"
 ).split()
+TAGS = "<p> </p> <a href='x'> </a> <br/> <td class=y id=z> </td>".split()
 SEED = 20
 
 
-def write_corpus(path, size):
+def words_of(state):
+    """The words of a corpus: in data no reference, and more tags."""
+    if state == "plaintext":
+        return WORDS
+    return [word for word in WORDS if "&" not in word] + TAGS
+
+
+def write_corpus(path, state, size):
     """Lines of words: some are of several bytes a character, some are in quotes, some lines end with CR LF."""
     chance = random.Random(SEED)
+    words = words_of(state)
     left = size
     with open(path, "wb") as corpus:
         while left > 0:
-            line = " ".join(chance.choices(WORDS, k=chance.randint(3, 15)))
+            line = " ".join(chance.choices(words, k=chance.randint(3, 15)))
             if chance.random() < 0.1:
                 line = "\t" + line
             line += "\r\n" if chance.random() < 0.2 else "\n"
@@ -44,17 +54,17 @@ def write_corpus(path, size):
             left -= len(data)
 
 
-def command(program, cut):
-    words = [str(program), "--state", "plaintext"]
+def command(program, state, cut):
+    words = [str(program), "--state", state]
     if cut is not None:
         words += ["--cut", str(cut)]
     return words
 
 
-def seconds(program, cut, corpus):
+def seconds(program, state, cut, corpus):
     with open(corpus, "rb") as source:
         start = time.perf_counter()
-        subprocess.run(command(program, cut), stdin=source, stdout=subprocess.DEVNULL, check=True)
+        subprocess.run(command(program, state, cut), stdin=source, stdout=subprocess.DEVNULL, check=True)
         return time.perf_counter() - start
 
 
@@ -70,17 +80,17 @@ def high_water(process):
     return 0
 
 
-def peak_and_digest(program, cut, corpus):
+def peak_and_digest(program, state, cut, corpus):
     """The peak of the process, and a digest of what it wrote."""
     peak = 0
     digest = hashlib.sha256()
     with open(corpus, "rb") as source:
-        process = subprocess.Popen(command(program, cut), stdin=source, stdout=subprocess.PIPE, bufsize=0)
+        process = subprocess.Popen(command(program, state, cut), stdin=source, stdout=subprocess.PIPE, bufsize=0)
         while chunk := process.stdout.read(1 << 16):
             digest.update(chunk)
             peak = max(peak, high_water(process))
         if process.wait() != 0:
-            sys.exit(f"{' '.join(command(program, cut))} ended with status {process.returncode}")
+            sys.exit(f"{' '.join(command(program, state, cut))} ended with status {process.returncode}")
     return peak, digest.hexdigest()
 
 
@@ -96,6 +106,26 @@ def build():
     return CRATE / "out" / "html5tok"
 
 
+def measure(program, state, size, folder, runs):
+    """Times one corpus by every cut, and prints a line for each; answers the times."""
+    corpus = pathlib.Path(folder) / f"{state}-{size}.txt"
+    write_corpus(corpus, state, size)
+    times = {}
+    digests = set()
+    for cut in CUTS:
+        times[cut] = min(seconds(program, state, cut, corpus) for _ in range(runs))
+        peak, digest = peak_and_digest(program, state, cut, corpus)
+        digests.add(digest)
+        speed = size / times[cut] / 1e6
+        print(
+            f"{state:>9}  {size // 1_000_000:>3} MB  {cut or 'all':>9}  {times[cut]:>8.3f}  {speed:>7.1f}  {peak / 1e6:>8.1f}",
+            flush=True,
+        )
+    if len(digests) != 1:
+        sys.exit("the outputs differ by the cut")
+    return times
+
+
 def main():
     parser = argparse.ArgumentParser(description="Times html5tok on texts of 1 MB and 8 MB.")
     parser.add_argument("--program", type=pathlib.Path, help="the program to run in place of the proved one")
@@ -103,28 +133,14 @@ def main():
     options = parser.parse_args()
     program = options.program.resolve() if options.program else build()
 
-    times = {}
-    print(f"{'input':>6}  {'pieces of':>9}  {'seconds':>8}  {'MB/s':>7}  {'peak MB':>8}")
-    with tempfile.TemporaryDirectory() as folder:
-        for size in SIZES:
-            corpus = pathlib.Path(folder) / f"{size}.txt"
-            write_corpus(corpus, size)
-            digests = set()
-            for cut in CUTS:
-                best = min(seconds(program, cut, corpus) for _ in range(options.runs))
-                peak, digest = peak_and_digest(program, cut, corpus)
-                digests.add(digest)
-                times[size, cut] = best
-                print(
-                    f"{size // 1_000_000:>3} MB  {cut or 'all':>9}  {best:>8.3f}  {size / best / 1e6:>7.1f}  {peak / 1e6:>8.1f}",
-                    flush=True,
-                )
-            if len(digests) != 1:
-                sys.exit("the outputs differ by the cut")
+    print(f"{'state':>9}  {'input':>6}  {'pieces of':>9}  {'seconds':>8}  {'MB/s':>7}  {'peak MB':>8}")
     small, large = SIZES
-    for cut in CUTS:
-        ratio = times[large, cut] / times[small, cut]
-        print(f"{large // small} times the input, pieces of {cut or 'all'}: {ratio:.1f} times the time")
+    with tempfile.TemporaryDirectory() as folder:
+        for state in STATES:
+            times = {size: measure(program, state, size, folder, options.runs) for size in SIZES}
+            for cut in CUTS:
+                ratio = times[large][cut] / times[small][cut]
+                print(f"{state}, {large // small} times the input, pieces of {cut or 'all'}: {ratio:.1f} times the time")
 
 
 if __name__ == "__main__":
