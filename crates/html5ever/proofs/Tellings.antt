@@ -9,13 +9,13 @@ use Rattle.std.specs.Char.{IsScalar}
 use Rattle.std.specs.Result.{IsErrAnd}
 use Rattle.html5ever_interface.proofs.Steppings.{stepped-append}
 use Rattle.html5ever_interface.specs.Sink.{Message, stepped, on_line}
-use Rattle.html5ever.specs.Steps.{tokens_of, Next, behind, IsBuilt, Leads, Ends}
+use Rattle.html5ever.specs.Steps.{tokens_of, behind, Ends}
 use Rattle.html5ever.specs.Telling.{IsRefusal, messages_of, Stops, Tells}
 use Rattle.html5grammar.specs.ErrorText.{where_true}
 use Rattle.html5grammar.specs.Reading.{Here}
 use Rattle.html5grammar.specs.Start.{Open}
 use Rattle.html5grammar.proofs.Machine.{told_first}
-use Rattle.std.specs.Prelude.{IfErr, Option}
+use Rattle.std.specs.Prelude.{Option}
 use Rattle.html5ever.specs.declared.error.TokenizerError.{TokenizerError}
 use Rattle.html5ever.specs.declared.error.TokenizerError.TheVariants.{Memory, Sink, Failed, NotYet}
 use Rattle.html5ever_interface.specs.declared.interface.token.Token.{Token}
@@ -195,23 +195,6 @@ pub leads_first : {Z : Type 0} → (r : Result (Option (Tag Z)) TokenizerError) 
     → all ≡ told_first before later → Ends r now (behind later) → Ends r now (behind all)
 leads_first r now before all later same leads =
     subst (Ends r now) (sym (ap behind same ∙ behind-told_first before later)) leads
-
--- where a call leads that tells last, and one that is refused
-
-pub leads_told : {T : Type 0} → (r : Result T TokenizerError) (now later : Open) → IfErr r IsRefusal → now ≡ later → IsBuilt later → Leads r now later
-leads_told (Ok x) now later refusal same built = (same, built)
-leads_told (Err Memory) now later refusal same built = tt
-leads_told (Err Sink) now later refusal same built = tt
-leads_told (Err Failed) now later refusal same built = refusal
-leads_told (Err NotYet) now later refusal same built = absurd refusal
-
--- where a call leads that is refused, and ends no tag
-pub ends_refused : {Z : Type 0} → (r : Result (Option (Tag Z)) TokenizerError) (e : TokenizerError) (now : Open) (next : Next)
-    → IsErrAnd r (λ x. x ≡ e) → IsRefusal e → Ends r now next
-ends_refused r Memory now next h refusal = let p = err_from_is_err_and r h in rw (p.1, p.2) tt
-ends_refused r Sink now next h refusal = let p = err_from_is_err_and r h in rw (p.1, p.2) tt
-ends_refused r Failed now next h refusal = absurd refusal
-ends_refused r NotYet now next h refusal = absurd refusal
 
 -- a character is one message
 pub messages_of-char : (c line : ℕ) → IsScalar c

@@ -54,7 +54,7 @@ fn attribute_value_state<S: TokenSink<Token<A>>, A: Allocator + Copy>(
 }
 
 // Reads one character within a tag. No other state is built.
-#[tactic(auto, using(crate::proofs::Tellings::leads_told), unfolding(html5grammar::proofs::Machine::step_at, html5grammar::proofs::Machine::tag_step, crate::specs::Steps::tokens_of, crate::specs::Steps::behind, html5ever_interface::specs::Sink::stepped))]
+#[tactic(auto, unfolding(html5grammar::proofs::Machine::step_at, html5grammar::proofs::Machine::tag_step, crate::specs::Steps::tokens_of, crate::specs::Steps::behind, html5ever_interface::specs::Sink::stepped))]
 fn step_in_tag<S: TokenSink<Token<A>>, A: Allocator + Copy>(
     alloc: A,
     sink: &mut S,
@@ -103,7 +103,7 @@ fn step_in_tag<S: TokenSink<Token<A>>, A: Allocator + Copy>(
 }
 
 /// Reads one character, and tells what it brings.
-#[tactic(auto, using(crate::proofs::Tellings::leads_told), unfolding(html5grammar::proofs::Machine::step_at, crate::specs::Steps::tokens_of, crate::specs::Steps::behind, html5ever_interface::specs::Sink::stepped))]
+#[tactic(auto, unfolding(html5grammar::proofs::Machine::step_at, crate::specs::Steps::tokens_of, crate::specs::Steps::behind, html5ever_interface::specs::Sink::stepped))]
 pub fn step<S: TokenSink<Token<A>>, A: Allocator + Copy>(
     alloc: A,
     sink: &mut S,

@@ -22,7 +22,7 @@ use html5ever_interface::states::State;
 use std::alloc::Allocator;
 
 /// The standard's "tag name state".
-#[tactic(auto, using(crate::proofs::Tellings::leads_told, crate::proofs::Tellings::tells_from_memory), unfolding(html5grammar::proofs::Machine::tag_name_step, html5grammar::specs::Tag::in_tag_name, crate::specs::Steps::tokens_of, crate::specs::Steps::behind, html5ever_interface::specs::Sink::stepped))]
+#[tactic(auto, using(crate::proofs::Tellings::tells_from_memory), unfolding(html5grammar::proofs::Machine::tag_name_step, html5grammar::specs::Tag::in_tag_name, crate::specs::Steps::tokens_of, crate::specs::Steps::behind, html5ever_interface::specs::Sink::stepped))]
 pub fn tag_name_state<S: TokenSink<Token<A>>, A: Allocator + Copy>(
     alloc: A,
     sink: &mut S,
@@ -61,7 +61,7 @@ pub fn tag_name_state<S: TokenSink<Token<A>>, A: Allocator + Copy>(
 }
 
 /// The standard's "before attribute name state".
-#[tactic(auto, using(crate::proofs::Tellings::leads_told, crate::proofs::Tellings::tells_from_memory), unfolding(html5grammar::proofs::Machine::part_step, html5grammar::specs::Tag::place_error, html5grammar::specs::Tag::first_error, crate::specs::Steps::tokens_of, crate::specs::Steps::behind, html5ever_interface::specs::Sink::stepped))]
+#[tactic(auto, using(crate::proofs::Tellings::tells_from_memory), unfolding(html5grammar::proofs::Machine::part_step, html5grammar::specs::Tag::place_error, html5grammar::specs::Tag::first_error, crate::specs::Steps::tokens_of, crate::specs::Steps::behind, html5ever_interface::specs::Sink::stepped))]
 pub fn before_attribute_name_state<S: TokenSink<Token<A>>, A: Allocator + Copy>(
     alloc: A,
     sink: &mut S,
@@ -99,7 +99,7 @@ pub fn before_attribute_name_state<S: TokenSink<Token<A>>, A: Allocator + Copy>(
 }
 
 /// The standard's "attribute name state".
-#[tactic(auto, using(crate::proofs::Tellings::leads_told, crate::proofs::Tellings::tells_from_memory), unfolding(html5grammar::proofs::Machine::attribute_name_step, html5grammar::specs::Tag::in_attribute_name, crate::specs::Steps::tokens_of, crate::specs::Steps::behind, html5ever_interface::specs::Sink::stepped))]
+#[tactic(auto, using(crate::proofs::Tellings::tells_from_memory), unfolding(html5grammar::proofs::Machine::attribute_name_step, html5grammar::specs::Tag::in_attribute_name, crate::specs::Steps::tokens_of, crate::specs::Steps::behind, html5ever_interface::specs::Sink::stepped))]
 pub fn attribute_name_state<S: TokenSink<Token<A>>, A: Allocator + Copy>(
     alloc: A,
     sink: &mut S,
@@ -142,7 +142,7 @@ pub fn attribute_name_state<S: TokenSink<Token<A>>, A: Allocator + Copy>(
 }
 
 /// The standard's "after attribute name state".
-#[tactic(auto, using(crate::proofs::Tellings::leads_told, crate::proofs::Tellings::tells_from_memory), unfolding(html5grammar::proofs::Machine::after_attribute_name_step, html5grammar::proofs::Machine::part_step, html5grammar::specs::Tag::place_error, html5grammar::specs::Tag::first_error, crate::specs::Steps::tokens_of, crate::specs::Steps::behind, html5ever_interface::specs::Sink::stepped))]
+#[tactic(auto, using(crate::proofs::Tellings::tells_from_memory), unfolding(html5grammar::proofs::Machine::after_attribute_name_step, html5grammar::proofs::Machine::part_step, html5grammar::specs::Tag::place_error, html5grammar::specs::Tag::first_error, crate::specs::Steps::tokens_of, crate::specs::Steps::behind, html5ever_interface::specs::Sink::stepped))]
 pub fn after_attribute_name_state<S: TokenSink<Token<A>>, A: Allocator + Copy>(
     alloc: A,
     sink: &mut S,
@@ -232,7 +232,7 @@ fn create_attribute<S: TokenSink<Token<A>>, A: Allocator + Copy>(
 }
 
 /// The standard's "self-closing start tag state".
-#[tactic(auto, using(crate::proofs::Tellings::leads_told, crate::proofs::Tellings::tells_from_memory), unfolding(html5grammar::proofs::Machine::part_step, html5grammar::specs::Tag::place_error, crate::specs::Steps::tokens_of, crate::specs::Steps::behind, html5ever_interface::specs::Sink::stepped))]
+#[tactic(auto, using(crate::proofs::Tellings::tells_from_memory), unfolding(html5grammar::proofs::Machine::part_step, html5grammar::specs::Tag::place_error, crate::specs::Steps::tokens_of, crate::specs::Steps::behind, html5ever_interface::specs::Sink::stepped))]
 pub fn self_closing_start_tag_state<S: TokenSink<Token<A>>, A: Allocator + Copy>(
     alloc: A,
     sink: &mut S,

@@ -79,7 +79,7 @@ pub fn plaintext_state<S: TokenSink<Token<A>>, A: Allocator + Copy>(
 }
 
 /// The standard's "data state".
-#[tactic(auto, using(crate::proofs::Tellings::leads_told), unfolding(html5grammar::proofs::Machine::data_step, crate::specs::Steps::tokens_of, crate::specs::Steps::behind, html5ever_interface::specs::Sink::stepped))]
+#[tactic(auto, unfolding(html5grammar::proofs::Machine::data_step, crate::specs::Steps::tokens_of, crate::specs::Steps::behind, html5ever_interface::specs::Sink::stepped))]
 pub fn data_state<S: TokenSink<Token<A>>, A: Allocator + Copy>(
     alloc: A,
     sink: &mut S,
@@ -190,7 +190,7 @@ pub fn tag_open_state<S: TokenSink<Token<A>>, A: Allocator + Copy>(
 }
 
 /// The standard's "end tag open state".
-#[tactic(auto, using(crate::proofs::Tellings::leads_told), unfolding(html5grammar::proofs::Machine::solidus_step, crate::specs::Steps::tokens_of, crate::specs::Steps::behind, html5ever_interface::specs::Sink::stepped))]
+#[tactic(auto, unfolding(html5grammar::proofs::Machine::solidus_step, crate::specs::Steps::tokens_of, crate::specs::Steps::behind, html5ever_interface::specs::Sink::stepped))]
 pub fn end_tag_open_state<S: TokenSink<Token<A>>, A: Allocator + Copy>(
     alloc: A,
     sink: &mut S,

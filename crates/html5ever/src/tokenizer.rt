@@ -189,7 +189,7 @@ impl<Sink: TokenSink<Token<A>>, A: Allocator + Copy> Tokenizer<Sink, A> {
         self.position.is_clean()
     }
 
-    /// Reads the rest of the stream as plain text.
+    /// Reads the rest of the stream as plain text, where nothing is pending.
     pub fn set_plaintext_state(&mut self)
         requires clean { is_clean self.old.position.opened ≡ true }
         requires not_failed { self.old.failed ≡ false }

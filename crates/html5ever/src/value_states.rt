@@ -22,7 +22,7 @@ use html5ever_interface::states::{AttrValueKind, State};
 use std::alloc::Allocator;
 
 /// The standard's "before attribute value state".
-#[tactic(auto, using(crate::proofs::Tellings::leads_told, crate::proofs::Tellings::tells_from_memory), unfolding(html5grammar::proofs::Machine::before_value_step, crate::specs::Steps::tokens_of, crate::specs::Steps::behind, html5ever_interface::specs::Sink::stepped))]
+#[tactic(auto, using(crate::proofs::Tellings::tells_from_memory), unfolding(html5grammar::proofs::Machine::before_value_step, crate::specs::Steps::tokens_of, crate::specs::Steps::behind, html5ever_interface::specs::Sink::stepped))]
 pub fn before_attribute_value_state<S: TokenSink<Token<A>>, A: Allocator + Copy>(
     alloc: A,
     sink: &mut S,
@@ -85,7 +85,7 @@ fn end_without_value<S: TokenSink<Token<A>>, A: Allocator + Copy>(
 
 /// The standard's "attribute value (double-quoted) state" and its
 /// "attribute value (single-quoted) state".
-#[tactic(auto, using(crate::proofs::Tellings::leads_told, crate::proofs::Tellings::tells_from_memory), unfolding(html5grammar::proofs::Machine::quoted_step, html5grammar::specs::Tag::in_quoted, crate::specs::Steps::tokens_of, crate::specs::Steps::behind, html5ever_interface::specs::Sink::stepped))]
+#[tactic(auto, using(crate::proofs::Tellings::tells_from_memory), unfolding(html5grammar::proofs::Machine::quoted_step, html5grammar::specs::Tag::in_quoted, crate::specs::Steps::tokens_of, crate::specs::Steps::behind, html5ever_interface::specs::Sink::stepped))]
 pub fn attribute_value_quoted_state<S: TokenSink<Token<A>>, A: Allocator + Copy>(
     alloc: A,
     sink: &mut S,
@@ -118,7 +118,7 @@ pub fn attribute_value_quoted_state<S: TokenSink<Token<A>>, A: Allocator + Copy>
 }
 
 /// The standard's "attribute value (unquoted) state".
-#[tactic(auto, using(crate::proofs::Tellings::leads_told, crate::proofs::Tellings::tells_from_memory), unfolding(html5grammar::proofs::Machine::unquoted_step, html5grammar::specs::Tag::in_unquoted, html5grammar::specs::Tag::unquoted_error, crate::specs::Steps::tokens_of, crate::specs::Steps::behind, html5ever_interface::specs::Sink::stepped))]
+#[tactic(auto, using(crate::proofs::Tellings::tells_from_memory), unfolding(html5grammar::proofs::Machine::unquoted_step, html5grammar::specs::Tag::in_unquoted, html5grammar::specs::Tag::unquoted_error, crate::specs::Steps::tokens_of, crate::specs::Steps::behind, html5ever_interface::specs::Sink::stepped))]
 pub fn attribute_value_unquoted_state<S: TokenSink<Token<A>>, A: Allocator + Copy>(
     alloc: A,
     sink: &mut S,
@@ -154,7 +154,7 @@ pub fn attribute_value_unquoted_state<S: TokenSink<Token<A>>, A: Allocator + Cop
 }
 
 /// The standard's "after attribute value (quoted) state".
-#[tactic(auto, using(crate::proofs::Tellings::leads_told, crate::proofs::Tellings::tells_from_memory), unfolding(html5grammar::proofs::Machine::part_step, html5grammar::specs::Tag::place_error, crate::specs::Steps::tokens_of, crate::specs::Steps::behind, html5ever_interface::specs::Sink::stepped))]
+#[tactic(auto, using(crate::proofs::Tellings::tells_from_memory), unfolding(html5grammar::proofs::Machine::part_step, html5grammar::specs::Tag::place_error, crate::specs::Steps::tokens_of, crate::specs::Steps::behind, html5ever_interface::specs::Sink::stepped))]
 pub fn after_attribute_value_quoted_state<S: TokenSink<Token<A>>, A: Allocator + Copy>(
     alloc: A,
     sink: &mut S,
