@@ -13,7 +13,7 @@ use Rattle.html5grammar.specs.ErrorText.{bad_character_error}
 use Rattle.html5grammar.specs.Reading.{Here, open_after_reply, told, messages, after}
 use Rattle.html5grammar.specs.NormalisedText.{normalised, input_after}
 use Rattle.html5grammar.specs.Reading.Here.{Tells, TellsTag, Stops}
-use Rattle.html5grammar.specs.Start.{Input, Start, Open}
+use Rattle.html5grammar.specs.Start.{Input, Start, Mode, Open}
 use Rattle.html5grammar.specs.Start.Mode.{Data}
 use Rattle.html5grammar.specs.Start.Open.{Between, NotBuilt}
 use Rattle.html5grammar.specs.Start.Place.{InName, BeforeAttribute, InAttributeName, AfterAttributeName, BeforeValue, InValue, AfterQuotedValue, AfterSolidus}
@@ -21,17 +21,18 @@ use Rattle.html5grammar.proofs.Going.{Goes, bad_goes_tag, bad_goes_data, bad_goe
 use Rattle.html5grammar.proofs.Machine.{step_at}
 use Rattle.html5grammar.proofs.ReadingLemmas.{messages_here, opened_here, told-none, after-none, told-one, after-one}
 use Rattle.html5ever_interface.proofs.Steppings.{stepped-append}
-use Rattle.html5ever.specs.CurrentTag.{open_of, open_tag, stops_at_bad}
-use Rattle.html5ever.specs.Steps.{tokens_of, Next, behind}
-use Rattle.html5ever.specs.Steps.Next.{Opens, Closes}
-use Rattle.html5ever.specs.declared.current_tag.CurrentTag.{CurrentTag}
-use Rattle.html5ever.specs.declared.error.TokenizerError.{TokenizerError}
-use Rattle.html5ever.specs.declared.error.TokenizerError.TheVariants.{Memory, Sink, Failed, NotYet}
+use Rattle.html5states.specs.CurrentTag.{open_of, open_tag, stops_at_bad}
+use Rattle.html5states.specs.Steps.{tokens_of, Next, behind}
+use Rattle.html5states.specs.Steps.Next.{Opens, Closes}
+use Rattle.html5states.specs.declared.current_tag.CurrentTag.{CurrentTag}
+use Rattle.html5states.specs.declared.opened.Opened.{Opened}
+use Rattle.html5states.specs.declared.error.TokenizerError.{TokenizerError}
+use Rattle.html5states.specs.declared.error.TokenizerError.TheVariants.{Memory, Sink, Failed, NotYet}
 use Rattle.html5ever.specs.Feed.{first_pause}
-use Rattle.html5ever.specs.Steps.{Leads, Ends}
-use Rattle.html5ever.specs.Telling as telling
+use Rattle.html5states.specs.Steps.{Leads, Ends}
+use Rattle.html5states.specs.Telling as telling
 use Rattle.html5ever.proofs.Pauses.{first_pause-none, first_pause-append, first_pause-no_tags, no_tag_messages}
-use Rattle.html5ever.proofs.Tellings.{told_then, told_stop, tells_stop}
+use Rattle.html5states.proofs.Tellings.{told_then, told_stop, tells_stop}
 use Rattle.html5grammar.proofs.NoTags.{NoTags, NoTagsHere, no_tags-append, no_tags-bad, no_tags-step_at}
 use Rattle.html5ever_interface.specs.Token.{is_tag}
 use Rattle.html5ever_interface.specs.Token.Reply.{KeepOn}
@@ -70,8 +71,24 @@ closes-open (Tells told opened) tag later e = cc
 closes-open (TellsTag told ended) tag later e = cc
 closes-open (Stops told) tag later e = cc
 
+-- between tags nothing of a tag is open
+pub between-any_tag : {Z : Type 0} (q : State) (t u : CurrentTag Z) (m : Mode) → open_of q t ≡ Between m → open_of q u ≡ Between m
+between-any_tag state.Data t u m e = e
+between-any_tag state.Plaintext t u m e = e
+between-any_tag state.TagOpen t u m e = e
+between-any_tag state.EndTagOpen t u m e = e
+between-any_tag state.TagName t u m e = cc
+between-any_tag state.BeforeAttributeName t u m e = cc
+between-any_tag state.AttributeName t u m e = cc
+between-any_tag state.AfterAttributeName t u m e = cc
+between-any_tag state.BeforeAttributeValue t u m e = cc
+between-any_tag (state.AttributeValue kind) t u m e = cc
+between-any_tag state.AfterAttributeValueQuoted t u m e = cc
+between-any_tag state.SelfClosingStartTag t u m e = cc
+between-any_tag other t u m e = e
+
 -- a refusal within what a state tells, where a tag may follow
-pub ended_stops : {S T : Type 0} (Z : Type 0) (step faulted : S → Told → ℕ → S) (r : Result T TokenizerError) (e : TokenizerError) (now : Open) (next : Next) (s u : S) (line : ℕ) (tokens : List Told)
+pub ended_stops : {S T : Type 0} (Z : Type 0) (step faulted : S → Told → ℕ → S) (r : Result T TokenizerError) (e : TokenizerError) (now : Opened Z) (next : Next) (s u : S) (line : ℕ) (tokens : List Told)
     → IsErrAnd r (λ x. x ≡ e) → Ends {Z = Z} (Err e) now next → telling.Stops step faulted e s (on_line line tokens) u
     → telling.Tells step faulted r s (on_line line (tokens ++ tag_in next)) u
 ended_stops Z step faulted r Memory now next s u line tokens h ends stop = told_stop step faulted r Memory s u line tokens (tag_in next) h tt stop
@@ -80,7 +97,7 @@ ended_stops Z step faulted r Failed now next s u line tokens h ends stop = absur
 ended_stops Z step faulted r NotYet now next s u line tokens h ends stop =
     rw (ends, append-nil tokens) (tells_stop step faulted r NotYet s u (on_line line tokens) h stop)
 
-pub ended_leads : {S H T : Type 0} (Z : Type 0) (reply : S → Told → ℕ → Reply H) (r : Result T TokenizerError) (e : TokenizerError) (now then_open : Open) (next : Next) (t : S) (line : ℕ)
+pub ended_leads : {S H T : Type 0} (Z : Type 0) (reply : S → Told → ℕ → Reply H) (r : Result T TokenizerError) (e : TokenizerError) (now : Opened Z) (then_open : Open) (next : Next) (t : S) (line : ℕ)
     → IsErrAnd r (λ x. x ≡ e) → Ends {Z = Z} (Err e) now next → Leads r then_open (open_behind reply t line next)
 ended_leads Z reply r Memory now later next t line h ends = let p = err_from_is_err_and r h in rw (p.1, p.2) tt
 ended_leads Z reply r Sink now later next t line h ends = let p = err_from_is_err_and r h in rw (p.1, p.2) tt
@@ -258,7 +275,7 @@ module _ {S H : Type 0} (step : S → Told → ℕ → S) (reply : S → Told �
             ∙ sym (pause-character keeps_on s line d (open_of now tag) (tag_in next))
             ∙ ap (first_pause step reply s) (sym whole-told)
 
-        pub tells-refused : {T : Type 0} (Z : Type 0) (faulted : S → Told → ℕ → S) (r : Result T TokenizerError) (e : TokenizerError) (opened : Open)
+        pub tells-refused : {T : Type 0} (Z : Type 0) (faulted : S → Told → ℕ → S) (r : Result T TokenizerError) (e : TokenizerError) (opened : Opened Z)
             → IsErrAnd r (λ x. x ≡ e) → Ends {Z = Z} (Err e) opened next
             → telling.Stops step faulted e t (on_line line (tokens_of (step_at exact (open_of now tag) d))) u
             → telling.Tells step faulted r s (messages (told step reply exact start s (c ∷ []))) u
@@ -267,7 +284,7 @@ module _ {S H : Type 0} (step : S → Told → ℕ → S) (reply : S → Told �
             (told_then step faulted r s t u line (bad_character_error exact d) (tokens_of (step_at exact (open_of now tag) d) ++ tag_in next) bad_told
             (ended_stops Z step faulted r e opened next t u line (tokens_of (step_at exact (open_of now tag) d)) h ends stop))
 
-      pub leads-refused : {T : Type 0} (Z : Type 0) (r : Result T TokenizerError) (e : TokenizerError) (opened later : Open)
+      pub leads-refused : {T : Type 0} (Z : Type 0) (r : Result T TokenizerError) (e : TokenizerError) (opened : Opened Z) (later : Open)
           → IsErrAnd r (λ x. x ≡ e) → Ends {Z = Z} (Err e) opened next → Leads r later (after step reply exact start s (c ∷ [])).opened
       leads-refused Z r e opened later h ends =
           rw (whole-opened (stepped step s (on_line line here_tokens)) refl)

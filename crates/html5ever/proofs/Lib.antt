@@ -1,4 +1,3 @@
-pub mod Tellings
 pub mod RunLemmas
 pub mod Pauses
 pub mod QueueReading

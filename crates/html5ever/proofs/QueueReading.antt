@@ -1,5 +1,5 @@
 -- A loop that reads the queue: what it has read so far, and what that gives when it goes on, ends or is refused.
-use Rattle.std.proofs.Common.{◌≡◌, ◌≢◌, ◌↔◌, ℕ, Bool, true, false, List, [], ◌∷◌, ◌++◌, refl, ap, sym, ◌∙◌, arith, length, ◌+◌, length-append, Option, None, Some, lit<}
+use Rattle.std.proofs.Common.{◌≡◌, ◌≢◌, ◌↔◌, ℕ, Bool, true, false, List, [], ◌∷◌, ◌++◌, refl, ap, sym, ◌∙◌, arith, length, ◌+◌, length-append, Option, None, Some, lit<, inl, inr, subst, ◌≤◌}
 use Rattle.std.specs.Prelude.{Contains}
 use Rattle.std.specs.Str.{chars}
 use Rattle.std.specs.String.{string_bytes}
@@ -15,8 +15,8 @@ use Rattle.markup5ever.specs.SmallCharSet.{IsMember}
 use Rattle.html5grammar.specs.Start.{Start, Open}
 use Rattle.html5grammar.specs.Start.Mode.{Plain}
 use Rattle.html5grammar.specs.Start.Open.{Between, NotBuilt}
-use Rattle.html5ever.specs.Steps.{Leads}
-use Rattle.html5ever.specs.Telling.{Stops, IsRefusal}
+use Rattle.html5states.specs.Steps.{Leads}
+use Rattle.html5states.specs.Telling.{Stops, IsRefusal}
 use Rattle.html5grammar.specs.NormalisedText.{input_after}
 use Rattle.std.specs.Result.{IsErrAnd}
 use Rattle.std.proofs.Common.{Result, Ok, Err}
@@ -24,14 +24,15 @@ use Rattle.html5ever_interface.specs.Token.{Told, Reply, is_tag}
 use Rattle.html5ever_interface.specs.Token.Reply.{KeepOn}
 use Rattle.std.proofs.lemmas.Bool.{false≢true}
 use Rattle.html5ever.specs.Feed.{Feed, pauses, takes_before, first_pause, feed, IsEndOf}
-use Rattle.html5ever.proofs.Pauses.{first_pause-no_tags, no_tags-told, state_behind-append, pause_here, feed-goes_on, feed-takes, feed-pauses}
+use Rattle.html5ever.specs.Refused.{IsItem, RefusedBehind}
+use Rattle.html5ever.proofs.Pauses.{told_beyond-behind, first_pause-no_tags, no_tags-told, state_behind-append, pause_here, feed-goes_on, feed-takes, feed-pauses}
 use Rattle.markup5ever.specs.declared.buffer_queue.SetResult.{SetResult}
 use Rattle.markup5ever.specs.declared.buffer_queue.SetResult.TheVariants.{FromSet, NotFromSet}
-use Rattle.html5ever.specs.declared.error.TokenizerError.{TokenizerError}
-use Rattle.html5ever.specs.declared.error.TokenizerError.TheVariants.{Memory, Sink, Failed, NotYet}
+use Rattle.html5states.specs.declared.error.TokenizerError.{TokenizerError}
+use Rattle.html5states.specs.declared.error.TokenizerError.TheVariants.{Memory, Sink, Failed, NotYet}
 use Rattle.html5grammar.proofs.ReadingLemmas.{state_behind, told-nil, told-append, after-nil, after-append, told-not_built, after-not_built}
 use Rattle.html5ever_interface.proofs.Steppings.{stepped-append}
-use Rattle.html5ever.proofs.Tellings.{cons≢nil, stops_before, stops_after, Memory-at_once}
+use Rattle.html5states.proofs.Tellings.{cons≢nil, stops_before, stops_after, Memory-at_once}
 
 pub memory≢not_yet : Memory ≡ NotYet → ⊥
 memory≢not_yet e = cc
@@ -72,6 +73,11 @@ nil-from_append (x ∷ xs) ys e = absurd (cons≢nil x (xs ++ ys) e)
 pub item_text-filled : {Z : Type 0} (exact : Bool) (K : Start) (item : SetResult Z) → CanRead exact K item → item_text item ≢ []
 item_text-filled exact K (FromSet c) can = cons≢nil c []
 item_text-filled exact K (NotFromSet run) can = can.filled
+
+-- what was taken at once
+pub item_text-item : {Z : Type 0} (exact : Bool) (K : Start) (item : SetResult Z) → CanRead exact K item → IsItem exact K (item_text item)
+item_text-item exact K (FromSet c) can = inl (omega arith)
+item_text-item exact K (NotFromSet run) can = inr can
 
 -- what nothing pauses in is followed by what it leaves
 takes_before-twice : {H : Type 0} → (front item : List ℕ) (rest : Feed H) → takes_before front (takes_before item rest) ≡ takes_before (front ++ item) rest
@@ -252,6 +258,25 @@ module _ {S H : Type 0} (step : S → Told → ℕ → S) (reply : S → Told �
     HasRead-refused Sink K L now old mid new s t u item read taken is_taken stops leads = HasRead-stops Sink K L old mid new s t u item read taken is_taken tt stops
     HasRead-refused Failed K L now old mid new s t u item read taken is_taken stops leads = stops
     HasRead-refused NotYet K L now old mid new s t u item read taken is_taken stops leads = HasRead-not_built K L old mid new s t u item read taken is_taken stops leads
+
+    -- what is left where an item was refused, and where none was taken for want of memory
+    pub HasRead-leaves : (e : TokenizerError) (K L : Start) (old mid new : TextQueue) (s t u : S) (item : List ℕ)
+        → HasRead K L old mid s t → Takes mid new item → IsItem exact L item
+        → Stops step faulted e t (messages (told step reply exact L t item)) u
+        → RefusedBehind step reply faulted exact e K s [] old.text new.text u
+    HasRead-leaves e K L old mid new s t u item read taken is_item stops = record {
+      front = read.front;
+      item = item;
+      parts = read.takes.text ∙ ap (λ l. read.front ++ l) taken.text;
+      is_item = subst (λ P. IsItem exact P item) read.position is_item;
+      stopped = rw (told_beyond-behind step reply exact K s read.front item, ← read.state, ← read.position) stops;
+    }
+
+    pub HasRead-leaves_all : (K L : Start) (old mid : TextQueue) (s t : S)
+        → HasRead K L old mid s t → RefusedBehind step reply faulted exact Memory K s [] old.text mid.text t
+    HasRead-leaves_all K L old mid s t read =
+        HasRead-leaves Memory K L old mid mid s t t [] read (record { text = refl; handed_in = refl; taken = omega arith }) (inl (omega arith))
+        (Memory-at_once step faulted t _)
 
   not_built-rest : (K L : Start) (old mid new : TextQueue) (s t : S) (item : List ℕ)
       → HasRead K L old mid s t → Takes mid new item → IsTaken L t item new.text → (after step reply exact L t item).opened ≡ NotBuilt

@@ -5,7 +5,7 @@ use Rattle.std.proofs.lemmas.Bool.{ne_eqb}
 use Rattle.std.proofs.lemmas.List.{append_assoc, append-nil}
 use Rattle.std.proofs.lemmas.List.Elements.{All-head, All-tail}
 use Rattle.std.proofs.lemmas.List.Sums.{sum_by-append}
-use Rattle.html5ever_interface.specs.Sink.{Message, stepped}
+use Rattle.html5ever_interface.specs.Sink.{Message, stepped, on_line}
 use Rattle.html5ever_interface.specs.Token.{Told, Reply}
 use Rattle.html5ever_interface.specs.Token.Told.{Text}
 use Rattle.html5grammar.specs.Characters.{null, line_feed, carriage_return}
@@ -73,7 +73,7 @@ unfolding plain_text
 plain_text-ordinary c o = rw (ne_eqb c null o.no_null) refl
 
 abbrev texts : ℕ → List ℕ → List Message
-texts line run = map (λ c. record { token = Text (encode_utf8 c); line = line }) run
+texts line run = on_line line (map (λ c. Text (encode_utf8 c)) run)
 
 module _ {S H : Type 0} (step : S → Told → ℕ → S) (reply : S → Told → ℕ → Reply H) where
   trace-run : (s : S) (line : ℕ) (run : List ℕ) → line < 2 ^ 64 → All IsOrdinary run

@@ -14,14 +14,16 @@ use Rattle.html5grammar.proofs.ReadingLemmas.{told-nil, told-append, after-nil, 
 use Rattle.html5ever_interface.proofs.Steppings.{stepped-append}
 use Rattle.html5grammar.proofs.Traces.{messages-append, messages-map}
 use Rattle.html5ever.specs.Feed.{Feed, pauses, reply_in, told_beyond, told_at_end, feed}
-use Rattle.html5ever.proofs.Pauses.{told_beyond-behind, feed-anew, feed-done, feed-shorter, reply_in-pauses}
+use Rattle.html5ever.specs.Refused.{IsItem, RefusedBehind}
+use Rattle.html5ever.proofs.Pauses.{told_beyond-behind, state_behind-append, feed-anew, feed-done, feed-shorter, reply_in-pauses}
 use Rattle.markup5ever.specs.declared.tokenizer_result.TokenizerResult.{TokenizerResult}
 use Rattle.markup5ever.specs.declared.tokenizer_result.TokenizerResult.TheVariants.{Done, Script, EncodingIndicator}
 use Rattle.std.specs.Prelude.{Result, Ok, Err, OnOk, IfOk, IfErr, is_err, ◌≢◌}
-use Rattle.html5ever.specs.Steps.{IsBuilt}
-use Rattle.html5ever.specs.Telling.{Stops, Tells}
-use Rattle.html5ever.specs.Tokenizer.{Tokenizing, StandsAt, FeedsOn, HandsOn, LeavesWaiting, FeedMeetsNotBuilt, StopsFeeding, EndStops}
-use Rattle.html5ever.specs.declared.error.TokenizerError.{TokenizerError}
+use Rattle.html5states.specs.Steps.{IsBuilt}
+use Rattle.html5states.specs.Telling.{Stops, Tells}
+use Rattle.html5ever.specs.Tokenizer.{Tokenizing, StandsAt, FeedsOn, HandsOn, LeavesWaiting, FeedMeetsNotBuilt, StopsFeeding, LeavesRefused, EndStops}
+use Rattle.html5states.specs.declared.error.TokenizerError.{TokenizerError}
+use Rattle.html5states.specs.declared.error.TokenizerError.TheVariants.{Failed}
 
 -- the line on which the tokenizer stands is the one that the text has reached
 position-line : (I : Input) (X : List ℕ) → (input_after I X).line < 2 ^ 64 → (input_after I X).line ≡ line_after I (normalised I X)
@@ -192,6 +194,30 @@ module _ {X S H : Type 0} (state : X → S) (step : S → Told → ℕ → S) (r
       → IfErr r (λ e. StopsFeeding state step reply faulted e t queue v)
   StopsFeeding-read faulted (Ok x) t queue v tells = tt
   StopsFeeding-read faulted (Err e) t queue v tells = StopsFeeding-stands faulted e t queue v tells
+
+  -- what a refused feed leaves is told by where the tokenizer stands
+  RefusedBehind-stands : (faulted : S → Told → ℕ → S) (e : TokenizerError) (t : Tokenizing X) (queue left : List ℕ) (v : S)
+      → RefusedBehind step reply faulted t.exact e t.position (state t.sink) [] queue left v → LeavesRefused state step reply faulted e t queue left v
+  RefusedBehind-stands faulted e t queue left v r K s text stands =
+      let position : after step reply t.exact t.position (state t.sink) r.front ≡ after step reply t.exact K s (text ++ r.front) =
+      rw (stands.position, stands.told) (sym (after-append step reply t.exact K s text r.front)) in
+      let behind : stepped step (state t.sink) (messages (told step reply t.exact t.position (state t.sink) r.front))
+      ≡ stepped step s (messages (told step reply t.exact K s (text ++ r.front))) =
+      rw (stands.position, stands.told) (sym (state_behind-append step reply t.exact K s text r.front)) in
+      record {
+        front = r.front;
+        item = r.item;
+        parts = r.parts;
+        is_item = subst (λ P. IsItem t.exact P r.item) position r.is_item;
+        stopped = rw (told_beyond-behind step reply t.exact K s (text ++ r.front) r.item, ← behind, ← position)
+            (rw (told_beyond-behind step reply t.exact t.position (state t.sink) r.front r.item) at r.stopped);
+      }
+
+  pub LeavesRefused-read : {T : Type 0} → (faulted : S → Told → ℕ → S) (r : Result T TokenizerError) (t : Tokenizing X) (queue left : List ℕ) (v : S)
+      → IfErr r (λ e. RefusedBehind step reply faulted t.exact e t.position (state t.sink) [] queue left v)
+      → IfErr r (λ e. e ≢ Failed → LeavesRefused state step reply faulted e t queue left v)
+  LeavesRefused-read faulted (Ok x) t queue left v refused = tt
+  LeavesRefused-read faulted (Err e) t queue left v refused = λ other. RefusedBehind-stands faulted e t queue left v refused
 
   -- an answer `Done` leaves nothing, and every other one less than there was
   module _ {T : Type 0} (bytes : T → List ℕ) (exact : Bool) (P : Start) (s : S) (queue left : List ℕ) where

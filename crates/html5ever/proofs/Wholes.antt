@@ -11,13 +11,13 @@ use Rattle.html5grammar.proofs.ReadingLemmas.{told-nil, told-append, told-not_bu
 use Rattle.html5ever.proofs.Draining.{told-beyond}
 use Rattle.html5grammar.proofs.Traces.{messages-append}
 use Rattle.html5ever.specs.Feed.{told_beyond, told_at_end}
-use Rattle.html5ever.specs.Steps.{IsBuilt}
-use Rattle.html5ever.specs.Telling.{Stops, StopsWithin, IsNotFailed, IsRefusal}
+use Rattle.html5states.specs.Steps.{IsBuilt}
+use Rattle.html5states.specs.Telling.{Stops, StopsWithin, IsNotFailed, IsRefusal}
 use Rattle.html5ever.specs.Tokenizer.{Tokenizing, StandsAt, EndStops, WholeStops}
-use Rattle.html5ever.specs.declared.error.TokenizerError.{TokenizerError}
-use Rattle.html5ever.specs.declared.error.TokenizerError.TheVariants.{Memory, Sink, Failed, NotYet}
+use Rattle.html5states.specs.declared.error.TokenizerError.{TokenizerError}
+use Rattle.html5states.specs.declared.error.TokenizerError.TheVariants.{Memory, Sink, Failed, NotYet}
 use Rattle.markup5ever.specs.BufferQueue.{TextQueue, Gains}
-use Rattle.html5ever.proofs.Tellings.{stops_before, stops_after}
+use Rattle.html5states.proofs.Tellings.{stops_before, stops_after}
 use Rattle.std.proofs.Math.Seq.{drop-append_seam}
 use Rattle.std.proofs.lemmas.List.{length-map}
 use Rattle.html5grammar.specs.EndOfInput.{told_at_end_of}

@@ -1,7 +1,5 @@
-pub mod CurrentTag
-pub mod Steps
-pub mod Telling
 pub mod Feed
 pub mod Tokenizer
 pub mod Runs
+pub mod Refused
 pub mod RunSteps

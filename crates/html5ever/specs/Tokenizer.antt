@@ -8,10 +8,11 @@ use Rattle.html5grammar.specs.Reading.{reading, told, messages, after}
 use Rattle.html5grammar.specs.Start.{Start}
 use Rattle.html5grammar.specs.Start.Open.{NotBuilt}
 use Rattle.html5ever.specs.Feed.{told_beyond, told_at_end, feed}
-use Rattle.html5ever.specs.Steps.{IsBuilt}
-use Rattle.html5ever.specs.Telling.{Stops, StopsWithin, FaultsWithin}
-use Rattle.html5ever.specs.declared.error.TokenizerError.{TokenizerError}
-use Rattle.html5ever.specs.declared.error.TokenizerError.TheVariants.{Memory, Sink, Failed, NotYet}
+use Rattle.html5ever.specs.Refused.{RefusedBehind}
+use Rattle.html5states.specs.Steps.{IsBuilt}
+use Rattle.html5states.specs.Telling.{Stops, StopsWithin, FaultsWithin}
+use Rattle.html5states.specs.declared.error.TokenizerError.{TokenizerError}
+use Rattle.html5states.specs.declared.error.TokenizerError.TheVariants.{Memory, Sink, Failed, NotYet}
 
 -- what contracts see of a tokenizer
 pub record Tokenizing (X : Type 0) : Type 0 where
@@ -103,6 +104,12 @@ module _ {X S H : Type 0} (state : X → S) (step : S → Told → ℕ → S) (r
   StopsFeeding e old queue t =
       (K : Start) (s : S) (text : List ℕ) → StandsAt state step reply old K s text
       → Stops step faulted e (state old.sink) (told_beyond step reply old.exact K s text (feed step reply old.exact K s text queue).taken) t
+
+  -- from wherever it stood, a refused feed of the queue's text left that much of it
+  abbrev pub LeavesRefused : TokenizerError → Tokenizing X → List ℕ → List ℕ → S → Type 0
+  LeavesRefused e old queue left t =
+      (K : Start) (s : S) (text : List ℕ) → StandsAt state step reply old K s text
+      → RefusedBehind step reply faulted old.exact e K s text queue left t
 
   -- from wherever it stood, the tokenizer stopped within what the end would have told
   abbrev pub StopsEnding : (S → S) → TokenizerError → Tokenizing X → S → Type 0

@@ -11,23 +11,23 @@ ghost use Rattle.html5grammar.specs.Reading.{told, messages, after, open_after_r
 ghost use Rattle.html5grammar.specs.Start.{start_of, is_clean};
 ghost use Rattle.html5grammar.specs.Start.Mode.{Data, Plain};
 ghost use Rattle.html5grammar.specs.Start.Open.{Between};
-ghost use Rattle.html5ever.specs.CurrentTag.{stops_at_bad};
+ghost use Rattle.html5states.specs.CurrentTag.{stops_at_bad, opened_of};
 ghost use Rattle.html5ever.specs.Feed.{reply_in, first_pause};
-ghost use Rattle.html5ever.specs.Steps.{IsBuilt, Leads};
-ghost use Rattle.html5ever.specs.Telling.{Tells, IsRefusal, faults_of};
+ghost use Rattle.html5grammar.proofs.Machine.{step_at};
+ghost use Rattle.html5states.specs.Steps.{IsBuilt, Leads, Ends, tokens_of, behind};
+ghost use Rattle.html5states.specs.Telling.{Tells, IsRefusal, faults_of};
 ghost use Rattle.html5ever.specs.Tokenizer.{CanStart};
 
-use crate::current_tag::CurrentTag;
-use crate::end_of_input::tell_end_of_input;
-use crate::error::TokenizerError;
 use crate::input::Input;
-use crate::message::{bad_character_message, is_bad};
-use crate::step::step;
-use crate::tell::emit_error;
 use html5ever_interface::interface::sink::TokenSink;
 use html5ever_interface::interface::token::{SinkFault, Tag, TagKind, Token, TokenSinkResult};
 use html5ever_interface::options::TokenizerOpts;
 use html5ever_interface::states::State;
+use html5states::current_tag::CurrentTag;
+use html5states::error::TokenizerError;
+use html5states::message::is_bad;
+use html5states::opened::{Opened, Progress, Step};
+use html5states::teller::Teller;
 use markup5ever::tokenizer_result::TokenizerResult;
 use std::alloc::{Allocator, Global};
 use std::marker::Model;
@@ -35,18 +35,17 @@ use std::marker::Model;
 /// Where a tokenizer stands in its stream: how characters come in, and what is open.
 #[derive(Drop)]
 pub struct Position<A: Allocator = Global> {
-    state: State,
-    tag: CurrentTag<A>,
+    opened: Opened<A>,
     input: Input,
 }
 
 impl<A: Allocator> Model for Position<A> {
     ghost use Rattle.html5grammar.specs.Start.{Start};
-    ghost use Rattle.html5ever.specs.CurrentTag.{open_of};
+    ghost use Rattle.html5states.specs.CurrentTag.{opened_of};
 
     ghost Value = { Start };
 
-    ghost view = { λ p. record { opened = open_of p.state p.tag; input = p.input } };
+    ghost view = { λ p. record { opened = opened_of p.opened; input = p.input } };
 }
 
 impl<A: Allocator + Copy> Position<A> {
@@ -57,8 +56,10 @@ impl<A: Allocator + Copy> Position<A> {
         ensures built { IsBuilt result.opened }
     {
         Position {
-            state: opts.initial_state.unwrap_or(State::Data),
-            tag: CurrentTag::new(alloc, TagKind::StartTag),
+            opened: Opened {
+                state: opts.initial_state.unwrap_or(State::Data),
+                tag: CurrentTag::new(alloc, TagKind::StartTag),
+            },
             input: Input::new(opts.discard_bom),
         }
     }
@@ -85,21 +86,21 @@ impl<A: Allocator + Copy> Position<A> {
         ensures refusal { IfErr result IsRefusal }
         ensures fits { self.now.input.line < 2 ^ 64 }
     {
-        tell_end_of_input(
-            alloc,
+        let line = self.input.line();
+        let mut teller = Teller {
             sink,
+            alloc,
             exact_errors,
-            self.state,
-            &self.tag,
-            self.input.line(),
-        )
+            line,
+        };
+        teller.tell_end_of_input(&self.opened)
     }
 
     /// Whether nothing is open.
     pub fn is_clean(&self) -> bool
         ensures { result ≡ is_clean self.now.opened }
     {
-        matches!(self.state, State::Data | State::Plaintext)
+        matches!(self.opened.state, State::Data | State::Plaintext)
     }
 
     /// Reads plain text from here on.
@@ -107,7 +108,7 @@ impl<A: Allocator + Copy> Position<A> {
         ensures opened { self.new.opened ≡ Between Plain }
         ensures input { self.new.input ≡ self.old.input }
     {
-        self.state = State::Plaintext;
+        self.opened.state = State::Plaintext;
     }
 
     /// Whether plain text goes on, with no first character that may be dropped.
@@ -118,7 +119,7 @@ impl<A: Allocator + Copy> Position<A> {
         ensures found { self.now.opened ≡ Between Plain → self.now.input.after_carriage_return ≡ false
             → self.now.input.drops_byte_order_mark ≡ false → result ≡ true }
     {
-        self.input.is_past_start() && self.state == State::Plaintext
+        self.input.is_past_start() && self.opened.state == State::Plaintext
     }
 }
 
@@ -144,7 +145,6 @@ fn stops_at(exact_errors: bool, state: State, c: char) -> bool
 }
 
 // Reports a bad character, with exact errors.
-#[tactic(auto, using(crate::proofs::Tellings::tells_from_memory), unfolding(html5ever_interface::specs::Sink::stepped))]
 fn report_bad_character<S: TokenSink<Token<A>>, A: Allocator + Copy>(
     alloc: A,
     sink: &mut S,
@@ -157,11 +157,36 @@ fn report_bad_character<S: TokenSink<Token<A>>, A: Allocator + Copy>(
     ensures faults { S.faults sink.new ≡ S.faults sink.old + faults_of result }
     ensures refusal { IfErr result IsRefusal }
 {
-    if !exact_errors || !is_bad(c) {
-        return Ok(());
-    }
-    let message = bad_character_message(alloc, c)?;
-    emit_error(sink, message, line)
+    let mut teller = Teller {
+        sink,
+        alloc,
+        exact_errors,
+        line,
+    };
+    teller.emit_bad_character(c)
+}
+
+// Reads one character in the state that is open.
+fn step<S: TokenSink<Token<A>>, A: Allocator + Copy>(
+    alloc: A,
+    sink: &mut S,
+    exact_errors: bool,
+    opened: &mut Opened<A>,
+    c: char,
+    line: u64,
+) -> Step
+    ensures tells { Tells S.step S.faulted result (S.state sink.old)
+        (on_line line (tokens_of (step_at exact_errors (opened_of opened.old) c))) (S.state sink.new) }
+    ensures leads { Ends result opened.new (behind (step_at exact_errors (opened_of opened.old) c)) }
+    ensures faults { S.faults sink.new ≡ S.faults sink.old + faults_of result }
+{
+    let mut teller = Teller {
+        sink,
+        alloc,
+        exact_errors,
+        line,
+    };
+    teller.step(opened, c)
 }
 
 // Tells the sink a tag, and goes on as it replies.
@@ -219,21 +244,15 @@ pub fn read_character<S: TokenSink<Token<A>>, A: Allocator + Copy>(
         return Ok(TokenizerResult::Done);
     };
     let line = position.input.line();
-    if stops_at(exact_errors, position.state, c) {
+    if stops_at(exact_errors, position.opened.state, c) {
         return Err(TokenizerError::NotYet);
     }
     report_bad_character(alloc, sink, exact_errors, c, line)?;
-    let ended = step(
-        alloc,
-        sink,
-        exact_errors,
-        &mut position.state,
-        &mut position.tag,
-        c,
-        line,
-    )?;
-    match ended {
-        Some(tag) => tell_tag(sink, position, tag, line),
-        None => Ok(TokenizerResult::Done),
+    match step(alloc, sink, exact_errors, &mut position.opened, c, line)? {
+        Progress::Continues => Ok(TokenizerResult::Done),
+        Progress::EndsTag { self_closing } => {
+            let tag = position.opened.tag.end(alloc, self_closing);
+            tell_tag(sink, position, tag, line)
+        }
     }
 }

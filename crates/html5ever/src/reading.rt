@@ -1,20 +1,23 @@
 //! Reading the queue.
-ghost use Rattle.std.specs.Prelude.{◌≡◌, ℕ, ◌+◌, ◌↔◌, ◌∷◌, [], Contains, IsOk, IfOk, IfErr, OnOk, OnErr, length, string_bytes};
+ghost use Rattle.std.specs.Prelude.{◌≡◌, ◌≢◌, ℕ, ◌+◌, ◌↔◌, ◌∷◌, [], Contains, IsOk, IfOk, IfErr, OnOk, OnErr, length, string_bytes};
 ghost use Rattle.html5grammar.specs.Characters.{null, line_feed, carriage_return};
 ghost use Rattle.html5grammar.specs.NormalisedText.{input_after};
 ghost use Rattle.html5grammar.specs.Reading.{told, messages, after};
 ghost use Rattle.html5grammar.specs.Start.Open.{NotBuilt};
 ghost use Rattle.html5ever.specs.Feed.{IsEndOf, reply_in, first_pause, feed};
+ghost use Rattle.html5ever.specs.Refused.{RefusedBehind};
 ghost use Rattle.html5ever.specs.Runs.{TakesItem, CanRead, item_text};
-ghost use Rattle.html5ever.specs.Steps.{IsBuilt, Leads};
-ghost use Rattle.html5ever.specs.Telling.{Tells, IsNotFailed, faults_of};
+ghost use Rattle.html5states.specs.Steps.{IsBuilt, Leads};
+ghost use Rattle.html5ever_interface.specs.Sink.{on_line};
+ghost use Rattle.html5ever_interface.specs.Token.Told.{Text};
+ghost use Rattle.html5states.specs.Telling.{Tells, IsNotFailed, IsRefusal, tokens_in, faults_of};
 ghost use Rattle.markup5ever.specs.SmallCharSet.{IsMember};
 
-use crate::error::TokenizerError;
 use crate::position::{Position, read_character};
-use crate::tell::tell;
 use html5ever_interface::interface::sink::TokenSink;
 use html5ever_interface::interface::token::Token;
+use html5states::error::TokenizerError;
+use html5states::teller::Teller;
 use markup5ever::buffer_queue::{BufferQueue, SetResult};
 use markup5ever::small_char_set::SmallCharSet;
 use markup5ever::tokenizer_result::TokenizerResult;
@@ -45,6 +48,28 @@ fn pop_item<A: Allocator + Copy>(
     queue.pop_except_from(breaks)
 }
 
+// Tells a run of text as one token.
+fn tell_run<S: TokenSink<Token<A>>, A: Allocator + Copy>(
+    alloc: A,
+    sink: &mut S,
+    run: String<A>,
+    line: u64,
+) -> Result<(), TokenizerError>
+    requires { tokens_in (Text (string_bytes run)) ≢ [] }
+    ensures tells { Tells S.step S.faulted result (S.state sink.old)
+        (on_line line (tokens_in (Text (string_bytes run)))) (S.state sink.new) }
+    ensures faults { S.faults sink.new ≡ S.faults sink.old + faults_of result }
+    ensures refusal { IfErr result IsRefusal }
+{
+    let mut teller = Teller {
+        sink,
+        alloc,
+        exact_errors: false,
+        line,
+    };
+    teller.tell(Token::CharacterTokens(run))
+}
+
 // Reads what was taken at once. A run has no tag, so nothing pauses in it.
 fn read_item<S: TokenSink<Token<A>>, A: Allocator + Copy>(
     alloc: A,
@@ -68,7 +93,7 @@ fn read_item<S: TokenSink<Token<A>>, A: Allocator + Copy>(
     match item {
         SetResult::FromSet(c) => read_character(alloc, sink, exact_errors, position, c),
         SetResult::NotFromSet(run) => {
-            tell(sink, Token::CharacterTokens(run), position.line())?;
+            tell_run(alloc, sink, run, position.line())?;
             Ok(TokenizerResult::Done)
         }
     }
@@ -98,6 +123,8 @@ pub fn read_queue<S: TokenSink<Token<A>>, A: Allocator + Copy>(
         → (after S.step S.reply exact_errors position.old (S.state sink.old)
         (feed S.step S.reply exact_errors position.old (S.state sink.old) [] queue.old.text).taken).opened ≡ NotBuilt }
     ensures not_failed { IfErr result IsNotFailed }
+    ensures refused { IfErr result (λ error. RefusedBehind S.step S.reply S.faulted exact_errors error
+        position.old (S.state sink.old) [] queue.old.text queue.new.text (S.state sink.new)) }
     ensures end_of_queue { IsEndOf queue.new.text queue.old.text }
     ensures taken { queue.new.taken + length queue.new.text ≡ queue.old.taken + length queue.old.text }
     ensures handed_in { queue.new.handed_in ≡ queue.old.handed_in }

@@ -8,12 +8,11 @@ ghost use Rattle.html5grammar.specs.Start.{Start, start_of, is_clean};
 ghost use Rattle.html5grammar.specs.Start.Mode.{Plain};
 ghost use Rattle.html5grammar.specs.Start.Open.{Between};
 ghost use Rattle.html5ever.specs.Feed.{reply_in, IsEndOf, IsLinear};
-ghost use Rattle.html5ever.specs.Steps.{IsBuilt};
-ghost use Rattle.html5ever.specs.Telling.{faults_of};
+ghost use Rattle.html5states.specs.Steps.{IsBuilt};
+ghost use Rattle.html5states.specs.Telling.{faults_of};
 ghost use Rattle.html5ever.specs.Tokenizer.{CanStart, StandsAt, FeedsOn, HandsOn, LeavesWaiting, FeedMeetsNotBuilt};
-ghost use Rattle.html5ever.specs.Tokenizer.{StopsFeeding, Finishes, StopsEnding, EndStops};
+ghost use Rattle.html5ever.specs.Tokenizer.{StopsFeeding, LeavesRefused, Finishes, StopsEnding, EndStops};
 
-use crate::error::TokenizerError;
 use crate::position::Position;
 use crate::reading::read_queue;
 use std::alloc::{Allocator, Global};
@@ -25,7 +24,7 @@ pub mod states;
 pub mod steps;
 
 pub use crate::tokenizer::steps::{Step, feed_until_done, run_steps};
-pub use html5ever_interface::interface::sink::TokenSink;
+pub use html5ever_interface::interface::sink::{Says, TokenSink};
 pub use html5ever_interface::interface::token::TagKind::{EndTag, StartTag};
 pub use html5ever_interface::interface::token::Token::{
     CharacterTokens, CommentToken, DoctypeToken, EOFToken, NullCharacterToken, ParseError, TagToken,
@@ -34,6 +33,7 @@ pub use html5ever_interface::interface::token::{
     Doctype, ProcessResult, SinkFault, Tag, TagKind, Token, TokenSinkResult,
 };
 pub use html5ever_interface::options::TokenizerOpts;
+pub use html5states::error::TokenizerError;
 pub use markup5ever::buffer_queue::SetResult::{FromSet, NotFromSet};
 pub use markup5ever::buffer_queue::{BufferQueue, SetResult};
 pub use markup5ever::tokenizer_result::TokenizerResult;
@@ -52,7 +52,7 @@ pub struct Tokenizer<Sink, A: Allocator = Global> {
 
 impl<Sink, A: Allocator> Model for Tokenizer<Sink, A> {
     ghost use Rattle.std.specs.Prelude.{◌≡◌, false};
-    ghost use Rattle.html5ever.specs.Steps.{IsBuilt};
+    ghost use Rattle.html5states.specs.Steps.{IsBuilt};
     ghost use Rattle.html5ever.specs.Tokenizer.{Tokenizing};
 
     ghost Value = { Tokenizing Sink };
@@ -116,6 +116,8 @@ impl<Sink: TokenSink<Token<A>>, A: Allocator + Copy> Tokenizer<Sink, A> {
             → FeedMeetsNotBuilt Sink.state Sink.step Sink.reply self.old queue.old.text }
         ensures stops { IfErr result (λ error. StopsFeeding Sink.state Sink.step Sink.reply Sink.faulted
             error self.old queue.old.text (Sink.state self.new.sink)) }
+        ensures refused { IfErr result (λ error. error ≢ TokenizerError.Failed → LeavesRefused Sink.state Sink.step Sink.reply
+            Sink.faulted error self.old queue.old.text queue.new.text (Sink.state self.new.sink)) }
         ensures faults { Sink.faults self.new.sink ≡ Sink.faults self.old.sink + faults_of result }
         ensures failed { self.new.failed ≡ is_err result }
         ensures end_of_queue { IsEndOf queue.new.text queue.old.text }

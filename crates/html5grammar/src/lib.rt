@@ -1,9 +1,9 @@
 //! The grammar: what a text tells, by slices of the whole text. Its definitions are in specs/; here
-//! stands the law that readers of a text in pieces rest on.
+//! stand the laws that readers of a text in pieces rest on.
 #![tactic(auto)]
 
 ghost use Rattle.std.specs.Prelude.{◌≡◌, ℕ, Bool, List, ◌++◌};
-ghost use Rattle.html5ever_interface.specs.Sink.{stepped};
+ghost use Rattle.html5ever_interface.specs.Sink.{Message, stepped};
 ghost use Rattle.html5grammar.specs.Reading.{told, messages, after};
 ghost use Rattle.html5grammar.specs.Start.{Start};
 
@@ -24,4 +24,11 @@ pub fn forgetting<S: TokenSink<Token<A>>, A: Allocator>()
         after S.step S.reply exact K s (text ++ rest)
         ≡ after S.step S.reply exact (after S.step S.reply exact K s text)
         (stepped S.step s (messages (told S.step S.reply exact K s text))) rest }
+{}
+
+/// What is told of a text is a beginning of what is told of it and more.
+pub fn beginning<S: TokenSink<Token<A>>, A: Allocator>()
+    ensures { (exact : Bool) (K : Start) (s : S.State) (text rest : List ℕ) → (later : List Message)
+        × (messages (told S.step S.reply exact K s (text ++ rest))
+        ≡ messages (told S.step S.reply exact K s text) ++ later) }
 {}

@@ -16,7 +16,7 @@ use Rattle.html5grammar.specs.Start.{Start, Open, start_of}
 use Rattle.html5grammar.specs.Start.Open.{Between, LessThan, LessThanSolidus, InTag, NotBuilt}
 use Rattle.html5grammar.proofs.ReadingLemmas.{reading-events}
 use Rattle.html5grammar.proofs.Traces.{messages-append, messages-map}
-use Rattle.html5ever.specs.Steps.{IsBuilt}
+use Rattle.html5states.specs.Steps.{IsBuilt}
 use Rattle.html5ever.specs.Tokenizer.{Tokenizing, StandsAt}
 use Rattle.html5print.specs.Page.{Page, Printer, page_step, page_reply, blank_page}
 use Rattle.html5print.proofs.Pages.{lines-stepped}

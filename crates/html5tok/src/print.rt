@@ -10,7 +10,7 @@ ghost use Rattle.html5ever.specs.Tokenizer.{CanStart, ReadsOn, MeetsNotBuilt};
 
 use crate::device::{Source, Target, read_to_end, write_all};
 use crate::fault::Fault;
-use html5ever::error::TokenizerError;
+use html5ever::TokenizerError;
 use html5ever::tokenizer::Tokenizer;
 use html5ever::tokenizer::steps::feed_until_done;
 use html5ever_interface::options::TokenizerOpts;

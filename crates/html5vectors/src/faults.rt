@@ -2,7 +2,7 @@
 use crate::refused::{check_refused, drained};
 use crate::running::{options, push_text};
 use crate::sinks::FaultySink;
-use html5ever::error::TokenizerError;
+use html5ever::TokenizerError;
 use html5ever::tokenizer::{Tokenizer, TokenizerResult};
 use markup5ever::buffer_queue::BufferQueue;
 use std::alloc::{AllocError, Global};

@@ -4,7 +4,7 @@ ghost use Rattle.std.specs.Prelude.{◌≡◌, false};
 use crate::lines::lines_of;
 use crate::refused::check_refused;
 use crate::running::{options, push_text};
-use html5ever::error::TokenizerError;
+use html5ever::TokenizerError;
 use html5ever::tokenizer::Tokenizer;
 use html5ever_interface::collect::Collector;
 use markup5ever::buffer_queue::BufferQueue;

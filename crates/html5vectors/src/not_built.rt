@@ -3,7 +3,7 @@ use crate::lines::lines_of;
 use crate::refused::{check_refused, drained};
 use crate::running::{options, push_text};
 use crate::sinks::RawTextSink;
-use html5ever::error::TokenizerError;
+use html5ever::TokenizerError;
 use html5ever::tokenizer::{Tokenizer, TokenizerResult};
 use html5ever_interface::collect::Collector;
 use markup5ever::buffer_queue::BufferQueue;

@@ -4,7 +4,7 @@ use crate::memory::is_beginning;
 use crate::refused::drained;
 use crate::running::{cut, options, push_text};
 use crate::sinks::Steering;
-use html5ever::error::TokenizerError;
+use html5ever::TokenizerError;
 use html5ever::tokenizer::laws::closed;
 use html5ever::tokenizer::steps::{Step, feed_until_done, run_steps};
 use html5ever::tokenizer::{Tokenizer, TokenizerResult};

@@ -1,5 +1,5 @@
 //! What a refused tokenizer does.
-use html5ever::error::TokenizerError;
+use html5ever::TokenizerError;
 use html5ever::tokenizer::Tokenizer;
 use html5ever_interface::interface::sink::TokenSink;
 use html5ever_interface::interface::token::Token;

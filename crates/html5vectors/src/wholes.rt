@@ -1,7 +1,7 @@
 //! Texts that one call reads whole.
 use crate::lines::lines_of;
 use crate::running::options;
-use html5ever::error::TokenizerError;
+use html5ever::TokenizerError;
 use html5ever::tokenizer::laws::{closed, tag};
 use html5ever_interface::collect::Collector;
 use std::test::Fail;

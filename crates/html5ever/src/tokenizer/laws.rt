@@ -11,17 +11,17 @@ ghost use Rattle.html5grammar.specs.Start.{Start, start_of};
 ghost use Rattle.html5grammar.specs.Start.Open.{NotBuilt};
 ghost use Rattle.html5ever.specs.RunSteps.{run_text};
 ghost use Rattle.html5ever.specs.RunSteps.StepOf.{AtBack};
-ghost use Rattle.html5ever.specs.Telling.{IsRefusal, IsNotFailed, faults_of};
-ghost use Rattle.html5ever.specs.Steps.{IsBuilt};
+ghost use Rattle.html5states.specs.Telling.{IsRefusal, IsNotFailed, faults_of};
+ghost use Rattle.html5states.specs.Steps.{IsBuilt};
 ghost use Rattle.html5ever.specs.Tokenizer.{CanStart, IsBuiltBehind, MeetsNotBuilt, ReadsWhole, StopsWhole, WholeStops};
 
-use crate::error::TokenizerError;
 use crate::tokenizer::Tokenizer;
 use crate::tokenizer::steps::feed_until_done;
 use html5ever_interface::collect::Collector;
 use html5ever_interface::interface::sink::TokenSink;
 use html5ever_interface::interface::token::Token;
 use html5ever_interface::options::TokenizerOpts;
+use html5states::error::TokenizerError;
 use markup5ever::buffer_queue::BufferQueue;
 use std::alloc::Allocator;
 

@@ -6,7 +6,7 @@ use Rattle.html5ever.specs.Feed.{pauses}
 use Rattle.markup5ever.specs.BufferQueue.{TextQueue}
 use Rattle.std.specs.String.{string_bytes}
 use Rattle.html5ever.proofs.Pauses.{reply_in-pauses}
-use Rattle.html5ever.proofs.QueueReading.{nil-from_append, HasRead-none, HasRead-more, HasRead-memory, HasRead-refused, HasRead-met, HasFed-all, HasFed-pause, item-taken, end-behind, count-behind, not-empty, none-taken, moved-behind, error_of, no_error}
+use Rattle.html5ever.proofs.QueueReading.{nil-from_append, HasRead-none, HasRead-more, HasRead-memory, HasRead-refused, HasRead-met, HasRead-leaves, HasRead-leaves_all, item_text-item, HasFed-all, HasFed-pause, item-taken, end-behind, count-behind, not-empty, none-taken, moved-behind, error_of, no_error}
 use Rattle.html5ever.proofs.reading.read_queue.Goals as goal
 
 pub loop-item-init : goal.loop-item-init
@@ -43,6 +43,18 @@ returns-in_err-pause-clause-end_of_queue g c =
     let taken = rw c.in-Some.is at c.in_ok-item.ensures.ok in
     end-behind g.S.TokenSink.step g.S.TokenSink.reply c.args.exact_errors _ _ _ _ _ _ _ (item_text c.in-Some.item) c.loop-item.invariant.0 taken.0
 
+pub returns-in_err-item-clause-refused : goal.returns-in_err-item-clause-refused
+returns-in_err-item-clause-refused g c =
+    let p = err_from_is_err_and c.from_residual.result c.from_residual.ensures.1 in
+    rw (p.1, p.2, c.in_err-item.ensures.err) (HasRead-leaves_all g.S.TokenSink.step g.S.TokenSink.reply c.args.exact_errors g.S.TokenSink.faulted _ _ _ _ _ _ c.loop-item.invariant.0)
+
+pub returns-in_err-pause-clause-refused : goal.returns-in_err-pause-clause-refused
+returns-in_err-pause-clause-refused g c =
+    let taken = rw c.in-Some.is at c.in_ok-item.ensures.ok in
+    let p = err_from_is_err_and c.from_residual-in_err-pause.result c.from_residual-in_err-pause.ensures.1 in
+    rw (p.1, p.2) (HasRead-leaves g.S.TokenSink.step g.S.TokenSink.reply c.args.exact_errors g.S.TokenSink.faulted _ _ _ _ _ _ _ _ _ (item_text c.in-Some.item) c.loop-item.invariant.0 taken.0
+    (item_text-item c.args.exact_errors _ c.in-Some.item taken.1) c.in_err-pause.ensures.tells)
+
 pub returns-in_err-pause-clause-empty : goal.returns-in_err-pause-clause-empty
 returns-in_err-pause-clause-empty g c = λ nothing.
     let taken = rw c.in-Some.is at c.in_ok-item.ensures.ok in
@@ -74,6 +86,7 @@ returns-in_default-2 g c =
       left = fed.left;
       not_yet = λ same. absurd (no_error _ _ refl same);
       not_failed = tt;
+      refused = tt;
       end_of_queue = end-behind g.S.TokenSink.step g.S.TokenSink.reply c.args.exact_errors _ _ _ _ _ _ _ (item_text c.in-Some.item) c.loop-item.invariant.0 taken.0;
       taken = count-behind g.S.TokenSink.step g.S.TokenSink.reply c.args.exact_errors _ _ _ _ _ _ _ (item_text c.in-Some.item) c.loop-item.invariant.0 taken.0;
       handed_in = taken.0.handed_in ∙ c.loop-item.invariant.0.takes.handed_in;

@@ -1,7 +1,7 @@
 use Rattle.std.proofs.Common.{◌≡◌, ◌↔◌, ℕ, [], ◌∷◌, length}
 use Rattle.std.specs.Prelude.{Contains}
 use Rattle.html5grammar.specs.Characters.{null, line_feed, carriage_return}
-use Rattle.html5ever.specs.Steps.{IsBuilt}
+use Rattle.html5states.specs.Steps.{IsBuilt}
 use Rattle.html5ever.proofs.QueueReading.{HasRead}
 use Rattle.html5ever.proofs.reading.read_queue.Given as goal
 use Rattle.markup5ever.specs.SmallCharSet.{IsMember}

@@ -1,6 +1,6 @@
 use Rattle.std.proofs.Common.{refl, string_bytes}
 use Rattle.std.proofs.lemmas.Result.{on_ok_weaker, IfOk-weaker}
-use Rattle.html5ever.proofs.Standing.{FeedsOn-read, HandsOn-stands, LeavesWaiting-stands, FeedMeets-stands, StopsFeeding-read, left-done, left-shorter}
+use Rattle.html5ever.proofs.Standing.{FeedsOn-read, HandsOn-stands, LeavesWaiting-stands, FeedMeets-stands, StopsFeeding-read, LeavesRefused-read, left-done, left-shorter}
 use Rattle.html5ever.proofs.tokenizer.Tokenizer.feed.Goals as goal
 
 pub returns-clause-reads : goal.returns-clause-reads
@@ -35,3 +35,8 @@ pub returns-clause-stops : goal.returns-clause-stops
 returns-clause-stops g c =
     rw (← c.self.view_is)
     (StopsFeeding-read g.Sink.TokenSink.state g.Sink.TokenSink.step g.Sink.TokenSink.reply g.Sink.TokenSink.faulted c.read_queue-result.result _ c.args.queue.now.text _ c.read_queue-result.ensures.tells)
+
+pub returns-clause-refused : goal.returns-clause-refused
+returns-clause-refused g c =
+    rw (← c.self.view_is)
+    (LeavesRefused-read g.Sink.TokenSink.state g.Sink.TokenSink.step g.Sink.TokenSink.reply g.Sink.TokenSink.faulted c.read_queue-result.result _ c.args.queue.now.text _ _ c.read_queue-result.ensures.refused)

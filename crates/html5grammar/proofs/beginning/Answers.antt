@@ -1,0 +1,5 @@
+use Rattle.html5grammar.proofs.ReadingLemmas.{told-append}
+use Rattle.html5grammar.proofs.beginning.Goals as goal
+
+pub returns : goal.returns
+returns g c = λ exact K s text rest. (_, told-append g.S.TokenSink.step g.S.TokenSink.reply exact K s text rest)

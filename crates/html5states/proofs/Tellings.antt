@@ -1,0 +1,334 @@
+-- What telling leaves: one token, and one call after another.
+use Rattle.std.proofs.Common.{◌≡◌, ◌≢◌, ℕ, List, [], ◌∷◌, ◌++◌, refl, ap, sym, ◌∙◌, subst, inl, inr, Result, Ok, Err, string_bytes}
+use Rattle.std.specs.Prelude.{◌+◌, map, encode_utf8, encode_utf8_all, Bool, true}
+use Rattle.std.specs.List.{concat}
+use Rattle.std.specs.Str.{chars, IsUtf8}
+use Rattle.std.proofs.Common.{add-zero}
+use Rattle.std.proofs.lemmas.List.{append-nil, append_assoc, map-append}
+use Rattle.std.proofs.lemmas.Result.{err_from_is_err_and}
+use Rattle.std.proofs.lemmas.Str.{encodes-chars, IsUtf8-string_bytes, IsUtf8-encode, chars_past_char, chars-nil}
+use Rattle.std.specs.Char.{IsScalar}
+use Rattle.std.specs.Result.{IsErrAnd}
+use Rattle.html5ever_interface.proofs.Steppings.{stepped-append}
+use Rattle.html5ever_interface.specs.Sink.{Message, stepped, on_line}
+use Rattle.html5states.specs.Steps.{Next, tokens_of, behind, Ends}
+use Rattle.html5states.specs.Telling.{IsRefusal, tokens_in, IsToldAs, IsKept, Stops, Tells, Emits, Reads, faults_of}
+use Rattle.html5grammar.specs.ErrorText.{where_true}
+use Rattle.html5grammar.specs.Reading.{Here}
+use Rattle.html5grammar.specs.Start.{Open}
+use Rattle.html5grammar.proofs.Machine.{told_first}
+use Rattle.html5states.specs.declared.opened.Opened.{Opened}
+use Rattle.html5states.specs.declared.opened.Progress.{Progress}
+use Rattle.html5states.specs.declared.teller.Teller.{Teller}
+use Rattle.html5states.specs.declared.error.TokenizerError.{TokenizerError}
+use Rattle.html5states.specs.declared.error.TokenizerError.TheVariants.{Memory, Sink, Failed, NotYet}
+use Rattle.html5ever_interface.specs.declared.interface.token.Token.{Token}
+use Rattle.html5ever_interface.specs.declared.interface.token.Token.TheVariants.{DoctypeToken, TagToken, CommentToken, CharacterTokens, NullCharacterToken, EOFToken, ParseError}
+use Rattle.html5ever_interface.specs.Token.{Told, told_by}
+use Rattle.html5ever_interface.specs.Token.Told.{Text}
+
+-- the texts of characters, joined
+concat-encoded : (cs : List ℕ) → concat (map encode_utf8 cs) ≡ encode_utf8_all cs
+concat-encoded [] = refl
+concat-encoded (c ∷ cs) = ap (λ l. encode_utf8 c ++ l) (concat-encoded cs)
+
+texts-encoded : (cs : List ℕ) (line : ℕ)
+    → on_line line (map (λ (c : ℕ). Text (encode_utf8 c)) cs) ≡ on_line line (map (λ (text : List ℕ). Text text) (map encode_utf8 cs))
+texts-encoded [] line = refl
+texts-encoded (c ∷ cs) line = ap (λ l. record { token = Text (encode_utf8 c); line = line } ∷ l) (texts-encoded cs line)
+
+encoded≢nil : (cs : List ℕ) → map (λ (c : ℕ). Text (encode_utf8 c)) cs ≢ [] → map encode_utf8 cs ≢ []
+encoded≢nil [] filled = λ h. filled refl
+encoded≢nil (c ∷ cs) filled = λ h. cc
+
+-- a token that is told says what the grammar has for it
+pub says-token : {Z : Type 0} → (token : Token Z) (line : ℕ) → tokens_in (told_by token) ≢ []
+    → IsToldAs (told_by token) line (on_line line (tokens_in (told_by token)))
+says-token (DoctypeToken doctype) line filled = inl refl
+says-token (TagToken tag) line filled = inl refl
+says-token (CommentToken text) line filled = inl refl
+says-token (CharacterTokens text) line filled =
+    inr (
+      map encode_utf8 (chars (string_bytes text)),
+      encoded≢nil (chars (string_bytes text)) filled,
+      texts-encoded (chars (string_bytes text)) line,
+      ap Text (sym (concat-encoded (chars (string_bytes text)) ∙ encodes-chars (string_bytes text) (IsUtf8-string_bytes text))),
+    )
+says-token NullCharacterToken line filled = inl refl
+says-token EOFToken line filled = inl refl
+says-token (ParseError message) line filled = inl refl
+
+-- a text steps as its characters do
+module _ {S : Type 0} (step faulted : S → Told → ℕ → S) where
+  stepped-text : ((s : S) (a b : List ℕ) (line : ℕ) → step (step s (Text a) line) (Text b) line ≡ step s (Text (a ++ b)) line)
+      → ((s : S) (line : ℕ) → step s (Text []) line ≡ s)
+      → (s : S) (cs : List ℕ) (line : ℕ)
+      → step s (Text (encode_utf8_all cs)) line ≡ stepped step s (on_line line (map (λ c. Text (encode_utf8 c)) cs))
+  unfolding stepped
+  stepped-text joins empty s [] line = empty s line
+  stepped-text joins empty s (c ∷ cs) line =
+      sym (joins s (encode_utf8 c) (encode_utf8_all cs) line) ∙ stepped-text joins empty (step s (Text (encode_utf8 c)) line) cs line
+
+  stepped-utf8 : ((s : S) (a b : List ℕ) (line : ℕ) → step (step s (Text a) line) (Text b) line ≡ step s (Text (a ++ b)) line)
+      → ((s : S) (line : ℕ) → step s (Text []) line ≡ s)
+      → (s : S) (text : List ℕ) (line : ℕ) → IsUtf8 text
+      → step s (Text text) line ≡ stepped step s (on_line line (tokens_in (Text text)))
+  stepped-utf8 joins empty s text line utf8 =
+      ap (λ bytes. step s (Text bytes) line) (sym (encodes-chars text utf8)) ∙ stepped-text joins empty s (chars text) line
+
+  stepped-token : {Z : Type 0}
+      → ((s : S) (a b : List ℕ) (line : ℕ) → step (step s (Text a) line) (Text b) line ≡ step s (Text (a ++ b)) line)
+      → ((s : S) (line : ℕ) → step s (Text []) line ≡ s)
+      → (s : S) (token : Token Z) (line : ℕ)
+      → step s (told_by token) line ≡ stepped step s (on_line line (tokens_in (told_by token)))
+  unfolding stepped
+  stepped-token joins empty s (DoctypeToken doctype) line = refl
+  stepped-token joins empty s (TagToken tag) line = refl
+  stepped-token joins empty s (CommentToken text) line = refl
+  stepped-token joins empty s (CharacterTokens text) line =
+      stepped-utf8 joins empty s (string_bytes text) line (IsUtf8-string_bytes text)
+  stepped-token joins empty s NullCharacterToken line = refl
+  stepped-token joins empty s EOFToken line = refl
+  stepped-token joins empty s (ParseError message) line = refl
+
+  -- a token that was told, and one at which the sink faulted
+  pub token-tells : {Z : Type 0}
+      → ((s : S) (a b : List ℕ) (line : ℕ) → step (step s (Text a) line) (Text b) line ≡ step s (Text (a ++ b)) line)
+      → ((s : S) (line : ℕ) → step s (Text []) line ≡ s)
+      → (s t : S) (token : Token Z) (line : ℕ) → t ≡ step s (told_by token) line
+      → Tells step faulted {T = Unit {0}} (Ok tt) s (on_line line (tokens_in (told_by token))) t
+  token-tells joins empty s t token line e = e ∙ stepped-token joins empty s token line
+
+  pub token-faults : {Z : Type 0} → (s t : S) (token : Token Z) (line : ℕ) → tokens_in (told_by token) ≢ [] → t ≡ faulted s (told_by token) line
+      → Stops step faulted Sink s (on_line line (tokens_in (told_by token))) t
+  unfolding stepped
+  token-faults s t token line filled e = record {
+    before = [];
+    token = told_by token;
+    line = line;
+    next = on_line line (tokens_in (told_by token));
+    rest = [];
+    parts = sym (append-nil (on_line line (tokens_in (told_by token))));
+    says = says-token token line filled;
+    state = e;
+  }
+
+  -- a call after messages that were told
+  pub stops_after : (e : TokenizerError) (s t u : S) (M N : List Message) → t ≡ stepped step s M
+      → Stops step faulted e t N u → Stops step faulted e s (M ++ N) u
+  stops_after Memory s t u M N told stop = record {
+    before = M ++ stop.before;
+    rest = stop.rest;
+    parts = rw (append_assoc M stop.before stop.rest, stop.parts) refl;
+    state = stop.state ∙ rw (told, stepped-append step s M stop.before) refl;
+  }
+  stops_after Sink s t u M N told stop = record {
+    before = M ++ stop.before;
+    token = stop.token;
+    line = stop.line;
+    next = stop.next;
+    rest = stop.rest;
+    parts = rw (append_assoc M stop.before (stop.next ++ stop.rest), stop.parts) refl;
+    says = stop.says;
+    state = stop.state ∙ rw (told, stepped-append step s M stop.before) refl;
+  }
+  stops_after Failed s t u M N told stop = stop
+  stops_after NotYet s t u M N told stop = stop ∙ rw (told, stepped-append step s M N) refl
+
+  pub tells_after : {T : Type 0} → (r : Result T TokenizerError) (s t u : S) (M N : List Message) → t ≡ stepped step s M
+      → Tells step faulted r t N u → Tells step faulted r s (M ++ N) u
+  tells_after (Ok x) s t u M N told tells = tells ∙ rw (told, stepped-append step s M N) refl
+  tells_after (Err e) s t u M N told tells = stops_after e s t u M N told tells
+
+  -- a refusal before further messages
+  pub stops_before : (e : TokenizerError) (s t : S) (M N : List Message) → IsRefusal e
+      → Stops step faulted e s M t → Stops step faulted e s (M ++ N) t
+  stops_before Memory s t M N refusal stop = record {
+    before = stop.before;
+    rest = stop.rest ++ N;
+    parts = rw (stop.parts, append_assoc stop.before stop.rest N) refl;
+    state = stop.state;
+  }
+  stops_before Sink s t M N refusal stop = record {
+    before = stop.before;
+    token = stop.token;
+    line = stop.line;
+    next = stop.next;
+    rest = stop.rest ++ N;
+    parts = rw (stop.parts, append_assoc stop.before (stop.next ++ stop.rest) N, append_assoc stop.next stop.rest N) refl;
+    says = stop.says;
+    state = stop.state;
+  }
+  stops_before Failed s t M N refusal stop = stop
+  stops_before NotYet s t M N refusal stop = absurd refusal
+
+  -- a growth that was refused before anything was told
+  pub Memory-at_once : (s : S) (M : List Message) → Stops step faulted Memory s M s
+  unfolding stepped
+  Memory-at_once s M = record { before = []; rest = M; parts = refl; state = refl }
+
+  -- the exit of a `?`: want of memory before anything was told, and a stop of the call before
+  pub tells_from_memory : {T : Type 0} → (r : Result T TokenizerError) (s : S) (M : List Message)
+      → IsErrAnd r (λ e. e ≡ Memory) → Tells step faulted r s M s
+  tells_from_memory r s M h = let p = err_from_is_err_and r h in rw (p.1, p.2) (Memory-at_once s M)
+
+  pub tells_from_stop : {T : Type 0} → (r : Result T TokenizerError) (e : TokenizerError) (s t : S) (M N : List Message)
+      → IsErrAnd r (λ x. x ≡ e) → IsRefusal e → Stops step faulted e s M t → Tells step faulted r s (M ++ N) t
+  tells_from_stop r e s t M N h refusal stop = let p = err_from_is_err_and r h in rw (p.1, p.2) (stops_before e s t M N refusal stop)
+
+  -- tokens on one line, told by two calls: by both, by the first and then a stop of the first, and want of memory between
+
+  pub told_then : {T : Type 0} → (r : Result T TokenizerError) (s t u : S) (line : ℕ) (A B : List Told) → t ≡ stepped step s (on_line line A)
+      → Tells step faulted r t (on_line line B) u → Tells step faulted r s (on_line line (A ++ B)) u
+  told_then r s t u line A B told tells =
+      subst (λ M. Tells step faulted r s M u) (sym (map-append (λ (token : Told). record { token = token; line = line }) A B))
+      (tells_after r s t u (on_line line A) (on_line line B) told tells)
+
+  pub told_stop : {T : Type 0} → (r : Result T TokenizerError) (e : TokenizerError) (s t : S) (line : ℕ) (A B : List Told)
+      → IsErrAnd r (λ x. x ≡ e) → IsRefusal e → Stops step faulted e s (on_line line A) t → Tells step faulted r s (on_line line (A ++ B)) t
+  told_stop r e s t line A B h refusal stop =
+      subst (λ M. Tells step faulted r s M t) (sym (map-append (λ (token : Told). record { token = token; line = line }) A B))
+      (tells_from_stop r e s t (on_line line A) (on_line line B) h refusal stop)
+
+  -- the exit of a `?` behind all that is told
+  pub tells_stop : {T : Type 0} → (r : Result T TokenizerError) (e : TokenizerError) (s t : S) (M : List Message)
+      → IsErrAnd r (λ x. x ≡ e) → Stops step faulted e s M t → Tells step faulted r s M t
+  tells_stop r e s t M h stop = let p = err_from_is_err_and r h in rw (p.1, p.2) stop
+
+  pub tells_memory : {T : Type 0} → (r : Result T TokenizerError) (s t : S) (M : List Message)
+      → IsErrAnd r (λ x. x ≡ Memory) → t ≡ stepped step s M → Tells step faulted r s M t
+  tells_memory r s t M h told =
+      let p = err_from_is_err_and r h in
+      rw (p.1, p.2) (record { before = M; rest = []; parts = sym (append-nil M); state = told })
+
+  -- a step behind what is told first
+  tokens-told_first : (before : List Told) (step : Here Open) → tokens_of (told_first before step) ≡ before ++ tokens_of step
+  unfolding tokens_of
+  tokens-told_first before (Here.Tells told later) = refl
+  tokens-told_first before (Here.TellsTag told tag) = refl
+  tokens-told_first before (Here.Stops told) = refl
+
+  pub first_then : {T : Type 0} → (r : Result T TokenizerError) (s t u : S) (line : ℕ) (before : List Told) (all later : Here Open)
+      → all ≡ told_first before later → t ≡ stepped step s (on_line line before)
+      → Tells step faulted r t (on_line line (tokens_of later)) u → Tells step faulted r s (on_line line (tokens_of all)) u
+  first_then r s t u line before all later same told tells =
+      subst (λ tokens. Tells step faulted r s (on_line line tokens) u) (sym (ap tokens_of same ∙ tokens-told_first before later))
+      (told_then r s t u line before (tokens_of later) told tells)
+
+  pub first_stop : {T : Type 0} → (r : Result T TokenizerError) (e : TokenizerError) (s t : S) (line : ℕ) (before : List Told) (all later : Here Open)
+      → all ≡ told_first before later → IsErrAnd r (λ x. x ≡ e) → IsRefusal e → Stops step faulted e s (on_line line before) t
+      → Tells step faulted r s (on_line line (tokens_of all)) t
+  first_stop r e s t line before all later same h refusal stop =
+      subst (λ tokens. Tells step faulted r s (on_line line tokens) t) (sym (ap tokens_of same ∙ tokens-told_first before later))
+      (told_stop r e s t line before (tokens_of later) h refusal stop)
+
+behind-told_first : (before : List Told) (later : Here Open) → behind (told_first before later) ≡ behind later
+unfolding behind
+behind-told_first before (Here.Tells told later) = refl
+behind-told_first before (Here.TellsTag told tag) = refl
+behind-told_first before (Here.Stops told) = refl
+
+pub leads_first : {Z : Type 0} → (r : Result Progress TokenizerError) (at : Opened Z) (before : List Told) (all later : Here Open)
+    → all ≡ told_first before later → Ends r at (behind later) → Ends r at (behind all)
+leads_first r at before all later same leads =
+    subst (Ends r at) (sym (ap behind same ∙ behind-told_first before later)) leads
+
+-- a character is one token
+pub tokens_in-char : (c : ℕ) → IsScalar c → tokens_in (Text (encode_utf8 c)) ≡ Text (encode_utf8 c) ∷ []
+tokens_in-char c scalar =
+    ap (map (λ (d : ℕ). Text (encode_utf8 d)))
+    (chars_past_char (encode_utf8 c) [] c (IsUtf8-encode c scalar) (sym (append-nil (encode_utf8 c))) ∙ ap (λ cs. c ∷ cs) chars-nil)
+
+pub cons≢nil : {X : Type 0} → (x : X) (xs : List X) → x ∷ xs ≢ []
+cons≢nil x xs = λ h. cc
+
+-- an error that there is
+pub where_true-true : (holds : Bool) (error : Told) → holds ≡ true → where_true holds error ≡ error ∷ []
+where_true-true holds error h = rw h refl
+
+-- a refusal leads nowhere
+refused_leads : {Z : Type 0} (r : Result Progress TokenizerError) (e : TokenizerError) (at : Opened Z) (next : Next)
+    → IsErrAnd r (λ x. x ≡ e) → IsRefusal e → Ends r at next
+refused_leads r Memory at next h refusal = let p = err_from_is_err_and r h in rw (p.1, p.2) tt
+refused_leads r Sink at next h refusal = let p = err_from_is_err_and r h in rw (p.1, p.2) tt
+refused_leads r Failed at next h refusal = absurd refusal
+refused_leads r NotYet at next h refusal = absurd refusal
+
+-- calls of a teller, one behind the other: what it is stays, and a call that tells comes before one that tells or reads
+kept_then : {Q Z : Type 0} {before middle after : Teller Q Z} → IsKept before middle → IsKept middle after → IsKept before after
+kept_then first later = record {
+  sink = later.sink ∙ first.sink;
+  line = later.line ∙ first.line;
+  exact_errors = later.exact_errors ∙ first.exact_errors;
+}
+
+module _ {Q S Z : Type 0} {state : Q → S} {count : Q → ℕ} {step faulted : S → Told → ℕ → S} where
+  pub emits_then : {T U : Type 0} {x : U} {r : Result T TokenizerError} {before middle after : Teller Q Z} {A B all : List Told}
+      → Emits state count step faulted {T = U} (Ok x) before middle A → Emits state count step faulted r middle after B → all ≡ A ++ B
+      → Emits state count step faulted r before after all
+  emits_then {r = r} {before = before} {A = A} {B = B} first later same = record {
+    tells = rw same (told_then step faulted r _ _ _ before.line A B first.tells (rw first.kept.line at later.tells));
+    refusal = later.refusal;
+    faults = later.faults ∙ ap (λ n. n + faults_of r) (first.faults ∙ add-zero _);
+    kept = kept_then first.kept later.kept;
+  }
+
+  pub emits_stop : {T U : Type 0} {e : TokenizerError} {before after : Teller Q Z} {A all : List Told} (r : Result T TokenizerError)
+      → IsErrAnd r (λ x. x ≡ e) → Emits state count step faulted {T = U} (Err e) before after A → (B : List Told) → all ≡ A ++ B
+      → Emits state count step faulted r before after all
+  emits_stop {e = e} {before = before} {A = A} r h first B same =
+      let p = err_from_is_err_and r h in
+      record {
+        tells = rw same (told_stop step faulted r e _ _ before.line A B h first.refusal first.tells);
+        refusal = rw (p.1, p.2) first.refusal;
+        faults = rw (p.1, p.2) first.faults;
+        kept = first.kept;
+      }
+
+  -- a state that is read behind what is told first
+  pub reads_then : {U : Type 0} {x : U} {r : Result Progress TokenizerError} {before middle after : Teller Q Z} {A : List Told} {all later : Here Open} {at : Opened Z}
+      → Emits state count step faulted {T = U} (Ok x) before middle A → Reads state count step faulted r middle after later at → all ≡ told_first A later
+      → Reads state count step faulted r before after all at
+  reads_then {r = r} {before = before} {A = A} {all = all} {later = later} {at = at} first reads same = record {
+    tells = first_then step faulted r _ _ _ before.line A all later same first.tells (rw first.kept.line at reads.tells);
+    leads = leads_first r at A all later same reads.leads;
+    faults = reads.faults ∙ ap (λ n. n + faults_of r) (first.faults ∙ add-zero _);
+    kept = kept_then first.kept reads.kept;
+  }
+
+  pub reads_stop : {U : Type 0} {e : TokenizerError} {before after : Teller Q Z} {A : List Told} {all : Here Open} {at : Opened Z} (r : Result Progress TokenizerError)
+      → IsErrAnd r (λ x. x ≡ e) → Emits state count step faulted {T = U} (Err e) before after A → (later : Here Open) → all ≡ told_first A later
+      → Reads state count step faulted r before after all at
+  reads_stop {e = e} {before = before} {A = A} {all = all} {at = at} r h first later same =
+      let p = err_from_is_err_and r h in
+      record {
+        tells = first_stop step faulted r e _ _ before.line A all later same h first.refusal first.tells;
+        leads = refused_leads r e at (behind all) h first.refusal;
+        faults = rw (p.1, p.2) first.faults;
+        kept = first.kept;
+      }
+
+  -- a token that the sink took, and one at which it faulted
+  pub emits_token : ((s : S) (a b : List ℕ) (line : ℕ) → step (step s (Text a) line) (Text b) line ≡ step s (Text (a ++ b)) line)
+      → ((s : S) (line : ℕ) → step s (Text []) line ≡ s)
+      → {before after : Teller Q Z} (token : Token Z)
+      → state after.sink.now ≡ step (state before.sink.now) (told_by token) before.line
+      → count after.sink.now ≡ count before.sink.now → IsKept before after
+      → Emits state count step faulted {T = Unit {0}} (Ok tt) before after (tokens_in (told_by token))
+  emits_token joins empty token steps count kept = record {
+    tells = token-tells step faulted joins empty _ _ token _ steps;
+    refusal = tt;
+    faults = count ∙ sym (add-zero _);
+    kept = kept;
+  }
+
+  pub emits_fault : {T : Type 0} {before after : Teller Q Z} (token : Token Z) → tokens_in (told_by token) ≢ []
+      → state after.sink.now ≡ faulted (state before.sink.now) (told_by token) before.line
+      → count after.sink.now ≡ count before.sink.now + 1 → IsKept before after
+      → Emits state count step faulted {T = T} (Err Sink) before after (tokens_in (told_by token))
+  emits_fault token filled fault count kept = record {
+    tells = token-faults step faulted _ _ token _ filled fault;
+    refusal = tt;
+    faults = count;
+    kept = kept;
+  }

@@ -1,0 +1,3 @@
+pub mod CurrentTag
+pub mod Steps
+pub mod Telling

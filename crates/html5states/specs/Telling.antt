@@ -1,0 +1,101 @@
+-- How a call that tells its sink some messages may leave it.
+use Rattle.std.specs.Prelude.{◌≡◌, ◌≢◌, ◌⊎◌, ℕ, ◌+◌, List, [], ◌∷◌, ◌++◌, Result, Ok, Err, IfErr, map, encode_utf8}
+use Rattle.std.specs.List.{concat}
+use Rattle.std.specs.Str.{chars}
+use Rattle.html5ever_interface.specs.Sink.{Message, stepped, on_line}
+use Rattle.html5ever_interface.specs.Token.{Told}
+use Rattle.html5ever_interface.specs.Token.Told.{Text}
+use Rattle.html5grammar.specs.Reading.{Here}
+use Rattle.html5grammar.specs.Start.{Open}
+use Rattle.html5states.specs.Steps.{tokens_of, behind, Ends}
+use Rattle.html5states.specs.declared.opened.Opened.{Opened}
+use Rattle.html5states.specs.declared.opened.Progress.{Progress}
+use Rattle.html5states.specs.declared.teller.Teller.{Teller}
+use Rattle.html5states.specs.declared.error.TokenizerError.{TokenizerError}
+use Rattle.html5states.specs.declared.error.TokenizerError.TheVariants.{Memory, Sink, Failed, NotYet}
+
+-- the tokens that the grammar has for one that is told: a text for each character of a text, and else the token itself
+abbrev pub tokens_in : Told → List Told
+tokens_in (Text text) = map (λ c. Text (encode_utf8 c)) (chars text)
+tokens_in told = told ∷ []
+
+-- a token says these messages: it is the one message, or the text that the texts of some messages make on its line
+abbrev pub IsToldAs : Told → ℕ → List Message → Type 0
+IsToldAs token line messages =
+    (messages ≡ record { token = token; line = line } ∷ [])
+    ⊎ ((texts : List (List ℕ)) × (texts ≢ []) × (messages ≡ on_line line (map (λ text. Text text) texts)) × (token ≡ Text (concat texts)))
+
+module _ {S : Type 0} (step faulted : S → Told → ℕ → S) where
+  -- the sink was told a beginning of the messages
+  pub record StopsWithin (s : S) (M : List Message) (t : S) : Type 0 where
+    pub before : List Message
+    pub rest : List Message
+    pub parts : M ≡ before ++ rest
+    pub state : t ≡ stepped step s before
+
+  -- the sink faulted at a token, after a beginning of the messages: the token says the next of them
+  pub record FaultsWithin (s : S) (M : List Message) (t : S) : Type 0 where
+    pub before : List Message
+    pub token : Told
+    pub line : ℕ
+    pub next : List Message
+    pub rest : List Message
+    pub parts : M ≡ before ++ (next ++ rest)
+    pub says : IsToldAs token line next
+    pub state : t ≡ faulted (stepped step s before) token line
+
+  -- what each refusal leaves
+  abbrev pub Stops : TokenizerError → S → List Message → S → Type 0
+  Stops Memory s M t = StopsWithin s M t
+  Stops Sink s M t = FaultsWithin s M t
+  Stops Failed s M t = ⊥
+  -- what is not built yet comes behind the messages
+  Stops NotYet s M t = t ≡ stepped step s M
+
+  -- told all the messages, or stopped within them
+  abbrev pub Tells : {T : Type 0} → Result T TokenizerError → S → List Message → S → Type 0
+  Tells (Ok x) s M t = t ≡ stepped step s M
+  Tells (Err e) s M t = Stops e s M t
+
+-- how far a call's answer raises the sink's count of faults
+abbrev pub faults_of : {T : Type 0} → Result T TokenizerError → ℕ
+faults_of (Ok x) = 0
+faults_of (Err Memory) = 0
+faults_of (Err Sink) = 1
+faults_of (Err Failed) = 0
+faults_of (Err NotYet) = 0
+
+-- a refusal of a call that tells: want of memory, or a fault of the sink
+abbrev pub IsRefusal : TokenizerError → Type 0
+IsRefusal Memory = Unit {0}
+IsRefusal Sink = Unit {0}
+IsRefusal Failed = ⊥
+IsRefusal NotYet = ⊥
+
+-- a refusal that isn't owed to an earlier one
+abbrev pub IsNotFailed : TokenizerError → Type 0
+IsNotFailed Memory = Unit {0}
+IsNotFailed Sink = Unit {0}
+IsNotFailed Failed = ⊥
+IsNotFailed NotYet = Unit {0}
+
+-- what a teller is stays while it tells
+pub record IsKept {Q Z : Type 0} (before after : Teller Q Z) : Type 0 where
+  pub sink : after.sink.ghost_name ≡ before.sink.ghost_name
+  pub line : after.line ≡ before.line
+  pub exact_errors : after.exact_errors ≡ before.exact_errors
+
+module _ {Q S Z : Type 0} (state : Q → S) (count : Q → ℕ) (step faulted : S → Told → ℕ → S) where
+  -- the tokens were told on the teller's line, or the call stopped within them
+  pub record Emits {T : Type 0} (result : Result T TokenizerError) (before after : Teller Q Z) (tokens : List Told) : Type 0 where
+    pub tells : Tells step faulted result (state before.sink.now) (on_line before.line tokens) (state after.sink.now)
+    pub refusal : IfErr result IsRefusal
+    pub faults : count after.sink.now ≡ count before.sink.now + faults_of result
+    pub kept : IsKept before after
+
+  -- a character told what the machine tells here, and left open what the machine leaves
+  pub record Reads (result : Result Progress TokenizerError) (before after : Teller Q Z) (here : Here Open) (at : Opened Z) : Type 0 where
+    pub tells : Tells step faulted result (state before.sink.now) (on_line before.line (tokens_of here)) (state after.sink.now)
+    pub leads : Ends result at (behind here)
+    pub faults : count after.sink.now ≡ count before.sink.now + faults_of result
+    pub kept : IsKept before after

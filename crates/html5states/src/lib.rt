@@ -1,0 +1,15 @@
+//! The states of the tokenizer: whom they tell, what is open, and what a character makes of it.
+#![tactic(auto)]
+
+pub mod characters;
+pub mod current_tag;
+mod emit_tag;
+mod end_of_input;
+pub mod error;
+pub mod message;
+pub mod opened;
+mod step;
+mod tag_states;
+pub mod teller;
+mod text_states;
+mod value_states;

@@ -1,0 +1,28 @@
+//! What is open, and what a character brings.
+
+use crate::current_tag::CurrentTag;
+use crate::error::TokenizerError;
+use html5ever_interface::states::State;
+use std::alloc::{Allocator, Global};
+
+/// What is open: the state, and the tag that was begun.
+#[derive(Drop)]
+pub struct Opened<A: Allocator = Global> {
+    pub state: State,
+    pub tag: CurrentTag<A>,
+}
+
+/// What a character brings, beside what it tells.
+#[derive(Clone, Copy, Debug, PartialEq, Eq)]
+pub enum Progress {
+    /// Reading goes on in the state that is open.
+    Continues,
+    /// The open tag ends: it is to be told, and the sink's reply may choose another state.
+    EndsTag {
+        /// Whether the tag closes itself.
+        self_closing: bool,
+    },
+}
+
+/// What reading a character answers.
+pub type Step = Result<Progress, TokenizerError>;

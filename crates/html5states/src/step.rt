@@ -1,0 +1,40 @@
+//! One character, in the state that is open.
+#![tactic(auto, unfolding(html5grammar::proofs::Machine::step_at, html5grammar::proofs::Machine::tag_step, crate::specs::Steps::tokens_of, crate::specs::Steps::behind, html5ever_interface::specs::Sink::stepped))]
+
+ghost use Rattle.html5grammar.proofs.Machine.{step_at};
+ghost use Rattle.html5states.specs.CurrentTag.{opened_of};
+ghost use Rattle.html5states.specs.Telling.{Reads};
+
+use crate::error::TokenizerError;
+use crate::opened::{Opened, Step};
+use crate::teller::Teller;
+use html5ever_interface::interface::sink::TokenSink;
+use html5ever_interface::interface::token::Token;
+use html5ever_interface::states::AttrValueKind::Unquoted;
+use html5ever_interface::states::State;
+use std::alloc::Allocator;
+
+impl<S: TokenSink<Token<A>>, A: Allocator + Copy> Teller<'_, S, A> {
+    /// Reads one character, and tells what it brings. No other state is built.
+    pub fn step(&mut self, at: &mut Opened<A>, c: char) -> Step
+        ensures { Reads S.state S.faults S.step S.faulted result self.old self.new
+            (step_at self.old.exact_errors (opened_of at.old) c) at.new }
+    {
+        match at.state {
+            State::Data => self.data_state(at, c),
+            State::Plaintext => self.plaintext_state(at, c),
+            State::TagOpen => self.tag_open_state(at, c),
+            State::EndTagOpen => self.end_tag_open_state(at, c),
+            State::TagName => self.tag_name_state(at, c),
+            State::BeforeAttributeName => self.before_attribute_name_state(at, c),
+            State::AttributeName => self.attribute_name_state(at, c),
+            State::AfterAttributeName => self.after_attribute_name_state(at, c),
+            State::BeforeAttributeValue => self.before_attribute_value_state(at, c),
+            State::AttributeValue(Unquoted) => self.attribute_value_unquoted_state(at, c),
+            State::AttributeValue(kind) => self.attribute_value_quoted_state(at, kind, c),
+            State::AfterAttributeValueQuoted => self.after_attribute_value_quoted_state(at, c),
+            State::SelfClosingStartTag => self.self_closing_start_tag_state(at, c),
+            _ => Err(TokenizerError::NotYet),
+        }
+    }
+}

@@ -1,0 +1,130 @@
+//! Whom a tokenizer tells, and how.
+#![tactic(auto, using(crate::proofs::Tellings::tells_from_memory), unfolding(html5ever_interface::specs::Sink::stepped))]
+
+ghost use Rattle.std.specs.Prelude.{◌≡◌, ◌≢◌, ◌∷◌, [], false, encode_utf8, string_bytes};
+ghost use Rattle.html5grammar.specs.ErrorText.{error_in, end_error_in, where_true, bad_character_error};
+ghost use Rattle.html5ever_interface.specs.Token.{told_by, is_tag};
+ghost use Rattle.html5ever_interface.specs.Token.Told.{Text, Error};
+ghost use Rattle.html5states.specs.Telling.{Emits, tokens_in};
+
+use crate::error::TokenizerError;
+use crate::message::{bad_character_message, is_bad, saw_end_message, saw_message, text_of};
+use html5ever_interface::interface::sink::TokenSink;
+use html5ever_interface::interface::token::{SinkFault, Token, TokenSinkResult};
+use html5ever_interface::states::State;
+use std::alloc::Allocator;
+
+/// The sink that is told, the line of what it is told, and whether errors are exact.
+pub struct Teller<'s, S, A> {
+    pub sink: &'s mut S,
+    pub alloc: A,
+    pub exact_errors: bool,
+    pub line: u64,
+}
+
+impl<S, A: Drop> Drop for Teller<'_, S, A> {
+    fn drop(self)
+        ensures { self.exit.0.now ≡ self.entry.sink.now }
+    {
+        let Teller {
+            sink: _,
+            alloc: _,
+            exact_errors: _,
+            line: _,
+        } = self;
+    }
+}
+
+impl<S: TokenSink<Token<A>>, A: Allocator + Copy> Teller<'_, S, A> {
+    /// Tells the sink a token that isn't a tag, so the tokenizer keeps on.
+    pub fn tell(&mut self, token: Token<A>) -> Result<(), TokenizerError>
+        requires no_tag { is_tag (told_by token) ≡ false }
+        requires filled { tokens_in (told_by token) ≢ [] }
+        ensures { Emits S.state S.faults S.step S.faulted result self.old self.new
+            (tokens_in (told_by token)) }
+    {
+        match self.sink.process_token(token, self.line) {
+            Ok(TokenSinkResult::Continue) => Ok(()),
+            Ok(_) => unreachable!(),
+            Err(SinkFault) => Err(TokenizerError::Sink),
+        }
+    }
+
+    /// Tells the sink a text of one character.
+    pub fn emit_char(&mut self, c: char) -> Result<(), TokenizerError>
+        ensures { Emits S.state S.faults S.step S.faulted result self.old self.new
+            (Text (encode_utf8 c) ∷ []) }
+    {
+        self.tell(Token::CharacterTokens(text_of(self.alloc, c)?))
+    }
+
+    /// Tells the sink an error.
+    fn emit_error(&mut self, message: String<A>) -> Result<(), TokenizerError>
+        ensures { Emits S.state S.faults S.step S.faulted result self.old self.new
+            (Error (string_bytes message) ∷ []) }
+    {
+        self.tell(Token::ParseError(message))
+    }
+
+    /// Tells the sink an error with that text.
+    pub fn emit_message(&mut self, message: &str) -> Result<(), TokenizerError>
+        ensures { Emits S.state S.faults S.step S.faulted result self.old self.new
+            (Error message.now ∷ []) }
+    {
+        self.emit_error(String::from_str(self.alloc, message)?)
+    }
+
+    /// Tells the sink an error with that text, where there is one.
+    pub fn emit_message_where(&mut self, holds: bool, message: &str) -> Result<(), TokenizerError>
+        ensures { Emits S.state S.faults S.step S.faulted result self.old self.new
+            (where_true holds (Error message.now)) }
+    {
+        if !holds {
+            return Ok(());
+        }
+        self.emit_message(message)
+    }
+
+    /// Tells the sink that a state doesn't expect the character.
+    pub fn emit_unexpected(&mut self, c: char, state: State) -> Result<(), TokenizerError>
+        ensures { Emits S.state S.faults S.step S.faulted result self.old self.new
+            (error_in self.old.exact_errors state c ∷ []) }
+    {
+        self.emit_error(saw_message(self.alloc, self.exact_errors, c, state.name())?)
+    }
+
+    /// Tells the sink that a state doesn't expect the character, where that is so.
+    pub fn emit_unexpected_where(
+        &mut self,
+        holds: bool,
+        c: char,
+        state: State,
+    ) -> Result<(), TokenizerError>
+        ensures { Emits S.state S.faults S.step S.faulted result self.old self.new
+            (where_true holds (error_in self.old.exact_errors state c)) }
+    {
+        if !holds {
+            return Ok(());
+        }
+        self.emit_unexpected(c, state)
+    }
+
+    /// Tells the sink that a state doesn't expect the end of input.
+    pub fn emit_end_error(&mut self, state: State) -> Result<(), TokenizerError>
+        ensures { Emits S.state S.faults S.step S.faulted result self.old self.new
+            (end_error_in self.old.exact_errors state ∷ []) }
+    {
+        self.emit_error(saw_end_message(self.alloc, self.exact_errors, state.name())?)
+    }
+
+    /// Reports a bad character, with exact errors.
+    pub fn emit_bad_character(&mut self, c: char) -> Result<(), TokenizerError>
+        ensures { Emits S.state S.faults S.step S.faulted result self.old self.new
+            (bad_character_error self.old.exact_errors c) }
+    {
+        if !self.exact_errors || !is_bad(c) {
+            return Ok(());
+        }
+        self.emit_error(bad_character_message(self.alloc, c)?)
+    }
+}

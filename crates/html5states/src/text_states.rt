@@ -1,0 +1,131 @@
+//! The states between tags, and those that a `<` opens, one function for each.
+#![tactic(auto, using(crate::proofs::Tellings::tells_from_memory), unfolding(html5grammar::proofs::Machine::step_at, html5grammar::proofs::Machine::data_step, html5grammar::proofs::Machine::less_than_step, html5grammar::proofs::Machine::solidus_step, html5grammar::specs::Text::plain_text, crate::specs::Steps::tokens_of, crate::specs::Steps::behind, html5ever_interface::specs::Sink::stepped))]
+
+ghost use Rattle.std.specs.Prelude.{◌≡◌, ◌∷◌, [], codes, encode_utf8};
+ghost use Rattle.html5ever_interface.specs.Token.Told.{Text, Null};
+ghost use Rattle.html5grammar.proofs.Machine.{step_at, tag_name_step, data_step};
+ghost use Rattle.html5grammar.specs.ErrorText.{error_in};
+ghost use Rattle.html5grammar.specs.Start.{begun};
+ghost use Rattle.html5grammar.specs.Start.Mode.{Data, Plain};
+ghost use Rattle.html5grammar.specs.Start.Open.{Between, LessThan, LessThanSolidus};
+ghost use Rattle.html5states.specs.Telling.{Emits, Reads};
+
+use crate::characters::is_letter;
+use crate::current_tag::CurrentTag;
+use crate::error::TokenizerError;
+use crate::opened::{Opened, Progress, Step};
+use crate::teller::Teller;
+use html5ever_interface::interface::sink::TokenSink;
+use html5ever_interface::interface::token::{TagKind, Token};
+use html5ever_interface::states::State;
+use std::alloc::Allocator;
+
+impl<S: TokenSink<Token<A>>, A: Allocator + Copy> Teller<'_, S, A> {
+    // Tells that the character is not what was expected, and then a text of one character.
+    fn emit_unexpected_then(
+        &mut self,
+        c: char,
+        expected: State,
+        text: char,
+    ) -> Result<(), TokenizerError>
+        ensures { Emits S.state S.faults S.step S.faulted result self.old self.new
+            (error_in self.old.exact_errors expected c ∷ Text (encode_utf8 text) ∷ []) }
+    {
+        self.emit_unexpected(c, expected)?;
+        self.emit_char(text)
+    }
+
+    // Tells a NUL between tags, which is an error and a token of its own.
+    fn emit_null(&mut self, c: char) -> Result<(), TokenizerError>
+        ensures { Emits S.state S.faults S.step S.faulted result self.old self.new
+            (error_in self.old.exact_errors State.Data c ∷ Null ∷ []) }
+    {
+        self.emit_unexpected(c, State::Data)?;
+        self.tell(Token::NullCharacterToken)
+    }
+
+    /// The standard's "PLAINTEXT state".
+    pub fn plaintext_state(&mut self, at: &mut Opened<A>, c: char) -> Step
+        requires { at.old.state ≡ State.Plaintext }
+        ensures { Reads S.state S.faults S.step S.faulted result self.old self.new
+            (step_at self.old.exact_errors (Between Plain) c) at.new }
+    {
+        if c == '\0' {
+            self.emit_unexpected_then(c, at.state, '\u{fffd}')?;
+        } else {
+            self.emit_char(c)?;
+        }
+        Ok(Progress::Continues)
+    }
+
+    /// The standard's "data state".
+    pub fn data_state(&mut self, at: &mut Opened<A>, c: char) -> Step
+        requires { at.old.state ≡ State.Data }
+        ensures { Reads S.state S.faults S.step S.faulted result self.old self.new
+            (step_at self.old.exact_errors (Between Data) c) at.new }
+    {
+        match c {
+            '<' => at.state = State::TagOpen,
+            '&' => return Err(TokenizerError::NotYet),
+            '\0' => self.emit_null(c)?,
+            _ => self.emit_char(c)?,
+        }
+        Ok(Progress::Continues)
+    }
+
+    // Tells the `<` that opened nothing, and reads the character as it stands between tags.
+    fn read_in_data(&mut self, at: &mut Opened<A>, c: char) -> Step
+        ensures { Reads S.state S.faults S.step S.faulted result self.old self.new
+            (data_step self.old.exact_errors (error_in self.old.exact_errors State.TagOpen c ∷ Text (codes "<") ∷ []) c) at.new }
+    {
+        self.emit_unexpected_then(c, State::TagOpen, '<')?;
+        at.state = State::Data;
+        self.data_state(at, c)
+    }
+
+    // Begins a tag at the first letter of its name.
+    fn create_tag(&mut self, at: &mut Opened<A>, kind: TagKind, c: char) -> Step
+        ensures { Reads S.state S.faults S.step S.faulted result self.old self.new
+            (tag_name_step self.old.exact_errors (begun kind) c) at.new }
+    {
+        at.state = State::TagName;
+        at.tag = CurrentTag::new(self.alloc, kind);
+        self.tag_name_state(at, c)
+    }
+
+    /// The standard's "tag open state".
+    pub fn tag_open_state(&mut self, at: &mut Opened<A>, c: char) -> Step
+        requires { at.old.state ≡ State.TagOpen }
+        ensures { Reads S.state S.faults S.step S.faulted result self.old self.new
+            (step_at self.old.exact_errors LessThan c) at.new }
+    {
+        if is_letter(c) {
+            return self.create_tag(at, TagKind::StartTag, c);
+        }
+        match c {
+            '/' => {
+                at.state = State::EndTagOpen;
+                Ok(Progress::Continues)
+            }
+            '!' | '?' => Err(TokenizerError::NotYet),
+            _ => self.read_in_data(at, c),
+        }
+    }
+
+    /// The standard's "end tag open state".
+    pub fn end_tag_open_state(&mut self, at: &mut Opened<A>, c: char) -> Step
+        requires { at.old.state ≡ State.EndTagOpen }
+        ensures { Reads S.state S.faults S.step S.faulted result self.old self.new
+            (step_at self.old.exact_errors LessThanSolidus c) at.new }
+    {
+        if is_letter(c) {
+            return self.create_tag(at, TagKind::EndTag, c);
+        }
+        if c != '>' {
+            return Err(TokenizerError::NotYet);
+        }
+        at.state = State::Data;
+        self.emit_unexpected(c, State::EndTagOpen)?;
+        Ok(Progress::Continues)
+    }
+}

@@ -1,0 +1,114 @@
+//! The states of an attribute's value, one function for each.
+#![tactic(auto, using(crate::proofs::Tellings::tells_from_memory), unfolding(html5grammar::proofs::Machine::before_value_step, html5grammar::proofs::Machine::quoted_step, html5grammar::proofs::Machine::unquoted_step, html5grammar::proofs::Machine::part_step, html5grammar::specs::Tag::in_quoted, html5grammar::specs::Tag::in_unquoted, html5grammar::specs::Tag::unquoted_error, html5grammar::specs::Tag::place_error, crate::specs::Steps::tokens_of, crate::specs::Steps::behind, html5ever_interface::specs::Sink::stepped))]
+
+ghost use Rattle.std.specs.Prelude.{◌≡◌, ◌∷◌, [], false};
+ghost use Rattle.html5grammar.proofs.Machine.{closing_step, before_value_step, quoted_step};
+ghost use Rattle.html5grammar.proofs.Machine.{unquoted_step, part_step};
+ghost use Rattle.html5grammar.specs.Characters.{equals_sign};
+ghost use Rattle.html5grammar.specs.ErrorText.{error_in};
+ghost use Rattle.html5grammar.specs.Start.Place.{AfterQuotedValue};
+ghost use Rattle.html5states.specs.CurrentTag.{open_tag};
+ghost use Rattle.html5states.specs.Telling.{Reads};
+
+use crate::characters::{is_unquoted_error, is_white_space, quote_of};
+use crate::current_tag::push_value;
+use crate::error::TokenizerError;
+use crate::opened::{Opened, Progress, Step};
+use crate::teller::Teller;
+use html5ever_interface::interface::sink::TokenSink;
+use html5ever_interface::interface::token::Token;
+use html5ever_interface::states::{AttrValueKind as Kind, State};
+use std::alloc::Allocator;
+
+impl<S: TokenSink<Token<A>>, A: Allocator + Copy> Teller<'_, S, A> {
+    /// The standard's "before attribute value state".
+    pub fn before_attribute_value_state(&mut self, at: &mut Opened<A>, c: char) -> Step
+        requires { at.old.state ≡ State.BeforeAttributeValue }
+        ensures { Reads S.state S.faults S.step S.faulted result self.old self.new
+            (before_value_step self.old.exact_errors (open_tag at.old.tag) c) at.new }
+    {
+        if is_white_space(c) {
+            return Ok(Progress::Continues);
+        }
+        match c {
+            '"' => at.state = State::AttributeValue(Kind::DoubleQuoted),
+            '\'' => at.state = State::AttributeValue(Kind::SingleQuoted),
+            '>' => return self.end_without_value(at),
+            _ => {
+                at.state = State::AttributeValue(Kind::Unquoted);
+                return self.attribute_value_unquoted_state(at, c);
+            }
+        }
+        Ok(Progress::Continues)
+    }
+
+    // Ends a tag at the `>` that stands where a value should.
+    fn end_without_value(&mut self, at: &mut Opened<A>) -> Step
+        ensures { Reads S.state S.faults S.step S.faulted result self.old self.new
+            (closing_step (error_in self.old.exact_errors State.BeforeAttributeValue equals_sign ∷ []) (open_tag at.old.tag) false)
+            at.new }
+    {
+        self.emit_unexpected('=', State::BeforeAttributeValue)?;
+        self.emit_tag(at, false)
+    }
+
+    /// The standard's "attribute value (double-quoted) state" and its
+    /// "attribute value (single-quoted) state".
+    pub fn attribute_value_quoted_state(&mut self, at: &mut Opened<A>, kind: Kind, c: char) -> Step
+        requires { at.old.state ≡ State.AttributeValue kind }
+        ensures { Reads S.state S.faults S.step S.faulted result self.old self.new
+            (quoted_step self.old.exact_errors kind (open_tag at.old.tag) c) at.new }
+    {
+        if c == '&' {
+            return Err(TokenizerError::NotYet);
+        }
+        if c == quote_of(kind) {
+            at.state = State::AfterAttributeValueQuoted;
+            return Ok(Progress::Continues);
+        }
+        push_value(&mut at.tag.attr_value, c)?;
+        self.emit_unexpected_where(c == '\0', c, State::AttributeValue(kind))?;
+        Ok(Progress::Continues)
+    }
+
+    /// The standard's "attribute value (unquoted) state".
+    pub fn attribute_value_unquoted_state(&mut self, at: &mut Opened<A>, c: char) -> Step
+        requires { at.old.state ≡ State.AttributeValue Kind.Unquoted }
+        ensures { Reads S.state S.faults S.step S.faulted result self.old self.new
+            (unquoted_step self.old.exact_errors (open_tag at.old.tag) c) at.new }
+    {
+        if c == '&' {
+            return Err(TokenizerError::NotYet);
+        }
+        if c == '>' {
+            return self.emit_tag(at, false);
+        }
+        if is_white_space(c) {
+            at.state = State::BeforeAttributeName;
+            return Ok(Progress::Continues);
+        }
+        push_value(&mut at.tag.attr_value, c)?;
+        let wrong = is_unquoted_error(self.exact_errors, c);
+        self.emit_unexpected_where(wrong, c, State::AttributeValue(Kind::Unquoted))?;
+        Ok(Progress::Continues)
+    }
+
+    /// The standard's "after attribute value (quoted) state".
+    pub fn after_attribute_value_quoted_state(&mut self, at: &mut Opened<A>, c: char) -> Step
+        ensures { Reads S.state S.faults S.step S.faulted result self.old self.new
+            (part_step self.old.exact_errors AfterQuotedValue (open_tag at.old.tag) c) at.new }
+    {
+        if c == '>' {
+            return self.emit_tag(at, false);
+        }
+        if is_white_space(c) {
+            at.state = State::BeforeAttributeName;
+            return Ok(Progress::Continues);
+        }
+        if c == '/' {
+            at.state = State::SelfClosingStartTag;
+            return Ok(Progress::Continues);
+        }
+        self.read_before_attribute(at, c, State::AfterAttributeValueQuoted)
+    }
+}
