@@ -16,19 +16,19 @@ use Rattle.html5grammar.specs.Start.Mode.{Data, Plain}
 use Rattle.html5grammar.specs.Start.Open.{Between, NotBuilt}
 
 -- a character of the normalised text, counted from 0, or the end of input
-pub data Place : Type 0 where
-  Character : ℕ → Place
-  EndOfInput : Place
+pub data TextPlace : Type 0 where
+  Character : ℕ → TextPlace
+  EndOfInput : TextPlace
 
-abbrev pub is_character : Place → Bool
+abbrev pub is_character : TextPlace → Bool
 is_character (Character k) = true
 is_character EndOfInput = false
 
 -- a message, the place where it stands, and the place that decides it
 pub record Event : Type 0 where
   pub message : Message
-  pub stands : Place
-  pub decided_by : Place
+  pub stands : TextPlace
+  pub decided_by : TextPlace
 
 -- the events of tokens that are told at the place of c, with `before` in front of it
 unfoldable pub events_at : Input → List ℕ → ℕ → List Told → List Event
