@@ -3,3 +3,4 @@ pub mod Token
 pub mod Sink
 pub mod Options
 pub mod Collected
+pub mod CollectorLaws

@@ -124,7 +124,8 @@ impl<A: Allocator> Steering<A> {
 }
 
 impl<A: Allocator + Copy> TokenSink<Token<A>> for Steering<A> {
-    ghost use Rattle.html5ever_interface.specs.Collected.{Collected, collected_step, collected_faulted, collected_finish, collected_joins, collected_empty, collected_any_line};
+    ghost use Rattle.html5ever_interface.specs.Collected.{Collected, collected_step, collected_faulted, collected_finish};
+    ghost use Rattle.html5ever_interface.specs.CollectorLaws.{collected_joins, collected_empty, collected_any_line};
     ghost use Rattle.html5vectors.specs.Sinks.{steering_reply, steering_keeps_on};
 
     type Handle = u32;
@@ -200,7 +201,8 @@ impl RawTextSink {
 }
 
 impl TokenSink<Token> for RawTextSink {
-    ghost use Rattle.html5ever_interface.specs.Collected.{Collected, collected_step, collected_faulted, collected_finish, collected_joins, collected_empty, collected_any_line};
+    ghost use Rattle.html5ever_interface.specs.Collected.{Collected, collected_step, collected_faulted, collected_finish};
+    ghost use Rattle.html5ever_interface.specs.CollectorLaws.{collected_joins, collected_empty, collected_any_line};
     ghost use Rattle.html5vectors.specs.Sinks.{raw_text_reply, raw_text_keeps_on};
 
     type Handle = Infallible;
