@@ -34,7 +34,11 @@ pub struct QualName<A: Allocator = Global> {
 #[derive(Drop)]
 #[derive_where(Debug, PartialEq, Eq, PartialOrd, Ord, Hash)]
 pub struct Attribute<A: Allocator = Global> {
+    /// The name. A tokenizer gives it no prefix and no namespace: in `local` ASCII letters are in
+    /// lower case, and U+0000 is U+FFFD.
     pub name: QualName<A>,
+    /// The value, without its quotes: line breaks are LF, and U+0000 is U+FFFD. It is empty where the
+    /// attribute has none.
     pub value: String<A>,
 }
 

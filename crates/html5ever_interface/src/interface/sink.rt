@@ -56,7 +56,8 @@ pub trait TokenSink<T: Says> {
 
     ghost end_faulted: { State → State };
 
-    /// Takes a token, with the number of the line that the tokenizer has reached.
+    /// Takes a token, with the number of the line that the tokenizer has reached. It counts from 1,
+    /// and stays at the largest `u64`. With a text it says nothing.
     fn process_token(
         &mut self,
         token: T,

@@ -9,9 +9,12 @@ use std::alloc::{AllocError, Allocator, Global};
 #[cfg(test)]
 mod tests;
 
+/// Which of the two kinds a tag is of.
 #[derive(Clone, Copy, Debug, PartialEq, Eq, Hash)]
 pub enum TagKind {
+    /// As `<p>`.
     StartTag,
+    /// As `</p>`.
     EndTag,
 }
 
@@ -19,9 +22,13 @@ pub enum TagKind {
 #[derive(Drop)]
 #[derive_where(Debug, PartialEq, Eq)]
 pub struct Tag<A: Allocator = Global> {
+    /// A start tag or an end tag.
     pub kind: TagKind,
+    /// The name, never empty: ASCII letters in lower case, U+0000 as U+FFFD.
     pub name: LocalName<A>,
+    /// Whether `/` stands directly before the tag's `>`.
     pub self_closing: bool,
+    /// The attributes in the order of the text, no two of one name. An end tag keeps its own, too.
     pub attrs: Vec<Attribute<A>, A>,
     /// Whether an attribute was left out, since one of its name stood before it.
     pub had_duplicate_attributes: bool,
@@ -31,9 +38,13 @@ pub struct Tag<A: Allocator = Global> {
 #[derive(Drop)]
 #[derive_where(Debug, PartialEq, Eq)]
 pub struct Doctype<A: Allocator = Global> {
+    /// The name, such as `html`.
     pub name: Option<String<A>>,
+    /// The public identifier, without its quotes.
     pub public_id: Option<String<A>>,
+    /// The system identifier, without its quotes.
     pub system_id: Option<String<A>>,
+    /// Whether the document is in quirks mode, whatever the rest says.
     pub force_quirks: bool,
 }
 
@@ -41,22 +52,34 @@ pub struct Doctype<A: Allocator = Global> {
 #[derive(Drop)]
 #[derive_where(Debug, PartialEq, Eq)]
 pub enum Token<A: Allocator = Global> {
+    /// A DOCTYPE. None is told yet.
     DoctypeToken(Doctype<A>),
+    /// A tag, at its `>`. One that has none is not told.
     TagToken(Tag<A>),
+    /// A comment's text, without `<!--` and `-->`. None is told yet.
     CommentToken(String<A>),
+    /// Text, never empty: line breaks are LF. A run of text may come in any number of these.
     CharacterTokens(String<A>),
+    /// U+0000 in text. In plain text it is U+FFFD, as text.
     NullCharacterToken,
+    /// The end of the input: once, and last.
     EOFToken,
+    /// The message of an error, at the character that shows it. Reading goes on.
     ParseError(String<A>),
 }
 
 /// What a sink replies to a token. Only a tag gets another reply than `Continue`.
 #[derive(Debug, PartialEq, Eq, Drop)]
 pub enum TokenSinkResult<Handle, Text> {
+    /// Read on.
     Continue,
+    /// Pause, to run a script: `feed` answers the handle.
     Script(Handle),
+    /// Read all that follows as plain text.
     Plaintext,
+    /// Read raw text, up to the end tag of this tag's name. Not built yet.
     RawData(RawKind),
+    /// Pause, since the tag names an encoding: `feed` answers its name.
     EncodingIndicator(Text),
 }
 
