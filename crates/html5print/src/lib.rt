@@ -1,4 +1,7 @@
 //! A sink that prints what a tokenizer of HTML tells it.
 #![tactic(auto)]
 
+mod page;
 pub mod print_sink;
+mod printed;
+mod replies;

@@ -1,5 +1,6 @@
 use super::*;
-use markup5ever::interface::{LocalName, Namespace, QualName};
+use html5ever_interface::interface::token::{Doctype, Tag, TagKind};
+use markup5ever::interface::{Attribute, LocalName, Namespace, QualName};
 use refusing::Refusing;
 use std::test::Fail;
 
@@ -216,6 +217,11 @@ fn asks_for_the_encoding_that_a_meta_tag_names(rt: HostRuntime) -> Result<(), Fa
     let printed = "start 1 \"meta\" \"charset\"=\"utf-8\"\npause encoding \"utf-8\"\n";
     let reply = TokenSinkResult::EncodingIndicator(String::from_str(alloc, "utf-8")?);
     assert!(rt; replies(alloc, charset, reply, printed));
+    // The name of an encoding is replied whole, however long it is.
+    let long = tag_with(alloc, TagKind::StartTag, "meta", "charset", "windows-1252")?;
+    let printed = "start 1 \"meta\" \"charset\"=\"windows-1252\"\npause encoding \"windows-1252\"\n";
+    let reply = TokenSinkResult::EncodingIndicator(String::from_str(alloc, "windows-1252")?);
+    assert!(rt; replies(alloc, long, reply, printed));
     let empty = tag_with(alloc, TagKind::StartTag, "meta", "charset", "")?;
     let printed = "start 1 \"meta\" \"charset\"=\"\"\npause encoding \"\"\n";
     let reply = TokenSinkResult::EncodingIndicator(String::new(alloc));

@@ -2,7 +2,7 @@ use Rattle.std.proofs.Common.{arith}
 use Rattle.std.proofs.lemmas.Result.{err_from_is_err_and}
 use Rattle.html5print.proofs.Attributes.{printed_attributes-none, printed_attributes-more}
 use Rattle.html5print.proofs.Beginnings.{BeginsWith-less}
-use Rattle.html5print.proofs.print_sink.push_attributes.Goals as goal
+use Rattle.html5print.proofs.printed.push_attributes.Goals as goal
 
 pub loop-attribute-init : goal.loop-attribute-init
 loop-attribute-init g c = printed_attributes-none c.args.page.now.items

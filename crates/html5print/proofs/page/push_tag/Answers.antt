@@ -4,7 +4,7 @@ use Rattle.html5print.specs.Page.{text_closing}
 use Rattle.html5print.specs.Printed.{kind_word, numbered_text, printed_attributes, tag_marks, tag_line}
 use Rattle.html5ever_interface.specs.Token.{tag_of}
 use Rattle.html5print.proofs.Pieces.{pieces-five}
-use Rattle.html5print.proofs.print_sink.push_tag.Goals as goal
+use Rattle.html5print.proofs.page.push_tag.Goals as goal
 
 pub returns-clause-ok : goal.returns-clause-ok
 unfolding tag_line

@@ -1,7 +1,7 @@
 use Rattle.std.proofs.lemmas.Result.{on_ok_weaker}
 use Rattle.html5print.specs.Printed.{tag_marks}
 use Rattle.html5print.proofs.Pieces.{pieces-more}
-use Rattle.html5print.proofs.print_sink.push_tag_marks.Goals as goal
+use Rattle.html5print.proofs.printed.push_tag_marks.Goals as goal
 
 pub returns-clause-ok : goal.returns-clause-ok
 unfolding tag_marks

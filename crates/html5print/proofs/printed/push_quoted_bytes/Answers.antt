@@ -1,8 +1,8 @@
 use Rattle.std.proofs.Common.{sym, ◌∙◌, arith}
 use Rattle.std.proofs.lemmas.Result.{err_from_is_err_and}
 use Rattle.html5print.proofs.Quotes.{HasQuoted-none, HasQuoted-plain, HasQuoted-begins, HasQuoted-escape}
-use Rattle.html5print.proofs.print_sink.push_quoted_bytes.Goals as goal
-use Rattle.html5print.proofs.print_sink.push_quoted_bytes.Goals.{then-needs_escape+in_ok-extend_from_slice+in_ok-push_escape, else-needs_escape}
+use Rattle.html5print.proofs.printed.push_quoted_bytes.Goals as goal
+use Rattle.html5print.proofs.printed.push_quoted_bytes.Goals.{then-needs_escape+in_ok-extend_from_slice+in_ok-push_escape, else-needs_escape}
 
 pub loop-end-init : goal.loop-end-init
 loop-end-init g c = HasQuoted-none c.args.page.now.items c.args.text.now

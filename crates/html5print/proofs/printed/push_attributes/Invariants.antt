@@ -1,7 +1,7 @@
 use Rattle.std.proofs.Common.{◌≡◌, ◌++◌, map, take}
 use Rattle.html5print.specs.Printed.{printed_attributes}
 use Rattle.markup5ever.specs.Names.{attribute_of}
-use Rattle.html5print.proofs.print_sink.push_attributes.Given as goal
+use Rattle.html5print.proofs.printed.push_attributes.Given as goal
 
 abbrev pub invariant-loop-attribute : goal.invariant-loop-attribute
 invariant-loop-attribute g l =

@@ -1,7 +1,7 @@
 use Rattle.std.proofs.Common.{codes}
 use Rattle.html5print.specs.Printed.{quoted, pause_line}
 use Rattle.html5print.proofs.Pieces.{pieces-three}
-use Rattle.html5print.proofs.print_sink.push_encoding_pause.Goals as goal
+use Rattle.html5print.proofs.printed.push_encoding_pause.Goals as goal
 
 pub returns-clause-ok : goal.returns-clause-ok
 unfolding pause_line

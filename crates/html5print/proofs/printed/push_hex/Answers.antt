@@ -1,7 +1,7 @@
 use Rattle.std.proofs.Common.{false, arith}
 use Rattle.std.proofs.lemmas.Fmt.{hex_two_digits}
 use Rattle.std.proofs.lemmas.List.{append_assoc}
-use Rattle.html5print.proofs.print_sink.push_hex.Goals as goal
+use Rattle.html5print.proofs.printed.push_hex.Goals as goal
 
 pub returns-clause-ok : goal.returns-clause-ok
 returns-clause-ok g c =

@@ -1,0 +1,206 @@
+//! The parts of printed lines: texts in quotes, marks, attributes, pause lines.
+ghost use Rattle.std.specs.Prelude.{◌≡◌, ◌<◌, ◌++◌, false, map, option_map, string_bytes, OnOk, OnErr};
+ghost use Rattle.std.specs.Fmt.{digits, digit_glyph};
+ghost use Rattle.html5print.specs.Page.{BeginsWith};
+ghost use Rattle.html5print.specs.Printed.{needs_escape, escape, quoted_bytes, quoted, kind_word, mark_where, printed_attribute, printed_attributes, printed_option, tag_marks, pause_line};
+ghost use Rattle.html5ever_interface.specs.Token.{tag_of, reply_of};
+ghost use Rattle.html5ever_interface.specs.Token.Reply.{SwitchEncoding};
+ghost use Rattle.markup5ever.specs.Names.{attribute_of};
+
+use html5ever_interface::interface::token::{Tag, TagKind, TokenSinkResult};
+use markup5ever::interface::Attribute;
+use std::alloc::{AllocError, Allocator};
+
+// The lower-case hexadecimal digit of a number below 16.
+fn hex_digit(value: u8) -> u8
+    requires { value < 16 }
+    ensures { result ≡ digit_glyph false value }
+{
+    if value < 10 {
+        b'0' + value
+    } else {
+        b'a' + (value - 10)
+    }
+}
+
+// Appends a byte in hexadecimal, without leading zeros.
+#[tactic(auto, using(std::proofs::lemmas::Fmt::hex_one_digit))]
+fn push_hex<A: Allocator>(page: &mut Vec<u8, A>, byte: u8) -> Result<(), AllocError>
+    ensures ok { OnOk result (page.new.items ≡ page.old.items ++ digits 16 false byte) }
+    ensures err { OnErr result (BeginsWith page.new.items page.old.items) }
+{
+    if byte < 16 {
+        page.push(hex_digit(byte))?;
+        return Ok(());
+    }
+    page.push(hex_digit(byte / 16))?;
+    page.push(hex_digit(byte % 16))?;
+    Ok(())
+}
+
+#[tactic(auto, unfolding(crate::specs::Printed::needs_escape))]
+fn needs_escape(byte: u8) -> bool
+    ensures { result ≡ needs_escape byte }
+{
+    matches!(byte, 0..=0x1F | b'"' | b'\\' | 0x7F)
+}
+
+// Appends what stands in quotes for a byte that may not stand there as it is.
+#[tactic(auto, unfolding(crate::specs::Printed::escape))]
+fn push_escape<A: Allocator>(page: &mut Vec<u8, A>, byte: u8) -> Result<(), AllocError>
+    ensures ok { OnOk result (page.new.items ≡ page.old.items ++ escape byte) }
+    ensures err { OnErr result (BeginsWith page.new.items page.old.items) }
+{
+    match byte {
+        b'\\' => page.extend_from_slice(b"\\\\"),
+        b'"' => page.extend_from_slice(b"\\\""),
+        b'\n' => page.extend_from_slice(b"\\n"),
+        _ => {
+            page.extend_from_slice(b"\\u{")?;
+            push_hex(page, byte)?;
+            page.extend_from_slice(b"}")
+        }
+    }
+}
+
+/// Appends what stands for a text in quotes, straight to the page: runs of bytes that stand as they
+/// are go at once.
+pub fn push_quoted_bytes<A: Allocator>(page: &mut Vec<u8, A>, text: &[u8]) -> Result<(), AllocError>
+    ensures ok { OnOk result (page.new.items ≡ page.old.items ++ quoted_bytes text.now) }
+    ensures err { OnErr result (BeginsWith page.new.items page.old.items) }
+{
+    let mut start = 0;
+    for end in 0..text.len() {
+        if needs_escape(text[end]) {
+            page.extend_from_slice(&text[start..end])?;
+            push_escape(page, text[end])?;
+            start = end + 1;
+        }
+    }
+    page.extend_from_slice(&text[start..])
+}
+
+#[tactic(auto, unfolding(crate::specs::Printed::quoted))]
+pub fn push_quoted<A: Allocator>(page: &mut Vec<u8, A>, text: &[u8]) -> Result<(), AllocError>
+    ensures ok { OnOk result (page.new.items ≡ page.old.items ++ quoted text.now) }
+    ensures err { OnErr result (BeginsWith page.new.items page.old.items) }
+{
+    page.extend_from_slice(b"\"")?;
+    push_quoted_bytes(page, text)?;
+    page.extend_from_slice(b"\"")
+}
+
+/// Appends a mark, where it is set.
+#[tactic(auto, unfolding(crate::specs::Printed::mark_where))]
+pub fn push_mark<A: Allocator>(
+    page: &mut Vec<u8, A>,
+    is_set: bool,
+    mark: &str,
+) -> Result<(), AllocError>
+    ensures ok { OnOk result (page.new.items ≡ page.old.items ++ mark_where is_set mark.now) }
+    ensures err { OnErr result (BeginsWith page.new.items page.old.items) }
+{
+    if is_set {
+        page.extend_from_slice(mark.as_bytes())?;
+    }
+    Ok(())
+}
+
+pub fn kind_word(kind: TagKind) -> &'static str
+    ensures { result.now ≡ kind_word kind }
+{
+    match kind {
+        TagKind::StartTag => "start ",
+        TagKind::EndTag => "end ",
+    }
+}
+
+#[tactic(auto, unfolding(crate::specs::Printed::printed_attribute))]
+fn push_attribute<A: Allocator>(
+    page: &mut Vec<u8, A>,
+    attribute: &Attribute<A>,
+) -> Result<(), AllocError>
+    ensures ok { OnOk result
+        (page.new.items ≡ page.old.items ++ printed_attribute (attribute_of attribute.now)) }
+    ensures err { OnErr result (BeginsWith page.new.items page.old.items) }
+{
+    page.extend_from_slice(b" ")?;
+    push_quoted(page, attribute.name.local.0.as_bytes())?;
+    page.extend_from_slice(b"=")?;
+    push_quoted(page, attribute.value.as_bytes())
+}
+
+pub fn push_attributes<A: Allocator>(
+    page: &mut Vec<u8, A>,
+    attributes: &[Attribute<A>],
+) -> Result<(), AllocError>
+    ensures ok { OnOk result
+        (page.new.items ≡ page.old.items ++ printed_attributes (map attribute_of attributes.now)) }
+    ensures err { OnErr result (BeginsWith page.new.items page.old.items) }
+{
+    for attribute in attributes {
+        push_attribute(page, attribute)?;
+    }
+    Ok(())
+}
+
+/// Appends the marks of a tag that are set.
+pub fn push_tag_marks<A: Allocator>(page: &mut Vec<u8, A>, tag: &Tag<A>) -> Result<(), AllocError>
+    ensures ok { OnOk result (page.new.items ≡ page.old.items ++ tag_marks (tag_of tag.now)) }
+    ensures err { OnErr result (BeginsWith page.new.items page.old.items) }
+{
+    push_mark(page, tag.self_closing, " self-closing")?;
+    push_mark(page, tag.had_duplicate_attributes, " duplicates")
+}
+
+// Appends the line of a pause at which the encoding is switched.
+#[tactic(auto, unfolding(crate::specs::Printed::pause_line))]
+fn push_encoding_pause<A: Allocator>(
+    page: &mut Vec<u8, A>,
+    charset: &[u8],
+) -> Result<(), AllocError>
+    ensures ok { OnOk result
+        (page.new.items ≡ page.old.items ++ pause_line (SwitchEncoding charset.now)) }
+    ensures err { OnErr result (BeginsWith page.new.items page.old.items) }
+{
+    page.extend_from_slice(b"pause encoding ")?;
+    push_quoted(page, charset)?;
+    page.extend_from_slice(b"\n")
+}
+
+/// Appends the pause line, where the reply pauses.
+#[tactic(auto, unfolding(crate::specs::Printed::pause_line))]
+pub fn push_pause<A: Allocator>(
+    page: &mut Vec<u8, A>,
+    reply: &TokenSinkResult<(), String<A>>,
+) -> Result<(), AllocError>
+    ensures ok { OnOk result
+        (page.new.items ≡ page.old.items ++ pause_line (reply_of string_bytes reply.now)) }
+    ensures err { OnErr result (BeginsWith page.new.items page.old.items) }
+{
+    match reply {
+        TokenSinkResult::Script(()) => page.extend_from_slice(b"pause script\n"),
+        TokenSinkResult::EncodingIndicator(charset) => {
+            push_encoding_pause(page, charset.as_bytes())
+        }
+        _ => Ok(()),
+    }
+}
+
+/// Appends a part of a DOCTYPE, which it may lack.
+pub fn push_option<A: Allocator>(
+    page: &mut Vec<u8, A>,
+    text: &Option<String<A>>,
+) -> Result<(), AllocError>
+    ensures ok { OnOk result
+        (page.new.items ≡ page.old.items ++ printed_option (option_map string_bytes text.now)) }
+    ensures err { OnErr result (BeginsWith page.new.items page.old.items) }
+{
+    match text {
+        None => page.extend_from_slice(b" -"),
+        Some(text) => {
+            page.extend_from_slice(b" ")?;
+            push_quoted(page, text.as_bytes())
+        }
+    }
+}
