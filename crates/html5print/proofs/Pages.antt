@@ -1,7 +1,8 @@
 -- What a page that is told messages reads.
 use Rattle.std.proofs.Common.{◌≡◌, ℕ, Bool, true, false, List, [], ◌∷◌, ◌++◌, refl, ap, sym, ◌∙◌, codes}
 use Rattle.std.proofs.lemmas.List.{append-nil, append_assoc}
-use Rattle.html5print.specs.Page.{Page, text_opening, text_closing, added_by_text, added_by, open_behind, page_step, quoted_bytes-append}
+use Rattle.html5print.specs.Page.{Page, text_opening, text_closing, added_by_text, added_by, open_behind, page_step}
+use Rattle.html5print.specs.PageLaws.{quoted_bytes-append}
 use Rattle.html5print.specs.Printed.{quoted_bytes, quoted, printed_line, told_text, first_text, behind_first_text, joined_first, joined, printed_lines, printed}
 use Rattle.html5ever_interface.proofs.Steppings.{stepped-append}
 use Rattle.html5ever_interface.specs.Sink.{Message, stepped}

@@ -1,7 +1,8 @@
 -- A text in quotes, printed by runs of bytes that stand as they are.
 use Rattle.std.proofs.Common.{◌≡◌, ℕ, ◌+◌, ◌-◌, ◌<◌, ◌≤◌, true, false, List, [], ◌∷◌, ◌++◌, length, take, drop, get_or, refl, ap, sym, ◌∙◌, arith}
 use Rattle.std.proofs.lemmas.List.{append-nil, append_assoc, take_more, drop-append-le, drop-take, length-take-le, drop_all}
-use Rattle.html5print.specs.Page.{BeginsWith, quoted_bytes-append}
+use Rattle.html5print.specs.Page.{BeginsWith}
+use Rattle.html5print.specs.PageLaws.{quoted_bytes-append}
 use Rattle.html5print.specs.Printed.{needs_escape, escape, quoted_byte, quoted_bytes}
 use Rattle.html5print.proofs.Beginnings.{BeginsWith-equal, BeginsWith-append, BeginsWith-trans, BeginsWith-less}
 

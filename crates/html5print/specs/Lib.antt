@@ -1,3 +1,4 @@
 pub mod Replies
 pub mod Printed
 pub mod Page
+pub mod PageLaws

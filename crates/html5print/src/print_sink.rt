@@ -81,7 +81,8 @@ impl<A: Allocator> PrintSink<A> {
 
 impl<A: Allocator + Copy> TokenSink<Token<A>> for PrintSink<A> {
     ghost use Rattle.std.specs.Prelude.{◌≡◌};
-    ghost use Rattle.html5print.specs.Page.{Page, page_step, page_reply, page_faulted, page_joins, page_empty, page_any_line, page_keeps_on};
+    ghost use Rattle.html5print.specs.Page.{Page, page_step, page_reply, page_faulted};
+    ghost use Rattle.html5print.specs.PageLaws.{page_joins, page_empty, page_any_line, page_keeps_on};
 
     type Handle = ();
 
