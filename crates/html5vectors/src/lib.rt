@@ -4,6 +4,8 @@
 #[cfg(test)]
 mod end_cases;
 #[cfg(test)]
+mod errors;
+#[cfg(test)]
 mod faults;
 #[cfg(test)]
 mod lines;
@@ -19,6 +21,8 @@ mod refused;
 mod running;
 #[cfg(test)]
 mod sinks;
+#[cfg(test)]
+mod sizes;
 #[cfg(test)]
 mod tag_cases;
 #[cfg(test)]

@@ -39,6 +39,7 @@ fn reads_a_whole_text(rt: HostRuntime) -> Result<(), Fail> {
 fn reads_one_tag(rt: HostRuntime) -> Result<(), Fail> {
     let alloc = rt.alloc();
     let cases = [
+        ("<b>", "start 1 \"b\"\neof 1"),
         (
             "<DIV CLASS=a class=b/>",
             "error 1 \"Duplicate attribute\"\n\
@@ -58,6 +59,28 @@ fn reads_one_tag(rt: HostRuntime) -> Result<(), Fail> {
         let sink = tag(alloc, options(false, false), false, text)?;
         assert!(rt; sink.is_finished(), "{lines}");
         assert_eq!(rt; lines_of(alloc, sink.entries())?.as_str(), lines);
+    }
+    Ok(())
+}
+
+#[test]
+fn reads_a_text_that_is_no_tag_where_it_is_built(rt: HostRuntime) -> Result<(), Fail> {
+    let alloc = rt.alloc();
+    let text = String::from_str(alloc, "<b>x</b>")?;
+    let sink = tag(alloc, options(false, false), true, text)?;
+    assert!(rt; sink.is_finished());
+    assert_eq!(rt;
+        lines_of(alloc, sink.entries())?.as_str(),
+        "start 1 \"b\"\ntext \"x\"\nend 1 \"b\"\neof 1"
+    );
+    for text in ["<b>&amp;", "<b c=&amp;>", "<!b>"] {
+        let answer = tag(
+            alloc,
+            options(false, false),
+            false,
+            String::from_str(alloc, text)?,
+        );
+        assert_eq!(rt; answer.err(), Some(TokenizerError::NotYet), "{text}");
     }
     Ok(())
 }

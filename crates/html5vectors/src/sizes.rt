@@ -1,0 +1,56 @@
+//! What takes room is read where there is memory for it: long characters, long texts, many attributes.
+use crate::running::{Case, check_case};
+use std::alloc::{AllocError, Global};
+use std::test::Fail;
+
+const TAGS: [Case<'static>; 2] = [
+    (
+        "characters above U+FFFF",
+        &["\u{1f600}<a\u{1f601} b\u{1f602}=\u{1f603} c=\"\u{10348}\">\u{1f604}"],
+        false,
+        "text \"\u{1f600}\"\n\
+         start 1 \"a\u{1f601}\" \"b\u{1f602}\"=\"\u{1f603}\" \"c\"=\"\u{10348}\"\n\
+         text \"\u{1f604}\"\n\
+         eof 1",
+    ),
+    (
+        "ten attributes",
+        &["<a b=0 c=1 d=2 e=3 f=4 g=5 h=6 i=7 j=8 k=9>"],
+        false,
+        "start 1 \"a\" \"b\"=\"0\" \"c\"=\"1\" \"d\"=\"2\" \"e\"=\"3\" \"f\"=\"4\" \"g\"=\"5\" \"h\"=\"6\" \"i\"=\"7\" \"j\"=\"8\" \"k\"=\"9\"\n\
+         eof 1",
+    ),
+];
+
+#[test]
+fn tells_long_characters_and_many_attributes(rt: HostRuntime) -> Result<(), Fail> {
+    for case in TAGS {
+        check_case(&rt, rt.alloc(), false, case)?;
+    }
+    Ok(())
+}
+
+// A text of three hundred letters.
+fn long_text(alloc: Global) -> Result<String, AllocError> {
+    let mut text = String::new(alloc);
+    for _ in 0..30 {
+        text.push_str("abcdefghij")?;
+    }
+    Ok(text)
+}
+
+#[test]
+fn tells_long_texts(rt: HostRuntime) -> Result<(), Fail> {
+    let alloc = rt.alloc();
+    let long = long_text(alloc)?;
+    let lines = format!(in alloc; "text \"{long}\"\neof 1")?;
+    for plain in [false, true] {
+        let pieces = [long.as_str()];
+        check_case(&rt, alloc, plain, ("a text", &pieces, false, &lines))?;
+    }
+    let tag = format!(in alloc; "<{long} {long}='{long}'>")?;
+    let lines = format!(in alloc; "start 1 \"{long}\" \"{long}\"=\"{long}\"\neof 1")?;
+    let pieces = [tag.as_str()];
+    check_case(&rt, alloc, false, ("a tag", &pieces, false, &lines))?;
+    Ok(())
+}
