@@ -17,22 +17,17 @@ abbrev pub is_start_of : List ℕ → Told → Bool
 is_start_of name (Tag tag) = is_start_tag tag.kind && bytes_eq tag.name name
 is_start_of name other = false
 
--- behind the start tag `p` all is plain text, and behind the start tag `s` a script is run
-abbrev pub steering_reply : Collected → Told → ℕ → Reply ℕ
-steering_reply c told line =
+-- behind the start tag `p` all is plain text, behind `s` a script is run, and behind `x` stands a raw text
+abbrev pub reply_to : Told → Reply ℕ
+reply_to told =
     if is_start_of (codes "p") told then ReadPlainText
     else if is_start_of (codes "s") told then RunScript 7
+    else if is_start_of (codes "x") told then ReadRawData Rawtext
     else KeepOn
+
+abbrev pub steering_reply : Collected → Told → ℕ → Reply ℕ
+steering_reply c told line = reply_to told
 
 pub steering_keeps_on : (c : Collected) (told : Told) (line : ℕ) → is_tag told ≡ false → steering_reply c told line ≡ KeepOn
 steering_keeps_on c (Tag tag) line no_tag = absurd cc
 steering_keeps_on c other line no_tag = refl
-
--- behind the start tag `x` a raw text stands
-abbrev pub raw_text_reply : {H : Type 0} → Collected → Told → ℕ → Reply H
-raw_text_reply c told line = if is_start_of (codes "x") told then ReadRawData Rawtext else KeepOn
-
-pub raw_text_keeps_on : {H : Type 0} → (c : Collected) (told : Told) (line : ℕ) → is_tag told ≡ false
-    → raw_text_reply {H = H} c told line ≡ KeepOn
-raw_text_keeps_on c (Tag tag) line no_tag = absurd cc
-raw_text_keeps_on c other line no_tag = refl

@@ -2,7 +2,7 @@
 use crate::lines::lines_of;
 use crate::refused::{check_refused, drained};
 use crate::running::{options, push_text};
-use crate::sinks::RawTextSink;
+use crate::sinks::Steering;
 use html5ever::TokenizerError;
 use html5ever::tokenizer::{Tokenizer, TokenizerResult};
 use html5ever_interface::collect::Collector;
@@ -65,7 +65,7 @@ fn refuses_what_is_not_built(rt: HostRuntime) -> Result<(), Fail> {
 fn refuses_a_reply_that_is_not_built(rt: HostRuntime) -> Result<(), Fail> {
     let alloc = rt.alloc();
     let opts = options(false, false);
-    let mut tokenizer = Tokenizer::new(alloc, RawTextSink::new(alloc), opts);
+    let mut tokenizer = Tokenizer::new(alloc, Steering::new(alloc), opts);
     let mut queue = BufferQueue::new(alloc);
     push_text(alloc, &mut queue, "<a></x><xx>")?;
     assert_eq!(rt; tokenizer.feed(&mut queue), Ok(TokenizerResult::Done));

@@ -1,7 +1,7 @@
 //! Sinks that fault, and that reply.
-ghost use Rattle.std.specs.Prelude.{◌≡◌};
-ghost use Rattle.html5ever_interface.specs.Token.{told_by};
-ghost use Rattle.html5vectors.specs.Sinks.{is_start_of};
+ghost use Rattle.std.specs.Prelude.{◌≡◌, string_bytes};
+ghost use Rattle.html5ever_interface.specs.Token.{told_by, reply_of};
+ghost use Rattle.html5vectors.specs.Sinks.{is_start_of, reply_to};
 
 use html5ever_interface::collect::Collector;
 use html5ever_interface::interface::sink::TokenSink;
@@ -108,8 +108,23 @@ fn is_start_of<A: Allocator>(token: &Token<A>, name: &str) -> bool
     }
 }
 
-/// Collects tokens. It asks for plain text behind each start tag `p`, and to run a script behind
-/// each start tag `s`.
+// What is replied to a token.
+fn reply_to<A: Allocator>(token: &Token<A>) -> TokenSinkResult<u32, String<A>>
+    ensures { reply_of string_bytes result ≡ reply_to (told_by token.now) }
+{
+    if is_start_of(token, "p") {
+        TokenSinkResult::Plaintext
+    } else if is_start_of(token, "s") {
+        TokenSinkResult::Script(7)
+    } else if is_start_of(token, "x") {
+        TokenSinkResult::RawData(RawKind::Rawtext)
+    } else {
+        TokenSinkResult::Continue
+    }
+}
+
+/// Collects tokens. It asks for plain text behind each start tag `p`, to run a script behind each
+/// start tag `s`, and for raw text behind each start tag `x`.
 #[derive(Drop)]
 pub struct Steering<A: Allocator = Global> {
     pub inner: Collector<A>,
@@ -161,92 +176,10 @@ impl<A: Allocator + Copy> TokenSink<Token<A>> for Steering<A> {
         token: Token<A>,
         line_number: u64,
     ) -> Result<TokenSinkResult<u32, String<A>>, SinkFault> {
-        let plain = is_start_of(&token, "p");
-        let script = is_start_of(&token, "s");
+        let reply = reply_to(&token);
         match self.inner.process_token(token, line_number) {
-            Ok(_) => {}
-            Err(SinkFault) => return Err(SinkFault),
-        }
-        if plain {
-            Ok(TokenSinkResult::Plaintext)
-        } else if script {
-            Ok(TokenSinkResult::Script(7))
-        } else {
-            Ok(TokenSinkResult::Continue)
-        }
-    }
-
-    fn end(&mut self) -> Result<(), SinkFault> {
-        self.inner.end()
-    }
-
-    fn adjusted_current_node_present_but_not_in_html_namespace(&self) -> bool {
-        self.inner
-            .adjusted_current_node_present_but_not_in_html_namespace()
-    }
-}
-
-/// Collects tokens, and asks for a raw text behind each start tag `x`.
-#[derive(Drop)]
-pub struct RawTextSink {
-    pub inner: Collector,
-}
-
-impl RawTextSink {
-    pub fn new(alloc: Global) -> RawTextSink {
-        RawTextSink {
-            inner: Collector::new(alloc, false),
-        }
-    }
-}
-
-impl TokenSink<Token> for RawTextSink {
-    ghost use Rattle.html5ever_interface.specs.Collected.{Collected, collected_step, collected_faulted, collected_finish};
-    ghost use Rattle.html5ever_interface.specs.CollectorLaws.{collected_joins, collected_empty, collected_any_line};
-    ghost use Rattle.html5vectors.specs.Sinks.{raw_text_reply, raw_text_keeps_on};
-
-    type Handle = Infallible;
-
-    ghost State = { Collected };
-
-    ghost state = { λ s. s.inner.collected };
-
-    ghost faults = { λ s. s.inner.faults };
-
-    ghost step = { collected_step };
-
-    ghost reply = { raw_text_reply };
-
-    ghost foreign = { λ c. c.foreign };
-
-    ghost finish = { collected_finish };
-
-    ghost faulted = { collected_faulted };
-
-    ghost end_faulted = { λ c. c };
-
-    ghost joins = { collected_joins };
-
-    ghost empty = { collected_empty };
-
-    ghost any_line = { collected_any_line };
-
-    ghost keeps_on = { raw_text_keeps_on };
-
-    fn process_token(
-        &mut self,
-        token: Token,
-        line_number: u64,
-    ) -> Result<TokenSinkResult<Infallible, String>, SinkFault> {
-        let raw = is_start_of(&token, "x");
-        match self.inner.process_token(token, line_number) {
-            Ok(_) => {}
-            Err(SinkFault) => return Err(SinkFault),
-        }
-        if raw {
-            Ok(TokenSinkResult::RawData(RawKind::Rawtext))
-        } else {
-            Ok(TokenSinkResult::Continue)
+            Ok(_) => Ok(reply),
+            Err(SinkFault) => Err(SinkFault),
         }
     }
 
