@@ -1,5 +1,5 @@
 //! The displayed texts of errors.
-use html5ever::error::TokenizerError;
+use html5ever::TokenizerError;
 use std::test::Fail;
 
 #[test]

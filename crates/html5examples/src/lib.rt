@@ -1,0 +1,52 @@
+//! What a caller of the tokenizer writes, as README.md shows it.
+#![tactic(auto)]
+
+use html5ever::TokenizerError;
+use html5ever::tokenizer::collect::Collector;
+use html5ever::tokenizer::{
+    BufferQueue, Token, TokenSink, Tokenizer, TokenizerOpts, TokenizerResult, feed_until_done,
+};
+use std::alloc::Allocator;
+
+/// What a text tells that arrives in two pieces.
+pub fn tokens_of<A: Allocator + Copy>(
+    alloc: A,
+    first: String<A>,
+    second: String<A>,
+) -> Result<Collector<A>, TokenizerError> {
+    let sink = Collector::new(alloc, false); // or any lawful sink
+    let mut tokenizer = Tokenizer::new(alloc, sink, TokenizerOpts::default());
+    let mut queue = BufferQueue::new(alloc);
+    if queue.push_back(first).is_err() {
+        return Err(TokenizerError::Memory); // a refused text comes back
+    }
+    feed_until_done(&mut tokenizer, &mut queue)?; // told: exactly what the text so far decides
+    if queue.push_back(second).is_err() {
+        return Err(TokenizerError::Memory);
+    }
+    feed_until_done(&mut tokenizer, &mut queue)?;
+    tokenizer.end()?; // and now the whole reading, and that it ended
+    Ok(tokenizer.into_sink())
+}
+
+/// Reads a text. Where it pauses first, and that is to run a script, what the script wrote is put in.
+pub fn read_with_script<S: TokenSink<Token<A>> + Drop, A: Allocator + Copy>(
+    alloc: A,
+    sink: S,
+    text: String<A>,
+    written: String<A>,
+) -> Result<S, TokenizerError> {
+    let mut tokenizer = Tokenizer::new(alloc, sink, TokenizerOpts::default());
+    let mut queue = BufferQueue::new(alloc);
+    if queue.push_back(text).is_err() {
+        return Err(TokenizerError::Memory);
+    }
+    if let TokenizerResult::Script(_) = tokenizer.feed(&mut queue)? {
+        if queue.push_front(written).is_err() {
+            return Err(TokenizerError::Memory); // in front of what follows the tag's `>`
+        }
+    }
+    feed_until_done(&mut tokenizer, &mut queue)?; // past all further pauses
+    tokenizer.end()?;
+    Ok(tokenizer.into_sink())
+}

@@ -1,0 +1,39 @@
+//! What README.md shows of the library.
+use crate::lines::lines_of;
+use crate::sinks::Steering;
+use html5examples::{read_with_script, tokens_of};
+use std::test::Fail;
+
+#[test]
+fn tells_what_two_pieces_tell(rt: HostRuntime) -> Result<(), Fail> {
+    let alloc = rt.alloc();
+    let first = String::from_str(alloc, "<p cla")?;
+    let second = String::from_str(alloc, "ss=a>text")?;
+    let sink = tokens_of(alloc, first, second)?;
+    assert!(rt; sink.is_finished());
+    assert_eq!(rt;
+        lines_of(alloc, sink.entries())?.as_str(),
+        "start 1 \"p\" \"class\"=\"a\"\ntext \"text\"\neof 1"
+    );
+    Ok(())
+}
+
+#[test]
+fn puts_in_what_a_script_wrote(rt: HostRuntime) -> Result<(), Fail> {
+    let alloc = rt.alloc();
+    let cases = [
+        (
+            "a<s>\r\nx<s>y",
+            "text \"a\"\nstart 1 \"s\"\nstart 1 \"b\"\ntext \"\\nx\"\nstart 2 \"s\"\ntext \"y\"\neof 2",
+        ),
+        ("a", "text \"a\"\neof 1"),
+    ];
+    for (text, lines) in cases {
+        let text = String::from_str(alloc, text)?;
+        let written = String::from_str(alloc, "<b>")?;
+        let sink = read_with_script(alloc, Steering::new(alloc), text, written)?;
+        assert!(rt; sink.inner.is_finished(), "{lines}");
+        assert_eq!(rt; lines_of(alloc, sink.inner.entries())?.as_str(), lines);
+    }
+    Ok(())
+}
