@@ -4,15 +4,19 @@ ghost use Rattle.html5states.specs.declared.error.TokenizerError.TheVariants.{Me
 use std::alloc::AllocError;
 use thiserror::Error;
 
-/// Why a call of the tokenizer stopped.
+/// Why a call of the tokenizer stopped. Behind each of these every further call is refused.
 #[derive(Clone, Copy, Debug, PartialEq, Eq, Error)]
 pub enum TokenizerError {
+    /// A growth was refused: the sink was told a beginning of what was due.
     #[error("out of memory")]
     Memory,
+    /// The sink faulted at a token, or at its end: it is as its own contract says of that fault.
     #[error("the sink could not take a token")]
     Sink,
+    /// An earlier call was refused: nothing was told, and nothing was taken.
     #[error("an earlier call failed")]
     Failed,
+    /// The text has what isn't built yet: the sink was told exactly what comes before it.
     #[error("not built yet")]
     NotYet,
 }
