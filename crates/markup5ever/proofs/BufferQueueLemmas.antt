@@ -1,143 +1,131 @@
-use Rattle.std.proofs.Common.{Option, ◌≡◌, ◌↔◌, ℕ, ◌<◌, ◌≤◌, List, [], ◌∷◌, ◌++◌, length, get_or, set, drop, String, refl, sym, ap, ◌∙◌, arith, length-append, length-drop}
-use Rattle.std.specs.List.{slice_get}
-use Rattle.std.specs.Prelude.{IfSome}
+use Rattle.std.proofs.Common.{Bool, true, Option, ◌≡◌, ◌↔◌, ℕ, ◌+◌, ◌<◌, ◌≤◌, List, [], ◌∷◌, ◌++◌, length, take, drop, encode_utf8_all, refl, sym, ap, ◌∙◌, arith, length-append, length-drop}
+use Rattle.std.specs.List.{slice_get, slice_range}
+use Rattle.std.specs.Prelude.{IsNone, IfSome, if◌then◌else◌}
 use Rattle.std.specs.Str.{IsUtf8, IsCharBoundary, chars}
-use Rattle.std.specs.String.{string_bytes}
-use Rattle.std.proofs.lemmas.List.{append-nil, append_assoc, drop_all}
-use Rattle.std.proofs.lemmas.List.Concat.{flat_map-append}
-use Rattle.std.proofs.lemmas.List.Elements.{All-nil, All-cons, All-head, All-tail}
-use Rattle.std.proofs.lemmas.Str.{chars-nil, chars-append, IsUtf8-string_bytes, IsCharBoundary-from_drop}
-use Rattle.markup5ever.specs.BufferQueue.{TextQueue, Gains, GainsFront, all_chars, unread, waiting, waiting_after, AllFilled, IsReadTo}
-use Rattle.markup5ever.specs.SetResult.{TakesRun}
+use Rattle.std.proofs.lemmas.List.{append-nil, append_cancel_left, drop-append-le, drop-drop, drop_all, take_all}
+use Rattle.std.proofs.lemmas.List.Elements.{All-head}
+use Rattle.std.proofs.lemmas.Str.{chars-append, chars_from_encodes, encodes-chars, length-le-encodes, IsCharBoundary-from_drop, IsUtf8-append, IsUtf8-take}
+use Rattle.markup5ever.specs.BufferQueue.{TextQueue, Gains, GainsFront, Takes, IsReadTo}
+use Rattle.markup5ever.specs.SetResult.{TakesRun, EndsRun}
 use Rattle.markup5ever.specs.SmallCharSet.{IsMember}
-use Rattle.markup5ever.proofs.TextLemmas.{nil_from_length, filled_length, filled_chars}
+use Rattle.markup5ever.proofs.TextLemmas.{nil_from_length, filled_length, chars_cut}
 
-first_of_append : (xs ys zs : List ℕ) (c : ℕ) → 0 < length xs → xs ++ ys ≡ c ∷ zs → (rest : List ℕ) × (xs ≡ c ∷ rest)
-first_of_append [] ys zs c some e = absurd (omega (arith, some))
-first_of_append (x ∷ xs) ys zs c some e = (xs, cc)
+-- ---- the text that waits, and its bytes
 
-module _ {Z : Type 0} where
-  -- ---- what waits of some texts
+-- the bytes of the characters that wait are the text behind the offset
+pub waiting_bytes : (text waiting : List ℕ) (offset : ℕ) → IsReadTo text offset → chars (drop offset text) ≡ waiting → encode_utf8_all waiting ≡ drop offset text
+waiting_bytes text waiting offset read is =
+    ap encode_utf8_all (sym is) ∙ encodes-chars (drop offset text) read.rest_utf8
 
-  first_filled : (first : String Z) (later : List (String Z)) (offset : ℕ) → IsReadTo (first ∷ later) offset → 0 < length (chars (drop offset (string_bytes first)))
-  first_filled first later offset read =
-      filled_chars (drop offset (string_bytes first)) read.1 (simp length-drop (omega (arith, read.0)))
+pub waiting_chars : (front waiting : List ℕ) → IsUtf8 front → front ≡ encode_utf8_all waiting → chars front ≡ waiting
+waiting_chars front waiting utf8 is = sym (chars_from_encodes waiting front utf8 (sym is))
 
-  pub waiting_no_text : (texts : List (String Z)) (offset : ℕ) → length texts ≡ 0 → waiting texts offset ≡ []
-  waiting_no_text [] offset none = rw chars-nil
-  waiting_no_text (first ∷ later) offset none = absurd (omega (arith, none))
+pub none_waits : (waiting : List ℕ) → length (encode_utf8_all waiting) ≡ 0 → waiting ≡ []
+none_waits waiting none = nil_from_length waiting (omega (arith, none, length-le-encodes waiting))
 
-  -- where no character waits, there is no text
-  waiting_none : (texts : List (String Z)) (offset : ℕ) → IsReadTo texts offset → length (waiting texts offset) ≡ 0 → length texts ≡ 0
-  waiting_none [] offset read none = refl
-  waiting_none (first ∷ later) offset read none =
-      let unread = chars (drop offset (string_bytes first)) in
-      absurd (omega (arith, none, length-append unread (all_chars later), first_filled first later offset read))
+-- ---- the offset
 
-  pub waiting-is_empty : (texts : List (String Z)) (offset : ℕ) → IsReadTo texts offset → (length texts ≡ 0) ↔ (waiting texts offset ≡ [])
-  waiting-is_empty texts offset read =
-      (waiting_no_text texts offset, λ e. waiting_none texts offset read (ap length e))
+pub read_boundary : (text : List ℕ) (offset : ℕ) → IsReadTo text offset → IsCharBoundary text offset
+read_boundary text offset read = IsCharBoundary-from_drop text offset read.within read.rest_utf8
 
-  -- the first character that waits is the first of the first text
-  pub first_unread : (texts : List (String Z)) (offset c : ℕ) (after : List ℕ) → IsReadTo texts offset → waiting texts offset ≡ c ∷ after → (rest : List ℕ) × (chars (unread texts offset) ≡ c ∷ rest)
-  first_unread [] offset c after read e = absurd (omega (arith, ap length e, ap length (waiting_no_text [] offset refl)))
-  first_unread (first ∷ later) offset c after read e =
-      first_of_append (chars (drop offset (string_bytes first))) (all_chars later) after c (first_filled first later offset read) e
+pub IsReadTo-start : (text : List ℕ) → IsUtf8 text → IsReadTo text 0
+IsReadTo-start text utf8 = record { within = omega arith; rest_utf8 = utf8 }
 
-  -- the first text may be cut at the offset
-  pub first_boundary : (texts : List (String Z)) (first : String Z) (offset : ℕ) → IsReadTo texts offset → 0 < length texts → first ≡ get_or texts 0 first → IsCharBoundary (string_bytes first) offset
-  first_boundary [] first offset read some is_first = absurd (omega (arith, some))
-  first_boundary (text ∷ later) first offset read some is_first =
-      rw is_first (IsCharBoundary-from_drop (string_bytes text) offset (omega (arith, read.0)) read.1)
+-- so many bytes further
+pub IsReadTo-more : (text front : List ℕ) (offset bytes : ℕ) → front ≡ drop offset text → bytes < length front → IsUtf8 (drop bytes front) → IsReadTo text (offset + bytes)
+IsReadTo-more text front offset bytes is within utf8 = record {
+  within = omega (arith, within, ap length is, length-drop offset text);
+  rest_utf8 = rw (is, drop-drop) at utf8;
+}
 
-  -- ---- texts of which nothing was read
+-- what waits is what so many bytes take, and what waits then
+pub taken_apart : (text waiting : List ℕ) (offset bytes : ℕ) → IsReadTo text offset → chars (drop offset text) ≡ waiting → bytes ≤ length (encode_utf8_all waiting) → IsUtf8 (drop bytes (encode_utf8_all waiting)) → waiting ≡ chars (take bytes (encode_utf8_all waiting)) ++ chars (drop (offset + bytes) text)
+taken_apart text waiting offset bytes read is within utf8 =
+    let front = drop offset text in
+    let all : encode_utf8_all waiting ≡ front = waiting_bytes text waiting offset read is in
+    let boundary : IsCharBoundary front bytes = IsCharBoundary-from_drop front bytes (rw all at within) (rw all at utf8) in
+    let cut : waiting ≡ chars (take bytes front) ++ chars (drop bytes front) = sym is ∙ chars_cut front bytes (IsUtf8-take front bytes read.rest_utf8 boundary) in
+    cut ∙ ap (λ bs. chars (take bytes bs) ++ chars (drop bytes front)) (sym all) ∙ ap (λ bs. chars (take bytes (encode_utf8_all waiting)) ++ chars bs) (drop-drop bytes offset text)
 
-  read_from_start : (texts : List (String Z)) → AllFilled texts → IsReadTo texts 0
-  read_from_start [] filled = refl
-  read_from_start (first ∷ later) filled =
-      let IsFilled : String Z → Type 0 = λ text. string_bytes text ≡ [] → ⊥ in
-      (filled_length (string_bytes first) (All-head IsFilled first later filled), IsUtf8-string_bytes first, All-tail IsFilled first later filled)
+-- the first bytes of a text, as a range and as a beginning
+pub range_from_start : (text : List ℕ) (bytes : ℕ) → slice_range text 0 bytes ≡ take bytes text
+range_from_start text bytes = ap (λ n. take n text) (omega arith)
 
-  AllFilled-unread : (texts : List (String Z)) → IsReadTo texts 0 → AllFilled texts
-  AllFilled-unread [] read = All-nil (λ (text : String Z). string_bytes text ≡ [] → ⊥)
-  AllFilled-unread (first ∷ later) read =
-      All-cons (λ (text : String Z). string_bytes text ≡ [] → ⊥) first later (λ none. omega (arith, read.0, ap length none)) read.2
+-- so many bytes were taken, and their characters counted
+pub takes_bytes : (old new : TextQueue) (text run : List ℕ) (offset bytes : ℕ) → IsReadTo text offset → chars (drop offset text) ≡ old.text → run ≡ take bytes (drop offset text) → bytes ≤ length (encode_utf8_all old.text) → IsUtf8 (drop bytes (encode_utf8_all old.text)) → new.text ≡ chars (drop (offset + bytes) text) → new.handed_in ≡ old.handed_in → new.taken ≡ old.taken + length (chars run) → Takes old new (chars (take bytes (encode_utf8_all old.text)))
+takes_bytes old new text run offset bytes read is run_is within utf8 rest_is handed_in taken =
+    let all : drop offset text ≡ encode_utf8_all old.text = sym (waiting_bytes text old.text offset read is) in
+    record {
+      text = rw rest_is (taken_apart text old.text offset bytes read is within utf8);
+      handed_in = handed_in;
+      taken = taken ∙ ap (λ bs. old.taken + length (chars bs)) (run_is ∙ ap (take bytes) all);
+    }
 
-  waiting_from_start : (texts : List (String Z)) → waiting texts 0 ≡ all_chars texts
-  waiting_from_start [] = rw chars-nil
-  waiting_from_start (first ∷ later) = refl
+-- all bytes are taken of a text of which nothing was read
+pub whole_run : (text : List ℕ) (offset bytes : ℕ) → offset ≡ 0 → bytes ≡ length text → text ≡ take bytes (drop offset text)
+whole_run text offset bytes start whole =
+    sym (ap (λ n. take bytes (drop n text)) start ∙ take_all bytes text (omega (arith, whole)))
 
-  -- ---- the texts without the first
+pub whole_text : (text waiting : List ℕ) (offset bytes : ℕ) → IsReadTo text offset → chars (drop offset text) ≡ waiting → offset ≡ 0 → bytes ≡ length text → text ≡ take bytes (encode_utf8_all waiting)
+whole_text text waiting offset bytes read is start whole =
+    whole_run text offset bytes start whole ∙ ap (take bytes) (sym (waiting_bytes text waiting offset read is))
 
-  pub IsReadTo-pop : (texts rest : List (String Z)) (offset start : ℕ) → rest ≡ drop 1 texts → start ≡ 0 → IsReadTo texts offset → IsReadTo rest start
-  IsReadTo-pop [] rest offset start popped at_start read = rw popped at_start
-  IsReadTo-pop (first ∷ later) rest offset start popped at_start read =
-      rw (popped, at_start) (read_from_start later read.2)
+pub past_whole_text : (text empty : List ℕ) (offset bytes : ℕ) → empty ≡ [] → bytes ≡ length text → chars (drop offset empty) ≡ chars (drop (offset + bytes) text)
+past_whole_text text empty offset bytes none whole =
+    let nothing : List ℕ = [] in
+    ap (λ bs. chars (drop offset bs)) none ∙ ap chars (drop_all offset nothing (omega arith) ∙ sym (drop_all (offset + bytes) text (omega (arith, whole))))
 
-  pub waiting-pop : (texts rest : List (String Z)) (offset start bytes : ℕ) → rest ≡ drop 1 texts → start ≡ 0 → length (unread texts offset) ≤ bytes → waiting rest start ≡ waiting_after texts offset bytes
-  waiting-pop [] rest offset start bytes popped at_start all =
-      rw popped (ap (λ cs. chars cs ++ []) (sym (drop_all bytes [] all)))
-  waiting-pop (first ∷ later) rest offset start bytes popped at_start all =
-      rw (popped, at_start, drop_all bytes (drop offset (string_bytes first)) all, chars-nil) (waiting_from_start later)
+-- where each first character is a member of the set, no run goes on
+pub ends_run : (set : ℕ) (text : List ℕ) → ((c : ℕ) (rest : List ℕ) → text ≡ c ∷ rest → IsMember set c) → EndsRun set text
+ends_run set [] stops = tt
+ends_run set (c ∷ rest) stops = stops c rest refl
 
-  -- ---- the texts with one more
+-- a run that begins what waits, and behind which each first character is a member of the set
+pub rest_ends_run : (set : ℕ) (front run rest : List ℕ) (len : ℕ) → IsUtf8 run → run ≡ take len front → chars front ≡ chars run ++ rest → ((c : ℕ) (cs : List ℕ) → chars (drop len front) ≡ c ∷ cs → IsMember set c) → EndsRun set rest
+rest_ends_run set front run rest len utf8 run_is split stops =
+    let cut : chars front ≡ chars run ++ chars (drop len front) = rw run_is (chars_cut front len (rw run_is at utf8)) in
+    let rest_is : rest ≡ chars (drop len front) = append_cancel_left (chars run) rest (chars (drop len front)) (sym split ∙ cut) in
+    rw rest_is (ends_run set (chars (drop len front)) stops)
 
-  pub waiting-push : (texts : List (String Z)) (offset : ℕ) (text : String Z) → IsReadTo texts offset → waiting (texts ++ text ∷ []) offset ≡ waiting texts offset ++ chars (string_bytes text)
-  waiting-push [] offset text read = rw (read, chars-nil, append-nil)
-  waiting-push (first ∷ later) offset text read =
-      rw (flat_map-append (λ t. chars (string_bytes t)) later (text ∷ []), append-nil) (sym (append_assoc (chars (drop offset (string_bytes first))) (all_chars later) (chars (string_bytes text))))
+-- ---- the first character
 
-  -- ---- the texts with one more in front, where nothing was read of the first
+pub first_waits : (waiting : List ℕ) (r : Option ℕ) → r ≡ slice_get waiting 0 → IfSome r (λ c. (rest : List ℕ) × (waiting ≡ c ∷ rest))
+first_waits [] r is = rw is tt
+first_waits (c ∷ rest) r is = rw is (rest, refl)
 
-  pub IsReadTo-push_front : (texts : List (String Z)) (offset : ℕ) (text : String Z) → offset ≡ 0 → (string_bytes text ≡ [] → ⊥) → IsReadTo texts offset → IsReadTo (text ∷ texts) offset
-  IsReadTo-push_front texts offset text at_start filled read =
-      rw at_start (filled_length (string_bytes text) filled, IsUtf8-string_bytes text, AllFilled-unread texts (rw at_start at read))
+pub first_none : (waiting : List ℕ) (r : Option ℕ) → r ≡ slice_get waiting 0 → IsNone r ↔ (waiting ≡ [])
+first_none [] r is = rw is ((λ _. refl), (λ _. refl))
+first_none (c ∷ rest) r is = rw is ((λ none. absurd cc), (λ e. absurd (omega (arith, ap length e))))
 
-  pub waiting-push_front : (texts : List (String Z)) (offset : ℕ) (text : String Z) → offset ≡ 0 → waiting (text ∷ texts) offset ≡ chars (string_bytes text) ++ waiting texts offset
-  waiting-push_front texts offset text at_start =
-      rw at_start (ap (λ cs. chars (string_bytes text) ++ cs) (sym (waiting_from_start texts)))
+-- ---- what a text gains
 
-  -- ---- the texts with another first, where bytes stand in front of what waits of the first
+-- a text that is appended where the call answers Ok
+pub appended : (grown text back : List ℕ) (ok : Bool) → ok ≡ true → grown ≡ (if ok then text ++ back else text) → grown ≡ text ++ back
+appended grown text back ok is e = rw is at e
 
-  pub IsReadTo-refront : (texts : List (String Z)) (old new : String Z) (offset : ℕ) (front : List ℕ) → IsReadTo texts offset → (offset ≡ 0 → ⊥) → old ≡ get_or texts 0 old → string_bytes new ≡ front ++ drop offset (string_bytes old) → IsReadTo (set texts 0 new) 0
-  IsReadTo-refront [] old new offset front read begun is_first new_is = absurd (begun read)
-  IsReadTo-refront (first ∷ later) old new offset front read begun is_first new_is =
-      let rest = drop offset (string_bytes first) in
-      let bytes : string_bytes new ≡ front ++ rest = rw is_first at new_is in
-      let filled : 0 < length (string_bytes new) = omega (arith, read.0, ap length bytes, length-append front rest, length-drop offset (string_bytes first)) in
-      (filled, IsUtf8-string_bytes new, read.2)
+pub IsReadTo-append : (text grown back : List ℕ) (offset : ℕ) → IsReadTo text offset → IsUtf8 back → grown ≡ text ++ back → IsReadTo grown offset
+IsReadTo-append text grown back offset read utf8 e = rw e (record {
+  within = omega (arith, read.within, length-append text back);
+  rest_utf8 = rw (drop-append-le offset text back read.within) (IsUtf8-append (drop offset text) back read.rest_utf8 utf8);
+})
 
-  pub waiting-refront : (texts : List (String Z)) (old new : String Z) (offset : ℕ) (front : List ℕ) → IsReadTo texts offset → (offset ≡ 0 → ⊥) → old ≡ get_or texts 0 old → string_bytes new ≡ front ++ drop offset (string_bytes old) → IsUtf8 front → waiting (set texts 0 new) 0 ≡ chars front ++ waiting texts offset
-  waiting-refront [] old new offset front read begun is_first new_is utf8 = absurd (begun read)
-  waiting-refront (first ∷ later) old new offset front read begun is_first new_is utf8 =
-      let rest = drop offset (string_bytes first) in
-      let bytes : string_bytes new ≡ front ++ rest = rw is_first at new_is in
-      ap (λ cs. cs ++ all_chars later) (ap chars bytes ∙ chars-append front rest utf8) ∙ append_assoc (chars front) (chars rest) (all_chars later)
+pub chars_behind : (text grown back : List ℕ) (offset : ℕ) → IsReadTo text offset → grown ≡ text ++ back → chars (drop offset grown) ≡ chars (drop offset text) ++ chars back
+chars_behind text grown back offset read e =
+    ap (λ bs. chars (drop offset bs)) e ∙ ap chars (drop-append-le offset text back read.within) ∙ chars-append (drop offset text) back read.rest_utf8
 
 -- ---- what a queue gains and gives
 
 pub GainsFront-none : (queue : TextQueue) (cs : List ℕ) → cs ≡ [] → GainsFront queue queue cs
 GainsFront-none queue cs none = rw none (record { text = refl; handed_in = omega arith; taken = refl })
 
-pub Gains-none : (queue : TextQueue) (cs : List ℕ) → length cs ≡ 0 → Gains queue queue cs
-Gains-none queue cs none =
-    rw (nil_from_length cs none) (record { text = sym (append-nil queue.text); handed_in = omega arith; taken = refl })
+pub Gains-none : (queue : TextQueue) (cs : List ℕ) → cs ≡ [] → Gains queue queue cs
+Gains-none queue cs none = rw none (record { text = sym (append-nil queue.text); handed_in = omega arith; taken = refl })
 
--- the front comes off the first text
-pub takes_text : (old new unread front rest later : List ℕ) → unread ++ later ≡ old → unread ≡ front ++ rest → new ≡ rest ++ later → old ≡ front ++ new
-takes_text old new unread front rest later was split is =
-    sym was ∙ ap (λ cs. cs ++ later) split ∙ append_assoc front rest later ∙ ap (λ cs. front ++ cs) (sym is)
+first_of_append : (xs ys zs : List ℕ) (c : ℕ) → 0 < length xs → xs ++ ys ≡ c ∷ zs → (rest : List ℕ) × (xs ≡ c ∷ rest)
+first_of_append [] ys zs c some e = absurd (omega (arith, some))
+first_of_append (x ∷ xs) ys zs c some e = (xs, cc)
 
--- the first character, where there is one
-pub first_waits : (front later text : List ℕ) (r : Option ℕ) → r ≡ slice_get front 0 → front ++ later ≡ text → IfSome r (λ c. (rest : List ℕ) × (text ≡ c ∷ rest))
-first_waits [] later text r is was = rw is tt
-first_waits (c ∷ front) later text r is was = rw is (front ++ later, sym was)
-
--- a run is taken only where something waits, and not where a member of the set is first
-pub TakesRun-some : (set : ℕ) (old new : TextQueue) (run : List ℕ) → TakesRun set old new run → old.text ≡ [] → ⊥
-TakesRun-some set old new run taken e =
-    taken.filled (nil_from_length run (omega (arith, ap length (sym taken.takes.text ∙ e), length-append run new.text)))
-
+-- no run is taken where a member of the set is first
 pub TakesRun-no_member : (set : ℕ) (old new : TextQueue) (run : List ℕ) (c : ℕ) (rest : List ℕ) → TakesRun set old new run → old.text ≡ c ∷ rest → IsMember set c → ⊥
 TakesRun-no_member set old new run c rest taken e member =
     let first = first_of_append run new.text rest c (filled_length run taken.filled) (sym taken.takes.text ∙ e) in

@@ -1,4 +1,4 @@
-use Rattle.std.proofs.Common.{◌≡◌, ℕ, ◌+◌, ◌<◌, ◌≤◌, List, [], ◌∷◌, ◌++◌, length, take, drop, encode_utf8, encode_utf8_all, refl, sym, ap, ◌∙◌, inl, inr, arith}
+use Rattle.std.proofs.Common.{◌≡◌, ℕ, ◌+◌, ◌<◌, ◌≤◌, List, [], ◌∷◌, ◌++◌, length, take, drop, encode_utf8, encode_utf8_all, refl, sym, ap, ◌∙◌, inl, inr, arith, length-append}
 use Rattle.std.specs.Char.{len_utf8}
 use Rattle.std.specs.Str.{IsUtf8, chars}
 use Rattle.std.proofs.lemmas.Bool.{cases_eq}
@@ -27,17 +27,21 @@ filled_chars bs utf8 filled =
 pub chars_cut : (bs : List ℕ) (n : ℕ) → IsUtf8 (take n bs) → chars bs ≡ chars (take n bs) ++ chars (drop n bs)
 chars_cut bs n utf8 = ap chars (sym (take-append-drop n bs)) ∙ chars-append (take n bs) (drop n bs) utf8
 
--- what follows the first character, which takes so many bytes
+-- the first character, which takes so many bytes, and what follows it
 pub record BeginsWith (bs : List ℕ) (c width : ℕ) : Type 0 where
   pub rest_utf8 : IsUtf8 (drop width bs)
   pub chars_are : chars bs ≡ c ∷ chars (drop width bs)
+  pub first_is : chars (take width bs) ≡ c ∷ []
 
 pub begins_with : (bs front rest : List ℕ) (c width : ℕ) → front ≡ bs → IsUtf8 front → front ≡ encode_utf8 c ++ rest → width ≡ len_utf8 c → BeginsWith bs c width
 begins_with bs front rest c width same utf8 e measured =
     let rest_is : drop width front ≡ rest = ap (drop width) e ∙ drop_at (encode_utf8 c) rest width (length-encode c ∙ sym measured) in
     let rest_utf8 : IsUtf8 (drop width front) = rw rest_is (IsUtf8-past_char front rest c utf8 e) in
     let chars_are : chars front ≡ c ∷ chars (drop width front) = rw rest_is (chars_past_char front rest c utf8 e) in
-    record { rest_utf8 = rw same at rest_utf8; chars_are = rw same at chars_are }
+    let rest_length : width + length rest ≡ length front = sym (ap length e ∙ length-append (encode_utf8 c) rest ∙ ap (λ n. n + length rest) (length-encode c ∙ sym measured)) in
+    let front_utf8 = IsUtf8-take front width utf8 (IsCharBoundary-from_drop front width (omega (arith, rest_length)) rest_utf8) in
+    let first_is : chars (take width front) ≡ c ∷ [] = append_cancel_right (chars (take width front)) (c ∷ []) (chars (drop width front)) (sym (chars_cut front width front_utf8) ∙ chars_are) in
+    record { rest_utf8 = rw same at rest_utf8; chars_are = rw same at chars_are; first_is = rw same at first_is }
 
 -- the characters up to one more
 pub chars_take_char : (text rest : List ℕ) (len c : ℕ) → IsUtf8 text → len ≤ length text → IsUtf8 (drop len text) → drop len text ≡ encode_utf8 c ++ rest → chars (take (len + len_utf8 c) text) ≡ chars (take len text) ++ c ∷ []

@@ -22,3 +22,14 @@ abbrev pub Pops : {Z : Type 0} → ℕ → TextQueue → TextQueue → Option (S
 Pops set old new None = (old.text ≡ []) × (new ≡ old)
 Pops set old new (Some (FromSet c)) = TakesMember set old new c
 Pops set old new (Some (NotFromSet run)) = TakesRun set old new (chars (string_bytes run))
+
+-- no run goes on into this text: it is empty or begins with a member of the set
+abbrev pub EndsRun : ℕ → List ℕ → Type 0
+EndsRun set [] = Unit {0}
+EndsRun set (c ∷ rest) = IsMember set c
+
+-- a run that was taken is the longest
+abbrev pub IsLongest : {Z : Type 0} → ℕ → TextQueue → Option (SetResult Z) → Type 0
+IsLongest set new None = Unit {0}
+IsLongest set new (Some (FromSet c)) = Unit {0}
+IsLongest set new (Some (NotFromSet run)) = EndsRun set new.text

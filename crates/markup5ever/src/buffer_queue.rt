@@ -1,16 +1,19 @@
 //! The text that waits to be read.
-ghost use Rattle.std.specs.Prelude.{◌≡◌, ◌≢◌, ℕ, ◌<◌, ◌≤◌, ◌↔◌, List, [], ◌∷◌, ◌++◌, length, take, drop, IsTrue, IsNone, IsOk, IfOk, IfErr, IfSome, IfNone, OnOk, OnErr};
+ghost use Rattle.std.specs.Prelude.{◌≡◌, ℕ, ◌<◌, ◌≤◌, ◌↔◌, List, [], ◌∷◌, length, take, drop, encode_utf8_all, IsTrue, IsNone, IsOk, IfOk, IfErr, IfSome, IfNone, OnOk, OnErr};
 ghost use Rattle.std.specs.Char.{IsScalar};
 ghost use Rattle.std.specs.Str.{IsUtf8, chars};
 ghost use Rattle.std.specs.String.{string_bytes};
-ghost use Rattle.markup5ever.specs.BufferQueue.{Gains, GainsFront, Takes, unread, waiting, waiting_after, IsReadTo};
+ghost use Rattle.markup5ever.specs.BufferQueue.{Gains, GainsFront, Takes};
 ghost use Rattle.markup5ever.specs.SmallCharSet.{IsMember};
 
 use crate::count::Count;
 use crate::small_char_set::SmallCharSet;
 use std::alloc::{AllocError, Allocator, Global};
-use std::collections::VecDeque;
 use std::marker::Model;
+use std::mem;
+
+#[cfg(test)]
+mod tests;
 
 /// What `BufferQueue::pop_except_from` took.
 #[derive(Drop)]
@@ -22,28 +25,31 @@ pub enum SetResult<A: Allocator = Global> {
     NotFromSet(String<A>),
 }
 
-/// The texts that wait to be read, in the order in which they came.
+/// The text that waits to be read.
 #[derive(Drop)]
 pub struct BufferQueue<A: Allocator = Global> {
-    buffers: VecDeque<String<A>, A>,
-    // How many bytes of the first text were taken.
+    text: String<A>,
+    // How many bytes of the text were taken.
     offset: usize,
     handed_in: Count,
     taken: Count,
 }
 
 impl<A: Allocator> Model for BufferQueue<A> {
-    ghost use Rattle.markup5ever.specs.BufferQueue.{TextQueue, waiting, IsReadTo};
+    ghost use Rattle.std.specs.Prelude.{drop};
+    ghost use Rattle.std.specs.Str.{chars};
+    ghost use Rattle.std.specs.String.{string_bytes};
+    ghost use Rattle.markup5ever.specs.BufferQueue.{TextQueue, IsReadTo};
 
     ghost Value = { TextQueue };
 
     ghost view = { λ q. record {
-      text = waiting q.buffers.items q.offset;
+      text = chars (drop q.offset (string_bytes q.text));
       handed_in = q.handed_in.total;
       taken = q.taken.total;
     } };
 
-    ghost invariant = { λ q. IsReadTo q.buffers.items q.offset };
+    ghost invariant = { λ q. IsReadTo (string_bytes q.text) q.offset };
 }
 
 impl<A: Allocator> BufferQueue<A> {
@@ -54,7 +60,7 @@ impl<A: Allocator> BufferQueue<A> {
         ensures taken { result.taken ≡ 0 }
     {
         BufferQueue {
-            buffers: VecDeque::new(alloc),
+            text: String::new(alloc),
             offset: 0,
             handed_in: Count::new(),
             taken: Count::new(),
@@ -64,7 +70,14 @@ impl<A: Allocator> BufferQueue<A> {
     pub fn is_empty(&self) -> bool
         ensures { IsTrue result ↔ (self.now.text ≡ []) }
     {
-        self.buffers.is_empty()
+        self.front_text().is_empty()
+    }
+
+    // All that waits.
+    fn front_text(&self) -> &str
+        ensures { result.now ≡ encode_utf8_all self.now.text }
+    {
+        &self.text[self.offset..]
     }
 
     /// Hands in a text, which comes back where there is no memory for it.
@@ -77,18 +90,32 @@ impl<A: Allocator> BufferQueue<A> {
         if text.is_empty() {
             return Ok(());
         }
-        let count = char_count(&text);
-        match self.buffers.push_back(text) {
-            Ok(()) => {
-                self.handed_in.add(count);
-                Ok(())
-            }
-            Err(failed) => Err(failed.value),
+        let handed_in = self.handed_in.with_chars(&text);
+        if self.is_empty() {
+            self.text = text;
+            self.offset = 0;
+            self.handed_in = handed_in;
+            return Ok(());
+        }
+        self.drop_taken();
+        if self.text.push_str(&text).is_err() {
+            return Err(text);
+        }
+        self.handed_in = handed_in;
+        Ok(())
+    }
+
+    // Moves what waits to the front of the text's memory, once more than half of the text was taken.
+    fn drop_taken(&mut self)
+        ensures { self.new ≡ self.old }
+    {
+        if self.offset > self.text.len() / 2 && self.text.replace_range(..self.offset, "").is_ok() {
+            self.offset = 0;
         }
     }
 
     /// Hands in a text in front of what waits. It comes back where there is no memory for it.
-    pub fn push_front(&mut self, text: String<A>) -> Result<(), String<A>>
+    pub fn push_front(&mut self, mut text: String<A>) -> Result<(), String<A>>
         ensures ok { OnOk result (GainsFront self.old self.new (chars (string_bytes text))) }
         ensures err { OnErr result (self.new ≡ self.old) }
         ensures returned { IfErr result (λ back. string_bytes back ≡ string_bytes text) }
@@ -97,14 +124,14 @@ impl<A: Allocator> BufferQueue<A> {
         if text.is_empty() {
             return Ok(());
         }
-        let characters = char_count(&text);
-        match put_in_front(&mut self.buffers, &mut self.offset, text) {
-            Ok(()) => {
-                self.handed_in.add(characters);
-                Ok(())
-            }
-            Err(text) => Err(text),
+        let handed_in = self.handed_in.with_chars(&text);
+        if text.push_str(self.front_text()).is_err() {
+            return Err(text);
         }
+        self.text = text;
+        self.offset = 0;
+        self.handed_in = handed_in;
+        Ok(())
     }
 
     /// The first character, which goes on waiting.
@@ -112,7 +139,7 @@ impl<A: Allocator> BufferQueue<A> {
         ensures none { IsNone result ↔ (self.now.text ≡ []) }
         ensures some { IfSome result (λ c. (rest : List ℕ) × (self.now.text ≡ c ∷ rest)) }
     {
-        let waiting = front(&self.buffers, self.offset);
+        let waiting = self.front_text();
         waiting.chars().next()
     }
 
@@ -123,246 +150,69 @@ impl<A: Allocator> BufferQueue<A> {
         ensures scalar { IfSome result IsScalar }
         ensures unchanged { IfNone result (self.new ≡ self.old) }
     {
-        let c = front(&self.buffers, self.offset).chars().next()?;
-        advance(&mut self.buffers, &mut self.offset, c.len_utf8());
-        self.taken.add(1);
+        let c = self.front_text().chars().next()?;
+        self.skip(c.len_utf8());
         Some(c)
+    }
+
+    // Takes so many bytes.
+    fn skip(&mut self, bytes: usize)
+        requires within { bytes ≤ length (encode_utf8_all self.old.text) }
+        requires rest_utf8 { IsUtf8 (drop bytes (encode_utf8_all self.old.text)) }
+        ensures { Takes self.old self.new (chars (take bytes (encode_utf8_all self.old.text))) }
+    {
+        let front = &self.text[self.offset..];
+        self.taken = self.taken.with_chars(&front[..bytes]);
+        if bytes < front.len() {
+            self.offset += bytes;
+        } else {
+            self.text.clear();
+            self.offset = 0;
+        }
     }
 }
 
 impl<A: Allocator + Copy> BufferQueue<A> {
-    ghost use Rattle.markup5ever.specs.SetResult.{Pops};
+    ghost use Rattle.markup5ever.specs.SetResult.{Pops, IsLongest};
 
-    /// Takes the first character where the set has it, and otherwise a run of characters up to the
-    /// next that the set has or to the end of a text.
+    /// Takes the first character where the set has it, and otherwise the longest run of characters
+    /// that the set has not.
     pub fn pop_except_from(&mut self, set: SmallCharSet) -> Result<Option<SetResult<A>>, AllocError>
         ensures ok { IfOk result (Pops set self.old self.new) }
         ensures none { IfOk result (λ popped. IsNone popped ↔ (self.old.text ≡ [])) }
         ensures member { IfOk result (λ popped. (c : ℕ) (rest : List ℕ) →
             self.old.text ≡ c ∷ rest → IsMember set c → popped ≡ Some (SetResult.FromSet c)) }
+        ensures longest { IfOk result (IsLongest set self.new) }
         ensures err { OnErr result (self.new ≡ self.old) }
     {
-        let run = set.nonmember_prefix_len(front(&self.buffers, self.offset));
+        let run = set.nonmember_prefix_len(self.front_text());
         if run == 0 {
             let Some(c) = self.next() else {
                 return Ok(None);
             };
             return Ok(Some(SetResult::FromSet(c)));
         }
-        let text = take_front(&mut self.buffers, &mut self.offset, run)?;
-        self.taken.add(char_count(&text));
+        let text = self.take_text(run)?;
         Ok(Some(SetResult::NotFromSet(text)))
     }
-}
 
-// How many characters the text has.
-fn char_count(text: &str) -> usize
-    ensures { result ≡ length (chars text.now) }
-{
-    text.chars().count()
-}
-
-// What waits of the first text, and nothing where there is none.
-fn front<A: Allocator>(buffers: &VecDeque<String<A>, A>, offset: usize) -> &str
-    requires { IsReadTo buffers.now.items offset }
-    ensures { result.now ≡ unread buffers.now.items offset }
-{
-    match buffers.front() {
-        Some(first) => &first[offset..],
-        None => "",
-    }
-}
-
-// Puts a text in front of what waits. It takes the place of what was read of the first text.
-fn put_in_front<A: Allocator>(
-    buffers: &mut VecDeque<String<A>, A>,
-    offset: &mut usize,
-    text: String<A>,
-) -> Result<(), String<A>>
-    requires read { IsReadTo buffers.old.items offset.old }
-    requires filled { string_bytes text ≢ [] }
-    ensures read { IsReadTo buffers.new.items offset.new }
-    ensures ok { OnOk result (waiting buffers.new.items offset.new
-        ≡ chars (string_bytes text) ++ waiting buffers.old.items offset.old) }
-    ensures err { OnErr result (waiting buffers.new.items offset.new
-        ≡ waiting buffers.old.items offset.old) }
-    ensures returned { IfErr result (λ back. string_bytes back ≡ string_bytes text) }
-{
-    if *offset == 0 {
-        return match buffers.push_front(text) {
-            Ok(()) => Ok(()),
-            Err(failed) => Err(failed.value),
-        };
-    }
-    let Some(first) = buffers.front_mut() else {
-        unreachable!();
-    };
-    match first.replace_range(..*offset, &text) {
-        Ok(()) => {
-            *offset = 0;
-            Ok(())
+    // Takes so many bytes as a text. Where these are all of the text, it is handed out as it is.
+    fn take_text(&mut self, bytes: usize) -> Result<String<A>, AllocError>
+        requires within { bytes ≤ length (encode_utf8_all self.old.text) }
+        requires rest_utf8 { IsUtf8 (drop bytes (encode_utf8_all self.old.text)) }
+        ensures bytes { IfOk result
+            (λ text. string_bytes text ≡ take bytes (encode_utf8_all self.old.text)) }
+        ensures takes { OnOk result
+            (Takes self.old self.new (chars (take bytes (encode_utf8_all self.old.text)))) }
+        ensures err { OnErr result (self.new ≡ self.old) }
+    {
+        if self.offset == 0 && bytes == self.text.len() {
+            let empty = String::new(*self.text.allocator());
+            self.taken = self.taken.with_chars(&self.text);
+            return Ok(mem::replace(&mut self.text, empty));
         }
-        Err(AllocError) => Err(text),
-    }
-}
-
-// Goes so many bytes on in the first text, and lets go of that text at its end.
-fn advance<A: Allocator>(buffers: &mut VecDeque<String<A>, A>, offset: &mut usize, bytes: usize)
-    requires read { IsReadTo buffers.old.items offset.old }
-    requires within { bytes ≤ length (unread buffers.old.items offset.old) }
-    requires rest_utf8 { IsUtf8 (drop bytes (unread buffers.old.items offset.old)) }
-    ensures read { IsReadTo buffers.new.items offset.new }
-    ensures rest { waiting buffers.new.items offset.new
-        ≡ waiting_after buffers.old.items offset.old bytes }
-{
-    if bytes < front(buffers, *offset).len() {
-        *offset += bytes;
-    } else {
-        buffers.pop_front();
-        *offset = 0;
-    }
-}
-
-// Takes so many bytes from the first text. Where that is all of it, no memory is needed.
-fn take_front<A: Allocator + Copy>(
-    buffers: &mut VecDeque<String<A>, A>,
-    offset: &mut usize,
-    bytes: usize,
-) -> Result<String<A>, AllocError>
-    requires read { IsReadTo buffers.old.items offset.old }
-    requires some { 0 < bytes }
-    requires within { bytes ≤ length (unread buffers.old.items offset.old) }
-    requires rest_utf8 { IsUtf8 (drop bytes (unread buffers.old.items offset.old)) }
-    ensures read { IsReadTo buffers.new.items offset.new }
-    ensures ok { IfOk result
-        (λ text. string_bytes text ≡ take bytes (unread buffers.old.items offset.old)) }
-    ensures rest { OnOk result (waiting buffers.new.items offset.new
-        ≡ waiting_after buffers.old.items offset.old bytes) }
-    ensures err { OnErr result (waiting buffers.new.items offset.new
-        ≡ waiting buffers.old.items offset.old) }
-{
-    if *offset == 0 && bytes == front(buffers, *offset).len() {
-        let Some(text) = buffers.pop_front() else {
-            unreachable!();
-        };
-        return Ok(text);
-    }
-    let run = &front(buffers, *offset)[..bytes];
-    let text = String::from_str(*buffers.allocator(), run)?;
-    advance(buffers, offset, bytes);
-    Ok(text)
-}
-
-#[cfg(test)]
-mod tests {
-    use super::*;
-    use std::test::Fail;
-
-    // What `pop_except_from` takes until the queue is empty, each character of the set in brackets.
-    fn taken(
-        alloc: Global,
-        queue: &mut BufferQueue,
-        set: SmallCharSet,
-    ) -> Result<String, AllocError> {
-        let mut all = String::new(alloc);
-        for _ in 0..16 {
-            match queue.pop_except_from(set)? {
-                Some(SetResult::FromSet(c)) => {
-                    all.push('[')?;
-                    all.push(c)?;
-                    all.push(']')?;
-                }
-                Some(SetResult::NotFromSet(run)) => all.push_str(&run)?,
-                None => return Ok(all),
-            }
-        }
-        Ok(all)
-    }
-
-    #[test]
-    fn takes_runs_and_members(rt: HostRuntime) -> Result<(), Fail> {
-        let alloc = rt.alloc();
-        let set = SmallCharSet::of(b"\0\n\r&<");
-        let mut queue = BufferQueue::new(alloc);
-        for text in ["ab", "c<d", "", "&é&&"] {
-            let text = String::from_str(alloc, text)?;
-            assert!(rt; queue.push_back(text).is_ok());
-        }
-        assert_eq!(rt; queue.next(), Some('a'));
-        assert_eq!(rt; taken(alloc, &mut queue, set)?.as_str(), "bc[<]d[&]é[&][&]");
-        assert!(rt; queue.is_empty());
-        Ok(())
-    }
-
-    #[test]
-    fn next_goes_on_in_the_next_text(rt: HostRuntime) -> Result<(), Fail> {
-        let alloc = rt.alloc();
-        let mut queue = BufferQueue::new(alloc);
-        assert!(rt; queue.is_empty());
-        for text in ["aé", "", "€𝄞"] {
-            let text = String::from_str(alloc, text)?;
-            assert!(rt; queue.push_back(text).is_ok());
-        }
-        for c in ['a', 'é', '€', '𝄞'] {
-            assert!(rt; !queue.is_empty());
-            assert_eq!(rt; queue.next(), Some(c));
-        }
-        assert_eq!(rt; queue.next(), None);
-        Ok(())
-    }
-
-    #[test]
-    fn peek_leaves_the_first_character(rt: HostRuntime) -> Result<(), Fail> {
-        let alloc = rt.alloc();
-        let mut queue = BufferQueue::new(alloc);
-        assert_eq!(rt; queue.peek(), None);
-        assert!(rt; queue.push_back(String::from_str(alloc, "é€")?).is_ok());
-        assert!(rt; queue.push_back(String::from_str(alloc, "b")?).is_ok());
-        for c in ['é', '€', 'b'] {
-            assert_eq!(rt; queue.peek(), Some(c));
-            assert_eq!(rt; queue.peek(), Some(c));
-            assert_eq!(rt; queue.next(), Some(c));
-        }
-        assert_eq!(rt; queue.peek(), None);
-        Ok(())
-    }
-
-    #[test]
-    fn push_front_puts_a_text_before_what_waits(rt: HostRuntime) -> Result<(), Fail> {
-        let alloc = rt.alloc();
-        let set = SmallCharSet::of(b"<");
-        let mut queue = BufferQueue::new(alloc);
-        assert!(rt; queue.push_front(String::new(alloc)).is_ok());
-        assert!(rt; queue.is_empty());
-        assert!(rt; queue.push_front(String::from_str(alloc, "é<")?).is_ok());
-        assert!(rt; queue.push_back(String::from_str(alloc, "€bc")?).is_ok());
-        assert_eq!(rt; taken(alloc, &mut queue, set)?.as_str(), "é[<]€bc");
-        assert!(rt; queue.push_back(String::from_str(alloc, "€bc")?).is_ok());
-        assert_eq!(rt; queue.next(), Some('€'));
-        assert!(rt; queue.push_front(String::new(alloc)).is_ok());
-        let longer = String::from_str(alloc, "<longer than what was read>")?;
-        assert!(rt; queue.push_front(longer).is_ok());
-        assert!(rt; queue.push_front(String::from_str(alloc, "x")?).is_ok());
-        assert!(rt; queue.push_back(String::from_str(alloc, "d")?).is_ok());
-        assert_eq!(rt; queue.next(), Some('x'));
-        assert_eq!(rt;
-            taken(alloc, &mut queue, set)?.as_str(),
-            "[<]longer than what was read>bcd"
-        );
-        assert!(rt; queue.is_empty());
-        Ok(())
-    }
-
-    #[test]
-    fn push_front_behind_a_read_character(rt: HostRuntime) -> Result<(), Fail> {
-        let alloc = rt.alloc();
-        let mut queue = BufferQueue::new(alloc);
-        assert!(rt; queue.push_back(String::from_str(alloc, "bc")?).is_ok());
-        assert_eq!(rt; queue.next(), Some('b'));
-        assert!(rt; queue.push_front(String::from_str(alloc, "x")?).is_ok());
-        assert_eq!(rt; queue.next(), Some('x'));
-        assert_eq!(rt; queue.next(), Some('c'));
-        assert_eq!(rt; queue.next(), None);
-        Ok(())
+        let text = String::from_str(*self.text.allocator(), &self.front_text()[..bytes])?;
+        self.skip(bytes);
+        Ok(text)
     }
 }

@@ -1,5 +1,6 @@
 //! Whole numbers that contracts alone see.
-ghost use Rattle.std.specs.Prelude.{◌≡◌, ℕ, ◌+◌};
+ghost use Rattle.std.specs.Prelude.{◌≡◌, ℕ, ◌+◌, length};
+ghost use Rattle.std.specs.Str.{chars};
 ghost use Rattle.std.specs.Borrow.{ftrue};
 
 use std::marker::Model;
@@ -34,5 +35,19 @@ impl Count {
         ensures { self.new.total ≡ self.old.total + n }
     {
         *self = Count::raised(self, &n);
+    }
+
+    // The count `_before` and one for each character of `_text`, which is not read.
+    fn raised_by_chars(_before: &Count, _text: &&str) -> Count
+        ensures { result.total ≡ _before.now.total + length (chars _text.now.now) }
+    {
+        Count {}
+    }
+
+    /// The count and one more for each character of the text, which is not read.
+    pub fn with_chars(&self, text: &str) -> Count
+        ensures { result.total ≡ self.now.total + length (chars text.now) }
+    {
+        Count::raised_by_chars(self, &text)
     }
 }
