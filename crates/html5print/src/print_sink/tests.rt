@@ -219,7 +219,8 @@ fn asks_for_the_encoding_that_a_meta_tag_names(rt: HostRuntime) -> Result<(), Fa
     assert!(rt; replies(alloc, charset, reply, printed));
     // The name of an encoding is replied whole, however long it is.
     let long = tag_with(alloc, TagKind::StartTag, "meta", "charset", "windows-1252")?;
-    let printed = "start 1 \"meta\" \"charset\"=\"windows-1252\"\npause encoding \"windows-1252\"\n";
+    let printed =
+        "start 1 \"meta\" \"charset\"=\"windows-1252\"\npause encoding \"windows-1252\"\n";
     let reply = TokenSinkResult::EncodingIndicator(String::from_str(alloc, "windows-1252")?);
     assert!(rt; replies(alloc, long, reply, printed));
     let empty = tag_with(alloc, TagKind::StartTag, "meta", "charset", "")?;
