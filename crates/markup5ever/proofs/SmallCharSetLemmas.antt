@@ -1,14 +1,14 @@
-use Rattle.std.proofs.Common.{◌≡◌, ◌↔◌, ℕ, ◌+◌, ◌-◌, ◌<◌, ◌*◌, ◌%◌, ◌^◌, List, [], ◌∷◌, ◌++◌, length, take, drop, Contains, bit_or, encode_utf8, w64, sym, ap, ◌∙◌, inl, inr, arith, length-append, length-drop}
-use Rattle.std.specs.Int.{IsBitSet, bit_at}
-use Rattle.std.specs.Char.{len_utf8}
-use Rattle.std.specs.Str.{IsUtf8, chars}
-use Rattle.std.proofs.lemmas.Bool.{cases_eq}
+use Rattle.std.proofs.Common.{Bool, true, false, ◌||◌, set, ◌≡◌, ◌↔◌, ℕ, ◌+◌, ◌-◌, ◌<◌, ◌≤◌, ◌*◌, ◌%◌, ◌^◌, ◌⊎◌, List, [], ◌∷◌, ◌++◌, length, get_or, take, drop, Contains, bit_and, bit_or, encode_utf8, encode_utf8_all, w64, refl, sym, ap, ◌∙◌, inl, inr, arith, length-drop}
+use Rattle.std.specs.Int.{IsBitSet, bit_at, bit_not}
+use Rattle.std.specs.List.{slice_index}
+use Rattle.std.specs.Str.{IsUtf8, IsCharBoundary, chars}
+use Rattle.std.proofs.lemmas.Bool.{cases_eq, cases_lt}
 use Rattle.std.proofs.lemmas.Nat.{pow_pos}
-use Rattle.std.proofs.lemmas.Nat.Bits.{and_pow, bit_at-lt, bit_at_set_same, bit_at_set_other}
-use Rattle.std.proofs.lemmas.List.Elements.{All-nil, All-push, Contains-append_left, Contains-push, Contains-push_cases}
-use Rattle.std.proofs.lemmas.Str.{chars-nil, length-encode, drop_past_char, IsUtf8-past_char}
-use Rattle.markup5ever.specs.SmallCharSet.{IsMember, BeginsOutside}
-use Rattle.markup5ever.proofs.TextLemmas.{chars_take_char}
+use Rattle.std.proofs.lemmas.Nat.Bits.{and_pow, bit_at-lt, bit_at-zero, bit_at_set_same, bit_at_set_other, bit_at_clear_other}
+use Rattle.std.proofs.lemmas.List.{drop_all, drop_at, get_or-drop, get_or-take, length-take-le, take_at, take_more_set}
+use Rattle.std.proofs.lemmas.List.Elements.{All-nil, All-cons, All-head, All-take, All-drop, All-from_get_or, Contains-append_left, Contains-push, Contains-push_cases}
+use Rattle.std.proofs.lemmas.Str.{chars-nil, char_from_byte, encode_ascii, encodes-chars, IsCharBoundary-before_ascii, IsCharBoundary-end, IsUtf8-drop, IsUtf8-take}
+use Rattle.markup5ever.specs.SmallCharSet.{IsMember, IsOutside, NoneWithin, BeginsOutside}
 
 -- a bit that is set is 1, and a bit that is 1 is set
 bit_at-set : (n k : ℕ) → IsBitSet n k → bit_at n k ≡ 1
@@ -52,22 +52,113 @@ IsMember-push set m xs within same c = (
   ],
 )
 
--- ---- a text that begins with characters outside a set
+-- where the number loses bit m, the set loses m alone
+pub member_without : (set m c : ℕ) → m < 64 → IsMember set c → (c ≡ m) ⊎ IsMember (bit_and set (bit_not w64 (1 * 2 ^ m % 2 ^ 64))) c
+member_without set m c within member =
+    elim (cases_eq c m) [
+      | inl same ↦ inl same
+      | inr other ↦ inr (member.0, IsBitSet-from_bit _ c (bit_at_clear_other w64 set m within c member.0 other ∙ bit_at-set set c member.1))
+    ]
 
-pub BeginsOutside-start : (set : ℕ) (text : List ℕ) → IsUtf8 text → BeginsOutside set text 0
-BeginsOutside-start set text utf8 =
-    record { within = omega arith; rest_utf8 = utf8; outside = rw chars-nil (All-nil (λ c. ¬ IsMember set c)) }
+pub no_member : (c : ℕ) → ¬ IsMember 0 c
+no_member c member = omega (arith, bit_at-set 0 c member.1, bit_at-zero c)
 
--- one character more
-pub BeginsOutside-step : (set : ℕ) (text rest : List ℕ) (len c width : ℕ) → IsUtf8 text → BeginsOutside set text len → drop len text ≡ encode_utf8 c ++ rest → ¬ IsMember set c → width ≡ len_utf8 c → BeginsOutside set text (len + width) × (drop (len + width) text ≡ rest)
-BeginsOutside-step set text rest len c width utf8 begins e other measured =
-    let rest_is : drop (len + len_utf8 c) text ≡ rest = drop_past_char text rest len c e in
-    let total : length text - len ≡ len_utf8 c + length rest = sym (length-drop len text) ∙ ap length e ∙ length-append (encode_utf8 c) rest ∙ ap (λ n. n + length rest) (length-encode c) in
-    rw measured (
-      record {
-        within = omega (arith, total, begins.within);
-        rest_utf8 = rw rest_is (IsUtf8-past_char (drop len text) rest c begins.rest_utf8 e);
-        outside = rw (chars_take_char text rest len c utf8 begins.within begins.rest_utf8 e) (All-push (λ c. ¬ IsMember set c) (chars (take len text)) c begins.outside other);
-      },
-      rest_is,
-    )
+-- ---- the bytes of a text and its characters
+
+-- characters are outside where their bytes are
+outside_from_bytes : (set : ℕ) (cs : List ℕ) → IsOutside set (encode_utf8_all cs) → IsOutside set cs
+outside_from_bytes set [] outside = All-nil (λ c. ¬ IsMember set c)
+outside_from_bytes set (c ∷ cs) outside =
+    let Other : ℕ → Type 0 = λ b. ¬ IsMember set b in
+    let width = length (encode_utf8 c) in
+    let all = encode_utf8 c ++ encode_utf8_all cs in
+    let first : IsOutside set (encode_utf8 c) = rw (take_at (encode_utf8 c) (encode_utf8_all cs) width refl) at (All-take Other width all outside) in
+    let others : IsOutside set (encode_utf8_all cs) = rw (drop_at (encode_utf8 c) (encode_utf8_all cs) width refl) at (All-drop Other width all outside) in
+    let outside_c : ¬ IsMember set c = λ member. All-head Other c [] (rw (encode_ascii c (omega (arith, member.0))) at first) member in
+    All-cons Other c cs outside_c (outside_from_bytes set cs others)
+
+-- the first bytes are outside, and the next is a member where there is one
+pub record StopsAt (set : ℕ) (text : List ℕ) (len : ℕ) : Type 0 where
+  pub within : len ≤ length text
+  pub outside : NoneWithin set text 0 len
+  pub stops : len < length text → IsMember set (slice_index text len)
+
+StopsAt-boundary : (set : ℕ) (text : List ℕ) (len : ℕ) → IsUtf8 text → StopsAt set text len → IsCharBoundary text len
+StopsAt-boundary set text len utf8 stops =
+    elim (cases_lt len (length text)) [
+      | inl less ↦ let member = stops.stops less in IsCharBoundary-before_ascii text len less (omega (arith, member.0))
+      | inr all ↦ let same : len ≡ length text = omega (arith, stops.within, all) in rw same (IsCharBoundary-end text)
+    ]
+
+pub BeginsOutside-bytes : (set : ℕ) (text : List ℕ) (len : ℕ) → IsUtf8 text → StopsAt set text len → BeginsOutside set text len
+BeginsOutside-bytes set text len utf8 stops =
+    let Other : ℕ → Type 0 = λ b. ¬ IsMember set b in
+    let boundary = StopsAt-boundary set text len utf8 stops in
+    let size : length (take len text) ≡ len = length-take-le len text stops.within in
+    let bytes : IsOutside set (take len text) = All-from_get_or Other (take len text) 0 (λ k less. rw (get_or-take len text k 0 (omega (arith, less, size))) (stops.outside k (omega arith) (omega (arith, less, size)))) in
+    record {
+      within = stops.within;
+      rest_utf8 = IsUtf8-drop text len utf8 boundary;
+      outside = outside_from_bytes set (chars (take len text)) (rw (encodes-chars (take len text) (IsUtf8-take text len utf8 boundary)) bytes);
+    }
+
+-- the character behind them is a member
+pub member_behind : (set : ℕ) (text : List ℕ) (len : ℕ) → IsUtf8 text → StopsAt set text len → (c : ℕ) (rest : List ℕ) → chars (drop len text) ≡ c ∷ rest → IsMember set c
+member_behind set text len utf8 stops c rest e =
+    let rest_utf8 = IsUtf8-drop text len utf8 (StopsAt-boundary set text len utf8 stops) in
+    elim (cases_lt len (length text)) [
+      | inl less ↦
+          let member = stops.stops less in
+          let byte : get_or (drop len text) 0 0 ≡ slice_index text len = get_or-drop len text 0 0 ∙ ap (λ n. get_or text n 0) (omega arith) in
+          let begins : drop len text ≡ encode_utf8 c ++ encode_utf8_all rest = sym (encodes-chars (drop len text) rest_utf8) ∙ ap encode_utf8_all e in
+          let same : c ≡ slice_index text len = char_from_byte (drop len text) (encode_utf8_all rest) c begins (omega (arith, byte, member.0)) (omega (arith, less, length-drop len text)) ∙ byte in
+          rw same member
+      | inr all ↦ absurd (omega (arith, ap length (sym e ∙ ap chars (drop_all len text all) ∙ chars-nil)))
+    ]
+
+-- ---- bytes looked at one after another
+
+pub NoneWithin-more : (set : ℕ) (bytes : List ℕ) (from at : ℕ) → NoneWithin set bytes from at → ¬ IsMember set (slice_index bytes at) → NoneWithin set bytes from (at + 1)
+NoneWithin-more set bytes from at none other k low high =
+    elim (cases_eq k at) [
+      | inl same ↦ rw same other
+      | inr earlier ↦ none k low (omega (arith, high, earlier))
+    ]
+
+pub NoneWithin-join : (set : ℕ) (bytes : List ℕ) (from at to : ℕ) → NoneWithin set bytes from at → NoneWithin set bytes at to → NoneWithin set bytes from to
+NoneWithin-join set bytes from at to none later k low high =
+    elim (cases_lt k at) [
+      | inl less ↦ none k low less
+      | inr more ↦ later k more high
+    ]
+
+-- a block with none of the few has none of the set
+pub NoneWithin-block : (set : ℕ) (few bytes : List ℕ) (at size : ℕ) → ((c : ℕ) → IsMember set c → Contains few c) → ((k : ℕ) → k < size → ¬ Contains few (slice_index bytes (at + k))) → NoneWithin set bytes at (at + size)
+NoneWithin-block set few bytes at size all none k low high member =
+    let place : at + (k - at) ≡ k = omega (arith, low) in
+    none (k - at) (omega (arith, low, high)) (rw place (all (slice_index bytes k) member))
+
+-- ---- the few that have each member among them
+
+pub few_more : (members rest m k : ℕ) (few : List ℕ) → k < length few → m < 64 → ((c : ℕ) → IsMember members c → Contains (take k few) c ⊎ IsMember rest c) → (c : ℕ) → IsMember members c → Contains (take (k + 1) (set few k m)) c ⊎ IsMember (bit_and rest (bit_not w64 (1 * 2 ^ m % 2 ^ 64))) c
+few_more members rest m k few within small found c member =
+    rw (take_more_set few k m within) (elim (found c member) [
+      | inl old ↦ inl (Contains-append_left (take k few) (m ∷ []) c old)
+      | inr left ↦ elim (member_without rest m c small left) [
+        | inl same ↦ inl (rw same (Contains-push (take k few) m))
+        | inr other ↦ inr other
+      ]
+    ])
+
+or_split : (a b : Bool) → a || b ≡ false → (a ≡ false) × (b ≡ false)
+or_split true b e = absurd cc
+or_split false b e = (refl, e)
+
+-- one byte more that is not among the few
+pub none_more : (few bytes : List ℕ) (from at : ℕ) (found next : Bool) → (found ≡ false → (k : ℕ) → k < at → ¬ Contains few (slice_index bytes (from + k))) → (next ≡ false → ¬ Contains few (slice_index bytes (from + at))) → found || next ≡ false → (k : ℕ) → k < at + 1 → ¬ Contains few (slice_index bytes (from + k))
+none_more few bytes from at found next before last none k less =
+    let split = or_split found next none in
+    elim (cases_eq k at) [
+      | inl same ↦ rw same (last split.1)
+      | inr earlier ↦ before split.0 k (omega (arith, less, earlier))
+    ]

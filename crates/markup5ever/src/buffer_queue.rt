@@ -73,13 +73,6 @@ impl<A: Allocator> BufferQueue<A> {
         self.front_text().is_empty()
     }
 
-    // All that waits.
-    fn front_text(&self) -> &str
-        ensures { result.now ≡ encode_utf8_all self.now.text }
-    {
-        &self.text[self.offset..]
-    }
-
     /// Hands in a text, which comes back where there is no memory for it.
     pub fn push_back(&mut self, text: String<A>) -> Result<(), String<A>>
         ensures ok { OnOk result (Gains self.old self.new (chars (string_bytes text))) }
@@ -144,6 +137,7 @@ impl<A: Allocator> BufferQueue<A> {
     }
 
     /// Takes the first character.
+    #[inline(always)]
     pub fn next(&mut self) -> Option<char>
         ensures none { IsNone result ↔ (self.old.text ≡ []) }
         ensures some { IfSome result (λ c. Takes self.old self.new (c ∷ [])) }
@@ -155,8 +149,18 @@ impl<A: Allocator> BufferQueue<A> {
         Some(c)
     }
 
-    // Takes so many bytes.
-    fn skip(&mut self, bytes: usize)
+    /// All that waits, in one piece. It goes on waiting.
+    #[inline(always)]
+    pub fn front_text(&self) -> &str
+        ensures { result.now ≡ encode_utf8_all self.now.text }
+    {
+        let text = self.text.as_str();
+        &text[self.offset..]
+    }
+
+    /// Takes so many bytes of what waits.
+    #[inline(always)]
+    pub fn skip(&mut self, bytes: usize)
         requires within { bytes ≤ length (encode_utf8_all self.old.text) }
         requires rest_utf8 { IsUtf8 (drop bytes (encode_utf8_all self.old.text)) }
         ensures { Takes self.old self.new (chars (take bytes (encode_utf8_all self.old.text))) }

@@ -162,6 +162,28 @@ fn push_front_in_the_middle_of_a_run(rt: HostRuntime) -> Result<(), Fail> {
 }
 
 #[test]
+fn what_waits_is_lent_and_skipped(rt: HostRuntime) -> Result<(), Fail> {
+    let alloc = rt.alloc();
+    let set = SmallCharSet::of(b"<");
+    let mut queue = BufferQueue::new(alloc);
+    assert_eq!(rt; queue.front_text(), "");
+    for text in ["aé", "€<é", "€"] {
+        assert!(rt; queue.push_back(String::from_str(alloc, text)?).is_ok());
+    }
+    assert_eq!(rt; queue.front_text(), "aé€<é€");
+    let run = set.nonmember_prefix_len(queue.front_text());
+    assert_eq!(rt; run, 6);
+    queue.skip(run);
+    assert_eq!(rt; queue.front_text(), "<é€");
+    assert_eq!(rt; queue.next(), Some('<'));
+    let run = set.nonmember_prefix_len(queue.front_text());
+    queue.skip(run);
+    assert_eq!(rt; queue.front_text(), "");
+    assert!(rt; queue.is_empty());
+    Ok(())
+}
+
+#[test]
 fn a_whole_text_is_moved_in_and_out(rt: HostRuntime) -> Result<(), Fail> {
     let heap = Refusing::new(rt.alloc(), 1);
     let mut queue: BufferQueue<Heap> = BufferQueue::new(&heap);
