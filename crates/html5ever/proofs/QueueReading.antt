@@ -1,5 +1,5 @@
 -- A loop that reads the queue: what it has read so far, and what that gives when it goes on, ends or is refused.
-use Rattle.std.proofs.Common.{◌≡◌, ◌≢◌, ◌↔◌, ℕ, Bool, true, false, List, [], ◌∷◌, ◌++◌, refl, ap, sym, ◌∙◌, arith, length, ◌+◌, length-append, Option, None, Some, lit<, inl, inr, subst, ◌≤◌}
+use Rattle.std.proofs.Common.{◌≡◌, ◌≢◌, ◌↔◌, ℕ, Bool, true, false, List, [], ◌∷◌, ◌++◌, refl, ap, sym, ◌∙◌, arith, length, ◌+◌, length-append, Option, None, Some, lit<, inl, inr, subst, ◌≤◌, ◌<◌, ◌^◌}
 use Rattle.std.specs.Prelude.{Contains}
 use Rattle.std.specs.Str.{chars}
 use Rattle.std.specs.String.{string_bytes}
@@ -8,10 +8,8 @@ use Rattle.std.proofs.lemmas.List.Elements.{All-weaker}
 use Rattle.markup5ever.specs.BufferQueue.{TextQueue, Takes}
 use Rattle.html5grammar.specs.Characters.{null, line_feed, carriage_return}
 use Rattle.html5grammar.specs.Reading.{told, messages, after}
-use Rattle.html5ever.specs.Runs.{IsOrdinary, IsRun, TakesItem, CanRead, item_text}
-use Rattle.markup5ever.specs.SetResult.{Pops}
+use Rattle.html5ever.specs.Runs.{ReadsRun}
 use Rattle.html5ever_interface.specs.Sink.{Message, stepped}
-use Rattle.markup5ever.specs.SmallCharSet.{IsMember}
 use Rattle.html5grammar.specs.Start.{Start, Open}
 use Rattle.html5grammar.specs.Start.Mode.{Plain}
 use Rattle.html5grammar.specs.Start.Open.{Between, NotBuilt}
@@ -24,15 +22,18 @@ use Rattle.html5ever_interface.specs.Token.{Told, Reply, is_tag}
 use Rattle.html5ever_interface.specs.Token.Reply.{KeepOn}
 use Rattle.std.proofs.lemmas.Bool.{false≢true}
 use Rattle.html5ever.specs.Feed.{Feed, pauses, takes_before, first_pause, feed, IsEndOf}
-use Rattle.html5ever.specs.Refused.{IsItem, RefusedBehind}
+use Rattle.html5ever.specs.Refused.{IsRun, IsItem, RefusedBehind}
+use Rattle.html5states.specs.Runs.{run_tokens, opened_after_run}
+use Rattle.html5ever.proofs.RunLemmas.{told-run, after-run, run-quiet}
+use Rattle.html5ever_interface.specs.Sink.{on_line}
+use Rattle.html5states.specs.Telling.{Tells}
+use Rattle.std.specs.Prelude.{OnOk, IsNone}
 use Rattle.html5ever.proofs.Pauses.{told_beyond-behind, first_pause-no_tags, no_tags-told, state_behind-append, pause_here, feed-goes_on, feed-takes, feed-pauses}
-use Rattle.markup5ever.specs.declared.buffer_queue.SetResult.{SetResult}
-use Rattle.markup5ever.specs.declared.buffer_queue.SetResult.TheVariants.{FromSet, NotFromSet}
 use Rattle.html5states.specs.declared.error.TokenizerError.{TokenizerError}
 use Rattle.html5states.specs.declared.error.TokenizerError.TheVariants.{Memory, Sink, Failed, NotYet}
 use Rattle.html5grammar.proofs.ReadingLemmas.{state_behind, told-nil, told-append, after-nil, after-append, told-not_built, after-not_built}
 use Rattle.html5ever_interface.proofs.Steppings.{stepped-append}
-use Rattle.html5states.proofs.Tellings.{cons≢nil, stops_before, stops_after, Memory-at_once}
+use Rattle.html5states.proofs.Tellings.{cons≢nil, stops_before, stops_after}
 
 pub memory≢not_yet : Memory ≡ NotYet → ⊥
 memory≢not_yet e = cc
@@ -40,44 +41,10 @@ memory≢not_yet e = cc
 sink≢not_yet : Sink ≡ NotYet → ⊥
 sink≢not_yet e = cc
 
--- what pops without the characters of line breaks and NUL is a character or a run
-pub TakesItem-from_pops : {Z : Type 0} (exact : Bool) (K : Start) (set : ℕ) (old new : TextQueue) (o : Option (SetResult Z))
-    → exact ≡ false → K.opened ≡ Between Plain → (K.input.after_carriage_return ≡ false) × (K.input.drops_byte_order_mark ≡ false)
-    → ((c : ℕ) → IsMember set c ↔ Contains (null ∷ line_feed ∷ carriage_return ∷ []) c)
-    → Pops set old new o → TakesItem exact K old new o
-TakesItem-from_pops exact K set old new None e plain past same p = p
-TakesItem-from_pops exact K set old new (Some (FromSet c)) e plain past same p = (p.takes, tt)
-TakesItem-from_pops exact K set old new (Some (NotFromSet run)) e plain past same p = (
-  p.takes,
-  record {
-    not_exact = e;
-    plain = plain;
-    past_line_break = past.0;
-    past_stream_start = past.1;
-    filled = p.filled;
-    ordinary = All-weaker (λ c. ¬ IsMember set c) IsOrdinary
-        (λ c outside. record {
-          no_null = λ is. outside ((same c).1 (0, lit< tt, sym is));
-          no_line_feed = λ is. outside ((same c).1 (1, lit< tt, sym is));
-          no_carriage_return = λ is. outside ((same c).1 (2, lit< tt, sym is));
-        }) (chars (string_bytes run)) p.outside;
-  },
-)
-
 -- two texts that are empty together are empty apart
 pub nil-from_append : {X : Type 0} → (xs ys : List X) → xs ++ ys ≡ [] → (xs ≡ []) × (ys ≡ [])
 nil-from_append [] ys e = (refl, e)
 nil-from_append (x ∷ xs) ys e = absurd (cons≢nil x (xs ++ ys) e)
-
--- what was taken is not empty
-pub item_text-filled : {Z : Type 0} (exact : Bool) (K : Start) (item : SetResult Z) → CanRead exact K item → item_text item ≢ []
-item_text-filled exact K (FromSet c) can = cons≢nil c []
-item_text-filled exact K (NotFromSet run) can = can.filled
-
--- what was taken at once
-pub item_text-item : {Z : Type 0} (exact : Bool) (K : Start) (item : SetResult Z) → CanRead exact K item → IsItem exact K (item_text item)
-item_text-item exact K (FromSet c) can = inl (omega arith)
-item_text-item exact K (NotFromSet run) can = inr can
 
 -- what nothing pauses in is followed by what it leaves
 takes_before-twice : {H : Type 0} → (front item : List ℕ) (rest : Feed H) → takes_before front (takes_before item rest) ≡ takes_before (front ++ item) rest
@@ -156,32 +123,54 @@ module _ {S H : Type 0} (step : S → Told → ℕ → S) (reply : S → Told �
     pub more : List ℕ
     pub parts : (feed step reply exact L t [] (item ++ rest)).taken ≡ item ++ more
 
-  -- nothing pauses in a run
-  pub run-quiet : (keeps_on : (s : S) (told : Told) (line : ℕ) → is_tag told ≡ false → reply s told line ≡ KeepOn)
-      (L : Start) (t : S) (run : List ℕ) → IsRun exact L run → first_pause step reply t (messages (told step reply exact L t run)) ≡ KeepOn
-  run-quiet keeps_on L t run is_run = first_pause-no_tags step reply keeps_on t _ (no_tags-told step reply exact L t run is_run.plain)
+  pub character-taken : (L : Start) (t : S) (c : ℕ) (rest : List ℕ) → IsTaken L t (c ∷ []) rest
+  character-taken L t c rest = let takes = feed-takes step reply exact L t c rest in record { more = takes.0; parts = takes.1 }
 
-  pub item-taken : {Z : Type 0} (keeps_on : (s : S) (told : Told) (line : ℕ) → is_tag told ≡ false → reply s told line ≡ KeepOn)
-      (L : Start) (t : S) (item : SetResult Z) (rest : List ℕ) → CanRead exact L item → IsTaken L t (item_text item) rest
-  item-taken keeps_on L t (FromSet c) rest can =
-      let takes = feed-takes step reply exact L t c rest in record { more = takes.0; parts = takes.1 }
-  item-taken keeps_on L t (NotFromSet run) rest can = record {
-    more = (fed (after step reply exact L t (chars (string_bytes run))) (state_behind step reply exact L t (chars (string_bytes run))) rest).taken;
-    parts =
-        ap (λ (f : Feed H). f.taken)
-        (feed-goes_on step reply exact L t (chars (string_bytes run)) rest (ap pauses (run-quiet keeps_on L t (chars (string_bytes run)) can)));
+  pub quiet-taken : (L : Start) (t : S) (run rest : List ℕ) → first_pause step reply t (messages (told step reply exact L t run)) ≡ KeepOn → IsTaken L t run rest
+  quiet-taken L t run rest quiet = record {
+    more = (fed (after step reply exact L t run) (state_behind step reply exact L t run) rest).taken;
+    parts = ap (λ (f : Feed H). f.taken) (feed-goes_on step reply exact L t run rest (ap pauses quiet));
   }
 
-  -- an item at which the feed pauses is one character
-  pub item-pauses : {Z : Type 0} (keeps_on : (s : S) (told : Told) (line : ℕ) → is_tag told ≡ false → reply s told line ≡ KeepOn)
-      (L : Start) (t : S) (item : SetResult Z) (rest : List ℕ) → CanRead exact L item
-      → pauses (first_pause step reply t (messages (told step reply exact L t (item_text item)))) ≡ true
-      → feed step reply exact L t [] (item_text item ++ rest)
-      ≡ record { taken = item_text item; left = rest; answer = first_pause step reply t (messages (told step reply exact L t (item_text item))) }
-  unfolding pause_here
-  item-pauses keeps_on L t (FromSet c) rest can pausing = feed-pauses step reply exact L t c rest pausing
-  item-pauses keeps_on L t (NotFromSet run) rest can pausing =
-      absurd (false≢true (sym (ap pauses (run-quiet keeps_on L t (chars (string_bytes run)) can)) ∙ pausing))
+  -- a run that was read
+  pub HasRead-run : {T : Type 0} {x : T} (faulted : S → Told → ℕ → S) (K L N : Start) (old mid new : TextQueue) (s t u : S)
+      → HasRead K L old mid s t → ReadsRun {T = T} step reply faulted exact (Ok x) L N mid new t u → HasRead K N old new s u
+  HasRead-run faulted K L N old mid new s t u read run =
+      HasRead-more K L N old mid new s t u run.run read run.takes run.tells run.moves (ap pauses run.quiet)
+
+  -- nothing was read at once
+  pub ReadsRun-none : {T : Type 0} (faulted : S → Told → ℕ → S) (x : T) (K : Start) (old : TextQueue) (s : S)
+      → ReadsRun {T = T} step reply faulted exact (Ok x) K K old old s s
+  unfolding stepped first_pause
+  ReadsRun-none faulted x K old s = record {
+    run = [];
+    takes = record { text = refl; handed_in = refl; taken = omega arith };
+    is_item = inl (omega arith);
+    tells = rw (told-nil step reply exact K s) refl;
+    moves = sym (after-nil step reply exact K s);
+    quiet = rw (told-nil step reply exact K s) refl;
+  }
+
+  run_moves : {T : Type 0} (r : Result T TokenizerError) (K L : Start) (s : S) (run : List ℕ) → IsRun exact K run → K.input.line < 2 ^ 64
+      → OnOk r (L.opened ≡ opened_after_run K.opened run) → L.input ≡ K.input → OnOk r (L ≡ after step reply exact K s run)
+  run_moves (Ok x) K L s run is_run fits opened input = rw (after-run step reply exact K s run is_run fits, ← opened, ← input) refl
+  run_moves (Err e) K L s run is_run fits opened input = tt
+
+  -- a run was read, or refused
+  pub ReadsRun-run : {T : Type 0} (faulted : S → Told → ℕ → S) (r : Result T TokenizerError)
+      → ((s : S) (told : Told) (line : ℕ) → is_tag told ≡ false → reply s told line ≡ KeepOn)
+      → (K L : Start) (old new : TextQueue) (s t : S) (run : List ℕ) → IsRun exact K run → K.input.line < 2 ^ 64 → Takes old new run
+      → Tells step faulted r s (on_line K.input.line (run_tokens K.opened run)) t
+      → OnOk r (L.opened ≡ opened_after_run K.opened run) → L.input ≡ K.input
+      → ReadsRun step reply faulted exact r K L old new s t
+  ReadsRun-run faulted r keeps_on K L old new s t run is_run fits takes tells opened input = record {
+    run = run;
+    takes = takes;
+    is_item = inr is_run;
+    tells = rw (told-run step reply exact K s run is_run fits) tells;
+    moves = run_moves r K L s run is_run fits opened input;
+    quiet = run-quiet step reply keeps_on exact K s run is_run fits;
+  }
 
   -- what the whole feed takes, around an item
   taken-parts : (K L : Start) (old mid new : TextQueue) (s t : S) (item : List ℕ) → (read : HasRead K L old mid s t) → Takes mid new item
@@ -219,7 +208,7 @@ module _ {S H : Type 0} (step : S → Told → ℕ → S) (reply : S → Told �
   moved-behind N K s X opened input = rw (← opened, ← input) refl
 
   module _ (faulted : S → Told → ℕ → S) where
-    HasRead-stops : (e : TokenizerError) (K L : Start) (old mid new : TextQueue) (s t u : S) (item : List ℕ)
+    pub HasRead-stops : (e : TokenizerError) (K L : Start) (old mid new : TextQueue) (s t u : S) (item : List ℕ)
         → HasRead K L old mid s t → Takes mid new item → IsTaken L t item new.text → IsRefusal e
         → Stops step faulted e t (told_of L t item) u
         → Stops step faulted e s (told_of K s (fed K s old.text).taken) u
@@ -227,12 +216,6 @@ module _ {S H : Type 0} (step : S → Told → ℕ → S) (reply : S → Told �
         rw (told-parts K L old mid new s t item read taken is_taken)
         (stops_after step faulted e s t u (told_of K s read.front) _ read.state
         (stops_before step faulted e t u (told_of L t item) _ refusal stops))
-
-    pub HasRead-memory : (K L : Start) (old mid : TextQueue) (s t : S)
-        → HasRead K L old mid s t → Stops step faulted Memory s (messages (told step reply exact K s (feed step reply exact K s [] old.text).taken)) t
-    HasRead-memory K L old mid s t read =
-        rw (ap (λ (f : Feed H). told_of K s f.taken) read.feeds ∙ told-append step reply exact K s read.front (fed L t mid.text).taken)
-        (stops_after step faulted Memory s t t (told_of K s read.front) _ read.state (Memory-at_once step faulted t _))
 
     -- nothing is told behind what isn't built yet, so all that the feed tells was told
     HasRead-not_built : (K L : Start) (old mid new : TextQueue) (s t u : S) (item : List ℕ)
@@ -259,7 +242,7 @@ module _ {S H : Type 0} (step : S → Told → ℕ → S) (reply : S → Told �
     HasRead-refused Failed K L now old mid new s t u item read taken is_taken stops leads = stops
     HasRead-refused NotYet K L now old mid new s t u item read taken is_taken stops leads = HasRead-not_built K L old mid new s t u item read taken is_taken stops leads
 
-    -- what is left where an item was refused, and where none was taken for want of memory
+    -- what is left where an item was refused
     pub HasRead-leaves : (e : TokenizerError) (K L : Start) (old mid new : TextQueue) (s t u : S) (item : List ℕ)
         → HasRead K L old mid s t → Takes mid new item → IsItem exact L item
         → Stops step faulted e t (messages (told step reply exact L t item)) u
@@ -271,12 +254,6 @@ module _ {S H : Type 0} (step : S → Told → ℕ → S) (reply : S → Told �
       is_item = subst (λ P. IsItem exact P item) read.position is_item;
       stopped = rw (told_beyond-behind step reply exact K s read.front item, ← read.state, ← read.position) stops;
     }
-
-    pub HasRead-leaves_all : (K L : Start) (old mid : TextQueue) (s t : S)
-        → HasRead K L old mid s t → RefusedBehind step reply faulted exact Memory K s [] old.text mid.text t
-    HasRead-leaves_all K L old mid s t read =
-        HasRead-leaves Memory K L old mid mid s t t [] read (record { text = refl; handed_in = refl; taken = omega arith }) (inl (omega arith))
-        (Memory-at_once step faulted t _)
 
   not_built-rest : (K L : Start) (old mid new : TextQueue) (s t : S) (item : List ℕ)
       → HasRead K L old mid s t → Takes mid new item → IsTaken L t item new.text → (after step reply exact L t item).opened ≡ NotBuilt
@@ -309,12 +286,11 @@ module _ {S H : Type 0} (step : S → Told → ℕ → S) (reply : S → Told �
       let second : length mid.text ≡ length item + length new.text = ap length taken.text ∙ length-append item new.text in
       omega (arith, first, second, taken.taken, read.takes.taken)
 
-  -- where an item was taken, something waited
-  pub not-empty : {Z : Type 0} (K L : Start) (old mid new : TextQueue) (s t : S) (item : SetResult Z) → HasRead K L old mid s t → Takes mid new (item_text item)
-      → CanRead exact L item → old.text ≡ [] → ⊥
-  not-empty K L old mid new s t item read taken can nothing =
+  -- where a character was taken, something waited
+  pub not-empty : (K L : Start) (old mid new : TextQueue) (s t : S) (c : ℕ) → HasRead K L old mid s t → Takes mid new (c ∷ []) → old.text ≡ [] → ⊥
+  not-empty K L old mid new s t c read taken nothing =
       let waits : mid.text ≡ [] = (nil-from_append read.front mid.text (sym read.takes.text ∙ nothing)).1 in
-      item_text-filled exact L item can (nil-from_append (item_text item) new.text (sym taken.text ∙ waits)).0
+      cons≢nil c new.text (sym taken.text ∙ waits)
 
   -- the end of a feed: all was taken, or it pauses behind an item
   pub record HasFed (K N : Start) (old new : TextQueue) (s u : S) (answer : Reply H) : Type 0 where
@@ -335,31 +311,29 @@ module _ {S H : Type 0} (step : S → Told → ℕ → S) (reply : S → Told �
         left = none ∙ ap (λ (f : Feed H). f.left) (sym whole);
       }
 
-  pub HasFed-pause : {Z : Type 0} (keeps_on : (s : S) (told : Told) (line : ℕ) → is_tag told ≡ false → reply s told line ≡ KeepOn)
-      (K L N : Start) (old mid new : TextQueue) (s t u : S) (item : SetResult Z) (answer : Reply H)
-      → HasRead K L old mid s t → Takes mid new (item_text item) → CanRead exact L item
-      → u ≡ stepped step t (messages (told step reply exact L t (item_text item))) → N ≡ after step reply exact L t (item_text item)
-      → answer ≡ first_pause step reply t (messages (told step reply exact L t (item_text item))) → pauses answer ≡ true
+  pub HasFed-pause : (K L N : Start) (old mid new : TextQueue) (s t u : S) (c : ℕ) (answer : Reply H)
+      → HasRead K L old mid s t → Takes mid new (c ∷ [])
+      → u ≡ stepped step t (messages (told step reply exact L t (c ∷ []))) → N ≡ after step reply exact L t (c ∷ [])
+      → answer ≡ first_pause step reply t (messages (told step reply exact L t (c ∷ []))) → pauses answer ≡ true
       → HasFed K N old new s u answer
-  HasFed-pause keeps_on K L N old mid new s t u item answer read taken can told_now moved is_first pausing =
-      let whole : fed K s old.text ≡ record { taken = read.front ++ item_text item; left = new.text; answer = answer } =
+  unfolding pause_here
+  HasFed-pause K L N old mid new s t u c answer read taken told_now moved is_first pausing =
+      let whole : fed K s old.text ≡ record { taken = read.front ++ c ∷ []; left = new.text; answer = answer } =
       read.feeds
       ∙ ap (takes_before read.front)
       (ap (fed L t) taken.text
-      ∙ item-pauses keeps_on L t item new.text can (sym (ap pauses is_first) ∙ pausing)
-      ∙ ap (λ r. record { taken = item_text item; left = new.text; answer = r }) (sym is_first)) in
+      ∙ feed-pauses step reply exact L t c new.text (sym (ap pauses is_first) ∙ pausing)
+      ∙ ap (λ r. record { taken = c ∷ []; left = new.text; answer = r }) (sym is_first)) in
       record {
-        told_all = state-more K L s t u read.front (item_text item) read.state read.position told_now ∙ ap (λ (f : Feed H). stepped step s (told_of K s f.taken)) (sym whole);
-        position = position-more K L N s t read.front (item_text item) read.state read.position moved ∙ ap (λ (f : Feed H). after step reply exact K s f.taken) (sym whole);
+        told_all = state-more K L s t u read.front (c ∷ []) read.state read.position told_now ∙ ap (λ (f : Feed H). stepped step s (told_of K s f.taken)) (sym whole);
+        position = position-more K L N s t read.front (c ∷ []) read.state read.position moved ∙ ap (λ (f : Feed H). after step reply exact K s f.taken) (sym whole);
         answers = ap (λ (f : Feed H). f.answer) (sym whole);
         left = ap (λ (f : Feed H). f.left) (sym whole);
       }
 
--- nothing was taken where nothing waits
-pub none-taken : {Z : Type 0} (exact : Bool) (K : Start) (old new : TextQueue) (o : Option (SetResult Z)) → ((item : SetResult Z) → o ≡ Some item → ⊥)
-    → TakesItem exact K old new o → (old.text ≡ []) × (new ≡ old)
-none-taken exact K old new None other taken = taken
-none-taken exact K old new (Some item) other taken = absurd (other item refl)
+pub none_other : {X : Type 0} (o : Option X) → ((x : X) → o ≡ Some x → ⊥) → IsNone o
+none_other None other = refl
+none_other (Some x) other = absurd (other x refl)
 
 -- the error of a `?`
 pub error_of : {T : Type 0} (r : Result T TokenizerError) (e f : TokenizerError) → IsErrAnd r (λ x. x ≡ e) → r ≡ Err f → e ≡ f

@@ -1,5 +1,5 @@
 pub mod Feed
 pub mod Tokenizer
-pub mod Runs
 pub mod Refused
+pub mod Runs
 pub mod RunSteps

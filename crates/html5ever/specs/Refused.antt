@@ -1,13 +1,20 @@
 -- What a refused feed leaves: which beginning of the queue's text is gone, and how much of what it tells was told.
-use Rattle.std.specs.Prelude.{◌≡◌, ◌≤◌, ◌⊎◌, ℕ, Bool, List, ◌++◌, length}
+use Rattle.std.specs.Prelude.{◌≡◌, ◌≤◌, ◌⊎◌, ℕ, Bool, false, List, ◌++◌, length}
 use Rattle.html5ever_interface.specs.Sink.{stepped}
 use Rattle.html5ever_interface.specs.Token.{Told, Reply}
 use Rattle.html5grammar.specs.Reading.{told, messages, after}
 use Rattle.html5grammar.specs.Start.{Start}
 use Rattle.html5ever.specs.Feed.{told_beyond}
-use Rattle.html5ever.specs.Runs.{IsRun}
+use Rattle.html5states.specs.Runs.{IsRunAt}
 use Rattle.html5states.specs.Telling.{Stops}
 use Rattle.html5states.specs.declared.error.TokenizerError.{TokenizerError}
+
+-- a run that is read at once: errors are not exact, and no first character may be dropped
+pub record IsRun (exact : Bool) (K : Start) (run : List ℕ) : Type 0 where
+  pub not_exact : exact ≡ false
+  pub past_line_break : K.input.after_carriage_return ≡ false
+  pub past_stream_start : K.input.drops_byte_order_mark ≡ false
+  pub is_run : IsRunAt K.opened run
 
 -- characters that are taken at once: none, one, or a run
 abbrev pub IsItem : Bool → Start → List ℕ → Type 0

@@ -42,6 +42,7 @@ impl Input {
     }
 
     /// The line that was reached.
+    #[inline(always)]
     pub fn line(&self) -> u64
         ensures line { result ≡ self.now.line }
         ensures fits { self.now.line < 2 ^ 64 }
@@ -50,6 +51,7 @@ impl Input {
     }
 
     /// Whether characters from here on are read as they stand, but for line breaks.
+    #[inline(always)]
     pub fn is_past_start(&self) -> bool
         ensures { IsTrue result
             ↔ ((self.now.after_carriage_return ≡ false) × (self.now.drops_byte_order_mark ≡ false)) }
@@ -65,6 +67,7 @@ impl Input {
     }
 
     /// Takes a character of the stream, and answers the one that is read for it, if any.
+    #[inline(always)]
     pub fn advance(&mut self, c: char) -> Option<char>
         ensures moves { self.new ≡ input_after self.old (c ∷ []) }
         ensures reads { let read = normalised self.old (c ∷ []) in

@@ -1,5 +1,5 @@
 //! Where a tokenizer stands in its stream.
-ghost use Rattle.std.specs.Prelude.{◌≡◌, ◌^◌, ◌<◌, ◌+◌, ◌&&◌, ◌∷◌, [], true, false, IfOk, IfErr, string_bytes};
+ghost use Rattle.std.specs.Prelude.{◌≡◌, ◌≢◌, ◌^◌, ◌<◌, ◌≤◌, ◌+◌, ◌&&◌, ℕ, List, ◌∷◌, [], false, length, take, drop, Contains, IfOk, IfErr, IfSome, OnOk, string_bytes};
 ghost use Rattle.html5ever_interface.specs.Options.{options_of};
 ghost use Rattle.html5ever_interface.specs.Sink.{stepped, on_line};
 ghost use Rattle.html5ever_interface.specs.Token.{Told, tag_of};
@@ -13,6 +13,9 @@ ghost use Rattle.html5grammar.specs.Start.Mode.{Data, Plain};
 ghost use Rattle.html5grammar.specs.Start.Open.{Between};
 ghost use Rattle.html5states.specs.CurrentTag.{stops_at_bad, opened_of};
 ghost use Rattle.html5ever.specs.Feed.{reply_in, first_pause};
+ghost use Rattle.html5ever.specs.Refused.{IsRun};
+ghost use Rattle.html5states.specs.Runs.{IsRunAt, other_run_ends, run_ends, run_tokens, opened_after_run};
+ghost use Rattle.std.specs.Str.{IsUtf8, chars};
 ghost use Rattle.html5grammar.proofs.Machine.{step_at};
 ghost use Rattle.html5states.specs.Steps.{IsBuilt, Leads, Ends, tokens_of, behind};
 ghost use Rattle.html5states.specs.Telling.{Tells, IsRefusal, faults_of};
@@ -27,6 +30,7 @@ use html5states::current_tag::CurrentTag;
 use html5states::error::TokenizerError;
 use html5states::message::is_bad;
 use html5states::opened::{Opened, Progress, Step};
+use html5states::runs::run_ends;
 use html5states::teller::Teller;
 use markup5ever::tokenizer_result::TokenizerResult;
 use std::alloc::{Allocator, Global};
@@ -111,15 +115,52 @@ impl<A: Allocator + Copy> Position<A> {
         self.opened.state = State::Plaintext;
     }
 
-    /// Whether plain text goes on, with no first character that may be dropped.
-    pub fn is_in_plain_text(&self) -> bool
-        ensures plain { result ≡ true → self.now.opened ≡ Between Plain }
-        ensures past_line_break { result ≡ true → self.now.input.after_carriage_return ≡ false }
-        ensures past_stream_start { result ≡ true → self.now.input.drops_byte_order_mark ≡ false }
-        ensures found { self.now.opened ≡ Between Plain → self.now.input.after_carriage_return ≡ false
-            → self.now.input.drops_byte_order_mark ≡ false → result ≡ true }
+    /// How many bytes of a text can be read at once from here: those of a run, where errors are not
+    /// exact and no first character may be dropped.
+    #[inline(always)]
+    pub fn run_len(&self, exact_errors: bool, text: &str) -> usize
+        ensures within { result ≤ length text.now }
+        ensures rest_utf8 { IsUtf8 (drop result text.now) }
+        ensures run { result ≢ 0 → IsRun exact_errors self.now (chars (take result text.now)) }
+        ensures found { exact_errors ≡ false → self.now.input.after_carriage_return ≡ false
+            → self.now.input.drops_byte_order_mark ≡ false → IfSome (other_run_ends self.now.opened) (λ others.
+            (c : ℕ) (rest : List ℕ) → chars text.now ≡ c ∷ rest → ¬ Contains (run_ends others) c → result ≢ 0) }
     {
-        self.input.is_past_start() && self.opened.state == State::Plaintext
+        if exact_errors || !self.input.is_past_start() {
+            return 0;
+        }
+        match run_ends(&self.opened) {
+            Some(ends) => ends.nonmember_prefix_len(text),
+            None => 0,
+        }
+    }
+
+    /// Reads a run: its text is told as one token, or it is put to the open name or value.
+    #[inline(always)]
+    pub fn read_run<S: TokenSink<Token<A>>>(
+        &mut self,
+        alloc: A,
+        sink: &mut S,
+        run: &str,
+    ) -> Result<(), TokenizerError>
+        requires { IsRunAt self.old.opened (chars run.now) }
+        ensures tells { Tells S.step S.faulted result (S.state sink.old)
+            (on_line self.old.input.line (run_tokens self.old.opened (chars run.now))) (S.state sink.new) }
+        ensures opened { OnOk result
+            (self.new.opened ≡ opened_after_run self.old.opened (chars run.now)) }
+        ensures input { self.new.input ≡ self.old.input }
+        ensures faults { S.faults sink.new ≡ S.faults sink.old + faults_of result }
+        ensures refusal { IfErr result IsRefusal }
+        ensures fits { self.old.input.line < 2 ^ 64 }
+    {
+        let line = self.input.line();
+        let mut teller = Teller {
+            sink,
+            alloc,
+            exact_errors: false,
+            line,
+        };
+        teller.read_run(&mut self.opened, run)
     }
 }
 
@@ -145,6 +186,7 @@ fn stops_at(exact_errors: bool, state: State, c: char) -> bool
 }
 
 // Reports a bad character, with exact errors.
+#[inline(always)]
 fn report_bad_character<S: TokenSink<Token<A>>, A: Allocator + Copy>(
     alloc: A,
     sink: &mut S,
@@ -167,6 +209,7 @@ fn report_bad_character<S: TokenSink<Token<A>>, A: Allocator + Copy>(
 }
 
 // Reads one character in the state that is open.
+#[inline(always)]
 fn step<S: TokenSink<Token<A>>, A: Allocator + Copy>(
     alloc: A,
     sink: &mut S,
@@ -191,6 +234,7 @@ fn step<S: TokenSink<Token<A>>, A: Allocator + Copy>(
 
 // Tells the sink a tag, and goes on as it replies.
 #[tactic(auto, unfolding(html5ever_interface::specs::Sink::stepped, crate::specs::Feed::first_pause))]
+#[inline(always)]
 fn tell_tag<S: TokenSink<Token<A>>, A: Allocator + Copy>(
     sink: &mut S,
     position: &mut Position<A>,
@@ -223,6 +267,7 @@ fn tell_tag<S: TokenSink<Token<A>>, A: Allocator + Copy>(
 }
 
 /// Reads one character of the stream. The answer is `Done`, but behind a tag whose reply pauses.
+#[inline(always)]
 pub fn read_character<S: TokenSink<Token<A>>, A: Allocator + Copy>(
     alloc: A,
     sink: &mut S,

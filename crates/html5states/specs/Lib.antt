@@ -1,3 +1,4 @@
 pub mod CurrentTag
 pub mod Steps
 pub mod Telling
+pub mod Runs

@@ -8,6 +8,7 @@ mod end_of_input;
 pub mod error;
 pub mod message;
 pub mod opened;
+pub mod runs;
 mod step;
 mod tag_states;
 pub mod teller;

@@ -57,6 +57,7 @@ pub fn saw_end_message<A: Allocator>(
 }
 
 /// The text of one character.
+#[inline(always)]
 pub fn text_of<A: Allocator>(alloc: A, c: char) -> Result<String<A>, AllocError>
     ensures { IfOk result (λ text. string_bytes text ≡ encode_utf8 c) }
 {

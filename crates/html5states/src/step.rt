@@ -16,6 +16,7 @@ use std::alloc::Allocator;
 
 impl<S: TokenSink<Token<A>>, A: Allocator + Copy> Teller<'_, S, A> {
     /// Reads one character, and tells what it brings. No other state is built.
+    #[inline(always)]
     pub fn step(&mut self, at: &mut Opened<A>, c: char) -> Step
         ensures { Reads S.state S.faults S.step S.faulted result self.old self.new
             (step_at self.old.exact_errors (opened_of at.old) c) at.new }

@@ -37,6 +37,7 @@ impl<S, A: Drop> Drop for Teller<'_, S, A> {
 
 impl<S: TokenSink<Token<A>>, A: Allocator + Copy> Teller<'_, S, A> {
     /// Tells the sink a token that isn't a tag, so the tokenizer keeps on.
+    #[inline(always)]
     pub fn tell(&mut self, token: Token<A>) -> Result<(), TokenizerError>
         requires no_tag { is_tag (told_by token) ≡ false }
         requires filled { tokens_in (told_by token) ≢ [] }
@@ -51,6 +52,7 @@ impl<S: TokenSink<Token<A>>, A: Allocator + Copy> Teller<'_, S, A> {
     }
 
     /// Tells the sink a text of one character.
+    #[inline(always)]
     pub fn emit_char(&mut self, c: char) -> Result<(), TokenizerError>
         ensures { Emits S.state S.faults S.step S.faulted result self.old self.new
             (Text (encode_utf8 c) ∷ []) }
@@ -118,6 +120,7 @@ impl<S: TokenSink<Token<A>>, A: Allocator + Copy> Teller<'_, S, A> {
     }
 
     /// Reports a bad character, with exact errors.
+    #[inline(always)]
     pub fn emit_bad_character(&mut self, c: char) -> Result<(), TokenizerError>
         ensures { Emits S.state S.faults S.step S.faulted result self.old self.new
             (bad_character_error self.old.exact_errors c) }

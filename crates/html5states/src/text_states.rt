@@ -45,6 +45,7 @@ impl<S: TokenSink<Token<A>>, A: Allocator + Copy> Teller<'_, S, A> {
     }
 
     /// The standard's "PLAINTEXT state".
+    #[inline(always)]
     pub fn plaintext_state(&mut self, at: &mut Opened<A>, c: char) -> Step
         requires { at.old.state ≡ State.Plaintext }
         ensures { Reads S.state S.faults S.step S.faulted result self.old self.new
@@ -59,6 +60,7 @@ impl<S: TokenSink<Token<A>>, A: Allocator + Copy> Teller<'_, S, A> {
     }
 
     /// The standard's "data state".
+    #[inline(always)]
     pub fn data_state(&mut self, at: &mut Opened<A>, c: char) -> Step
         requires { at.old.state ≡ State.Data }
         ensures { Reads S.state S.faults S.step S.faulted result self.old self.new

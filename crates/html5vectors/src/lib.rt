@@ -22,6 +22,8 @@ mod refused;
 #[cfg(test)]
 mod running;
 #[cfg(test)]
+mod runs;
+#[cfg(test)]
 mod sinks;
 #[cfg(test)]
 mod sizes;

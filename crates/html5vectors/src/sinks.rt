@@ -95,6 +95,76 @@ impl TokenSink<Token> for FaultySink {
     }
 }
 
+/// Keeps a number alone: the line of the last token that is no text.
+#[derive(Drop)]
+pub struct LastLine {
+    line: u64,
+    faults: Count,
+}
+
+impl LastLine {
+    pub fn new() -> LastLine {
+        LastLine {
+            line: 0,
+            faults: Count::new(),
+        }
+    }
+}
+
+impl<A: Allocator> TokenSink<Token<A>> for LastLine {
+    ghost use Rattle.std.specs.Prelude.{ℕ, false, refl, if◌then◌else◌};
+    ghost use Rattle.html5ever_interface.specs.Token.Reply.{KeepOn};
+    ghost use Rattle.html5ever_interface.specs.Token.{is_text};
+
+    type Handle = Infallible;
+
+    ghost State = { ℕ };
+
+    ghost state = { λ s. s.line };
+
+    ghost faults = { λ s. s.faults.total };
+
+    ghost step = { λ last told line. if is_text told then last else line };
+
+    ghost reply = { λ last told line. KeepOn };
+
+    ghost foreign = { λ last. false };
+
+    ghost finish = { λ last. last };
+
+    ghost faulted = { λ last told line. last };
+
+    ghost end_faulted = { λ last. last };
+
+    ghost joins = { λ last a b line. refl };
+
+    ghost empty = { λ last line. refl };
+
+    ghost any_line = { λ last a line other. refl };
+
+    ghost keeps_on = { λ last told line no_tag. refl };
+
+    fn process_token(
+        &mut self,
+        token: Token<A>,
+        line_number: u64,
+    ) -> Result<TokenSinkResult<Infallible, String<A>>, SinkFault> {
+        match token {
+            Token::CharacterTokens(_) => {}
+            _ => self.line = line_number,
+        }
+        Ok(TokenSinkResult::Continue)
+    }
+
+    fn end(&mut self) -> Result<(), SinkFault> {
+        Ok(())
+    }
+
+    fn adjusted_current_node_present_but_not_in_html_namespace(&self) -> bool {
+        false
+    }
+}
+
 // Whether the token is the start tag of that name.
 fn is_start_of<A: Allocator>(token: &Token<A>, name: &str) -> bool
     ensures { result ≡ is_start_of name.now (told_by token.now) }

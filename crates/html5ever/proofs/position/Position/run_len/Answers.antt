@@ -1,0 +1,18 @@
+use Rattle.std.proofs.Common.{◌≡◌, rules, true, ◌∙◌, sym}
+use Rattle.std.specs.Prelude.{is_some, IsTrue}
+use Rattle.html5states.specs.CurrentTag.{opened_of}
+use Rattle.html5states.specs.Runs.{other_run_ends}
+use Rattle.html5ever.proofs.RunLemmas.{run-begins, run-found}
+use Rattle.html5ever.proofs.position.Position.run_len.Goals as goal
+
+pub returns-in-Some-clause-run : goal.returns-in-Some-clause-run
+returns-in-Some-clause-run g c = λ some.
+    let past : IsTrue c.is_past_start.result = search rules in
+    rw (← c.self.view_is)
+    (run-begins c.args.exact_errors _ c.in-Some.ends c.args.text.now c.nonmember_prefix_len.result c.if-exact_errors.false (c.is_past_start.ensures.0 past)
+    (sym c.in-Some.ensures.has_runs) c.in-Some.ensures.ends c.utf8.text c.nonmember_prefix_len.ensures.outside some)
+
+pub returns-in-Some-clause-found : goal.returns-in-Some-clause-found
+returns-in-Some-clause-found g c = λ exact line_break start.
+    rw (← c.self.view_is)
+    (run-found (record { opened = opened_of c.self.inside.opened; input = c.self.inside.input }) c.in-Some.ends c.args.text.now c.nonmember_prefix_len.result (sym c.in-Some.ensures.has_runs) c.in-Some.ensures.ends c.nonmember_prefix_len.ensures.stops)

@@ -1,0 +1,30 @@
+use Rattle.std.proofs.Common.{◌≡◌, ◌≢◌, ◌∙◌, sym, ap, take, length, arith}
+use Rattle.std.specs.Prelude.{encode_utf8_all}
+use Rattle.std.specs.Str.{chars}
+use Rattle.std.proofs.lemmas.Str.{IsCharBoundary-from_drop}
+use Rattle.markup5ever.proofs.BufferQueueLemmas.{range_from_start}
+use Rattle.html5ever.specs.Refused.{IsRun}
+use Rattle.html5ever.proofs.QueueReading.{ReadsRun-none, ReadsRun-run}
+use Rattle.html5ever.proofs.reading.read_waiting_run.Goals as goal
+
+pub returns-then-bytes-eq0-clause-reads : goal.returns-then-bytes-eq0-clause-reads
+returns-then-bytes-eq0-clause-reads g c = ReadsRun-none g.S.TokenSink.step g.S.TokenSink.reply c.args.exact_errors g.S.TokenSink.faulted _ c.args.position.now c.args.queue.now (g.S.TokenSink.state c.args.sink.now)
+
+pub range-requires-clause-end_boundary : goal.range-requires-clause-end_boundary
+range-requires-clause-end_boundary g c =
+    let same : c.front_text-2.result.now ≡ c.front_text.result.now = c.front_text-2.ensures ∙ sym c.front_text.ensures in
+    rw same (IsCharBoundary-from_drop c.front_text.result.now c.run_len-bytes.result c.run_len-bytes.ensures.within c.run_len-bytes.ensures.rest_utf8)
+
+pub returns-clause-reads : goal.returns-clause-reads
+returns-clause-reads g c =
+    let bytes = c.run_len-bytes.result in
+    let text = encode_utf8_all c.args.queue.now.text in
+    let cut : c.range.result.now ≡ take bytes text = c.range.ensures.value ∙ range_from_start c.front_text-2.result.now bytes ∙ ap (take bytes) c.front_text-2.ensures in
+    let run : IsRun c.args.exact_errors c.args.position.now (chars (take bytes text)) = rw c.front_text.ensures at (c.run_len-bytes.ensures.run c.if-bytes-eq0.false) in
+    ReadsRun-run g.S.TokenSink.step g.S.TokenSink.reply c.args.exact_errors g.S.TokenSink.faulted c.read_run-read.result g.met.S.TokenSink.keeps_on c.args.position.now _ _ _ _ _ (chars (take bytes text))
+    run c.read_run-read.ensures.fits c.skip.ensures (rw cut at c.read_run-read.ensures.tells) (rw cut at c.read_run-read.ensures.opened) c.read_run-read.ensures.input
+
+pub returns-clause-empty : goal.returns-clause-empty
+returns-clause-empty g c = λ nothing.
+    let none : length c.front_text.result.now ≡ 0 = ap length (c.front_text.ensures ∙ ap encode_utf8_all nothing) in
+    absurd (c.if-bytes-eq0.false (omega (arith, c.run_len-bytes.ensures.within, none)))

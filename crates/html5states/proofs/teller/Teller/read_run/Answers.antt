@@ -1,0 +1,21 @@
+use Rattle.std.proofs.Common.{◌≡◌, ◌≢◌, ◌++◌, ap, sym, ◌∙◌, string_bytes}
+use Rattle.std.specs.Prelude.{All, Contains, flat_map}
+use Rattle.std.specs.Str.{chars}
+use Rattle.std.proofs.lemmas.List.Elements.{All-weaker}
+use Rattle.std.proofs.lemmas.Str.{encodes-chars}
+use Rattle.html5grammar.specs.Characters.{null, value_bytes}
+use Rattle.html5grammar.specs.Start.Open.{InTag}
+use Rattle.html5grammar.specs.Start.Place.{InValue}
+use Rattle.html5states.specs.CurrentTag.{open_tag}
+use Rattle.html5states.specs.Runs.{run_ends}
+use Rattle.html5states.proofs.RunSteps.{value_bytes-run, no_null}
+use Rattle.html5states.proofs.teller.Teller.read_run.Goals as goal
+
+pub returns-in_ok-push_str-in-AttributeValue-clause-leads : goal.returns-in_ok-push_str-in-AttributeValue-clause-leads
+returns-in_ok-push_str-in-AttributeValue-clause-leads g c =
+    let run = chars c.args.run.now in
+    let ordinary = c.requires.ordinary in
+    let value : flat_map value_bytes run ≡ c.args.run.now =
+    value_bytes-run run (All-weaker (λ d. ¬ Contains (run_ends c.requires.others) d) (λ d. d ≢ null) (no_null c.requires.others) run ordinary) ∙ encodes-chars c.args.run.now c.utf8.run in
+    rw c.in-AttributeValue.is (ap (λ v. InTag (InValue c.in-AttributeValue.field-0) (record (open_tag c.args.at.now.tag) { last_value = v }))
+    (c.in_ok-push_str-in-AttributeValue.ensures.bytes ∙ ap (λ l. string_bytes c.args.at.now.tag.attr_value ++ l) (sym value)))
