@@ -1,9 +1,11 @@
 -- A text in quotes, printed by runs of bytes that stand as they are.
-use Rattle.std.proofs.Common.{◌≡◌, ℕ, ◌+◌, ◌-◌, ◌<◌, ◌≤◌, true, false, List, [], ◌∷◌, ◌++◌, length, take, drop, get_or, refl, ap, sym, ◌∙◌, arith}
+use Rattle.std.proofs.Common.{◌≡◌, ℕ, zero, suc, Bool, ◌||◌, ◌+◌, ◌-◌, ◌<◌, ◌≤◌, true, false, List, [], ◌∷◌, ◌++◌, length, take, drop, get_or, refl, ap, sym, ◌∙◌, inl, inr, arith}
+use Rattle.std.specs.List.{slice_index}
+use Rattle.std.proofs.lemmas.Bool.{cases_eq, cases_lt}
 use Rattle.std.proofs.lemmas.List.{append-nil, append_assoc, take_more, drop-append-le, drop-take, length-take-le, drop_all}
 use Rattle.html5print.specs.Page.{BeginsWith}
 use Rattle.html5print.specs.PageLaws.{quoted_bytes-append}
-use Rattle.html5print.specs.Printed.{needs_escape, escape, quoted_byte, quoted_bytes}
+use Rattle.html5print.specs.Printed.{needs_escape, IsPlainWithin, escape, quoted_byte, quoted_bytes}
 use Rattle.html5print.proofs.Beginnings.{BeginsWith-equal, BeginsWith-append, BeginsWith-trans, BeginsWith-less}
 
 quoted_bytes-more : (text : List ℕ) (i : ℕ) → i < length text
@@ -81,3 +83,46 @@ HasQuoted-escape old page text ran next start end before high special run_printe
           ∙ append_assoc old (quoted_bytes (take end text)) (escape (get_or text end 0))
           ∙ ap (λ l. old ++ l) (ap (λ l. quoted_bytes (take end text) ++ l) escaped ∙ sym (quoted_bytes-more text end high));
     }
+
+-- bytes that stand as they are stay in the run
+HasQuoted-plain_more : (old page text : List ℕ) (start end count : ℕ) → HasQuoted old page text start end → end + count ≤ length text
+    → IsPlainWithin text end (end + count) → HasQuoted old page text start (end + count)
+HasQuoted-plain_more old page text start end zero before high plain =
+    let same : end + zero ≡ end = omega arith in rw same before
+HasQuoted-plain_more old page text start end (suc count) before high plain =
+    let shorter = HasQuoted-plain_more old page text start end count before (omega (arith, high)) (λ k low less. plain k low (omega (arith, less))) in
+    let same : end + suc count ≡ (end + count) + 1 = omega arith in
+    rw same (HasQuoted-plain old page text start (end + count) shorter (omega (arith, high)) (plain (end + count) (omega arith) (omega arith)))
+
+pub HasQuoted-run : (old page text : List ℕ) (start end next : ℕ) → HasQuoted old page text start end → end ≤ next → next ≤ length text
+    → IsPlainWithin text end next → HasQuoted old page text start next
+HasQuoted-run old page text start end next before low high plain =
+    let same : end + (next - end) ≡ next = omega (arith, low) in
+    rw same at (HasQuoted-plain_more old page text start end (next - end) before (omega (arith, same, high)) (λ k low less. plain k low (omega (arith, less, same))))
+
+-- ---- bytes looked at one after another
+
+pub IsPlainWithin-more : (bytes : List ℕ) (from at : ℕ) → IsPlainWithin bytes from at → needs_escape (slice_index bytes at) ≡ false → IsPlainWithin bytes from (at + 1)
+IsPlainWithin-more bytes from at plain last k low high =
+    elim (cases_eq k at) [
+      | inl same ↦ rw same last
+      | inr earlier ↦ plain k low (omega (arith, high, earlier))
+    ]
+
+pub IsPlainWithin-join : (bytes : List ℕ) (from at to : ℕ) → IsPlainWithin bytes from at → IsPlainWithin bytes at to → IsPlainWithin bytes from to
+IsPlainWithin-join bytes from at to plain later k low high =
+    elim (cases_lt k at) [
+      | inl less ↦ plain k low less
+      | inr more ↦ later k more high
+    ]
+
+or_split : (a b : Bool) → a || b ≡ false → (a ≡ false) × (b ≡ false)
+or_split true b e = absurd cc
+or_split false b e = (refl, e)
+
+-- one byte more, where what was found so far is kept
+pub none_more : (bytes : List ℕ) (from at : ℕ) (found next : Bool) → (found ≡ false → IsPlainWithin bytes from (from + at)) → next ≡ needs_escape (slice_index bytes (from + at)) → found || next ≡ false → IsPlainWithin bytes from (from + (at + 1))
+none_more bytes from at found next before last none =
+    let split = or_split found next none in
+    let same : from + (at + 1) ≡ (from + at) + 1 = omega arith in
+    rw same (IsPlainWithin-more bytes from (from + at) (before split.0) (sym last ∙ split.1))

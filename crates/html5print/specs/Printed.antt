@@ -1,5 +1,5 @@
 -- The lines that are printed for messages, in bytes.
-use Rattle.std.specs.Prelude.{ℕ, Bool, true, false, List, [], ◌∷◌, ◌++◌, Option, None, Some, ◌==◌, ◌||◌, nat_lt, codes, if◌then◌else◌}
+use Rattle.std.specs.Prelude.{◌≡◌, ℕ, ◌<◌, ◌≤◌, Bool, true, false, List, [], ◌∷◌, ◌++◌, Option, None, Some, slice_index, ◌==◌, ◌||◌, nat_lt, codes, if◌then◌else◌}
 use Rattle.std.specs.List.{flat_map}
 use Rattle.std.specs.Fmt.{decimal, digits}
 use Rattle.markup5ever.specs.Names.{AttributeOf}
@@ -14,6 +14,10 @@ use Rattle.html5ever_interface.specs.declared.interface.token.TagKind.TheVariant
 -- whether a byte may not stand in quotes as it is
 unfoldable pub needs_escape : ℕ → Bool
 needs_escape byte = nat_lt byte 0x20 || (byte == 0x22) || (byte == 0x5C) || (byte == 0x7F)
+
+-- none of the bytes from one place up to another needs an escape
+abbrev pub IsPlainWithin : List ℕ → ℕ → ℕ → Type 0
+IsPlainWithin bytes from to = (k : ℕ) → from ≤ k → k < to → needs_escape (slice_index bytes k) ≡ false
 
 -- what stands in quotes for such a byte
 unfoldable pub escape : ℕ → List ℕ

@@ -10,9 +10,11 @@ use crate::printed::{
     push_tag_marks,
 };
 use html5ever_interface::interface::token::{Doctype, Tag, Token, TokenSinkResult};
+use itoa::Buffer;
 use std::alloc::{AllocError, Allocator};
 
 // Appends a text of a token. An empty one opens no line.
+#[inline(always)]
 #[tactic(auto, unfolding(crate::specs::Page::added_by_text))]
 fn push_text<A: Allocator>(
     page: &mut Vec<u8, A>,
@@ -42,12 +44,12 @@ fn push_line_start<A: Allocator + Copy>(
         (page.new.items ≡ page.old.items ++ (text_closing in_text ++ (word.now ++ decimal line))) }
     ensures err { OnErr result (BeginsWith page.new.items page.old.items) }
 {
-    let number = line.to_string(*page.allocator())?;
     if in_text {
         page.extend_from_slice(b"\"\n")?;
     }
     page.extend_from_slice(word.as_bytes())?;
-    page.extend_from_slice(number.as_bytes())
+    let mut number = Buffer::new();
+    page.extend_from_slice(number.format(line).as_bytes())
 }
 
 // Appends a line with nothing behind its number.
@@ -166,6 +168,7 @@ fn push_doctype<A: Allocator + Copy>(
 }
 
 /// Appends what a token adds to a page, where `reply` is what is replied to it.
+#[inline(always)]
 #[tactic(auto, unfolding(crate::specs::Page::added_by, crate::specs::Printed::printed_line))]
 pub fn push_token<A: Allocator + Copy>(
     page: &mut Vec<u8, A>,
@@ -195,6 +198,7 @@ pub fn push_token<A: Allocator + Copy>(
 }
 
 /// Whether a text is open behind a token.
+#[inline(always)]
 #[tactic(auto, unfolding(crate::specs::Page::open_behind))]
 pub fn is_open_behind<A: Allocator>(in_text: bool, token: &Token<A>) -> bool
     ensures { result ≡ open_behind in_text (told_by token.now) }

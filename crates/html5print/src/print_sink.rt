@@ -16,6 +16,7 @@ use std::marker::Model;
 mod tests;
 
 // Appends what a token adds to a page, and replies to it.
+#[inline(always)]
 fn print_and_reply<A: Allocator + Copy>(
     page: &mut Vec<u8, A>,
     in_text: bool,
@@ -112,6 +113,7 @@ impl<A: Allocator + Copy> TokenSink<Token<A>> for PrintSink<A> {
 
     ghost keeps_on = { page_keeps_on };
 
+    #[inline(always)]
     fn process_token(
         &mut self,
         token: Token<A>,

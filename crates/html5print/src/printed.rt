@@ -1,8 +1,8 @@
 //! The parts of printed lines: texts in quotes, marks, attributes, pause lines.
-ghost use Rattle.std.specs.Prelude.{◌≡◌, ◌<◌, ◌++◌, false, map, option_map, string_bytes, OnOk, OnErr};
+ghost use Rattle.std.specs.Prelude.{◌≡◌, ◌+◌, ◌<◌, ◌≤◌, ◌++◌, true, false, length, slice_index, map, option_map, string_bytes, OnOk, OnErr};
 ghost use Rattle.std.specs.Fmt.{digits, digit_glyph};
 ghost use Rattle.html5print.specs.Page.{BeginsWith};
-ghost use Rattle.html5print.specs.Printed.{needs_escape, escape, quoted_bytes, quoted, kind_word, mark_where, printed_attribute, printed_attributes, printed_option, tag_marks, pause_line};
+ghost use Rattle.html5print.specs.Printed.{needs_escape, IsPlainWithin, escape, quoted_bytes, quoted, kind_word, mark_where, printed_attribute, printed_attributes, printed_option, tag_marks, pause_line};
 ghost use Rattle.html5ever_interface.specs.Token.{tag_of, reply_of};
 ghost use Rattle.html5ever_interface.specs.Token.Reply.{SwitchEncoding};
 ghost use Rattle.markup5ever.specs.Names.{attribute_of};
@@ -38,11 +38,64 @@ fn push_hex<A: Allocator>(page: &mut Vec<u8, A>, byte: u8) -> Result<(), AllocEr
     Ok(())
 }
 
+// How many bytes are looked at in one step, where a run is long.
+const BLOCK: usize = 16;
+
+#[inline(always)]
 #[tactic(auto, unfolding(crate::specs::Printed::needs_escape))]
 fn needs_escape(byte: u8) -> bool
     ensures { result ≡ needs_escape byte }
 {
-    matches!(byte, 0..=0x1F | b'"' | b'\\' | 0x7F)
+    (byte < 0x20) | (byte == b'"') | (byte == b'\\') | (byte == 0x7F)
+}
+
+// Whether one of the 16 bytes from this place on needs an escape. It looks at each of them, so that the compiler makes
+// it one step over all.
+#[inline(always)]
+fn has_end(bytes: &[u8], from: usize) -> bool
+    requires { from + BLOCK ≤ length bytes.now }
+    ensures { result ≡ false → IsPlainWithin bytes.now from (from + BLOCK) }
+{
+    let mut found = false;
+    for k in 0..BLOCK {
+        found |= needs_escape(bytes[from + k]);
+    }
+    found
+}
+
+// Goes on over blocks in which no byte needs an escape.
+#[inline(always)]
+fn past_blocks(bytes: &[u8], from: usize) -> usize
+    requires { from ≤ length bytes.now }
+    ensures low { from ≤ result }
+    ensures high { result ≤ length bytes.now }
+    ensures plain { IsPlainWithin bytes.now from result }
+{
+    let mut at = from;
+    while BLOCK <= bytes.len() - at {
+        if has_end(bytes, at) {
+            return at;
+        }
+        at += BLOCK;
+    }
+    at
+}
+
+// The place of the first byte from this one on that needs an escape, or the end.
+fn run_end(bytes: &[u8], from: usize) -> usize
+    requires { from ≤ length bytes.now }
+    ensures low { from ≤ result }
+    ensures high { result ≤ length bytes.now }
+    ensures plain { IsPlainWithin bytes.now from result }
+    ensures stops { result < length bytes.now → needs_escape (slice_index bytes.now result) ≡ true }
+{
+    let near = past_blocks(bytes, from);
+    for at in near..bytes.len() {
+        if needs_escape(bytes[at]) {
+            return at;
+        }
+    }
+    bytes.len()
 }
 
 // Appends what stands in quotes for a byte that may not stand there as it is.
@@ -70,12 +123,12 @@ pub fn push_quoted_bytes<A: Allocator>(page: &mut Vec<u8, A>, text: &[u8]) -> Re
     ensures err { OnErr result (BeginsWith page.new.items page.old.items) }
 {
     let mut start = 0;
-    for end in 0..text.len() {
-        if needs_escape(text[end]) {
-            page.extend_from_slice(&text[start..end])?;
-            push_escape(page, text[end])?;
-            start = end + 1;
-        }
+    let mut end = run_end(text, 0);
+    while end < text.len() {
+        page.extend_from_slice(&text[start..end])?;
+        push_escape(page, text[end])?;
+        start = end + 1;
+        end = run_end(text, start);
     }
     page.extend_from_slice(&text[start..])
 }

@@ -66,6 +66,7 @@ fn reply_to_end<A: Allocator>(name: &str) -> TokenSinkResult<(), String<A>>
 }
 
 /// What is replied to a token.
+#[inline(always)]
 pub fn reply_to<A: Allocator + Copy>(
     token: &Token<A>,
 ) -> Result<TokenSinkResult<(), String<A>>, AllocError>
