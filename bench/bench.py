@@ -1,146 +1,198 @@
 #!/usr/bin/env python3
-"""Times html5tok on a corpus that this script makes, and prints a table.
+"""Times html5tok beside html5ever itself, and prints tables.
 
-    python3 bench/bench.py [--program PATH] [--runs N]
+    python3 bench/bench.py [--quick] [--program PATH] [--without-beside] [--references]
 
-Without --program it runs crates/html5tok/out/html5tok, the proved program, and has `rt run` build it first.
-Each figure comes from a process of its own. A time is the best of N, with the output thrown away. A peak is the
-process's own high-water mark of resident memory, read while it writes its output. MB are 1,000,000 bytes.
+html5ever is Debian's package of it, behind a program of ours that prints the same lines (beside/main.rs); build.py
+builds it anew in each call. Where it can't be built, html5tok is timed alone. A time is the processor time of a
+process, user and system, the best of some runs in which the programs take turns. MB are 1,000,000 bytes.
 """
 
 import argparse
-import hashlib
+import filecmp
 import pathlib
-import random
-import subprocess
 import sys
 import tempfile
-import time
+from typing import NamedTuple
 
-CRATE = pathlib.Path(__file__).resolve().parent.parent / "crates" / "html5tok"
-STATES = ["plaintext", "data"]
-SIZES = [1_000_000, 8_000_000]
-CUTS = [None, 4096, 1]
-WORDS = (
-    "the quick brown fox jumps over a lazy dog while many other animals look on and wonder whether it was worth it "
-    "café naïve Größe señor Ελλάδα слово 日本語 한국어 עברית 🦊 𝄞 \"quoted\" it's <p> &amp; back\\slash"
-).split()
-TAGS = "<p> </p> <a href='x'> </a> <br/> <td class=y id=z> </td>".split()
-SEED = 20
+import build
+import corpora
+import measure
 
-
-def words_of(state):
-    """The words of a corpus: in data no reference, and more tags."""
-    if state == "plaintext":
-        return WORDS
-    return [word for word in WORDS if "&" not in word] + TAGS
-
-
-def write_corpus(path, state, size):
-    """Lines of words: some are of several bytes a character, some are in quotes, some lines end with CR LF."""
-    chance = random.Random(SEED)
-    words = words_of(state)
-    left = size
-    with open(path, "wb") as corpus:
-        while left > 0:
-            line = " ".join(chance.choices(words, k=chance.randint(3, 15)))
-            if chance.random() < 0.1:
-                line = "\t" + line
-            line += "\r\n" if chance.random() < 0.2 else "\n"
-            data = line.encode()
-            if len(data) > left:
-                data = b"." * left
-            corpus.write(data)
-            left -= len(data)
+PROGRAM = pathlib.Path(__file__).resolve().parent.parent / "crates" / "html5tok" / "out" / "html5tok"
+SETTINGS = {
+    "whole": [],
+    "`--cut 4096`": ["--cut", "4096"],
+    "`--exact`": ["--exact"],
+    "`--cut 1`": ["--cut", "1"],
+}
+NOTES = """
+Ratio: html5ever's seconds by ours, so above 1 ours is faster. Lines that differ: in brackets those that differ in more
+than an error's text. A message of html5ever 0.26 names character and state only with `--exact`, one of 0.40.1 or ours
+only without it: where errors are many, each setting costs the program more that names them.
+"""
+MB = corpora.MB
 
 
-def command(program, state, cut):
-    words = [str(program), "--state", state]
-    if cut is not None:
-        words += ["--cut", str(cut)]
-    return words
+class Sizes(NamedTuple):
+    """How much is read, and how often."""
+
+    runs: int
+    megabytes: int  # of pages, and of plain text
+    odd: int  # `<`, and NULs
+    long: int  # line breaks, and bytes of a value and of a name
+    attributes: int
+    linear: list  # megabytes of pages
 
 
-def seconds(program, state, cut, corpus):
-    with open(corpus, "rb") as source:
-        start = time.perf_counter()
-        subprocess.run(command(program, state, cut), stdin=source, stdout=subprocess.DEVNULL, check=True)
-        return time.perf_counter() - start
+FULL = Sizes(runs=5, megabytes=8, odd=MB, long=8 * MB, attributes=10_000, linear=[1, 2, 4, 8, 16, 32])
+QUICK = Sizes(runs=2, megabytes=1, odd=MB // 10, long=MB // 2, attributes=1_000, linear=[1, 2, 4])
 
 
-def high_water(process):
-    """The most memory that the process had so far, in bytes, or 0 once it has ended."""
+class Case(NamedTuple):
+    """A text to read, and the words that it is read with."""
+
+    name: str
+    text: bytes
+    words: list
+
+
+def cases(sizes, references):
+    """The cases of the first table, each made when it is asked for."""
+    yield Case(f"pages, {sizes.megabytes} MB", corpora.pages(sizes.megabytes, references), [])
+    yield Case(f"plain text, {sizes.megabytes} MB", corpora.plain_text(sizes.megabytes), ["--state", "plaintext"])
+    yield Case(f"{sizes.odd:,} `<`", b"<" * sizes.odd, [])
+    yield Case(f"{sizes.odd:,} NULs", b"\0" * sizes.odd, [])
+    yield Case(f"{sizes.long:,} line breaks", b"\n" * sizes.long, [])
+    yield Case(f"a value of {sizes.long / MB:g} MB", corpora.long_value(sizes.long), [])
+    yield Case(f"a tag's name of {sizes.long / MB:g} MB", corpora.long_name(sizes.long), [])
+    yield Case(f"{sizes.attributes:,} attributes of a tag", corpora.many_attributes(sizes.attributes), [])
+
+
+def linear_cases(sizes, references):
+    """The cases of the second table: kinds of input, each in several sizes."""
+    for megabytes in sizes.linear:
+        yield Case("pages, whole", corpora.pages(megabytes, references), [])
+    for size in (MB // 8, MB):
+        yield Case("characters, `--cut 1`", corpora.ascii_text(size), ["--cut", "1"])
+    for size in (sizes.long // 8, sizes.long):
+        yield Case("a value, whole", corpora.long_value(size), [])
+
+
+def print_row(*cells):
+    print(f"| {' | '.join(cells)} |", flush=True)
+
+
+def print_header(*cells):
+    print_row(*cells)
+    print_row(*["---"] * len(cells))
+
+
+def time_and_speed(seconds, size):
+    return f"{seconds:.3f}", f"{size / max(seconds, 1e-6) / MB:.1f}"
+
+
+def outputs(programs, words, corpus):
+    """What each program prints, in files, and the peak of the first program."""
+    files = []
+    peaks = []
+    for number, program in enumerate(programs):
+        files.append(corpus.with_suffix(f".{number}"))
+        peaks.append(measure.print_to(program, words, corpus, files[-1]))
+    return files, peaks[0]
+
+
+def measure_setting(programs, case, setting, corpus, runs):
+    """Prints the row of a case and a setting. The first program is ours; the other, if any, html5ever's."""
+    words = case.words + SETTINGS[setting]
+    files, peak = outputs(programs, words, corpus)
+    times = measure.best_times([(program, words, corpus) for program in programs], runs)
+    ours = time_and_speed(times[0], len(case.text))
+    if len(programs) == 1:
+        print_row(case.name, setting, *ours, f"{peak / MB:.1f}")
+    else:
+        theirs = time_and_speed(times[1], len(case.text))
+        ratio = f"{times[1] / times[0]:.2f}"
+        print_row(case.name, setting, *theirs, *ours, ratio, f"{peak / MB:.1f}", measure.difference(*files))
+    return files[0]
+
+
+def measure_case(programs, case, folder, runs):
+    """Prints the rows of a case, and ends the script where our output depends on the cut."""
+    corpus = folder / "corpus"
+    corpus.write_bytes(case.text)
+    whole = folder / "whole"
+    for setting in SETTINGS:
+        output = measure_setting(programs, case, setting, corpus, runs)
+        if setting == "whole":
+            output.replace(whole)
+        elif "--cut" in setting and not filecmp.cmp(whole, output, shallow=False):
+            sys.exit(f"{case.name}: what html5tok prints differs by the cut")
+
+
+def compare(programs, sizes, references, folder):
+    """The first table."""
+    if len(programs) == 1:
+        print()
+        print_header("Case", "Setting", "Seconds", "MB/s", "Peak, MB")
+    else:
+        print(NOTES)
+        ours = ["Ours, s", "MB/s", "Ratio", "Our peak, MB"]
+        print_header("Case", "Setting", "html5ever, s", "MB/s", *ours, "Lines that differ")
+    for case in cases(sizes, references):
+        measure_case(programs, case, folder, sizes.runs)
+
+
+def check_linear(program, sizes, references, folder):
+    """The second table: seconds per MB stay the same where the time is linear."""
+    rows = []
+    turns = []
+    for number, case in enumerate(linear_cases(sizes, references)):
+        corpus = folder / f"linear.{number}"
+        corpus.write_bytes(case.text)
+        rows.append((case.name, len(case.text) / MB))
+        turns.append((program, case.words, corpus))
+    print()
+    print_header("Case", "MB", "Seconds", "Seconds per MB")
+    for (name, megabytes), seconds in zip(rows, measure.best_times(turns, sizes.runs)):
+        print_row(name, f"{megabytes:.3g}", f"{seconds:.3f}", f"{seconds / megabytes:.4f}")
+
+
+def options():
+    parser = argparse.ArgumentParser(description="Times html5tok beside html5ever.")
+    parser.add_argument("--quick", action="store_true", help="small texts, and the best of two runs")
+    parser.add_argument("--program", type=pathlib.Path, default=PROGRAM, help="the program to time")
+    parser.add_argument("--without-beside", action="store_true", help="time html5tok alone")
+    parser.add_argument("--references", action="store_true", help="pages have character references too")
+    return parser.parse_args()
+
+
+def beside(folder):
+    """The program over html5ever, in a list, or an empty one where it can't be built."""
+    folder.mkdir()
     try:
-        status = pathlib.Path(f"/proc/{process.pid}/status").read_text()
-    except OSError:
-        return 0
-    for line in status.splitlines():
-        if line.startswith("VmHWM:"):
-            return int(line.split()[1]) * 1024
-    return 0
-
-
-def peak_and_digest(program, state, cut, corpus):
-    """The peak of the process, and a digest of what it wrote."""
-    peak = 0
-    digest = hashlib.sha256()
-    with open(corpus, "rb") as source:
-        process = subprocess.Popen(command(program, state, cut), stdin=source, stdout=subprocess.PIPE, bufsize=0)
-        while chunk := process.stdout.read(1 << 16):
-            digest.update(chunk)
-            peak = max(peak, high_water(process))
-        if process.wait() != 0:
-            sys.exit(f"{' '.join(command(program, state, cut))} ended with status {process.returncode}")
-    return peak, digest.hexdigest()
-
-
-def build():
-    """Has `rt run` prove and build the program where that is not done yet."""
-    subprocess.run(
-        ["rt", "run", "--", "--state", "plaintext"],
-        cwd=CRATE,
-        input=b"a",
-        stdout=subprocess.DEVNULL,
-        check=True,
-    )
-    return CRATE / "out" / "html5tok"
-
-
-def measure(program, state, size, folder, runs):
-    """Times one corpus by every cut, and prints a line for each; answers the times."""
-    corpus = pathlib.Path(folder) / f"{state}-{size}.txt"
-    write_corpus(corpus, state, size)
-    times = {}
-    digests = set()
-    for cut in CUTS:
-        times[cut] = min(seconds(program, state, cut, corpus) for _ in range(runs))
-        peak, digest = peak_and_digest(program, state, cut, corpus)
-        digests.add(digest)
-        speed = size / times[cut] / 1e6
-        print(
-            f"{state:>9}  {size // 1_000_000:>3} MB  {cut or 'all':>9}  {times[cut]:>8.3f}  {speed:>7.1f}  {peak / 1e6:>8.1f}",
-            flush=True,
-        )
-    if len(digests) != 1:
-        sys.exit("the outputs differ by the cut")
-    return times
+        program, words = build.build(folder)
+    except build.CannotBuild as error:
+        print(f"html5ever is left out: {error}", file=sys.stderr)
+        return []
+    print(f"Beside {words}.")
+    return [program]
 
 
 def main():
-    parser = argparse.ArgumentParser(description="Times html5tok on texts of 1 MB and 8 MB.")
-    parser.add_argument("--program", type=pathlib.Path, help="the program to run in place of the proved one")
-    parser.add_argument("--runs", type=int, default=3, help="how often each time is taken")
-    options = parser.parse_args()
-    program = options.program.resolve() if options.program else build()
-
-    print(f"{'state':>9}  {'input':>6}  {'pieces of':>9}  {'seconds':>8}  {'MB/s':>7}  {'peak MB':>8}")
-    small, large = SIZES
-    with tempfile.TemporaryDirectory() as folder:
-        for state in STATES:
-            times = {size: measure(program, state, size, folder, options.runs) for size in SIZES}
-            for cut in CUTS:
-                ratio = times[large][cut] / times[small][cut]
-                print(f"{state}, {large // small} times the input, pieces of {cut or 'all'}: {ratio:.1f} times the time")
+    chosen = options()
+    program = chosen.program.resolve()
+    if not program.is_file():
+        sys.exit(f"there is no {program}: `rt run < /dev/null` in crates/html5tok builds it")
+    sizes = QUICK if chosen.quick else FULL
+    with tempfile.TemporaryDirectory() as name:
+        folder = pathlib.Path(name)
+        programs = [program]
+        if not chosen.without_beside:
+            programs += beside(folder / "beside")
+        print(f"Processor seconds, the best of {sizes.runs} runs.")
+        compare(programs, sizes, chosen.references, folder)
+        check_linear(program, sizes, chosen.references, folder)
 
 
 if __name__ == "__main__":

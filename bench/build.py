@@ -1,0 +1,85 @@
+"""Builds beside/main.rs over html5ever as Debian packs it, in a scratch folder and without the network."""
+
+import pathlib
+import shutil
+import subprocess
+
+MAIN = pathlib.Path(__file__).resolve().parent / "beside" / "main.rs"
+REGISTRY = pathlib.Path("/usr/share/cargo/registry")
+INSTALL = "apt-get install librust-html5ever-dev"
+
+MANIFEST = """\
+[package]
+name = "beside"
+version = "0.0.0"
+edition = "2021"
+
+[dependencies]
+html5ever = "0.26"
+
+[patch.crates-io]
+tendril = { path = "tendril" }
+
+[profile.release]
+opt-level = 3
+lto = true
+codegen-units = 1
+"""
+
+CONFIG = f"""\
+[source.crates-io]
+replace-with = "system"
+
+[source.system]
+directory = "{REGISTRY}"
+"""
+
+
+class CannotBuild(Exception):
+    """Why the program couldn't be built."""
+
+
+def packed(name):
+    """The folder of a crate in the system's registry."""
+    folders = sorted(REGISTRY.glob(f"{name}-[0-9]*"))
+    if not folders:
+        raise CannotBuild(f"the crate {name} is not in {REGISTRY}; `{INSTALL}` puts it there")
+    return folders[-1]
+
+
+def copy_tendril(folder):
+    """Copies tendril. Newer compilers refuse its packed header, whose fields it borrows, so this one isn't packed."""
+    shutil.copytree(packed("tendril"), folder / "tendril")
+    source = folder / "tendril" / "src" / "tendril.rs"
+    text = source.read_text()
+    source.write_text(text.replace("#[repr(packed)]\nstruct Header", "#[repr(C)]\nstruct Header"))
+
+
+def lay_out(folder):
+    """The files of a crate that has beside/main.rs as its program."""
+    (folder / "src").mkdir()
+    (folder / ".cargo").mkdir()
+    shutil.copy(MAIN, folder / "src" / "main.rs")
+    (folder / "Cargo.toml").write_text(MANIFEST)
+    (folder / ".cargo" / "config.toml").write_text(CONFIG)
+    copy_tendril(folder)
+
+
+def said(words, folder):
+    """What a command prints, where it succeeds."""
+    try:
+        ended = subprocess.run(words, cwd=folder, capture_output=True, text=True)
+    except FileNotFoundError:
+        raise CannotBuild(f"there is no {words[0]} on the path") from None
+    if ended.returncode != 0:
+        raise CannotBuild(f"`{' '.join(words)}` failed:\n{ended.stderr[-2000:]}")
+    return ended.stdout.strip()
+
+
+def build(folder):
+    """Builds the program in an empty folder; answers its path, and in words what it was built from."""
+    name = packed("html5ever").name.replace("-", " ")
+    lay_out(folder)
+    said(["cargo", "build", "--offline", "--release", "--quiet", "--target-dir", "target"], folder)
+    compiler = " ".join(said(["rustc", "--version"], folder).split()[:2])
+    return folder / "target" / "release" / "beside", f"{name}, built by {compiler}"

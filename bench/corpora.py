@@ -1,0 +1,89 @@
+"""The texts that are timed. All are made here, from one seed, and none has a comment, a doctype or a `meta`."""
+
+import random
+
+SEED = 20
+MB = 1_000_000
+ASCII_WORDS = (
+    "the quick brown fox jumps over a lazy dog while many other animals look on and wonder whether it was worth it "
+    "because nobody had told them what there was to win in this year's race across fields and hedges, or why."
+).split()
+WORDS = ASCII_WORDS * 3 + "café naïve Größe señor Ελλάδα слово 日本語 한국어 עברית 🦊 𝄞".split()
+PLAIN_WORDS = WORDS + '"quoted" <p> </p> &amp; 1<2 back\\slash'.split()
+# What stands between the words of pages where references are asked for.
+REFERENCES = "&amp; &lt;b&gt; &nbsp; &copy;2024 caf&eacute; &#233; &#x1F98A; R&D".split()
+BLOCKS = [
+    '<div class="card wide" id=card-{n}>\n',
+    "</div>\n",
+    "<h2 id='part-{n}'>{some}</h2>\n",
+    "<p>{many}</p>\n",
+    '<p class="lead">{many} <a href="/topics/{word}/{n}.html" title="{some}">{some}</a> {many}</p>\n',
+    "<p>{many}, <em>{word}</em> {some} <b>{some}</b>.<br/>\n{many}</p>\n",
+    '<ul class="menu">\n  <li><a href="/{n}">{some}</a></li>\n  <li>{some}\n</ul>\n',
+    '<img src="/images/{n}.png" alt="{some}" width=640 height=480 />\n',
+    "<TABLE BORDER=0><TR><TD CLASS=num>{n}</TD><TD>{some}</TD></TR></TABLE>\n",
+    '<form action="/search?page={n}"><input type=text name=q value=""><input type=checkbox checked></form>\n',
+    '<script src="/scripts/{n}.js" async></script>\n',
+    '<span data-id="{n}" data-id="{n}" style="color: red; width: {n}px">{word}</span>\r\n',
+    "<p>{n} < {n}{n} {some}</p>\n",
+]
+
+
+def phrase(chance, words, least, most):
+    return " ".join(chance.choices(words, k=chance.randint(least, most)))
+
+
+def block(chance, words):
+    """A piece of a page."""
+    return chance.choice(BLOCKS).format(
+        n=chance.randint(1, 99_999),
+        word=chance.choice(WORDS),
+        some=phrase(chance, words, 1, 5),
+        many=phrase(chance, words, 8, 40),
+    )
+
+
+def line(chance):
+    """A line of plain text: some begin with a tab, some end with CR LF."""
+    end = "\r\n" if chance.random() < 0.2 else "\n"
+    return "\t" * (chance.random() < 0.1) + phrase(chance, PLAIN_WORDS, 3, 15) + end
+
+
+def filled(size, part):
+    """Parts up to exactly so many bytes: what is left behind the last one is dots."""
+    parts = []
+    left = size
+    while len(data := part().encode()) <= left:
+        parts.append(data)
+        left -= len(data)
+    return b"".join(parts) + b"." * left
+
+
+def pages(megabytes, references=False):
+    """One megabyte of pages, so many times."""
+    chance = random.Random(SEED)
+    words = WORDS + REFERENCES if references else WORDS
+    return filled(MB, lambda: block(chance, words)) * megabytes
+
+
+def plain_text(megabytes):
+    chance = random.Random(SEED)
+    return filled(MB, lambda: line(chance)) * megabytes
+
+
+def ascii_text(size):
+    """Text of so many characters, each of one byte."""
+    chance = random.Random(SEED)
+    return filled(size, lambda: phrase(chance, ASCII_WORDS, 3, 15) + "\n")
+
+
+def long_value(size):
+    return b'<a b="' + b"v" * size + b'">'
+
+
+def long_name(size):
+    return b"<" + b"n" * size + b">"
+
+
+def many_attributes(count):
+    return b"<a" + b"".join(b' name%d="%d"' % (number, number) for number in range(count)) + b">"
