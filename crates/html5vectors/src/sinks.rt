@@ -149,10 +149,10 @@ impl<A: Allocator> TokenSink<Token<A>> for LastLine {
         token: Token<A>,
         line_number: u64,
     ) -> Result<TokenSinkResult<Infallible, String<A>>, SinkFault> {
-        match token {
-            Token::CharacterTokens(_) => {}
-            _ => self.line = line_number,
+        if let Token::CharacterTokens(_) = token {
+            return Ok(TokenSinkResult::Continue);
         }
+        self.line = line_number;
         Ok(TokenSinkResult::Continue)
     }
 
