@@ -1,4 +1,4 @@
-ghost use Rattle.std.specs.Prelude.{◌≡◌, ◌≢◌, ◌↔◌, ◌+◌, ◌<◌, ◌≤◌, ◌⊎◌, [], false, IfOk, IfErr, IfSome, IsSome, OnOk, OnErr, length, take, drop, string_bytes};
+ghost use Rattle.std.specs.Prelude.{◌≡◌, ◌≢◌, ◌↔◌, ◌+◌, ◌<◌, ◌≤◌, ◌⊎◌, [], false, IfOk, IfErr, OnOk, OnErr, length, take, drop, string_bytes};
 ghost use Rattle.std.specs.Io.KnownBytes.{Keeps};
 ghost use Rattle.std.specs.Str.{IsUtf8, chars};
 ghost use Rattle.html5tok.specs.Device.{IsRefusal, reported_failures};
@@ -16,7 +16,6 @@ use html5ever::tokenizer::steps::feed_until_done;
 use html5ever_interface::options::TokenizerOpts;
 use html5print::print_sink::PrintSink;
 use markup5ever::buffer_queue::BufferQueue;
-use simdutf8::is_utf8;
 use std::alloc::{Allocator, Global};
 
 /// How the program reads its input.
@@ -146,17 +145,6 @@ fn print_text<A: Allocator + Copy>(
     }
 }
 
-// These bytes as a text, if they are one.
-fn text_of<A: Allocator>(bytes: Vec<u8, A>) -> Option<String<A>>
-    ensures found { IfSome result (λ text. string_bytes text ≡ bytes.items) }
-    ensures succeeds { IsUtf8 bytes.items → IsSome result }
-{
-    if !is_utf8(&bytes) {
-        return None;
-    }
-    Some(unsafe { String::from_utf8_unchecked(bytes) })
-}
-
 /// Reads the text of a source to its end and prints its reading, a line for each token.
 pub fn print_tokens<R: Source, W: Target, A: Allocator + Copy>(
     alloc: A,
@@ -184,7 +172,7 @@ pub fn print_tokens<R: Source, W: Target, A: Allocator + Copy>(
         ≡ R.failures reader.old + W.failures writer.old + reported_failures result }
 {
     let bytes = read_to_end(alloc, reader)?;
-    let Some(text) = text_of(bytes) else {
+    let Ok(text) = String::from_utf8(bytes) else {
         return Err(Fault::NotUtf8);
     };
     let sink = print_text(alloc, text, settings)?;

@@ -23,40 +23,40 @@ returns-in_default-clause-not_utf8 g c = λ _. record {
 
 pub returns-clause-ok : goal.returns-clause-ok
 returns-clause-ok g c =
-    let text : string_bytes c.in-Some.text ≡ c.in_ok-bytes.bytes.items = c.in-Some.ensures.found in
+    let text : string_bytes c.in-Ok.text ≡ c.in_ok-bytes.bytes.items = ap (λ v. v.items) c.in-Ok.ensures.ok in
     let page : c.page.result.now ≡ printed_reading (said_by c.args.settings.now) c.in_ok-bytes.bytes.items =
     c.page.ensures ∙ c.in_ok-sink.ensures.ok ∙ ap (λ (l : List ℕ). printed_reading (said_by c.args.settings.now) l) text in
     on_ok_weaker c.write_all.result (λ written. record {
       bytes = c.in_ok-bytes.bytes.items;
       consumed = Consumes-whole _ _ c.in_ok-bytes.bytes.items c.in_ok-bytes.ensures.ok c.in_ok-bytes.ensures.end c.in_ok-bytes.ensures.in_order;
       at_end = c.in_ok-bytes.ensures.end;
-      utf8 = subst (λ (l : List ℕ). IsUtf8 l) text (IsUtf8-string_bytes c.in-Some.text);
+      utf8 = subst (λ (l : List ℕ). IsUtf8 l) text (IsUtf8-string_bytes c.in-Ok.text);
       built = subst (λ (l : List ℕ). IsWholeBuilt (said_by c.args.settings.now) l) text c.in_ok-sink.ensures.built;
       printed = subst (λ (l : List ℕ). Appends (g.W.Target.contents c.args.writer.now) (g.W.Target.contents c.write_all.new.target) l) page written;
     }) c.write_all.ensures.ok
 
 pub returns-clause-beginning : goal.returns-clause-beginning
 returns-clause-beginning g c =
-    let text : string_bytes c.in-Some.text ≡ c.in_ok-bytes.bytes.items = c.in-Some.ensures.found in
+    let text : string_bytes c.in-Ok.text ≡ c.in_ok-bytes.bytes.items = ap (λ v. v.items) c.in-Ok.ensures.ok in
     let page : c.page.result.now ≡ printed_reading (said_by c.args.settings.now) c.in_ok-bytes.bytes.items =
     c.page.ensures ∙ c.in_ok-sink.ensures.ok ∙ ap (λ (l : List ℕ). printed_reading (said_by c.args.settings.now) l) text in
     on_err_weaker c.write_all.result (λ written. inr (record {
       bytes = c.in_ok-bytes.bytes.items;
       consumed = Consumes-whole _ _ c.in_ok-bytes.bytes.items c.in_ok-bytes.ensures.ok c.in_ok-bytes.ensures.end c.in_ok-bytes.ensures.in_order;
       at_end = c.in_ok-bytes.ensures.end;
-      utf8 = subst (λ (l : List ℕ). IsUtf8 l) text (IsUtf8-string_bytes c.in-Some.text);
+      utf8 = subst (λ (l : List ℕ). IsUtf8 l) text (IsUtf8-string_bytes c.in-Ok.text);
       built = subst (λ (l : List ℕ). IsWholeBuilt (said_by c.args.settings.now) l) text c.in_ok-sink.ensures.built;
       printed = subst (λ (l : List ℕ). AppendsBeginning (g.W.Target.contents c.args.writer.now) (g.W.Target.contents c.write_all.new.target) l) page written;
     })) c.write_all.ensures.err
 
 pub returns-in_err-sink-clause-not_yet : goal.returns-in_err-sink-clause-not_yet
 returns-in_err-sink-clause-not_yet g c = λ same.
-    let text : string_bytes c.in-Some.text ≡ c.in_ok-bytes.bytes.items = c.in-Some.ensures.found in
+    let text : string_bytes c.in-Ok.text ≡ c.in_ok-bytes.bytes.items = ap (λ v. v.items) c.in-Ok.ensures.ok in
     record {
       bytes = c.in_ok-bytes.bytes.items;
       consumed = Consumes-whole _ _ c.in_ok-bytes.bytes.items c.in_ok-bytes.ensures.ok c.in_ok-bytes.ensures.end c.in_ok-bytes.ensures.in_order;
       at_end = c.in_ok-bytes.ensures.end;
-      utf8 = subst (λ (l : List ℕ). IsUtf8 l) text (IsUtf8-string_bytes c.in-Some.text);
+      utf8 = subst (λ (l : List ℕ). IsUtf8 l) text (IsUtf8-string_bytes c.in-Ok.text);
       not_built =
           subst (λ (l : List ℕ). open_behind_text (said_by c.args.settings.now) l ≡ NotBuilt) text
           (c.print_text.ensures.not_yet (c.in_err-sink.was ∙ ap Err (fault_is c.from_residual-in_err-sink.result _ _ c.from_residual-in_err-sink.ensures.1 same)));
