@@ -1,12 +1,15 @@
 //! The texts of error messages.
+#![tactic(auto, unfolding(html5grammar::specs::Characters::is_bad_character, html5grammar::specs::ErrorText::bad_character, html5grammar::specs::ErrorText::saw, html5grammar::specs::ErrorText::saw_end))]
+
 ghost use Rattle.std.specs.Prelude.{◌≡◌, IfOk, string_bytes, encode_utf8};
 ghost use Rattle.html5grammar.specs.Characters.{is_bad_character};
 ghost use Rattle.html5grammar.specs.ErrorText.{saw, saw_end, bad_character};
 
 use std::alloc::{AllocError, Allocator};
 
+const IN_STATE: &str = " in state ";
+
 /// Whether exact errors report the character wherever it stands.
-#[tactic(auto, unfolding(html5grammar::specs::Characters::is_bad_character))]
 pub fn is_bad(c: char) -> bool
     ensures { result ≡ is_bad_character c }
 {
@@ -15,16 +18,25 @@ pub fn is_bad(c: char) -> bool
         || code % 0x1_0000 >= 0xFFFE
 }
 
+// A text that begins so, with room for so many bytes more.
+fn begun<A: Allocator>(alloc: A, beginning: &str, more: usize) -> Result<String<A>, AllocError>
+    ensures { IfOk result (λ text. string_bytes text ≡ beginning.now) }
+{
+    let mut text = String::with_capacity(alloc, beginning.len().saturating_add(more))?;
+    text.push_str(beginning)?;
+    Ok(text)
+}
+
 /// The message for a bad character.
-#[tactic(auto, unfolding(html5grammar::specs::ErrorText::bad_character))]
 pub fn bad_character_message<A: Allocator>(alloc: A, c: char) -> Result<String<A>, AllocError>
     ensures { IfOk result (λ text. string_bytes text ≡ bad_character c) }
 {
-    format!(in alloc; "Bad character {c}")
+    let mut text = begun(alloc, "Bad character ", c.len_utf8())?;
+    text.push(c)?;
+    Ok(text)
 }
 
 /// The message for a character that a state doesn't expect.
-#[tactic(auto, unfolding(html5grammar::specs::ErrorText::saw))]
 pub fn saw_message<A: Allocator>(
     alloc: A,
     exact_errors: bool,
@@ -34,14 +46,17 @@ pub fn saw_message<A: Allocator>(
     ensures { IfOk result (λ text. string_bytes text ≡ saw exact_errors c state.now) }
 {
     if exact_errors {
-        String::from_str(alloc, "Bad character")
-    } else {
-        format!(in alloc; "Saw {c} in state {state}")
+        return String::from_str(alloc, "Bad character");
     }
+    let more = state.len().saturating_add(c.len_utf8() + IN_STATE.len());
+    let mut text = begun(alloc, "Saw ", more)?;
+    text.push(c)?;
+    text.push_str(IN_STATE)?;
+    text.push_str(state)?;
+    Ok(text)
 }
 
 /// The message for an end of input that a state doesn't expect.
-#[tactic(auto, unfolding(html5grammar::specs::ErrorText::saw_end))]
 pub fn saw_end_message<A: Allocator>(
     alloc: A,
     exact_errors: bool,
@@ -50,10 +65,11 @@ pub fn saw_end_message<A: Allocator>(
     ensures { IfOk result (λ text. string_bytes text ≡ saw_end exact_errors state.now) }
 {
     if exact_errors {
-        String::from_str(alloc, "Unexpected EOF")
-    } else {
-        format!(in alloc; "Saw EOF in state {state}")
+        return String::from_str(alloc, "Unexpected EOF");
     }
+    let mut text = begun(alloc, "Saw EOF in state ", state.len())?;
+    text.push_str(state)?;
+    Ok(text)
 }
 
 /// The text of one character.
