@@ -1,6 +1,6 @@
 -- A loop that reads the queue: what it has read so far, and what that gives when it goes on, ends or is refused.
 use Rattle.std.proofs.Common.{◌≡◌, ◌≢◌, ◌↔◌, ℕ, Bool, true, false, List, [], ◌∷◌, ◌++◌, refl, ap, sym, ◌∙◌, arith, length, ◌+◌, length-append, Option, None, Some, lit<, inl, inr, subst, ◌≤◌, ◌<◌, ◌^◌}
-use Rattle.std.specs.Prelude.{Contains}
+use Rattle.std.specs.Prelude.{Contains, IfErr, map, encode_utf8}
 use Rattle.std.specs.Str.{chars}
 use Rattle.std.specs.String.{string_bytes}
 use Rattle.std.proofs.lemmas.List.{append_assoc, append-nil}
@@ -10,15 +10,16 @@ use Rattle.html5grammar.specs.Characters.{null, line_feed, carriage_return}
 use Rattle.html5grammar.specs.Reading.{told, messages, after}
 use Rattle.html5ever.specs.Runs.{ReadsRun}
 use Rattle.html5ever_interface.specs.Sink.{Message, stepped}
-use Rattle.html5grammar.specs.Start.{Start, Open}
+use Rattle.html5grammar.specs.Start.{Start, Open, is_clean}
 use Rattle.html5grammar.specs.Start.Mode.{Plain}
-use Rattle.html5grammar.specs.Start.Open.{Between, NotBuilt}
+use Rattle.html5grammar.specs.Start.Open.{Between, LessThan, LessThanSolidus, InTag, NotBuilt}
 use Rattle.html5states.specs.Steps.{Leads}
 use Rattle.html5states.specs.Telling.{Stops, IsRefusal}
 use Rattle.html5grammar.specs.NormalisedText.{input_after}
 use Rattle.std.specs.Result.{IsErrAnd}
 use Rattle.std.proofs.Common.{Result, Ok, Err}
 use Rattle.html5ever_interface.specs.Token.{Told, Reply, is_tag}
+use Rattle.html5ever_interface.specs.Token.Told.{Text}
 use Rattle.html5ever_interface.specs.Token.Reply.{KeepOn}
 use Rattle.std.proofs.lemmas.Bool.{false≢true}
 use Rattle.html5ever.specs.Feed.{Feed, pauses, takes_before, first_pause, feed, IsEndOf}
@@ -26,14 +27,46 @@ use Rattle.html5ever.specs.Refused.{IsRun, IsItem, RefusedBehind}
 use Rattle.html5states.specs.Runs.{run_tokens, opened_after_run}
 use Rattle.html5ever.proofs.RunLemmas.{told-run, after-run, run-quiet}
 use Rattle.html5ever_interface.specs.Sink.{on_line}
-use Rattle.html5states.specs.Telling.{Tells}
+use Rattle.html5states.specs.Telling.{Tells, faults_of}
 use Rattle.std.specs.Prelude.{OnOk, IsNone}
 use Rattle.html5ever.proofs.Pauses.{told_beyond-behind, first_pause-no_tags, no_tags-told, state_behind-append, pause_here, feed-goes_on, feed-takes, feed-pauses}
 use Rattle.html5states.specs.declared.error.TokenizerError.{TokenizerError}
 use Rattle.html5states.specs.declared.error.TokenizerError.TheVariants.{Memory, Sink, Failed, NotYet}
 use Rattle.html5grammar.proofs.ReadingLemmas.{state_behind, told-nil, told-append, after-nil, after-append, told-not_built, after-not_built}
 use Rattle.html5ever_interface.proofs.Steppings.{stepped-append}
-use Rattle.html5states.proofs.Tellings.{cons≢nil, stops_before, stops_after}
+use Rattle.html5states.proofs.Tellings.{Memory-at_once, cons≢nil, stops_before, stops_after}
+
+-- between tags a run tells its characters and opens nothing
+opened_after_run-clean : (opened : Open) (run : List ℕ) → is_clean opened ≡ true → opened_after_run opened run ≡ opened
+opened_after_run-clean (Between mode) run clean = refl
+opened_after_run-clean LessThan run clean = absurd (false≢true clean)
+opened_after_run-clean LessThanSolidus run clean = absurd (false≢true clean)
+opened_after_run-clean (InTag place tag) run clean = absurd (false≢true clean)
+opened_after_run-clean NotBuilt run clean = absurd (false≢true clean)
+
+run_tokens-clean : (opened : Open) (run : List ℕ) → is_clean opened ≡ true → run_tokens opened run ≡ map (λ (c : ℕ). Text (encode_utf8 c)) run
+run_tokens-clean (Between mode) run clean = refl
+run_tokens-clean LessThan run clean = absurd (false≢true clean)
+run_tokens-clean LessThanSolidus run clean = absurd (false≢true clean)
+run_tokens-clean (InTag place tag) run clean = absurd (false≢true clean)
+run_tokens-clean NotBuilt run clean = absurd (false≢true clean)
+
+-- within a tag it tells nothing
+run_tokens-tag : (opened : Open) (run : List ℕ) → is_clean opened ≡ false → run_tokens opened run ≡ []
+run_tokens-tag (Between mode) run in_tag = absurd (false≢true (sym in_tag))
+run_tokens-tag LessThan run in_tag = refl
+run_tokens-tag LessThanSolidus run in_tag = refl
+run_tokens-tag (InTag place tag) run in_tag = refl
+run_tokens-tag NotBuilt run in_tag = refl
+
+on_ok : {T E : Type 0} {P : Type 0} (r : Result T E) → P → OnOk r P
+on_ok (Ok x) p = p
+on_ok (Err e) p = tt
+
+-- what a call that was refused for want of memory counts
+pub no_faults : {T : Type 0} (r : Result T TokenizerError) → IfErr r (λ e. e ≡ Memory) → faults_of r ≡ 0
+no_faults (Ok x) memory = refl
+no_faults (Err e) memory = rw memory refl
 
 pub memory≢not_yet : Memory ≡ NotYet → ⊥
 memory≢not_yet e = cc
@@ -151,6 +184,11 @@ module _ {S H : Type 0} (step : S → Told → ℕ → S) (reply : S → Told �
     quiet = rw (told-nil step reply exact K s) refl;
   }
 
+  tells_nothing : {T : Type 0} (faulted : S → Told → ℕ → S) (r : Result T TokenizerError) (s : S) → IfErr r (λ e. e ≡ Memory) → Tells step faulted r s [] s
+  unfolding stepped
+  tells_nothing faulted (Ok x) s memory = refl
+  tells_nothing faulted (Err e) s memory = rw memory (Memory-at_once step faulted s [])
+
   run_moves : {T : Type 0} (r : Result T TokenizerError) (K L : Start) (s : S) (run : List ℕ) → IsRun exact K run → K.input.line < 2 ^ 64
       → OnOk r (L.opened ≡ opened_after_run K.opened run) → L.input ≡ K.input → OnOk r (L ≡ after step reply exact K s run)
   run_moves (Ok x) K L s run is_run fits opened input = rw (after-run step reply exact K s run is_run fits, ← opened, ← input) refl
@@ -171,6 +209,36 @@ module _ {S H : Type 0} (step : S → Told → ℕ → S) (reply : S → Told �
     moves = run_moves r K L s run is_run fits opened input;
     quiet = run-quiet step reply keeps_on exact K s run is_run fits;
   }
+
+  -- a run of text was told, or refused
+  pub ReadsRun-text : {T : Type 0} (faulted : S → Told → ℕ → S) (r : Result T TokenizerError)
+      → ((s : S) (told : Told) (line : ℕ) → is_tag told ≡ false → reply s told line ≡ KeepOn)
+      → (K : Start) (old new : TextQueue) (s t : S) (run : List ℕ) → IsRun exact K run → is_clean K.opened ≡ true → K.input.line < 2 ^ 64 → Takes old new run
+      → Tells step faulted r s (on_line K.input.line (map (λ (c : ℕ). Text (encode_utf8 c)) run)) t
+      → ReadsRun step reply faulted exact r K K old new s t
+  ReadsRun-text faulted r keeps_on K old new s t run is_run clean fits takes tells =
+      ReadsRun-run faulted r keeps_on K K old new s t run is_run fits takes
+      (subst (λ (tokens : List Told). Tells step faulted r s (on_line K.input.line tokens) t) (sym (run_tokens-clean K.opened run clean)) tells)
+      (on_ok r (sym (opened_after_run-clean K.opened run clean))) refl
+
+  -- there was no memory for a run of text
+  pub ReadsRun-memory : {T : Type 0} (faulted : S → Told → ℕ → S)
+      → ((s : S) (told : Told) (line : ℕ) → is_tag told ≡ false → reply s told line ≡ KeepOn)
+      → (K : Start) (old new : TextQueue) (s : S) (run : List ℕ) → IsRun exact K run → K.input.line < 2 ^ 64 → Takes old new run
+      → ReadsRun {T = T} step reply faulted exact (Err Memory) K K old new s s
+  ReadsRun-memory faulted keeps_on K old new s run is_run fits takes =
+      ReadsRun-run faulted (Err Memory) keeps_on K K old new s s run is_run fits takes (Memory-at_once step faulted s _) tt refl
+
+  -- a run was put to the open name or value, or there was no memory for it
+  pub ReadsRun-tag : {T : Type 0} (faulted : S → Told → ℕ → S) (r : Result T TokenizerError)
+      → ((s : S) (told : Told) (line : ℕ) → is_tag told ≡ false → reply s told line ≡ KeepOn)
+      → (K L : Start) (old new : TextQueue) (s : S) (run : List ℕ) → IsRun exact K run → is_clean K.opened ≡ false → K.input.line < 2 ^ 64 → Takes old new run
+      → IfErr r (λ e. e ≡ Memory) → OnOk r (L.opened ≡ opened_after_run K.opened run) → L.input ≡ K.input
+      → ReadsRun step reply faulted exact r K L old new s s
+  ReadsRun-tag faulted r keeps_on K L old new s run is_run in_tag fits takes memory opened input =
+      ReadsRun-run faulted r keeps_on K L old new s s run is_run fits takes
+      (subst (λ (tokens : List Told). Tells step faulted r s (on_line K.input.line tokens) s) (sym (run_tokens-tag K.opened run in_tag)) (tells_nothing faulted r s memory))
+      opened input
 
   -- what the whole feed takes, around an item
   taken-parts : (K L : Start) (old mid new : TextQueue) (s t : S) (item : List ℕ) → (read : HasRead K L old mid s t) → Takes mid new item

@@ -53,8 +53,9 @@ impl Input {
     /// Whether characters from here on are read as they stand, but for line breaks.
     #[inline(always)]
     pub fn is_past_start(&self) -> bool
-        ensures { IsTrue result
+        ensures past { IsTrue result
             ↔ ((self.now.after_carriage_return ≡ false) × (self.now.drops_byte_order_mark ≡ false)) }
+        ensures fits { self.now.line < 2 ^ 64 }
     {
         !self.ignore_lf && !self.discard_bom
     }

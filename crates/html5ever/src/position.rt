@@ -3,6 +3,7 @@ ghost use Rattle.std.specs.Prelude.{◌≡◌, ◌≢◌, ◌^◌, ◌<◌, ◌�
 ghost use Rattle.html5ever_interface.specs.Options.{options_of};
 ghost use Rattle.html5ever_interface.specs.Sink.{stepped, on_line};
 ghost use Rattle.html5ever_interface.specs.Token.{Told, tag_of};
+ghost use Rattle.html5ever_interface.specs.Token.Told.{Text};
 ghost use Rattle.html5grammar.specs.Characters.{is_bad_character};
 ghost use Rattle.html5grammar.specs.EndOfInput.{told_at_end_of};
 ghost use Rattle.html5grammar.specs.ErrorText.{bad_character_error};
@@ -14,11 +15,11 @@ ghost use Rattle.html5grammar.specs.Start.Open.{Between};
 ghost use Rattle.html5states.specs.CurrentTag.{stops_at_bad, opened_of};
 ghost use Rattle.html5ever.specs.Feed.{reply_in, first_pause};
 ghost use Rattle.html5ever.specs.Refused.{IsRun};
-ghost use Rattle.html5states.specs.Runs.{IsRunAt, other_run_ends, run_ends, run_tokens, opened_after_run};
+ghost use Rattle.html5states.specs.Runs.{IsRunAt, other_run_ends, run_ends, opened_after_run};
 ghost use Rattle.std.specs.Str.{IsUtf8, chars};
 ghost use Rattle.html5grammar.proofs.Machine.{step_at};
 ghost use Rattle.html5states.specs.Steps.{IsBuilt, Leads, Ends, tokens_of, behind};
-ghost use Rattle.html5states.specs.Telling.{Tells, IsRefusal, faults_of};
+ghost use Rattle.html5states.specs.Telling.{Tells, IsRefusal, tokens_in, faults_of};
 ghost use Rattle.html5ever.specs.Tokenizer.{CanStart};
 
 use crate::input::Input;
@@ -30,7 +31,7 @@ use html5states::current_tag::CurrentTag;
 use html5states::error::TokenizerError;
 use html5states::message::is_bad;
 use html5states::opened::{Opened, Progress, Step};
-use html5states::runs::run_ends;
+use html5states::runs::{push_run, run_ends};
 use html5states::teller::Teller;
 use markup5ever::tokenizer_result::TokenizerResult;
 use std::alloc::{Allocator, Global};
@@ -101,6 +102,7 @@ impl<A: Allocator + Copy> Position<A> {
     }
 
     /// Whether nothing is open.
+    #[inline(always)]
     pub fn is_clean(&self) -> bool
         ensures { result ≡ is_clean self.now.opened }
     {
@@ -122,6 +124,7 @@ impl<A: Allocator + Copy> Position<A> {
         ensures within { result ≤ length text.now }
         ensures rest_utf8 { IsUtf8 (drop result text.now) }
         ensures run { result ≢ 0 → IsRun exact_errors self.now (chars (take result text.now)) }
+        ensures fits { result ≢ 0 → self.now.input.line < 2 ^ 64 }
         ensures found { exact_errors ≡ false → self.now.input.after_carriage_return ≡ false
             → self.now.input.drops_byte_order_mark ≡ false → IfSome (other_run_ends self.now.opened) (λ others.
             (c : ℕ) (rest : List ℕ) → chars text.now ≡ c ∷ rest → ¬ Contains (run_ends others) c → result ≢ 0) }
@@ -135,23 +138,19 @@ impl<A: Allocator + Copy> Position<A> {
         }
     }
 
-    /// Reads a run: its text is told as one token, or it is put to the open name or value.
+    /// Tells a run of text as one token. It leaves the position where it is.
     #[inline(always)]
-    pub fn read_run<S: TokenSink<Token<A>>>(
-        &mut self,
+    pub fn tell_run<S: TokenSink<Token<A>>>(
+        &self,
         alloc: A,
         sink: &mut S,
-        run: &str,
+        run: String<A>,
     ) -> Result<(), TokenizerError>
-        requires { IsRunAt self.old.opened (chars run.now) }
+        requires { chars (string_bytes run) ≢ [] }
         ensures tells { Tells S.step S.faulted result (S.state sink.old)
-            (on_line self.old.input.line (run_tokens self.old.opened (chars run.now))) (S.state sink.new) }
-        ensures opened { OnOk result
-            (self.new.opened ≡ opened_after_run self.old.opened (chars run.now)) }
-        ensures input { self.new.input ≡ self.old.input }
+            (on_line self.now.input.line (tokens_in (Text (string_bytes run)))) (S.state sink.new) }
         ensures faults { S.faults sink.new ≡ S.faults sink.old + faults_of result }
         ensures refusal { IfErr result IsRefusal }
-        ensures fits { self.old.input.line < 2 ^ 64 }
     {
         let line = self.input.line();
         let mut teller = Teller {
@@ -160,7 +159,20 @@ impl<A: Allocator + Copy> Position<A> {
             exact_errors: false,
             line,
         };
-        teller.read_run(&mut self.opened, run)
+        teller.tell(Token::CharacterTokens(run))
+    }
+
+    /// Puts a run to the open name or value.
+    #[inline(always)]
+    pub fn push_run(&mut self, run: &str) -> Result<(), TokenizerError>
+        requires is_run { IsRunAt self.old.opened (chars run.now) }
+        requires in_tag { is_clean self.old.opened ≡ false }
+        ensures opened { OnOk result
+            (self.new.opened ≡ opened_after_run self.old.opened (chars run.now)) }
+        ensures input { self.new.input ≡ self.old.input }
+        ensures memory { IfErr result (λ error. error ≡ TokenizerError.Memory) }
+    {
+        Ok(push_run(&mut self.opened, run)?)
     }
 }
 

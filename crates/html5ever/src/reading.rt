@@ -1,9 +1,11 @@
 //! Reading the queue.
-ghost use Rattle.std.specs.Prelude.{◌≡◌, ◌+◌, [], IsOk, IfOk, IfErr, OnOk, length, string_bytes};
+ghost use Rattle.std.specs.Prelude.{◌≡◌, ◌^◌, ◌+◌, ◌<◌, ◌≤◌, [], true, false, IsOk, IfOk, IfErr, OnOk, length, take, drop, encode_utf8_all, string_bytes};
+ghost use Rattle.std.specs.Str.{IsUtf8, chars};
 ghost use Rattle.html5grammar.specs.Reading.{told, messages, after};
+ghost use Rattle.html5grammar.specs.Start.{is_clean};
 ghost use Rattle.html5grammar.specs.Start.Open.{NotBuilt};
 ghost use Rattle.html5ever.specs.Feed.{IsEndOf, reply_in, feed};
-ghost use Rattle.html5ever.specs.Refused.{RefusedBehind};
+ghost use Rattle.html5ever.specs.Refused.{IsRun, RefusedBehind};
 ghost use Rattle.html5ever.specs.Runs.{ReadsRun};
 ghost use Rattle.html5states.specs.Steps.{IsBuilt};
 ghost use Rattle.html5states.specs.Telling.{Tells, IsNotFailed, IsRefusal, faults_of};
@@ -15,6 +17,33 @@ use html5states::error::TokenizerError;
 use markup5ever::buffer_queue::BufferQueue;
 use markup5ever::tokenizer_result::TokenizerResult;
 use std::alloc::Allocator;
+
+// Tells the run of text with which the queue's text begins, and that takes so many bytes. Where it
+// is all of the queue's text it is moved, not copied. It leaves the queue also where it is refused.
+#[inline(always)]
+fn tell_waiting_run<S: TokenSink<Token<A>>, A: Allocator + Copy>(
+    alloc: A,
+    sink: &mut S,
+    position: &Position<A>,
+    queue: &mut BufferQueue<A>,
+    bytes: usize,
+) -> Result<(), TokenizerError>
+    requires clean { is_clean position.now.opened ≡ true }
+    requires within { bytes ≤ length (encode_utf8_all queue.old.text) }
+    requires rest_utf8 { IsUtf8 (drop bytes (encode_utf8_all queue.old.text)) }
+    requires is_run { IsRun false position.now (chars (take bytes (encode_utf8_all queue.old.text))) }
+    requires fits { position.now.input.line < 2 ^ 64 }
+    ensures reads { ReadsRun S.step S.reply S.faulted false result position.now position.now
+        queue.old queue.new (S.state sink.old) (S.state sink.new) }
+    ensures refusal { IfErr result IsRefusal }
+    ensures faults { S.faults sink.new ≡ S.faults sink.old + faults_of result }
+{
+    let Ok(run) = queue.take_text(bytes) else {
+        queue.skip(bytes);
+        return Err(TokenizerError::Memory);
+    };
+    position.tell_run(alloc, sink, run)
+}
 
 // Reads the run with which the queue's text begins, where it begins with one that can be read at
 // once. It leaves the queue also where it is refused.
@@ -38,7 +67,10 @@ fn read_waiting_run<S: TokenSink<Token<A>>, A: Allocator + Copy>(
     if bytes == 0 {
         return Ok(());
     }
-    let read = position.read_run(alloc, sink, &queue.front_text()[..bytes]);
+    if position.is_clean() {
+        return tell_waiting_run(alloc, sink, position, queue, bytes);
+    }
+    let read = position.push_run(&queue.front_text()[..bytes]);
     queue.skip(bytes);
     read
 }

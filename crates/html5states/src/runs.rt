@@ -1,21 +1,15 @@
 //! Runs: characters that are read at once. A state that reads runs names here the characters that
-//! end one, and what becomes of a run.
-#![tactic(auto, using(crate::proofs::Tellings::tells_from_memory), unfolding(html5ever_interface::specs::Sink::stepped))]
-
-ghost use Rattle.std.specs.Prelude.{◌≡◌, ℕ, ◌↔◌, ◌++◌, Contains, OnOk, IfSome, is_some, string_bytes, flat_map};
+//! end one, and where a run within a tag goes. A run between tags is told as one text.
+ghost use Rattle.std.specs.Prelude.{◌≡◌, ℕ, false, ◌↔◌, ◌++◌, Contains, OnOk, IfSome, is_some, string_bytes, flat_map};
 ghost use Rattle.std.specs.Str.{chars};
 ghost use Rattle.html5grammar.specs.Characters.{name_bytes};
+ghost use Rattle.html5grammar.specs.Start.{is_clean};
 ghost use Rattle.html5states.specs.CurrentTag.{opened_of};
-ghost use Rattle.html5states.specs.Runs.{IsRunAt, other_value_ends, other_run_ends, run_ends, run_tokens, opened_after_run};
-ghost use Rattle.html5states.specs.Telling.{Emits};
+ghost use Rattle.html5states.specs.Runs.{IsRunAt, other_value_ends, other_run_ends, run_ends, opened_after_run};
 ghost use Rattle.markup5ever.specs.SmallCharSet.{IsMember};
 
 use crate::current_tag::push_name;
-use crate::error::TokenizerError;
 use crate::opened::Opened;
-use crate::teller::Teller;
-use html5ever_interface::interface::sink::TokenSink;
-use html5ever_interface::interface::token::Token;
 use html5ever_interface::states::{AttrValueKind, State};
 use markup5ever::small_char_set::SmallCharSet;
 use std::alloc::{AllocError, Allocator};
@@ -60,24 +54,19 @@ fn push_names<A: Allocator>(name: &mut String<A>, run: &str) -> Result<(), Alloc
     Ok(())
 }
 
-impl<S: TokenSink<Token<A>>, A: Allocator + Copy> Teller<'_, S, A> {
-    /// Reads a run: text is told as one token, and what stands in a name or a value is put to it.
-    #[inline(always)]
-    pub fn read_run(&mut self, at: &mut Opened<A>, run: &str) -> Result<(), TokenizerError>
-        requires { IsRunAt (opened_of at.old) (chars run.now) }
-        ensures emits { Emits S.state S.faults S.step S.faulted result self.old self.new
-            (run_tokens (opened_of at.old) (chars run.now)) }
-        ensures leads { OnOk result
-            (opened_of at.new ≡ opened_after_run (opened_of at.old) (chars run.now)) }
-    {
-        match at.state {
-            State::Data | State::Plaintext => {
-                self.tell(Token::CharacterTokens(String::from_str(self.alloc, run)?))
-            }
-            State::TagName => Ok(push_names(&mut at.tag.name, run)?),
-            State::AttributeName => Ok(push_names(&mut at.tag.attr_name, run)?),
-            State::AttributeValue(_) => Ok(at.tag.attr_value.push_str(run)?),
-            _ => unreachable!(),
-        }
+/// Puts a run to the open name or value.
+#[inline(always)]
+pub fn push_run<A: Allocator>(at: &mut Opened<A>, run: &str) -> Result<(), AllocError>
+    requires is_run { IsRunAt (opened_of at.old) (chars run.now) }
+    requires in_tag { is_clean (opened_of at.old) ≡ false }
+    ensures { OnOk result
+        (opened_of at.new ≡ opened_after_run (opened_of at.old) (chars run.now)) }
+{
+    match at.state {
+        State::TagName => push_names(&mut at.tag.name, run)?,
+        State::AttributeName => push_names(&mut at.tag.attr_name, run)?,
+        State::AttributeValue(_) => at.tag.attr_value.push_str(run)?,
+        _ => unreachable!(),
     }
+    Ok(())
 }

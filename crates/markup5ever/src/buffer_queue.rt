@@ -200,8 +200,9 @@ impl<A: Allocator + Copy> BufferQueue<A> {
         Ok(Some(SetResult::NotFromSet(text)))
     }
 
-    // Takes so many bytes as a text. Where these are all of the text, it is handed out as it is.
-    fn take_text(&mut self, bytes: usize) -> Result<String<A>, AllocError>
+    /// Takes so many bytes as a text. Where these are all of the text, it is handed out as it is.
+    #[inline(always)]
+    pub fn take_text(&mut self, bytes: usize) -> Result<String<A>, AllocError>
         requires within { bytes ≤ length (encode_utf8_all self.old.text) }
         requires rest_utf8 { IsUtf8 (drop bytes (encode_utf8_all self.old.text)) }
         ensures bytes { IfOk result

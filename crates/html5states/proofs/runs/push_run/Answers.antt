@@ -9,13 +9,13 @@ use Rattle.html5grammar.specs.Start.Place.{InValue}
 use Rattle.html5states.specs.CurrentTag.{open_tag}
 use Rattle.html5states.specs.Runs.{run_ends}
 use Rattle.html5states.proofs.RunSteps.{value_bytes-run, no_null}
-use Rattle.html5states.proofs.teller.Teller.read_run.Goals as goal
+use Rattle.html5states.proofs.runs.push_run.Goals as goal
 
-pub returns-in_ok-push_str-in-AttributeValue-clause-leads : goal.returns-in_ok-push_str-in-AttributeValue-clause-leads
-returns-in_ok-push_str-in-AttributeValue-clause-leads g c =
+pub returns-in_ok-push_str-in-AttributeValue : goal.returns-in_ok-push_str-in-AttributeValue
+returns-in_ok-push_str-in-AttributeValue g c =
     let run = chars c.args.run.now in
-    let ordinary = c.requires.ordinary in
+    let ordinary = c.requires.is_run.ordinary in
     let value : flat_map value_bytes run ≡ c.args.run.now =
-    value_bytes-run run (All-weaker (λ d. ¬ Contains (run_ends c.requires.others) d) (λ d. d ≢ null) (no_null c.requires.others) run ordinary) ∙ encodes-chars c.args.run.now c.utf8.run in
+    value_bytes-run run (All-weaker (λ d. ¬ Contains (run_ends c.requires.is_run.others) d) (λ d. d ≢ null) (no_null c.requires.is_run.others) run ordinary) ∙ encodes-chars c.args.run.now c.utf8.run in
     rw c.in-AttributeValue.is (ap (λ v. InTag (InValue c.in-AttributeValue.field-0) (record (open_tag c.args.at.now.tag) { last_value = v }))
     (c.in_ok-push_str-in-AttributeValue.ensures.bytes ∙ ap (λ l. string_bytes c.args.at.now.tag.attr_value ++ l) (sym value)))

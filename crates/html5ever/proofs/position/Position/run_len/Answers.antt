@@ -9,7 +9,7 @@ pub returns-in-Some-clause-run : goal.returns-in-Some-clause-run
 returns-in-Some-clause-run g c = λ some.
     let past : IsTrue c.is_past_start.result = search rules in
     rw (← c.self.view_is)
-    (run-begins c.args.exact_errors _ c.in-Some.ends c.args.text.now c.nonmember_prefix_len.result c.if-exact_errors.false (c.is_past_start.ensures.0 past)
+    (run-begins c.args.exact_errors _ c.in-Some.ends c.args.text.now c.nonmember_prefix_len.result c.if-exact_errors.false (c.is_past_start.ensures.past.0 past)
     (sym c.in-Some.ensures.has_runs) c.in-Some.ensures.ends c.utf8.text c.nonmember_prefix_len.ensures.outside some)
 
 pub returns-in-Some-clause-found : goal.returns-in-Some-clause-found
