@@ -8,6 +8,13 @@ use Rattle.html5print.specs.PageLaws.{quoted_bytes-append}
 use Rattle.html5print.specs.Printed.{needs_escape, IsPlainWithin, escape, quoted_byte, quoted_bytes}
 use Rattle.html5print.proofs.Beginnings.{BeginsWith-equal, BeginsWith-append, BeginsWith-trans, BeginsWith-less}
 
+-- a text of one byte
+pub quoted_bytes-one : (text : List ℕ) → length text ≡ 1 → quoted_bytes text ≡ quoted_byte (slice_index text 0)
+unfolding quoted_bytes
+quoted_bytes-one [] one = absurd (omega (arith, one))
+quoted_bytes-one (byte ∷ []) one = append-nil (quoted_byte byte)
+quoted_bytes-one (byte ∷ next ∷ bytes) one = absurd (omega (arith, one))
+
 quoted_bytes-more : (text : List ℕ) (i : ℕ) → i < length text
     → quoted_bytes (take (i + 1) text) ≡ quoted_bytes (take i text) ++ quoted_byte (get_or text i 0)
 unfolding quoted_bytes

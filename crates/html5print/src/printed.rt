@@ -2,7 +2,7 @@
 ghost use Rattle.std.specs.Prelude.{◌≡◌, ◌+◌, ◌<◌, ◌≤◌, ◌++◌, true, false, length, slice_index, map, option_map, string_bytes, OnOk, OnErr};
 ghost use Rattle.std.specs.Fmt.{digits, digit_glyph};
 ghost use Rattle.html5print.specs.Page.{BeginsWith};
-ghost use Rattle.html5print.specs.Printed.{needs_escape, IsPlainWithin, escape, quoted_bytes, quoted, kind_word, mark_where, printed_attribute, printed_attributes, printed_option, tag_marks, pause_line};
+ghost use Rattle.html5print.specs.Printed.{needs_escape, IsPlainWithin, escape, quoted_byte, quoted_bytes, quoted, kind_word, mark_where, printed_attribute, printed_attributes, printed_option, tag_marks, pause_line};
 ghost use Rattle.html5ever_interface.specs.Token.{tag_of, reply_of};
 ghost use Rattle.html5ever_interface.specs.Token.Reply.{SwitchEncoding};
 ghost use Rattle.markup5ever.specs.Names.{attribute_of};
@@ -116,9 +116,22 @@ fn push_escape<A: Allocator>(page: &mut Vec<u8, A>, byte: u8) -> Result<(), Allo
     }
 }
 
-/// Appends what stands for a text in quotes, straight to the page: runs of bytes that stand as they
-/// are go at once.
-pub fn push_quoted_bytes<A: Allocator>(page: &mut Vec<u8, A>, text: &[u8]) -> Result<(), AllocError>
+// Appends what stands in quotes for a byte.
+#[inline(always)]
+#[tactic(auto, unfolding(crate::specs::Printed::quoted_byte))]
+fn push_quoted_byte<A: Allocator>(page: &mut Vec<u8, A>, byte: u8) -> Result<(), AllocError>
+    ensures ok { OnOk result (page.new.items ≡ page.old.items ++ quoted_byte byte) }
+    ensures err { OnErr result (BeginsWith page.new.items page.old.items) }
+{
+    if needs_escape(byte) {
+        return push_escape(page, byte);
+    }
+    page.push(byte)?;
+    Ok(())
+}
+
+// Appends what stands for a text in quotes: runs of bytes that stand as they are go at once.
+fn push_quoted_runs<A: Allocator>(page: &mut Vec<u8, A>, text: &[u8]) -> Result<(), AllocError>
     ensures ok { OnOk result (page.new.items ≡ page.old.items ++ quoted_bytes text.now) }
     ensures err { OnErr result (BeginsWith page.new.items page.old.items) }
 {
@@ -131,6 +144,18 @@ pub fn push_quoted_bytes<A: Allocator>(page: &mut Vec<u8, A>, text: &[u8]) -> Re
         end = run_end(text, start);
     }
     page.extend_from_slice(&text[start..])
+}
+
+/// Appends what stands for a text in quotes, straight to the page.
+#[inline(always)]
+pub fn push_quoted_bytes<A: Allocator>(page: &mut Vec<u8, A>, text: &[u8]) -> Result<(), AllocError>
+    ensures ok { OnOk result (page.new.items ≡ page.old.items ++ quoted_bytes text.now) }
+    ensures err { OnErr result (BeginsWith page.new.items page.old.items) }
+{
+    if text.len() == 1 {
+        return push_quoted_byte(page, text[0]);
+    }
+    push_quoted_runs(page, text)
 }
 
 #[tactic(auto, unfolding(crate::specs::Printed::quoted))]

@@ -77,7 +77,7 @@ pub fn saw_end_message<A: Allocator>(
 pub fn text_of<A: Allocator>(alloc: A, c: char) -> Result<String<A>, AllocError>
     ensures { IfOk result (λ text. string_bytes text ≡ encode_utf8 c) }
 {
-    let mut text = String::new(alloc);
+    let mut text = String::with_capacity(alloc, c.len_utf8())?;
     text.push(c)?;
     Ok(text)
 }

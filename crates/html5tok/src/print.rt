@@ -81,11 +81,11 @@ fn prefix_len(text: &str, count: usize) -> usize
     let mut len = 0;
     let mut left = count;
     for c in text.chars() {
+        len += c.len_utf8();
+        left -= 1;
         if left == 0 {
             return len;
         }
-        left -= 1;
-        len += c.len_utf8();
     }
     len
 }

@@ -1,7 +1,7 @@
 use Rattle.std.proofs.Common.{◌≡◌, ◌-◌, ◌<◌, ◌≤◌, true, length, slice_index}
 use Rattle.html5print.specs.Printed.{needs_escape}
 use Rattle.html5print.proofs.Quotes.{HasQuoted}
-use Rattle.html5print.proofs.printed.push_quoted_bytes.Given as goal
+use Rattle.html5print.proofs.printed.push_quoted_runs.Given as goal
 
 abbrev pub invariant-loop-end : goal.invariant-loop-end
 invariant-loop-end g l =
