@@ -38,8 +38,9 @@ fn push_hex<A: Allocator>(page: &mut Vec<u8, A>, byte: u8) -> Result<(), AllocEr
     Ok(())
 }
 
-// How many bytes are looked at in one step, where a run is long.
+// How many bytes are looked at in one step, where a run is long, and at its end.
 const BLOCK: usize = 16;
+const HALF: usize = 8;
 
 #[inline(always)]
 #[tactic(auto, unfolding(crate::specs::Printed::needs_escape))]
@@ -49,15 +50,15 @@ fn needs_escape(byte: u8) -> bool
     (byte < 0x20) | (byte == b'"') | (byte == b'\\') | (byte == 0x7F)
 }
 
-// Whether one of the 16 bytes from this place on needs an escape. It looks at each of them, so that the compiler makes
-// it one step over all.
+// Whether one of so many bytes from this place on needs an escape. It looks at each of them, so that the compiler makes
+// it one step over all, where it knows how many they are.
 #[inline(always)]
-fn has_end(bytes: &[u8], from: usize) -> bool
-    requires { from + BLOCK ≤ length bytes.now }
-    ensures { result ≡ false → IsPlainWithin bytes.now from (from + BLOCK) }
+fn has_end(bytes: &[u8], from: usize, count: usize) -> bool
+    requires { from + count ≤ length bytes.now }
+    ensures { result ≡ false → IsPlainWithin bytes.now from (from + count) }
 {
     let mut found = false;
-    for k in 0..BLOCK {
+    for k in 0..count {
         found |= needs_escape(bytes[from + k]);
     }
     found
@@ -73,12 +74,42 @@ fn past_blocks(bytes: &[u8], from: usize) -> usize
 {
     let mut at = from;
     while BLOCK <= bytes.len() - at {
-        if has_end(bytes, at) {
+        if has_end(bytes, at, BLOCK) {
             return at;
         }
         at += BLOCK;
     }
     at
+}
+
+// Whether none of the next half of a block needs an escape, or fewer bytes are left.
+#[inline(always)]
+fn has_plain_half(bytes: &[u8], from: usize) -> bool
+    requires { from ≤ length bytes.now }
+    ensures { result ≡ true → from + HALF ≤ length bytes.now
+        → IsPlainWithin bytes.now from (from + HALF) }
+{
+    if bytes.len() - from < HALF {
+        return true;
+    }
+    !has_end(bytes, from, HALF)
+}
+
+// Whether it is seen in two steps that none of the bytes that are left needs an escape: the next half of a block, and
+// the last one.
+#[inline(always)]
+fn has_plain_end(bytes: &[u8], from: usize) -> bool
+    requires { from ≤ length bytes.now }
+    ensures { result ≡ true → IsPlainWithin bytes.now from (length bytes.now) }
+{
+    let len = bytes.len();
+    if from == len || len < HALF || BLOCK <= len - from {
+        return false;
+    }
+    if !has_plain_half(bytes, from) {
+        return false;
+    }
+    !has_end(bytes, len - HALF, HALF)
 }
 
 // The place of the first byte from this one on that needs an escape, or the end.
@@ -90,6 +121,9 @@ fn run_end(bytes: &[u8], from: usize) -> usize
     ensures stops { result < length bytes.now → needs_escape (slice_index bytes.now result) ≡ true }
 {
     let near = past_blocks(bytes, from);
+    if has_plain_end(bytes, near) {
+        return bytes.len();
+    }
     for at in near..bytes.len() {
         if needs_escape(bytes[at]) {
             return at;
