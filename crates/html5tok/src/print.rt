@@ -1,4 +1,4 @@
-ghost use Rattle.std.specs.Prelude.{◌≡◌, ◌≢◌, ◌↔◌, ◌+◌, ◌<◌, ◌≤◌, ◌⊎◌, [], false, IfOk, IfErr, OnOk, OnErr, length, take, drop, string_bytes};
+ghost use Rattle.std.specs.Prelude.{◌≡◌, ◌≢◌, ◌↔◌, ◌+◌, ◌<◌, ◌≤◌, ◌⊎◌, [], true, false, IfOk, IfErr, OnOk, OnErr, length, take, drop, string_bytes};
 ghost use Rattle.std.specs.Io.KnownBytes.{Keeps};
 ghost use Rattle.std.specs.Str.{IsUtf8, chars};
 ghost use Rattle.html5tok.specs.Device.{IsRefusal, reported_failures};
@@ -71,6 +71,53 @@ fn feed_piece<A: Allocator + Copy>(
     }
 }
 
+// How many bytes are looked at in one step.
+const BLOCK: usize = 16;
+
+// Whether a character begins at the byte.
+#[inline(always)]
+fn begins_character(byte: u8) -> bool
+    ensures { result ≡ true → 128 ≤ byte → 192 ≤ byte }
+{
+    (byte < 0x80) | (byte >= 0xC0)
+}
+
+// How many characters begin in the 16 bytes from this place on. It looks at each of them, so that the compiler makes it
+// one step over all.
+#[inline(always)]
+fn begun_within(bytes: &[u8], from: usize) -> usize
+    requires { from + BLOCK ≤ length bytes.now }
+    ensures { result ≤ BLOCK }
+{
+    let mut begun = 0u8;
+    for k in 0..BLOCK {
+        begun += u8::from(begins_character(bytes[from + k]));
+    }
+    usize::from(begun)
+}
+
+// The place behind `count` characters that begin at this place or behind it, or the end.
+#[inline(always)]
+fn place_behind(text: &str, from: usize, count: usize) -> usize
+    requires within { from ≤ length text.now }
+    requires some { from ≡ 0 → 0 < count }
+    ensures within { result ≤ length text.now }
+    ensures boundary { IsUtf8 (take result text.now) × IsUtf8 (drop result text.now) }
+    ensures some { 0 < length text.now → 0 < result }
+{
+    let bytes = text.as_bytes();
+    let mut left = count;
+    for at in from..bytes.len() {
+        if begins_character(bytes[at]) {
+            if left == 0 {
+                return at;
+            }
+            left -= 1;
+        }
+    }
+    bytes.len()
+}
+
 // How many bytes the first `count` characters take, or all where there are fewer.
 fn prefix_len(text: &str, count: usize) -> usize
     requires { 0 < count }
@@ -78,16 +125,14 @@ fn prefix_len(text: &str, count: usize) -> usize
     ensures boundary { IsUtf8 (take result text.now) × IsUtf8 (drop result text.now) }
     ensures some { 0 < length text.now → 0 < result }
 {
+    let bytes = text.as_bytes();
     let mut len = 0;
     let mut left = count;
-    for c in text.chars() {
-        len += c.len_utf8();
-        left -= 1;
-        if left == 0 {
-            return len;
-        }
+    while BLOCK <= left && BLOCK <= bytes.len() - len {
+        left -= begun_within(bytes, len);
+        len += BLOCK;
     }
-    len
+    place_behind(text, len, left)
 }
 
 // Feeds the text, cut into pieces of so many characters.

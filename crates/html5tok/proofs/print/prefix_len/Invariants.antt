@@ -1,10 +1,8 @@
-use Rattle.std.proofs.Common.{◌≡◌, ◌<◌, drop}
-use Rattle.std.specs.Str.Iter.{chars_rest}
-use Rattle.html5tok.proofs.Cuts.{IsCut}
+use Rattle.std.proofs.Common.{◌≡◌, ◌-◌, ◌<◌, ◌≤◌, length}
 use Rattle.html5tok.proofs.print.prefix_len.Given as goal
 
--- the characters so far take `len` bytes, and the iterator has the others; at least one more is counted
-abbrev pub invariant-loop-c : goal.invariant-loop-c
-invariant-loop-c l =
-    (goal.iterator-loop-c).can_next l.c-iterator × (goal.iterator-loop-c).is_finite l.c-iterator × IsCut l.text l.len
-    × (chars_rest l.c-iterator ≡ drop l.len l.text) × (0 < l.left)
+abbrev pub invariant-loop-left : goal.invariant-loop-left
+invariant-loop-left l = (l.len ≤ length l.text) × (l.len ≡ 0 → 0 < l.left)
+
+abbrev pub decreases-loop-left : goal.decreases-loop-left
+decreases-loop-left l = length l.text - l.len
