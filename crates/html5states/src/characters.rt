@@ -1,4 +1,6 @@
 //! Kinds of characters.
+#![tactic(auto, unfolding(html5grammar::specs::Characters::is_white_space, html5grammar::specs::Characters::is_letter, html5grammar::specs::Characters::shown, html5grammar::specs::Tag::is_odd_in_name, html5grammar::specs::Tag::is_odd_at_name, html5grammar::specs::Tag::is_odd_in_unquoted))]
+
 ghost use Rattle.std.specs.Prelude.{◌≡◌, ◌==◌, ◌||◌, ◌&&◌, IfSome, is_some};
 ghost use Rattle.std.specs.Char.{to_ascii_lowercase};
 ghost use Rattle.html5grammar.specs.Characters.{null, is_white_space, is_letter, shown};
@@ -6,10 +8,6 @@ ghost use Rattle.html5grammar.specs.Tag.{is_odd_in_name, is_odd_at_name, is_odd_
 
 use html5ever_interface::states::AttrValueKind;
 
-#[cfg(test)]
-mod tests;
-
-#[tactic(auto, unfolding(html5grammar::specs::Characters::is_white_space))]
 pub fn is_white_space(c: char) -> bool
     ensures { result ≡ is_white_space c }
 {
@@ -17,7 +15,6 @@ pub fn is_white_space(c: char) -> bool
 }
 
 /// Whether the character is an ASCII letter.
-#[tactic(auto, unfolding(html5grammar::specs::Characters::is_letter))]
 pub fn is_letter(c: char) -> bool
     ensures { result ≡ is_letter c }
 {
@@ -25,7 +22,6 @@ pub fn is_letter(c: char) -> bool
 }
 
 /// The letter in lower case, where the character is an ASCII letter.
-#[tactic(auto, unfolding(html5grammar::specs::Characters::is_letter))]
 pub fn lower_ascii_letter(c: char) -> Option<char>
     ensures letter { is_some result ≡ is_letter c }
     ensures lower { IfSome result (λ letter. letter ≡ to_ascii_lowercase c) }
@@ -38,7 +34,6 @@ pub fn lower_ascii_letter(c: char) -> Option<char>
 }
 
 /// The character that stands for one in names and values: U+FFFD for NUL.
-#[tactic(auto, unfolding(html5grammar::specs::Characters::shown))]
 pub fn shown(c: char) -> char
     ensures { result ≡ shown c }
 {
@@ -46,7 +41,6 @@ pub fn shown(c: char) -> char
 }
 
 /// Whether the character is an error in an attribute's name.
-#[tactic(auto, unfolding(html5grammar::specs::Tag::is_odd_in_name))]
 pub fn is_odd_in_name(c: char) -> bool
     ensures { result ≡ is_odd_in_name c }
 {
@@ -54,7 +48,6 @@ pub fn is_odd_in_name(c: char) -> bool
 }
 
 /// Whether the character is an error as the first of an attribute's name.
-#[tactic(auto, unfolding(html5grammar::specs::Tag::is_odd_at_name))]
 pub fn is_odd_at_name(c: char) -> bool
     ensures { result ≡ is_odd_at_name c }
 {
@@ -62,7 +55,6 @@ pub fn is_odd_at_name(c: char) -> bool
 }
 
 // Whether exact errors report the character in a value without quotes.
-#[tactic(auto, unfolding(html5grammar::specs::Tag::is_odd_in_unquoted))]
 fn is_odd_in_unquoted(c: char) -> bool
     ensures { result ≡ is_odd_in_unquoted c }
 {

@@ -45,7 +45,8 @@ impl<A: Allocator + Copy> CurrentTag<A> {
         }
     }
 
-    /// Ends the tag behind its last attribute, and answers it.
+    /// Ends the tag behind its last attribute, and answers it. What it leaves says nothing until the
+    /// next tag begins.
     pub fn end(&mut self, alloc: A, self_closing: bool) -> Tag<A>
         ensures { tag_of result ≡ told_tag (open_tag self.old) self_closing }
     {

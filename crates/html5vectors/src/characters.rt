@@ -1,4 +1,5 @@
-use crate::characters::lower_ascii_letter;
+//! Kinds of characters.
+use html5states::characters::lower_ascii_letter;
 
 #[test]
 fn lowers_ascii_letters_alone(rt: HostRuntime) {

@@ -2,6 +2,8 @@
 #![tactic(auto)]
 
 #[cfg(test)]
+mod characters;
+#[cfg(test)]
 mod end_cases;
 #[cfg(test)]
 mod errors;

@@ -32,7 +32,7 @@ impl FaultySink {
     }
 }
 
-impl TokenSink<Token> for FaultySink {
+impl<A: Allocator> TokenSink<Token<A>> for FaultySink {
     ghost use Rattle.std.specs.Prelude.{Bool, true, false, refl, if◌then◌else◌};
     ghost use Rattle.html5ever_interface.specs.Token.Reply.{KeepOn};
     ghost use Rattle.html5ever_interface.specs.Token.{is_text};
@@ -67,18 +67,18 @@ impl TokenSink<Token> for FaultySink {
 
     fn process_token(
         &mut self,
-        token: Token,
+        token: Token<A>,
         _line_number: u64,
-    ) -> Result<TokenSinkResult<Infallible, String>, SinkFault> {
+    ) -> Result<TokenSinkResult<Infallible, String<A>>, SinkFault> {
         if self.left == 0 {
             self.faults.add(1);
             return Err(SinkFault);
         }
         self.left -= 1;
-        match token {
-            Token::CharacterTokens(_) => {}
-            _ => self.took_another = true,
+        if let Token::CharacterTokens(_) = token {
+            return Ok(TokenSinkResult::Continue);
         }
+        self.took_another = true;
         Ok(TokenSinkResult::Continue)
     }
 
@@ -87,76 +87,6 @@ impl TokenSink<Token> for FaultySink {
             self.faults.add(1);
             return Err(SinkFault);
         }
-        Ok(())
-    }
-
-    fn adjusted_current_node_present_but_not_in_html_namespace(&self) -> bool {
-        false
-    }
-}
-
-/// Keeps a number alone: the line of the last token that is no text.
-#[derive(Drop)]
-pub struct LastLine {
-    line: u64,
-    faults: Count,
-}
-
-impl LastLine {
-    pub fn new() -> LastLine {
-        LastLine {
-            line: 0,
-            faults: Count::new(),
-        }
-    }
-}
-
-impl<A: Allocator> TokenSink<Token<A>> for LastLine {
-    ghost use Rattle.std.specs.Prelude.{ℕ, false, refl, if◌then◌else◌};
-    ghost use Rattle.html5ever_interface.specs.Token.Reply.{KeepOn};
-    ghost use Rattle.html5ever_interface.specs.Token.{is_text};
-
-    type Handle = Infallible;
-
-    ghost State = { ℕ };
-
-    ghost state = { λ s. s.line };
-
-    ghost faults = { λ s. s.faults.total };
-
-    ghost step = { λ last told line. if is_text told then last else line };
-
-    ghost reply = { λ last told line. KeepOn };
-
-    ghost foreign = { λ last. false };
-
-    ghost finish = { λ last. last };
-
-    ghost faulted = { λ last told line. last };
-
-    ghost end_faulted = { λ last. last };
-
-    ghost joins = { λ last a b line. refl };
-
-    ghost empty = { λ last line. refl };
-
-    ghost any_line = { λ last a line other. refl };
-
-    ghost keeps_on = { λ last told line no_tag. refl };
-
-    fn process_token(
-        &mut self,
-        token: Token<A>,
-        line_number: u64,
-    ) -> Result<TokenSinkResult<Infallible, String<A>>, SinkFault> {
-        if let Token::CharacterTokens(_) = token {
-            return Ok(TokenSinkResult::Continue);
-        }
-        self.line = line_number;
-        Ok(TokenSinkResult::Continue)
-    }
-
-    fn end(&mut self) -> Result<(), SinkFault> {
         Ok(())
     }
 

@@ -1,9 +1,9 @@
-use Rattle.std.proofs.Common.{◌≡◌, ℕ, ◌+◌, ◌<◌, ◌≤◌, List, [], ◌∷◌, ◌++◌, length, take, drop, encode_utf8, encode_utf8_all, refl, sym, ap, ◌∙◌, inl, inr, arith, length-append}
+use Rattle.std.proofs.Common.{◌≡◌, ℕ, ◌+◌, ◌<◌, List, [], ◌∷◌, ◌++◌, length, take, drop, encode_utf8, encode_utf8_all, refl, sym, ap, ◌∙◌, inl, inr, arith, length-append}
 use Rattle.std.specs.Char.{len_utf8}
 use Rattle.std.specs.Str.{IsUtf8, chars}
 use Rattle.std.proofs.lemmas.Bool.{cases_eq}
-use Rattle.std.proofs.lemmas.List.{append_assoc, append_cancel_right, drop_at, take-append-drop}
-use Rattle.std.proofs.lemmas.Str.{chars-append, chars_past_char, encodes-chars, drop_past_char, length-encode, IsUtf8-past_char, IsUtf8-take, IsCharBoundary-from_drop, IsCharBoundary-past_char}
+use Rattle.std.proofs.lemmas.List.{append_cancel_right, drop_at, take-append-drop}
+use Rattle.std.proofs.lemmas.Str.{chars-append, chars_past_char, encodes-chars, length-encode, IsUtf8-past_char, IsUtf8-take, IsCharBoundary-from_drop}
 
 -- ---- texts and their characters
 
@@ -42,13 +42,3 @@ begins_with bs front rest c width same utf8 e measured =
     let front_utf8 = IsUtf8-take front width utf8 (IsCharBoundary-from_drop front width (omega (arith, rest_length)) rest_utf8) in
     let first_is : chars (take width front) ≡ c ∷ [] = append_cancel_right (chars (take width front)) (c ∷ []) (chars (drop width front)) (sym (chars_cut front width front_utf8) ∙ chars_are) in
     record { rest_utf8 = rw same at rest_utf8; chars_are = rw same at chars_are; first_is = rw same at first_is }
-
--- the characters up to one more
-pub chars_take_char : (text rest : List ℕ) (len c : ℕ) → IsUtf8 text → len ≤ length text → IsUtf8 (drop len text) → drop len text ≡ encode_utf8 c ++ rest → chars (take (len + len_utf8 c) text) ≡ chars (take len text) ++ c ∷ []
-chars_take_char text rest len c utf8 within rest_utf8 e =
-    let front = chars (take len text) in
-    let before : chars text ≡ front ++ chars (drop len text) = chars_cut text len (IsUtf8-take text len utf8 (IsCharBoundary-from_drop text len within rest_utf8)) in
-    let after : chars text ≡ chars (take (len + len_utf8 c) text) ++ chars (drop (len + len_utf8 c) text) = chars_cut text (len + len_utf8 c) (IsUtf8-take text (len + len_utf8 c) utf8 (IsCharBoundary-past_char text rest len c within rest_utf8 e)) in
-    let split : front ++ chars (drop len text) ≡ (front ++ c ∷ []) ++ chars rest = ap (λ cs. front ++ cs) (chars_past_char (drop len text) rest c rest_utf8 e) ∙ sym (append_assoc front (c ∷ []) (chars rest)) in
-    let rest_is : chars (drop (len + len_utf8 c) text) ≡ chars rest = ap chars (drop_past_char text rest len c e) in
-    append_cancel_right (chars (take (len + len_utf8 c) text)) (front ++ c ∷ []) (chars rest) (rw rest_is at (sym after ∙ before ∙ split))
