@@ -1,17 +1,12 @@
 -- A loop that reads the queue: what it has read so far, and what that gives when it goes on, ends or is refused.
-use Rattle.std.proofs.Common.{◌≡◌, ◌≢◌, ◌↔◌, ℕ, Bool, true, false, List, [], ◌∷◌, ◌++◌, refl, ap, sym, ◌∙◌, arith, length, ◌+◌, length-append, Option, None, Some, lit<, inl, inr, subst, ◌≤◌, ◌<◌, ◌^◌}
-use Rattle.std.specs.Prelude.{Contains, IfErr, map, encode_utf8}
-use Rattle.std.specs.Str.{chars}
-use Rattle.std.specs.String.{string_bytes}
+use Rattle.std.proofs.Common.{◌≡◌, ℕ, Bool, true, false, List, [], ◌∷◌, ◌++◌, refl, ap, sym, ◌∙◌, arith, length, ◌+◌, length-append, Option, None, Some, inl, inr, subst, ◌<◌, ◌^◌}
+use Rattle.std.specs.Prelude.{IfErr, map, encode_utf8}
 use Rattle.std.proofs.lemmas.List.{append_assoc, append-nil}
-use Rattle.std.proofs.lemmas.List.Elements.{All-weaker}
 use Rattle.markup5ever.specs.BufferQueue.{TextQueue, Takes}
-use Rattle.html5grammar.specs.Characters.{null, line_feed, carriage_return}
 use Rattle.html5grammar.specs.Reading.{told, messages, after}
 use Rattle.html5ever.specs.Runs.{ReadsRun}
 use Rattle.html5ever_interface.specs.Sink.{Message, stepped}
 use Rattle.html5grammar.specs.Start.{Start, Open, is_clean}
-use Rattle.html5grammar.specs.Start.Mode.{Plain}
 use Rattle.html5grammar.specs.Start.Open.{Between, LessThan, LessThanSolidus, InTag, NotBuilt}
 use Rattle.html5states.specs.Steps.{Leads}
 use Rattle.html5states.specs.Telling.{Stops, IsRefusal}
@@ -29,7 +24,7 @@ use Rattle.html5ever.proofs.RunLemmas.{told-run, after-run, run-quiet}
 use Rattle.html5ever_interface.specs.Sink.{on_line}
 use Rattle.html5states.specs.Telling.{Tells, faults_of}
 use Rattle.std.specs.Prelude.{OnOk, IsNone}
-use Rattle.html5ever.proofs.Pauses.{told_beyond-behind, first_pause-no_tags, no_tags-told, state_behind-append, pause_here, feed-goes_on, feed-takes, feed-pauses}
+use Rattle.html5ever.proofs.Pauses.{told_beyond-behind, state_behind-append, pause_here, feed-goes_on, feed-takes, feed-pauses}
 use Rattle.html5states.specs.declared.error.TokenizerError.{TokenizerError}
 use Rattle.html5states.specs.declared.error.TokenizerError.TheVariants.{Memory, Sink, Failed, NotYet}
 use Rattle.html5grammar.proofs.ReadingLemmas.{state_behind, told-nil, told-append, after-nil, after-append, told-not_built, after-not_built}

@@ -1,12 +1,10 @@
 -- A run is read as its characters are, one by one.
-use Rattle.std.proofs.Common.{◌≡◌, ◌≢◌, ℕ, Bool, true, false, List, [], ◌∷◌, ◌++◌, refl, ap, sym, ◌∙◌, Option, None, Some, lit<, length, get_or, ◌<◌, arith, subst}
-use Rattle.std.specs.Prelude.{All, Contains, flat_map, encode_utf8, encode_utf8_all, ◌==◌, ◌||◌, not}
-use Rattle.std.specs.Str.{chars}
+use Rattle.std.proofs.Common.{◌≡◌, ◌≢◌, ℕ, false, List, [], ◌∷◌, ◌++◌, refl, ap, sym, ◌∙◌, None, Some, lit<, length, get_or, ◌<◌, arith, subst}
+use Rattle.std.specs.Prelude.{All, Contains, flat_map, encode_utf8, encode_utf8_all, ◌==◌}
 use Rattle.std.proofs.lemmas.Bool.{ne_eqb}
 use Rattle.std.proofs.lemmas.List.Elements.{All-head, All-tail}
 use Rattle.html5ever_interface.specs.declared.states.AttrValueKind.TheVariants.{Unquoted, SingleQuoted, DoubleQuoted}
 use Rattle.html5grammar.specs.Characters.{null, tab, line_feed, form_feed, carriage_return, space, quotation_mark, ampersand, apostrophe, solidus, less_than, equals_sign, greater_than, value_bytes, shown, is_white_space}
-use Rattle.html5grammar.specs.Reading.{Here}
 use Rattle.html5grammar.specs.Reading.Here.{Tells}
 use Rattle.html5grammar.specs.Start.{Open}
 use Rattle.html5grammar.specs.Start.Mode.{Data, Plain}

@@ -1,5 +1,5 @@
 use Rattle.std.proofs.Common.{◌≡◌, ◌≢◌, ◌++◌, ap, sym, ◌∙◌, string_bytes}
-use Rattle.std.specs.Prelude.{All, Contains, flat_map}
+use Rattle.std.specs.Prelude.{Contains, flat_map}
 use Rattle.std.specs.Str.{chars}
 use Rattle.std.proofs.lemmas.List.Elements.{All-weaker}
 use Rattle.std.proofs.lemmas.Str.{encodes-chars}

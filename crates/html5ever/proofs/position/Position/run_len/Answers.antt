@@ -1,7 +1,6 @@
-use Rattle.std.proofs.Common.{◌≡◌, rules, true, ◌∙◌, sym}
-use Rattle.std.specs.Prelude.{is_some, IsTrue}
+use Rattle.std.proofs.Common.{rules, sym}
+use Rattle.std.specs.Prelude.{IsTrue}
 use Rattle.html5states.specs.CurrentTag.{opened_of}
-use Rattle.html5states.specs.Runs.{other_run_ends}
 use Rattle.html5ever.proofs.RunLemmas.{run-begins, run-found}
 use Rattle.html5ever.proofs.position.Position.run_len.Goals as goal
 

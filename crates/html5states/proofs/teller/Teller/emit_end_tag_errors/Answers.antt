@@ -1,5 +1,4 @@
 use Rattle.std.proofs.Common.{refl}
-use Rattle.html5states.specs.CurrentTag.{open_tag}
 use Rattle.html5grammar.specs.Tag.{self_closing_error}
 use Rattle.html5states.proofs.Tellings.{emits_then, emits_stop}
 use Rattle.html5states.proofs.teller.Teller.emit_end_tag_errors.Goals as goal

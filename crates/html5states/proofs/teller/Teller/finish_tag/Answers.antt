@@ -1,6 +1,4 @@
 use Rattle.std.proofs.Common.{refl}
-use Rattle.html5grammar.specs.Tag.{end_tag_errors, with_last_attribute}
-use Rattle.html5states.specs.CurrentTag.{open_tag}
 use Rattle.html5states.proofs.Tellings.{emits_then, emits_stop}
 use Rattle.html5states.proofs.teller.Teller.finish_tag.Goals as goal
 
