@@ -40,6 +40,7 @@ fn push_hex<A: Allocator>(page: &mut Vec<u8, A>, byte: u8) -> Result<(), AllocEr
 
 // How many bytes are looked at in one step, where a run is long, and at its end.
 const BLOCK: usize = 16;
+
 const HALF: usize = 8;
 
 #[inline(always)]
