@@ -1,14 +1,14 @@
 -- What ascending entries answer, and what becomes of them with one more.
-use Rattle.std.proofs.Common.{◌≡◌, ℕ, ◌+◌, ◌<◌, ◌≤◌, Bool, true, false, ◌||◌, List, [], ◌∷◌, ◌++◌, length, map, take, drop, zero, suc, get_or, Option, None, Some, IsTrue, All, if◌then◌else◌, refl, sym, ap, ◌∙◌, arith, length-append}
+use Rattle.std.proofs.Common.{◌≡◌, ℕ, Bool, true, false, ◌||◌, List, [], ◌∷◌, ◌++◌, take, drop, get_or, Option, None, Some, IsTrue, All, if◌then◌else◌, refl, sym, ap, ◌∙◌}
 use Rattle.std.specs.Bool.{nat_eq}
 use Rattle.std.specs.Cmp.Lexicographic.{slice_cmp}
-use Rattle.std.specs.List.{AllByRecursion, HoldsAt, insert, starts_with, slice_get}
+use Rattle.std.specs.List.{AllByRecursion, insert, starts_with}
 use Rattle.std.specs.Option.{option_or}
-use Rattle.std.specs.Ordering.{nat_cmp, is_lt, is_eq}
+use Rattle.std.specs.Ordering.{nat_cmp, is_lt}
 use Rattle.std.specs.Str.{bytes_eq}
-use Rattle.std.specs.declared.cmp.Ordering.TheVariants.{Less, Equal, Greater}
+use Rattle.std.specs.declared.cmp.Ordering.TheVariants.{Less, Greater}
 use Rattle.std.proofs.lemmas.Bool.{or_from, or_left, or_right}
-use Rattle.std.proofs.lemmas.List.{drop-map, map-append, take-append-drop, take-map}
+use Rattle.std.proofs.lemmas.List.{take-append-drop}
 use Rattle.std.proofs.lemmas.List.Elements.{All-nil, All-from_recursion, recursion_from_All}
 use Rattle.markup5ever.specs.NamedReferences.{NamedReference, begins_name, characters_of_name, is_plain_name, has_zero, comes_before, in_place, AreDistinct, IsAscending, IsTable}
 use Rattle.markup5ever.specs.Place.{IsAt, IsGapFor}
@@ -150,10 +150,10 @@ unfolding begins_name
 none_begins x [] text above other after = refl
 none_begins x (y ∷ back) text above other after =
     let next : starts_with nat_eq y.name text ≡ false =
-        elim (starts_with nat_eq y.name text) as (λ b. starts_with nat_eq y.name text ≡ b → b ≡ false) [
-          | true ↦ λ e. sym (begins-between x.name y.name text above (after_less x.name y after.0) e) ∙ other
-          | false ↦ λ e. refl
-        ] refl in
+    elim (starts_with nat_eq y.name text) as (λ b. starts_with nat_eq y.name text ≡ b → b ≡ false) [
+      | true ↦ λ e. sym (begins-between x.name y.name text above (after_less x.name y after.0) e) ∙ other
+      | false ↦ λ e. refl
+    ] refl in
     or_from (starts_with nat_eq y.name text) (begins_name back text) next (none_begins x back text above other after.1)
 
 begins-above : (back : List NamedReference) (text : List ℕ) → IsAscending back → AllByRecursion (Above text) back → begins_name back text ≡ first_begins back text

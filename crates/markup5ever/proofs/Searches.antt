@@ -1,5 +1,5 @@
 -- What a binary search by name finds.
-use Rattle.std.proofs.Common.{◌≡◌, ℕ, ◌+◌, ◌<◌, ◌≤◌, List, [], ◌∷◌, ◌++◌, length, map, take, drop, zero, suc, get_or, Option, None, Some, true, false, Result, Ok, Err, IfOk, IfErr, IsTrue, String, string_bytes, refl, sym, ap, subst, ◌∙◌, arith}
+use Rattle.std.proofs.Common.{◌≡◌, ℕ, ◌<◌, ◌≤◌, List, [], ◌∷◌, ◌++◌, length, map, take, drop, zero, suc, get_or, Option, None, Some, true, false, Result, Ok, Err, IfOk, IfErr, IsTrue, String, string_bytes, refl, sym, ap, subst, ◌∙◌, arith}
 use Rattle.std.specs.Cmp.Lexicographic.{slice_cmp}
 use Rattle.std.specs.Bool.{nat_eq}
 use Rattle.std.specs.List.{AllByRecursion, insert, slice_get, starts_with}
@@ -85,7 +85,7 @@ module _ {Z : Type 0} (items : List (String Z × ℕ × Option ℕ)) (entries : 
   characters-found found is table at read =
       let within : place < length items = omega (arith, at.within, ap length is, length-map items (reference_of {Z = Z})) in
       let reference : get_or entries place (reference_of found) ≡ reference_of found =
-          ap (λ es. get_or es place (reference_of found)) (sym is) ∙ get_or-map (reference_of {Z = Z}) items place found (reference_of found) within ∙ ap reference_of (sym read) in
+      ap (λ es. get_or es place (reference_of found)) (sym is) ∙ get_or-map (reference_of {Z = Z}) items place found (reference_of found) within ∙ ap reference_of (sym read) in
       characters-at entries name place (reference_of found) (subst IsTable is table) at ∙ ap (λ (entry : NamedReference). Some (entry.first, entry.second)) reference
 
   pub begins-found_at : references_of items ≡ entries → IsTable (references_of items) → IsAt entries name place → begins_name entries name ≡ true

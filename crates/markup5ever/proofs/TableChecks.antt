@@ -1,12 +1,11 @@
 -- The entries that were looked at, and the table of them.
-use Rattle.std.proofs.Common.{◌≡◌, ℕ, ◌+◌, Bool, true, false, not, ◌||◌, List, [], ◌∷◌, ◌++◌, length, map, Option, None, Some, if◌then◌else◌, refl, sym, ap, ◌∙◌, arith, length-append}
+use Rattle.std.proofs.Common.{◌≡◌, ℕ, ◌+◌, Bool, true, false, not, ◌||◌, List, [], ◌∷◌, ◌++◌, length, Option, None, Some, if◌then◌else◌, refl, sym, ap, ◌∙◌, arith, length-append}
 use Rattle.std.specs.Bool.{nat_eq}
-use Rattle.std.specs.List.{fold, starts_with}
+use Rattle.std.specs.List.{starts_with}
 use Rattle.std.specs.Option.{is_some, option_or}
 use Rattle.std.specs.Str.{bytes_eq}
-use Rattle.std.proofs.lemmas.List.{append_assoc}
 use Rattle.std.proofs.lemmas.List.Sums.{fold-append}
-use Rattle.markup5ever.specs.NamedReferences.{NamedReference, begins_name, characters_of_name, is_plain_name, has_zero, comes_before, in_place, table_of, fault_behind, first_fault_behind, first_fault}
+use Rattle.markup5ever.specs.NamedReferences.{NamedReference, begins_name, characters_of_name, is_plain_name, has_zero, comes_before, in_place, table_of, fault_behind, first_fault_behind}
 use Rattle.markup5ever.specs.declared.data.TableError.{TableError}
 use Rattle.markup5ever.specs.declared.data.TableError.TheVariants.{BadName, ZeroCharacter, RepeatedName}
 use Rattle.markup5ever.proofs.NameOrder.{bytes_eq-same}

@@ -64,7 +64,9 @@ impl<A: Allocator> Model for NamedReferences<A> {
 }
 
 impl<A: Allocator> NamedReferences<A> {
-    /// The table of these entries. Its memory is taken at once.
+    /// The table of these entries, in any order. All of its memory is taken at once, so that the first
+    /// thing that can fail is the growth. An entry is moved behind where those before it come later in
+    /// the order of bytes: entries that come in that order are read in one pass.
     pub fn check(alloc: A, entries: Vec<Entry<A>, A>) -> Result<NamedReferences<A>, TableError>
         // What fails, and when.
         ensures faultless { OnOk result (first_fault (references_of entries.items) ≡ None) }
@@ -110,7 +112,8 @@ impl<A: Allocator> NamedReferences<A> {
 
     /// The characters that the name stands for.
     pub fn get(&self, name: &str) -> Option<(char, Option<char>)>
-        ensures { result ≡ characters_of_name self.now name.now }
+        ensures characters { result ≡ characters_of_name self.now name.now }
+        ensures table { IsTable self.now }
     {
         match self.search(name) {
             Ok(place) => {
@@ -123,7 +126,8 @@ impl<A: Allocator> NamedReferences<A> {
 
     /// Whether a name begins with the text.
     pub fn is_prefix(&self, text: &str) -> bool
-        ensures { result ≡ begins_name self.now text.now }
+        ensures begins { result ≡ begins_name self.now text.now }
+        ensures table { IsTable self.now }
     {
         match self.search(text) {
             Ok(_) => true,
@@ -132,13 +136,6 @@ impl<A: Allocator> NamedReferences<A> {
                 None => false,
             },
         }
-    }
-
-    /// What is so of each table.
-    pub fn is_table(&self)
-        ensures { IsTable self.now }
-    {
-        let _ = &self.entries;
     }
 
     // Where the name stands, or where it would.
