@@ -64,9 +64,8 @@ impl<A: Allocator> Model for NamedReferences<A> {
 }
 
 impl<A: Allocator> NamedReferences<A> {
-    /// The table of these entries, in any order. All of its memory is taken at once, so that the first
-    /// thing that can fail is the growth. An entry is moved behind where those before it come later in
-    /// the order of bytes: entries that come in that order are read in one pass.
+    /// The table of these entries, which may come in any order. All of its memory is taken at once, and
+    /// entries that come in the order of their names, by bytes, are taken in without moving others.
     pub fn check(alloc: A, entries: Vec<Entry<A>, A>) -> Result<NamedReferences<A>, TableError>
         // What fails, and when.
         ensures faultless { OnOk result (first_fault (references_of entries.items) ≡ None) }
