@@ -5,7 +5,7 @@ use Rattle.std.specs.Str.{IsUtf8, IsCharBoundary, chars}
 use Rattle.std.proofs.lemmas.List.{append-nil, append_cancel_left, drop-append-le, drop-drop, drop_all, take_all}
 use Rattle.std.proofs.lemmas.List.Elements.{All-head}
 use Rattle.std.proofs.lemmas.Str.{chars-append, chars_from_encodes, encodes-chars, length-le-encodes, IsCharBoundary-from_drop, IsUtf8-append, IsUtf8-take}
-use Rattle.markup5ever.specs.BufferQueue.{TextQueue, Gains, GainsFront, Takes, IsReadTo}
+use Rattle.markup5ever.specs.BufferQueue.{TextQueue, Gains, TakesBack, Takes, IsReadTo}
 use Rattle.markup5ever.specs.SetResult.{TakesRun, EndsRun}
 use Rattle.markup5ever.specs.SmallCharSet.{IsMember}
 use Rattle.markup5ever.proofs.TextLemmas.{nil_from_length, filled_length, chars_cut}
@@ -115,8 +115,8 @@ chars_behind text grown back offset read e =
 
 -- ---- what a queue gains and gives
 
-pub GainsFront-none : (queue : TextQueue) (cs : List ℕ) → cs ≡ [] → GainsFront queue queue cs
-GainsFront-none queue cs none = rw none (record { text = refl; handed_in = omega arith; taken = refl })
+pub TakesBack-none : (queue : TextQueue) (cs : List ℕ) → cs ≡ [] → TakesBack queue queue cs
+TakesBack-none queue cs none = rw none (record { text = refl; handed_in = refl; taken = refl })
 
 pub Gains-none : (queue : TextQueue) (cs : List ℕ) → cs ≡ [] → Gains queue queue cs
 Gains-none queue cs none = rw none (record { text = sym (append-nil queue.text); handed_in = omega arith; taken = refl })

@@ -1,3 +1,7 @@
 pub mod BufferQueueLemmas
+pub mod NameOrder
+pub mod NamedReferencesLemmas
+pub mod Searches
 pub mod SmallCharSetLemmas
+pub mod TableChecks
 pub mod TextLemmas

@@ -19,6 +19,12 @@ pub record GainsFront (old new : TextQueue) (front : List ℕ) : Type 0 where
   pub handed_in : new.handed_in ≡ old.handed_in + length front
   pub taken : new.taken ≡ old.taken
 
+-- these characters came back to the front, and count as handed in no second time
+pub record TakesBack (old new : TextQueue) (front : List ℕ) : Type 0 where
+  pub text : new.text ≡ front ++ old.text
+  pub handed_in : new.handed_in ≡ old.handed_in
+  pub taken : new.taken ≡ old.taken
+
 -- these characters were taken from the front
 pub record Takes (old new : TextQueue) (front : List ℕ) : Type 0 where
   pub text : old.text ≡ front ++ new.text

@@ -2,3 +2,6 @@ pub mod BufferQueue
 pub mod SetResult
 pub mod SmallCharSet
 pub mod Names
+pub mod NamedReferences
+pub mod C1
+pub mod Place

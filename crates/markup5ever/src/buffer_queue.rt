@@ -3,7 +3,7 @@ ghost use Rattle.std.specs.Prelude.{◌≡◌, ℕ, ◌<◌, ◌≤◌, ◌↔�
 ghost use Rattle.std.specs.Char.{IsScalar};
 ghost use Rattle.std.specs.Str.{IsUtf8, chars};
 ghost use Rattle.std.specs.String.{string_bytes};
-ghost use Rattle.markup5ever.specs.BufferQueue.{Gains, GainsFront, Takes};
+ghost use Rattle.markup5ever.specs.BufferQueue.{Gains, GainsFront, TakesBack, Takes};
 ghost use Rattle.markup5ever.specs.SmallCharSet.{IsMember};
 
 use crate::count::Count;
@@ -108,8 +108,22 @@ impl<A: Allocator> BufferQueue<A> {
     }
 
     /// Hands in a text in front of what waits. It comes back where there is no memory for it.
-    pub fn push_front(&mut self, mut text: String<A>) -> Result<(), String<A>>
+    pub fn push_front(&mut self, text: String<A>) -> Result<(), String<A>>
         ensures ok { OnOk result (GainsFront self.old self.new (chars (string_bytes text))) }
+        ensures err { OnErr result (self.new ≡ self.old) }
+        ensures returned { IfErr result (λ back. string_bytes back ≡ string_bytes text) }
+        ensures empty { string_bytes text ≡ [] → IsOk result }
+    {
+        let handed_in = self.handed_in.with_chars(&text);
+        self.give_back(text)?;
+        self.handed_in = handed_in;
+        Ok(())
+    }
+
+    /// Puts a text that was handed in before in front of what waits. It comes back where there is no
+    /// memory for it.
+    pub fn give_back(&mut self, mut text: String<A>) -> Result<(), String<A>>
+        ensures ok { OnOk result (TakesBack self.old self.new (chars (string_bytes text))) }
         ensures err { OnErr result (self.new ≡ self.old) }
         ensures returned { IfErr result (λ back. string_bytes back ≡ string_bytes text) }
         ensures empty { string_bytes text ≡ [] → IsOk result }
@@ -117,13 +131,11 @@ impl<A: Allocator> BufferQueue<A> {
         if text.is_empty() {
             return Ok(());
         }
-        let handed_in = self.handed_in.with_chars(&text);
         if text.push_str(self.front_text()).is_err() {
             return Err(text);
         }
         self.text = text;
         self.offset = 0;
-        self.handed_in = handed_in;
         Ok(())
     }
 

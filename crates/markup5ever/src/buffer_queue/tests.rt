@@ -150,6 +150,25 @@ fn push_front_puts_a_text_before_what_waits(rt: HostRuntime) -> Result<(), Fail>
 }
 
 #[test]
+fn a_text_comes_back_before_what_waits(rt: HostRuntime) -> Result<(), Fail> {
+    let alloc = rt.alloc();
+    let mut queue = BufferQueue::new(alloc);
+    assert!(rt; queue.give_back(String::new(alloc)).is_ok());
+    assert!(rt; queue.is_empty());
+    assert!(rt; queue.push_back(String::from_str(alloc, "é<d")?).is_ok());
+    assert_eq!(rt; queue.next(), Some('é'));
+    assert_eq!(rt; queue.next(), Some('<'));
+    assert!(rt; queue.give_back(String::from_str(alloc, "é<")?).is_ok());
+    assert_eq!(rt; queue.next(), Some('é'));
+    assert!(rt; queue.give_back(String::new(alloc)).is_ok());
+    assert_eq!(rt; rest_of(alloc, &mut queue)?.as_str(), "<d");
+    assert!(rt; queue.give_back(String::from_str(alloc, "é")?).is_ok());
+    assert_eq!(rt; queue.next(), Some('é'));
+    assert_eq!(rt; queue.next(), None);
+    Ok(())
+}
+
+#[test]
 fn push_front_in_the_middle_of_a_run(rt: HostRuntime) -> Result<(), Fail> {
     let alloc = rt.alloc();
     let set = SmallCharSet::of(b"<");

@@ -1,18 +1,18 @@
-use Rattle.std.proofs.Common.{◌≡◌, ◌+◌, ◌++◌, length, sym, ap, ◌∙◌}
+use Rattle.std.proofs.Common.{◌≡◌, ◌++◌, length, sym, ap, ◌∙◌}
 use Rattle.std.specs.Str.{chars}
 use Rattle.std.specs.String.{string_bytes}
 use Rattle.std.proofs.lemmas.Bool.{eqb-true}
 use Rattle.std.proofs.lemmas.Str.{chars-nil, chars-append, IsUtf8-string_bytes}
 use Rattle.markup5ever.specs.BufferQueue.{TextQueue}
-use Rattle.markup5ever.proofs.BufferQueueLemmas.{appended, waiting_chars, IsReadTo-start, GainsFront-none}
+use Rattle.markup5ever.proofs.BufferQueueLemmas.{appended, waiting_chars, IsReadTo-start, TakesBack-none}
 use Rattle.markup5ever.proofs.TextLemmas.{nil_from_length}
-use Rattle.markup5ever.proofs.buffer_queue.BufferQueue.push_front.Goals as goal
+use Rattle.markup5ever.proofs.buffer_queue.BufferQueue.give_back.Goals as goal
 
 pub returns-then-is_empty-clause-ok : goal.returns-then-is_empty-clause-ok
 returns-then-is_empty-clause-ok g c =
     let text = c.args.text in
     let no_byte : length (string_bytes text) ≡ 0 = sym text.bytes.ok.0 ∙ eqb-true _ _ (sym c.is_empty.ensures ∙ c.if-is_empty.true) in
-    GainsFront-none c.args.self.now (chars (string_bytes text)) (ap chars (nil_from_length (string_bytes text) no_byte) ∙ chars-nil)
+    TakesBack-none c.args.self.now (chars (string_bytes text)) (ap chars (nil_from_length (string_bytes text) no_byte) ∙ chars-nil)
 
 pub invariant_of-self : goal.invariant_of-self
 invariant_of-self g c = IsReadTo-start (string_bytes c.push_str.new.self) (IsUtf8-string_bytes c.push_str.new.self)
@@ -24,6 +24,6 @@ returns-clause-ok g c =
     let grown : string_bytes c.push_str.new.self ≡ front ++ rest = appended (string_bytes c.push_str.new.self) front rest _ c.if-is_err.ensures.negation c.push_str.ensures.bytes in
     record {
       text = ap chars grown ∙ chars-append front rest (IsUtf8-string_bytes c.args.text) ∙ ap (λ cs. chars front ++ cs) (waiting_chars rest c.args.self.now.text c.front_text.utf8 c.front_text.ensures);
-      handed_in = c.with_chars-handed_in.ensures ∙ ap (λ (t : TextQueue). t.handed_in + length (chars c.deref.result.now)) c.self.view_is ∙ ap (λ bs. c.args.self.now.handed_in + length (chars bs)) c.deref.ensures;
+      handed_in = ap (λ (t : TextQueue). t.handed_in) c.self.view_is;
       taken = ap (λ (t : TextQueue). t.taken) c.self.view_is;
     }

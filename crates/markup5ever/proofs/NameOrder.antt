@@ -1,0 +1,95 @@
+-- The order of names, and names that begin with a text.
+use Rattle.std.proofs.Common.{◌≡◌, ℕ, ◌<◌, ◌≤◌, ◌⊎◌, inl, inr, true, false, List, [], ◌∷◌, length, refl, sym, ap, ◌∙◌, arith}
+use Rattle.std.specs.Bool.{nat_eq}
+use Rattle.std.specs.Cmp.Lexicographic.{slice_cmp}
+use Rattle.std.specs.List.{starts_with}
+use Rattle.std.specs.Ordering.{nat_cmp, is_lt, is_eq, ordering_index, ordering_reverse, ordering_then}
+use Rattle.std.specs.Str.{bytes_eq}
+use Rattle.std.specs.declared.cmp.Ordering.{Ordering}
+use Rattle.std.specs.declared.cmp.Ordering.TheVariants.{Less, Equal, Greater}
+use Rattle.std.proofs.lemmas.Bool.{and_parts, and_from, eqb-true, eq-eqb}
+use Rattle.std.proofs.lemmas.Bool.Decides.{nat_tests}
+use Rattle.std.proofs.lemmas.Cmp.{nat_list_cmp_total, ranked, tied_itself}
+use Rattle.std.proofs.lemmas.List.{take_all}
+use Rattle.std.proofs.lemmas.Slice.Eq.{bytes_eq-Decides}
+use Rattle.std.proofs.lemmas.Map.Text.{is_eq-slice_cmp}
+
+pub less_from_test : (o : Ordering) → is_lt o ≡ true → o ≡ Less
+less_from_test Less e = refl
+less_from_test Equal e = absurd cc
+less_from_test Greater e = absurd cc
+
+pub greater_from_less : (a b : List ℕ) → slice_cmp nat_cmp a b ≡ Less → slice_cmp nat_cmp b a ≡ Greater
+greater_from_less a b e = nat_list_cmp_total.antisymm b a ∙ ap ordering_reverse e
+
+pub less_from_greater : (a b : List ℕ) → slice_cmp nat_cmp a b ≡ Greater → slice_cmp nat_cmp b a ≡ Less
+less_from_greater a b e = nat_list_cmp_total.antisymm b a ∙ ap ordering_reverse e
+
+-- ---- equal names
+
+pub bytes_eq-cmp : (a b : List ℕ) (o : Ordering) → slice_cmp nat_cmp a b ≡ o → bytes_eq a b ≡ is_eq o
+bytes_eq-cmp a b o e = sym (is_eq-slice_cmp a b) ∙ ap is_eq e
+
+pub bytes_eq-itself : (a : List ℕ) → bytes_eq a a ≡ true
+bytes_eq-itself a = bytes_eq-cmp a a Equal (tied_itself nat_list_cmp_total a)
+
+pub bytes_eq-same : (a b : List ℕ) → bytes_eq a b ≡ true → a ≡ b
+bytes_eq-same a b e = (bytes_eq-Decides a b).0 e
+
+pub cmp_equal : (a b : List ℕ) → slice_cmp nat_cmp a b ≡ Equal → a ≡ b
+cmp_equal a b e = bytes_eq-same a b (bytes_eq-cmp a b Equal e)
+
+-- ---- along ascending names the comparisons with another rise
+
+rises_from : (a b n : List ℕ) (o : Ordering) → slice_cmp nat_cmp a n ≡ o → slice_cmp nat_cmp a b ≡ Less → ordering_index o ≤ ordering_index (slice_cmp nat_cmp b n)
+rises_from a b n Less is less = omega arith
+rises_from a b n Equal is less =
+    let above : slice_cmp nat_cmp b n ≡ Greater = greater_from_less n b (sym (nat_list_cmp_total.congr a n b is) ∙ less) in
+    rw above (omega arith)
+rises_from a b n Greater is less =
+    let above : slice_cmp nat_cmp b n ≡ Greater = greater_from_less n b (nat_list_cmp_total.trans n a b (less_from_greater a n is) less) in
+    rw above (omega arith)
+
+pub rises : (a b n : List ℕ) → slice_cmp nat_cmp a b ≡ Less → ordering_index (slice_cmp nat_cmp a n) ≤ ordering_index (slice_cmp nat_cmp b n)
+rises a b n less = rises_from a b n (slice_cmp nat_cmp a n) refl less
+
+-- ---- names that begin with a text
+
+-- two names of which one comes first: by their first bytes, or by the rest
+less_parts : (x y : ℕ) (a b : List ℕ) → slice_cmp nat_cmp (x ∷ a) (y ∷ b) ≡ Less → (x < y) ⊎ ((x ≡ y) × (slice_cmp nat_cmp a b ≡ Less))
+less_parts x y a b = by (nat_cmp x y) refl
+  where
+    by : (o : Ordering) → o ≡ nat_cmp x y → ordering_then o (slice_cmp nat_cmp a b) ≡ Less → (x < y) ⊎ ((x ≡ y) × (slice_cmp nat_cmp a b ≡ Less))
+    by Less e less = inl (ranked x y Less e)
+    by Equal e less = inr (ranked x y Equal e, less)
+    by Greater e less = absurd cc
+
+-- a name that comes before a text doesn't begin with it
+pub begins_not-before : (a t : List ℕ) → slice_cmp nat_cmp a t ≡ Less → starts_with nat_eq a t ≡ false
+begins_not-before [] [] less = absurd cc
+begins_not-before [] (y ∷ t) less = refl
+begins_not-before (x ∷ a) [] less = absurd cc
+begins_not-before (x ∷ a) (y ∷ t) less =
+    elim (less_parts x y a t less) [
+      | inl first ↦ grind (arith, nat_tests)
+      | inr rest ↦ let other = begins_not-before a t rest.1 in grind (arith, nat_tests)
+    ]
+
+-- a name between a text and one that begins with the text begins with it too
+pub begins-between : (a b t : List ℕ) → slice_cmp nat_cmp t a ≡ Less → slice_cmp nat_cmp a b ≡ Less → starts_with nat_eq b t ≡ true → starts_with nat_eq a t ≡ true
+begins-between a b [] above less begins = refl
+begins-between [] b (z ∷ t) above less begins = absurd cc
+begins-between (x ∷ a) [] (z ∷ t) above less begins = absurd cc
+begins-between (x ∷ a) (y ∷ b) (z ∷ t) above less begins =
+    let parts = and_parts (nat_eq z y) (starts_with nat_eq b t) begins in
+    let first : z ≡ y = eqb-true z y parts.0 in
+    elim (less_parts z x t a above) [
+      | inl over ↦ elim (less_parts x y a b less) [ inl under ↦ absurd (omega (arith, over, under)) | inr same ↦ absurd (omega (arith, over, same.0)) ]
+      | inr even ↦ elim (less_parts x y a b less) [
+        | inl under ↦ absurd (omega (arith, even.0, under))
+        | inr same ↦ and_from _ _ (eq-eqb z x even.0) (begins-between a b t even.1 same.1 parts.1)
+      ]
+    ]
+
+pub begins-itself : (a : List ℕ) → starts_with nat_eq a a ≡ true
+begins-itself a = rw (take_all (length a) a (omega arith)) (bytes_eq-itself a)

@@ -1,0 +1,222 @@
+//! What character references stand for.
+ghost use Rattle.std.specs.Prelude.{◌≡◌, ℕ, ◌+◌, List, ◌++◌, ◌⊎◌, length, slice_get, IsTrue, IfOk, IfErr, IfSome, IsSomeAnd, OnOk, None, Some, string_bytes};
+ghost use Rattle.std.specs.Cmp.Lexicographic.{slice_cmp};
+ghost use Rattle.std.specs.Char.{is_ascii_alphanumeric};
+ghost use Rattle.std.specs.List.{list_all};
+ghost use Rattle.std.specs.Ordering.{nat_cmp};
+ghost use Rattle.markup5ever.specs.C1.{character_of_c1};
+ghost use Rattle.markup5ever.specs.NamedReferences.{NamedReference, IsTable, begins_name, characters_of_name, is_plain_name, without_semicolon, has_zero, reference_of, references_of, fault_behind, first_fault, in_place, table_of};
+ghost use Rattle.markup5ever.specs.Place.{IsAt, IsGapFor};
+ghost use Rattle.markup5ever.specs.declared.data.TableError.TheVariants.{Memory};
+
+use std::alloc::{AllocError, Allocator, Global};
+use std::cmp::Ordering;
+use std::marker::Model;
+use thiserror::Error;
+
+#[cfg(test)]
+mod tests;
+
+/// A name, without the ampersand before it, and the one or two characters that it stands for.
+pub type Entry<A> = (String<A>, char, Option<char>);
+
+/// Why entries make no table. The number is the place of the entry, from 0.
+#[derive(Clone, Copy, Debug, PartialEq, Eq, Error)]
+pub enum TableError {
+    /// A growth was refused.
+    #[error("out of memory")]
+    Memory,
+    /// A name is not letters and digits with at most one semicolon, at the end.
+    #[error("bad name at {0}")]
+    BadName(usize),
+    /// A character is U+0000.
+    #[error("zero character at {0}")]
+    ZeroCharacter(usize),
+    /// An earlier entry has the name.
+    #[error("repeated name at {0}")]
+    RepeatedName(usize),
+}
+
+impl From<AllocError> for TableError {
+    ghost from_gives = { λ _ error. error ≡ Memory };
+
+    fn from(_error: AllocError) -> TableError {
+        TableError::Memory
+    }
+}
+
+/// The named character references that a tokenizer knows.
+#[derive(Drop)]
+pub struct NamedReferences<A: Allocator = Global> {
+    // In the order of their names.
+    entries: Vec<Entry<A>, A>,
+}
+
+impl<A: Allocator> Model for NamedReferences<A> {
+    ghost use Rattle.std.specs.Prelude.{List};
+    ghost use Rattle.markup5ever.specs.NamedReferences.{NamedReference, references_of, IsTable, IsAscending};
+
+    ghost Value = { List NamedReference };
+
+    ghost view = { λ t. references_of t.entries.items };
+
+    ghost invariant = { λ t. IsTable (references_of t.entries.items) × IsAscending (references_of t.entries.items) };
+}
+
+impl<A: Allocator> NamedReferences<A> {
+    /// The table of these entries, which may come in any order. All of its memory is taken at once, and
+    /// entries that come in the order of their names, by bytes, are taken in without moving others.
+    pub fn check(alloc: A, entries: Vec<Entry<A>, A>) -> Result<NamedReferences<A>, TableError>
+        // What fails, and when.
+        ensures faultless { OnOk result (first_fault (references_of entries.items) ≡ None) }
+        ensures fault { IfErr result (λ error. (error ≡ TableError.Memory) ⊎ (first_fault (references_of entries.items) ≡ Some error)) }
+
+        // The table answers as the entries do.
+        ensures table { IfOk result (λ table. table ≡ table_of (references_of entries.items)) }
+        ensures characters { IfOk result (λ table. (name : List ℕ)
+            → characters_of_name table name ≡ characters_of_name (references_of entries.items) name) }
+        ensures beginnings { IfOk result (λ table. (text : List ℕ)
+            → begins_name table text ≡ begins_name (references_of entries.items) text) }
+    {
+        let mut table = NamedReferences {
+            entries: Vec::with_capacity(alloc, entries.len())?,
+        };
+        for entry in entries {
+            table.add(entry)?;
+        }
+        Ok(table)
+    }
+
+    // Takes in the entry that comes behind those of the table.
+    fn add(&mut self, entry: Entry<A>) -> Result<(), TableError>
+        ensures faultless { OnOk result (fault_behind self.old (reference_of entry) ≡ None) }
+        ensures fault { IfErr result (λ error. (error ≡ TableError.Memory) ⊎ (fault_behind self.old (reference_of entry) ≡ Some error)) }
+        ensures ok { OnOk result (self.new ≡ in_place self.old (reference_of entry)) }
+    {
+        let place = self.entries.len();
+        if !is_plain_name(&entry.0) {
+            return Err(TableError::BadName(place));
+        }
+        if has_zero(&entry) {
+            return Err(TableError::ZeroCharacter(place));
+        }
+        let Err(gap) = self.search(&entry.0) else {
+            return Err(TableError::RepeatedName(place));
+        };
+        if self.entries.insert(gap, entry).is_err() {
+            return Err(TableError::Memory);
+        }
+        Ok(())
+    }
+
+    /// The characters that the name stands for.
+    pub fn get(&self, name: &str) -> Option<(char, Option<char>)>
+        ensures characters { result ≡ characters_of_name self.now name.now }
+        ensures table { IsTable self.now }
+    {
+        match self.search(name) {
+            Ok(place) => {
+                let (_, first, second) = &self.entries[place];
+                Some((*first, *second))
+            }
+            Err(_) => None,
+        }
+    }
+
+    /// Whether a name begins with the text.
+    pub fn is_prefix(&self, text: &str) -> bool
+        ensures begins { result ≡ begins_name self.now text.now }
+        ensures table { IsTable self.now }
+    {
+        match self.search(text) {
+            Ok(_) => true,
+            Err(gap) => match self.entries.get(gap) {
+                Some(entry) => entry.0.as_bytes().starts_with(text.as_bytes()),
+                None => false,
+            },
+        }
+    }
+
+    // Where the name stands, or where it would.
+    fn search(&self, name: &str) -> Result<usize, usize>
+        ensures found { IfOk result (IsAt self.now name.now) }
+        ensures absent { IfErr result (IsGapFor self.now name.now) }
+    {
+        self.entries.binary_search_by(|entry| order_of(entry, name))
+    }
+}
+
+// How the entry stands to the name, in the order of names.
+fn order_of<A: Allocator>(entry: &Entry<A>, name: &str) -> Ordering
+    ensures { result ≡ slice_cmp nat_cmp (string_bytes entry.now.0) name.now }
+{
+    entry.0.as_str().cmp(name)
+}
+
+// Whether these are letters and digits, with at most one semicolon, at the end.
+#[tactic(auto, unfolding(crate::specs::NamedReferences::is_plain_name))]
+fn is_plain_name(name: &str) -> bool
+    ensures { result ≡ is_plain_name name.now }
+{
+    let letters = without_semicolon(name.as_bytes());
+    !letters.is_empty() && is_alphanumeric(letters)
+}
+
+// Whether these are ASCII letters and digits alone.
+fn is_alphanumeric(bytes: &[u8]) -> bool
+    ensures { result ≡ list_all is_ascii_alphanumeric bytes.now }
+{
+    bytes.iter().all(|byte| byte.is_ascii_alphanumeric())
+}
+
+// The name without a semicolon at its end.
+fn without_semicolon(name: &[u8]) -> &[u8]
+    ensures { result.now ≡ without_semicolon name.now }
+{
+    name.strip_suffix(b";").unwrap_or(name)
+}
+
+// Whether one of the characters is U+0000.
+#[tactic(auto, unfolding(crate::specs::NamedReferences::has_zero))]
+fn has_zero<A: Allocator>(entry: &Entry<A>) -> bool
+    ensures { result ≡ has_zero (reference_of entry.now) }
+{
+    entry.1 == '\0' || entry.2 == Some('\0')
+}
+
+/// The character that a numeric reference to a C1 control stands for, if it is another.
+#[tactic(auto, unfolding(crate::specs::C1::character_of_c1))]
+pub fn c1_replacement(number: u8) -> Option<char>
+    ensures { result ≡ character_of_c1 number }
+{
+    match number {
+        0x80 => Some('\u{20AC}'),
+        0x82 => Some('\u{201A}'),
+        0x83 => Some('\u{0192}'),
+        0x84 => Some('\u{201E}'),
+        0x85 => Some('\u{2026}'),
+        0x86 => Some('\u{2020}'),
+        0x87 => Some('\u{2021}'),
+        0x88 => Some('\u{02C6}'),
+        0x89 => Some('\u{2030}'),
+        0x8A => Some('\u{0160}'),
+        0x8B => Some('\u{2039}'),
+        0x8C => Some('\u{0152}'),
+        0x8E => Some('\u{017D}'),
+        0x91 => Some('\u{2018}'),
+        0x92 => Some('\u{2019}'),
+        0x93 => Some('\u{201C}'),
+        0x94 => Some('\u{201D}'),
+        0x95 => Some('\u{2022}'),
+        0x96 => Some('\u{2013}'),
+        0x97 => Some('\u{2014}'),
+        0x98 => Some('\u{02DC}'),
+        0x99 => Some('\u{2122}'),
+        0x9A => Some('\u{0161}'),
+        0x9B => Some('\u{203A}'),
+        0x9C => Some('\u{0153}'),
+        0x9E => Some('\u{017E}'),
+        0x9F => Some('\u{0178}'),
+        _ => None,
+    }
+}
