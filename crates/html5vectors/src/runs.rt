@@ -11,16 +11,18 @@ const LETTERS: usize = 1000;
 
 #[test]
 fn a_run_that_is_all_that_waits_takes_no_memory(rt: HostRuntime) -> Result<(), Fail> {
-    // The text itself is the one request.
-    let heap = Refusing::new(rt.alloc(), 1);
     let mut text = String::new(rt.alloc());
     for _ in 0..LETTERS {
         text.push('a')?;
     }
-    let mut queue = BufferQueue::new(&heap);
-    push_text(&heap, &mut queue, &text)?;
+    // Each of the two texts is a request, and so is the stream's first character, which is read alone.
+    let heap = Refusing::new(rt.alloc(), 3);
     let sink = FaultySink::new(LETTERS, false);
     let mut tokenizer = Tokenizer::new(&heap, sink, options(false, false));
+    let mut queue = BufferQueue::new(&heap);
+    push_text(&heap, &mut queue, "b")?;
+    assert!(rt; matches!(tokenizer.feed(&mut queue), Ok(TokenizerResult::Done)));
+    push_text(&heap, &mut queue, &text)?;
     assert!(rt; matches!(tokenizer.feed(&mut queue), Ok(TokenizerResult::Done)));
     assert!(rt; queue.is_empty());
     assert!(rt; !heap.has_refused());
