@@ -12,3 +12,4 @@ pub mod OneTagParts
 pub mod OneTagReading
 pub mod OneTagCollected
 mod OneTagCases
+mod ReferenceCases

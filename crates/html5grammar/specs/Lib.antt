@@ -3,6 +3,7 @@ pub mod Start
 pub mod NormalisedText
 pub mod ErrorText
 pub mod Slice
+pub mod Reference
 pub mod Tag
 pub mod Text
 pub mod EndOfInput

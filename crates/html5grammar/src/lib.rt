@@ -5,7 +5,7 @@
 ghost use Rattle.std.specs.Prelude.{◌≡◌, ℕ, Bool, List, ◌++◌};
 ghost use Rattle.html5ever_interface.specs.Sink.{Message, stepped};
 ghost use Rattle.html5grammar.specs.Reading.{told, messages, after};
-ghost use Rattle.html5grammar.specs.Start.{Start};
+ghost use Rattle.html5grammar.specs.Start.{Start, Rules};
 
 use html5ever_interface::interface::sink::TokenSink;
 use html5ever_interface::interface::token::Token;
@@ -15,20 +15,20 @@ use std::alloc::Allocator;
 /// start behind that part, in the state of the sink that the first part leaves. So a reader may
 /// forget all but that start, wherever a text is cut.
 pub fn forgetting<S: TokenSink<Token<A>>, A: Allocator>()
-    ensures told { (exact : Bool) (K : Start) (s : S.State) (text rest : List ℕ) →
-        messages (told S.step S.reply exact K s (text ++ rest))
-        ≡ messages (told S.step S.reply exact K s text)
-        ++ messages (told S.step S.reply exact (after S.step S.reply exact K s text)
-        (stepped S.step s (messages (told S.step S.reply exact K s text))) rest) }
-    ensures after { (exact : Bool) (K : Start) (s : S.State) (text rest : List ℕ) →
-        after S.step S.reply exact K s (text ++ rest)
-        ≡ after S.step S.reply exact (after S.step S.reply exact K s text)
-        (stepped S.step s (messages (told S.step S.reply exact K s text))) rest }
+    ensures told { (rules : Rules) (K : Start) (s : S.State) (text rest : List ℕ) →
+        messages (told S.step S.reply rules K s (text ++ rest))
+        ≡ messages (told S.step S.reply rules K s text)
+        ++ messages (told S.step S.reply rules (after S.step S.reply rules K s text)
+        (stepped S.step s (messages (told S.step S.reply rules K s text))) rest) }
+    ensures after { (rules : Rules) (K : Start) (s : S.State) (text rest : List ℕ) →
+        after S.step S.reply rules K s (text ++ rest)
+        ≡ after S.step S.reply rules (after S.step S.reply rules K s text)
+        (stepped S.step s (messages (told S.step S.reply rules K s text))) rest }
 {}
 
 /// What is told of a text is a beginning of what is told of it and more.
 pub fn beginning<S: TokenSink<Token<A>>, A: Allocator>()
-    ensures { (exact : Bool) (K : Start) (s : S.State) (text rest : List ℕ) → (later : List Message)
-        × (messages (told S.step S.reply exact K s (text ++ rest))
-        ≡ messages (told S.step S.reply exact K s text) ++ later) }
+    ensures { (rules : Rules) (K : Start) (s : S.State) (text rest : List ℕ) → (later : List Message)
+        × (messages (told S.step S.reply rules K s (text ++ rest))
+        ≡ messages (told S.step S.reply rules K s text) ++ later) }
 {}

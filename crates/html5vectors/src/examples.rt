@@ -1,5 +1,6 @@
 //! What README.md shows of the library.
 use crate::lines::lines_of;
+use crate::names::profile;
 use crate::sinks::Steering;
 use html5examples::{read_with_script, tokens_of};
 use std::test::Fail;
@@ -9,7 +10,8 @@ fn tells_what_two_pieces_tell(rt: HostRuntime) -> Result<(), Fail> {
     let alloc = rt.alloc();
     let first = String::from_str(alloc, "<p cla")?;
     let second = String::from_str(alloc, "ss=a>text")?;
-    let sink = tokens_of(alloc, first, second)?;
+    let names = profile(alloc)?;
+    let sink = tokens_of(alloc, &names, first, second)?;
     assert!(rt; sink.is_finished());
     assert_eq!(rt;
         lines_of(alloc, sink.entries())?.as_str(),
@@ -31,7 +33,8 @@ fn puts_in_what_a_script_wrote(rt: HostRuntime) -> Result<(), Fail> {
     for (text, lines) in cases {
         let text = String::from_str(alloc, text)?;
         let written = String::from_str(alloc, "<b>")?;
-        let sink = read_with_script(alloc, Steering::new(alloc), text, written)?;
+        let names = profile(alloc)?;
+        let sink = read_with_script(alloc, Steering::new(alloc), &names, text, written)?;
         assert!(rt; sink.inner.is_finished(), "{lines}");
         assert_eq!(rt; lines_of(alloc, sink.inner.entries())?.as_str(), lines);
     }

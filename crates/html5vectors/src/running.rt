@@ -3,6 +3,7 @@ ghost use Rattle.std.specs.Prelude.{◌≡◌};
 ghost use Rattle.html5ever.specs.Tokenizer.{CanStart};
 
 use crate::lines::lines_of;
+use crate::names::profile;
 use html5ever::tokenizer::{Tokenizer, TokenizerResult};
 use html5ever_interface::collect::Collector;
 use html5ever_interface::options::TokenizerOpts;
@@ -43,7 +44,7 @@ pub fn push_text<A: Allocator + Copy>(
 fn feed_piece(
     rt: &impl Abort,
     alloc: Global,
-    tokenizer: &mut Tokenizer<Collector>,
+    tokenizer: &mut Tokenizer<'_, Collector>,
     queue: &mut BufferQueue,
     piece: &str,
 ) -> Result<(), AllocError> {
@@ -58,7 +59,7 @@ fn feed_piece(
 fn end_of(
     rt: &impl Abort,
     alloc: Global,
-    mut tokenizer: Tokenizer<Collector>,
+    mut tokenizer: Tokenizer<'_, Collector>,
 ) -> Result<String, AllocError> {
     assert!(rt; !tokenizer.is_ended());
     assert_eq!(rt; tokenizer.end(), Ok(()));
@@ -78,7 +79,8 @@ fn lines_of_pieces(
 ) -> Result<String, AllocError>
     requires starts { CanStart opts.initial_state }
 {
-    let mut tokenizer = Tokenizer::new(alloc, Collector::new(alloc, false), opts);
+    let names = profile(alloc)?;
+    let mut tokenizer = Tokenizer::new(alloc, Collector::new(alloc, false), opts, &names);
     let mut queue = BufferQueue::new(alloc);
     for piece in pieces {
         feed_piece(rt, alloc, &mut tokenizer, &mut queue, piece)?;
@@ -95,7 +97,8 @@ fn lines_of_characters(
 ) -> Result<String, AllocError>
     requires starts { CanStart opts.initial_state }
 {
-    let mut tokenizer = Tokenizer::new(alloc, Collector::new(alloc, false), opts);
+    let names = profile(alloc)?;
+    let mut tokenizer = Tokenizer::new(alloc, Collector::new(alloc, false), opts, &names);
     let mut queue = BufferQueue::new(alloc);
     for c in text.chars() {
         let mut piece = String::new(alloc);

@@ -1,3 +1,4 @@
+use Rattle.html5ever.specs.Tokenizer.{rules_of}
 use Rattle.std.proofs.Common.{◌∙◌, ap, refl, Err}
 use Rattle.std.specs.Str.{chars}
 use Rattle.std.specs.String.{string_bytes}
@@ -14,19 +15,19 @@ use Rattle.html5ever.proofs.tokenizer.laws.tag.Goals as goal
 pub returns-in-Ok-clause-tag : goal.returns-in-Ok-clause-tag
 returns-in-Ok-clause-tag g c = λ tag one.
     let holds = rw (c.in-Ok.is, c.new-sink.ensures.collected) at c.closed-sink.ensures.finishes in
-    holds ∙ collects-tag (Unit {0}) c.args.opts.exact_errors (start_of (options_of c.args.opts)) c.args.foreign (chars (string_bytes c.args.text)) tag one
+    holds ∙ collects-tag (Unit {0}) (rules_of (options_of c.args.opts) c.args.names.now) (start_of (options_of c.args.opts)) c.args.foreign (chars (string_bytes c.args.text)) tag one
 
 pub returns-in-Err-clause-not_failed : goal.returns-in-Err-clause-not_failed
 returns-in-Err-clause-not_failed g c =
     let stops = rw c.in-Err.is at c.closed-sink.ensures.stops in
     whole-not_failed collected_step collected_faulted (λ s. s) c.in-Err.error c.new-sink.result.collected
-    (messages (reading collected_step (collected_reply {H = Unit {0}}) c.args.opts.exact_errors (start_of (options_of c.args.opts)) c.new-sink.result.collected (chars (string_bytes c.args.text))))
+    (messages (reading collected_step (collected_reply {H = Unit {0}}) (rules_of (options_of c.args.opts) c.args.names.now) (start_of (options_of c.args.opts)) c.new-sink.result.collected (chars (string_bytes c.args.text))))
     c.closed-sink.result.0.collected stops
 
 pub returns-in-Err-clause-refusals : goal.returns-in-Err-clause-refusals
 returns-in-Err-clause-refusals g c = λ tag one.
     whole-refusal c.in-Err.error _ (returns-in-Err-clause-not_failed g c) (λ same. c.closed-sink.ensures.not_yet (c.in-Err.is ∙ ap Err same))
-    (rw (after-tag collected_step (collected_reply {H = Unit {0}}) c.args.opts.exact_errors (start_of (options_of c.args.opts)) c.new-sink.result.collected (chars (string_bytes c.args.text)) tag (λ t line. refl) one) tt)
+    (rw (after-tag collected_step (collected_reply {H = Unit {0}}) (rules_of (options_of c.args.opts) c.args.names.now) (start_of (options_of c.args.opts)) c.new-sink.result.collected (chars (string_bytes c.args.text)) tag (λ t line. refl) one) tt)
 
 pub returns-in-Err-clause-not_yet : goal.returns-in-Err-clause-not_yet
 returns-in-Err-clause-not_yet g c = λ same.
