@@ -1,7 +1,7 @@
 #!/usr/bin/env python3
 """Times html5tok beside html5ever itself, and prints tables.
 
-    python3 bench/bench.py [--quick] [--program PATH] [--without-beside] [--references]
+    python3 bench/bench.py [--quick] [--program PATH] [--without-beside]
 
 html5ever is Debian's package of it, behind a program of ours that prints the same lines (beside/main.rs); build.py
 builds it anew in each call. Where it can't be built, html5tok is timed alone. A time is the processor time of a
@@ -50,16 +50,21 @@ QUICK = Sizes(runs=2, megabytes=1, odd=MB // 10, long=MB // 2, attributes=1_000,
 
 
 class Case(NamedTuple):
-    """A text to read, and the words that it is read with."""
+    """A text to read, and the words that it is read with: those of both programs, and those of html5tok alone."""
 
     name: str
     text: bytes
     words: list
+    ours: list = []
 
 
-def cases(sizes, references):
+def cases(sizes):
     """The cases of the first table, each made when it is asked for."""
-    yield Case(f"pages, {sizes.megabytes} MB", corpora.pages(sizes.megabytes, references), [])
+    table = ["--table", corpora.table()]
+    yield Case(f"pages, {sizes.megabytes} MB", corpora.pages(sizes.megabytes), [])
+    yield Case(f"pages of entities, {sizes.megabytes} MB", corpora.entity_pages(sizes.megabytes), [], table)
+    yield Case(f"{sizes.odd:,} `&`", b"&" * sizes.odd, [], table)
+    yield Case(f"a number of {sizes.long / MB:g} MB", corpora.long_number(sizes.long), [], table)
     yield Case(f"plain text, {sizes.megabytes} MB", corpora.plain_text(sizes.megabytes), ["--state", "plaintext"])
     yield Case(f"{sizes.odd:,} `<`", b"<" * sizes.odd, [])
     yield Case(f"{sizes.odd:,} NULs", b"\0" * sizes.odd, [])
@@ -69,10 +74,15 @@ def cases(sizes, references):
     yield Case(f"{sizes.attributes:,} attributes of a tag", corpora.many_attributes(sizes.attributes), [])
 
 
-def linear_cases(sizes, references):
+def linear_cases(sizes):
     """The cases of the second table: kinds of input, each in several sizes."""
     for megabytes in sizes.linear:
-        yield Case("pages, whole", corpora.pages(megabytes, references), [])
+        yield Case("pages, whole", corpora.pages(megabytes), [])
+    table = ["--table", corpora.table()]
+    for megabytes in sizes.linear[::2]:
+        yield Case("pages of entities, whole", corpora.entity_pages(megabytes), [], table)
+    for size in (sizes.long // 8, sizes.long):
+        yield Case("a number, whole", corpora.long_number(size), [])
     for size in (MB // 8, MB):
         yield Case("characters, `--cut 1`", corpora.ascii_text(size), ["--cut", "1"])
     for size in (sizes.long // 8, sizes.long):
@@ -92,11 +102,11 @@ def time_and_speed(seconds, size):
     return f"{seconds:.3f}", f"{size / max(seconds, 1e-6) / MB:.1f}"
 
 
-def outputs(programs, words, corpus):
-    """What each program prints, in files, and the peak of the first program."""
+def outputs(turns):
+    """What each turn prints, in files, and the peak of the first."""
     files = []
     peaks = []
-    for number, program in enumerate(programs):
+    for number, (program, words, corpus) in enumerate(turns):
         files.append(corpus.with_suffix(f".{number}"))
         peaks.append(measure.print_to(program, words, corpus, files[-1]))
     return files, peaks[0]
@@ -105,8 +115,10 @@ def outputs(programs, words, corpus):
 def measure_setting(programs, case, setting, corpus, runs):
     """Prints the row of a case and a setting. The first program is ours; the other, if any, html5ever's."""
     words = case.words + SETTINGS[setting]
-    files, peak = outputs(programs, words, corpus)
-    times = measure.best_times([(program, words, corpus) for program in programs], runs)
+    turns = [(program, words, corpus) for program in programs]
+    turns[0] = (programs[0], words + case.ours, corpus)
+    files, peak = outputs(turns)
+    times = measure.best_times(turns, runs)
     ours = time_and_speed(times[0], len(case.text))
     if len(programs) == 1:
         print_row(case.name, setting, *ours, f"{peak / MB:.1f}")
@@ -130,7 +142,7 @@ def measure_case(programs, case, folder, runs):
             sys.exit(f"{case.name}: what html5tok prints differs by the cut")
 
 
-def compare(programs, sizes, references, folder):
+def compare(programs, sizes, folder):
     """The first table."""
     if len(programs) == 1:
         print()
@@ -139,19 +151,19 @@ def compare(programs, sizes, references, folder):
         print(NOTES)
         ours = ["Ours, s", "MB/s", "Ratio", "Our peak, MB"]
         print_header("Case", "Setting", "html5ever, s", "MB/s", *ours, "Lines that differ")
-    for case in cases(sizes, references):
+    for case in cases(sizes):
         measure_case(programs, case, folder, sizes.runs)
 
 
-def check_linear(program, sizes, references, folder):
+def check_linear(program, sizes, folder):
     """The second table: seconds per MB stay the same where the time is linear."""
     rows = []
     turns = []
-    for number, case in enumerate(linear_cases(sizes, references)):
+    for number, case in enumerate(linear_cases(sizes)):
         corpus = folder / f"linear.{number}"
         corpus.write_bytes(case.text)
         rows.append((case.name, len(case.text) / MB))
-        turns.append((program, case.words, corpus))
+        turns.append((program, case.words + case.ours, corpus))
     print()
     print_header("Case", "MB", "Seconds", "Seconds per MB")
     for (name, megabytes), seconds in zip(rows, measure.best_times(turns, sizes.runs)):
@@ -163,7 +175,6 @@ def options():
     parser.add_argument("--quick", action="store_true", help="small texts, and the best of two runs")
     parser.add_argument("--program", type=pathlib.Path, default=PROGRAM, help="the program to time")
     parser.add_argument("--without-beside", action="store_true", help="time html5tok alone")
-    parser.add_argument("--references", action="store_true", help="pages have character references too")
     return parser.parse_args()
 
 
@@ -191,8 +202,8 @@ def main():
         if not chosen.without_beside:
             programs += beside(folder / "beside")
         print(f"Processor seconds, the best of {sizes.runs} runs.")
-        compare(programs, sizes, chosen.references, folder)
-        check_linear(program, sizes, chosen.references, folder)
+        compare(programs, sizes, folder)
+        check_linear(program, sizes, folder)
 
 
 if __name__ == "__main__":

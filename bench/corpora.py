@@ -1,5 +1,6 @@
 """The texts that are timed. All are made here, from one seed, and none has a comment, a doctype or a `meta`."""
 
+import html.entities
 import random
 
 SEED = 20
@@ -10,7 +11,7 @@ ASCII_WORDS = (
 ).split()
 WORDS = ASCII_WORDS * 3 + "café naïve Größe señor Ελλάδα слово 日本語 한국어 עברית 🦊 𝄞".split()
 PLAIN_WORDS = WORDS + '"quoted" <p> </p> &amp; 1<2 back\\slash'.split()
-# What stands between the words of pages where references are asked for.
+# What stands between the words of pages of entities.
 REFERENCES = "&amp; &lt;b&gt; &nbsp; &copy;2024 caf&eacute; &#233; &#x1F98A; R&D".split()
 BLOCKS = [
     '<div class="card wide" id=card-{n}>\n',
@@ -19,7 +20,7 @@ BLOCKS = [
     "<p>{many}</p>\n",
     '<p class="lead">{many} <a href="/topics/{word}/{n}.html" title="{some}">{some}</a> {many}</p>\n',
     "<p>{many}, <em>{word}</em> {some} <b>{some}</b>.<br/>\n{many}</p>\n",
-    '<ul class="menu">\n  <li><a href="/{n}">{some}</a></li>\n  <li>{some}\n</ul>\n',
+    '<ul class="menu">\n  <li><a href="/{n}">{some}</a></li>\n  <li>{some}.\n</ul>\n',
     '<img src="/images/{n}.png" alt="{some}" width=640 height=480 />\n',
     "<TABLE BORDER=0><TR><TD CLASS=num>{n}</TD><TD>{some}</TD></TR></TABLE>\n",
     '<form action="/search?page={n}"><input type=text name=q value=""><input type=checkbox checked></form>\n',
@@ -59,11 +60,22 @@ def filled(size, part):
     return b"".join(parts) + b"." * left
 
 
-def pages(megabytes, references=False):
+def table():
+    """The standard's 2,231 named references, as html5tok takes a table."""
+    names = html.entities.html5.items()
+    return ",".join(f"{name}={'+'.join(f'{ord(c):X}' for c in text)}" for name, text in sorted(names))
+
+
+def pages(megabytes):
     """One megabyte of pages, so many times."""
     chance = random.Random(SEED)
-    words = WORDS + REFERENCES if references else WORDS
-    return filled(MB, lambda: block(chance, words)) * megabytes
+    return filled(MB, lambda: block(chance, WORDS)) * megabytes
+
+
+def entity_pages(megabytes):
+    """The same, where about one word in ten is or has a character reference."""
+    chance = random.Random(SEED)
+    return filled(MB, lambda: block(chance, WORDS + REFERENCES * 2)) * megabytes
 
 
 def plain_text(megabytes):
@@ -83,6 +95,11 @@ def long_value(size):
 
 def long_name(size):
     return b"<" + b"n" * size + b">"
+
+
+def long_number(size):
+    """A numeric reference of so many digits."""
+    return b"&#" + b"7" * size + b";"
 
 
 def many_attributes(count):

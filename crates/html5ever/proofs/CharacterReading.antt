@@ -3,24 +3,23 @@ use Rattle.std.proofs.Common.{◌≡◌, ℕ, Bool, true, false, List, [], ◌�
 use Rattle.std.specs.Prelude.{◌&&◌}
 use Rattle.std.proofs.lemmas.Bool.{and_parts, false≢true}
 use Rattle.std.proofs.lemmas.List.{append-nil, append_assoc, map-append}
-use Rattle.html5ever_interface.specs.Sink.{stepped, on_line}
+use Rattle.html5ever_interface.specs.Sink.{Message, stepped, on_line}
 use Rattle.html5ever_interface.specs.Token.{Told, TagOf, Reply}
 use Rattle.html5ever_interface.specs.Token.Told.{Tag}
 use Rattle.html5ever_interface.specs.declared.states.State.{State}
 use Rattle.html5ever_interface.specs.declared.states.State.TheVariants as state
 use Rattle.html5grammar.specs.Characters.{is_bad_character}
 use Rattle.html5grammar.specs.ErrorText.{bad_character_error}
-use Rattle.html5grammar.specs.Reading.{Here, open_after_reply, told, messages, after}
-use Rattle.html5grammar.specs.NormalisedText.{normalised, input_after}
+use Rattle.html5grammar.specs.Reading.{Here, open_after_reply}
 use Rattle.html5grammar.specs.Reading.Here.{Tells, TellsTag, Stops}
-use Rattle.html5grammar.specs.Start.{Input, Start, Mode, Open}
+use Rattle.html5grammar.specs.Start.{Mode, Open, Rules, is_reference}
 use Rattle.html5grammar.specs.Start.Mode.{Data}
-use Rattle.html5grammar.specs.Start.Open.{Between, NotBuilt}
+use Rattle.html5grammar.specs.Start.Open.{Between, LessThan, LessThanSolidus, InTag, InReference, NotBuilt}
 use Rattle.html5grammar.specs.Start.Place.{InName, BeforeAttribute, InAttributeName, AfterAttributeName, BeforeValue, InValue, AfterQuotedValue, AfterSolidus}
 use Rattle.html5grammar.proofs.Going.{Goes, bad_goes_tag, bad_goes_data, bad_goes_plain, bad_goes_less_than, bad_stops}
-use Rattle.html5grammar.proofs.Machine.{step_at}
-use Rattle.html5grammar.proofs.ReadingLemmas.{messages_here, opened_here, told-none, after-none, told-one, after-one}
+use Rattle.html5grammar.proofs.Machine.{step_at, messages_here, opened_here}
 use Rattle.html5ever_interface.proofs.Steppings.{stepped-append}
+use Rattle.html5states.specs.CharRef.{with_reference}
 use Rattle.html5states.specs.CurrentTag.{open_of, open_tag, stops_at_bad}
 use Rattle.html5states.specs.Steps.{tokens_of, Next, behind}
 use Rattle.html5states.specs.Steps.Next.{Opens, Closes}
@@ -53,6 +52,28 @@ goes_at_bad exact (state.AttributeValue kind) tag c bad goes = bad_goes_tag exac
 goes_at_bad exact state.AfterAttributeValueQuoted tag c bad goes = bad_goes_tag exact c bad AfterQuotedValue (open_tag tag)
 goes_at_bad exact state.SelfClosingStartTag tag c bad goes = bad_goes_tag exact c bad AfterSolidus (open_tag tag)
 goes_at_bad exact other tag c bad goes = absurd (false≢true (sym goes))
+
+-- where no reference is open, and where one is
+pub with_reference-none : (is_in : Bool) (held : List ℕ) (opened : Open) → is_reference (with_reference is_in held opened) ≡ false
+    → (later : Open) → with_reference is_in held later ≡ later
+unfolding with_reference
+with_reference-none true held opened h later = absurd (false≢true (sym h))
+with_reference-none false held opened h later = refl
+
+pub open_of-no_reference : {Z : Type 0} → (q : State) (t : CurrentTag Z) → is_reference (open_of q t) ≡ false
+open_of-no_reference state.Data t = refl
+open_of-no_reference state.Plaintext t = refl
+open_of-no_reference state.TagOpen t = refl
+open_of-no_reference state.EndTagOpen t = refl
+open_of-no_reference state.TagName t = refl
+open_of-no_reference state.BeforeAttributeName t = refl
+open_of-no_reference state.AttributeName t = refl
+open_of-no_reference state.AfterAttributeName t = refl
+open_of-no_reference state.BeforeAttributeValue t = refl
+open_of-no_reference (state.AttributeValue kind) t = refl
+open_of-no_reference state.AfterAttributeValueQuoted t = refl
+open_of-no_reference state.SelfClosingStartTag t = refl
+open_of-no_reference other t = refl
 
 -- the tag that is told last, where one ends
 abbrev pub tag_in : Next → List Told
@@ -111,79 +132,70 @@ no_tags-tokens (Tells told later) none = none
 no_tags-tokens (TellsTag told tag) none = none
 no_tags-tokens (Stops told) none = none
 
-module _ {S H : Type 0} (step : S → Told → ℕ → S) (reply : S → Told → ℕ → Reply H) (exact : Bool) where
+module _ {S H : Type 0} (step : S → Told → ℕ → S) (reply : S → Told → ℕ → Reply H) (rules : Rules) where
   -- nothing but the tag that ends pauses
   pub pause-character : ((s : S) (told : Told) (line : ℕ) → is_tag told ≡ false → reply s told line ≡ KeepOn)
       → (s : S) (line d : ℕ) (opened : Open) (last : List Told)
-      → first_pause step reply s (on_line line ((bad_character_error exact d ++ tokens_of (step_at exact opened d)) ++ last))
-      ≡ first_pause step reply (stepped step s (on_line line (bad_character_error exact d ++ tokens_of (step_at exact opened d)))) (on_line line last)
+      → first_pause step reply s (on_line line ((bad_character_error rules.exact d ++ tokens_of (step_at rules.exact opened d)) ++ last))
+      ≡ first_pause step reply (stepped step s (on_line line (bad_character_error rules.exact d ++ tokens_of (step_at rules.exact opened d)))) (on_line line last)
   pause-character keeps_on s line d opened last =
-      let tokens : List Told = bad_character_error exact d ++ tokens_of (step_at exact opened d) in
+      let tokens : List Told = bad_character_error rules.exact d ++ tokens_of (step_at rules.exact opened d) in
       let quiet : first_pause step reply s (on_line line tokens) ≡ KeepOn =
       first_pause-no_tags step reply keeps_on s (on_line line tokens)
-      (no_tag_messages line tokens (no_tags-append _ _ (no_tags-bad exact d) (no_tags-tokens (step_at exact opened d) (no_tags-step_at exact d opened)))) in
+      (no_tag_messages line tokens (no_tags-append _ _ (no_tags-bad rules.exact d) (no_tags-tokens (step_at rules.exact opened d) (no_tags-step_at rules.exact d opened)))) in
       ap (first_pause step reply s) (map-append (λ (token : Told). record { token = token; line = line }) tokens last)
       ∙ first_pause-append step reply s (on_line line tokens) (on_line line last)
       ∙ rw quiet refl
 
-  no_bad_character : (d : ℕ) (bad : Bool) → (exact && is_bad_character d) ≡ bad → (bad ≡ true → ⊥) → bad_character_error exact d ≡ []
+  no_bad_character : (d : ℕ) (bad : Bool) → (rules.exact && is_bad_character d) ≡ bad → (bad ≡ true → ⊥) → bad_character_error rules.exact d ≡ []
   no_bad_character d true h excluded = absurd (excluded refl)
   no_bad_character d false h excluded = rw h refl
 
   -- nothing but what goes on has a bad character in front; a tag that ends is told last
-  messages-tokens : (line d : ℕ) (h : Here Open) → ((exact && is_bad_character d) ≡ true → Goes h)
-      → messages_here step reply exact line d h ≡ on_line line ((bad_character_error exact d ++ tokens_of h) ++ tag_in (behind h))
+  messages-tokens : (line d : ℕ) (h : Here Open) → ((rules.exact && is_bad_character d) ≡ true → Goes h)
+      → messages_here step reply rules line d h ≡ on_line line ((bad_character_error rules.exact d ++ tokens_of h) ++ tag_in (behind h))
   unfolding messages_here tokens_of behind
-  messages-tokens line d (Tells told later) goes = ap (on_line line) (sym (append-nil (bad_character_error exact d ++ told)))
+  messages-tokens line d (Tells told later) goes = ap (on_line line) (sym (append-nil (bad_character_error rules.exact d ++ told)))
   messages-tokens line d (TellsTag told tag) goes = refl
   messages-tokens line d (Stops before) goes =
-      rw (no_bad_character d (exact && is_bad_character d) refl goes, append-nil before) refl
+      rw (no_bad_character d (rules.exact && is_bad_character d) refl goes, append-nil before) refl
 
   -- the reply to a tag is asked behind all that was told before
   opened-behind : (s : S) (line d : ℕ) (h : Here Open)
-      → opened_here step reply exact s line d h ≡ open_behind reply (stepped step s (on_line line (bad_character_error exact d ++ tokens_of h))) line (behind h)
+      → opened_here step reply rules s line d h ≡ open_behind reply (stepped step s (on_line line (bad_character_error rules.exact d ++ tokens_of h))) line (behind h)
   unfolding opened_here tokens_of behind
   opened-behind s line d (Tells told later) = refl
   opened-behind s line d (TellsTag told tag) = refl
   opened-behind s line d (Stops told) = refl
 
-  -- a character that is dropped
-  module _ {Z : Type 0} (now : State) (tag : CurrentTag Z) (input : Input) (s : S) (c : ℕ) (none : normalised input (c ∷ []) ≡ []) where
-    pub told-dropped : messages (told step reply exact (record { opened = open_of now tag; input = input }) s (c ∷ [])) ≡ []
-    told-dropped = told-none step reply exact (record { opened = open_of now tag; input = input }) s c none
+  -- a character in a state, where a bad one that begins what isn't built yet was excluded
+  module _ {Z : Type 0} (now : State) (tag : CurrentTag Z) (s : S) (line d : ℕ) where
+    abbrev told_here : List Message
+    told_here = messages_here step reply rules line d (step_at rules.exact (open_of now tag) d)
 
-    pub after-dropped : (after step reply exact (record { opened = open_of now tag; input = input }) s (c ∷ [])).opened ≡ open_of now tag
-    after-dropped = ap (λ (P : Start). P.opened) (after-none step reply exact (record { opened = open_of now tag; input = input }) s c none)
+    abbrev behind_here : Open
+    behind_here = opened_here step reply rules s line d (step_at rules.exact (open_of now tag) d)
 
-  -- a character that is read for c, where a bad one that begins what isn't built yet was excluded
-  module _ {Z : Type 0} (now : State) (tag : CurrentTag Z) (input : Input) (s : S) (c d : ℕ) (one : normalised input (c ∷ []) ≡ d ∷ []) where
-    abbrev start : Start
-    start = record { opened = open_of now tag; input = input }
-
-    goes_on : (exact && is_bad_character d && stops_at_bad now) ≡ false → (exact && is_bad_character d) ≡ true → Goes (step_at exact (open_of now tag) d)
+    goes_on : (rules.exact && is_bad_character d && stops_at_bad now) ≡ false → (rules.exact && is_bad_character d) ≡ true → Goes (step_at rules.exact (open_of now tag) d)
     goes_on not_stopped both =
-        goes_at_bad exact now tag d (and_parts exact (is_bad_character d) both).1 (rw both at not_stopped)
+        goes_at_bad rules.exact now tag d (and_parts rules.exact (is_bad_character d) both).1 (rw both at not_stopped)
 
-    told-character : (exact && is_bad_character d && stops_at_bad now) ≡ false
-        → messages (told step reply exact start s (c ∷ []))
-        ≡ on_line (input_after input (c ∷ [])).line ((bad_character_error exact d ++ tokens_of (step_at exact (open_of now tag) d)) ++ tag_in (behind (step_at exact (open_of now tag) d)))
-    told-character not_stopped =
-        told-one step reply exact start s c d one
-        ∙ messages-tokens (input_after input (c ∷ [])).line d (step_at exact (open_of now tag) d) (goes_on not_stopped)
+    told-character : (rules.exact && is_bad_character d && stops_at_bad now) ≡ false
+        → told_here
+        ≡ on_line line ((bad_character_error rules.exact d ++ tokens_of (step_at rules.exact (open_of now tag) d)) ++ tag_in (behind (step_at rules.exact (open_of now tag) d)))
+    told-character not_stopped = messages-tokens line d (step_at rules.exact (open_of now tag) d) (goes_on not_stopped)
 
-    after-character : (after step reply exact start s (c ∷ [])).opened
-        ≡ open_behind reply (stepped step s (on_line (input_after input (c ∷ [])).line (bad_character_error exact d ++ tokens_of (step_at exact (open_of now tag) d)))) (input_after input (c ∷ [])).line (behind (step_at exact (open_of now tag) d))
-    after-character =
-        ap (λ (P : Start). P.opened) (after-one step reply exact start s c d one)
-        ∙ opened-behind s (input_after input (c ∷ [])).line d (step_at exact (open_of now tag) d)
+    after-character : behind_here
+        ≡ open_behind reply (stepped step s (on_line line (bad_character_error rules.exact d ++ tokens_of (step_at rules.exact (open_of now tag) d)))) line (behind (step_at rules.exact (open_of now tag) d))
+    after-character = opened-behind s line d (step_at rules.exact (open_of now tag) d)
 
     -- where such a character comes, nothing is told
-    stops_at-step : {Y : Type 0} → (q : State) (t : CurrentTag Y) → stops_at_bad q ≡ true → is_bad_character d ≡ true → step_at exact (open_of q t) d ≡ Stops []
+    stops_at-step : {Y : Type 0} → (q : State) (t : CurrentTag Y) → stops_at_bad q ≡ true → is_bad_character d ≡ true → step_at rules.exact (open_of q t) d ≡ Stops []
     unfolding step_at
     stops_at-step state.Data t stops bad = absurd (false≢true stops)
     stops_at-step state.Plaintext t stops bad = absurd (false≢true stops)
     stops_at-step state.TagOpen t stops bad = absurd (false≢true stops)
-    stops_at-step state.EndTagOpen t stops bad = bad_stops exact d bad
+    stops_at-step state.EndTagOpen t stops bad = bad_stops rules.exact d bad
     stops_at-step state.TagName t stops bad = absurd (false≢true stops)
     stops_at-step state.BeforeAttributeName t stops bad = absurd (false≢true stops)
     stops_at-step state.AttributeName t stops bad = absurd (false≢true stops)
@@ -194,59 +206,57 @@ module _ {S H : Type 0} (step : S → Told → ℕ → S) (reply : S → Told �
     stops_at-step state.SelfClosingStartTag t stops bad = absurd (false≢true stops)
     stops_at-step other t stops bad = refl
 
-    stopped-step : (exact && is_bad_character d && stops_at_bad now) ≡ true → step_at exact (open_of now tag) d ≡ Stops []
+    stopped-step : (rules.exact && is_bad_character d && stops_at_bad now) ≡ true → step_at rules.exact (open_of now tag) d ≡ Stops []
     stopped-step stopped =
-        let both = and_parts (exact && is_bad_character d) (stops_at_bad now) stopped in
-        stops_at-step now tag both.1 (and_parts exact (is_bad_character d) both.0).1
+        let both = and_parts (rules.exact && is_bad_character d) (stops_at_bad now) stopped in
+        stops_at-step now tag both.1 (and_parts rules.exact (is_bad_character d) both.0).1
 
-    pub told-stopped : (exact && is_bad_character d && stops_at_bad now) ≡ true → messages (told step reply exact start s (c ∷ [])) ≡ []
+    pub told-stopped : (rules.exact && is_bad_character d && stops_at_bad now) ≡ true → told_here ≡ []
     unfolding messages_here
-    told-stopped stopped = told-one step reply exact start s c d one ∙ rw (stopped-step stopped) refl
+    told-stopped stopped = rw (stopped-step stopped) refl
 
-    pub after-stopped : (exact && is_bad_character d && stops_at_bad now) ≡ true → (after step reply exact start s (c ∷ [])).opened ≡ NotBuilt
+    pub after-stopped : (rules.exact && is_bad_character d && stops_at_bad now) ≡ true → behind_here ≡ NotBuilt
     unfolding opened_here
-    after-stopped stopped = ap (λ (P : Start). P.opened) (after-one step reply exact start s c d one) ∙ rw (stopped-step stopped) refl
+    after-stopped stopped = rw (stopped-step stopped) refl
 
     -- a character that is read: the bad character, the tokens of its state and then the tag that it ends, told by calls
-    module _ (not_stopped : (exact && is_bad_character d && stops_at_bad now) ≡ false) (line : ℕ) (same : line ≡ (input_after input (c ∷ [])).line) where
+    module _ (not_stopped : (rules.exact && is_bad_character d && stops_at_bad now) ≡ false) where
       abbrev here_tokens : List Told
-      here_tokens = bad_character_error exact d ++ tokens_of (step_at exact (open_of now tag) d)
+      here_tokens = bad_character_error rules.exact d ++ tokens_of (step_at rules.exact (open_of now tag) d)
 
       abbrev next : Next
-      next = behind (step_at exact (open_of now tag) d)
+      next = behind (step_at rules.exact (open_of now tag) d)
 
-      whole-told : messages (told step reply exact start s (c ∷ [])) ≡ on_line line (here_tokens ++ tag_in next)
-      whole-told = told-character not_stopped ∙ ap (λ n. on_line n (here_tokens ++ tag_in next)) (sym same)
+      whole-told : told_here ≡ on_line line (here_tokens ++ tag_in next)
+      whole-told = told-character not_stopped
 
-      whole-opened : (u : S) → u ≡ stepped step s (on_line line here_tokens) → (after step reply exact start s (c ∷ [])).opened ≡ open_behind reply u line next
+      whole-opened : (u : S) → u ≡ stepped step s (on_line line here_tokens) → behind_here ≡ open_behind reply u line next
       whole-opened u e =
-          after-character
-          ∙ ap (λ n. open_behind reply (stepped step s (on_line n here_tokens)) n next) (sym same)
-          ∙ ap (λ v. open_behind reply v line next) (sym e)
+          after-character ∙ ap (λ v. open_behind reply v line next) (sym e)
 
-      module _ (t u : S) (bad_told : t ≡ stepped step s (on_line line (bad_character_error exact d))) where
-        both-told : u ≡ stepped step t (on_line line (tokens_of (step_at exact (open_of now tag) d))) → u ≡ stepped step s (on_line line here_tokens)
+      module _ (t u : S) (bad_told : t ≡ stepped step s (on_line line (bad_character_error rules.exact d))) where
+        both-told : u ≡ stepped step t (on_line line (tokens_of (step_at rules.exact (open_of now tag) d))) → u ≡ stepped step s (on_line line here_tokens)
         both-told e =
-            e ∙ ap (λ v. stepped step v (on_line line (tokens_of (step_at exact (open_of now tag) d)))) bad_told
-            ∙ sym (stepped-append step s (on_line line (bad_character_error exact d)) (on_line line (tokens_of (step_at exact (open_of now tag) d))))
-            ∙ ap (stepped step s) (sym (map-append (λ (token : Told). record { token = token; line = line }) (bad_character_error exact d) (tokens_of (step_at exact (open_of now tag) d))))
+            e ∙ ap (λ v. stepped step v (on_line line (tokens_of (step_at rules.exact (open_of now tag) d)))) bad_told
+            ∙ sym (stepped-append step s (on_line line (bad_character_error rules.exact d)) (on_line line (tokens_of (step_at rules.exact (open_of now tag) d))))
+            ∙ ap (stepped step s) (sym (map-append (λ (token : Told). record { token = token; line = line }) (bad_character_error rules.exact d) (tokens_of (step_at rules.exact (open_of now tag) d))))
 
         pub tells-ended : {T : Type 0} (faulted : S → Told → ℕ → S) (r : Result T TokenizerError) (told_tag : TagOf) (later : Open) (v : S)
-            → u ≡ stepped step t (on_line line (tokens_of (step_at exact (open_of now tag) d))) → Closes told_tag later ≡ next
+            → u ≡ stepped step t (on_line line (tokens_of (step_at rules.exact (open_of now tag) d))) → Closes told_tag later ≡ next
             → telling.Tells step faulted r u (on_line line (Tag told_tag ∷ [])) v
-            → telling.Tells step faulted r s (messages (told step reply exact start s (c ∷ []))) v
+            → telling.Tells step faulted r s (told_here) v
         tells-ended faulted r told_tag later v e is tells =
             rw (whole-told, ← is) (told_then step faulted r s u v line here_tokens (Tag told_tag ∷ []) (both-told e) tells)
 
         pub opened-ended : (told_tag : TagOf) (later : Open)
-            → u ≡ stepped step t (on_line line (tokens_of (step_at exact (open_of now tag) d))) → Closes told_tag later ≡ next
-            → open_after_reply (reply u (Tag told_tag) line) ≡ (after step reply exact start s (c ∷ [])).opened
+            → u ≡ stepped step t (on_line line (tokens_of (step_at rules.exact (open_of now tag) d))) → Closes told_tag later ≡ next
+            → open_after_reply (reply u (Tag told_tag) line) ≡ behind_here
         opened-ended told_tag later e is = ap (open_behind reply u line) is ∙ sym (whole-opened u (both-told e))
 
         pub pause-ended : ((s : S) (told : Told) (line : ℕ) → is_tag told ≡ false → reply s told line ≡ KeepOn)
             → (told_tag : TagOf) (later : Open)
-            → u ≡ stepped step t (on_line line (tokens_of (step_at exact (open_of now tag) d))) → Closes told_tag later ≡ next
-            → first_pause step reply u (on_line line (Tag told_tag ∷ [])) ≡ first_pause step reply s (messages (told step reply exact start s (c ∷ [])))
+            → u ≡ stepped step t (on_line line (tokens_of (step_at rules.exact (open_of now tag) d))) → Closes told_tag later ≡ next
+            → first_pause step reply u (on_line line (Tag told_tag ∷ [])) ≡ first_pause step reply s (told_here)
         pause-ended keeps_on told_tag later e is =
             ap (λ v. first_pause step reply v (on_line line (Tag told_tag ∷ []))) (both-told e)
             ∙ ap (λ m. first_pause step reply (stepped step s (on_line line here_tokens)) (on_line line (tag_in m))) is
@@ -254,21 +264,21 @@ module _ {S H : Type 0} (step : S → Told → ℕ → S) (reply : S → Told �
             ∙ ap (first_pause step reply s) (sym whole-told)
 
         pub tells-going : (later : Open)
-            → u ≡ stepped step t (on_line line (tokens_of (step_at exact (open_of now tag) d))) → Opens later ≡ next
-            → u ≡ stepped step s (messages (told step reply exact start s (c ∷ [])))
+            → u ≡ stepped step t (on_line line (tokens_of (step_at rules.exact (open_of now tag) d))) → Opens later ≡ next
+            → u ≡ stepped step s (told_here)
         tells-going later e is =
             both-told e
             ∙ ap (λ l. stepped step s (on_line line l)) (sym (append-nil here_tokens) ∙ ap (λ m. here_tokens ++ tag_in m) is)
             ∙ ap (stepped step s) (sym whole-told)
 
         pub opened-going : (later : Open)
-            → u ≡ stepped step t (on_line line (tokens_of (step_at exact (open_of now tag) d))) → Opens later ≡ next
-            → later ≡ (after step reply exact start s (c ∷ [])).opened
+            → u ≡ stepped step t (on_line line (tokens_of (step_at rules.exact (open_of now tag) d))) → Opens later ≡ next
+            → later ≡ behind_here
         opened-going later e is = ap (open_behind reply u line) is ∙ sym (whole-opened u (both-told e))
 
         pub pause-going : ((s : S) (told : Told) (line : ℕ) → is_tag told ≡ false → reply s told line ≡ KeepOn)
             → (later : Open) → Opens later ≡ next
-            → KeepOn ≡ first_pause step reply s (messages (told step reply exact start s (c ∷ [])))
+            → KeepOn ≡ first_pause step reply s (told_here)
         pause-going keeps_on later is =
             sym (first_pause-none step reply (stepped step s (on_line line here_tokens)))
             ∙ ap (λ m. first_pause step reply (stepped step s (on_line line here_tokens)) (on_line line (tag_in m))) is
@@ -277,22 +287,22 @@ module _ {S H : Type 0} (step : S → Told → ℕ → S) (reply : S → Told �
 
         pub tells-refused : {T : Type 0} (Z : Type 0) (faulted : S → Told → ℕ → S) (r : Result T TokenizerError) (e : TokenizerError) (opened : Opened Z)
             → IsErrAnd r (λ x. x ≡ e) → Ends {Z = Z} (Err e) opened next
-            → telling.Stops step faulted e t (on_line line (tokens_of (step_at exact (open_of now tag) d))) u
-            → telling.Tells step faulted r s (messages (told step reply exact start s (c ∷ []))) u
+            → telling.Stops step faulted e t (on_line line (tokens_of (step_at rules.exact (open_of now tag) d))) u
+            → telling.Tells step faulted r s (told_here) u
         tells-refused Z faulted r e opened h ends stop =
-            rw (whole-told, append_assoc (bad_character_error exact d) (tokens_of (step_at exact (open_of now tag) d)) (tag_in next))
-            (told_then step faulted r s t u line (bad_character_error exact d) (tokens_of (step_at exact (open_of now tag) d) ++ tag_in next) bad_told
-            (ended_stops Z step faulted r e opened next t u line (tokens_of (step_at exact (open_of now tag) d)) h ends stop))
+            rw (whole-told, append_assoc (bad_character_error rules.exact d) (tokens_of (step_at rules.exact (open_of now tag) d)) (tag_in next))
+            (told_then step faulted r s t u line (bad_character_error rules.exact d) (tokens_of (step_at rules.exact (open_of now tag) d) ++ tag_in next) bad_told
+            (ended_stops Z step faulted r e opened next t u line (tokens_of (step_at rules.exact (open_of now tag) d)) h ends stop))
 
       pub leads-refused : {T : Type 0} (Z : Type 0) (r : Result T TokenizerError) (e : TokenizerError) (opened : Opened Z) (later : Open)
-          → IsErrAnd r (λ x. x ≡ e) → Ends {Z = Z} (Err e) opened next → Leads r later (after step reply exact start s (c ∷ [])).opened
+          → IsErrAnd r (λ x. x ≡ e) → Ends {Z = Z} (Err e) opened next → Leads r later behind_here
       leads-refused Z r e opened later h ends =
           rw (whole-opened (stepped step s (on_line line here_tokens)) refl)
           (ended_leads Z reply r e opened later next (stepped step s (on_line line here_tokens)) line h ends)
 
       pub tells-bad : {T : Type 0} (faulted : S → Told → ℕ → S) (r : Result T TokenizerError) (e : TokenizerError) (t : S)
-          → IsErrAnd r (λ x. x ≡ e) → telling.IsRefusal e → telling.Stops step faulted e s (on_line line (bad_character_error exact d)) t
-          → telling.Tells step faulted r s (messages (told step reply exact start s (c ∷ []))) t
+          → IsErrAnd r (λ x. x ≡ e) → telling.IsRefusal e → telling.Stops step faulted e s (on_line line (bad_character_error rules.exact d)) t
+          → telling.Tells step faulted r s (told_here) t
       tells-bad faulted r e t h refusal stop =
-          rw (whole-told, append_assoc (bad_character_error exact d) (tokens_of (step_at exact (open_of now tag) d)) (tag_in next))
-          (told_stop step faulted r e s t line (bad_character_error exact d) (tokens_of (step_at exact (open_of now tag) d) ++ tag_in next) h refusal stop)
+          rw (whole-told, append_assoc (bad_character_error rules.exact d) (tokens_of (step_at rules.exact (open_of now tag) d)) (tag_in next))
+          (told_stop step faulted r e s t line (bad_character_error rules.exact d) (tokens_of (step_at rules.exact (open_of now tag) d) ++ tag_in next) h refusal stop)

@@ -5,7 +5,7 @@ use Rattle.html5ever_interface.specs.Sink.{Message, stepped}
 use Rattle.html5ever_interface.specs.Token.{Told, Reply}
 use Rattle.html5grammar.proofs.ReadingLemmas.{state_behind, told-append, after-append, told-not_built, after-not_built}
 use Rattle.html5grammar.specs.Reading.{told, messages, after}
-use Rattle.html5grammar.specs.Start.{Start}
+use Rattle.html5grammar.specs.Start.{Start, Rules, held_len}
 use Rattle.html5grammar.specs.Start.Open.{NotBuilt}
 use Rattle.markup5ever.specs.BufferQueue.{TextQueue}
 use Rattle.html5ever.specs.Feed.{Feed, feed, told_beyond, IsEndOf, IsLinear}
@@ -18,31 +18,31 @@ use Rattle.html5ever.proofs.QueueReading.{no_error}
 use Rattle.html5states.proofs.Tellings.{stops_after, stops_before}
 use Rattle.std.proofs.Common.{Result, Ok, Err, true, ◌↔◌}
 
-module _ {S H : Type 0} (step : S → Told → ℕ → S) (reply : S → Told → ℕ → Reply H) (exact : Bool) where
+module _ {S H : Type 0} (step : S → Told → ℕ → S) (reply : S → Told → ℕ → Reply H) (rules : Rules) where
   -- what two texts tell beyond another
   pub told_beyond-append : (K : Start) (s : S) (X A B : List ℕ)
-      → told_beyond step reply exact K s X (A ++ B) ≡ told_beyond step reply exact K s X A ++ told_beyond step reply exact K s (X ++ A) B
+      → told_beyond step reply rules K s X (A ++ B) ≡ told_beyond step reply rules K s X A ++ told_beyond step reply rules K s (X ++ A) B
   told_beyond-append K s X A B =
-      told_beyond-behind step reply exact K s X (A ++ B)
-      ∙ told-append step reply exact (after step reply exact K s X) (state_behind step reply exact K s X) A B
-      ∙ ap (λ M. M ++ messages (told step reply exact (after step reply exact (after step reply exact K s X) (state_behind step reply exact K s X) A) (state_behind step reply exact (after step reply exact K s X) (state_behind step reply exact K s X) A) B)) (sym (told_beyond-behind step reply exact K s X A))
-      ∙ ap (λ M. told_beyond step reply exact K s X A ++ M)
-      (ap (λ P. messages (told step reply exact P (state_behind step reply exact (after step reply exact K s X) (state_behind step reply exact K s X) A) B)) (sym (after-append step reply exact K s X A))
-      ∙ ap (λ v. messages (told step reply exact (after step reply exact K s (X ++ A)) v B)) (sym (state_behind-append step reply exact K s X A))
-      ∙ sym (told_beyond-behind step reply exact K s (X ++ A) B))
+      told_beyond-behind step reply rules K s X (A ++ B)
+      ∙ told-append step reply rules (after step reply rules K s X) (state_behind step reply rules K s X) A B
+      ∙ ap (λ M. M ++ messages (told step reply rules (after step reply rules (after step reply rules K s X) (state_behind step reply rules K s X) A) (state_behind step reply rules (after step reply rules K s X) (state_behind step reply rules K s X) A) B)) (sym (told_beyond-behind step reply rules K s X A))
+      ∙ ap (λ M. told_beyond step reply rules K s X A ++ M)
+      (ap (λ P. messages (told step reply rules P (state_behind step reply rules (after step reply rules K s X) (state_behind step reply rules K s X) A) B)) (sym (after-append step reply rules K s X A))
+      ∙ ap (λ v. messages (told step reply rules (after step reply rules K s (X ++ A)) v B)) (sym (state_behind-append step reply rules K s X A))
+      ∙ sym (told_beyond-behind step reply rules K s (X ++ A) B))
 
   -- what is told of two texts is what is told of the first, and what the second tells beyond it
   pub told-beyond : (K : Start) (s : S) (X A : List ℕ)
-      → messages (told step reply exact K s (X ++ A)) ≡ messages (told step reply exact K s X) ++ told_beyond step reply exact K s X A
+      → messages (told step reply rules K s (X ++ A)) ≡ messages (told step reply rules K s X) ++ told_beyond step reply rules K s X A
   told-beyond K s X A =
-      told-append step reply exact K s X A ∙ ap (λ M. messages (told step reply exact K s X) ++ M) (sym (told_beyond-behind step reply exact K s X A))
+      told-append step reply rules K s X A ∙ ap (λ M. messages (told step reply rules K s X) ++ M) (sym (told_beyond-behind step reply rules K s X A))
 
   -- the state behind more text
   pub state-beyond : (K : Start) (s : S) (X A : List ℕ)
-      → stepped step s (messages (told step reply exact K s (X ++ A))) ≡ stepped step (stepped step s (messages (told step reply exact K s X))) (told_beyond step reply exact K s X A)
+      → stepped step s (messages (told step reply rules K s (X ++ A))) ≡ stepped step (stepped step s (messages (told step reply rules K s X))) (told_beyond step reply rules K s X A)
   state-beyond K s X A =
-      state_behind-append step reply exact K s X A
-      ∙ ap (stepped step (state_behind step reply exact K s X)) (sym (told_beyond-behind step reply exact K s X A))
+      state_behind-append step reply rules K s X A
+      ∙ ap (stepped step (state_behind step reply rules K s X)) (sym (told_beyond-behind step reply rules K s X A))
 
 module _ {X S H : Type 0} (state : X → S) (step : S → Told → ℕ → S) (reply : S → Told → ℕ → Reply H) where
   -- the tokenizer read on over a front of the queue's text
@@ -50,10 +50,10 @@ module _ {X S H : Type 0} (state : X → S) (step : S → Told → ℕ → S) (r
     pub front : List ℕ
     pub parts : old.text ≡ front ++ queue.text
     pub reads : ReadsOn state step reply first now front
-    pub exact : now.exact ≡ first.exact
+    pub rules : now.rules ≡ first.rules
     pub going_on : now.ended ≡ false
     pub failed : now.failed ≡ first.failed
-    pub linear : IsLinear old queue
+    pub linear : IsLinear (held_len first.position.opened) old (held_len now.position.opened) queue
     pub handed_in : queue.handed_in ≡ old.handed_in
 
   pub HasDrained-none : (first : Tokenizing X) (old : TextQueue) → first.ended ≡ false → HasDrained first first old old
@@ -61,7 +61,7 @@ module _ {X S H : Type 0} (state : X → S) (step : S → Told → ℕ → S) (r
     front = [];
     parts = refl;
     reads = λ K s text stands. rw (append-nil text) stands;
-    exact = refl;
+    rules = refl;
     going_on = going_on;
     failed = refl;
     linear = omega arith;
@@ -69,26 +69,26 @@ module _ {X S H : Type 0} (state : X → S) (step : S → Told → ℕ → S) (r
   }
 
   -- what a feed leaves is what its definition leaves, so it took what its definition takes
-  pub taken-is : (exact : Bool) (K : Start) (s : S) (text front left queue : List ℕ) → queue ≡ front ++ left → left ≡ (feed step reply exact K s text queue).left
-      → (feed step reply exact K s text queue).taken ≡ front
-  taken-is exact K s text front left queue parts leaves =
-      append_cancel_right (feed step reply exact K s text queue).taken front left
-      (ap (λ l. (feed step reply exact K s text queue).taken ++ l) leaves ∙ feed-parts step reply exact K s text queue ∙ parts)
+  pub taken-is : (rules : Rules) (K : Start) (s : S) (text front left queue : List ℕ) → queue ≡ front ++ left → left ≡ (feed step reply rules K s text queue).left
+      → (feed step reply rules K s text queue).taken ≡ front
+  taken-is rules K s text front left queue parts leaves =
+      append_cancel_right (feed step reply rules K s text queue).taken front left
+      (ap (λ l. (feed step reply rules K s text queue).taken ++ l) leaves ∙ feed-parts step reply rules K s text queue ∙ parts)
 
   pub HasDrained-more : (first now next : Tokenizing X) (old mid new : TextQueue) → HasDrained first now old mid
       → FeedsOn state step reply now next mid.text → LeavesWaiting state step reply now mid.text new.text → IsEndOf new.text mid.text
-      → next.exact ≡ now.exact → next.ended ≡ false → next.failed ≡ now.failed → IsLinear mid new → new.handed_in ≡ mid.handed_in
+      → next.rules ≡ now.rules → next.ended ≡ false → next.failed ≡ now.failed → IsLinear (held_len now.position.opened) mid (held_len next.position.opened) new → new.handed_in ≡ mid.handed_in
       → HasDrained first next old new
-  HasDrained-more first now next old mid new drained feeds leaves is_end exact going_on failed linear handed_in = record {
+  HasDrained-more first now next old mid new drained feeds leaves is_end rules going_on failed linear handed_in = record {
     front = drained.front ++ is_end.front;
     parts = drained.parts ∙ ap (λ l. drained.front ++ l) is_end.parts ∙ sym (append_assoc drained.front is_end.front new.text);
     reads = λ K s text stands.
         let mid_stands : StandsAt state step reply now K s (text ++ drained.front) = drained.reads K s text stands in
         subst (λ l. StandsAt state step reply next K s l)
-        (ap (λ l. (text ++ drained.front) ++ l) (taken-is now.exact K s (text ++ drained.front) is_end.front new.text mid.text is_end.parts (leaves K s (text ++ drained.front) mid_stands))
+        (ap (λ l. (text ++ drained.front) ++ l) (taken-is now.rules K s (text ++ drained.front) is_end.front new.text mid.text is_end.parts (leaves K s (text ++ drained.front) mid_stands))
         ∙ append_assoc text drained.front is_end.front)
         (feeds K s (text ++ drained.front) mid_stands);
-    exact = exact ∙ drained.exact;
+    rules = rules ∙ drained.rules;
     going_on = going_on;
     failed = failed ∙ drained.failed;
     linear = omega (arith, linear, drained.linear);
@@ -111,10 +111,10 @@ module _ {X S H : Type 0} (state : X → S) (step : S → Told → ℕ → S) (r
   pub HasDrained-met : (first now : Tokenizing X) (old queue : TextQueue) → HasDrained first now old queue
       → FeedMeetsNotBuilt state step reply now queue.text → MeetsNotBuilt state step reply first old.text
   HasDrained-met first now old queue drained met K s text stands =
-      let x : Bool = first.exact in
+      let x : Rules = first.rules in
       let f : Feed H = feed step reply x K s (text ++ drained.front) queue.text in
       let here : (after step reply x K s ((text ++ drained.front) ++ f.taken)).opened ≡ NotBuilt =
-      subst (λ b. (after step reply b K s ((text ++ drained.front) ++ (feed step reply b K s (text ++ drained.front) queue.text).taken)).opened ≡ NotBuilt) drained.exact
+      subst (λ b. (after step reply b K s ((text ++ drained.front) ++ (feed step reply b K s (text ++ drained.front) queue.text).taken)).opened ≡ NotBuilt) drained.rules
       (met K s (text ++ drained.front) (drained.reads K s text stands)) in
       let whole : text ++ old.text ≡ ((text ++ drained.front) ++ f.taken) ++ f.left =
       ap (λ l. text ++ l) (drained.parts ∙ ap (λ l. drained.front ++ l) (sym (feed-parts step reply x K s (text ++ drained.front) queue.text)))
@@ -137,7 +137,7 @@ module _ {X S H : Type 0} (state : X → S) (step : S → Told → ℕ → S) (r
         → (e ≡ NotYet → FeedMeetsNotBuilt state step reply now queue.text)
         → StopsFeeding state step reply faulted e now queue.text v → StopsReading state step reply faulted e first old.text v
     HasDrained-stops e first now old queue v drained met stops K s text stands =
-        let x : Bool = first.exact in
+        let x : Rules = first.rules in
         let f : Feed H = feed step reply x K s (text ++ drained.front) queue.text in
         let mid : StandsAt state step reply now K s (text ++ drained.front) = drained.reads K s text stands in
         let whole : told_beyond step reply x K s text old.text
@@ -147,16 +147,16 @@ module _ {X S H : Type 0} (state : X → S) (step : S → Told → ℕ → S) (r
         ∙ ap (λ M. told_beyond step reply x K s text drained.front ++ M) (told_beyond-append step reply x K s (text ++ drained.front) f.taken f.left) in
         let state_now : state now.sink ≡ stepped step (state first.sink) (told_beyond step reply x K s text drained.front) =
         mid.told
-        ∙ ap (λ b. stepped step s (messages (told step reply b K s (text ++ drained.front)))) drained.exact
+        ∙ ap (λ b. stepped step s (messages (told step reply b K s (text ++ drained.front)))) drained.rules
         ∙ state-beyond step reply x K s text drained.front
         ∙ ap (λ u. stepped step u (told_beyond step reply x K s text drained.front)) (sym stands.told) in
         let none : e ≡ NotYet → told_beyond step reply x K s ((text ++ drained.front) ++ f.taken) f.left ≡ [] = λ same.
         told_beyond-behind step reply x K s ((text ++ drained.front) ++ f.taken) f.left
         ∙ told-not_built step reply x (after step reply x K s ((text ++ drained.front) ++ f.taken)) _ f.left
-        (subst (λ b. (after step reply b K s ((text ++ drained.front) ++ (feed step reply b K s (text ++ drained.front) queue.text).taken)).opened ≡ NotBuilt) drained.exact
+        (subst (λ b. (after step reply b K s ((text ++ drained.front) ++ (feed step reply b K s (text ++ drained.front) queue.text).taken)).opened ≡ NotBuilt) drained.rules
         (met same K s (text ++ drained.front) mid)) in
         rw whole (drained-stops e (state first.sink) (state now.sink) v _ _ _ state_now none
-        (subst (λ b. Stops step faulted e (state now.sink) (told_beyond step reply b K s (text ++ drained.front) (feed step reply b K s (text ++ drained.front) queue.text).taken) v) drained.exact
+        (subst (λ b. Stops step faulted e (state now.sink) (told_beyond step reply b K s (text ++ drained.front) (feed step reply b K s (text ++ drained.front) queue.text).taken) v) drained.rules
         (stops K s (text ++ drained.front) mid)))
 
 -- a tokenizer whose call answers Ok had not failed

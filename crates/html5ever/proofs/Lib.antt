@@ -6,3 +6,4 @@ pub mod CharacterReading
 pub mod Wholes
 pub mod Draining
 pub mod StepRuns
+pub mod ReferenceReading

@@ -1,4 +1,6 @@
 -- A run tells its characters on the line that is reached, and leaves the tokenizer where it stands.
+use Rattle.html5grammar.specs.Reading.Here.{Tells}
+use Rattle.html5grammar.proofs.Machine.{step_at}
 use Rattle.std.proofs.Common.{◌≡◌, ◌≢◌, ℕ, ◌<◌, ◌^◌, Bool, false, cond, List, [], ◌∷◌, ◌++◌, refl, ap, sym, ◌∙◌, arith, Option, None, Some, true, zero, suc, length, length-take-le, take, drop, subst, ◌↔◌}
 use Rattle.std.specs.Prelude.{map, ◌==◌, All, Contains, encode_utf8, is_some, IfSome}
 use Rattle.std.specs.Str.{IsUtf8, chars}
@@ -16,12 +18,12 @@ use Rattle.html5ever_interface.specs.Token.Told.{Text}
 use Rattle.html5grammar.specs.Characters.{null, line_feed, carriage_return}
 use Rattle.html5grammar.specs.NormalisedText.{with_line_feeds, without_dropped_first, normalised, line_after, input_after, ends_with_carriage_return}
 use Rattle.html5grammar.specs.Reading.{told, messages, after}
-use Rattle.html5grammar.specs.Start.{Input, Start, Open}
-use Rattle.html5grammar.specs.Start.Open.{Between, LessThan, LessThanSolidus, InTag, NotBuilt}
+use Rattle.html5grammar.specs.Start.{Input, Start, Open, Rules}
+use Rattle.html5grammar.specs.Start.Open.{Between, LessThan, LessThanSolidus, InTag, InReference, NotBuilt}
 use Rattle.html5grammar.proofs.InputLemmas.{line_past, line_after-none}
 use Rattle.html5grammar.proofs.NoTags.{NoTags}
 use Rattle.html5grammar.proofs.ReadingLemmas.{told-trace, after-opened}
-use Rattle.html5grammar.proofs.Traces.{Trace, trace, trace_here, with_messages}
+use Rattle.html5grammar.proofs.Traces.{Trace, trace, trace_here, with_messages, brought-tells, trace_brought}
 use Rattle.html5states.specs.Runs.{other_run_ends, run_ends, run_tokens, opened_after_run}
 use Rattle.html5states.proofs.RunSteps.{step-run, run_tokens-nil, run_tokens-cons, opened_after_run-nil, opened_after_run-cons, other_run_ends-after, no_null, no_line_feed, no_carriage_return}
 use Rattle.html5ever.specs.Feed.{first_pause}
@@ -45,8 +47,8 @@ ordinary others c out = record {
   no_carriage_return = no_carriage_return others c out;
 }
 
-all_ordinary : (exact : Bool) (K : Start) (run : List ℕ) → IsRun exact K run → All IsOrdinary run
-all_ordinary exact K run r = All-weaker (λ c. ¬ Contains (run_ends r.is_run.others) c) IsOrdinary (ordinary r.is_run.others) run r.is_run.ordinary
+all_ordinary : (rules : Rules) (K : Start) (run : List ℕ) → IsRun rules K run → All IsOrdinary run
+all_ordinary rules K run r = All-weaker (λ c. ¬ Contains (run_ends r.is_run.others) c) IsOrdinary (ordinary r.is_run.others) run r.is_run.ordinary
 
 with_line_feeds-run : (run : List ℕ) → All IsOrdinary run → with_line_feeds false run ≡ run
 unfolding with_line_feeds
@@ -55,10 +57,10 @@ with_line_feeds-run (c ∷ run) all =
     rw (ne_eqb c carriage_return (All-head IsOrdinary c run all).no_carriage_return)
     (ap (λ l. c ∷ l) (with_line_feeds-run run (All-tail IsOrdinary c run all)))
 
-normalised-run : (exact : Bool) (K : Start) (run : List ℕ) → IsRun exact K run → normalised K.input run ≡ run
+normalised-run : (rules : Rules) (K : Start) (run : List ℕ) → IsRun rules K run → normalised K.input run ≡ run
 unfolding normalised without_dropped_first
-normalised-run exact K [] r = with_line_feeds-run [] (all_ordinary exact K [] r)
-normalised-run exact K (c ∷ run) r = rw (r.past_line_break, r.past_stream_start) (with_line_feeds-run (c ∷ run) (all_ordinary exact K (c ∷ run) r))
+normalised-run rules K [] r = with_line_feeds-run [] (all_ordinary rules K [] r)
+normalised-run rules K (c ∷ run) r = rw (r.past_line_break, r.past_stream_start) (with_line_feeds-run (c ∷ run) (all_ordinary rules K (c ∷ run) r))
 
 ends-run : (b : Bool) (run : List ℕ) → b ≡ false → All IsOrdinary run → ends_with_carriage_return b run ≡ false
 unfolding ends_with_carriage_return
@@ -83,16 +85,16 @@ line_past-ordinary : (line c : ℕ) → IsOrdinary c → line < 2 ^ 64 → line_
 unfolding line_past
 line_past-ordinary line c o h = rw (ne_eqb c line_feed o.no_line_feed) (omega (arith, h))
 
-input_after-run : (exact : Bool) (K : Start) (run : List ℕ) → IsRun exact K run → K.input.line < 2 ^ 64 → input_after K.input run ≡ K.input
+input_after-run : (rules : Rules) (K : Start) (run : List ℕ) → IsRun rules K run → K.input.line < 2 ^ 64 → input_after K.input run ≡ K.input
 unfolding input_after
-input_after-run exact K [] r h = refl
-input_after-run exact K (c ∷ run) r h =
+input_after-run rules K [] r h = refl
+input_after-run rules K (c ∷ run) r h =
     let same : (line : ℕ) (b d : Bool) → line ≡ K.input.line → b ≡ K.input.after_carriage_return → d ≡ K.input.drops_byte_order_mark
     → record { line = line; after_carriage_return = b; drops_byte_order_mark = d } ≡ K.input =
     λ line b d l e f. rw (l, e, f) refl in
     same (line_after K.input (normalised K.input (c ∷ run))) (ends_with_carriage_return false (c ∷ run)) false
-    (ap (line_after K.input) (normalised-run exact K (c ∷ run) r) ∙ line_after-run K.input [] (c ∷ run) (all_ordinary exact K (c ∷ run) r) ∙ line_after-none K.input h)
-    (ends-run false (c ∷ run) refl (all_ordinary exact K (c ∷ run) r) ∙ sym r.past_line_break)
+    (ap (line_after K.input) (normalised-run rules K (c ∷ run) r) ∙ line_after-run K.input [] (c ∷ run) (all_ordinary rules K (c ∷ run) r) ∙ line_after-none K.input h)
+    (ends-run false (c ∷ run) refl (all_ordinary rules K (c ∷ run) r) ∙ sym r.past_line_break)
     (sym r.past_stream_start)
 
 -- the beginning of a text that is outside the set is a run, where the set has what ends one
@@ -100,12 +102,12 @@ some_of : {X : Type 0} (o : Option X) → is_some o ≡ true → (x : X) × (o �
 some_of (Some x) has = (x, refl)
 some_of None has = absurd (false≢true has)
 
-pub run-begins : (exact : Bool) (K : Start) (set : ℕ) (text : List ℕ) (len : ℕ) → exact ≡ false
+pub run-begins : (rules : Rules) (K : Start) (set : ℕ) (text : List ℕ) (len : ℕ) → rules.exact ≡ false
     → (K.input.after_carriage_return ≡ false) × (K.input.drops_byte_order_mark ≡ false)
     → is_some (other_run_ends K.opened) ≡ true
     → IfSome (other_run_ends K.opened) (λ others. (c : ℕ) → IsMember set c ↔ Contains (run_ends others) c)
-    → IsUtf8 text → BeginsOutside set text len → len ≢ 0 → IsRun exact K (chars (take len text))
-run-begins exact K set text len not_exact past has ends utf8 begins some =
+    → IsUtf8 text → BeginsOutside set text len → len ≢ 0 → IsRun rules K (chars (take len text))
+run-begins rules K set text len not_exact past has ends utf8 begins some =
     let found = some_of (other_run_ends K.opened) has in
     let same : (c : ℕ) → IsMember set c ↔ Contains (run_ends found.0) c = rw found.1 at ends in
     let run_utf8 : IsUtf8 (take len text) = IsUtf8-take text len utf8 (IsCharBoundary-from_drop text len begins.within begins.rest_utf8) in
@@ -145,47 +147,50 @@ no_tags-run (Between mode) run = no_tags-texts run
 no_tags-run LessThan run = tt
 no_tags-run LessThanSolidus run = tt
 no_tags-run (InTag place tag) run = tt
+no_tags-run (InReference stand held) run = tt
 no_tags-run NotBuilt run = tt
 
 trace_is : {M N : List Message} {o p : Open} → M ≡ N → o ≡ p → ◌≡◌ {A = Trace} (record { messages = M; opened = o }) (record { messages = N; opened = p })
 trace_is e f = rw (e, f) refl
 
 module _ {S H : Type 0} (step : S → Told → ℕ → S) (reply : S → Told → ℕ → Reply H) where
-  trace-run : (s : S) (line : ℕ) (opened : Open) (others run : List ℕ) → line < 2 ^ 64 → other_run_ends opened ≡ Some others → All (λ c. ¬ Contains (run_ends others) c) run
-      → trace step reply false s line opened run ≡ record { messages = on_line line (run_tokens opened run); opened = opened_after_run opened run }
-  unfolding trace trace_here
-  trace-run s line opened others [] h has all = rw (run_tokens-nil opened, opened_after_run-nil opened) refl
-  trace-run s line opened others (c ∷ run) h has all =
+  trace-run : (rules : Rules) → rules.exact ≡ false → (s : S) (line : ℕ) (opened : Open) (others run : List ℕ) → line < 2 ^ 64 → other_run_ends opened ≡ Some others
+      → All (λ c. ¬ Contains (run_ends others) c) run
+      → trace step reply rules s line opened run ≡ record { messages = on_line line (run_tokens opened run); opened = opened_after_run opened run }
+  unfolding trace trace_brought trace_here stepped
+  trace-run rules not_exact s line opened others [] h has all = rw (run_tokens-nil opened, opened_after_run-nil opened) refl
+  trace-run rules not_exact s line opened others (c ∷ run) h has all =
       let out : ¬ Contains (run_ends others) c = All-head (λ d. ¬ Contains (run_ends others) d) c run all in
       let M : List Message = on_line line (run_tokens opened (c ∷ [])) in
       let later : Open = opened_after_run opened (c ∷ []) in
-      rw (line_past-ordinary line c (ordinary others c out) h, step-run opened others c has out)
-      (ap (with_messages M) (trace-run (stepped step s M) line later others run h (other_run_ends-after opened c ∙ has) (All-tail (λ d. ¬ Contains (run_ends others) d) c run all))
+      let here : step_at rules.exact opened c ≡ Tells (run_tokens opened (c ∷ [])) later = ap (λ b. step_at b opened c) not_exact ∙ step-run opened others c has out in
+      rw (brought-tells rules opened c (Tells (run_tokens opened (c ∷ [])) later) refl here, line_past-ordinary line c (ordinary others c out) h, not_exact)
+      (ap (with_messages M) (trace-run rules not_exact (stepped step s M) line later others run h (other_run_ends-after opened c ∙ has) (All-tail (λ d. ¬ Contains (run_ends others) d) c run all))
       ∙ trace_is (sym (map-append (λ (token : Told). record { token = token; line = line }) (run_tokens opened (c ∷ [])) (run_tokens later run)) ∙ ap (on_line line) (sym (run_tokens-cons opened c run)))
       (sym (opened_after_run-cons opened c run)))
 
-  run-trace : (exact : Bool) (K : Start) (s : S) (run : List ℕ) → IsRun exact K run → K.input.line < 2 ^ 64
-      → trace step reply exact s (line_after K.input []) K.opened (normalised K.input run)
+  run-trace : (rules : Rules) (K : Start) (s : S) (run : List ℕ) → IsRun rules K run → K.input.line < 2 ^ 64
+      → trace step reply rules s (line_after K.input []) K.opened (normalised K.input run)
       ≡ record { messages = on_line K.input.line (run_tokens K.opened run); opened = opened_after_run K.opened run }
-  run-trace exact K s run r h =
-      rw (r.not_exact, line_after-none K.input h, normalised-run exact K run r) (trace-run s K.input.line K.opened r.is_run.others run h r.is_run.has_runs r.is_run.ordinary)
+  run-trace rules K s run r h =
+      rw (line_after-none K.input h, normalised-run rules K run r) (trace-run rules r.not_exact s K.input.line K.opened r.is_run.others run h r.is_run.has_runs r.is_run.ordinary)
 
-  pub told-run : (exact : Bool) (K : Start) (s : S) (run : List ℕ) → IsRun exact K run → K.input.line < 2 ^ 64
-      → messages (told step reply exact K s run) ≡ on_line K.input.line (run_tokens K.opened run)
-  told-run exact K s run r h =
-      told-trace step reply exact K s run ∙ ap (λ (t : Trace). t.messages) (run-trace exact K s run r h)
+  pub told-run : (rules : Rules) (K : Start) (s : S) (run : List ℕ) → IsRun rules K run → K.input.line < 2 ^ 64
+      → messages (told step reply rules K s run) ≡ on_line K.input.line (run_tokens K.opened run)
+  told-run rules K s run r h =
+      told-trace step reply rules K s run ∙ ap (λ (t : Trace). t.messages) (run-trace rules K s run r h)
 
-  pub after-run : (exact : Bool) (K : Start) (s : S) (run : List ℕ) → IsRun exact K run → K.input.line < 2 ^ 64
-      → after step reply exact K s run ≡ record K { opened = opened_after_run K.opened run }
-  after-run exact K s run r h =
-      let opened : (after step reply exact K s run).opened ≡ opened_after_run K.opened run =
-      after-opened step reply exact K s run ∙ ap (λ (t : Trace). t.opened) (run-trace exact K s run r h) in
-      rw (opened, input_after-run exact K run r h) refl
+  pub after-run : (rules : Rules) (K : Start) (s : S) (run : List ℕ) → IsRun rules K run → K.input.line < 2 ^ 64
+      → after step reply rules K s run ≡ record K { opened = opened_after_run K.opened run }
+  after-run rules K s run r h =
+      let opened : (after step reply rules K s run).opened ≡ opened_after_run K.opened run =
+      after-opened step reply rules K s run ∙ ap (λ (t : Trace). t.opened) (run-trace rules K s run r h) in
+      rw (opened, input_after-run rules K run r h) refl
 
   -- nothing pauses in a run
   pub run-quiet : ((s : S) (told : Told) (line : ℕ) → is_tag told ≡ false → reply s told line ≡ KeepOn)
-      → (exact : Bool) (K : Start) (s : S) (run : List ℕ) → IsRun exact K run → K.input.line < 2 ^ 64
-      → first_pause step reply s (messages (told step reply exact K s run)) ≡ KeepOn
-  run-quiet keeps_on exact K s run r h =
-      ap (first_pause step reply s) (told-run exact K s run r h)
+      → (rules : Rules) (K : Start) (s : S) (run : List ℕ) → IsRun rules K run → K.input.line < 2 ^ 64
+      → first_pause step reply s (messages (told step reply rules K s run)) ≡ KeepOn
+  run-quiet keeps_on rules K s run r h =
+      ap (first_pause step reply s) (told-run rules K s run r h)
       ∙ first_pause-no_tags step reply keeps_on s _ (no_tag_messages K.input.line (run_tokens K.opened run) (no_tags-run K.opened run))

@@ -5,7 +5,7 @@ use Rattle.html5ever_interface.specs.Sink.{Message, stepped}
 use Rattle.html5ever_interface.specs.Token.{Told, Reply}
 use Rattle.html5ever_interface.specs.Token.Reply.{KeepOn, RunScript, SwitchEncoding}
 use Rattle.html5grammar.specs.Reading.{reading, told, messages}
-use Rattle.html5grammar.specs.Start.{Start}
+use Rattle.html5grammar.specs.Start.{Start, Rules}
 use Rattle.markup5ever.specs.BufferQueue.{TextQueue}
 use Rattle.markup5ever.specs.declared.tokenizer_result.TokenizerResult.{TokenizerResult}
 use Rattle.markup5ever.specs.declared.tokenizer_result.TokenizerResult.TheVariants.{Done, Script, EncodingIndicator}
@@ -38,15 +38,15 @@ up_to_pause reply c text rest =
     if pauses reply then record { taken = c ∷ []; left = text; answer = reply }
     else takes_before (c ∷ []) rest
 
-module _ {S H : Type 0} (step : S → Told → ℕ → S) (reply : S → Told → ℕ → Reply H) (exact : Bool) where
+module _ {S H : Type 0} (step : S → Told → ℕ → S) (reply : S → Told → ℕ → Reply H) (rules : Rules) where
   -- what is told of a text that goes on, beyond what was told of it before
   abbrev pub told_beyond : Start → S → List ℕ → List ℕ → List Message
   told_beyond K s text more =
-      drop (length (told step reply exact K s text)) (messages (told step reply exact K s (text ++ more)))
+      drop (length (told step reply rules K s text)) (messages (told step reply rules K s (text ++ more)))
 
   -- what is told at the end of a text, beyond what was told of it before
   abbrev pub told_at_end : Start → S → List ℕ → List Message
-  told_at_end K s text = drop (length (told step reply exact K s text)) (messages (reading step reply exact K s text))
+  told_at_end K s text = drop (length (told step reply rules K s text)) (messages (reading step reply rules K s text))
 
 module _ {S H : Type 0} (step : S → Told → ℕ → S) (reply : S → Told → ℕ → Reply H) where
   -- the first reply to some messages that pauses, and to keep on where none does
@@ -56,20 +56,20 @@ module _ {S H : Type 0} (step : S → Told → ℕ → S) (reply : S → Told �
       if pauses (reply s m.token m.line) then reply s m.token m.line else first_pause (step s m.token m.line) M
 
   -- the reply that pauses at c, behind a text, where one does
-  abbrev pub pause_at : Bool → Start → S → List ℕ → ℕ → Reply H
-  pause_at exact K s text c =
-      first_pause (stepped step s (messages (told step reply exact K s text))) (told_beyond step reply exact K s text (c ∷ []))
+  abbrev pub pause_at : Rules → Start → S → List ℕ → ℕ → Reply H
+  pause_at rules K s text c =
+      first_pause (stepped step s (messages (told step reply rules K s text))) (told_beyond step reply rules K s text (c ∷ []))
 
   -- what a feed of a queue's text does behind `text`: it ends behind the first tag whose reply pauses
-  unfoldable pub feed : Bool → Start → S → List ℕ → List ℕ → Feed H
-  feed exact K s text [] = record { taken = []; left = []; answer = KeepOn }
-  feed exact K s text (c ∷ queue) = up_to_pause (pause_at exact K s text c) c queue (feed exact K s (text ++ c ∷ []) queue)
+  unfoldable pub feed : Rules → Start → S → List ℕ → List ℕ → Feed H
+  feed rules K s text [] = record { taken = []; left = []; answer = KeepOn }
+  feed rules K s text (c ∷ queue) = up_to_pause (pause_at rules K s text c) c queue (feed rules K s (text ++ c ∷ []) queue)
 
 -- what is left of a text is an end of it
 pub record IsEndOf (left text : List ℕ) : Type 0 where
   pub front : List ℕ
   pub parts : text ≡ front ++ left
 
--- at most two characters were taken for each that left the queue
-abbrev pub IsLinear : TextQueue → TextQueue → Type 0
-IsLinear old new = new.taken + 2 * length new.text ≤ old.taken + 2 * length old.text
+-- at most two characters were taken for each that left the queue, where so many are held of a reference before and after
+abbrev pub IsLinear : ℕ → TextQueue → ℕ → TextQueue → Type 0
+IsLinear held old held_after new = (new.taken + held_after) + 2 * length new.text ≤ (old.taken + held) + 2 * length old.text

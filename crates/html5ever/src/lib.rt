@@ -4,6 +4,7 @@
 mod input;
 mod position;
 mod reading;
+mod rules;
 pub mod tokenizer;
 
 pub use crate::tokenizer::{Tokenizer, TokenizerResult};

@@ -1,15 +1,21 @@
 //! Where a tokenizer stands in its stream.
-ghost use Rattle.std.specs.Prelude.{◌≡◌, ◌≢◌, ◌^◌, ◌<◌, ◌≤◌, ◌+◌, ◌&&◌, ℕ, List, ◌∷◌, [], false, length, take, drop, Contains, IfOk, IfErr, IfSome, OnOk, string_bytes};
+#![tactic(auto, unfolding(html5states::specs::CharRef::with_reference))]
+
+ghost use Rattle.std.specs.Prelude.{◌≡◌, ◌≢◌, ◌^◌, ◌<◌, ◌≤◌, ◌+◌, ◌&&◌, ℕ, List, ◌∷◌, [], true, false, length, take, drop, Contains, Some, IfOk, IfErr, IfSome, OnOk, string_bytes};
 ghost use Rattle.html5ever_interface.specs.Options.{options_of};
 ghost use Rattle.html5ever_interface.specs.Sink.{stepped, on_line};
 ghost use Rattle.html5ever_interface.specs.Token.{Told, tag_of};
 ghost use Rattle.html5ever_interface.specs.Token.Told.{Text};
 ghost use Rattle.html5grammar.specs.Characters.{is_bad_character};
-ghost use Rattle.html5grammar.specs.EndOfInput.{told_at_end_of};
+ghost use Rattle.html5grammar.specs.EndOfInput.{told_at_end_of, tokens_at_end};
+ghost use Rattle.html5grammar.specs.Reference.{ends_number, late_tokens, opened_behind};
 ghost use Rattle.html5grammar.specs.ErrorText.{bad_character_error};
 ghost use Rattle.html5grammar.specs.NormalisedText.{input_after};
 ghost use Rattle.html5grammar.specs.Reading.{told, messages, after, open_after_reply};
-ghost use Rattle.html5grammar.specs.Start.{start_of, is_clean};
+ghost use Rattle.html5grammar.specs.Slice.{tokens_of_late};
+ghost use Rattle.html5grammar.specs.Start.{start_of, is_clean, is_reference, held_len};
+ghost use Rattle.html5states.specs.CharRef.{HasStand, stand_of, found_at, begun_reference};
+ghost use Rattle.html5ever.specs.References.{BelongsTo, Decides};
 ghost use Rattle.html5grammar.specs.Start.Mode.{Data, Plain};
 ghost use Rattle.html5grammar.specs.Start.Open.{Between};
 ghost use Rattle.html5states.specs.CurrentTag.{stops_at_bad, opened_of};
@@ -17,16 +23,18 @@ ghost use Rattle.html5ever.specs.Feed.{reply_in, first_pause};
 ghost use Rattle.html5ever.specs.Refused.{IsRun};
 ghost use Rattle.html5states.specs.Runs.{IsRunAt, other_run_ends, run_ends, opened_after_run};
 ghost use Rattle.std.specs.Str.{IsUtf8, chars};
-ghost use Rattle.html5grammar.proofs.Machine.{step_at};
+ghost use Rattle.html5grammar.proofs.Machine.{step_at, brought_at, messages_here, opened_here};
 ghost use Rattle.html5states.specs.Steps.{IsBuilt, Leads, Ends, tokens_of, behind};
 ghost use Rattle.html5states.specs.Telling.{Tells, IsRefusal, tokens_in, faults_of};
 ghost use Rattle.html5ever.specs.Tokenizer.{CanStart};
 
 use crate::input::Input;
+use crate::rules::Rules;
 use html5ever_interface::interface::sink::TokenSink;
 use html5ever_interface::interface::token::{SinkFault, Tag, TagKind, Token, TokenSinkResult};
 use html5ever_interface::options::TokenizerOpts;
 use html5ever_interface::states::State;
+use html5states::char_ref::CharRef;
 use html5states::current_tag::CurrentTag;
 use html5states::error::TokenizerError;
 use html5states::message::is_bad;
@@ -41,16 +49,26 @@ use std::marker::Model;
 #[derive(Drop)]
 pub struct Position<A: Allocator = Global> {
     opened: Opened<A>,
+    // Whether a reference is open too, of which `held` has what was read.
+    in_reference: bool,
+    held: CharRef<A>,
     input: Input,
 }
 
 impl<A: Allocator> Model for Position<A> {
     ghost use Rattle.html5grammar.specs.Start.{Start};
+    ghost use Rattle.std.specs.Prelude.{◌≡◌, true};
+    ghost use Rattle.html5states.specs.CharRef.{HasStand, with_reference};
     ghost use Rattle.html5states.specs.CurrentTag.{opened_of};
 
     ghost Value = { Start };
 
-    ghost view = { λ p. record { opened = opened_of p.opened; input = p.input } };
+    ghost view = { λ p. record {
+      opened = with_reference p.in_reference p.held (opened_of p.opened);
+      input = p.input;
+    } };
+
+    ghost invariant = { λ p. p.in_reference ≡ true → HasStand (opened_of p.opened) };
 }
 
 impl<A: Allocator + Copy> Position<A> {
@@ -60,12 +78,23 @@ impl<A: Allocator + Copy> Position<A> {
         ensures start { result ≡ start_of (options_of opts.now) }
         ensures built { IsBuilt result.opened }
     {
+        let opened = Opened {
+            state: opts.initial_state.unwrap_or(State::Data),
+            tag: CurrentTag::new(alloc, TagKind::StartTag),
+        };
+        Position::standing(alloc, opened, Input::new(opts.discard_bom))
+    }
+
+    // No reference is open.
+    fn standing(alloc: A, opened: Opened<A>, input: Input) -> Position<A>
+        ensures opened { result.opened ≡ opened_of opened }
+        ensures input { result.input ≡ input }
+    {
         Position {
-            opened: Opened {
-                state: opts.initial_state.unwrap_or(State::Data),
-                tag: CurrentTag::new(alloc, TagKind::StartTag),
-            },
-            input: Input::new(opts.discard_bom),
+            opened,
+            in_reference: false,
+            held: CharRef::new(alloc),
+            input,
         }
     }
 
@@ -79,26 +108,26 @@ impl<A: Allocator + Copy> Position<A> {
 
     /// Tells what the end of input tells of what is open.
     pub fn tell_end_of_input<S: TokenSink<Token<A>>>(
-        &self,
+        &mut self,
         alloc: A,
         sink: &mut S,
-        exact_errors: bool,
+        rules: &Rules<'_, A>,
     ) -> Result<(), TokenizerError>
-        requires { IsBuilt self.now.opened }
+        requires { IsBuilt self.old.opened }
         ensures tells { Tells S.step S.faulted result (S.state sink.old)
-            (on_line self.now.input.line (told_at_end_of exact_errors self.now.opened)) (S.state sink.new) }
+            (on_line self.old.input.line (tokens_at_end rules.now self.old.opened)) (S.state sink.new) }
+        ensures built { IsBuilt self.new.opened }
         ensures faults { S.faults sink.new ≡ S.faults sink.old + faults_of result }
         ensures refusal { IfErr result IsRefusal }
-        ensures fits { self.now.input.line < 2 ^ 64 }
+        ensures fits { self.old.input.line < 2 ^ 64 }
     {
         let line = self.input.line();
-        let mut teller = Teller {
-            sink,
-            alloc,
-            exact_errors,
-            line,
-        };
-        teller.tell_end_of_input(&self.opened)
+        if !self.in_reference {
+            return tell_end(alloc, sink, rules, &self.opened, line);
+        }
+        finish_reference(alloc, sink, rules, &mut self.opened, &self.held, None, line)?;
+        self.in_reference = false;
+        tell_end(alloc, sink, rules, &self.opened, line)
     }
 
     /// Whether nothing is open.
@@ -106,7 +135,7 @@ impl<A: Allocator + Copy> Position<A> {
     pub fn is_clean(&self) -> bool
         ensures { result ≡ is_clean self.now.opened }
     {
-        matches!(self.opened.state, State::Data | State::Plaintext)
+        !self.in_reference && matches!(self.opened.state, State::Data | State::Plaintext)
     }
 
     /// Reads plain text from here on.
@@ -115,21 +144,33 @@ impl<A: Allocator + Copy> Position<A> {
         ensures input { self.new.input ≡ self.old.input }
     {
         self.opened.state = State::Plaintext;
+        self.in_reference = false;
+    }
+
+    // Begins a reference where the state is.
+    fn begin_reference(&mut self)
+        requires no_reference { is_reference self.old.opened ≡ false }
+        requires can_stand { IsBuilt (begun_reference self.old.opened) }
+        ensures opened { self.new.opened ≡ begun_reference self.old.opened }
+        ensures input { self.new.input ≡ self.old.input }
+    {
+        self.in_reference = true;
+        self.held.clear();
     }
 
     /// How many bytes of a text can be read at once from here: those of a run, where errors are not
     /// exact and no first character may be dropped.
     #[inline(always)]
-    pub fn run_len(&self, exact_errors: bool, text: &str) -> usize
+    pub fn run_len(&self, rules: &Rules<'_, A>, text: &str) -> usize
         ensures within { result ≤ length text.now }
         ensures rest_utf8 { IsUtf8 (drop result text.now) }
-        ensures run { result ≢ 0 → IsRun exact_errors self.now (chars (take result text.now)) }
+        ensures run { result ≢ 0 → IsRun rules.now self.now (chars (take result text.now)) }
         ensures fits { result ≢ 0 → self.now.input.line < 2 ^ 64 }
-        ensures found { exact_errors ≡ false → self.now.input.after_carriage_return ≡ false
+        ensures found { rules.now.exact ≡ false → self.now.input.after_carriage_return ≡ false
             → self.now.input.drops_byte_order_mark ≡ false → IfSome (other_run_ends self.now.opened) (λ others.
             (c : ℕ) (rest : List ℕ) → chars text.now ≡ c ∷ rest → ¬ Contains (run_ends others) c → result ≢ 0) }
     {
-        if exact_errors || !self.input.is_past_start() {
+        if rules.exact_errors || self.in_reference || !self.input.is_past_start() {
             return 0;
         }
         match run_ends(&self.opened) {
@@ -170,6 +211,7 @@ impl<A: Allocator + Copy> Position<A> {
         ensures opened { OnOk result
             (self.new.opened ≡ opened_after_run self.old.opened (chars run.now)) }
         ensures input { self.new.input ≡ self.old.input }
+        ensures held { held_len self.new.opened ≤ held_len self.old.opened }
         ensures memory { IfErr result (λ error. error ≡ TokenizerError.Memory) }
     {
         Ok(push_run(&mut self.opened, run)?)
@@ -261,6 +303,7 @@ fn tell_tag<S: TokenSink<Token<A>>, A: Allocator + Copy>(
     ensures answer { IfOk result (λ answer. reply_in string_bytes answer
         ≡ first_pause S.step S.reply (S.state sink.old) (on_line line (Told.Tag (tag_of tag) ∷ []))) }
     ensures input { position.new.input ≡ position.old.input }
+    ensures held { held_len position.new.opened ≡ 0 }
     ensures faults { S.faults sink.new ≡ S.faults sink.old + faults_of result }
 {
     match sink.process_token(Token::TagToken(tag), line) {
@@ -278,38 +321,164 @@ fn tell_tag<S: TokenSink<Token<A>>, A: Allocator + Copy>(
     }
 }
 
-/// Reads one character of the stream. The answer is `Done`, but behind a tag whose reply pauses.
+// Reads a character in the state that is open, where no reference is.
 #[inline(always)]
-pub fn read_character<S: TokenSink<Token<A>>, A: Allocator + Copy>(
+fn read_opened<S: TokenSink<Token<A>>, A: Allocator + Copy>(
     alloc: A,
     sink: &mut S,
-    exact_errors: bool,
+    rules: &Rules<'_, A>,
     position: &mut Position<A>,
     c: char,
 ) -> Result<TokenizerResult<S::Handle, String<A>>, TokenizerError>
+    requires { is_reference position.old.opened ≡ false }
     ensures tells { Tells S.step S.faulted result (S.state sink.old)
-        (messages (told S.step S.reply exact_errors position.old (S.state sink.old) (c ∷ []))) (S.state sink.new) }
+        (messages_here S.step S.reply rules.now position.old.input.line c (step_at rules.now.exact position.old.opened c)) (S.state sink.new) }
     ensures leads { IsBuilt position.old.opened → Leads result position.new.opened
-        (after S.step S.reply exact_errors position.old (S.state sink.old) (c ∷ [])).opened }
+        (opened_here S.step S.reply rules.now (S.state sink.old) position.old.input.line c (step_at rules.now.exact position.old.opened c)) }
     ensures answer { IfOk result (λ answer. reply_in string_bytes answer
         ≡ first_pause S.step S.reply (S.state sink.old)
-        (messages (told S.step S.reply exact_errors position.old (S.state sink.old) (c ∷ [])))) }
-    ensures input { position.new.input ≡ input_after position.old.input (c ∷ []) }
+        (messages_here S.step S.reply rules.now position.old.input.line c (step_at rules.now.exact position.old.opened c))) }
+    ensures input { position.new.input ≡ position.old.input }
+    ensures held { held_len position.new.opened ≡ 0 }
     ensures faults { S.faults sink.new ≡ S.faults sink.old + faults_of result }
 {
-    let Some(c) = position.input.advance(c) else {
-        return Ok(TokenizerResult::Done);
-    };
     let line = position.input.line();
-    if stops_at(exact_errors, position.opened.state, c) {
+    if stops_at(rules.exact_errors, position.opened.state, c) {
         return Err(TokenizerError::NotYet);
     }
-    report_bad_character(alloc, sink, exact_errors, c, line)?;
-    match step(alloc, sink, exact_errors, &mut position.opened, c, line)? {
+    report_bad_character(alloc, sink, rules.exact_errors, c, line)?;
+    match step(
+        alloc,
+        sink,
+        rules.exact_errors,
+        &mut position.opened,
+        c,
+        line,
+    )? {
         Progress::Continues => Ok(TokenizerResult::Done),
+        Progress::BeginsReference => {
+            position.begin_reference();
+            Ok(TokenizerResult::Done)
+        }
         Progress::EndsTag { self_closing } => {
             let tag = position.opened.tag.end(alloc, self_closing);
             tell_tag(sink, position, tag, line)
         }
     }
+}
+
+// Tells what the end of input tells, where no reference is open.
+fn tell_end<S: TokenSink<Token<A>>, A: Allocator + Copy>(
+    alloc: A,
+    sink: &mut S,
+    rules: &Rules<'_, A>,
+    opened: &Opened<A>,
+    line: u64,
+) -> Result<(), TokenizerError>
+    requires { IsBuilt (opened_of opened.now) }
+    ensures tells { Tells S.step S.faulted result (S.state sink.old)
+        (on_line line (told_at_end_of rules.now.exact (opened_of opened.now))) (S.state sink.new) }
+    ensures faults { S.faults sink.new ≡ S.faults sink.old + faults_of result }
+    ensures refusal { IfErr result IsRefusal }
+{
+    let mut teller = Teller {
+        sink,
+        alloc,
+        exact_errors: rules.exact_errors,
+        line,
+    };
+    teller.tell_end_of_input(opened)
+}
+
+// Tells what the next character, or the end, decides of a reference, and answers whether that is the
+// semicolon of a number.
+fn finish_reference<S: TokenSink<Token<A>>, A: Allocator + Copy>(
+    alloc: A,
+    sink: &mut S,
+    rules: &Rules<'_, A>,
+    opened: &mut Opened<A>,
+    held: &CharRef<A>,
+    next: Option<char>,
+    line: u64,
+) -> Result<bool, TokenizerError>
+    requires { HasStand (opened_of opened.old) }
+    ensures tells { Tells S.step S.faulted result (S.state sink.old)
+        (on_line line (tokens_of_late (late_tokens (stand_of (opened_of opened.old))
+        (found_at rules.now.exact rules.now.names (stand_of (opened_of opened.old)) held.now next) held.now))) (S.state sink.new) }
+    ensures leads { OnOk result (opened_of opened.new ≡ opened_behind (stand_of (opened_of opened.old))
+        (found_at rules.now.exact rules.now.names (stand_of (opened_of opened.old)) held.now next) held.now) }
+    ensures ends { IfOk result (λ ends. (c : ℕ) → next ≡ Some c → ends ≡ ends_number held.now c) }
+    ensures stays { HasStand (opened_of opened.new) }
+    ensures faults { S.faults sink.new ≡ S.faults sink.old + faults_of result }
+    ensures refusal { IfErr result IsRefusal }
+{
+    let mut teller = Teller {
+        sink,
+        alloc,
+        exact_errors: rules.exact_errors,
+        line,
+    };
+    teller.finish_reference(rules.names, opened, held, next)
+}
+
+// Reads a character behind what is held of a reference, whose line before it was `line`: whether it
+// belongs to the reference. Else the reference is decided, and the character is still to be read.
+fn read_reference<S: TokenSink<Token<A>>, A: Allocator + Copy>(
+    alloc: A,
+    sink: &mut S,
+    rules: &Rules<'_, A>,
+    position: &mut Position<A>,
+    line: u64,
+    c: char,
+) -> Result<bool, TokenizerError>
+    requires { is_reference position.old.opened ≡ true }
+    ensures tells { Tells S.step S.faulted result (S.state sink.old)
+        (on_line line (tokens_of_late (brought_at rules.now position.old.opened c).settled)) (S.state sink.new) }
+    ensures taken { result ≡ Ok true → BelongsTo rules.now position.old.opened c position.new.opened }
+    ensures decided { result ≡ Ok false → Decides rules.now position.old.opened c position.new.opened }
+    ensures refusal { IfErr result IsRefusal }
+    ensures input { position.new.input ≡ position.old.input }
+    ensures held { held_len position.new.opened ≤ held_len position.old.opened + 1 }
+    ensures faults { S.faults sink.new ≡ S.faults sink.old + faults_of result }
+{
+    if position.held.hold(rules.names, c)? {
+        return Ok(true);
+    }
+    let opened = &mut position.opened;
+    let ends = finish_reference(alloc, sink, rules, opened, &position.held, Some(c), line)?;
+    position.in_reference = false;
+    Ok(ends)
+}
+
+/// Reads one character of the stream. The answer is `Done`, but behind a tag whose reply pauses.
+#[inline(always)]
+pub fn read_character<S: TokenSink<Token<A>>, A: Allocator + Copy>(
+    alloc: A,
+    sink: &mut S,
+    rules: &Rules<'_, A>,
+    position: &mut Position<A>,
+    c: char,
+) -> Result<TokenizerResult<S::Handle, String<A>>, TokenizerError>
+    ensures tells { Tells S.step S.faulted result (S.state sink.old)
+        (messages (told S.step S.reply rules.now position.old (S.state sink.old) (c ∷ []))) (S.state sink.new) }
+    ensures leads { IsBuilt position.old.opened → Leads result position.new.opened
+        (after S.step S.reply rules.now position.old (S.state sink.old) (c ∷ [])).opened }
+    ensures answer { IfOk result (λ answer. reply_in string_bytes answer
+        ≡ first_pause S.step S.reply (S.state sink.old)
+        (messages (told S.step S.reply rules.now position.old (S.state sink.old) (c ∷ [])))) }
+    ensures input { position.new.input ≡ input_after position.old.input (c ∷ []) }
+    ensures held { held_len position.new.opened ≤ held_len position.old.opened + 1 }
+    ensures faults { S.faults sink.new ≡ S.faults sink.old + faults_of result }
+{
+    let before = position.input.line();
+    let Some(c) = position.input.advance(c) else {
+        return Ok(TokenizerResult::Done);
+    };
+    if !position.in_reference {
+        return read_opened(alloc, sink, rules, position, c);
+    }
+    if read_reference(alloc, sink, rules, position, before, c)? {
+        return Ok(TokenizerResult::Done);
+    }
+    read_opened(alloc, sink, rules, position, c)
 }

@@ -2,7 +2,7 @@
 ghost use Rattle.std.specs.Prelude.{◌≡◌, ◌^◌, ◌+◌, ◌<◌, ◌≤◌, [], true, false, IsOk, IfOk, IfErr, OnOk, length, take, drop, encode_utf8_all, string_bytes};
 ghost use Rattle.std.specs.Str.{IsUtf8, chars};
 ghost use Rattle.html5grammar.specs.Reading.{told, messages, after};
-ghost use Rattle.html5grammar.specs.Start.{is_clean};
+ghost use Rattle.html5grammar.specs.Start.{is_clean, held_len};
 ghost use Rattle.html5grammar.specs.Start.Open.{NotBuilt};
 ghost use Rattle.html5ever.specs.Feed.{IsEndOf, reply_in, feed};
 ghost use Rattle.html5ever.specs.Refused.{IsRun, RefusedBehind};
@@ -11,6 +11,7 @@ ghost use Rattle.html5states.specs.Steps.{IsBuilt};
 ghost use Rattle.html5states.specs.Telling.{Tells, IsNotFailed, IsRefusal, faults_of};
 
 use crate::position::{Position, read_character};
+use crate::rules::Rules;
 use html5ever_interface::interface::sink::TokenSink;
 use html5ever_interface::interface::token::Token;
 use html5states::error::TokenizerError;
@@ -24,6 +25,7 @@ use std::alloc::Allocator;
 fn tell_waiting_run<S: TokenSink<Token<A>>, A: Allocator + Copy>(
     alloc: A,
     sink: &mut S,
+    rules: &Rules<'_, A>,
     position: &Position<A>,
     queue: &mut BufferQueue<A>,
     bytes: usize,
@@ -31,9 +33,9 @@ fn tell_waiting_run<S: TokenSink<Token<A>>, A: Allocator + Copy>(
     requires clean { is_clean position.now.opened ≡ true }
     requires within { bytes ≤ length (encode_utf8_all queue.old.text) }
     requires rest_utf8 { IsUtf8 (drop bytes (encode_utf8_all queue.old.text)) }
-    requires is_run { IsRun false position.now (chars (take bytes (encode_utf8_all queue.old.text))) }
+    requires is_run { IsRun rules.now position.now (chars (take bytes (encode_utf8_all queue.old.text))) }
     requires fits { position.now.input.line < 2 ^ 64 }
-    ensures reads { ReadsRun S.step S.reply S.faulted false result position.now position.now
+    ensures reads { ReadsRun S.step S.reply S.faulted rules.now result position.now position.now
         queue.old queue.new (S.state sink.old) (S.state sink.new) }
     ensures refusal { IfErr result IsRefusal }
     ensures faults { S.faults sink.new ≡ S.faults sink.old + faults_of result }
@@ -51,24 +53,26 @@ fn tell_waiting_run<S: TokenSink<Token<A>>, A: Allocator + Copy>(
 fn read_waiting_run<S: TokenSink<Token<A>>, A: Allocator + Copy>(
     alloc: A,
     sink: &mut S,
-    exact_errors: bool,
+    rules: &Rules<'_, A>,
     position: &mut Position<A>,
     queue: &mut BufferQueue<A>,
 ) -> Result<(), TokenizerError>
     requires { IsBuilt position.old.opened }
-    ensures reads { ReadsRun S.step S.reply S.faulted exact_errors result position.old position.new
+    ensures reads { ReadsRun S.step S.reply S.faulted rules.now result position.old position.new
         queue.old queue.new (S.state sink.old) (S.state sink.new) }
     ensures refusal { IfErr result IsRefusal }
     ensures faults { S.faults sink.new ≡ S.faults sink.old + faults_of result }
     ensures built { OnOk result (IsBuilt position.new.opened) }
+    ensures held { held_len position.new.opened + length queue.new.text
+        ≤ held_len position.old.opened + length queue.old.text }
     ensures empty { queue.old.text ≡ [] → IsOk result }
 {
-    let bytes = position.run_len(exact_errors, queue.front_text());
+    let bytes = position.run_len(rules, queue.front_text());
     if bytes == 0 {
         return Ok(());
     }
     if position.is_clean() {
-        return tell_waiting_run(alloc, sink, position, queue, bytes);
+        return tell_waiting_run(alloc, sink, rules, position, queue, bytes);
     }
     let read = position.push_run(&queue.front_text()[..bytes]);
     queue.skip(bytes);
@@ -79,40 +83,42 @@ fn read_waiting_run<S: TokenSink<Token<A>>, A: Allocator + Copy>(
 pub fn read_queue<S: TokenSink<Token<A>>, A: Allocator + Copy>(
     alloc: A,
     sink: &mut S,
-    exact_errors: bool,
+    rules: &Rules<'_, A>,
     position: &mut Position<A>,
     queue: &mut BufferQueue<A>,
 ) -> Result<TokenizerResult<S::Handle, String<A>>, TokenizerError>
     requires { IsBuilt position.old.opened }
     ensures tells { Tells S.step S.faulted result (S.state sink.old)
-        (messages (told S.step S.reply exact_errors position.old (S.state sink.old)
-        (feed S.step S.reply exact_errors position.old (S.state sink.old) [] queue.old.text).taken)) (S.state sink.new) }
+        (messages (told S.step S.reply rules.now position.old (S.state sink.old)
+        (feed S.step S.reply rules.now position.old (S.state sink.old) [] queue.old.text).taken)) (S.state sink.new) }
     ensures moves { OnOk result
-        (position.new ≡ after S.step S.reply exact_errors position.old (S.state sink.old)
-        (feed S.step S.reply exact_errors position.old (S.state sink.old) [] queue.old.text).taken) }
+        (position.new ≡ after S.step S.reply rules.now position.old (S.state sink.old)
+        (feed S.step S.reply rules.now position.old (S.state sink.old) [] queue.old.text).taken) }
     ensures built { OnOk result (IsBuilt position.new.opened) }
     ensures answer { IfOk result (λ answer. reply_in string_bytes answer
-        ≡ (feed S.step S.reply exact_errors position.old (S.state sink.old) [] queue.old.text).answer) }
+        ≡ (feed S.step S.reply rules.now position.old (S.state sink.old) [] queue.old.text).answer) }
     ensures left { OnOk result
-        (queue.new.text ≡ (feed S.step S.reply exact_errors position.old (S.state sink.old) [] queue.old.text).left) }
+        (queue.new.text ≡ (feed S.step S.reply rules.now position.old (S.state sink.old) [] queue.old.text).left) }
     ensures not_yet { result ≡ Err TokenizerError.NotYet
-        → (after S.step S.reply exact_errors position.old (S.state sink.old)
-        (feed S.step S.reply exact_errors position.old (S.state sink.old) [] queue.old.text).taken).opened ≡ NotBuilt }
+        → (after S.step S.reply rules.now position.old (S.state sink.old)
+        (feed S.step S.reply rules.now position.old (S.state sink.old) [] queue.old.text).taken).opened ≡ NotBuilt }
     ensures not_failed { IfErr result IsNotFailed }
-    ensures refused { IfErr result (λ error. RefusedBehind S.step S.reply S.faulted exact_errors error
+    ensures refused { IfErr result (λ error. RefusedBehind S.step S.reply S.faulted rules.now error
         position.old (S.state sink.old) [] queue.old.text queue.new.text (S.state sink.new)) }
     ensures end_of_queue { IsEndOf queue.new.text queue.old.text }
     ensures taken { queue.new.taken + length queue.new.text ≡ queue.old.taken + length queue.old.text }
     ensures handed_in { queue.new.handed_in ≡ queue.old.handed_in }
+    ensures held { held_len position.new.opened + length queue.new.text
+        ≤ held_len position.old.opened + length queue.old.text }
     ensures faults { S.faults sink.new ≡ S.faults sink.old + faults_of result }
     ensures empty { queue.old.text ≡ [] → IsOk result }
 {
     loop {
-        read_waiting_run(alloc, sink, exact_errors, position, queue)?;
+        read_waiting_run(alloc, sink, rules, position, queue)?;
         let Some(c) = queue.next() else {
             return Ok(TokenizerResult::Done);
         };
-        match read_character(alloc, sink, exact_errors, position, c)? {
+        match read_character(alloc, sink, rules, position, c)? {
             TokenizerResult::Done => {}
             pause => return Ok(pause),
         }

@@ -2,19 +2,20 @@
 ghost use Rattle.std.specs.Prelude.{◌≡◌, ◌≢◌, ℕ, ◌^◌, ◌<◌, ◌+◌, ◌↔◌, ◌&&◌, not, List, [], true, false, IsOk, IfOk, IfErr, OnOk, is_ok, is_err, length, string_bytes};
 ghost use Rattle.html5ever_interface.specs.Options.{options_of};
 ghost use Rattle.html5ever_interface.specs.Sink.{stepped, on_line};
-ghost use Rattle.html5grammar.specs.EndOfInput.{told_at_end_of};
+ghost use Rattle.html5grammar.specs.EndOfInput.{tokens_at_end};
 ghost use Rattle.html5grammar.specs.Reading.{after};
-ghost use Rattle.html5grammar.specs.Start.{Start, start_of, is_clean};
+ghost use Rattle.html5grammar.specs.Start.{Start, start_of, is_clean, held_len};
 ghost use Rattle.html5grammar.specs.Start.Mode.{Plain};
 ghost use Rattle.html5grammar.specs.Start.Open.{Between};
 ghost use Rattle.html5ever.specs.Feed.{reply_in, IsEndOf, IsLinear};
 ghost use Rattle.html5states.specs.Steps.{IsBuilt};
 ghost use Rattle.html5states.specs.Telling.{faults_of};
-ghost use Rattle.html5ever.specs.Tokenizer.{CanStart, StandsAt, FeedsOn, HandsOn, LeavesWaiting, FeedMeetsNotBuilt};
+ghost use Rattle.html5ever.specs.Tokenizer.{CanStart, rules_of, StandsAt, FeedsOn, HandsOn, LeavesWaiting, FeedMeetsNotBuilt};
 ghost use Rattle.html5ever.specs.Tokenizer.{StopsFeeding, LeavesRefused, Finishes, StopsEnding, EndStops};
 
 use crate::position::Position;
 use crate::reading::read_queue;
+use crate::rules::Rules;
 use std::alloc::{Allocator, Global};
 use std::marker::Model;
 
@@ -36,21 +37,22 @@ pub use html5ever_interface::options::TokenizerOpts;
 pub use html5states::error::TokenizerError;
 pub use markup5ever::buffer_queue::SetResult::{FromSet, NotFromSet};
 pub use markup5ever::buffer_queue::{BufferQueue, SetResult};
+pub use markup5ever::data::{NamedReferences, TableError};
 pub use markup5ever::tokenizer_result::TokenizerResult;
 
 /// Reads a stream of text and tells its sink the tokens.
 #[derive(Drop)]
-pub struct Tokenizer<Sink, A: Allocator = Global> {
+pub struct Tokenizer<'t, Sink, A: Allocator = Global> {
     /// The sink that is told.
     pub sink: Sink,
     alloc: A,
-    exact_errors: bool,
+    rules: Rules<'t, A>,
     position: Position<A>,
     failed: bool,
     ended: bool,
 }
 
-impl<Sink, A: Allocator> Model for Tokenizer<Sink, A> {
+impl<'t, Sink, A: Allocator> Model for Tokenizer<'t, Sink, A> {
     ghost use Rattle.std.specs.Prelude.{◌≡◌, false};
     ghost use Rattle.html5states.specs.Steps.{IsBuilt};
     ghost use Rattle.html5ever.specs.Tokenizer.{Tokenizing};
@@ -59,7 +61,7 @@ impl<Sink, A: Allocator> Model for Tokenizer<Sink, A> {
 
     ghost view = { λ t. record {
       sink = t.sink;
-      exact = t.exact_errors;
+      rules = t.rules;
       position = t.position;
       failed = t.failed;
       ended = t.ended;
@@ -68,18 +70,26 @@ impl<Sink, A: Allocator> Model for Tokenizer<Sink, A> {
     ghost invariant = { λ t. t.failed ≡ false → IsBuilt t.position.opened };
 }
 
-impl<Sink: TokenSink<Token<A>>, A: Allocator + Copy> Tokenizer<Sink, A> {
-    /// A tokenizer at the start of a stream.
-    pub fn new(alloc: A, sink: Sink, opts: TokenizerOpts<A>) -> Tokenizer<Sink, A>
+impl<'t, Sink: TokenSink<Token<A>>, A: Allocator + Copy> Tokenizer<'t, Sink, A> {
+    /// A tokenizer at the start of a stream, which reads named references by the table.
+    pub fn new(
+        alloc: A,
+        sink: Sink,
+        opts: TokenizerOpts<A>,
+        names: &'t NamedReferences<A>,
+    ) -> Tokenizer<'t, Sink, A>
         requires { CanStart opts.initial_state }
         ensures stands { StandsAt Sink.state Sink.step Sink.reply result (start_of (options_of opts)) (Sink.state sink) [] }
-        ensures exact { result.exact ≡ opts.exact_errors }
+        ensures rules { result.rules ≡ rules_of (options_of opts) names.now }
         ensures sink { result.sink ≡ sink }
     {
         Tokenizer {
             sink,
             alloc,
-            exact_errors: opts.exact_errors,
+            rules: Rules {
+                exact_errors: opts.exact_errors,
+                names,
+            },
             position: Position::new(alloc, &opts),
             failed: false,
             ended: false,
@@ -124,9 +134,10 @@ impl<Sink: TokenSink<Token<A>>, A: Allocator + Copy> Tokenizer<Sink, A> {
         ensures empty { queue.old.text ≡ [] → self.old.failed ≡ false → IsOk result }
 
         // What each feed keeps.
-        ensures linear { IsLinear queue.old queue.new }
+        ensures linear { IsLinear (held_len self.old.position.opened) queue.old
+            (held_len self.new.position.opened) queue.new }
         ensures handed_in { queue.new.handed_in ≡ queue.old.handed_in }
-        ensures exact { self.new.exact ≡ self.old.exact }
+        ensures rules { self.new.rules ≡ self.old.rules }
         ensures going_on { self.new.ended ≡ false }
     {
         if self.failed {
@@ -135,7 +146,7 @@ impl<Sink: TokenSink<Token<A>>, A: Allocator + Copy> Tokenizer<Sink, A> {
         let result = read_queue(
             self.alloc,
             &mut self.sink,
-            self.exact_errors,
+            &self.rules,
             &mut self.position,
             queue,
         );
@@ -163,12 +174,7 @@ impl<Sink: TokenSink<Token<A>>, A: Allocator + Copy> Tokenizer<Sink, A> {
         if self.failed {
             return Err(TokenizerError::Failed);
         }
-        let result = tell_end(
-            self.alloc,
-            &mut self.sink,
-            self.exact_errors,
-            &self.position,
-        );
+        let result = tell_end(self.alloc, &mut self.sink, &self.rules, &mut self.position);
         self.failed = result.is_err();
         self.ended = result.is_ok();
         result
@@ -181,7 +187,7 @@ impl<Sink: TokenSink<Token<A>>, A: Allocator + Copy> Tokenizer<Sink, A> {
         ensures exact { result ≡ (is_clean self.now.position.opened && not self.now.failed && not self.now.ended) }
         ensures clean { (K : Start) (s : Sink.State) (text : List ℕ)
             → StandsAt Sink.state Sink.step Sink.reply self.now K s text
-            → result ≡ is_clean (after Sink.step Sink.reply self.now.exact K s text).opened }
+            → result ≡ is_clean (after Sink.step Sink.reply self.now.rules K s text).opened }
         ensures anew { result ≡ true → (x : Sink)
             → StandsAt Sink.state Sink.step Sink.reply (record self.now { sink = x }) self.now.position (Sink.state x) [] }
     {
@@ -199,7 +205,7 @@ impl<Sink: TokenSink<Token<A>>, A: Allocator + Copy> Tokenizer<Sink, A> {
         ensures anew { (x : Sink) → StandsAt Sink.state Sink.step Sink.reply (record self.new { sink = x })
             (record self.old.position { opened = Between Plain }) (Sink.state x) [] }
         ensures sink { self.new.sink ≡ self.old.sink }
-        ensures exact { self.new.exact ≡ self.old.exact }
+        ensures rules { self.new.rules ≡ self.old.rules }
     {
         self.position.set_plaintext();
     }
@@ -220,7 +226,7 @@ impl<Sink: TokenSink<Token<A>>, A: Allocator + Copy> Tokenizer<Sink, A> {
 
     /// The sink, with what it was told.
     pub fn into_sink(self) -> Sink
-        ensures { result ≡ self.sink }
+        ensures { result ≡ self.entry.sink }
     {
         self.sink
     }
@@ -230,19 +236,20 @@ impl<Sink: TokenSink<Token<A>>, A: Allocator + Copy> Tokenizer<Sink, A> {
 fn tell_end<S: TokenSink<Token<A>>, A: Allocator + Copy>(
     alloc: A,
     sink: &mut S,
-    exact_errors: bool,
-    position: &Position<A>,
+    rules: &Rules<'_, A>,
+    position: &mut Position<A>,
 ) -> Result<(), TokenizerError>
-    requires { IsBuilt position.now.opened }
+    requires { IsBuilt position.old.opened }
     ensures ok { OnOk result
         (S.state sink.new ≡ S.finish (stepped S.step (S.state sink.old)
-        (on_line position.now.input.line (told_at_end_of exact_errors position.now.opened)))) }
+        (on_line position.old.input.line (tokens_at_end rules.now position.old.opened)))) }
     ensures err { IfErr result (λ error. EndStops S.step S.faulted S.end_faulted error
-        (S.state sink.old) (on_line position.now.input.line (told_at_end_of exact_errors position.now.opened)) (S.state sink.new)) }
+        (S.state sink.old) (on_line position.old.input.line (tokens_at_end rules.now position.old.opened)) (S.state sink.new)) }
+    ensures built { IsBuilt position.new.opened }
     ensures faults { S.faults sink.new ≡ S.faults sink.old + faults_of result }
-    ensures fits { position.now.input.line < 2 ^ 64 }
+    ensures fits { position.old.input.line < 2 ^ 64 }
 {
-    position.tell_end_of_input(alloc, sink, exact_errors)?;
+    position.tell_end_of_input(alloc, sink, rules)?;
     match sink.end() {
         Ok(()) => Ok(()),
         Err(SinkFault) => Err(TokenizerError::Sink),

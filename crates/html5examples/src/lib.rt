@@ -4,18 +4,34 @@
 use html5ever::TokenizerError;
 use html5ever::tokenizer::collect::Collector;
 use html5ever::tokenizer::{
-    BufferQueue, Token, TokenSink, Tokenizer, TokenizerOpts, TokenizerResult, feed_until_done,
+    BufferQueue, NamedReferences, TableError, Token, TokenSink, Tokenizer, TokenizerOpts,
+    TokenizerResult, feed_until_done,
 };
 use std::alloc::Allocator;
+
+const NAMES: [(&str, char); 3] = [("amp", '&'), ("amp;", '&'), ("lt;", '<')];
+
+/// A table of a few names.
+pub fn few_names<A: Allocator + Copy>(alloc: A) -> Result<NamedReferences<A>, TableError> {
+    let mut entries = Vec::new(alloc);
+    for (name, c) in NAMES {
+        let entry = (String::from_str(alloc, name)?, c, None); // or a second character
+        if entries.push(entry).is_err() {
+            return Err(TableError::Memory);
+        }
+    }
+    NamedReferences::check(alloc, entries) // or the first fault, and where it is
+}
 
 /// What a text tells that arrives in two pieces.
 pub fn tokens_of<A: Allocator + Copy>(
     alloc: A,
+    names: &NamedReferences<A>,
     first: String<A>,
     second: String<A>,
 ) -> Result<Collector<A>, TokenizerError> {
     let sink = Collector::new(alloc, false); // or any lawful sink
-    let mut tokenizer = Tokenizer::new(alloc, sink, TokenizerOpts::default());
+    let mut tokenizer = Tokenizer::new(alloc, sink, TokenizerOpts::default(), names);
     let mut queue = BufferQueue::new(alloc);
     if queue.push_back(first).is_err() {
         return Err(TokenizerError::Memory); // a refused text comes back
@@ -33,10 +49,11 @@ pub fn tokens_of<A: Allocator + Copy>(
 pub fn read_with_script<S: TokenSink<Token<A>> + Drop, A: Allocator + Copy>(
     alloc: A,
     sink: S,
+    names: &NamedReferences<A>,
     text: String<A>,
     written: String<A>,
 ) -> Result<S, TokenizerError> {
-    let mut tokenizer = Tokenizer::new(alloc, sink, TokenizerOpts::default());
+    let mut tokenizer = Tokenizer::new(alloc, sink, TokenizerOpts::default(), names);
     let mut queue = BufferQueue::new(alloc);
     if queue.push_back(text).is_err() {
         return Err(TokenizerError::Memory);

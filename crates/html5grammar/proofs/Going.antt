@@ -50,7 +50,7 @@ within low high c both =
     let parts = and_parts (leb low c) (leb c high) both in
     (leb-true low c parts.0, leb-true c high parts.1)
 
-good_between : (c : ℕ) → 0x41 ≤ c → c ≤ 0x7A → is_bad_character c ≡ false
+pub good_between : (c : ℕ) → 0x23 ≤ c → c ≤ 0x7A → is_bad_character c ≡ false
 unfolding is_bad_character
 good_between c low high =
     let small : c % 0x1_0000 ≡ c = mod-eq_of_lt (omega (arith, high)) in
@@ -70,7 +70,7 @@ unfolding is_letter
 letter_is_good c false letter bad = refl
 letter_is_good c true letter bad =
     let good : is_bad_character c ≡ false = elim (or_cases (is_between 0x41 0x5A c) (is_between 0x61 0x7A c) letter) [
-      | inl upper ↦ good_between c (within 0x41 0x5A c upper).0 (omega (arith, (within 0x41 0x5A c upper).1))
+      | inl upper ↦ good_between c (omega (arith, (within 0x41 0x5A c upper).0)) (omega (arith, (within 0x41 0x5A c upper).1))
       | inr lower ↦ good_between c (omega (arith, (within 0x61 0x7A c lower).0)) (within 0x61 0x7A c lower).1
     ] in
     sym bad ∙ good

@@ -86,7 +86,7 @@ pub line_after-none : (I : Input) → I.line < 2 ^ 64 → line_after I [] ≡ I.
 unfolding line_after
 line_after-none I h = omega arith
 
-line_after-last : (I : Input) (Y : List ℕ) → min (line_after I Y + 0) last_line ≡ line_after I Y
+pub line_after-last : (I : Input) (Y : List ℕ) → min (line_after I Y + 0) last_line ≡ line_after I Y
 unfolding line_after
 line_after-last I Y = omega arith
 

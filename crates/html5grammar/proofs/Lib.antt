@@ -11,4 +11,10 @@ pub mod OneTagSteps
 pub mod OneTagParts
 pub mod OneTagReading
 pub mod OneTagCollected
+pub mod TableNames
+pub mod NameRuns
+pub mod OneReferenceReading
+pub mod OneReferenceCollected
 mod OneTagCases
+mod OneReferenceCases
+mod ReferenceCases

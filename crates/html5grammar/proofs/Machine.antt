@@ -1,20 +1,23 @@
 -- The machine between the slices and the code: what one character tells where something is open, and what is open then.
-use Rattle.std.specs.Prelude.{ℕ, Bool, false, List, [], ◌∷◌, ◌++◌, ◌==◌, ◌||◌, codes, encode_utf8, if◌then◌else◌}
-use Rattle.html5ever_interface.specs.Token.{Told}
-use Rattle.html5ever_interface.specs.Token.Told.{Text, Null}
+use Rattle.std.specs.Prelude.{ℕ, Bool, false, List, [], ◌∷◌, ◌++◌, ◌==◌, ◌||◌, codes, encode_utf8, Some, if◌then◌else◌}
+use Rattle.html5ever_interface.specs.Sink.{Message, stepped, on_line}
+use Rattle.html5ever_interface.specs.Token.{Told, Reply}
+use Rattle.html5ever_interface.specs.Token.Told.{Text, Null, Tag}
 use Rattle.html5ever_interface.specs.declared.interface.token.TagKind.TheVariants.{StartTag, EndTag}
 use Rattle.html5ever_interface.specs.declared.states.AttrValueKind.{AttrValueKind}
 use Rattle.html5ever_interface.specs.declared.states.AttrValueKind.TheVariants.{Unquoted, SingleQuoted, DoubleQuoted}
 use Rattle.html5ever_interface.specs.declared.states.State.TheVariants as state
 use Rattle.html5grammar.specs.Characters.{null, exclamation_mark, quotation_mark, ampersand, apostrophe, solidus, less_than, equals_sign, greater_than, question_mark, is_letter, is_white_space}
-use Rattle.html5grammar.specs.ErrorText.{error_in}
-use Rattle.html5grammar.specs.Reading.{Here}
+use Rattle.html5grammar.specs.ErrorText.{error_in, bad_character_error}
+use Rattle.html5grammar.specs.Reading.{Here, Brought, open_after_reply}
 use Rattle.html5grammar.specs.Reading.Here.{Tells, TellsTag, Stops}
-use Rattle.html5grammar.specs.Start.{OpenTag, Place, Open, begun}
+use Rattle.html5grammar.specs.Start.{OpenTag, Place, Stand, Open, Rules, begun}
+use Rattle.html5grammar.specs.Start.Stand.{InText, InAttribute}
 use Rattle.html5grammar.specs.Start.Mode.{Data, Plain}
 use Rattle.html5grammar.specs.Start.Place.{InName, BeforeAttribute, InAttributeName, AfterAttributeName, BeforeValue, InValue, AfterQuotedValue, AfterSolidus}
-use Rattle.html5grammar.specs.Start.Open.{Between, LessThan, LessThanSolidus, InTag, NotBuilt}
-use Rattle.html5grammar.specs.Tag.{with_last_attribute, duplicate_error, end_tag_errors, told_tag, null_error, with_value, in_quoted, in_unquoted, unquoted_error, in_attribute_name, attribute_name_error, with_last_name, place_error, first_error, is_after_solidus, in_tag_name, with_name}
+use Rattle.html5grammar.specs.Start.Open.{Between, LessThan, LessThanSolidus, InTag, InReference, NotBuilt}
+use Rattle.html5grammar.specs.Reference.{Found, in_value, reference, is_undecided, ends_number, late_tokens, opened_behind, with_value}
+use Rattle.html5grammar.specs.Tag.{with_last_attribute, duplicate_error, end_tag_errors, told_tag, null_error, in_quoted, in_unquoted, unquoted_error, in_attribute_name, attribute_name_error, with_last_name, place_error, first_error, is_after_solidus, in_tag_name, with_name}
 use Rattle.html5grammar.specs.Text.{plain_text}
 
 -- a step with more told in front
@@ -60,13 +63,13 @@ after_attribute_name_step exact tag c =
 unfoldable pub quoted_step : Bool → AttrValueKind → OpenTag → ℕ → Here Open
 quoted_step exact kind tag c =
     if in_quoted kind c then Tells (null_error exact (state.AttributeValue kind) c) (InTag (InValue kind) (with_value tag (c ∷ [])))
-    else if c == ampersand then Stops []
+    else if c == ampersand then Tells [] (InReference (InAttribute kind tag) [])
     else Tells [] (InTag AfterQuotedValue tag)
 
 unfoldable pub unquoted_step : Bool → OpenTag → ℕ → Here Open
 unquoted_step exact tag c =
     if in_unquoted c then Tells (unquoted_error exact c) (InTag (InValue Unquoted) (with_value tag (c ∷ [])))
-    else if c == ampersand then Stops []
+    else if c == ampersand then Tells [] (InReference (InAttribute Unquoted tag) [])
     else if c == greater_than then closing_step [] tag false
     else Tells [] (InTag BeforeAttribute tag)
 
@@ -93,7 +96,7 @@ tag_step exact AfterSolidus tag c = part_step exact AfterSolidus tag c
 unfoldable pub data_step : Bool → List Told → ℕ → Here Open
 data_step exact before c =
     if c == less_than then Tells before LessThan
-    else if c == ampersand then Stops before
+    else if c == ampersand then Tells before (InReference InText [])
     else if c == null then Tells (before ++ error_in exact state.Data c ∷ Null ∷ []) (Between Data)
     else Tells (before ++ Text (encode_utf8 c) ∷ []) (Between Data)
 
@@ -116,4 +119,36 @@ step_at exact (Between Plain) c = Tells (plain_text exact c) (Between Plain)
 step_at exact LessThan c = less_than_step exact c
 step_at exact LessThanSolidus c = solidus_step exact c
 step_at exact (InTag place tag) c = tag_step exact place tag c
+step_at exact (InReference stand held) c = Stops []
 step_at exact NotBuilt c = Stops []
+
+-- a character behind what is held of a reference
+unfoldable pub reference_step : Rules → Stand → List ℕ → ℕ → Brought Open
+reference_step rules stand held c =
+    let found : Found = reference rules (in_value stand) held (Some c) in
+    if is_undecided rules.names (held ++ c ∷ []) then record { settled = []; here = Tells [] (InReference stand (held ++ c ∷ [])) }
+    else if ends_number held c then record { settled = late_tokens stand found held; here = Tells [] (opened_behind stand found held) }
+    else record { settled = late_tokens stand found held; here = step_at rules.exact (opened_behind stand found held) c }
+
+-- what a character brings: where no reference is open it decides nothing that stands before it
+unfoldable pub brought_at : Rules → Open → ℕ → Brought Open
+brought_at rules (InReference stand held) c = reference_step rules stand held c
+brought_at rules (Between mode) c = record { settled = []; here = step_at rules.exact (Between mode) c }
+brought_at rules LessThan c = record { settled = []; here = step_at rules.exact LessThan c }
+brought_at rules LessThanSolidus c = record { settled = []; here = step_at rules.exact LessThanSolidus c }
+brought_at rules (InTag place tag) c = record { settled = []; here = step_at rules.exact (InTag place tag) c }
+brought_at rules NotBuilt c = record { settled = []; here = Stops [] }
+
+module _ {S H : Type 0} (step : S → Told → ℕ → S) (reply : S → Told → ℕ → Reply H) (rules : Rules) where
+  -- the messages at c, and what is open behind it
+
+  unfoldable pub messages_here : ℕ → ℕ → Here Open → List Message
+  messages_here line c (Tells told later) = on_line line (bad_character_error rules.exact c ++ told)
+  messages_here line c (TellsTag told tag) = on_line line ((bad_character_error rules.exact c ++ told) ++ Tag tag ∷ [])
+  messages_here line c (Stops told) = on_line line told
+
+  unfoldable pub opened_here : S → ℕ → ℕ → Here Open → Open
+  opened_here s line c (Tells told later) = later
+  opened_here s line c (TellsTag told tag) =
+      open_after_reply (reply (stepped step s (on_line line (bad_character_error rules.exact c ++ told))) (Tag tag) line)
+  opened_here s line c (Stops told) = NotBuilt

@@ -1,22 +1,26 @@
 -- The machine tells a tag where one ends, and no other.
 use Rattle.std.proofs.Common.{◌≡◌, ℕ, Bool, true, false, List, [], ◌∷◌, ◌++◌, refl}
-use Rattle.std.specs.Prelude.{◌&&◌, ◌||◌, ◌==◌, encode_utf8, if◌then◌else◌}
+use Rattle.std.specs.Prelude.{◌&&◌, ◌||◌, ◌==◌, encode_utf8, map, drop, length, Option, None, Some, if◌then◌else◌}
 use Rattle.html5ever_interface.specs.Token.{Told, is_tag}
 use Rattle.html5ever_interface.specs.Token.Told.{Text}
 use Rattle.html5ever_interface.specs.declared.states.State.TheVariants as state
 use Rattle.html5ever_interface.specs.declared.states.AttrValueKind.{AttrValueKind}
 use Rattle.html5ever_interface.specs.declared.states.AttrValueKind.TheVariants.{Unquoted, SingleQuoted, DoubleQuoted}
-use Rattle.html5grammar.specs.Characters.{null, replacement_character, exclamation_mark, quotation_mark, ampersand, apostrophe, solidus, less_than, equals_sign, greater_than, question_mark, is_letter, is_white_space, is_bad_character}
+use Rattle.html5grammar.specs.Characters.{null, number_sign, replacement_character, exclamation_mark, quotation_mark, ampersand, apostrophe, solidus, less_than, equals_sign, greater_than, question_mark, is_letter, is_white_space, is_bad_character}
 use Rattle.html5grammar.specs.ErrorText.{error_in, where_true, bad_character_error}
-use Rattle.html5grammar.specs.Reading.{Here}
+use Rattle.html5grammar.specs.Reading.{Here, Brought}
+use Rattle.html5grammar.specs.Reference.{Found, in_value, reference, number_reference, named_reference, no_name, unended_number, has_digits, longest_name, is_ended, goes_on, first_or, is_undecided, ends_number, text_in, told_of, characters_in, held_text, late_tokens}
+use Rattle.html5grammar.specs.Slice.{Late, tokens_of_late}
+use Rattle.html5grammar.specs.Start.Stand.{InText, InAttribute}
+use Rattle.markup5ever.specs.NamedReferences.{NamedReference}
 use Rattle.html5grammar.specs.Reading.Here.{Tells, TellsTag, Stops}
-use Rattle.html5grammar.specs.Start.{OpenTag, Place, Open}
+use Rattle.html5grammar.specs.Start.{OpenTag, Place, Stand, Open, Rules}
 use Rattle.html5grammar.specs.Start.Mode.{Data, Plain}
 use Rattle.html5grammar.specs.Start.Place.{InName, BeforeAttribute, InAttributeName, AfterAttributeName, BeforeValue, InValue, AfterQuotedValue, AfterSolidus}
-use Rattle.html5grammar.specs.Start.Open.{Between, LessThan, LessThanSolidus, InTag, NotBuilt}
+use Rattle.html5grammar.specs.Start.Open.{Between, LessThan, LessThanSolidus, InTag, InReference, NotBuilt}
 use Rattle.html5grammar.specs.Tag.{duplicate_error, end_tag_errors, with_last_attribute, in_quoted, in_unquoted, unquoted_error, in_attribute_name, place_error, first_error, in_tag_name}
 use Rattle.html5grammar.specs.Text.{plain_text}
-use Rattle.html5grammar.proofs.Machine.{closing_step, tag_name_step, part_step, attribute_name_step, after_attribute_name_step, quoted_step, unquoted_step, before_value_step, tag_step, data_step, less_than_step, solidus_step, step_at}
+use Rattle.html5grammar.proofs.Machine.{closing_step, tag_name_step, part_step, attribute_name_step, after_attribute_name_step, quoted_step, unquoted_step, before_value_step, tag_step, data_step, less_than_step, solidus_step, step_at, reference_step, brought_at}
 
 unfoldable pub NoTags : List Told → Type 0
 NoTags [] = Unit {0}
@@ -140,4 +144,91 @@ module _ (exact : Bool) (c : ℕ) where
   no_tags-step_at LessThanSolidus =
       no_tags-if (is_letter c) _ _ (no_tags-tag_name _) (no_tags-if (c == greater_than) _ _ (refl, tt) tt)
   no_tags-step_at (InTag place tag) = no_tags-tag place tag
+  no_tags-step_at (InReference stand held) = tt
   no_tags-step_at NotBuilt = tt
+
+-- what is decided late is text, or an error
+
+no_tags-found : (test : Bool) (p q : Found) → NoTags p.errors → NoTags q.errors → NoTags (if test then p else q).errors
+no_tags-found true p q f g = f
+no_tags-found false p q f g = g
+
+no_tags-unended : (next : Option ℕ) → NoTags (unended_number next)
+unfolding unended_number NoTags
+no_tags-unended None = (refl, tt)
+no_tags-unended (Some c) = no_tags-where _ _ refl
+
+no_tags-number : (exact : Bool) (text : List ℕ) (next : Option ℕ) → NoTags (number_reference exact text next).errors
+unfolding number_reference NoTags
+no_tags-number exact text next =
+    no_tags-found (has_digits text) _ _ (no_tags-append _ _ (no_tags-unended next) (no_tags-where _ _ refl)) (refl, tt)
+
+no_tags-no_name : (exact : Bool) (held : List ℕ) (next : Option ℕ) → NoTags (no_name exact held next).errors
+unfolding no_name NoTags
+no_tags-no_name exact [] next = tt
+no_tags-no_name exact (c ∷ held) None = tt
+no_tags-no_name exact (c ∷ held) (Some d) = no_tags-where _ _ refl
+
+no_tags-named : (exact in_value : Bool) (held : List ℕ) (next : Option ℕ) (entry : Option NamedReference) → NoTags (named_reference exact in_value held next entry).errors
+unfolding named_reference NoTags
+no_tags-named exact in_value held next None = no_tags-no_name exact held next
+no_tags-named exact in_value held next (Some entry) =
+    no_tags-found (is_ended entry.name) _ _ tt (no_tags-found (in_value && goes_on (first_or (drop (length entry.name) held) next)) _ _ tt (refl, tt))
+
+no_tags-reference : (rules : Rules) (in_value : Bool) (held : List ℕ) (next : Option ℕ) → NoTags (reference rules in_value held next).errors
+unfolding reference NoTags
+no_tags-reference rules in_value [] next = tt
+no_tags-reference rules in_value (c ∷ held) next =
+    no_tags-found (c == number_sign) _ _ (no_tags-number rules.exact held next)
+    (no_tags-named rules.exact in_value (c ∷ held) next (longest_name rules.names (c ∷ held)))
+
+no_tags-texts : (characters : List ℕ) → NoTags (map (λ (c : ℕ). Text (encode_utf8 c)) characters)
+unfolding NoTags
+no_tags-texts [] = tt
+no_tags-texts (c ∷ characters) = (refl, no_tags-texts characters)
+
+no_tags-text_in : (stand : Stand) (characters : List ℕ) → NoTags (text_in stand characters)
+unfolding NoTags
+no_tags-text_in InText characters = no_tags-texts characters
+no_tags-text_in (InAttribute kind tag) characters = tt
+
+no_tags-late_append : (l m : List Late) → NoTags (tokens_of_late l) → NoTags (tokens_of_late m) → NoTags (tokens_of_late (l ++ m))
+unfolding NoTags
+no_tags-late_append [] m f g = g
+no_tags-late_append (x ∷ l) m f g = (f.0, no_tags-late_append l m f.1 g)
+
+no_tags-late_map : (back : ℕ) (is_held : Bool) (tokens : List Told) → NoTags tokens
+    → NoTags (tokens_of_late (map (λ token. record { token = token; back = back; is_held = is_held }) tokens))
+unfolding NoTags
+no_tags-late_map back is_held [] f = tt
+no_tags-late_map back is_held (t ∷ tokens) f = (f.0, no_tags-late_map back is_held tokens f.1)
+
+no_tags-held_text : (stand : Stand) (held : List ℕ) → NoTags (tokens_of_late (held_text stand held))
+unfolding held_text NoTags
+no_tags-held_text stand [] = tt
+no_tags-held_text stand (c ∷ held) =
+    no_tags-late_append _ _ (no_tags-late_map _ _ (text_in stand (c ∷ [])) (no_tags-text_in stand (c ∷ []))) (no_tags-held_text stand held)
+
+no_tags-late_tokens : (rules : Rules) (stand : Stand) (held : List ℕ) (next : Option ℕ)
+    → NoTags (tokens_of_late (late_tokens stand (reference rules (in_value stand) held next) held))
+no_tags-late_tokens rules stand held next =
+    let found : Found = reference rules (in_value stand) held next in
+    no_tags-late_append _ _
+    (no_tags-late_map _ _ (told_of stand found) (no_tags-append _ _ (no_tags-reference rules (in_value stand) held next) (no_tags-text_in stand (characters_in found))))
+    (no_tags-held_text stand (drop found.taken held))
+
+no_tags-brought : (test : Bool) (p q : Brought Open) → NoTags (tokens_of_late p.settled) → NoTags (tokens_of_late q.settled)
+    → NoTags (tokens_of_late (if test then p else q).settled)
+no_tags-brought true p q f g = f
+no_tags-brought false p q f g = g
+
+pub no_tags-settled : (rules : Rules) (opened : Open) (c : ℕ) → NoTags (tokens_of_late (brought_at rules opened c).settled)
+unfolding brought_at reference_step NoTags
+no_tags-settled rules (Between mode) c = tt
+no_tags-settled rules LessThan c = tt
+no_tags-settled rules LessThanSolidus c = tt
+no_tags-settled rules (InTag place tag) c = tt
+no_tags-settled rules (InReference stand held) c =
+    no_tags-brought (is_undecided rules.names (held ++ c ∷ [])) _ _ tt
+    (no_tags-brought (ends_number held c) _ _ (no_tags-late_tokens rules stand held (Some c)) (no_tags-late_tokens rules stand held (Some c)))
+no_tags-settled rules NotBuilt c = tt

@@ -14,24 +14,25 @@ use Rattle.html5grammar.specs.NormalisedText.{line_after}
 use Rattle.html5grammar.specs.OneTag.{Value, Part, WrittenTag, Spelled, spell, spell_silent, spell_value, spell_name, spell_part, spell_parts, opening, place_behind, attributes_with, repeated_error, all_attributes, end_place, end_error, end_errors, unclosed, written, spelled, spelled_messages, tag_messages, IsTag}
 use Rattle.html5grammar.specs.OneTag.Part.{Blank, Solidus, Name, Attribute}
 use Rattle.html5grammar.specs.OneTag.Value.{InDoubleQuotes, InSingleQuotes, Bare}
-use Rattle.html5grammar.specs.Start.{Input, OpenTag, Place, Start}
+use Rattle.html5grammar.specs.Start.{Input, OpenTag, Place, Start, Rules}
 use Rattle.html5grammar.specs.Reading.{reading, messages}
 use Rattle.html5grammar.proofs.OneTagReading.{reading-tag}
 use Rattle.html5grammar.specs.Start.Place.{InName, BeforeAttribute, InAttributeName, AfterAttributeName, BeforeValue, InValue, AfterQuotedValue, AfterSolidus}
-use Rattle.html5grammar.specs.Tag.{null_error, unquoted_error, attribute_name_error, place_error, first_error, attributes_error, self_closing_error, end_tag_errors, is_after_solidus, silent}
+use Rattle.html5grammar.specs.Slice.{silent}
+use Rattle.html5grammar.specs.Tag.{null_error, unquoted_error, attribute_name_error, place_error, first_error, attributes_error, self_closing_error, end_tag_errors, is_after_solidus}
 use Rattle.markup5ever.specs.Names.{AttributeOf}
 
 -- ---- tokens without a text
 
-abbrev HasNoText : List Told → Type 0
+abbrev pub HasNoText : List Told → Type 0
 HasNoText [] = Unit {0}
 HasNoText (token ∷ tokens) = (told_text token ≡ None) × HasNoText tokens
 
-HasNoText-append : (xs ys : List Told) → HasNoText xs → HasNoText ys → HasNoText (xs ++ ys)
+pub HasNoText-append : (xs ys : List Told) → HasNoText xs → HasNoText ys → HasNoText (xs ++ ys)
 HasNoText-append [] ys f g = g
 HasNoText-append (x ∷ xs) ys f g = (f.0, HasNoText-append xs ys f.1 g)
 
-HasNoText-where : (holds : Bool) (message : List ℕ) → HasNoText (where_true holds (Error message))
+pub HasNoText-where : (holds : Bool) (message : List ℕ) → HasNoText (where_true holds (Error message))
 HasNoText-where true message = (refl, tt)
 HasNoText-where false message = tt
 
@@ -141,7 +142,7 @@ collected-token : (c : Collected) (token : Told) (line : ℕ) → told_text toke
 unfolding with_message
 collected-token c token line h = rw h refl
 
-collected-on_line : (c : Collected) (line : ℕ) (tokens : List Told) → HasNoText tokens
+pub collected-on_line : (c : Collected) (line : ℕ) (tokens : List Told) → HasNoText tokens
     → stepped collected_step c (on_line line tokens) ≡ record c { messages = c.messages ++ on_line line tokens }
 unfolding stepped
 collected-on_line c line [] h = rw append-nil refl
@@ -177,10 +178,10 @@ collected-tag exact input c tag =
     ∙ rw (append_assoc c.messages M N) refl)
 
 -- what a collector holds behind a text that is one tag
-pub collects-tag : (H : Type 0) (exact : Bool) (K : Start) (foreign : Bool) (X : List ℕ) (tag : WrittenTag) → IsTag K X tag
-    → collected_finish (stepped collected_step (none_collected foreign) (messages (reading collected_step (collected_reply {H = H}) exact K (none_collected foreign) X)))
-    ≡ record { messages = tag_messages exact K.input tag; finished = true; foreign = foreign }
-collects-tag H exact K foreign X tag one =
+pub collects-tag : (H : Type 0) (rules : Rules) (K : Start) (foreign : Bool) (X : List ℕ) (tag : WrittenTag) → IsTag K X tag
+    → collected_finish (stepped collected_step (none_collected foreign) (messages (reading collected_step (collected_reply {H = H}) rules K (none_collected foreign) X)))
+    ≡ record { messages = tag_messages rules.exact K.input tag; finished = true; foreign = foreign }
+collects-tag H rules K foreign X tag one =
     ap (λ M. collected_finish (stepped collected_step (none_collected foreign) M))
-    (reading-tag collected_step (collected_reply {H = H}) exact K (none_collected foreign) X tag (λ t line. refl) one)
-    ∙ ap collected_finish (collected-tag exact K.input (none_collected foreign) tag)
+    (reading-tag collected_step (collected_reply {H = H}) rules K (none_collected foreign) X tag (λ t line. refl) one)
+    ∙ ap collected_finish (collected-tag rules.exact K.input (none_collected foreign) tag)

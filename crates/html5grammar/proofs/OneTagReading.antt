@@ -13,26 +13,27 @@ use Rattle.html5ever_interface.specs.declared.interface.token.TagKind.TheVariant
 use Rattle.html5ever_interface.specs.declared.states.AttrValueKind.TheVariants.{SingleQuoted, DoubleQuoted}
 use Rattle.html5ever_interface.specs.declared.states.State.TheVariants as state
 use Rattle.html5grammar.specs.Characters.{quotation_mark, apostrophe, greater_than, equals_sign, is_letter}
-use Rattle.html5grammar.specs.EndOfInput.{told_at_end_of}
+use Rattle.html5grammar.specs.EndOfInput.{late_at_end_of, open_at_end_of, told_at_end_of}
 use Rattle.html5grammar.specs.ErrorText.{bad_character_error}
 use Rattle.html5grammar.specs.NormalisedText.{normalised, line_after}
 use Rattle.html5grammar.specs.OneTag.{Value, Part, WrittenTag, Spelled, spell, spell_silent, spell_value, spell_part, spell_parts, value_text, part_text, opening, written, is_written, can_follow, place_behind, attributes_with, name_shown, all_attributes, end_place, tag_told, end_errors, end_error, repeated_error, spelled, spelled_messages, tag_messages, IsTag}
 use Rattle.html5grammar.specs.OneTag.Part.{Blank, Solidus, Name, Attribute}
 use Rattle.html5grammar.specs.OneTag.Value.{InDoubleQuotes, InSingleQuotes, Bare}
-use Rattle.html5grammar.specs.Reading.{reading, read, told, messages, after, end_events}
+use Rattle.html5grammar.specs.Reading.{reading, read, told, messages, after, end_events, late_events}
 use Rattle.html5grammar.specs.Reading.Here.{TellsTag}
-use Rattle.html5grammar.specs.Start.{Input, OpenTag, Place, Open, Start, begun}
+use Rattle.html5grammar.specs.Start.{Input, OpenTag, Place, Open, Start, begun, Rules}
 use Rattle.html5grammar.specs.Start.Mode.{Data}
 use Rattle.html5grammar.specs.Start.Place.{InName}
 use Rattle.html5grammar.specs.Start.Open.{Between, LessThan, LessThanSolidus, InTag}
-use Rattle.html5grammar.specs.Tag.{with_name, with_last_attribute, told_tag, end_tag_errors, null_error, unquoted_error, silent, attribute_name_error, in_tag_name, is_after_solidus}
+use Rattle.html5grammar.specs.Slice.{silent}
+use Rattle.html5grammar.specs.Tag.{with_name, with_last_attribute, told_tag, end_tag_errors, null_error, unquoted_error, attribute_name_error, in_tag_name, is_after_solidus}
 use Rattle.html5grammar.proofs.InputLemmas.{line_after-past}
 use Rattle.html5grammar.proofs.Machine.{step_at, data_step, less_than_step, solidus_step, tag_name_step}
 use Rattle.html5grammar.proofs.OneTagParts.{Holds, Holds-none, Led, goes-parts, can_end-parts}
 use Rattle.html5grammar.proofs.OneTagSteps.{can_end, Goes, Goes-append, goes-name, step-end, letter-in_tag_name}
 use Rattle.html5grammar.proofs.ReadingLemmas.{told-trace, after-opened, reading-events}
 use Rattle.html5grammar.proofs.Slices.{with_name-cons}
-use Rattle.html5grammar.proofs.Traces.{Trace, trace, trace_here, with_messages, messages-append}
+use Rattle.html5grammar.proofs.Traces.{brought-tells, trace_brought, Trace, trace, trace_here, with_messages, messages-append}
 use Rattle.markup5ever.specs.Names.{AttributeOf}
 
 -- ---- the characters that are spelled are the text
@@ -150,28 +151,28 @@ module _ (exact : Bool) where
         ends = ends-tag tag led.behind (can_end-parts InName tag.parts refl) led.holds;
       }
 
-module _ {S H : Type 0} (step : S → Told → ℕ → S) (reply : S → Told → ℕ → Reply H) (exact : Bool) where
+module _ {S H : Type 0} (step : S → Told → ℕ → S) (reply : S → Told → ℕ → Reply H) (rules : Rules) where
   trace-last : (input : Input) (before : List ℕ) (s : S) (opened : Open) (c : ℕ) (errors : List Told) (tag : TagOf)
       → ((t : S) (line : ℕ) → reply t (Tag tag) line ≡ KeepOn)
-      → step_at exact opened c ≡ TellsTag errors tag
-      → trace step reply exact s (line_after input before) opened (c ∷ [])
-      ≡ record { messages = spelled_messages exact input before (record { character = c; told = errors ++ Tag tag ∷ [] } ∷ []); opened = Between Data }
-  unfolding trace trace_here spelled_messages
+      → step_at rules.exact opened c ≡ TellsTag errors tag
+      → trace step reply rules s (line_after input before) opened (c ∷ [])
+      ≡ record { messages = spelled_messages rules.exact input before (record { character = c; told = errors ++ Tag tag ∷ [] } ∷ []); opened = Between Data }
+  unfolding trace trace_brought trace_here spelled_messages
   trace-last input before s opened c errors tag keeps ends =
-      rw (ends, line_after-past input before c, keeps, append_assoc (bad_character_error exact c) errors (Tag tag ∷ [])) refl
+      rw (brought-tells rules opened c _ refl ends, line_after-past input before c, keeps, append_assoc (bad_character_error rules.exact c) errors (Tag tag ∷ [])) refl
 
   trace-tag : (input : Input) (before : List ℕ) (s : S) (opened behind : Open) (cells : List Spelled) (c : ℕ) (errors : List Told) (tag : TagOf)
       → ((t : S) (line : ℕ) → reply t (Tag tag) line ≡ KeepOn)
-      → Goes exact opened cells behind
-      → step_at exact behind c ≡ TellsTag errors tag
-      → trace step reply exact s (line_after input before) opened (characters cells ++ c ∷ [])
-      ≡ record { messages = spelled_messages exact input before (cells ++ record { character = c; told = errors ++ Tag tag ∷ [] } ∷ []); opened = Between Data }
-  unfolding Goes trace trace_here spelled_messages
+      → Goes rules.exact opened cells behind
+      → step_at rules.exact behind c ≡ TellsTag errors tag
+      → trace step reply rules s (line_after input before) opened (characters cells ++ c ∷ [])
+      ≡ record { messages = spelled_messages rules.exact input before (cells ++ record { character = c; told = errors ++ Tag tag ∷ [] } ∷ []); opened = Between Data }
+  unfolding Goes trace trace_brought trace_here spelled_messages stepped
   trace-tag input before s opened behind [] c errors tag keeps goes ends =
       rw goes (trace-last input before s behind c errors tag keeps ends)
   trace-tag input before s opened behind (here ∷ more) c errors tag keeps goes ends =
-      let M : List Message = on_line (line_after input (before ++ here.character ∷ [])) (bad_character_error exact here.character ++ here.told) in
-      rw (goes.1, ← line_after-past input before here.character)
+      let M : List Message = on_line (line_after input (before ++ here.character ∷ [])) (bad_character_error rules.exact here.character ++ here.told) in
+      rw (brought-tells rules opened here.character _ refl goes.1, ← line_after-past input before here.character)
       (ap (with_messages M) (trace-tag input (before ++ here.character ∷ []) (stepped step s M) goes.0 behind more c errors tag keeps goes.2 ends))
 
   -- a text that is one tag, behind which the sink keeps on
@@ -179,26 +180,26 @@ module _ {S H : Type 0} (step : S → Told → ℕ → S) (reply : S → Told �
   reads-one_tag : (K : Start) (s : S) (X : List ℕ) (tag : WrittenTag)
       → ((t : S) (line : ℕ) → reply t (Tag (tag_told tag)) line ≡ KeepOn)
       → IsTag K X tag
-      → trace step reply exact s (line_after K.input []) K.opened (normalised K.input X)
-      ≡ record { messages = spelled_messages exact K.input [] (spelled exact tag); opened = Between Data }
+      → trace step reply rules s (line_after K.input []) K.opened (normalised K.input X)
+      ≡ record { messages = spelled_messages rules.exact K.input [] (spelled rules.exact tag); opened = Between Data }
   unfolding spelled
   reads-one_tag K s X tag keeps one =
-      let r : ReadsTag exact tag = reads-tag exact tag one.is_tag in
-      rw (one.starts, one.text, ← characters-body exact tag)
-      (trace-tag K.input [] s (Between Data) r.behind (body exact tag) greater_than (end_errors exact tag) (tag_told tag) keeps r.goes r.ends)
+      let r : ReadsTag rules.exact tag = reads-tag rules.exact tag one.is_tag in
+      rw (one.starts, one.text, ← characters-body rules.exact tag)
+      (trace-tag K.input [] s (Between Data) r.behind (body rules.exact tag) greater_than (end_errors rules.exact tag) (tag_told tag) keeps r.goes r.ends)
 
   pub after-tag : (K : Start) (s : S) (X : List ℕ) (tag : WrittenTag)
       → ((t : S) (line : ℕ) → reply t (Tag (tag_told tag)) line ≡ KeepOn)
-      → IsTag K X tag → (after step reply exact K s X).opened ≡ Between Data
-  after-tag K s X tag keeps one = after-opened step reply exact K s X ∙ ap (λ (t : Trace). t.opened) (reads-one_tag K s X tag keeps one)
+      → IsTag K X tag → (after step reply rules K s X).opened ≡ Between Data
+  after-tag K s X tag keeps one = after-opened step reply rules K s X ∙ ap (λ (t : Trace). t.opened) (reads-one_tag K s X tag keeps one)
 
   pub reading-tag : (K : Start) (s : S) (X : List ℕ) (tag : WrittenTag)
       → ((t : S) (line : ℕ) → reply t (Tag (tag_told tag)) line ≡ KeepOn)
-      → IsTag K X tag → messages (reading step reply exact K s X) ≡ tag_messages exact K.input tag
-  unfolding end_events told_at_end_of tag_messages
+      → IsTag K X tag → messages (reading step reply rules K s X) ≡ tag_messages rules.exact K.input tag
+  unfolding end_events late_at_end_of open_at_end_of late_events told_at_end_of tag_messages
   reading-tag K s X tag keeps one =
-      let tells : messages (told step reply exact K s X) ≡ spelled_messages exact K.input [] (spelled exact tag) =
-      told-trace step reply exact K s X ∙ ap (λ (t : Trace). t.messages) (reads-one_tag K s X tag keeps one) in
-      ap messages (reading-events step reply exact K s X)
-      ∙ messages-append (told step reply exact K s X) (end_events step reply exact K (read step reply exact K s X).opened (normalised K.input X))
+      let tells : messages (told step reply rules K s X) ≡ spelled_messages rules.exact K.input [] (spelled rules.exact tag) =
+      told-trace step reply rules K s X ∙ ap (λ (t : Trace). t.messages) (reads-one_tag K s X tag keeps one) in
+      ap messages (reading-events step reply rules K s X)
+      ∙ messages-append (told step reply rules K s X) (end_events step reply rules K (read step reply rules K s X).opened (normalised K.input X))
       ∙ rw (tells, after-tag K s X tag keeps one, one.text) refl

@@ -13,14 +13,16 @@ use Rattle.html5grammar.specs.Reading.Here.{Tells, TellsTag}
 use Rattle.html5grammar.specs.Start.{OpenTag, Place, Open}
 use Rattle.html5grammar.specs.Start.Place.{InName, BeforeAttribute, InAttributeName, AfterAttributeName, BeforeValue, InValue, AfterQuotedValue, AfterSolidus}
 use Rattle.html5grammar.specs.Start.Open.{InTag}
-use Rattle.html5grammar.specs.Tag.{with_last_attribute, duplicate_error, end_tag_errors, told_tag, null_error, with_value, in_quoted, in_unquoted, unquoted_error, in_attribute_name, attribute_name_error, with_last_name, place_error, first_error, is_after_solidus, in_tag_name, with_name, silent}
+use Rattle.html5grammar.specs.Slice.{silent}
+use Rattle.html5grammar.specs.Reference.{with_value}
+use Rattle.html5grammar.specs.Tag.{with_last_attribute, duplicate_error, end_tag_errors, told_tag, null_error, in_quoted, in_unquoted, unquoted_error, in_attribute_name, attribute_name_error, with_last_name, place_error, first_error, is_after_solidus, in_tag_name, with_name}
 use Rattle.html5grammar.proofs.Machine.{step_at, closing_step, tag_name_step, part_step, attribute_name_step, after_attribute_name_step, quoted_step, unquoted_step, before_value_step, tag_step}
 use Rattle.html5grammar.proofs.Slices.{with_name-nil, with_last_name-nil, with_value-nil, with_name-cons, with_last_name-cons, with_value-cons}
 
 -- ---- kinds of characters
 
 -- a character of a kind is none of another
-is_not : (is_kind : ℕ → Bool) (c d : ℕ) → is_kind d ≡ false → is_kind c ≡ true → (c == d) ≡ false
+pub is_not : (is_kind : ℕ → Bool) (c d : ℕ) → is_kind d ≡ false → is_kind c ≡ true → (c == d) ≡ false
 is_not is_kind c d other member =
     false_from_ne_true (c == d) (λ e. false≢true (sym other ∙ sym (ap is_kind (eqb-true c d e)) ∙ member))
 

@@ -1,24 +1,28 @@
 -- Reading a text in two parts: the second is read anew from the start behind the first.
 use Rattle.std.proofs.Common.{◌≡◌, ℕ, Bool, true, false, List, [], ◌∷◌, ◌++◌, refl, ap, sym, ◌∙◌}
-use Rattle.std.specs.Prelude.{map, take_while}
-use Rattle.std.proofs.lemmas.List.{append_assoc, append-nil}
+use Rattle.std.specs.Prelude.{suc, ◌-◌, None, length, drop, map, take_while, if◌then◌else◌}
+use Rattle.std.proofs.lemmas.List.{append_assoc, append-nil, map-append}
 use native.Mathlib.Numerals.{one-add}
 use Rattle.html5ever_interface.proofs.Steppings.{stepped-append}
 use Rattle.html5ever_interface.specs.Sink.{Message, stepped, on_line}
 use Rattle.html5ever_interface.specs.Token.{Told, Reply}
 use Rattle.html5ever_interface.specs.Token.Told.{Tag}
 use Rattle.html5grammar.specs.Cutting.{rest_of}
-use Rattle.html5grammar.specs.EndOfInput.{told_at_end_of}
+use Rattle.html5grammar.specs.EndOfInput.{late_at_end_of, open_at_end_of, told_at_end_of, tokens_at_end}
 use Rattle.html5grammar.specs.ErrorText.{bad_character_error}
 use Rattle.html5grammar.specs.NormalisedText.{with_line_feeds, without_dropped_first, normalised, line_after, input_after}
-use Rattle.html5grammar.specs.Reading.{Event, Here, Read, here, is_character, events_at, read_here, read_from, read, end_events, reading, told, messages, after, open_after_reply}
+use Rattle.html5grammar.specs.Reading.{Event, Here, Brought, Read, brought, is_character, events_at, late_event, late_events, read_here, read_from, read, end_events, reading, told, messages, after, open_after_reply}
+use Rattle.html5grammar.specs.Reading.TextPlace.{Character, EndOfInput}
+use Rattle.html5grammar.specs.Reference.{Found, in_value, reference, held_text, late_tokens}
+use Rattle.html5ever_interface.specs.declared.states.AttrValueKind.{AttrValueKind}
 use Rattle.html5grammar.specs.Reading.Here.{Tells, TellsTag, Stops}
-use Rattle.html5grammar.specs.Slice.{Slice, cut_off}
-use Rattle.html5grammar.specs.Start.{Input, Start, Open}
-use Rattle.html5grammar.specs.Start.Open.{Between, LessThan, LessThanSolidus, InTag, NotBuilt}
-use Rattle.html5grammar.proofs.Machine.{step_at}
+use Rattle.html5grammar.specs.Slice.{Slice, Late, cut_off, tokens_of_late}
+use Rattle.html5grammar.specs.Start.{Input, OpenTag, Stand, Start, Open, Rules}
+use Rattle.html5grammar.specs.Start.Stand.{InText, InAttribute}
+use Rattle.html5grammar.specs.Start.Open.{Between, LessThan, LessThanSolidus, InTag, InReference, NotBuilt}
+use Rattle.html5grammar.proofs.Machine.{brought_at, messages_here, opened_here}
 use Rattle.html5grammar.proofs.InputLemmas.{line_past, lines_past, normalised-append, input_after-line_none, input_after-append, input_after-line_one}
-use Rattle.html5grammar.proofs.Traces.{Trace, Traces, with_messages, trace, trace_here, traces}
+use Rattle.html5grammar.proofs.Traces.{Trace, Traces, with_messages, trace, trace_here, trace_brought, traces, messages-append, messages-map, messages-late}
 
 take_while-cons : {X : Type 0} → (p : X → Bool) (x : X) (xs : List X) → p x ≡ true → take_while p (x ∷ xs) ≡ x ∷ take_while p xs
 take_while-cons p x xs h = rw (h, one-add) refl
@@ -47,73 +51,152 @@ decided-told_at_end exact (Between mode) f h = rw (h _) refl
 decided-told_at_end exact LessThan f h = rw (h _) refl
 decided-told_at_end exact LessThanSolidus f h = rw (h _) refl
 decided-told_at_end exact (InTag place tag) f h = rw (h _) refl
+decided-told_at_end exact (InReference stand held) f h = refl
 decided-told_at_end exact NotBuilt f h = refl
 
-module _ {S H : Type 0} (step : S → Told → ℕ → S) (reply : S → Told → ℕ → Reply H) (exact : Bool) where
+-- what a character decides late is decided by characters
+
+decided-late_event : (I : Input) (before : List ℕ) (k : ℕ) (l : Late) → is_character (late_event I before (Character k) l).decided_by ≡ true
+decided-late_event I before k l = elim l.is_held as (λ b. is_character (if b then Character (suc (length before) - l.back) else Character k) ≡ true) [
+  | true ↦ refl
+  | false ↦ refl
+]
+
+decided-late : (I : Input) (before : List ℕ) (k : ℕ) (late : List Late) (F E : List Event)
+    → take_while (λ e. is_character e.decided_by) (F ++ E) ≡ F ++ take_while (λ e. is_character e.decided_by) E
+    → take_while (λ e. is_character e.decided_by) ((late_events I before (Character k) late ++ F) ++ E)
+    ≡ (late_events I before (Character k) late ++ F) ++ take_while (λ e. is_character e.decided_by) E
+unfolding late_events
+decided-late I before k late F E ih =
+    rw (append_assoc (late_events I before (Character k) late) F E)
+    (take_while-map (λ e. is_character e.decided_by) _ (decided-late_event I before k) late (F ++ E)
+    ∙ ap (λ l. late_events I before (Character k) late ++ l) ih
+    ∙ sym (append_assoc (late_events I before (Character k) late) F (take_while (λ e. is_character e.decided_by) E)))
+
+-- what the end decides of a reference is not
+
+late_first : (I : Input) (Y : List ℕ) (back : ℕ) (tokens : List Told) (later : List Late) (E : List Event) → (t : Told) (ts : List Told) → tokens ≡ t ∷ ts
+    → take_while (λ (e : Event). is_character e.decided_by)
+    (late_events I Y EndOfInput (map (λ token. record { token = token; back = back; is_held = false }) tokens ++ later) ++ E) ≡ []
+unfolding late_events
+late_first I Y back tokens later E t ts e = rw e refl
+
+held_text-in_value : (kind : AttrValueKind) (tag : OpenTag) (held : List ℕ) → held_text (InAttribute kind tag) held ≡ []
+unfolding held_text
+held_text-in_value kind tag [] = refl
+held_text-in_value kind tag (c ∷ held) = held_text-in_value kind tag held
+
+module _ (I : Input) (Y : List ℕ) (E : List Event) (none : take_while (λ (e : Event). is_character e.decided_by) E ≡ []) where
+  decided-none : (back : ℕ) (errors : List Told)
+      → take_while (λ (e : Event). is_character e.decided_by)
+      (late_events I Y EndOfInput (map (λ token. record { token = token; back = back; is_held = false }) (errors ++ []) ++ []) ++ E) ≡ []
+  unfolding late_events
+  decided-none back [] = none
+  decided-none back (t ∷ errors) = late_first I Y back (t ∷ (errors ++ [])) [] E t (errors ++ []) refl
+
+  decided-text : (back : ℕ) (errors : List Told) (t : Told) (ts : List Told) (later : List Late)
+      → take_while (λ (e : Event). is_character e.decided_by)
+      (late_events I Y EndOfInput (map (λ token. record { token = token; back = back; is_held = false }) (errors ++ t ∷ ts) ++ later) ++ E) ≡ []
+  decided-text back [] t ts later = late_first I Y back (t ∷ ts) later E t ts refl
+  decided-text back (x ∷ errors) t ts later = late_first I Y back (x ∷ (errors ++ t ∷ ts)) later E x (errors ++ t ∷ ts) refl
+
+  decided-late_tokens : (stand : Stand) (found : Found) (held : List ℕ)
+      → take_while (λ (e : Event). is_character e.decided_by) (late_events I Y EndOfInput (late_tokens stand found held) ++ E) ≡ []
+  decided-late_tokens InText found held = decided-text _ found.errors _ _ _
+  decided-late_tokens (InAttribute kind tag) found held =
+      rw (held_text-in_value kind tag (drop found.taken held)) (decided-none _ found.errors)
+
+  decided-late_at_end : (rules : Rules) (opened : Open)
+      → take_while (λ (e : Event). is_character e.decided_by) (late_events I Y EndOfInput (late_at_end_of rules opened) ++ E) ≡ []
+  unfolding late_at_end_of late_events
+  decided-late_at_end rules (Between mode) = none
+  decided-late_at_end rules LessThan = none
+  decided-late_at_end rules LessThanSolidus = none
+  decided-late_at_end rules (InTag place tag) = none
+  decided-late_at_end rules (InReference stand held) = decided-late_tokens stand (reference rules (in_value stand) held None) held
+  decided-late_at_end rules NotBuilt = none
+
+module _ {S H : Type 0} (step : S → Told → ℕ → S) (reply : S → Told → ℕ → Reply H) (rules : Rules) where
   abbrev pub start_behind : Start → S → List ℕ → Start
-  start_behind K s X = after step reply exact K s X
+  start_behind K s X = after step reply rules K s X
 
   -- the events of a reading are decided by characters, but for those of the end
 
   decided-end : (K : Start) (opened : Open) (Y : List ℕ)
-      → take_while (λ (e : Event). is_character e.decided_by) (end_events step reply exact K opened Y) ≡ []
+      → take_while (λ (e : Event). is_character e.decided_by) (end_events step reply rules K opened Y) ≡ []
   unfolding end_events
-  decided-end K opened Y = decided-told_at_end exact opened _ (λ x. refl)
+  decided-end K opened Y =
+      decided-late_at_end K.input Y _ (decided-told_at_end rules.exact (open_at_end_of rules opened) _ (λ x. refl)) rules opened
 
   decided-here : (K : Start) (s : S) (before : List ℕ) (c : ℕ) (h : Here Slice) (rest : S → Slice → Read) (E : List Event)
       → ((t : S) (slice : Slice) → take_while (λ e. is_character e.decided_by) ((rest t slice).events ++ E) ≡ (rest t slice).events ++ take_while (λ e. is_character e.decided_by) E)
-      → take_while (λ e. is_character e.decided_by) ((read_here step reply exact K rest cut_off s before c h).events ++ E)
-      ≡ (read_here step reply exact K rest cut_off s before c h).events ++ take_while (λ e. is_character e.decided_by) E
+      → take_while (λ e. is_character e.decided_by) ((read_here step reply rules K rest cut_off s before c h).events ++ E)
+      ≡ (read_here step reply rules K rest cut_off s before c h).events ++ take_while (λ e. is_character e.decided_by) E
   decided-here K s before c (Tells told goes_on) rest E ih = decided-events_at K.input before c _ (rest _ goes_on).events E (ih _ goes_on)
   decided-here K s before c (TellsTag told tag) rest E ih = decided-events_at K.input before c _ (rest _ _).events E (ih _ _)
   decided-here K s before c (Stops told) rest E ih =
       rw (← append-nil (events_at K.input before c told)) (decided-events_at K.input before c told [] E refl)
 
   decided-read_from : (K : Start) (s : S) (before : List ℕ) (slice : Slice) (Y : List ℕ) (E : List Event)
-      → take_while (λ e. is_character e.decided_by) ((read_from step reply exact K s before slice Y).events ++ E)
-      ≡ (read_from step reply exact K s before slice Y).events ++ take_while (λ e. is_character e.decided_by) E
+      → take_while (λ e. is_character e.decided_by) ((read_from step reply rules K s before slice Y).events ++ E)
+      ≡ (read_from step reply rules K s before slice Y).events ++ take_while (λ e. is_character e.decided_by) E
   unfolding read_from
   decided-read_from K s before slice [] E = refl
   decided-read_from K s before slice (c ∷ Y) E =
-      decided-here K s before c (here exact slice c Y) (λ t rest. read_from step reply exact K t (before ++ c ∷ []) rest Y) E
-      (λ t rest. decided-read_from K t (before ++ c ∷ []) rest Y E)
+      decided-late K.input before (length before) (brought rules slice c Y).settled _ E
+      (decided-here K _ before c (brought rules slice c Y).here (λ t rest. read_from step reply rules K t (before ++ c ∷ []) rest Y) E
+      (λ t rest. decided-read_from K t (before ++ c ∷ []) rest Y E))
 
-  pub told-events : (K : Start) (s : S) (X : List ℕ) → told step reply exact K s X ≡ (read step reply exact K s X).events
+  pub told-events : (K : Start) (s : S) (X : List ℕ) → told step reply rules K s X ≡ (read step reply rules K s X).events
   unfolding told reading read
   told-events K s X =
-      decided-read_from K s [] (rest_of exact K.opened (normalised K.input X)) (normalised K.input X) _
-      ∙ rw (decided-end K (read step reply exact K s X).opened (normalised K.input X)) (append-nil (read step reply exact K s X).events)
+      decided-read_from K s [] (rest_of rules K.opened (normalised K.input X)) (normalised K.input X) _
+      ∙ rw (decided-end K (read step reply rules K s X).opened (normalised K.input X)) (append-nil (read step reply rules K s X).events)
 
   pub reading-events : (K : Start) (s : S) (X : List ℕ)
-      → reading step reply exact K s X ≡ told step reply exact K s X ++ end_events step reply exact K (read step reply exact K s X).opened (normalised K.input X)
+      → reading step reply rules K s X ≡ told step reply rules K s X ++ end_events step reply rules K (read step reply rules K s X).opened (normalised K.input X)
   unfolding reading
   reading-events K s X = rw (told-events K s X) refl
+
+  -- the messages of the end
+  pub messages-at_end : (K : Start) (s : S) (X : List ℕ)
+      → messages (end_events step reply rules K (read step reply rules K s X).opened (normalised K.input X))
+      ≡ on_line (line_after K.input (normalised K.input X)) (tokens_at_end rules (start_behind K s X).opened)
+  unfolding end_events
+  messages-at_end K s X =
+      let Y : List ℕ = normalised K.input X in
+      let opened : Open = (read step reply rules K s X).opened in
+      let tokens : List Told = told_at_end_of rules.exact (open_at_end_of rules opened) in
+      let message : Told → Message = λ token. record { token = token; line = line_after K.input Y } in
+      messages-append (late_events K.input Y EndOfInput (late_at_end_of rules opened)) _
+      ∙ rw (messages-late step reply rules K Y EndOfInput (late_at_end_of rules opened), messages-map (λ token. record { message = message token; stands = EndOfInput; decided_by = EndOfInput }) message (λ t. refl) tokens)
+      (sym (map-append message (tokens_of_late (late_at_end_of rules opened)) tokens))
 
   -- the trace of a text
 
   pub read-traces : (K : Start) (s : S) (X : List ℕ)
-      → Traces (read step reply exact K s X) (trace step reply exact s (line_after K.input []) K.opened (normalised K.input X))
+      → Traces (read step reply rules K s X) (trace step reply rules s (line_after K.input []) K.opened (normalised K.input X))
   unfolding read
-  read-traces K s X = traces step reply exact K s [] K.opened (normalised K.input X)
+  read-traces K s X = traces step reply rules K s [] K.opened (normalised K.input X)
 
   pub told-trace : (K : Start) (s : S) (X : List ℕ)
-      → messages (told step reply exact K s X) ≡ (trace step reply exact s (line_after K.input []) K.opened (normalised K.input X)).messages
+      → messages (told step reply rules K s X) ≡ (trace step reply rules s (line_after K.input []) K.opened (normalised K.input X)).messages
   told-trace K s X = ap messages (told-events K s X) ∙ (read-traces K s X).messages
 
   -- nothing is told where what isn't built yet was met
-  trace-not_built : (s : S) (line : ℕ) (W : List ℕ) → trace step reply exact s line NotBuilt W ≡ record { messages = []; opened = NotBuilt }
-  unfolding trace trace_here step_at
+  trace-not_built : (s : S) (line : ℕ) (W : List ℕ) → trace step reply rules s line NotBuilt W ≡ record { messages = []; opened = NotBuilt }
+  unfolding trace trace_brought trace_here brought_at
   trace-not_built s line [] = refl
   trace-not_built s line (c ∷ W) = refl
 
   abbrev going_on : S → ℕ → Trace → List ℕ → Trace
-  going_on s line t W = with_messages t.messages (trace step reply exact (stepped step s t.messages) line t.opened W)
+  going_on s line t W = with_messages t.messages (trace step reply rules (stepped step s t.messages) line t.opened W)
 
   going_on-with : (s : S) (line : ℕ) (M : List Message) (t : Trace) (W : List ℕ)
       → with_messages M (going_on (stepped step s M) line t W) ≡ going_on s line (with_messages M t) W
   going_on-with s line M t W =
-      rw (stepped-append step s M t.messages) (ap (λ l. record { messages = l; opened = (trace step reply exact (stepped step (stepped step s M) t.messages) line t.opened W).opened })
-      (sym (append_assoc M t.messages (trace step reply exact (stepped step (stepped step s M) t.messages) line t.opened W).messages)))
+      rw (stepped-append step s M t.messages) (ap (λ l. record { messages = l; opened = (trace step reply rules (stepped step (stepped step s M) t.messages) line t.opened W).opened })
+      (sym (append_assoc M t.messages (trace step reply rules (stepped step (stepped step s M) t.messages) line t.opened W).messages)))
 
   stepped-last : (s : S) (line : ℕ) (tokens : List Told) (token : Told)
       → step (stepped step s (on_line line tokens)) token line ≡ stepped step s (on_line line (tokens ++ token ∷ []))
@@ -122,54 +205,65 @@ module _ {S H : Type 0} (step : S → Told → ℕ → S) (reply : S → Told �
   stepped-last s line (x ∷ tokens) token = stepped-last (step s x line) line tokens token
 
   trace-append-here : (s : S) (line : ℕ) (c : ℕ) (Y W : List ℕ) (h : Here Open)
-      → ((t : S) (later : Open) → trace step reply exact t line later (Y ++ W) ≡ going_on t (lines_past line Y) (trace step reply exact t line later Y) W)
-      → trace_here step reply exact (λ t later. trace step reply exact t line later (Y ++ W)) s line c h
-      ≡ going_on s (lines_past line Y) (trace_here step reply exact (λ t later. trace step reply exact t line later Y) s line c h) W
+      → ((t : S) (later : Open) → trace step reply rules t line later (Y ++ W) ≡ going_on t (lines_past line Y) (trace step reply rules t line later Y) W)
+      → trace_here step reply rules (λ t later. trace step reply rules t line later (Y ++ W)) s line c h
+      ≡ going_on s (lines_past line Y) (trace_here step reply rules (λ t later. trace step reply rules t line later Y) s line c h) W
   unfolding trace_here
   trace-append-here s line c Y W (Tells told later) ih =
-      let M : List Message = on_line line (bad_character_error exact c ++ told) in
+      let M : List Message = on_line line (bad_character_error rules.exact c ++ told) in
       ap (with_messages M) (ih (stepped step s M) later)
-      ∙ going_on-with s (lines_past line Y) M (trace step reply exact (stepped step s M) line later Y) W
+      ∙ going_on-with s (lines_past line Y) M (trace step reply rules (stepped step s M) line later Y) W
   trace-append-here s line c Y W (TellsTag told tag) ih =
-      let tokens : List Told = bad_character_error exact c ++ told in
+      let tokens : List Told = bad_character_error rules.exact c ++ told in
       let M : List Message = on_line line (tokens ++ Tag tag ∷ []) in
       let later : Open = open_after_reply (reply (stepped step s (on_line line tokens)) (Tag tag) line) in
       rw (stepped-last s line tokens (Tag tag))
       (ap (with_messages M) (ih (stepped step s M) later)
-      ∙ going_on-with s (lines_past line Y) M (trace step reply exact (stepped step s M) line later Y) W)
+      ∙ going_on-with s (lines_past line Y) M (trace step reply rules (stepped step s M) line later Y) W)
   trace-append-here s line c Y W (Stops told) ih =
       rw (trace-not_built (stepped step s (on_line line told)) (lines_past line Y) W, append-nil (on_line line told)) refl
 
+  trace-append-brought : (s : S) (line : ℕ) (c : ℕ) (Y W : List ℕ) (next : Brought Open)
+      → ((t : S) (later : Open) → trace step reply rules t (line_past line c) later (Y ++ W) ≡ going_on t (lines_past (line_past line c) Y) (trace step reply rules t (line_past line c) later Y) W)
+      → trace_brought step reply rules (λ t later. trace step reply rules t (line_past line c) later (Y ++ W)) s line c next
+      ≡ going_on s (lines_past (line_past line c) Y) (trace_brought step reply rules (λ t later. trace step reply rules t (line_past line c) later Y) s line c next) W
+  unfolding trace_brought
+  trace-append-brought s line c Y W next ih =
+      let M : List Message = on_line line (tokens_of_late next.settled) in
+      ap (with_messages M) (trace-append-here (stepped step s M) (line_past line c) c Y W next.here ih)
+      ∙ going_on-with s (lines_past (line_past line c) Y) M
+      (trace_here step reply rules (λ t later. trace step reply rules t (line_past line c) later Y) (stepped step s M) (line_past line c) c next.here) W
+
   trace-append : (s : S) (line : ℕ) (opened : Open) (Y W : List ℕ)
-      → trace step reply exact s line opened (Y ++ W) ≡ going_on s (lines_past line Y) (trace step reply exact s line opened Y) W
+      → trace step reply rules s line opened (Y ++ W) ≡ going_on s (lines_past line Y) (trace step reply rules s line opened Y) W
   unfolding trace lines_past stepped
   trace-append s line opened [] W = refl
   trace-append s line opened (c ∷ Y) W =
-      trace-append-here s (line_past line c) c Y W (step_at exact opened c) (λ t later. trace-append t (line_past line c) later Y W)
+      trace-append-brought s line c Y W (brought_at rules opened c) (λ t later. trace-append t (line_past line c) later Y W)
 
   pub after-opened : (K : Start) (s : S) (X : List ℕ)
-      → (start_behind K s X).opened ≡ (trace step reply exact s (line_after K.input []) K.opened (normalised K.input X)).opened
+      → (start_behind K s X).opened ≡ (trace step reply rules s (line_after K.input []) K.opened (normalised K.input X)).opened
   after-opened K s X = (read-traces K s X).opened
 
   -- forgetting: what a text tells is what its first part tells, then what the rest tells from the start behind that
 
   abbrev pub state_behind : Start → S → List ℕ → S
-  state_behind K s X = stepped step s (messages (told step reply exact K s X))
+  state_behind K s X = stepped step s (messages (told step reply rules K s X))
 
   trace-behind : (K : Start) (s : S) (X Z : List ℕ)
-      → trace step reply exact s (line_after K.input []) K.opened (normalised K.input (X ++ Z))
-      ≡ with_messages (messages (told step reply exact K s X))
-      (trace step reply exact (state_behind K s X) (line_after (input_after K.input X) []) (start_behind K s X).opened (normalised (input_after K.input X) Z))
+      → trace step reply rules s (line_after K.input []) K.opened (normalised K.input (X ++ Z))
+      ≡ with_messages (messages (told step reply rules K s X))
+      (trace step reply rules (state_behind K s X) (line_after (input_after K.input X) []) (start_behind K s X).opened (normalised (input_after K.input X) Z))
   trace-behind K s X Z =
       rw (normalised-append K.input X Z, trace-append s (line_after K.input []) K.opened (normalised K.input X) (normalised (input_after K.input X) Z), told-trace K s X, input_after-line_none K.input X, after-opened K s X) refl
 
   pub told-append : (K : Start) (s : S) (X Z : List ℕ)
-      → messages (told step reply exact K s (X ++ Z))
-      ≡ messages (told step reply exact K s X) ++ messages (told step reply exact (start_behind K s X) (state_behind K s X) Z)
+      → messages (told step reply rules K s (X ++ Z))
+      ≡ messages (told step reply rules K s X) ++ messages (told step reply rules (start_behind K s X) (state_behind K s X) Z)
   told-append K s X Z =
       told-trace K s (X ++ Z)
       ∙ ap (λ (t : Trace). t.messages) (trace-behind K s X Z)
-      ∙ ap (λ M. messages (told step reply exact K s X) ++ M) (sym (told-trace (start_behind K s X) (state_behind K s X) Z))
+      ∙ ap (λ M. messages (told step reply rules K s X) ++ M) (sym (told-trace (start_behind K s X) (state_behind K s X) Z))
 
   opened-append : (K : Start) (s : S) (X Z : List ℕ)
       → (start_behind K s (X ++ Z)).opened ≡ (start_behind (start_behind K s X) (state_behind K s X) Z).opened
@@ -185,7 +279,7 @@ module _ {S H : Type 0} (step : S → Told → ℕ → S) (reply : S → Told �
 
   -- no character
 
-  pub told-nil : (K : Start) (s : S) → messages (told step reply exact K s []) ≡ []
+  pub told-nil : (K : Start) (s : S) → messages (told step reply rules K s []) ≡ []
   unfolding normalised without_dropped_first with_line_feeds trace
   told-nil K s = rw (told-trace K s []) refl
 
@@ -195,7 +289,7 @@ module _ {S H : Type 0} (step : S → Told → ℕ → S) (reply : S → Told �
 
   -- one character further: one that is dropped tells nothing
 
-  pub told-none : (K : Start) (s : S) (c : ℕ) → normalised K.input (c ∷ []) ≡ [] → messages (told step reply exact K s (c ∷ [])) ≡ []
+  pub told-none : (K : Start) (s : S) (c : ℕ) → normalised K.input (c ∷ []) ≡ [] → messages (told step reply rules K s (c ∷ [])) ≡ []
   unfolding trace
   told-none K s c e = rw (told-trace K s (c ∷ []), e) refl
 
@@ -204,50 +298,42 @@ module _ {S H : Type 0} (step : S → Told → ℕ → S) (reply : S → Told �
   unfolding trace
   after-none K s c e = rw (after-opened K s (c ∷ []), e) refl
 
-  -- the messages at d, the character that is read for c, and what is open behind it
-
-  unfoldable pub messages_here : ℕ → ℕ → Here Open → List Message
-  messages_here line d (Tells told later) = on_line line (bad_character_error exact d ++ told)
-  messages_here line d (TellsTag told tag) = on_line line ((bad_character_error exact d ++ told) ++ Tag tag ∷ [])
-  messages_here line d (Stops told) = on_line line told
-
-  unfoldable pub opened_here : S → ℕ → ℕ → Here Open → Open
-  opened_here s line d (Tells told later) = later
-  opened_here s line d (TellsTag told tag) = open_after_reply (reply (stepped step s (on_line line (bad_character_error exact d ++ told))) (Tag tag) line)
-  opened_here s line d (Stops told) = NotBuilt
+  -- what is told at the character that is read for c
 
   trace_here-one : (s : S) (line : ℕ) (d : ℕ) (h : Here Open)
-      → trace_here step reply exact (λ t later. record { messages = []; opened = later }) s line d h
-      ≡ record { messages = messages_here line d h; opened = opened_here s line d h }
+      → trace_here step reply rules (λ t later. record { messages = []; opened = later }) s line d h
+      ≡ record { messages = messages_here step reply rules line d h; opened = opened_here step reply rules s line d h }
   unfolding trace_here messages_here opened_here
-  trace_here-one s line d (Tells told later) = rw (append-nil (on_line line (bad_character_error exact d ++ told))) refl
-  trace_here-one s line d (TellsTag told tag) = rw (append-nil (on_line line ((bad_character_error exact d ++ told) ++ Tag tag ∷ []))) refl
+  trace_here-one s line d (Tells told later) = rw (append-nil (on_line line (bad_character_error rules.exact d ++ told))) refl
+  trace_here-one s line d (TellsTag told tag) = rw (append-nil (on_line line ((bad_character_error rules.exact d ++ told) ++ Tag tag ∷ []))) refl
   trace_here-one s line d (Stops told) = refl
 
   trace-one : (K : Start) (s : S) (c d : ℕ) → normalised K.input (c ∷ []) ≡ d ∷ []
-      → trace step reply exact s (line_after K.input []) K.opened (normalised K.input (c ∷ []))
+      → trace step reply rules s (line_after K.input []) K.opened (normalised K.input (c ∷ []))
       ≡ record {
-        messages = messages_here (input_after K.input (c ∷ [])).line d (step_at exact K.opened d);
-        opened = opened_here s (input_after K.input (c ∷ [])).line d (step_at exact K.opened d);
+        messages = on_line (line_after K.input []) (tokens_of_late (brought_at rules K.opened d).settled) ++ messages_here step reply rules (input_after K.input (c ∷ [])).line d (brought_at rules K.opened d).here;
+        opened = opened_here step reply rules (stepped step s (on_line (line_after K.input []) (tokens_of_late (brought_at rules K.opened d).settled))) (input_after K.input (c ∷ [])).line d (brought_at rules K.opened d).here;
       }
-  unfolding trace
+  unfolding trace trace_brought
   trace-one K s c d e =
       let line : line_past (line_after K.input []) d ≡ (input_after K.input (c ∷ [])).line = input_after-line_one K.input c d e in
-      rw (e, line) (trace_here-one s (input_after K.input (c ∷ [])).line d (step_at exact K.opened d))
+      rw (e, line) (ap (with_messages (on_line (line_after K.input []) (tokens_of_late (brought_at rules K.opened d).settled)))
+      (trace_here-one (stepped step s (on_line (line_after K.input []) (tokens_of_late (brought_at rules K.opened d).settled))) (input_after K.input (c ∷ [])).line d (brought_at rules K.opened d).here))
 
   pub told-one : (K : Start) (s : S) (c d : ℕ) → normalised K.input (c ∷ []) ≡ d ∷ []
-      → messages (told step reply exact K s (c ∷ [])) ≡ messages_here (input_after K.input (c ∷ [])).line d (step_at exact K.opened d)
+      → messages (told step reply rules K s (c ∷ []))
+      ≡ on_line (line_after K.input []) (tokens_of_late (brought_at rules K.opened d).settled) ++ messages_here step reply rules (input_after K.input (c ∷ [])).line d (brought_at rules K.opened d).here
   told-one K s c d e = told-trace K s (c ∷ []) ∙ ap (λ (t : Trace). t.messages) (trace-one K s c d e)
 
   pub after-one : (K : Start) (s : S) (c d : ℕ) → normalised K.input (c ∷ []) ≡ d ∷ []
       → start_behind K s (c ∷ []) ≡ record {
-        opened = opened_here s (input_after K.input (c ∷ [])).line d (step_at exact K.opened d);
+        opened = opened_here step reply rules (stepped step s (on_line (line_after K.input []) (tokens_of_late (brought_at rules K.opened d).settled))) (input_after K.input (c ∷ [])).line d (brought_at rules K.opened d).here;
         input = input_after K.input (c ∷ []);
       }
   after-one K s c d e = rw (after-opened K s (c ∷ []), trace-one K s c d e) refl
 
   -- where what isn't built yet was met, nothing more is told
-  pub told-not_built : (K : Start) (s : S) (X : List ℕ) → K.opened ≡ NotBuilt → messages (told step reply exact K s X) ≡ []
+  pub told-not_built : (K : Start) (s : S) (X : List ℕ) → K.opened ≡ NotBuilt → messages (told step reply rules K s X) ≡ []
   told-not_built K s X e = told-trace K s X ∙ rw (e, trace-not_built s (line_after K.input []) (normalised K.input X)) refl
 
   pub after-not_built : (K : Start) (s : S) (X : List ℕ) → K.opened ≡ NotBuilt → (start_behind K s X).opened ≡ NotBuilt

@@ -7,7 +7,7 @@ use Rattle.html5ever_interface.specs.declared.states.State.TheVariants as state
 use Rattle.html5grammar.specs.Characters.{null, ampersand, solidus, less_than, greater_than, is_white_space}
 use Rattle.html5grammar.specs.ErrorText.{error_in}
 use Rattle.html5grammar.specs.Reading.{Here}
-use Rattle.html5grammar.specs.Reading.Here.{Tells, Stops}
+use Rattle.html5grammar.specs.Reading.Here.{Tells}
 use Rattle.html5grammar.specs.Start.{OpenTag, Open}
 use Rattle.html5grammar.specs.Start.Place.{BeforeAttribute, AfterQuotedValue, AfterSolidus}
 use Rattle.html5grammar.specs.Tag.{place_error, first_error}
@@ -25,7 +25,7 @@ pub data_step-before : (exact : Bool) (before : List Told) (c : ℕ) → data_st
 unfolding data_step
 data_step-before exact before c =
     told_first-if before (c == less_than) _ _ _ _ (Tells-nil before _)
-    (told_first-if before (c == ampersand) _ _ _ _ (ap Stops (sym (append-nil before)))
+    (told_first-if before (c == ampersand) _ _ _ _ (Tells-nil before _)
     (told_first-if before (c == null) _ _ _ _ refl refl))
 
 -- behind `/` or a quoted value another part is read as before an attribute, behind the error of the place

@@ -1,7 +1,8 @@
 -- What the machine tells of a text, with the lines that it counts.
-use Rattle.std.proofs.Common.{◌≡◌, ℕ, Bool, List, [], ◌∷◌, ◌++◌, refl, ap, ◌∙◌}
-use Rattle.std.specs.Prelude.{map}
-use Rattle.std.proofs.lemmas.List.{map-append}
+use Rattle.std.proofs.Common.{◌≡◌, ℕ, Bool, true, false, List, [], ◌∷◌, ◌++◌, refl, ap, sym, ◌∙◌}
+use Rattle.std.proofs.lemmas.Bool.{false≢true}
+use Rattle.std.specs.Prelude.{length, map}
+use Rattle.std.proofs.lemmas.List.{append-nil, map-append}
 use Rattle.html5ever_interface.specs.Sink.{Message, stepped, on_line}
 use Rattle.html5ever_interface.specs.Token.{Told, Reply}
 use Rattle.html5ever_interface.specs.Token.Told.{Tag}
@@ -9,18 +10,20 @@ use Rattle.html5ever_interface.specs.Token.Reply.{KeepOn, ReadPlainText, ReadRaw
 use Rattle.html5ever_interface.specs.declared.states.AttrValueKind.TheVariants.{Unquoted, SingleQuoted, DoubleQuoted}
 use Rattle.html5grammar.specs.Cutting.{rest_of}
 use Rattle.html5grammar.specs.ErrorText.{bad_character_error}
-use Rattle.html5grammar.specs.Reading.{Event, Here, Read, events_at, messages, open_behind, open_after_reply, read_here, read_from}
+use Rattle.html5grammar.specs.Reading.{TextPlace, Event, Here, Brought, Read, events_at, late_events, messages, open_behind, open_after_reply, with_events, read_here, read_from}
+use Rattle.html5grammar.specs.Reading.TextPlace.{Character}
+use Rattle.html5grammar.specs.Reference.{reference_text, behind_held}
 use Rattle.html5grammar.specs.NormalisedText.{line_after}
 use Rattle.html5grammar.proofs.InputLemmas.{line_past, line_after-past}
 use Rattle.html5grammar.specs.Reading.Here.{Tells, TellsTag, Stops}
-use Rattle.html5grammar.specs.Slice.{cut_off, run_of, behind_run}
-use Rattle.html5grammar.specs.Start.{Start, Open}
+use Rattle.html5grammar.specs.Slice.{Late, cut_off, run_of, behind_run, run_while, behind_while, tokens_of_late}
+use Rattle.html5grammar.specs.Start.{Start, Open, Rules, is_reference}
 use Rattle.html5grammar.specs.Start.Place.{InName, BeforeAttribute, InAttributeName, AfterAttributeName, BeforeValue, InValue, AfterQuotedValue, AfterSolidus}
-use Rattle.html5grammar.specs.Start.Open.{Between, LessThan, LessThanSolidus, InTag, NotBuilt}
+use Rattle.html5grammar.specs.Start.Open.{Between, LessThan, LessThanSolidus, InTag, InReference, NotBuilt}
 use Rattle.html5grammar.specs.Tag.{tag_name, behind_tag_name, attribute_behind_first, behind_attribute_name, behind_name_and_space, value_or_next, value_behind_space, value, quoted_value, behind_quoted, unquoted_value, behind_unquoted}
 use Rattle.html5grammar.specs.Text.{behind_less_than, behind_solidus}
-use Rattle.html5grammar.proofs.Machine.{step_at}
-use Rattle.html5grammar.proofs.Slices.{going, rest_of-step_at, with_name-nil, with_last_name-nil, with_value-nil}
+use Rattle.html5grammar.proofs.Machine.{step_at, brought_at}
+use Rattle.html5grammar.proofs.Slices.{going, rest_of-brought_at, with_name-nil, with_last_name-nil, with_value-nil}
 
 -- the messages of a text, and what is open behind it
 pub record Trace : Type 0 where
@@ -30,50 +33,85 @@ pub record Trace : Type 0 where
 abbrev pub with_messages : List Message → Trace → Trace
 with_messages M trace = record { messages = M ++ trace.messages; opened = trace.opened }
 
-module _ {S H : Type 0} (step : S → Told → ℕ → S) (reply : S → Told → ℕ → Reply H) (exact : Bool) where
+module _ {S H : Type 0} (step : S → Told → ℕ → S) (reply : S → Told → ℕ → Reply H) (rules : Rules) where
   -- what is told at a character, on its line, and then by what goes on
   unfoldable pub trace_here : (S → Open → Trace) → S → ℕ → ℕ → Here Open → Trace
   trace_here rest s line c (Tells told opened) =
-      let M : List Message = on_line line (bad_character_error exact c ++ told) in
+      let M : List Message = on_line line (bad_character_error rules.exact c ++ told) in
       with_messages M (rest (stepped step s M) opened)
   trace_here rest s line c (TellsTag told tag) =
-      let t : S = stepped step s (on_line line (bad_character_error exact c ++ told)) in
-      with_messages (on_line line ((bad_character_error exact c ++ told) ++ Tag tag ∷ []))
+      let t : S = stepped step s (on_line line (bad_character_error rules.exact c ++ told)) in
+      with_messages (on_line line ((bad_character_error rules.exact c ++ told) ++ Tag tag ∷ []))
       (rest (step t (Tag tag) line) (open_after_reply (reply t (Tag tag) line)))
   trace_here rest s line c (Stops told) = record { messages = on_line line told; opened = NotBuilt }
+
+  -- what a character brings: first what it decides, on the line before it
+  unfoldable pub trace_brought : (S → Open → Trace) → S → ℕ → ℕ → Brought Open → Trace
+  trace_brought rest s line c next =
+      let M : List Message = on_line line (tokens_of_late next.settled) in
+      with_messages M (trace_here rest (stepped step s M) (line_past line c) c next.here)
 
   unfoldable pub trace : S → ℕ → Open → List ℕ → Trace
   trace s line opened [] = record { messages = []; opened = opened }
   trace s line opened (c ∷ text) =
-      trace_here (λ t later. trace t (line_past line c) later text) s (line_past line c) c (step_at exact opened c)
+      trace_brought (λ t later. trace t (line_past line c) later text) s line c (brought_at rules opened c)
+
+-- a character decides nothing that stands before it where no reference is open
+
+pub brought-step : (rules : Rules) (opened : Open) (c : ℕ) → is_reference opened ≡ false
+    → brought_at rules opened c ≡ record { settled = []; here = step_at rules.exact opened c }
+unfolding brought_at step_at
+brought-step rules (Between mode) c h = refl
+brought-step rules LessThan c h = refl
+brought-step rules LessThanSolidus c h = refl
+brought-step rules (InTag place tag) c h = refl
+brought-step rules (InReference stand held) c h = absurd (false≢true (sym h))
+brought-step rules NotBuilt c h = refl
+
+abbrev is_stop : Here Open → Bool
+is_stop (Tells told opened) = false
+is_stop (TellsTag told tag) = false
+is_stop (Stops told) = true
+
+-- nor where the machine goes on
+pub brought-tells : (rules : Rules) (opened : Open) (c : ℕ) (h : Here Open) → is_stop h ≡ false → step_at rules.exact opened c ≡ h
+    → brought_at rules opened c ≡ record { settled = []; here = h }
+unfolding step_at
+brought-tells rules (Between mode) c h goes e = brought-step rules (Between mode) c refl ∙ rw e refl
+brought-tells rules LessThan c h goes e = brought-step rules LessThan c refl ∙ rw e refl
+brought-tells rules LessThanSolidus c h goes e = brought-step rules LessThanSolidus c refl ∙ rw e refl
+brought-tells rules (InTag place tag) c h goes e = brought-step rules (InTag place tag) c refl ∙ rw e refl
+brought-tells rules (InReference stand held) c h goes e = absurd (false≢true (sym goes ∙ sym (ap is_stop e)))
+brought-tells rules NotBuilt c h goes e = brought-step rules NotBuilt c refl ∙ rw e refl
 
 -- what is open where a slice has no more
 
-rest_of-nil : (exact : Bool) (opened : Open) → open_behind (rest_of exact opened []).behind ≡ opened
-unfolding rest_of tag_name behind_tag_name attribute_behind_first behind_attribute_name behind_name_and_space value_or_next value_behind_space value quoted_value behind_quoted unquoted_value behind_unquoted behind_less_than behind_solidus run_of behind_run
-rest_of-nil exact (Between mode) = refl
-rest_of-nil exact LessThan = refl
-rest_of-nil exact LessThanSolidus = refl
-rest_of-nil exact (InTag InName tag) = ap (InTag InName) (with_name-nil tag)
-rest_of-nil exact (InTag BeforeAttribute tag) = refl
-rest_of-nil exact (InTag InAttributeName tag) = ap (InTag InAttributeName) (with_last_name-nil tag)
-rest_of-nil exact (InTag AfterAttributeName tag) = refl
-rest_of-nil exact (InTag BeforeValue tag) = refl
-rest_of-nil exact (InTag (InValue Unquoted) tag) = ap (InTag (InValue Unquoted)) (with_value-nil tag)
-rest_of-nil exact (InTag (InValue SingleQuoted) tag) = ap (InTag (InValue SingleQuoted)) (with_value-nil tag)
-rest_of-nil exact (InTag (InValue DoubleQuoted) tag) = ap (InTag (InValue DoubleQuoted)) (with_value-nil tag)
-rest_of-nil exact (InTag AfterQuotedValue tag) = refl
-rest_of-nil exact (InTag AfterSolidus tag) = refl
-rest_of-nil exact NotBuilt = refl
+rest_of-nil : (rules : Rules) (opened : Open) → open_behind (rest_of rules opened []).behind ≡ opened
+unfolding rest_of tag_name behind_tag_name attribute_behind_first behind_attribute_name behind_name_and_space value_or_next value_behind_space value quoted_value behind_quoted unquoted_value behind_unquoted behind_less_than behind_solidus reference_text behind_held run_while behind_while run_of behind_run
+rest_of-nil rules (Between mode) = refl
+rest_of-nil rules LessThan = refl
+rest_of-nil rules LessThanSolidus = refl
+rest_of-nil rules (InTag InName tag) = ap (InTag InName) (with_name-nil tag)
+rest_of-nil rules (InTag BeforeAttribute tag) = refl
+rest_of-nil rules (InTag InAttributeName tag) = ap (InTag InAttributeName) (with_last_name-nil tag)
+rest_of-nil rules (InTag AfterAttributeName tag) = refl
+rest_of-nil rules (InTag BeforeValue tag) = refl
+rest_of-nil rules (InTag (InValue Unquoted) tag) = ap (InTag (InValue Unquoted)) (with_value-nil tag)
+rest_of-nil rules (InTag (InValue SingleQuoted) tag) = ap (InTag (InValue SingleQuoted)) (with_value-nil tag)
+rest_of-nil rules (InTag (InValue DoubleQuoted) tag) = ap (InTag (InValue DoubleQuoted)) (with_value-nil tag)
+rest_of-nil rules (InTag AfterQuotedValue tag) = refl
+rest_of-nil rules (InTag AfterSolidus tag) = refl
+rest_of-nil rules (InReference stand held) = ap (InReference stand) (append-nil held)
+rest_of-nil rules NotBuilt = refl
 
 -- behind a tag a new slice begins
-rest_of-reply : {H : Type 0} → (exact : Bool) (r : Reply H) (text : List ℕ) → cut_off (open_after_reply r) ≡ rest_of exact (open_after_reply r) text
+rest_of-reply : {H : Type 0} → (rules : Rules) (r : Reply H) (text : List ℕ) → cut_off (open_after_reply r) ≡ rest_of rules (open_after_reply r) text
 unfolding rest_of
-rest_of-reply exact KeepOn text = refl
-rest_of-reply exact ReadPlainText text = refl
-rest_of-reply exact (ReadRawData kind) text = refl
-rest_of-reply exact (RunScript handle) text = refl
-rest_of-reply exact (SwitchEncoding bytes) text = refl
+rest_of-reply rules KeepOn text = refl
+rest_of-reply rules ReadPlainText text = refl
+rest_of-reply rules (ReadRawData kind) text = refl
+rest_of-reply rules (RunScript handle) text = refl
+rest_of-reply rules (SwitchEncoding bytes) text = refl
 
 pub messages-map : (f : Told → Event) (g : Told → Message) → ((t : Told) → (f t).message ≡ g t) → (ts : List Told) → messages (map f ts) ≡ map g ts
 messages-map f g h [] = refl
@@ -87,7 +125,7 @@ pub record Traces (read : Read) (trace : Trace) : Type 0 where
   pub messages : messages read.events ≡ trace.messages
   pub opened : read.opened ≡ trace.opened
 
-module _ {S H : Type 0} (step : S → Told → ℕ → S) (reply : S → Told → ℕ → Reply H) (exact : Bool) (K : Start) where
+module _ {S H : Type 0} (step : S → Told → ℕ → S) (reply : S → Told → ℕ → Reply H) (rules : Rules) (K : Start) where
   messages-events_at : (before : List ℕ) (c : ℕ) (tokens : List Told)
       → messages (events_at K.input before c tokens) ≡ on_line (line_past (line_after K.input before) c) tokens
   unfolding events_at
@@ -102,29 +140,47 @@ module _ {S H : Type 0} (step : S → Told → ℕ → S) (reply : S → Told �
   }
 
   traces-here : (s : S) (before : List ℕ) (c : ℕ) (text : List ℕ) (h : Here Open)
-      → ((t : S) (opened : Open) → Traces (read_from step reply exact K t (before ++ c ∷ []) (rest_of exact opened text) text) (trace step reply exact t (line_past (line_after K.input before) c) opened text))
+      → ((t : S) (opened : Open) → Traces (read_from step reply rules K t (before ++ c ∷ []) (rest_of rules opened text) text) (trace step reply rules t (line_past (line_after K.input before) c) opened text))
       → Traces
-      (read_here step reply exact K (λ t rest. read_from step reply exact K t (before ++ c ∷ []) rest text) cut_off s before c (going (λ opened. rest_of exact opened text) h))
-      (trace_here step reply exact (λ t later. trace step reply exact t (line_past (line_after K.input before) c) later text) s (line_past (line_after K.input before) c) c h)
+      (read_here step reply rules K (λ t rest. read_from step reply rules K t (before ++ c ∷ []) rest text) cut_off s before c (going (λ opened. rest_of rules opened text) h))
+      (trace_here step reply rules (λ t later. trace step reply rules t (line_past (line_after K.input before) c) later text) s (line_past (line_after K.input before) c) c h)
   unfolding trace_here
   traces-here s before c text (Tells told opened) ih =
       rw (line_after-past K.input before c)
-      (Traces-with _ _ _ _ (messages-events_at before c (bad_character_error exact c ++ told)) (ih _ opened))
+      (Traces-with _ _ _ _ (messages-events_at before c (bad_character_error rules.exact c ++ told)) (ih _ opened))
   traces-here s before c text (TellsTag told tag) ih =
       let line : ℕ = line_past (line_after K.input before) c in
-      let t : S = stepped step s (on_line line (bad_character_error exact c ++ told)) in
-      rw (line_after-past K.input before c, rest_of-reply exact (reply t (Tag tag) line) text)
-      (Traces-with _ _ _ _ (messages-events_at before c ((bad_character_error exact c ++ told) ++ Tag tag ∷ [])) (ih _ _))
+      let t : S = stepped step s (on_line line (bad_character_error rules.exact c ++ told)) in
+      rw (line_after-past K.input before c, rest_of-reply rules (reply t (Tag tag) line) text)
+      (Traces-with _ _ _ _ (messages-events_at before c ((bad_character_error rules.exact c ++ told) ++ Tag tag ∷ [])) (ih _ _))
   traces-here s before c text (Stops told) ih = record {
     messages = messages-events_at before c told;
     opened = refl;
   }
 
+  pub messages-late : (before : List ℕ) (place : TextPlace) (late : List Late)
+      → messages (late_events K.input before place late) ≡ on_line (line_after K.input before) (tokens_of_late late)
+  unfolding late_events
+  messages-late before place [] = refl
+  messages-late before place (l ∷ late) =
+      ap (λ M. record { token = l.token; line = line_after K.input before } ∷ M) (messages-late before place late)
+
+  traces-brought : (s : S) (before : List ℕ) (c : ℕ) (text : List ℕ) (next : Brought Open)
+      → ((t : S) (opened : Open) → Traces (read_from step reply rules K t (before ++ c ∷ []) (rest_of rules opened text) text) (trace step reply rules t (line_past (line_after K.input before) c) opened text))
+      → Traces
+      (with_events (late_events K.input before (Character (length before)) next.settled)
+      (read_here step reply rules K (λ t rest. read_from step reply rules K t (before ++ c ∷ []) rest text) cut_off
+      (stepped step s (on_line (line_after K.input before) (tokens_of_late next.settled))) before c (going (λ opened. rest_of rules opened text) next.here)))
+      (trace_brought step reply rules (λ t later. trace step reply rules t (line_past (line_after K.input before) c) later text) s (line_after K.input before) c next)
+  unfolding trace_brought
+  traces-brought s before c text next ih =
+      Traces-with _ _ _ _ (messages-late before (Character (length before)) next.settled) (traces-here _ before c text next.here ih)
+
   pub traces : (s : S) (before : List ℕ) (opened : Open) (text : List ℕ)
-      → Traces (read_from step reply exact K s before (rest_of exact opened text) text) (trace step reply exact s (line_after K.input before) opened text)
+      → Traces (read_from step reply rules K s before (rest_of rules opened text) text) (trace step reply rules s (line_after K.input before) opened text)
   unfolding read_from trace
-  traces s before opened [] = record { messages = refl; opened = rest_of-nil exact opened }
+  traces s before opened [] = record { messages = refl; opened = rest_of-nil rules opened }
   traces s before opened (c ∷ text) =
-      rw (rest_of-step_at exact c text opened)
-      (traces-here s before c text (step_at exact opened c)
+      rw (rest_of-brought_at rules c text opened)
+      (traces-brought s before c text (brought_at rules opened c)
       (λ t later. rw (← line_after-past K.input before c) (traces t (before ++ c ∷ []) later text)))

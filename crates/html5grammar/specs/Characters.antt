@@ -26,6 +26,9 @@ exclamation_mark = 0x0021
 abbrev pub quotation_mark : ℕ
 quotation_mark = 0x0022
 
+abbrev pub number_sign : ℕ
+number_sign = 0x0023
+
 abbrev pub ampersand : ℕ
 ampersand = 0x0026
 
@@ -34,6 +37,9 @@ apostrophe = 0x0027
 
 abbrev pub solidus : ℕ
 solidus = 0x002F
+
+abbrev pub semicolon : ℕ
+semicolon = 0x003B
 
 abbrev pub less_than : ℕ
 less_than = 0x003C
@@ -47,8 +53,14 @@ greater_than = 0x003E
 abbrev pub question_mark : ℕ
 question_mark = 0x003F
 
+abbrev pub capital_x : ℕ
+capital_x = 0x0058
+
 abbrev pub grave_accent : ℕ
 grave_accent = 0x0060
+
+abbrev pub small_x : ℕ
+small_x = 0x0078
 
 abbrev pub byte_order_mark : ℕ
 byte_order_mark = 0xFEFF
@@ -71,6 +83,10 @@ is_white_space c = (c == tab) || (c == line_feed) || (c == form_feed) || (c == s
 -- an ASCII letter
 unfoldable pub is_letter : ℕ → Bool
 is_letter c = is_between 0x0041 0x005A c || is_between 0x0061 0x007A c
+
+-- a number that no character has, or that of a surrogate
+unfoldable pub is_no_character : ℕ → Bool
+is_no_character c = is_between 0xD800 0xDFFF c || nat_le 0x11_0000 c
 
 -- a character of a value: NUL is shown as U+FFFD
 unfoldable pub shown : ℕ → ℕ

@@ -3,9 +3,11 @@ pub mod Start
 pub mod NormalisedText
 pub mod ErrorText
 pub mod Slice
+pub mod Reference
 pub mod Tag
 pub mod Text
 pub mod EndOfInput
 pub mod Cutting
 pub mod Reading
 pub mod OneTag
+pub mod OneReference

@@ -15,7 +15,8 @@ use Rattle.html5grammar.specs.Start.{Input, OpenTag, Place, Start}
 use Rattle.html5grammar.specs.Start.Mode.{Data}
 use Rattle.html5grammar.specs.Start.Open.{Between}
 use Rattle.html5grammar.specs.Start.Place.{InName, BeforeAttribute, InAttributeName, AfterAttributeName, BeforeValue, InValue, AfterQuotedValue, AfterSolidus}
-use Rattle.html5grammar.specs.Tag.{attribute, has_attribute, end_tag_errors, told_tag, null_error, in_quoted, in_unquoted, unquoted_error, silent, in_attribute_name, attribute_name_error, place_error, first_error, is_after_solidus, in_tag_name}
+use Rattle.html5grammar.specs.Slice.{silent}
+use Rattle.html5grammar.specs.Tag.{attribute, has_attribute, end_tag_errors, told_tag, null_error, in_quoted, in_unquoted, unquoted_error, in_attribute_name, attribute_name_error, place_error, first_error, is_after_solidus, in_tag_name}
 use Rattle.markup5ever.specs.Names.{AttributeOf}
 
 -- ---- how a tag is written

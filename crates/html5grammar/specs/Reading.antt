@@ -1,27 +1,29 @@
 -- The reading of a text: its events, which of them its characters decide, and the start behind it.
-use Rattle.std.specs.Prelude.{ℕ, Bool, true, false, List, [], ◌∷◌, ◌++◌, length, map, take_while}
+use Rattle.std.specs.Prelude.{ℕ, suc, ◌-◌, Bool, true, false, List, [], ◌∷◌, ◌++◌, length, map, take_while, if◌then◌else◌}
 use Rattle.html5ever_interface.specs.Sink.{Message, stepped, on_line}
 use Rattle.html5ever_interface.specs.Token.{Told, TagOf, Reply}
 use Rattle.html5ever_interface.specs.Token.Told.{Tag}
 use Rattle.html5ever_interface.specs.Token.Reply.{KeepOn, ReadPlainText, ReadRawData, RunScript, SwitchEncoding}
 use Rattle.html5grammar.specs.Cutting.{rest_of, slice_at}
-use Rattle.html5grammar.specs.EndOfInput.{told_at_end_of}
+use Rattle.html5grammar.specs.EndOfInput.{late_at_end_of, open_at_end_of, told_at_end_of}
 use Rattle.html5grammar.specs.ErrorText.{bad_character_error}
 use Rattle.html5grammar.specs.NormalisedText.{normalised, line_after, input_after}
-use Rattle.html5grammar.specs.Slice.{Slice, Cell, Behind, cut_off}
-use Rattle.html5grammar.specs.Slice.Cell.{Says, Ends}
-use Rattle.html5grammar.specs.Slice.Behind.{Leaves, StopsAt}
-use Rattle.html5grammar.specs.Start.{Input, Start, Open}
+use Rattle.html5grammar.specs.Slice.{Slice, Cell, Behind, Late, cut_off, tokens_of_late}
+use Rattle.html5grammar.specs.Slice.Cell.{Says, Ends, Returns}
+use Rattle.html5grammar.specs.Slice.Behind.{Leaves, StopsAt, Settles}
+use Rattle.html5grammar.specs.Start.{Input, Start, Open, Rules}
 use Rattle.html5grammar.specs.Start.Mode.{Data, Plain}
 use Rattle.html5grammar.specs.Start.Open.{Between, NotBuilt}
 
--- a character of the normalised text, counted from 0, or the end of input
+-- a character of the normalised text, counted from 0, the place directly before it, or the end of input
 pub data TextPlace : Type 0 where
   Character : ℕ → TextPlace
+  BeforeCharacter : ℕ → TextPlace
   EndOfInput : TextPlace
 
 abbrev pub is_character : TextPlace → Bool
 is_character (Character k) = true
+is_character (BeforeCharacter k) = true
 is_character EndOfInput = false
 
 -- a message, the place where it stands, and the place that decides it
@@ -41,6 +43,20 @@ events_at input before c tokens =
     } in
     map event tokens
 
+-- the events of what `decided_by` decides, behind the text `before`: a reference's own tokens stand before the first character
+-- that it doesn't take, and characters that were held stand at their places. There is no line break among them.
+abbrev pub late_event : Input → List ℕ → TextPlace → Late → Event
+late_event input before decided_by late =
+    let k : ℕ = suc (length before) - late.back in
+    record {
+      message = record { token = late.token; line = line_after input before };
+      stands = if late.is_held then Character k else BeforeCharacter k;
+      decided_by = if late.is_held then Character k else decided_by;
+    }
+
+unfoldable pub late_events : Input → List ℕ → TextPlace → List Late → List Event
+late_events input before decided_by late = map (late_event input before decided_by) late
+
 -- what is told at a character besides a bad character, and how the text goes on behind it
 pub data Here (G : Type 0) : Type 0 where
   Tells : List Told → G → Here G
@@ -49,17 +65,34 @@ pub data Here (G : Type 0) : Type 0 where
   -- the character begins what is not built yet
   Stops : List Told → Here G
 
--- what is told at the first character of a slice
-abbrev pub at_first : List Cell → Behind → Here Slice
-at_first (Says told ∷ cells) behind = Tells told (record { cells = cells; behind = behind })
-at_first (Ends told tag ∷ cells) behind = TellsTag told tag
-at_first [] (Leaves before opened) = Stops before
-at_first [] (StopsAt before) = Stops before
+-- what a character brings: first what it decides, and then what is told at it
+pub record Brought (G : Type 0) : Type 0 where
+  pub settled : List Late
+  pub here : Here G
 
-unfoldable pub here : Bool → Slice → ℕ → List ℕ → Here Slice
-here exact slice c text =
-    let next : Slice = slice_at exact slice.cells slice.behind c text in
-    at_first next.cells next.behind
+-- what is told at the first character of a slice, which `text` follows
+abbrev pub at_first : Rules → List ℕ → List Cell → Behind → Here Slice
+at_first rules text (Says told ∷ cells) behind = Tells told (record { cells = cells; behind = behind })
+at_first rules text (Ends told tag ∷ cells) behind = TellsTag told tag
+at_first rules text (Returns late opened ∷ cells) behind = Stops []
+at_first rules text [] (Leaves before opened) = Stops before
+at_first rules text [] (StopsAt before) = Stops before
+at_first rules text [] (Settles late opened) = Stops []
+
+unfoldable pub here : Rules → Slice → ℕ → List ℕ → Here Slice
+here rules slice c text =
+    let next : Slice = slice_at rules slice.cells slice.behind c text in
+    at_first rules text next.cells next.behind
+
+abbrev pub brought_by : Rules → List Cell → Behind → ℕ → List ℕ → Brought Slice
+brought_by rules [] (Settles late opened) c text =
+    record { settled = late; here = here rules (rest_of rules opened (c ∷ text)) c text }
+brought_by rules (Returns late opened ∷ cells) behind c text =
+    record { settled = late; here = Tells [] (rest_of rules opened text) }
+brought_by rules cells behind c text = record { settled = []; here = here rules (record { cells = cells; behind = behind }) c text }
+
+unfoldable pub brought : Rules → Slice → ℕ → List ℕ → Brought Slice
+brought rules slice c text = brought_by rules slice.cells slice.behind c text
 
 -- the events of a text, and what is open behind it
 pub record Read : Type 0 where
@@ -73,6 +106,7 @@ with_events events read = record { events = events ++ read.events; opened = read
 abbrev pub open_behind : Behind → Open
 open_behind (Leaves before opened) = opened
 open_behind (StopsAt before) = NotBuilt
+open_behind (Settles late opened) = opened
 
 -- what is open behind a tag, by the sink's reply
 abbrev pub open_after_reply : {H : Type 0} → Reply H → Open
@@ -82,14 +116,14 @@ open_after_reply (ReadRawData kind) = NotBuilt
 open_after_reply (RunScript handle) = Between Data
 open_after_reply (SwitchEncoding text) = Between Data
 
-module _ {S H : Type 0} (step : S → Told → ℕ → S) (reply : S → Told → ℕ → Reply H) (exact : Bool) (K : Start) where
+module _ {S H : Type 0} (step : S → Told → ℕ → S) (reply : S → Told → ℕ → Reply H) (rules : Rules) (K : Start) where
   -- the events at the place of c, and those behind it, which `rest` reads from a sink's state and what goes on
   abbrev pub read_here : {G : Type 0} → (S → G → Read) → (Open → G) → S → List ℕ → ℕ → Here G → Read
   read_here rest begin s before c (Tells told goes_on) =
-      let tokens : List Told = bad_character_error exact c ++ told in
+      let tokens : List Told = bad_character_error rules.exact c ++ told in
       with_events (events_at K.input before c tokens) (rest (stepped step s (on_line (line_after K.input (before ++ c ∷ [])) tokens)) goes_on)
   read_here rest begin s before c (TellsTag told tag) =
-      let tokens : List Told = bad_character_error exact c ++ told in
+      let tokens : List Told = bad_character_error rules.exact c ++ told in
       let line : ℕ = line_after K.input (before ++ c ∷ []) in
       let t : S = stepped step s (on_line line tokens) in
       with_events (events_at K.input before c (tokens ++ Tag tag ∷ []))
@@ -101,11 +135,14 @@ module _ {S H : Type 0} (step : S → Told → ℕ → S) (reply : S → Told �
   unfoldable pub read_from : S → List ℕ → Slice → List ℕ → Read
   read_from s before slice [] = record { events = []; opened = open_behind slice.behind }
   read_from s before slice (c ∷ text) =
-      read_here (λ t rest. read_from t (before ++ c ∷ []) rest text) cut_off s before c (here exact slice c text)
+      let next : Brought Slice = brought rules slice c text in
+      with_events (late_events K.input before (Character (length before)) next.settled)
+      (read_here (λ t rest. read_from t (before ++ c ∷ []) rest text) cut_off
+      (stepped step s (on_line (line_after K.input before) (tokens_of_late next.settled))) before c next.here)
 
   -- the events that the characters of X decide, and what is open behind them
   unfoldable pub read : S → List ℕ → Read
-  read s X = let Y = normalised K.input X in read_from s [] (rest_of exact K.opened Y) Y
+  read s X = let Y = normalised K.input X in read_from s [] (rest_of rules K.opened Y) Y
 
   -- what the end of input tells after Y
   unfoldable pub end_events : Open → List ℕ → List Event
@@ -115,7 +152,7 @@ module _ {S H : Type 0} (step : S → Told → ℕ → S) (reply : S → Told �
         stands = EndOfInput;
         decided_by = EndOfInput;
       } in
-      map event (told_at_end_of exact opened)
+      late_events K.input Y EndOfInput (late_at_end_of rules opened) ++ map event (told_at_end_of rules.exact (open_at_end_of rules opened))
 
   -- all events of the text X, taken as ended
   unfoldable pub reading : S → List ℕ → List Event

@@ -3,11 +3,21 @@ use Rattle.std.specs.Prelude.{ℕ, Bool, List, [], ◌∷◌, ◌++◌, map, if�
 use Rattle.html5ever_interface.specs.Token.{Told, TagOf}
 use Rattle.html5grammar.specs.Start.{Open}
 
+-- what is told only when a later character, or the end, decides it
+pub record Late : Type 0 where
+  pub token : Told
+  -- how many characters before the place behind the deciding one the token stands
+  pub back : ℕ
+  -- whether it is text of the character there, which is decided by itself
+  pub is_held : Bool
+
 -- what is told at a character
 pub data Cell : Type 0 where
   Says : List Told → Cell
   -- a tag is told last, and the sink's reply chooses how the text goes on
   Ends : List Told → TagOf → Cell
+  -- the character decides this, and ends the slice within another, of which this is open
+  Returns : List Late → Open → Cell
 
 -- how a text goes on behind a slice
 pub data Behind : Type 0 where
@@ -15,6 +25,8 @@ pub data Behind : Type 0 where
   Leaves : List Told → Open → Behind
   -- the next character begins what is not built yet; before that something is told
   StopsAt : List Told → Behind
+  -- the next character, or the end, decides what is told before it, and then this is open
+  Settles : List Late → Open → Behind
 
 pub record Slice : Type 0 where
   -- what is told at each character
@@ -41,6 +53,14 @@ with_character told slice = record { cells = Says told ∷ slice.cells; behind =
 abbrev pub with_run : (ℕ → List Told) → List ℕ → Slice → Slice
 with_run tells run slice = record { cells = map (λ c. Says (tells c)) run ++ slice.cells; behind = slice.behind }
 
+-- a character that tells nothing
+abbrev pub silent : ℕ → List Told
+silent c = []
+
+-- the tokens, in order
+abbrev pub tokens_of_late : List Late → List Told
+tokens_of_late late = map (λ (l : Late). l.token) late
+
 -- the longest run of characters of a kind with which a text begins
 unfoldable pub run_of : (ℕ → Bool) → List ℕ → List ℕ
 run_of is_kind [] = []
@@ -50,3 +70,15 @@ run_of is_kind (c ∷ text) = if is_kind c then c ∷ run_of is_kind text else [
 unfoldable pub behind_run : (ℕ → Bool) → List ℕ → List ℕ
 behind_run is_kind [] = []
 behind_run is_kind (c ∷ text) = if is_kind c then behind_run is_kind text else c ∷ text
+
+-- the longest run with which a text begins, where the kind is one of the run so far with what stands before it
+unfoldable pub run_while : (List ℕ → Bool) → List ℕ → List ℕ → List ℕ
+run_while is_kind before [] = []
+run_while is_kind before (c ∷ text) =
+    if is_kind (before ++ c ∷ []) then c ∷ run_while is_kind (before ++ c ∷ []) text else []
+
+-- what follows that run
+unfoldable pub behind_while : (List ℕ → Bool) → List ℕ → List ℕ → List ℕ
+behind_while is_kind before [] = []
+behind_while is_kind before (c ∷ text) =
+    if is_kind (before ++ c ∷ []) then behind_while is_kind (before ++ c ∷ []) text else c ∷ text

@@ -1,10 +1,11 @@
 -- Where the reading of a text starts, and what is open there.
-use Rattle.std.specs.Prelude.{ℕ, Bool, true, false, List, [], Option, Some}
+use Rattle.std.specs.Prelude.{ℕ, Bool, true, false, List, [], length, Option, Some}
 use Rattle.html5ever_interface.specs.Options.{OptionsOf}
 use Rattle.html5ever_interface.specs.declared.interface.token.TagKind.{TagKind}
 use Rattle.html5ever_interface.specs.declared.states.AttrValueKind.{AttrValueKind}
 use Rattle.html5ever_interface.specs.declared.states.State.{State}
 use Rattle.html5ever_interface.specs.declared.states.State.TheVariants as state
+use Rattle.markup5ever.specs.NamedReferences.{NamedReference}
 use Rattle.markup5ever.specs.Names.{AttributeOf}
 
 -- how the characters of the text are read between items
@@ -39,6 +40,12 @@ pub data Place : Type 0 where
   -- directly behind a `/` outside a value
   AfterSolidus : Place
 
+-- where a character reference stands
+pub data Stand : Type 0 where
+  InText : Stand
+  -- in a value
+  InAttribute : AttrValueKind → OpenTag → Stand
+
 -- what is open at the end of a text
 pub data Open : Type 0 where
   -- nothing
@@ -48,6 +55,8 @@ pub data Open : Type 0 where
   -- `</` in the mode Data
   LessThanSolidus : Open
   InTag : Place → OpenTag → Open
+  -- a reference that is not decided, with the characters behind its `&`
+  InReference : Stand → List ℕ → Open
   -- the text met what is not built yet: nothing more is told
   NotBuilt : Open
 
@@ -55,6 +64,21 @@ pub data Open : Type 0 where
 abbrev pub is_clean : Open → Bool
 is_clean (Between mode) = true
 is_clean other = false
+
+-- a reference is not decided
+abbrev pub is_reference : Open → Bool
+is_reference (InReference stand held) = true
+is_reference other = false
+
+-- how many characters are held of a reference
+abbrev pub held_len : Open → ℕ
+held_len (InReference stand held) = length held
+held_len other = 0
+
+-- what a reading goes by: whether errors are exact, and the table of named references
+pub record Rules : Type 0 where
+  pub exact : Bool
+  pub names : List NamedReference
 
 -- how the characters of a stream come in
 pub record Input : Type 0 where

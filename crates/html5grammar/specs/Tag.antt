@@ -10,12 +10,14 @@ use Rattle.html5ever_interface.specs.declared.states.AttrValueKind.{AttrValueKin
 use Rattle.html5ever_interface.specs.declared.states.AttrValueKind.TheVariants.{Unquoted, SingleQuoted, DoubleQuoted}
 use Rattle.html5ever_interface.specs.declared.states.State.{State}
 use Rattle.html5ever_interface.specs.declared.states.State.TheVariants as state
-use Rattle.html5grammar.specs.Characters.{null, quotation_mark, ampersand, apostrophe, solidus, less_than, equals_sign, greater_than, grave_accent, is_white_space, value_bytes, name_bytes}
+use Rattle.html5grammar.specs.Characters.{null, quotation_mark, ampersand, apostrophe, solidus, less_than, equals_sign, greater_than, grave_accent, is_white_space, name_bytes}
 use Rattle.html5grammar.specs.ErrorText.{error_in, where_true}
-use Rattle.html5grammar.specs.Slice.{Slice, no_character, cut_off, one_character, with_character, with_run, run_of, behind_run}
-use Rattle.html5grammar.specs.Slice.Behind.{Leaves, StopsAt}
+use Rattle.html5grammar.specs.Reference.{with_value, reference_text}
+use Rattle.html5grammar.specs.Slice.{Slice, silent, cut_off, one_character, with_character, with_run, run_of, behind_run}
+use Rattle.html5grammar.specs.Slice.Behind.{Leaves}
 use Rattle.html5grammar.specs.Slice.Cell.{Ends}
-use Rattle.html5grammar.specs.Start.{OpenTag, Place}
+use Rattle.html5grammar.specs.Start.{OpenTag, Place, Rules}
+use Rattle.html5grammar.specs.Start.Stand.{InAttribute}
 use Rattle.html5grammar.specs.Start.Place.{InName, BeforeAttribute, InAttributeName, AfterAttributeName, BeforeValue, InValue, AfterQuotedValue, AfterSolidus}
 use Rattle.html5grammar.specs.Start.Mode.{Data}
 use Rattle.html5grammar.specs.Start.Open.{Between, InTag}
@@ -92,34 +94,30 @@ closing errors tag self_closing =
 abbrev pub null_error : Bool → State → ℕ → List Told
 null_error exact state c = where_true (c == null) (error_in exact state c)
 
--- the tag with more of its last attribute's value
-abbrev pub with_value : OpenTag → List ℕ → OpenTag
-with_value tag run = record tag { last_value = tag.last_value ++ flat_map value_bytes run }
-
 abbrev pub quote_of : AttrValueKind → ℕ
 quote_of DoubleQuoted = quotation_mark
 quote_of SingleQuoted = apostrophe
 quote_of Unquoted = greater_than
 
 -- a value in quotes runs to its quote
-unfoldable pub behind_quoted : AttrValueKind → OpenTag → List ℕ → Slice
-behind_quoted kind tag [] = cut_off (InTag (InValue kind) tag)
-behind_quoted kind tag (c ∷ text) =
-    if c == ampersand then no_character (StopsAt []) else one_character [] (InTag AfterQuotedValue tag)
+unfoldable pub behind_quoted : Rules → AttrValueKind → OpenTag → List ℕ → Slice
+behind_quoted rules kind tag [] = cut_off (InTag (InValue kind) tag)
+behind_quoted rules kind tag (c ∷ text) =
+    if c == ampersand then with_character [] (reference_text rules (InAttribute kind tag) [] text) else one_character [] (InTag AfterQuotedValue tag)
 
 unfoldable pub in_quoted : AttrValueKind → ℕ → Bool
 in_quoted kind c = not ((c == quote_of kind) || (c == ampersand))
 
-unfoldable pub quoted_value : Bool → AttrValueKind → OpenTag → List ℕ → Slice
-quoted_value exact kind tag text =
+unfoldable pub quoted_value : Rules → AttrValueKind → OpenTag → List ℕ → Slice
+quoted_value rules kind tag text =
     let run : List ℕ = run_of (in_quoted kind) text in
-    with_run (null_error exact (state.AttributeValue kind)) run (behind_quoted kind (with_value tag run) (behind_run (in_quoted kind) text))
+    with_run (null_error rules.exact (state.AttributeValue kind)) run (behind_quoted rules kind (with_value tag run) (behind_run (in_quoted kind) text))
 
 -- a value without quotes runs to white space or `>`
-unfoldable pub behind_unquoted : OpenTag → List ℕ → Slice
-behind_unquoted tag [] = cut_off (InTag (InValue Unquoted) tag)
-behind_unquoted tag (c ∷ text) =
-    if c == ampersand then no_character (StopsAt [])
+unfoldable pub behind_unquoted : Rules → OpenTag → List ℕ → Slice
+behind_unquoted rules tag [] = cut_off (InTag (InValue Unquoted) tag)
+behind_unquoted rules tag (c ∷ text) =
+    if c == ampersand then with_character [] (reference_text rules (InAttribute Unquoted tag) [] text)
     else if c == greater_than then closing [] tag false
     else one_character [] (InTag BeforeAttribute tag)
 
@@ -134,48 +132,44 @@ unfoldable pub unquoted_error : Bool → ℕ → List Told
 unquoted_error exact c =
     where_true ((c == null) || (exact && is_odd_in_unquoted c)) (error_in exact (state.AttributeValue Unquoted) c)
 
-unfoldable pub unquoted_value : Bool → OpenTag → List ℕ → Slice
-unquoted_value exact tag text =
+unfoldable pub unquoted_value : Rules → OpenTag → List ℕ → Slice
+unquoted_value rules tag text =
     let run : List ℕ = run_of in_unquoted text in
-    with_run (unquoted_error exact) run (behind_unquoted (with_value tag run) (behind_run in_unquoted text))
+    with_run (unquoted_error rules.exact) run (behind_unquoted rules (with_value tag run) (behind_run in_unquoted text))
 
 -- a value, behind `=` and white space
-unfoldable pub value : Bool → OpenTag → List ℕ → Slice
-value exact tag [] = cut_off (InTag BeforeValue tag)
-value exact tag (c ∷ text) =
-    if c == quotation_mark then with_character [] (quoted_value exact DoubleQuoted tag text)
-    else if c == apostrophe then with_character [] (quoted_value exact SingleQuoted tag text)
-    else if c == greater_than then closing (error_in exact state.BeforeAttributeValue equals_sign ∷ []) tag false
-    else unquoted_value exact tag (c ∷ text)
+unfoldable pub value : Rules → OpenTag → List ℕ → Slice
+value rules tag [] = cut_off (InTag BeforeValue tag)
+value rules tag (c ∷ text) =
+    if c == quotation_mark then with_character [] (quoted_value rules DoubleQuoted tag text)
+    else if c == apostrophe then with_character [] (quoted_value rules SingleQuoted tag text)
+    else if c == greater_than then closing (error_in rules.exact state.BeforeAttributeValue equals_sign ∷ []) tag false
+    else unquoted_value rules tag (c ∷ text)
 
--- what white space tells
-abbrev pub silent : ℕ → List Told
-silent c = []
-
-unfoldable pub value_behind_space : Bool → OpenTag → List ℕ → Slice
-value_behind_space exact tag text =
-    with_run silent (run_of is_white_space text) (value exact tag (behind_run is_white_space text))
+unfoldable pub value_behind_space : Rules → OpenTag → List ℕ → Slice
+value_behind_space rules tag text =
+    with_run silent (run_of is_white_space text) (value rules tag (behind_run is_white_space text))
 
 -- ---- attributes
 
 -- behind an attribute's name and white space
-unfoldable pub value_or_next : Bool → OpenTag → List ℕ → Slice
-value_or_next exact tag [] = cut_off (InTag AfterAttributeName tag)
-value_or_next exact tag (c ∷ text) =
-    if c == equals_sign then with_character [] (value_behind_space exact tag text)
+unfoldable pub value_or_next : Rules → OpenTag → List ℕ → Slice
+value_or_next rules tag [] = cut_off (InTag AfterAttributeName tag)
+value_or_next rules tag (c ∷ text) =
+    if c == equals_sign then with_character [] (value_behind_space rules tag text)
     else cut_off (InTag AfterAttributeName tag)
 
-unfoldable pub behind_name_and_space : Bool → OpenTag → List ℕ → Slice
-behind_name_and_space exact tag text =
-    with_run silent (run_of is_white_space text) (value_or_next exact tag (behind_run is_white_space text))
+unfoldable pub behind_name_and_space : Rules → OpenTag → List ℕ → Slice
+behind_name_and_space rules tag text =
+    with_run silent (run_of is_white_space text) (value_or_next rules tag (behind_run is_white_space text))
 
 -- behind an attribute's name
-unfoldable pub behind_attribute_name : Bool → OpenTag → List ℕ → Slice
-behind_attribute_name exact tag [] = cut_off (InTag InAttributeName tag)
-behind_attribute_name exact tag (c ∷ text) =
-    if is_white_space c then with_character [] (behind_name_and_space exact tag text)
+unfoldable pub behind_attribute_name : Rules → OpenTag → List ℕ → Slice
+behind_attribute_name rules tag [] = cut_off (InTag InAttributeName tag)
+behind_attribute_name rules tag (c ∷ text) =
+    if is_white_space c then with_character [] (behind_name_and_space rules tag text)
     else if c == solidus then one_character [] (InTag AfterSolidus tag)
-    else if c == equals_sign then with_character [] (value_behind_space exact tag text)
+    else if c == equals_sign then with_character [] (value_behind_space rules tag text)
     else closing [] tag false
 
 unfoldable pub in_attribute_name : ℕ → Bool
@@ -196,10 +190,10 @@ abbrev pub with_last_name : OpenTag → List ℕ → OpenTag
 with_last_name tag run = record tag { last_name = tag.last_name ++ flat_map name_bytes run }
 
 -- an attribute behind the first character of its name
-unfoldable pub attribute_behind_first : Bool → OpenTag → List ℕ → Slice
-attribute_behind_first exact tag text =
+unfoldable pub attribute_behind_first : Rules → OpenTag → List ℕ → Slice
+attribute_behind_first rules tag text =
     let run : List ℕ = run_of in_attribute_name text in
-    with_run (attribute_name_error exact) run (behind_attribute_name exact (with_last_name tag run) (behind_run in_attribute_name text))
+    with_run (attribute_name_error rules.exact) run (behind_attribute_name rules (with_last_name tag run) (behind_run in_attribute_name text))
 
 -- ---- the parts of a tag
 
@@ -220,13 +214,13 @@ is_after_solidus AfterSolidus = true
 is_after_solidus place = false
 
 -- the part that c begins at a place between two parts
-unfoldable pub part : Bool → Place → OpenTag → ℕ → List ℕ → Slice
-part exact place tag c text =
-    let errors : List Told = place_error exact place c in
+unfoldable pub part : Rules → Place → OpenTag → ℕ → List ℕ → Slice
+part rules place tag c text =
+    let errors : List Told = place_error rules.exact place c in
     if c == greater_than then closing errors tag (is_after_solidus place)
     else if is_white_space c then one_character errors (InTag BeforeAttribute tag)
     else if c == solidus then one_character errors (InTag AfterSolidus tag)
-    else with_character (errors ++ (first_error exact place c ++ duplicate_error tag)) (attribute_behind_first exact (with_last_name (with_last_attribute tag) (c ∷ [])) text)
+    else with_character (errors ++ (first_error rules.exact place c ++ duplicate_error tag)) (attribute_behind_first rules (with_last_name (with_last_attribute tag) (c ∷ [])) text)
 
 -- ---- the name of a tag
 

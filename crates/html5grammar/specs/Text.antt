@@ -6,9 +6,11 @@ use Rattle.html5ever_interface.specs.declared.interface.token.TagKind.TheVariant
 use Rattle.html5ever_interface.specs.declared.states.State.TheVariants as state
 use Rattle.html5grammar.specs.Characters.{null, replacement_character, exclamation_mark, ampersand, solidus, less_than, greater_than, question_mark, is_letter}
 use Rattle.html5grammar.specs.ErrorText.{error_in}
+use Rattle.html5grammar.specs.Reference.{reference_text}
 use Rattle.html5grammar.specs.Slice.{Slice, no_character, cut_off, one_character, with_character}
 use Rattle.html5grammar.specs.Slice.Behind.{Leaves, StopsAt}
-use Rattle.html5grammar.specs.Start.{begun}
+use Rattle.html5grammar.specs.Start.{Rules, begun}
+use Rattle.html5grammar.specs.Start.Stand.{InText}
 use Rattle.html5grammar.specs.Start.Mode.{Data}
 use Rattle.html5grammar.specs.Start.Open.{Between, LessThan, LessThanSolidus}
 use Rattle.html5grammar.specs.Tag.{tag_name}
@@ -37,9 +39,9 @@ behind_less_than exact (c ∷ text) =
     else no_character (Leaves (error_in exact state.TagOpen c ∷ Text (codes "<") ∷ []) (Between Data))
 
 -- what begins with c in the mode Data, where `before` is told first
-unfoldable pub data_text : Bool → List Told → ℕ → List ℕ → Slice
-data_text exact before c text =
-    if c == less_than then with_character before (behind_less_than exact text)
-    else if c == ampersand then no_character (StopsAt before)
-    else if c == null then one_character (before ++ error_in exact state.Data c ∷ Null ∷ []) (Between Data)
+unfoldable pub data_text : Rules → List Told → ℕ → List ℕ → Slice
+data_text rules before c text =
+    if c == less_than then with_character before (behind_less_than rules.exact text)
+    else if c == ampersand then with_character before (reference_text rules InText [] text)
+    else if c == null then one_character (before ++ error_in rules.exact state.Data c ∷ Null ∷ []) (Between Data)
     else one_character (before ++ Text (encode_utf8 c) ∷ []) (Between Data)

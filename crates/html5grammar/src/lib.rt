@@ -2,10 +2,16 @@
 //! stand the laws that readers of a text in pieces rest on.
 #![tactic(auto)]
 
-ghost use Rattle.std.specs.Prelude.{◌≡◌, ℕ, Bool, List, ◌++◌};
+ghost use Rattle.std.specs.Prelude.{◌≡◌, ◌≢◌, ℕ, Bool, List, [], ◌++◌, None, Some, if◌then◌else◌};
+ghost use Rattle.std.specs.Char.{is_ascii_alphanumeric};
+ghost use Rattle.std.specs.Option.{is_none};
 ghost use Rattle.html5ever_interface.specs.Sink.{Message, stepped};
 ghost use Rattle.html5grammar.specs.Reading.{told, messages, after};
-ghost use Rattle.html5grammar.specs.Start.{Start};
+ghost use Rattle.html5grammar.specs.Characters.{number_sign};
+ghost use Rattle.html5grammar.specs.Reference.{first_or, is_undecided, longest_name};
+ghost use Rattle.html5grammar.specs.Slice.{run_of, run_while};
+ghost use Rattle.html5grammar.specs.Start.{Start, Rules};
+ghost use Rattle.markup5ever.specs.NamedReferences.{NamedReference, IsTable, begins_name};
 
 use html5ever_interface::interface::sink::TokenSink;
 use html5ever_interface::interface::token::Token;
@@ -15,20 +21,33 @@ use std::alloc::Allocator;
 /// start behind that part, in the state of the sink that the first part leaves. So a reader may
 /// forget all but that start, wherever a text is cut.
 pub fn forgetting<S: TokenSink<Token<A>>, A: Allocator>()
-    ensures told { (exact : Bool) (K : Start) (s : S.State) (text rest : List ℕ) →
-        messages (told S.step S.reply exact K s (text ++ rest))
-        ≡ messages (told S.step S.reply exact K s text)
-        ++ messages (told S.step S.reply exact (after S.step S.reply exact K s text)
-        (stepped S.step s (messages (told S.step S.reply exact K s text))) rest) }
-    ensures after { (exact : Bool) (K : Start) (s : S.State) (text rest : List ℕ) →
-        after S.step S.reply exact K s (text ++ rest)
-        ≡ after S.step S.reply exact (after S.step S.reply exact K s text)
-        (stepped S.step s (messages (told S.step S.reply exact K s text))) rest }
+    ensures told { (rules : Rules) (K : Start) (s : S.State) (text rest : List ℕ) →
+        messages (told S.step S.reply rules K s (text ++ rest))
+        ≡ messages (told S.step S.reply rules K s text)
+        ++ messages (told S.step S.reply rules (after S.step S.reply rules K s text)
+        (stepped S.step s (messages (told S.step S.reply rules K s text))) rest) }
+    ensures after { (rules : Rules) (K : Start) (s : S.State) (text rest : List ℕ) →
+        after S.step S.reply rules K s (text ++ rest)
+        ≡ after S.step S.reply rules (after S.step S.reply rules K s text)
+        (stepped S.step s (messages (told S.step S.reply rules K s text))) rest }
 {}
 
 /// What is told of a text is a beginning of what is told of it and more.
 pub fn beginning<S: TokenSink<Token<A>>, A: Allocator>()
-    ensures { (exact : Bool) (K : Start) (s : S.State) (text rest : List ℕ) → (later : List Message)
-        × (messages (told S.step S.reply exact K s (text ++ rest))
-        ≡ messages (told S.step S.reply exact K s text) ++ later) }
+    ensures { (rules : Rules) (K : Start) (s : S.State) (text rest : List ℕ) → (later : List Message)
+        × (messages (told S.step S.reply rules K s (text ++ rest))
+        ≡ messages (told S.step S.reply rules K s text) ++ later) }
+{}
+
+/// Names behind an `&` that no `#` follows: the longest name that begins what is held when a reference
+/// is decided is the longest that begins the whole text. By a table what is held is the longest
+/// beginning of the text that begins a name, or, where no name begins the text, its letters and digits
+/// up to another character.
+pub fn longest_name_of_text()
+    ensures name { (names : List NamedReference) (text : List ℕ) → first_or text None ≢ Some number_sign →
+        longest_name names (run_while (is_undecided names) [] text) ≡ longest_name names text }
+    ensures held { (names : List NamedReference) (text : List ℕ) → IsTable names → first_or text None ≢ Some number_sign →
+        run_while (is_undecided names) [] text
+        ≡ (if is_none (longest_name names text) then run_of is_ascii_alphanumeric text
+        else run_while (begins_name names) [] text) }
 {}

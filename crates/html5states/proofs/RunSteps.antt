@@ -9,7 +9,7 @@ use Rattle.html5grammar.specs.Reading.Here.{Tells}
 use Rattle.html5grammar.specs.Start.{Open}
 use Rattle.html5grammar.specs.Start.Mode.{Data, Plain}
 use Rattle.html5grammar.specs.Start.Place.{InName, BeforeAttribute, InAttributeName, AfterAttributeName, BeforeValue, InValue, AfterQuotedValue, AfterSolidus}
-use Rattle.html5grammar.specs.Start.Open.{Between, LessThan, LessThanSolidus, InTag, NotBuilt}
+use Rattle.html5grammar.specs.Start.Open.{Between, LessThan, LessThanSolidus, InTag, InReference, NotBuilt}
 use Rattle.html5grammar.specs.Tag.{in_tag_name, in_attribute_name, in_quoted, in_unquoted, unquoted_error, is_odd_in_name}
 use Rattle.html5grammar.specs.Text.{plain_text}
 use Rattle.html5grammar.proofs.Machine.{step_at, tag_step, data_step, tag_name_step, attribute_name_step, quoted_step, unquoted_step}
@@ -39,6 +39,7 @@ opened_after_run-nil (InTag BeforeValue tag) = refl
 opened_after_run-nil (InTag (InValue kind) tag) = ap (InTag (InValue kind)) (with_value-nil tag)
 opened_after_run-nil (InTag AfterQuotedValue tag) = refl
 opened_after_run-nil (InTag AfterSolidus tag) = refl
+opened_after_run-nil (InReference stand held) = refl
 opened_after_run-nil NotBuilt = refl
 
 pub opened_after_run-cons : (opened : Open) (c : ℕ) (run : List ℕ)
@@ -54,6 +55,7 @@ opened_after_run-cons (InTag BeforeValue tag) c run = refl
 opened_after_run-cons (InTag (InValue kind) tag) c run = ap (InTag (InValue kind)) (with_value-cons tag c run)
 opened_after_run-cons (InTag AfterQuotedValue tag) c run = refl
 opened_after_run-cons (InTag AfterSolidus tag) c run = refl
+opened_after_run-cons (InReference stand held) c run = refl
 opened_after_run-cons NotBuilt c run = refl
 
 -- behind a character of a run the same characters end it
@@ -69,6 +71,7 @@ other_run_ends-after (InTag BeforeValue tag) c = refl
 other_run_ends-after (InTag (InValue kind) tag) c = refl
 other_run_ends-after (InTag AfterQuotedValue tag) c = refl
 other_run_ends-after (InTag AfterSolidus tag) c = refl
+other_run_ends-after (InReference stand held) c = refl
 other_run_ends-after NotBuilt c = refl
 
 -- what the run tells is what its characters tell
@@ -85,6 +88,7 @@ run_tokens-cons (InTag BeforeValue tag) c run = refl
 run_tokens-cons (InTag (InValue kind) tag) c run = refl
 run_tokens-cons (InTag AfterQuotedValue tag) c run = refl
 run_tokens-cons (InTag AfterSolidus tag) c run = refl
+run_tokens-cons (InReference stand held) c run = refl
 run_tokens-cons NotBuilt c run = refl
 
 pub run_tokens-nil : (opened : Open) → run_tokens opened [] ≡ []
@@ -92,6 +96,7 @@ run_tokens-nil (Between mode) = refl
 run_tokens-nil LessThan = refl
 run_tokens-nil LessThanSolidus = refl
 run_tokens-nil (InTag place tag) = refl
+run_tokens-nil (InReference stand held) = refl
 run_tokens-nil NotBuilt = refl
 
 -- a character that ends no run is none of the characters that end one
@@ -140,4 +145,5 @@ step-run (InTag (InValue Unquoted) tag) others c has other =
     rw (no (tab ∷ form_feed ∷ space ∷ ampersand ∷ greater_than ∷ []) c out 3 tab (lit< tt) refl, no (tab ∷ form_feed ∷ space ∷ ampersand ∷ greater_than ∷ []) c out 1 line_feed (lit< tt) refl, no (tab ∷ form_feed ∷ space ∷ ampersand ∷ greater_than ∷ []) c out 4 form_feed (lit< tt) refl, no (tab ∷ form_feed ∷ space ∷ ampersand ∷ greater_than ∷ []) c out 5 space (lit< tt) refl, no (tab ∷ form_feed ∷ space ∷ ampersand ∷ greater_than ∷ []) c out 7 greater_than (lit< tt) refl, no (tab ∷ form_feed ∷ space ∷ ampersand ∷ greater_than ∷ []) c out 6 ampersand (lit< tt) refl, no (tab ∷ form_feed ∷ space ∷ ampersand ∷ greater_than ∷ []) c out 0 null (lit< tt) refl) refl
 step-run (InTag AfterQuotedValue tag) others c has other = absurd (none≢some has)
 step-run (InTag AfterSolidus tag) others c has other = absurd (none≢some has)
+step-run (InReference stand held) others c has other = absurd (none≢some has)
 step-run NotBuilt others c has other = absurd (none≢some has)

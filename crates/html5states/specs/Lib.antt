@@ -2,3 +2,4 @@ pub mod CurrentTag
 pub mod Steps
 pub mod Telling
 pub mod Runs
+pub mod CharRef

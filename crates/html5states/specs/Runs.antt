@@ -9,7 +9,8 @@ use Rattle.html5grammar.specs.Start.{Open}
 use Rattle.html5grammar.specs.Start.Mode.{Data, Plain}
 use Rattle.html5grammar.specs.Start.Open.{Between, InTag}
 use Rattle.html5grammar.specs.Start.Place.{InName, InAttributeName, InValue}
-use Rattle.html5grammar.specs.Tag.{with_name, with_last_name, with_value}
+use Rattle.html5grammar.specs.Reference.{with_value}
+use Rattle.html5grammar.specs.Tag.{with_name, with_last_name}
 
 -- the characters that end a run in a value, beside NUL and those of line breaks
 abbrev pub other_value_ends : AttrValueKind → List ℕ

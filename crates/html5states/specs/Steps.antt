@@ -5,12 +5,13 @@ use Rattle.html5grammar.specs.Reading.{Here}
 use Rattle.html5grammar.specs.Reading.Here.{Tells, TellsTag, Stops}
 use Rattle.html5grammar.specs.Start.{Open}
 use Rattle.html5grammar.specs.Start.Mode.{Data}
-use Rattle.html5grammar.specs.Start.Open.{Between, LessThan, LessThanSolidus, InTag, NotBuilt}
+use Rattle.html5grammar.specs.Start.Open.{Between, LessThan, LessThanSolidus, InTag, InReference, NotBuilt}
 use Rattle.html5grammar.specs.Tag.{told_tag}
+use Rattle.html5states.specs.CharRef.{begun_reference}
 use Rattle.html5states.specs.CurrentTag.{open_tag, opened_of}
 use Rattle.html5states.specs.declared.opened.Opened.{Opened}
 use Rattle.html5states.specs.declared.opened.Progress.{Progress}
-use Rattle.html5states.specs.declared.opened.Progress.TheVariants.{Continues, EndsTag}
+use Rattle.html5states.specs.declared.opened.Progress.TheVariants.{Continues, BeginsReference, EndsTag}
 use Rattle.html5states.specs.declared.error.TokenizerError.{TokenizerError}
 use Rattle.html5states.specs.declared.error.TokenizerError.TheVariants.{Memory, Sink, Failed, NotYet}
 
@@ -36,6 +37,7 @@ IsBuilt (Between mode) = Unit {0}
 IsBuilt LessThan = Unit {0}
 IsBuilt LessThanSolidus = Unit {0}
 IsBuilt (InTag place tag) = Unit {0}
+IsBuilt (InReference stand held) = Unit {0}
 IsBuilt NotBuilt = ⊥
 
 -- where a call that reads a character leads: to what is open behind it, and to a refusal where that isn't built yet
@@ -49,6 +51,7 @@ Leads (Err NotYet) now later = later ≡ NotBuilt
 -- what is behind a character, where a call answers so and leaves this open
 abbrev pub next_of : {Z : Type 0} → Progress → Opened Z → Next
 next_of Continues at = Opens (opened_of at)
+next_of BeginsReference at = Opens (begun_reference (opened_of at))
 next_of (EndsTag self_closing) at = Closes (told_tag (open_tag at.tag) self_closing) (opened_of at)
 
 abbrev pub IsNextBuilt : Next → Type 0

@@ -1,6 +1,7 @@
 //! The states of the tokenizer: whom they tell, what is open, and what a character makes of it.
 #![tactic(auto)]
 
+pub mod char_ref;
 pub mod characters;
 pub mod current_tag;
 mod emit_tag;

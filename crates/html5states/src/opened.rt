@@ -17,6 +17,8 @@ pub struct Opened<A: Allocator = Global> {
 pub enum Progress {
     /// Reading goes on in the state that is open.
     Continues,
+    /// The character is an `&`: a reference begins, and stands where the state is.
+    BeginsReference,
     /// The open tag ends: it is to be told, and the sink's reply may choose another state.
     EndsTag {
         /// Whether the tag closes itself.

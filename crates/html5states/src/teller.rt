@@ -61,7 +61,7 @@ impl<S: TokenSink<Token<A>>, A: Allocator + Copy> Teller<'_, S, A> {
     }
 
     /// Tells the sink an error.
-    fn emit_error(&mut self, message: String<A>) -> Result<(), TokenizerError>
+    pub fn emit_error(&mut self, message: String<A>) -> Result<(), TokenizerError>
         ensures { Emits S.state S.faults S.step S.faulted result self.old self.new
             (Error (string_bytes message) ∷ []) }
     {

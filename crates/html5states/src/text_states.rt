@@ -68,7 +68,7 @@ impl<S: TokenSink<Token<A>>, A: Allocator + Copy> Teller<'_, S, A> {
     {
         match c {
             '<' => at.state = State::TagOpen,
-            '&' => return Err(TokenizerError::NotYet),
+            '&' => return Ok(Progress::BeginsReference),
             '\0' => self.emit_null(c)?,
             _ => self.emit_char(c)?,
         }

@@ -12,7 +12,6 @@ ghost use Rattle.html5states.specs.Telling.{Reads};
 
 use crate::characters::{is_unquoted_error, is_white_space, quote_of};
 use crate::current_tag::push_value;
-use crate::error::TokenizerError;
 use crate::opened::{Opened, Progress, Step};
 use crate::teller::Teller;
 use html5ever_interface::interface::sink::TokenSink;
@@ -60,7 +59,7 @@ impl<S: TokenSink<Token<A>>, A: Allocator + Copy> Teller<'_, S, A> {
             (quoted_step self.old.exact_errors kind (open_tag at.old.tag) c) at.new }
     {
         if c == '&' {
-            return Err(TokenizerError::NotYet);
+            return Ok(Progress::BeginsReference);
         }
         if c == quote_of(kind) {
             at.state = State::AfterAttributeValueQuoted;
@@ -78,7 +77,7 @@ impl<S: TokenSink<Token<A>>, A: Allocator + Copy> Teller<'_, S, A> {
             (unquoted_step self.old.exact_errors (open_tag at.old.tag) c) at.new }
     {
         if c == '&' {
-            return Err(TokenizerError::NotYet);
+            return Ok(Progress::BeginsReference);
         }
         if c == '>' {
             return self.emit_tag(at, false);

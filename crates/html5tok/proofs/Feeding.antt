@@ -21,7 +21,7 @@ use Rattle.html5tok.proofs.Cuts.{IsCut, IsCut-start, IsCut-front}
 pub record FedTo (first now : Tokenizing Printer) (text : List ℕ) (start : ℕ) (queue : TextQueue) : Type 0 where
   pub cut : IsCut text start
   pub reads : ReadsOn (λ (sink : Printer). sink.page) page_step page_reply first now (chars (take start text))
-  pub exact : now.exact ≡ first.exact
+  pub rules : now.rules ≡ first.rules
   pub going_on : now.ended ≡ false
   pub not_failed : now.failed ≡ false
   pub waiting : queue.text ≡ []
@@ -31,7 +31,7 @@ pub FedTo-start : (first : Tokenizing Printer) (text : List ℕ) (queue : TextQu
 FedTo-start first text queue utf8 going_on not_failed waiting = record {
   cut = IsCut-start text utf8;
   reads = λ K s X stands. rw (chars-nil, append-nil X) stands;
-  exact = refl;
+  rules = refl;
   going_on = going_on;
   not_failed = not_failed;
   waiting = waiting;
@@ -40,9 +40,9 @@ FedTo-start first text queue utf8 going_on not_failed waiting = record {
 pub FedTo-more : (first now next : Tokenizing Printer) (text piece : List ℕ) (start len : ℕ) (queue later : TextQueue)
     → FedTo first now text start queue → IsUtf8 text → IsCut text (start + len) → piece ≡ take len (drop start text)
     → ReadsOn (λ (sink : Printer). sink.page) page_step page_reply now next (chars piece)
-    → next.exact ≡ now.exact → next.ended ≡ false → next.failed ≡ false → later.text ≡ []
+    → next.rules ≡ now.rules → next.ended ≡ false → next.failed ≡ false → later.text ≡ []
     → FedTo first next text (start + len) later
-FedTo-more first now next text piece start len queue later fed utf8 cut is_piece reads exact going_on not_failed waiting =
+FedTo-more first now next text piece start len queue later fed utf8 cut is_piece reads rules going_on not_failed waiting =
     let front : chars (take (start + len) text) ≡ chars (take start text) ++ chars piece =
     ap chars (take-add start len text)
     ∙ chars-append (take start text) (take len (drop start text)) (IsCut-front text start utf8 fed.cut)
@@ -50,7 +50,7 @@ FedTo-more first now next text piece start len queue later fed utf8 cut is_piece
     record {
       cut = cut;
       reads = λ K s X stands. rw (front, ← append_assoc X (chars (take start text)) (chars piece)) (reads K s (X ++ chars (take start text)) (fed.reads K s X stands));
-      exact = exact ∙ fed.exact;
+      rules = rules ∙ fed.rules;
       going_on = going_on;
       not_failed = not_failed;
       waiting = waiting;
@@ -68,14 +68,14 @@ FedTo-met first now text piece start len queue fed utf8 cut is_piece met K s X s
     ∙ ap (λ l. chars (take start text) ++ chars l) (sym is_piece) in
     let whole : chars text ≡ (chars (take start text) ++ chars piece) ++ chars (drop (start + len) text) =
     chars_cut text (start + len) (IsCut-front text (start + len) utf8 cut) ∙ ap (λ l. l ++ chars (drop (start + len) text)) front in
-    let here : (after page_step page_reply first.exact K s (X ++ (chars (take start text) ++ chars piece))).opened ≡ NotBuilt =
-    ap (λ l. (after page_step page_reply first.exact K s l).opened) (sym (append_assoc X (chars (take start text)) (chars piece)))
-    ∙ ap (λ x. (after page_step page_reply x K s ((X ++ chars (take start text)) ++ chars piece)).opened) (sym fed.exact)
+    let here : (after page_step page_reply first.rules K s (X ++ (chars (take start text) ++ chars piece))).opened ≡ NotBuilt =
+    ap (λ l. (after page_step page_reply first.rules K s l).opened) (sym (append_assoc X (chars (take start text)) (chars piece)))
+    ∙ ap (λ x. (after page_step page_reply x K s ((X ++ chars (take start text)) ++ chars piece)).opened) (sym fed.rules)
     ∙ met K s (X ++ chars (take start text)) (fed.reads K s X stands) in
-    ap (λ l. (after page_step page_reply first.exact K s (X ++ l)).opened) whole
-    ∙ ap (λ l. (after page_step page_reply first.exact K s l).opened) (sym (append_assoc X (chars (take start text) ++ chars piece) (chars (drop (start + len) text))))
-    ∙ ap (λ (P : Start). P.opened) (after-append page_step page_reply first.exact K s (X ++ (chars (take start text) ++ chars piece)) (chars (drop (start + len) text)))
-    ∙ after-not_built page_step page_reply first.exact _ _ (chars (drop (start + len) text)) here
+    ap (λ l. (after page_step page_reply first.rules K s (X ++ l)).opened) whole
+    ∙ ap (λ l. (after page_step page_reply first.rules K s l).opened) (sym (append_assoc X (chars (take start text) ++ chars piece) (chars (drop (start + len) text))))
+    ∙ ap (λ (P : Start). P.opened) (after-append page_step page_reply first.rules K s (X ++ (chars (take start text) ++ chars piece)) (chars (drop (start + len) text)))
+    ∙ after-not_built page_step page_reply first.rules _ _ (chars (drop (start + len) text)) here
 
 -- the fault of a `?`
 pub fault_is : {T : Type 0} (r : Result T Fault) (e f : Fault) → IsErrAnd r (λ x. x ≡ e) → r ≡ Err f → e ≡ f

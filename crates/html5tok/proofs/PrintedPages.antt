@@ -1,5 +1,5 @@
 -- The page of a whole reading, and what is known of the bytes of a reader that was read to its end.
-use Rattle.std.proofs.Common.{◌≡◌, ℕ, Bool, List, [], ◌∷◌, ◌++◌, Option, None, Some, refl, ap, sym, ◌∙◌, subst}
+use Rattle.std.proofs.Common.{◌≡◌, ℕ, List, [], ◌∷◌, ◌++◌, Option, None, Some, refl, ap, sym, ◌∙◌, subst}
 use Rattle.std.specs.Prelude.{IfSome, codes}
 use Rattle.std.specs.Io.KnownBytes.{Consumes, IsAtEnd, Keeps}
 use Rattle.std.specs.Str.{chars}
@@ -8,12 +8,15 @@ use Rattle.html5ever_interface.specs.Sink.{Message, stepped, on_line}
 use Rattle.html5ever_interface.specs.Token.{Told, Reply}
 use Rattle.html5ever_interface.specs.Token.Told.{Text, End}
 use Rattle.html5ever_interface.specs.declared.states.State.TheVariants as state
-use Rattle.html5grammar.specs.EndOfInput.{told_at_end_of, state_at}
+use Rattle.html5grammar.specs.EndOfInput.{late_at_end_of, open_at_end_of, told_at_end_of, state_at}
 use Rattle.html5grammar.specs.ErrorText.{end_error_in}
 use Rattle.html5grammar.specs.NormalisedText.{normalised, line_after}
-use Rattle.html5grammar.specs.Reading.{end_events, read, reading, told, messages, after}
-use Rattle.html5grammar.specs.Start.{Start, Open, start_of}
-use Rattle.html5grammar.specs.Start.Open.{Between, LessThan, LessThanSolidus, InTag, NotBuilt}
+use Rattle.html5grammar.specs.Reading.{Event, end_events, late_events, read, reading, told, messages, after}
+use Rattle.html5grammar.specs.Reading.TextPlace.{EndOfInput}
+use Rattle.html5grammar.specs.Start.{Start, Open, Rules, start_of}
+use Rattle.html5grammar.specs.Start.Open.{Between, LessThan, LessThanSolidus, InTag, InReference, NotBuilt}
+use Rattle.html5grammar.specs.Start.Place.{InValue}
+use Rattle.html5grammar.specs.Start.Stand.{InText, InAttribute}
 use Rattle.html5grammar.proofs.ReadingLemmas.{reading-events}
 use Rattle.html5grammar.proofs.Traces.{messages-append, messages-map}
 use Rattle.html5states.specs.Steps.{IsBuilt}
@@ -22,61 +25,72 @@ use Rattle.html5print.specs.Page.{Page, Printer, page_step, page_reply, blank_pa
 use Rattle.html5print.proofs.Pages.{lines-stepped}
 use Rattle.html5tok.specs.Device.{ConsumesBeginning}
 use Rattle.html5tok.specs.Printing.{IsWholeBuilt, printed_reading}
-use Rattle.html5tok.specs.Settings.{SettingsOf}
+use Rattle.html5tok.specs.Settings.{SettingsOf, rules_said}
 
 -- the end of what was built tells the end last
 EndsWithEnd : List Told → Type 0
 EndsWithEnd tokens = (front : List Told) × (tokens ≡ front ++ End ∷ [])
 
-told_at_end_of-ends : (exact : Bool) (opened : Open) → IsBuilt opened → EndsWithEnd (told_at_end_of exact opened)
-unfolding told_at_end_of EndsWithEnd
-told_at_end_of-ends exact (Between mode) built = ([], refl)
-told_at_end_of-ends exact LessThan built = (end_error_in exact state.TagOpen ∷ Text (codes "<") ∷ [], refl)
-told_at_end_of-ends exact LessThanSolidus built = (end_error_in exact state.EndTagOpen ∷ Text (codes "<") ∷ Text (codes "/") ∷ [], refl)
-told_at_end_of-ends exact (InTag place tag) built = (end_error_in exact (state_at place) ∷ [], refl)
-told_at_end_of-ends exact NotBuilt built = absurd built
+told_at_end_of-ends : (rules : Rules) (opened : Open) → IsBuilt opened → EndsWithEnd (told_at_end_of rules.exact (open_at_end_of rules opened))
+unfolding told_at_end_of open_at_end_of EndsWithEnd
+told_at_end_of-ends rules (Between mode) built = ([], refl)
+told_at_end_of-ends rules LessThan built = (end_error_in rules.exact state.TagOpen ∷ Text (codes "<") ∷ [], refl)
+told_at_end_of-ends rules LessThanSolidus built = (end_error_in rules.exact state.EndTagOpen ∷ Text (codes "<") ∷ Text (codes "/") ∷ [], refl)
+told_at_end_of-ends rules (InTag place tag) built = (end_error_in rules.exact (state_at place) ∷ [], refl)
+told_at_end_of-ends rules (InReference InText held) built = ([], refl)
+told_at_end_of-ends rules (InReference (InAttribute kind tag) held) built = (end_error_in rules.exact (state_at (InValue kind)) ∷ [], refl)
+told_at_end_of-ends rules NotBuilt built = absurd built
 
 -- a reading of what is built ends with the end of input
-module _ (exact : Bool) (K : Start) (p : Page) (X : List ℕ) where
+module _ (rules : Rules) (K : Start) (p : Page) (X : List ℕ) where
   abbrev reply : Page → Told → ℕ → Reply (Unit {0})
   reply = page_reply
 
-  front-messages : List Told → List Message
-  front-messages tokens = messages (told page_step reply exact K p X) ++ on_line (line_after K.input (normalised K.input X)) tokens
+  -- what the end decides of a reference
+  abbrev late-events : List Event
+  late-events = late_events K.input (normalised K.input X) EndOfInput (late_at_end_of rules (read page_step reply rules K p X).opened)
 
-  reading-ends : (tokens : List Told) → told_at_end_of exact (read page_step reply exact K p X).opened ≡ tokens ++ End ∷ []
-      → messages (reading page_step reply exact K p X)
+  front-messages : List Told → List Message
+  front-messages tokens = messages (told page_step reply rules K p X) ++ (messages late-events ++ on_line (line_after K.input (normalised K.input X)) tokens)
+
+  reading-ends : (tokens : List Told) → told_at_end_of rules.exact (open_at_end_of rules (read page_step reply rules K p X).opened) ≡ tokens ++ End ∷ []
+      → messages (reading page_step reply rules K p X)
       ≡ front-messages tokens ++ record { token = End; line = line_after K.input (normalised K.input X) } ∷ []
   unfolding end_events front-messages
   reading-ends tokens ends =
       let line : ℕ = line_after K.input (normalised K.input X) in
-      ap (λ E. messages E) (reading-events page_step reply exact K p X)
-      ∙ messages-append (told page_step reply exact K p X) (end_events page_step reply exact K (read page_step reply exact K p X).opened (normalised K.input X))
-      ∙ ap (λ M. messages (told page_step reply exact K p X) ++ M)
-      (messages-map _ _ (λ t. refl) (told_at_end_of exact (read page_step reply exact K p X).opened)
+      let front : List Message = messages (told page_step reply rules K p X) in
+      let end : List Message = record { token = End; line = line } ∷ [] in
+      ap (λ E. messages E) (reading-events page_step reply rules K p X)
+      ∙ messages-append (told page_step reply rules K p X) (end_events page_step reply rules K (read page_step reply rules K p X).opened (normalised K.input X))
+      ∙ ap (λ M. front ++ M)
+      (messages-append late-events _
+      ∙ ap (λ M. messages late-events ++ M)
+      (messages-map _ _ (λ t. refl) (told_at_end_of rules.exact (open_at_end_of rules (read page_step reply rules K p X).opened))
       ∙ ap (on_line line) ends
       ∙ map-append (λ (token : Told). record { token = token; line = line }) tokens (End ∷ []))
-      ∙ sym (append_assoc (messages (told page_step reply exact K p X)) (on_line line tokens) (record { token = End; line = line } ∷ []))
+      ∙ sym (append_assoc (messages late-events) (on_line line tokens) end))
+      ∙ sym (append_assoc front (messages late-events ++ on_line line tokens) end)
 
 -- a page that a reading was printed to has its lines
-pub printed-page : (exact : Bool) (settings : SettingsOf) (p : Page) (bytes : List ℕ)
-    → exact ≡ settings.opts.exact_errors → p ≡ blank_page settings.foreign → IsWholeBuilt settings bytes
-    → (stepped page_step p (messages (reading page_step page_reply exact (start_of settings.opts) p (chars bytes)))).lines ≡ printed_reading settings bytes
+pub printed-page : (rules : Rules) (settings : SettingsOf) (p : Page) (bytes : List ℕ)
+    → rules ≡ rules_said settings → p ≡ blank_page settings.foreign → IsWholeBuilt settings bytes
+    → (stepped page_step p (messages (reading page_step page_reply rules (start_of settings.opts) p (chars bytes)))).lines ≡ printed_reading settings bytes
 unfolding printed_reading EndsWithEnd
-printed-page exact settings p bytes same blank built =
-    let M : List Message = messages (reading page_step page_reply settings.opts.exact_errors (start_of settings.opts) (blank_page settings.foreign) (chars bytes)) in
-    let ends = told_at_end_of-ends settings.opts.exact_errors (read page_step page_reply settings.opts.exact_errors (start_of settings.opts) (blank_page settings.foreign) (chars bytes)).opened built in
+printed-page rules settings p bytes same blank built =
+    let M : List Message = messages (reading page_step page_reply (rules_said settings) (start_of settings.opts) (blank_page settings.foreign) (chars bytes)) in
+    let ends = told_at_end_of-ends (rules_said settings) (read page_step page_reply (rules_said settings) (start_of settings.opts) (blank_page settings.foreign) (chars bytes)).opened built in
     rw (same, blank) (lines-stepped (blank_page settings.foreign) M _ _ refl
-    (reading-ends settings.opts.exact_errors (start_of settings.opts) (blank_page settings.foreign) (chars bytes) ends.0 ends.1))
+    (reading-ends (rules_said settings) (start_of settings.opts) (blank_page settings.foreign) (chars bytes) ends.0 ends.1))
 
 -- a tokenizer that stands behind the text met nothing that isn't built yet
 pub built-reading : (settings : SettingsOf) (t : Tokenizing Printer) (p : Page) (bytes : List ℕ)
-    → t.exact ≡ settings.opts.exact_errors → p ≡ blank_page settings.foreign
+    → t.rules ≡ rules_said settings → p ≡ blank_page settings.foreign
     → StandsAt (λ (sink : Printer). sink.page) page_step page_reply t (start_of settings.opts) p (chars bytes)
     → IsWholeBuilt settings bytes
-built-reading settings t p bytes exact blank stands =
-    let position : t.position ≡ after page_step page_reply settings.opts.exact_errors (start_of settings.opts) (blank_page settings.foreign) (chars bytes) =
-    stands.position ∙ rw (exact, blank) refl in
+built-reading settings t p bytes rules blank stands =
+    let position : t.position ≡ after page_step page_reply (rules_said settings) (start_of settings.opts) (blank_page settings.foreign) (chars bytes) =
+    stands.position ∙ rw (rules, blank) refl in
     subst (λ (P : Start). IsBuilt P.opened) position stands.built
 
 -- bytes that were read to their end are all that there was

@@ -8,18 +8,18 @@ use Rattle.html5print.specs.Printed.{printed}
 use Rattle.html5grammar.specs.Reading.{reading, messages, after}
 use Rattle.html5grammar.specs.Start.{Open, start_of}
 use Rattle.html5grammar.specs.Start.Open.{NotBuilt}
-use Rattle.html5tok.specs.Settings.{SettingsOf}
+use Rattle.html5tok.specs.Settings.{SettingsOf, rules_said}
 use Rattle.html5states.specs.Steps.{IsBuilt}
 
 -- the printed lines of the reading of a text, whose bytes are given: the cut is not in it
 unfoldable pub printed_reading : SettingsOf → List ℕ → List ℕ
 printed_reading settings bytes =
-    printed (messages (reading page_step page_reply settings.opts.exact_errors (start_of settings.opts) (blank_page settings.foreign) (chars bytes)))
+    printed (messages (reading page_step page_reply (rules_said settings) (start_of settings.opts) (blank_page settings.foreign) (chars bytes)))
 
 -- what is open behind the text of the bytes
 abbrev pub open_behind_text : SettingsOf → List ℕ → Open
 open_behind_text settings bytes =
-    (after page_step page_reply settings.opts.exact_errors (start_of settings.opts) (blank_page settings.foreign) (chars bytes)).opened
+    (after page_step page_reply (rules_said settings) (start_of settings.opts) (blank_page settings.foreign) (chars bytes)).opened
 
 -- the text of the bytes meets nothing that isn't built yet
 abbrev pub IsWholeBuilt : SettingsOf → List ℕ → Type 0

@@ -3,9 +3,14 @@ use Rattle.std.specs.Prelude.{ℕ, ◌^◌, Bool, true, false, List, [], ◌∷�
 use Rattle.std.specs.Option.{option_map, option_and_then, option_or}
 use Rattle.std.specs.Str.{bytes_eq, all_ascii_digits}
 use Rattle.std.specs.Str.Parse.{digits_value}
+use Rattle.html5table.specs.Listed.{listed, entries_in}
+use Rattle.html5table.specs.Profile.{profile_entries}
+use Rattle.markup5ever.specs.NamedReferences.{NamedReference, table_of}
 use Rattle.html5ever_interface.specs.Options.{OptionsOf, options_of, default_options}
 use Rattle.html5ever_interface.specs.declared.states.State.{State}
 use Rattle.html5ever_interface.specs.declared.states.State.TheVariants.{Data, Plaintext}
+use Rattle.html5grammar.specs.Start.{Rules}
+use Rattle.html5ever.specs.Tokenizer.{rules_of}
 use Rattle.html5tok.specs.declared.print.Settings.{Settings}
 
 pub record SettingsOf : Type 0 where
@@ -14,13 +19,15 @@ pub record SettingsOf : Type 0 where
   pub foreign : Bool
   -- how many characters are fed at once, and 0 for all of them
   pub cut : ℕ
+  -- the entries of the table
+  pub table : List NamedReference
 
 abbrev pub said_by : {Z : Type 0} → Settings Z → SettingsOf
-said_by settings = record { opts = options_of settings.opts; foreign = settings.foreign; cut = settings.cut }
+said_by settings = record { opts = options_of settings.opts; foreign = settings.foreign; cut = settings.cut; table = entries_in settings.table.now }
 
 -- the settings before the first word
 abbrev pub unsaid : SettingsOf
-unsaid = record { opts = default_options; foreign = false; cut = 0 }
+unsaid = record { opts = default_options; foreign = false; cut = 0; table = profile_entries }
 
 abbrev pub with_exact_errors : SettingsOf → SettingsOf
 with_exact_errors s = record s { opts = record s.opts { exact_errors = true } }
@@ -33,6 +40,13 @@ with_state s state = record s { opts = record s.opts { initial_state = Some stat
 
 abbrev pub with_cut : SettingsOf → ℕ → SettingsOf
 with_cut s cut = record s { cut = cut }
+
+abbrev pub with_table : SettingsOf → List NamedReference → SettingsOf
+with_table s entries = record s { table = entries }
+
+-- what the settings make a tokenizer read by
+abbrev pub rules_said : SettingsOf → Rules
+rules_said s = rules_of s.opts (table_of s.table)
 
 -- the state of that name
 unfoldable pub state_said : List ℕ → Option State
@@ -59,6 +73,7 @@ unfoldable pub value_said : SettingsOf → List ℕ → List ℕ → Option Sett
 value_said s word value =
     if bytes_eq word (codes "--state") then option_map (with_state s) (state_said value)
     else if bytes_eq word (codes "--cut") then option_map (with_cut s) (cut_said value)
+    else if bytes_eq word (codes "--table") then option_map (with_table s) (listed value)
     else None
 
 -- what the words say behind those that said s, if they say anything

@@ -1,38 +1,45 @@
 //! The words of the command line.
-ghost use Rattle.std.specs.Prelude.{◌≡◌, ◌<◌, ◌^◌, false, IfSome, map, string_bytes};
+ghost use Rattle.std.specs.Prelude.{◌≡◌, ◌<◌, ◌^◌, ◌↔◌, false, IfSome, IsSome, map, string_bytes};
 ghost use Rattle.std.specs.Option.{option_map};
 ghost use Rattle.html5ever.specs.Tokenizer.{CanStart};
+ghost use Rattle.html5table.specs.Listed.{listed};
 ghost use Rattle.html5tok.specs.Settings.{said_by, state_said, cut_said, settings_said};
 
 use crate::print::Settings;
 use html5ever_interface::options::TokenizerOpts;
 use html5ever_interface::states::State;
+use html5table::{has_form, profile};
 use std::alloc::Allocator;
 
 /// The settings that the words behind the program's name say, if they are ones that it knows. Of an
 /// option that is given more than once the last counts.
-pub fn settings_of<A: Allocator>(words: &[String<A>]) -> Option<Settings<A>>
+pub fn settings_of<A: Allocator>(words: &[String<A>]) -> Option<Settings<'_, A>>
     ensures said { option_map said_by result ≡ settings_said (map string_bytes words.now) }
     ensures state { IfSome result (λ settings. CanStart settings.opts.initial_state) }
     ensures foreign { IfSome result (λ settings. settings.foreign ≡ false) }
     ensures cut { IfSome result (λ settings. settings.cut < 2 ^ 32) }
+    ensures table { IfSome result (λ settings. IsSome (listed settings.table.now)) }
 {
-    let mut settings = Settings {
-        opts: TokenizerOpts::default(),
-        foreign: false,
-        cut: 0,
-    };
+    let mut opts = TokenizerOpts::default();
+    let mut cut = 0;
+    let mut table = profile();
     let mut words = words.iter();
     while let Some(word) = words.next() {
         match word.as_str() {
-            "--exact" => settings.opts.exact_errors = true,
-            "--keep-bom" => settings.opts.discard_bom = false,
-            "--state" => settings.opts.initial_state = Some(state_of(words.next()?)?),
-            "--cut" => settings.cut = cut_of(words.next()?)?,
+            "--exact" => opts.exact_errors = true,
+            "--keep-bom" => opts.discard_bom = false,
+            "--state" => opts.initial_state = Some(state_of(words.next()?)?),
+            "--cut" => cut = cut_of(words.next()?)?,
+            "--table" => table = list_of(words.next()?)?,
             _ => return None,
         }
     }
-    Some(settings)
+    Some(Settings {
+        opts,
+        foreign: false,
+        cut,
+        table,
+    })
 }
 
 // The state of that name.
@@ -46,6 +53,17 @@ fn state_of(name: &str) -> Option<State>
         "plaintext" => Some(State::Plaintext),
         _ => None,
     }
+}
+
+// The text, if it has the form of a table's list.
+fn list_of(text: &str) -> Option<&str>
+    ensures form { IsSome result ↔ IsSome (listed text.now) }
+    ensures said { IfSome result (λ list. list.now ≡ text.now) }
+{
+    if !has_form(text) {
+        return None;
+    }
+    Some(text)
 }
 
 // A number of characters in decimal digits: at least 1, and below 2 ^ 32.

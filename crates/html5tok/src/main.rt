@@ -4,6 +4,7 @@
 mod arguments;
 mod device;
 mod fault;
+mod names;
 mod print;
 mod run;
 

@@ -7,6 +7,7 @@ ghost use Rattle.html5tok.specs.Settings.{said_by};
 ghost use Rattle.html5tok.specs.Printing.{printed_reading, open_behind_text, IsWholeBuilt, PrintsNotYet, PrintsReading, PrintsBeginning, PrintsNothing};
 ghost use Rattle.html5grammar.specs.Start.Open.{NotBuilt};
 ghost use Rattle.html5ever.specs.Tokenizer.{CanStart, ReadsOn, MeetsNotBuilt};
+ghost use Rattle.markup5ever.specs.NamedReferences.{table_of};
 
 use crate::device::{Source, Target, read_to_end, write_all};
 use crate::fault::Fault;
@@ -16,17 +17,20 @@ use html5ever::tokenizer::steps::feed_until_done;
 use html5ever_interface::options::TokenizerOpts;
 use html5print::print_sink::PrintSink;
 use markup5ever::buffer_queue::BufferQueue;
+use markup5ever::data::NamedReferences;
 use std::alloc::{Allocator, Global};
 
 /// How the program reads its input.
 #[derive(Drop)]
 #[derive_where(Debug, PartialEq, Eq)]
-pub struct Settings<A: Allocator = Global> {
+pub struct Settings<'w, A: Allocator = Global> {
     pub opts: TokenizerOpts<A>,
     /// The sink's answer about foreign content.
     pub foreign: bool,
     /// How many characters are fed at once, and 0 for all of them.
     pub cut: usize,
+    /// The list of the table's entries.
+    pub table: &'w str,
 }
 
 // The fault that a refused call of the tokenizer means: its sink fails for want of memory alone.
@@ -44,7 +48,7 @@ fn fault_of(error: TokenizerError) -> Fault
 
 // Feeds one piece of the text, past its pauses.
 fn feed_piece<A: Allocator + Copy>(
-    tokenizer: &mut Tokenizer<PrintSink<A>, A>,
+    tokenizer: &mut Tokenizer<'_, PrintSink<A>, A>,
     queue: &mut BufferQueue<A>,
     piece: String<A>,
 ) -> Result<(), Fault>
@@ -57,7 +61,7 @@ fn feed_piece<A: Allocator + Copy>(
     ensures not_yet { result ≡ Err Fault.NotYet
         → MeetsNotBuilt (λ sink. sink.page) page_step page_reply
         tokenizer.old (chars (string_bytes piece)) }
-    ensures exact { tokenizer.new.exact ≡ tokenizer.old.exact }
+    ensures rules { tokenizer.new.rules ≡ tokenizer.old.rules }
     ensures going_on { tokenizer.new.ended ≡ false }
     ensures not_failed { OnOk result (tokenizer.new.failed ≡ false) }
     ensures err { IfErr result IsRefusal }
@@ -138,7 +142,7 @@ fn prefix_len(text: &str, count: usize) -> usize
 // Feeds the text, cut into pieces of so many characters.
 fn feed_text<A: Allocator + Copy>(
     alloc: A,
-    tokenizer: &mut Tokenizer<PrintSink<A>, A>,
+    tokenizer: &mut Tokenizer<'_, PrintSink<A>, A>,
     text: String<A>,
     cut: usize,
 ) -> Result<(), Fault>
@@ -149,7 +153,7 @@ fn feed_text<A: Allocator + Copy>(
     ensures not_yet { result ≡ Err Fault.NotYet
         → MeetsNotBuilt (λ sink. sink.page) page_step page_reply
         tokenizer.old (chars (string_bytes text)) }
-    ensures exact { tokenizer.new.exact ≡ tokenizer.old.exact }
+    ensures rules { tokenizer.new.rules ≡ tokenizer.old.rules }
     ensures going_on { tokenizer.new.ended ≡ false }
     ensures not_failed { OnOk result (tokenizer.new.failed ≡ false) }
     ensures err { IfErr result IsRefusal }
@@ -172,9 +176,11 @@ fn feed_text<A: Allocator + Copy>(
 fn print_text<A: Allocator + Copy>(
     alloc: A,
     text: String<A>,
-    settings: &Settings<A>,
+    settings: &Settings<'_, A>,
+    names: &NamedReferences<A>,
 ) -> Result<PrintSink<A>, Fault>
-    requires { CanStart settings.now.opts.initial_state }
+    requires start { CanStart settings.now.opts.initial_state }
+    requires names { names.now ≡ table_of (said_by settings.now).table }
     ensures ok { IfOk result (λ sink. sink.page.lines ≡ printed_reading (said_by settings.now) (string_bytes text)) }
     ensures built { OnOk result (IsWholeBuilt (said_by settings.now) (string_bytes text)) }
     ensures not_yet { result ≡ Err Fault.NotYet
@@ -182,7 +188,7 @@ fn print_text<A: Allocator + Copy>(
     ensures err { IfErr result IsRefusal }
 {
     let sink = PrintSink::new(alloc, settings.foreign);
-    let mut tokenizer = Tokenizer::new(alloc, sink, settings.opts.try_clone()?);
+    let mut tokenizer = Tokenizer::new(alloc, sink, settings.opts.try_clone()?, names);
     feed_text(alloc, &mut tokenizer, text, settings.cut)?;
     match tokenizer.end() {
         Ok(()) => Ok(tokenizer.into_sink()),
@@ -190,14 +196,16 @@ fn print_text<A: Allocator + Copy>(
     }
 }
 
-/// Reads the text of a source to its end and prints its reading, a line for each token.
+/// Reads the text of a source to its end and prints its reading by the table, a line for each token.
 pub fn print_tokens<R: Source, W: Target, A: Allocator + Copy>(
     alloc: A,
     reader: &mut R,
     writer: &mut W,
-    settings: &Settings<A>,
+    settings: &Settings<'_, A>,
+    names: &NamedReferences<A>,
 ) -> Result<(), Fault>
-    requires { CanStart settings.now.opts.initial_state }
+    requires start { CanStart settings.now.opts.initial_state }
+    requires names { names.now ≡ table_of (said_by settings.now).table }
     ensures ok { OnOk result (PrintsReading (said_by settings.now)
         (R.remaining reader.old) (R.remaining reader.new) (W.contents writer.old) (W.contents writer.new)) }
 
@@ -220,6 +228,6 @@ pub fn print_tokens<R: Source, W: Target, A: Allocator + Copy>(
     let Ok(text) = String::from_utf8(bytes) else {
         return Err(Fault::NotUtf8);
     };
-    let sink = print_text(alloc, text, settings)?;
+    let sink = print_text(alloc, text, settings, names)?;
     write_all(writer, sink.page())
 }

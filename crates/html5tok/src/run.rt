@@ -1,15 +1,21 @@
 //! A run of the program, over any devices.
-ghost use Rattle.std.specs.Prelude.{◌≡◌, ◌≢◌, ◌+◌, ◌⊎◌, ◌↔◌, ◌∷◌, [], Contains, IsNone, IfErr, map, string_bytes, nat_eq, if◌then◌else◌};
+ghost use Rattle.std.specs.Prelude.{◌≡◌, ◌≢◌, ◌+◌, ◌≤◌, ◌⊎◌, ◌↔◌, ◌∷◌, ◌++◌, [], Contains, IsNone, IfErr, codes, decimal, length, map, string_bytes, nat_eq, if◌then◌else◌};
 ghost use Rattle.std.specs.Io.KnownBytes.{Keeps};
 ghost use Rattle.html5tok.specs.Ending.{status_of, line_of, failures_of, TriesLine, PrintsAsSaid, PrintsBeginningAsSaid, PrintsNotYetAsSaid};
+ghost use Rattle.html5tok.specs.Ending.{IsNoTable, SayFault, SayBadTable};
 ghost use Rattle.html5tok.specs.Printing.{PrintsNothing};
 ghost use Rattle.html5tok.specs.Settings.{settings_said};
 ghost use Rattle.html5tok.specs.declared.run.Ending.{Ending};
+ghost use Rattle.markup5ever.specs.declared.data.TableError.{TableError};
 
 use crate::arguments::settings_of;
 use crate::device::{Source, Target, write_all};
 use crate::fault::Fault;
+use crate::names::names_of;
 use crate::print::print_tokens;
+use arrayvec::ArrayString;
+use itoa::Buffer;
+use markup5ever::data::TableError;
 use std::alloc::Allocator;
 use std::env;
 use std::io::ErrorKind;
@@ -25,9 +31,16 @@ pub enum Ending {
     Printed,
     /// The words of the command line say no settings.
     Usage,
+    /// The settings' list makes no table.
+    NoTable(TableError),
     /// The program gives no answer.
     Faulted(Fault),
 }
+
+// Room for the longest line.
+const LONGEST_LINE: usize = 128;
+
+const OUT_OF_MEMORY: &str = "out of memory\n";
 
 impl Ending {
     /// The status that the process ends with.
@@ -38,6 +51,10 @@ impl Ending {
             Ending::Printed => 0,
             Ending::Usage => 2,
             Ending::Faulted(Fault::NotUtf8) => 3,
+            Ending::NoTable(TableError::BadName(_)) => 4,
+            Ending::NoTable(TableError::ZeroCharacter(_)) => 4,
+            Ending::NoTable(TableError::RepeatedName(_)) => 4,
+            Ending::NoTable(TableError::Memory) => 5,
             Ending::Faulted(Fault::Memory) => 5,
             Ending::Faulted(Fault::Device) => 6,
             Ending::Faulted(Fault::NotYet) => 7,
@@ -45,20 +62,55 @@ impl Ending {
     }
 
     /// The line that tells why no answer was given, and nothing where one was.
-    pub fn line(self) -> &'static str
-        ensures { result.now ≡ line_of self }
+    pub fn line(self) -> ArrayString<LONGEST_LINE>
+        ensures { result.bytes ≡ line_of self }
     {
         match self {
-            Ending::Printed => "",
-            Ending::Usage => {
-                "usage: html5tok [--exact] [--keep-bom] [--foreign] [--state S] [--last NAME] [--cut N] [--table LIST]\n"
-            }
-            Ending::Faulted(Fault::NotUtf8) => "input is not UTF-8\n",
-            Ending::Faulted(Fault::Memory) => "out of memory\n",
-            Ending::Faulted(Fault::Device) => "read or write failed\n",
-            Ending::Faulted(Fault::NotYet) => "not built yet\n",
+            Ending::Printed => ArrayString::new(),
+            Ending::Usage => line_with(
+                "usage: html5tok [--exact] [--keep-bom] [--foreign] [--state S] [--last NAME] [--cut N] [--table LIST]\n",
+            ),
+            Ending::NoTable(error) => line_of_table(error),
+            Ending::Faulted(Fault::NotUtf8) => line_with("input is not UTF-8\n"),
+            Ending::Faulted(Fault::Memory) => line_with(OUT_OF_MEMORY),
+            Ending::Faulted(Fault::Device) => line_with("read or write failed\n"),
+            Ending::Faulted(Fault::NotYet) => line_with("not built yet\n"),
         }
     }
+}
+
+// The line that tells why there is no table.
+fn line_of_table(error: TableError) -> ArrayString<LONGEST_LINE>
+    ensures { result.bytes ≡ line_of (Ending.NoTable error) }
+{
+    match error {
+        TableError::Memory => line_with(OUT_OF_MEMORY),
+        TableError::BadName(place) => line_at("table: bad name at ", place),
+        TableError::ZeroCharacter(place) => line_at("table: zero character at ", place),
+        TableError::RepeatedName(place) => line_at("table: repeated name at ", place),
+    }
+}
+
+// The line with this text.
+fn line_with(text: &str) -> ArrayString<LONGEST_LINE>
+    requires { length text.now ≤ LONGEST_LINE }
+    ensures { result.bytes ≡ text.now }
+{
+    let mut line = ArrayString::new();
+    line.push_str(text);
+    line
+}
+
+// The line that begins with this text, and ends with a place.
+fn line_at(text: &str, place: usize) -> ArrayString<LONGEST_LINE>
+    requires { length text.now ≤ 80 }
+    ensures { result.bytes ≡ text.now ++ decimal place ++ codes "\n" }
+{
+    let mut digits = Buffer::new();
+    let mut line = line_with(text);
+    line.push_str(digits.format(place));
+    line.push_str("\n");
+    line
 }
 
 /// The words behind the program's name, or how a run without them ends: words that are no text are
@@ -91,6 +143,14 @@ fn print_by_words<R: Source, W: Target, A: Allocator + Copy>(
         (R.remaining reader.old) (R.remaining reader.new) (W.contents writer.old) (W.contents writer.new) }
     ensures usage { (result ≡ Ending.Usage) ↔ IsNone (settings_said (map string_bytes words.now)) }
     ensures untouched { result ≡ Ending.Usage → (reader.new ≡ reader.old) × (writer.new ≡ writer.old) }
+
+    // What an end without a table says.
+    ensures no_table { (error : TableError) → result ≡ Ending.NoTable error
+        → (error ≡ TableError.Memory) ⊎ SayFault (map string_bytes words.now) error }
+    ensures faulty { SayBadTable (map string_bytes words.now) → IsNoTable result }
+    ensures unread { IsNoTable result → (reader.new ≡ reader.old) × (writer.new ≡ writer.old) }
+
+    // What each other end says.
     ensures not_utf8 { result ≡ Ending.Faulted Fault.NotUtf8
         → PrintsNothing
         (R.remaining reader.old) (R.remaining reader.new) (W.contents writer.old) (W.contents writer.new) }
@@ -108,7 +168,11 @@ fn print_by_words<R: Source, W: Target, A: Allocator + Copy>(
     let Some(settings) = settings_of(words) else {
         return Ending::Usage;
     };
-    match print_tokens(alloc, reader, writer, &settings) {
+    let names = match names_of(alloc, settings.table) {
+        Ok(names) => names,
+        Err(error) => return Ending::NoTable(error),
+    };
+    match print_tokens(alloc, reader, writer, &settings, &names) {
         Ok(()) => Ending::Printed,
         Err(fault) => Ending::Faulted(fault),
     }
@@ -122,7 +186,8 @@ pub fn report<E: Target>(errors: &mut E, ending: Ending) -> u8
         (E.failures errors.old) (E.failures errors.new) (line_of ending) }
     ensures silent { ending ≡ Ending.Printed → errors.new ≡ errors.old }
 {
-    let _ = write_all(errors, ending.line().as_bytes());
+    let line = ending.line();
+    let _ = write_all(errors, line.as_bytes());
     ending.status()
 }
 
@@ -134,7 +199,7 @@ pub fn run<R: Source, W: Target, E: Target, A: Allocator + Copy>(
     writer: &mut W,
     errors: &mut E,
 ) -> u8
-    ensures status { Contains (0 ∷ 2 ∷ 3 ∷ 5 ∷ 6 ∷ 7 ∷ []) result }
+    ensures status { Contains (0 ∷ 2 ∷ 3 ∷ 4 ∷ 5 ∷ 6 ∷ 7 ∷ []) result }
 
     // What each status says.
     ensures printed { result ≡ 0
@@ -142,6 +207,12 @@ pub fn run<R: Source, W: Target, E: Target, A: Allocator + Copy>(
         (R.remaining reader.old) (R.remaining reader.new) (W.contents writer.old) (W.contents writer.new) }
     ensures usage { (result ≡ 2) ↔ IsNone (settings_said (map string_bytes words.items)) }
     ensures untouched { result ≡ 2 → (reader.new ≡ reader.old) × (writer.new ≡ writer.old) }
+    ensures bad_table { result ≡ 4 → (error : TableError) × SayFault (map string_bytes words.items) error
+        × TriesLine (E.contents errors.old) (E.contents errors.new)
+        (E.failures errors.old) (E.failures errors.new) (line_of (Ending.NoTable error)) }
+    ensures unread { result ≡ 4 → (reader.new ≡ reader.old) × (writer.new ≡ writer.old) }
+    ensures faulty { SayBadTable (map string_bytes words.items)
+        → Contains (4 ∷ 5 ∷ []) result × (reader.new ≡ reader.old) × (writer.new ≡ writer.old) }
     ensures not_utf8 { result ≡ 3
         → PrintsNothing
         (R.remaining reader.old) (R.remaining reader.new) (W.contents writer.old) (W.contents writer.new) }

@@ -1,4 +1,5 @@
 //! Where a sink faults, the tokenizer stops.
+use crate::names::profile;
 use crate::refused::{check_refused, drained};
 use crate::running::{options, push_text};
 use crate::sinks::FaultySink;
@@ -31,7 +32,8 @@ const STOPS: [Stop<'static>; 11] = [
 fn check_stop(rt: &impl Abort, alloc: Global, stop: Stop) -> Result<(), AllocError> {
     let (text, plain, taken, took_another, left) = stop;
     let opts = options(false, plain);
-    let mut tokenizer = Tokenizer::new(alloc, FaultySink::new(taken, false), opts);
+    let names = profile(alloc)?;
+    let mut tokenizer = Tokenizer::new(alloc, FaultySink::new(taken, false), opts, &names);
     let mut queue = BufferQueue::new(alloc);
     push_text(alloc, &mut queue, text)?;
     assert_eq!(rt;
@@ -67,7 +69,8 @@ fn check_end(
     end_faults: bool,
 ) -> Result<(), AllocError> {
     let opts = options(false, plain);
-    let mut tokenizer = Tokenizer::new(alloc, FaultySink::new(taken, end_faults), opts);
+    let names = profile(alloc)?;
+    let mut tokenizer = Tokenizer::new(alloc, FaultySink::new(taken, end_faults), opts, &names);
     let mut queue = BufferQueue::new(alloc);
     push_text(alloc, &mut queue, "a")?;
     assert_eq!(rt; tokenizer.feed(&mut queue), Ok(TokenizerResult::Done));

@@ -16,9 +16,13 @@ mod lines;
 #[cfg(test)]
 mod memory;
 #[cfg(test)]
+mod names;
+#[cfg(test)]
 mod not_built;
 #[cfg(test)]
 mod pause_cases;
+#[cfg(test)]
+mod reference_cases;
 #[cfg(test)]
 mod refused;
 #[cfg(test)]

@@ -2,6 +2,7 @@
 ghost use Rattle.std.specs.Prelude.{◌≡◌, false};
 
 use crate::lines::lines_of;
+use crate::names::profile;
 use crate::refused::check_refused;
 use crate::running::{options, push_text};
 use html5ever::TokenizerError;
@@ -16,11 +17,11 @@ use std::test::Fail;
 // A heap that refuses a request, and a tokenizer on it.
 type Heap<'h> = &'h Refusing<Global>;
 
-type TokenizerOn<'h> = Tokenizer<Collector<Heap<'h>>, Heap<'h>>;
+type TokenizerOn<'t, 'h> = Tokenizer<'t, Collector<Heap<'h>>, Heap<'h>>;
 
 // Reads the text that waits, and its end.
 fn read_all<'h>(
-    tokenizer: &mut TokenizerOn<'h>,
+    tokenizer: &mut TokenizerOn<'_, 'h>,
     queue: &mut BufferQueue<Heap<'h>>,
 ) -> Result<(), TokenizerError>
     requires going_on { tokenizer.old.ended ≡ false }
@@ -42,7 +43,10 @@ fn told_on(
         return Ok(None);
     }
     let opts = options(false, false);
-    let mut tokenizer = Tokenizer::new(heap, Collector::new(heap, false), opts);
+    let Ok(names) = profile(heap) else {
+        return Ok(None);
+    };
+    let mut tokenizer = Tokenizer::new(heap, Collector::new(heap, false), opts, &names);
     let refused = read_all(&mut tokenizer, &mut queue).err();
     if refused.is_some() {
         check_refused(rt, &mut tokenizer, &mut queue, text);

@@ -1,6 +1,7 @@
 //! Pauses: where a feed stops, what its queue then holds, and text that is put in front of that.
 use crate::lines::lines_of;
 use crate::memory::is_beginning;
+use crate::names::profile;
 use crate::refused::drained;
 use crate::running::{cut, options, push_text};
 use crate::sinks::Steering;
@@ -51,7 +52,14 @@ fn steps_of_characters(alloc: Global, text: &str) -> Result<Vec<Step>, AllocErro
 
 // The lines that a run of the steps tells.
 fn lines_of_steps(rt: &impl Abort, alloc: Global, steps: Vec<Step>) -> Result<String, AllocError> {
-    let (sink, read) = run_steps(alloc, Steering::new(alloc), options(false, false), steps);
+    let names = profile(alloc)?;
+    let (sink, read) = run_steps(
+        alloc,
+        Steering::new(alloc),
+        options(false, false),
+        &names,
+        steps,
+    );
     assert_eq!(rt; read, Ok(()));
     assert!(rt; sink.inner.is_finished());
     lines_of(alloc, sink.inner.entries())
@@ -60,7 +68,14 @@ fn lines_of_steps(rt: &impl Abort, alloc: Global, steps: Vec<Step>) -> Result<St
 // The lines that a text tells which one call reads whole.
 fn lines_of_whole(rt: &impl Abort, alloc: Global, text: &str) -> Result<String, AllocError> {
     let text = String::from_str(alloc, text)?;
-    let (sink, read) = closed(alloc, Steering::new(alloc), options(false, false), text);
+    let names = profile(alloc)?;
+    let (sink, read) = closed(
+        alloc,
+        Steering::new(alloc),
+        options(false, false),
+        &names,
+        text,
+    );
     assert_eq!(rt; read, Ok(()));
     assert!(rt; sink.inner.is_finished());
     lines_of(alloc, sink.inner.entries())
@@ -70,7 +85,7 @@ fn lines_of_whole(rt: &impl Abort, alloc: Global, text: &str) -> Result<String, 
 fn end_of(
     rt: &impl Abort,
     alloc: Global,
-    mut tokenizer: Tokenizer<Steering>,
+    mut tokenizer: Tokenizer<'_, Steering>,
 ) -> Result<String, AllocError> {
     assert!(rt; !tokenizer.is_ended());
     assert_eq!(rt; tokenizer.end(), Ok(()));
@@ -91,7 +106,8 @@ fn pauses_directly_behind_a_tag(rt: HostRuntime) -> Result<(), Fail> {
     ];
     for (text, left) in cases {
         let opts = options(false, false);
-        let mut tokenizer = Tokenizer::new(alloc, Steering::new(alloc), opts);
+        let names = profile(alloc)?;
+        let mut tokenizer = Tokenizer::new(alloc, Steering::new(alloc), opts, &names);
         let mut queue = BufferQueue::new(alloc);
         push_text(alloc, &mut queue, text)?;
         let fed = tokenizer.feed(&mut queue);
@@ -106,7 +122,8 @@ fn pauses_directly_behind_a_tag(rt: HostRuntime) -> Result<(), Fail> {
 #[test]
 fn reads_what_is_put_in_front_at_a_pause(rt: HostRuntime) -> Result<(), Fail> {
     let alloc = rt.alloc();
-    let mut tokenizer = Tokenizer::new(alloc, Steering::new(alloc), options(false, false));
+    let names = profile(alloc)?;
+    let mut tokenizer = Tokenizer::new(alloc, Steering::new(alloc), options(false, false), &names);
     let mut queue = BufferQueue::new(alloc);
     push_text(alloc, &mut queue, "<s>x")?;
     assert_eq!(rt; tokenizer.feed(&mut queue), Ok(TokenizerResult::Script(7)));
@@ -125,7 +142,8 @@ fn reads_what_is_put_in_front_at_a_pause(rt: HostRuntime) -> Result<(), Fail> {
 fn pauses_twice_in_a_text(rt: HostRuntime) -> Result<(), Fail> {
     let alloc = rt.alloc();
     let lines = "start 1 \"s\"\nstart 1 \"s\"\ntext \"x\"\neof 1";
-    let mut tokenizer = Tokenizer::new(alloc, Steering::new(alloc), options(false, false));
+    let names = profile(alloc)?;
+    let mut tokenizer = Tokenizer::new(alloc, Steering::new(alloc), options(false, false), &names);
     let mut queue = BufferQueue::new(alloc);
     push_text(alloc, &mut queue, "<s><s>x")?;
     assert_eq!(rt; tokenizer.feed(&mut queue), Ok(TokenizerResult::Script(7)));
@@ -140,7 +158,13 @@ fn pauses_twice_in_a_text(rt: HostRuntime) -> Result<(), Fail> {
 #[test]
 fn is_done_where_no_reply_pauses(rt: HostRuntime) -> Result<(), Fail> {
     let alloc = rt.alloc();
-    let mut tokenizer = Tokenizer::new(alloc, Collector::new(alloc, false), options(false, false));
+    let names = profile(alloc)?;
+    let mut tokenizer = Tokenizer::new(
+        alloc,
+        Collector::new(alloc, false),
+        options(false, false),
+        &names,
+    );
     let mut queue = BufferQueue::new(alloc);
     push_text(alloc, &mut queue, "<a><s>")?;
     assert_eq!(rt; tokenizer.feed(&mut queue), Ok(TokenizerResult::Done));
@@ -223,7 +247,13 @@ fn tells_the_same_whole_and_in_characters(rt: HostRuntime) -> Result<(), Fail> {
 #[test]
 fn reads_plain_text_where_it_is_set(rt: HostRuntime) -> Result<(), Fail> {
     let alloc = rt.alloc();
-    let mut tokenizer = Tokenizer::new(alloc, Collector::new(alloc, false), options(false, false));
+    let names = profile(alloc)?;
+    let mut tokenizer = Tokenizer::new(
+        alloc,
+        Collector::new(alloc, false),
+        options(false, false),
+        &names,
+    );
     let mut queue = BufferQueue::new(alloc);
     push_text(alloc, &mut queue, "<b>")?;
     assert_eq!(rt; tokenizer.feed(&mut queue), Ok(TokenizerResult::Done));
@@ -250,11 +280,20 @@ fn says_whether_nothing_is_pending(rt: HostRuntime) -> Result<(), Fail> {
         ("<", false, false),
         ("<a", false, false),
         ("<a>", false, true),
+        ("&", false, false),
+        ("&x", false, false),
+        ("&amp;", false, false),
+        ("&amp; ", false, true),
+        ("&#65", false, false),
+        ("&#65;", false, true),
+        ("<a b=&", false, false),
         ("<", true, true),
+        ("&", true, true),
     ];
     for (text, plain, expected) in cases {
         let opts = options(false, plain);
-        let mut tokenizer = Tokenizer::new(alloc, Collector::new(alloc, false), opts);
+        let names = profile(alloc)?;
+        let mut tokenizer = Tokenizer::new(alloc, Collector::new(alloc, false), opts, &names);
         let mut queue = BufferQueue::new(alloc);
         assert!(rt; tokenizer.nothing_pending(), "before {text:?}");
         push_text(alloc, &mut queue, text)?;
@@ -273,9 +312,15 @@ fn says_whether_nothing_is_pending(rt: HostRuntime) -> Result<(), Fail> {
 #[test]
 fn something_is_pending_behind_a_refusal(rt: HostRuntime) -> Result<(), Fail> {
     let alloc = rt.alloc();
-    let mut tokenizer = Tokenizer::new(alloc, Collector::new(alloc, false), options(false, false));
+    let names = profile(alloc)?;
+    let mut tokenizer = Tokenizer::new(
+        alloc,
+        Collector::new(alloc, false),
+        options(false, false),
+        &names,
+    );
     let mut queue = BufferQueue::new(alloc);
-    push_text(alloc, &mut queue, "a&")?;
+    push_text(alloc, &mut queue, "a<!")?;
     assert_eq!(rt; tokenizer.feed(&mut queue), Err(TokenizerError::NotYet));
     assert!(rt; !tokenizer.nothing_pending());
     Ok(())
@@ -291,7 +336,16 @@ fn told_on(
     let Ok(steps) = steps_of(heap, pieces) else {
         return Ok(None);
     };
-    let (sink, read) = run_steps(heap, Steering::new(heap), options(false, false), steps);
+    let Ok(names) = profile(heap) else {
+        return Ok(None);
+    };
+    let (sink, read) = run_steps(
+        heap,
+        Steering::new(heap),
+        options(false, false),
+        &names,
+        steps,
+    );
     Ok(Some((lines_of(ample, sink.inner.entries())?, read.err())))
 }
 

@@ -10,7 +10,7 @@ use std::process::Abort;
 /// Every further call of a tokenizer that was refused is refused, too.
 pub fn check_refused<S: TokenSink<Token<A>>, A: Allocator + Copy>(
     rt: &impl Abort,
-    tokenizer: &mut Tokenizer<S, A>,
+    tokenizer: &mut Tokenizer<'_, S, A>,
     queue: &mut BufferQueue<A>,
     name: &str,
 ) {

@@ -3,11 +3,13 @@ ghost use Rattle.std.specs.Prelude.{◌≡◌};
 ghost use Rattle.html5ever.specs.Tokenizer.{CanStart};
 
 use crate::lines::lines_of;
+use crate::names::profile;
 use html5ever::tokenizer::{Tokenizer, TokenizerResult};
 use html5ever_interface::collect::Collector;
 use html5ever_interface::options::TokenizerOpts;
 use html5ever_interface::states::State;
 use markup5ever::buffer_queue::BufferQueue;
+use markup5ever::data::NamedReferences;
 use std::alloc::{AllocError, Allocator, Global};
 use std::process::Abort;
 
@@ -43,7 +45,7 @@ pub fn push_text<A: Allocator + Copy>(
 fn feed_piece(
     rt: &impl Abort,
     alloc: Global,
-    tokenizer: &mut Tokenizer<Collector>,
+    tokenizer: &mut Tokenizer<'_, Collector>,
     queue: &mut BufferQueue,
     piece: &str,
 ) -> Result<(), AllocError> {
@@ -58,7 +60,7 @@ fn feed_piece(
 fn end_of(
     rt: &impl Abort,
     alloc: Global,
-    mut tokenizer: Tokenizer<Collector>,
+    mut tokenizer: Tokenizer<'_, Collector>,
 ) -> Result<String, AllocError> {
     assert!(rt; !tokenizer.is_ended());
     assert_eq!(rt; tokenizer.end(), Ok(()));
@@ -69,16 +71,17 @@ fn end_of(
     lines_of(alloc, sink.entries())
 }
 
-// The lines that the pieces tell.
-fn lines_of_pieces(
+/// The lines that the pieces tell, by a table of names.
+pub fn lines_of_pieces(
     rt: &impl Abort,
     alloc: Global,
     opts: TokenizerOpts,
+    names: &NamedReferences,
     pieces: &[&str],
 ) -> Result<String, AllocError>
     requires starts { CanStart opts.initial_state }
 {
-    let mut tokenizer = Tokenizer::new(alloc, Collector::new(alloc, false), opts);
+    let mut tokenizer = Tokenizer::new(alloc, Collector::new(alloc, false), opts, names);
     let mut queue = BufferQueue::new(alloc);
     for piece in pieces {
         feed_piece(rt, alloc, &mut tokenizer, &mut queue, piece)?;
@@ -91,11 +94,12 @@ fn lines_of_characters(
     rt: &impl Abort,
     alloc: Global,
     opts: TokenizerOpts,
+    names: &NamedReferences,
     text: &str,
 ) -> Result<String, AllocError>
     requires starts { CanStart opts.initial_state }
 {
-    let mut tokenizer = Tokenizer::new(alloc, Collector::new(alloc, false), opts);
+    let mut tokenizer = Tokenizer::new(alloc, Collector::new(alloc, false), opts, names);
     let mut queue = BufferQueue::new(alloc);
     for c in text.chars() {
         let mut piece = String::new(alloc);
@@ -128,24 +132,35 @@ pub fn cut(alloc: Global, text: &str, count: usize) -> Result<(String, String), 
     Ok((first, second))
 }
 
-/// Runs a case: fed in its pieces, in any two, and in single characters it tells the same lines.
+/// Runs a case by a few names of the standard's.
 pub fn check_case(
     rt: &impl Abort,
     alloc: Global,
     plain: bool,
     case: Case,
 ) -> Result<(), AllocError> {
+    check_case_by(rt, alloc, plain, &profile(alloc)?, case)
+}
+
+/// Runs a case: fed in its pieces, in any two, and in single characters it tells the same lines.
+pub fn check_case_by(
+    rt: &impl Abort,
+    alloc: Global,
+    plain: bool,
+    names: &NamedReferences,
+    case: Case,
+) -> Result<(), AllocError> {
     let (name, pieces, exact, lines) = case;
-    let told = lines_of_pieces(rt, alloc, options(exact, plain), pieces)?;
+    let told = lines_of_pieces(rt, alloc, options(exact, plain), names, pieces)?;
     assert_eq!(rt; told.as_str(), lines, "{name}");
     let text = joined(alloc, pieces)?;
     for count in 0..text.len() {
         let (first, second) = cut(alloc, &text, count)?;
         let parts = [first.as_str(), second.as_str()];
-        let told = lines_of_pieces(rt, alloc, options(exact, plain), &parts)?;
+        let told = lines_of_pieces(rt, alloc, options(exact, plain), names, &parts)?;
         assert_eq!(rt; told.as_str(), lines, "{name}, cut at {count}");
     }
-    let told = lines_of_characters(rt, alloc, options(exact, plain), &text)?;
+    let told = lines_of_characters(rt, alloc, options(exact, plain), names, &text)?;
     assert_eq!(rt; told.as_str(), lines, "{name}, in characters");
     Ok(())
 }

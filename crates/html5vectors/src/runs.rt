@@ -1,4 +1,5 @@
 //! Runs that are read at once.
+use crate::names::profile;
 use crate::running::{options, push_text};
 use crate::sinks::FaultySink;
 use html5ever::tokenizer::{Tokenizer, TokenizerResult};
@@ -18,7 +19,9 @@ fn a_run_that_is_all_that_waits_takes_no_memory(rt: HostRuntime) -> Result<(), F
     // Each of the two texts is a request, and so is the stream's first character, which is read alone.
     let heap = Refusing::new(rt.alloc(), 3);
     let sink = FaultySink::new(LETTERS, false);
-    let mut tokenizer = Tokenizer::new(&heap, sink, options(false, false));
+    let ample = Refusing::new(rt.alloc(), u64::MAX);
+    let names = profile(&ample)?;
+    let mut tokenizer = Tokenizer::new(&heap, sink, options(false, false), &names);
     let mut queue = BufferQueue::new(&heap);
     push_text(&heap, &mut queue, "b")?;
     assert!(rt; matches!(tokenizer.feed(&mut queue), Ok(TokenizerResult::Done)));

@@ -1,5 +1,6 @@
 //! What takes room is read where there is memory for it: long characters, long texts, many attributes.
-use crate::running::{Case, check_case};
+use crate::names::profile;
+use crate::running::{Case, check_case, lines_of_pieces, options};
 use std::alloc::{AllocError, Global};
 use std::test::Fail;
 
@@ -52,5 +53,46 @@ fn tells_long_texts(rt: HostRuntime) -> Result<(), Fail> {
     let lines = format!(in alloc; "start 1 \"{long}\" \"{long}\"=\"{long}\"\neof 1")?;
     let pieces = [tag.as_str()];
     check_case(&rt, alloc, false, ("a tag", &pieces, false, &lines))?;
+    Ok(())
+}
+
+// So many times a part, with text around it.
+fn repeated(
+    alloc: Global,
+    before: &str,
+    part: &str,
+    count: usize,
+    after: &str,
+) -> Result<String, AllocError> {
+    let mut text = String::from_str(alloc, before)?;
+    for _ in 0..count {
+        text.push_str(part)?;
+    }
+    text.push_str(after)?;
+    Ok(text)
+}
+
+#[test]
+fn tells_a_million_ampersands(rt: HostRuntime) -> Result<(), Fail> {
+    let alloc = rt.alloc();
+    let names = profile(alloc)?;
+    let text = repeated(alloc, "", "&&&&&&&&&&", 100_000, "")?;
+    let lines = repeated(alloc, "text \"", "&&&&&&&&&&", 100_000, "\"\neof 1")?;
+    let told = lines_of_pieces(&rt, alloc, options(false, false), &names, &[&text])?;
+    assert!(rt; told == lines);
+    Ok(())
+}
+
+#[test]
+fn tells_a_number_of_a_million_digits(rt: HostRuntime) -> Result<(), Fail> {
+    let alloc = rt.alloc();
+    let names = profile(alloc)?;
+    let text = repeated(alloc, "&#x", "0000000000", 100_000, "41;")?;
+    let told = lines_of_pieces(&rt, alloc, options(false, false), &names, &[&text])?;
+    assert_eq!(rt; told.as_str(), "text \"A\"\neof 1");
+    let text = repeated(alloc, "&#", "9999999999", 100_000, ";")?;
+    let told = lines_of_pieces(&rt, alloc, options(false, false), &names, &[&text])?;
+    let lines = "error 1 \"Invalid numeric character reference\"\ntext \"\u{fffd}\"\neof 1";
+    assert_eq!(rt; told.as_str(), lines);
     Ok(())
 }

@@ -1,8 +1,9 @@
 //! Texts that one call reads whole.
 use crate::lines::lines_of;
+use crate::names::profile;
 use crate::running::options;
 use html5ever::TokenizerError;
-use html5ever::tokenizer::laws::{closed, tag};
+use html5ever::tokenizer::laws::{closed, reference, tag};
 use html5ever_interface::collect::Collector;
 use std::test::Fail;
 
@@ -17,17 +18,13 @@ fn reads_a_whole_text(rt: HostRuntime) -> Result<(), Fail> {
             "start 1 \"a\" \"b\"=\"1\"\ntext \"x\"\neof 1",
         ),
         ("", Ok(()), true, "eof 1"),
-        (
-            "<b>&amp;",
-            Err(TokenizerError::NotYet),
-            false,
-            "start 1 \"b\"",
-        ),
+        ("<b><!", Err(TokenizerError::NotYet), false, "start 1 \"b\""),
     ];
     for (text, answer, finished, lines) in cases {
         let sink = Collector::new(alloc, false);
         let text = String::from_str(alloc, text)?;
-        let (sink, read) = closed(alloc, sink, options(false, false), text);
+        let names = profile(alloc)?;
+        let (sink, read) = closed(alloc, sink, options(false, false), &names, text);
         assert_eq!(rt; read, answer, "{lines}");
         assert_eq!(rt; sink.is_finished(), finished, "{lines}");
         assert_eq!(rt; lines_of(alloc, sink.entries())?.as_str(), lines);
@@ -56,7 +53,37 @@ fn reads_one_tag(rt: HostRuntime) -> Result<(), Fail> {
     ];
     for (text, lines) in cases {
         let text = String::from_str(alloc, text)?;
-        let sink = tag(alloc, options(false, false), false, text)?;
+        let names = profile(alloc)?;
+        let sink = tag(alloc, options(false, false), false, &names, text)?;
+        assert!(rt; sink.is_finished(), "{lines}");
+        assert_eq!(rt; lines_of(alloc, sink.entries())?.as_str(), lines);
+    }
+    Ok(())
+}
+
+#[test]
+fn reads_one_reference(rt: HostRuntime) -> Result<(), Fail> {
+    let alloc = rt.alloc();
+    let cases = [
+        (
+            "&#x80;",
+            "error 1 \"Invalid numeric character reference\"\n\
+             text \"\u{20ac}\"\n\
+             eof 1",
+        ),
+        ("&nGt;", "text \"\u{226b}\u{20d2}\"\neof 1"),
+        (
+            "&not",
+            "error 1 \"Character reference does not end with semicolon\"\n\
+             text \"\u{ac}\"\n\
+             eof 1",
+        ),
+        ("&", "text \"&\"\neof 1"),
+    ];
+    for (text, lines) in cases {
+        let text = String::from_str(alloc, text)?;
+        let names = profile(alloc)?;
+        let sink = reference(alloc, options(false, false), false, &names, text)?;
         assert!(rt; sink.is_finished(), "{lines}");
         assert_eq!(rt; lines_of(alloc, sink.entries())?.as_str(), lines);
     }
@@ -67,17 +94,19 @@ fn reads_one_tag(rt: HostRuntime) -> Result<(), Fail> {
 fn reads_a_text_that_is_no_tag_where_it_is_built(rt: HostRuntime) -> Result<(), Fail> {
     let alloc = rt.alloc();
     let text = String::from_str(alloc, "<b>x</b>")?;
-    let sink = tag(alloc, options(false, false), true, text)?;
+    let names = profile(alloc)?;
+    let sink = tag(alloc, options(false, false), true, &names, text)?;
     assert!(rt; sink.is_finished());
     assert_eq!(rt;
         lines_of(alloc, sink.entries())?.as_str(),
         "start 1 \"b\"\ntext \"x\"\nend 1 \"b\"\neof 1"
     );
-    for text in ["<b>&amp;", "<b c=&amp;>", "<!b>"] {
+    for text in ["<b><?", "<!b>"] {
         let answer = tag(
             alloc,
             options(false, false),
             false,
+            &names,
             String::from_str(alloc, text)?,
         );
         assert_eq!(rt; answer.err(), Some(TokenizerError::NotYet), "{text}");

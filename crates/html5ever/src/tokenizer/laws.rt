@@ -1,19 +1,19 @@
 //! Laws of whole texts, on calls that read one.
-ghost use Rattle.std.specs.Prelude.{◌≡◌, ℕ, ◌+◌, Bool, true, false, List, [], map, IfErr, IfOk, OnOk, string_bytes};
+ghost use Rattle.std.specs.Prelude.{◌≡◌, ℕ, ◌+◌, true, false, List, [], map, IfErr, IfOk, OnOk, string_bytes};
 ghost use Rattle.std.specs.List.{concat};
 ghost use Rattle.std.specs.Str.{chars};
-ghost use Rattle.html5ever_interface.specs.Collected.{none_collected, collected_step, collected_reply, collected_finish};
 ghost use Rattle.html5ever_interface.specs.Options.{options_of};
 ghost use Rattle.html5ever_interface.specs.Sink.{stepped};
+ghost use Rattle.html5grammar.specs.OneReference.{WrittenReference, IsReference, reference_messages};
 ghost use Rattle.html5grammar.specs.OneTag.{WrittenTag, IsTag, tag_messages};
 ghost use Rattle.html5grammar.specs.Reading.{reading, messages, after};
-ghost use Rattle.html5grammar.specs.Start.{Start, start_of};
+ghost use Rattle.html5grammar.specs.Start.{Start, Rules, start_of};
 ghost use Rattle.html5grammar.specs.Start.Open.{NotBuilt};
 ghost use Rattle.html5ever.specs.RunSteps.{run_text};
 ghost use Rattle.html5ever.specs.RunSteps.StepOf.{AtBack};
 ghost use Rattle.html5states.specs.Telling.{IsRefusal, IsNotFailed, faults_of};
 ghost use Rattle.html5states.specs.Steps.{IsBuilt};
-ghost use Rattle.html5ever.specs.Tokenizer.{CanStart, IsBuiltBehind, MeetsNotBuilt, ReadsWhole, StopsWhole, WholeStops};
+ghost use Rattle.html5ever.specs.Tokenizer.{CanStart, rules_of, IsBuiltBehind, MeetsNotBuilt, ReadsWhole, StopsWhole, WholeStops, collected_of, opened_collecting};
 
 use crate::tokenizer::Tokenizer;
 use crate::tokenizer::steps::feed_until_done;
@@ -23,12 +23,13 @@ use html5ever_interface::interface::token::Token;
 use html5ever_interface::options::TokenizerOpts;
 use html5states::error::TokenizerError;
 use markup5ever::buffer_queue::BufferQueue;
+use markup5ever::data::NamedReferences;
 use std::alloc::Allocator;
 
 // Feeds a tokenizer a text, and ends.
 fn read_whole<S: TokenSink<Token<A>>, A: Allocator + Copy>(
     alloc: A,
-    tokenizer: &mut Tokenizer<S, A>,
+    tokenizer: &mut Tokenizer<'_, S, A>,
     text: String<A>,
 ) -> Result<(), TokenizerError>
     requires going_on { tokenizer.old.ended ≡ false }
@@ -56,25 +57,50 @@ pub fn closed<S: TokenSink<Token<A>>, A: Allocator + Copy>(
     alloc: A,
     sink: S,
     opts: TokenizerOpts<A>,
+    names: &NamedReferences<A>,
     text: String<A>,
 ) -> (S, Result<(), TokenizerError>)
     requires { CanStart opts.initial_state }
     ensures finishes { OnOk result.1 (S.state result.0 ≡ S.finish (stepped S.step (S.state sink)
-        (messages (reading S.step S.reply opts.exact_errors (start_of (options_of opts)) (S.state sink)
+        (messages (reading S.step S.reply (rules_of (options_of opts) names.now) (start_of (options_of opts)) (S.state sink)
         (chars (string_bytes text)))))) }
     ensures stops { IfErr result.1 (λ error. WholeStops S.step S.faulted S.end_faulted error (S.state sink)
-        (messages (reading S.step S.reply opts.exact_errors (start_of (options_of opts)) (S.state sink)
+        (messages (reading S.step S.reply (rules_of (options_of opts) names.now) (start_of (options_of opts)) (S.state sink)
         (chars (string_bytes text)))) (S.state result.0)) }
-    ensures built { OnOk result.1 (IsBuilt (after S.step S.reply opts.exact_errors (start_of (options_of opts))
+    ensures built { OnOk result.1 (IsBuilt (after S.step S.reply (rules_of (options_of opts) names.now) (start_of (options_of opts))
         (S.state sink) (chars (string_bytes text))).opened) }
     ensures not_yet { result.1 ≡ Err TokenizerError.NotYet
-        → (after S.step S.reply opts.exact_errors (start_of (options_of opts)) (S.state sink)
+        → (after S.step S.reply (rules_of (options_of opts) names.now) (start_of (options_of opts)) (S.state sink)
         (chars (string_bytes text))).opened ≡ NotBuilt }
     ensures faults { S.faults result.0 ≡ S.faults sink + faults_of result.1 }
 {
-    let mut tokenizer = Tokenizer::new(alloc, sink, opts);
+    let mut tokenizer = Tokenizer::new(alloc, sink, opts, names);
     let result = read_whole(alloc, &mut tokenizer, text);
     (tokenizer.into_sink(), result)
+}
+
+// Reads a whole text by a collector.
+fn collect<A: Allocator + Copy>(
+    alloc: A,
+    opts: TokenizerOpts<A>,
+    foreign: bool,
+    names: &NamedReferences<A>,
+    text: String<A>,
+) -> Result<Collector<A>, TokenizerError>
+    requires { CanStart opts.initial_state }
+    ensures reads { IfOk result (λ sink. sink.collected ≡ collected_of (options_of opts) names.now foreign (chars (string_bytes text))) }
+    ensures built { OnOk result (IsBuilt (opened_collecting (options_of opts) names.now foreign (chars (string_bytes text)))) }
+    ensures not_yet { result ≡ Err TokenizerError.NotYet
+        → opened_collecting (options_of opts) names.now foreign (chars (string_bytes text)) ≡ NotBuilt }
+    ensures no_fault { IfOk result (λ sink. sink.faults ≡ 0) }
+    ensures not_failed { IfErr result IsNotFailed }
+{
+    let sink = Collector::new(alloc, foreign);
+    let (sink, read) = closed(alloc, sink, opts, names, text);
+    match read {
+        Ok(()) => Ok(sink),
+        Err(error) => Err(error),
+    }
 }
 
 /// Reads a whole text by a collector. Where the text is one tag, written out, the collector then
@@ -83,13 +109,11 @@ pub fn tag<A: Allocator + Copy>(
     alloc: A,
     opts: TokenizerOpts<A>,
     foreign: bool,
+    names: &NamedReferences<A>,
     text: String<A>,
 ) -> Result<Collector<A>, TokenizerError>
     requires { CanStart opts.initial_state }
-    ensures reads { IfOk result (λ sink. sink.collected ≡ collected_finish
-        (stepped collected_step (none_collected foreign) (messages (reading collected_step
-        (collected_reply {H = Unit {0}}) opts.exact_errors (start_of (options_of opts))
-        (none_collected foreign) (chars (string_bytes text)))))) }
+    ensures reads { IfOk result (λ sink. sink.collected ≡ collected_of (options_of opts) names.now foreign (chars (string_bytes text))) }
     ensures tag { IfOk result (λ sink. (tag : WrittenTag) →
         IsTag (start_of (options_of opts)) (chars (string_bytes text)) tag →
         sink.collected ≡ record {
@@ -97,34 +121,57 @@ pub fn tag<A: Allocator + Copy>(
           finished = true;
           foreign = foreign;
         }) }
-    ensures built { OnOk result (IsBuilt (after collected_step (collected_reply {H = Unit {0}}) opts.exact_errors
-        (start_of (options_of opts)) (none_collected foreign) (chars (string_bytes text))).opened) }
+    ensures built { OnOk result (IsBuilt (opened_collecting (options_of opts) names.now foreign (chars (string_bytes text)))) }
     ensures not_yet { result ≡ Err TokenizerError.NotYet
-        → (after collected_step (collected_reply {H = Unit {0}}) opts.exact_errors
-        (start_of (options_of opts)) (none_collected foreign) (chars (string_bytes text))).opened ≡ NotBuilt }
+        → opened_collecting (options_of opts) names.now foreign (chars (string_bytes text)) ≡ NotBuilt }
     ensures no_fault { IfOk result (λ sink. sink.faults ≡ 0) }
     ensures not_failed { IfErr result IsNotFailed }
     ensures refusals { IfErr result (λ error. (tag : WrittenTag) →
         IsTag (start_of (options_of opts)) (chars (string_bytes text)) tag → IsRefusal error) }
 {
-    let sink = Collector::new(alloc, foreign);
-    let (sink, read) = closed(alloc, sink, opts, text);
-    match read {
-        Ok(()) => Ok(sink),
-        Err(error) => Err(error),
-    }
+    collect(alloc, opts, foreign, names, text)
+}
+
+/// Reads a whole text by a collector. Where the text is one character reference, written out, the
+/// collector then holds its errors, its characters as one text, and the end.
+pub fn reference<A: Allocator + Copy>(
+    alloc: A,
+    opts: TokenizerOpts<A>,
+    foreign: bool,
+    names: &NamedReferences<A>,
+    text: String<A>,
+) -> Result<Collector<A>, TokenizerError>
+    requires { CanStart opts.initial_state }
+    ensures reads { IfOk result (λ sink. sink.collected ≡ collected_of (options_of opts) names.now foreign (chars (string_bytes text))) }
+    ensures reference { IfOk result (λ sink. (reference : WrittenReference) →
+        IsReference names.now (start_of (options_of opts)) (chars (string_bytes text)) reference →
+        sink.collected ≡ record {
+          messages = reference_messages opts.exact_errors (start_of (options_of opts)).input reference;
+          finished = true;
+          foreign = foreign;
+        }) }
+    ensures built { OnOk result (IsBuilt (opened_collecting (options_of opts) names.now foreign (chars (string_bytes text)))) }
+    ensures not_yet { result ≡ Err TokenizerError.NotYet
+        → opened_collecting (options_of opts) names.now foreign (chars (string_bytes text)) ≡ NotBuilt }
+    ensures no_fault { IfOk result (λ sink. sink.faults ≡ 0) }
+    ensures not_failed { IfErr result IsNotFailed }
+    ensures refusals { IfErr result (λ error. (reference : WrittenReference) →
+        IsReference names.now (start_of (options_of opts)) (chars (string_bytes text)) reference → IsRefusal error) }
+{
+    names.is_checked();
+    collect(alloc, opts, foreign, names, text)
 }
 
 /// The law of cutting: runs that push the same text in all, however it is cut, take the same text.
 /// So, by the contract of `run_steps`, they leave lawful sinks in equal states, where they begin with
 /// equal options and equal states and both answer `Ok`.
 pub fn cutting<S: TokenSink<Token<A>>, A: Allocator>()
-    ensures text { (exact : Bool) (K : Start) (s : S.State) (pieces : List (List ℕ)) →
-        run_text S.step S.reply exact K s [] [] (map AtBack pieces) ≡ concat pieces }
-    ensures states { (exact : Bool) (K : Start) (s : S.State) (pieces others : List (List ℕ)) →
+    ensures text { (rules : Rules) (K : Start) (s : S.State) (pieces : List (List ℕ)) →
+        run_text S.step S.reply rules K s [] [] (map AtBack pieces) ≡ concat pieces }
+    ensures states { (rules : Rules) (K : Start) (s : S.State) (pieces others : List (List ℕ)) →
         concat pieces ≡ concat others →
-        S.finish (stepped S.step s (messages (reading S.step S.reply exact K s
-        (run_text S.step S.reply exact K s [] [] (map AtBack pieces)))))
-        ≡ S.finish (stepped S.step s (messages (reading S.step S.reply exact K s
-        (run_text S.step S.reply exact K s [] [] (map AtBack others))))) }
+        S.finish (stepped S.step s (messages (reading S.step S.reply rules K s
+        (run_text S.step S.reply rules K s [] [] (map AtBack pieces)))))
+        ≡ S.finish (stepped S.step s (messages (reading S.step S.reply rules K s
+        (run_text S.step S.reply rules K s [] [] (map AtBack others))))) }
 {}

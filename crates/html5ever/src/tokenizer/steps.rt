@@ -3,13 +3,13 @@ ghost use Rattle.std.specs.Prelude.{◌≡◌, ◌+◌, ◌↔◌, [], true, fal
 ghost use Rattle.html5ever_interface.specs.Options.{options_of};
 ghost use Rattle.html5ever_interface.specs.Sink.{stepped};
 ghost use Rattle.html5grammar.specs.Reading.{reading, messages, after};
-ghost use Rattle.html5grammar.specs.Start.{start_of};
+ghost use Rattle.html5grammar.specs.Start.{start_of, held_len};
 ghost use Rattle.html5grammar.specs.Start.Open.{NotBuilt};
 ghost use Rattle.html5ever.specs.Feed.{IsEndOf, IsLinear};
 ghost use Rattle.html5states.specs.Telling.{faults_of};
 ghost use Rattle.html5ever.specs.RunSteps.{step_of, waiting_with, run_text, FinishesRun, StopsRun, IsBuiltInRun, MeetsInRun};
 ghost use Rattle.html5states.specs.Steps.{IsBuilt};
-ghost use Rattle.html5ever.specs.Tokenizer.{CanStart, ReadsOn, MeetsNotBuilt, StopsReading, WholeStops};
+ghost use Rattle.html5ever.specs.Tokenizer.{CanStart, rules_of, ReadsOn, MeetsNotBuilt, StopsReading, WholeStops};
 ghost use Rattle.html5ever.specs.Tokenizer.{FeedsOn, LeavesWaiting, FeedMeetsNotBuilt, StopsFeeding};
 
 use crate::tokenizer::Tokenizer;
@@ -18,12 +18,13 @@ use html5ever_interface::interface::token::Token;
 use html5ever_interface::options::TokenizerOpts;
 use html5states::error::TokenizerError;
 use markup5ever::buffer_queue::BufferQueue;
+use markup5ever::data::NamedReferences;
 use markup5ever::tokenizer_result::TokenizerResult;
 use std::alloc::{Allocator, Global};
 
 /// Feeds a tokenizer until it answers `Done`, past all pauses.
 pub fn feed_until_done<S: TokenSink<Token<A>>, A: Allocator + Copy>(
-    tokenizer: &mut Tokenizer<S, A>,
+    tokenizer: &mut Tokenizer<'_, S, A>,
     queue: &mut BufferQueue<A>,
 ) -> Result<(), TokenizerError>
     requires { tokenizer.old.ended ≡ false }
@@ -44,9 +45,10 @@ pub fn feed_until_done<S: TokenSink<Token<A>>, A: Allocator + Copy>(
     ensures empty { queue.old.text ≡ [] → tokenizer.old.failed ≡ false → IsOk result }
 
     // What it keeps.
-    ensures linear { IsLinear queue.old queue.new }
+    ensures linear { IsLinear (held_len tokenizer.old.position.opened) queue.old
+        (held_len tokenizer.new.position.opened) queue.new }
     ensures handed_in { queue.new.handed_in ≡ queue.old.handed_in }
-    ensures exact { tokenizer.new.exact ≡ tokenizer.old.exact }
+    ensures rules { tokenizer.new.rules ≡ tokenizer.old.rules }
     ensures going_on { tokenizer.new.ended ≡ false }
 {
     loop {
@@ -83,7 +85,7 @@ fn hand_in<A: Allocator>(queue: &mut BufferQueue<A>, step: Step<A>) -> Result<()
 
 // Feeds once, and goes on behind a pause as behind `Done`.
 fn feed_once<S: TokenSink<Token<A>>, A: Allocator + Copy>(
-    tokenizer: &mut Tokenizer<S, A>,
+    tokenizer: &mut Tokenizer<'_, S, A>,
     queue: &mut BufferQueue<A>,
 ) -> Result<(), TokenizerError>
     requires going_on { tokenizer.old.ended ≡ false }
@@ -96,7 +98,7 @@ fn feed_once<S: TokenSink<Token<A>>, A: Allocator + Copy>(
         error tokenizer.old queue.old.text (S.state tokenizer.new.sink)) }
     ensures faults { S.faults tokenizer.new.sink ≡ S.faults tokenizer.old.sink + faults_of result }
     ensures end_of_queue { IsEndOf queue.new.text queue.old.text }
-    ensures exact { tokenizer.new.exact ≡ tokenizer.old.exact }
+    ensures rules { tokenizer.new.rules ≡ tokenizer.old.rules }
     ensures going_on { tokenizer.new.ended ≡ false }
     ensures not_failed { OnOk result (tokenizer.new.failed ≡ false) }
 {
@@ -109,7 +111,7 @@ fn feed_once<S: TokenSink<Token<A>>, A: Allocator + Copy>(
 // Takes the steps one after another, feeds until nothing waits, and ends.
 fn take_steps<S: TokenSink<Token<A>>, A: Allocator + Copy>(
     alloc: A,
-    tokenizer: &mut Tokenizer<S, A>,
+    tokenizer: &mut Tokenizer<'_, S, A>,
     steps: Vec<Step<A>, A>,
 ) -> Result<(), TokenizerError>
     requires going_on { tokenizer.old.ended ≡ false }
@@ -139,25 +141,26 @@ pub fn run_steps<S: TokenSink<Token<A>>, A: Allocator + Copy>(
     alloc: A,
     sink: S,
     opts: TokenizerOpts<A>,
+    names: &NamedReferences<A>,
     steps: Vec<Step<A>, A>,
 ) -> (S, Result<(), TokenizerError>)
     requires { CanStart opts.initial_state }
     ensures finishes { OnOk result.1 (S.state result.0 ≡ S.finish (stepped S.step (S.state sink)
-        (messages (reading S.step S.reply opts.exact_errors (start_of (options_of opts)) (S.state sink)
-        (run_text S.step S.reply opts.exact_errors (start_of (options_of opts)) (S.state sink) [] [] (map step_of steps.items)))))) }
+        (messages (reading S.step S.reply (rules_of (options_of opts) names.now) (start_of (options_of opts)) (S.state sink)
+        (run_text S.step S.reply (rules_of (options_of opts) names.now) (start_of (options_of opts)) (S.state sink) [] [] (map step_of steps.items)))))) }
     ensures stops { IfErr result.1 (λ error. WholeStops S.step S.faulted S.end_faulted error (S.state sink)
-        (messages (reading S.step S.reply opts.exact_errors (start_of (options_of opts)) (S.state sink)
-        (run_text S.step S.reply opts.exact_errors (start_of (options_of opts)) (S.state sink) [] [] (map step_of steps.items))))
+        (messages (reading S.step S.reply (rules_of (options_of opts) names.now) (start_of (options_of opts)) (S.state sink)
+        (run_text S.step S.reply (rules_of (options_of opts) names.now) (start_of (options_of opts)) (S.state sink) [] [] (map step_of steps.items))))
         (S.state result.0)) }
-    ensures built { OnOk result.1 (IsBuilt (after S.step S.reply opts.exact_errors (start_of (options_of opts)) (S.state sink)
-        (run_text S.step S.reply opts.exact_errors (start_of (options_of opts)) (S.state sink) [] [] (map step_of steps.items))).opened) }
+    ensures built { OnOk result.1 (IsBuilt (after S.step S.reply (rules_of (options_of opts) names.now) (start_of (options_of opts)) (S.state sink)
+        (run_text S.step S.reply (rules_of (options_of opts) names.now) (start_of (options_of opts)) (S.state sink) [] [] (map step_of steps.items))).opened) }
     ensures not_yet { result.1 ≡ Err TokenizerError.NotYet
-        → (after S.step S.reply opts.exact_errors (start_of (options_of opts)) (S.state sink)
-        (run_text S.step S.reply opts.exact_errors (start_of (options_of opts)) (S.state sink) [] [] (map step_of steps.items))).opened
+        → (after S.step S.reply (rules_of (options_of opts) names.now) (start_of (options_of opts)) (S.state sink)
+        (run_text S.step S.reply (rules_of (options_of opts) names.now) (start_of (options_of opts)) (S.state sink) [] [] (map step_of steps.items))).opened
         ≡ NotBuilt }
     ensures faults { S.faults result.0 ≡ S.faults sink + faults_of result.1 }
 {
-    let mut tokenizer = Tokenizer::new(alloc, sink, opts);
+    let mut tokenizer = Tokenizer::new(alloc, sink, opts, names);
     let result = take_steps(alloc, &mut tokenizer, steps);
     (tokenizer.into_sink(), result)
 }

@@ -1,4 +1,6 @@
+ghost use Rattle.std.specs.Prelude.{IsSome};
 ghost use Rattle.html5ever.specs.Tokenizer.{CanStart};
+ghost use Rattle.html5table.specs.Listed.{listed};
 
 use super::*;
 use crate::device::fakes::{FailingSource, FailingTarget, Refusal};
@@ -8,12 +10,16 @@ use html5ever::tokenizer::{Tokenizer, TokenizerResult};
 use html5ever_interface::options::TokenizerOpts;
 use html5ever_interface::states::State;
 use html5print::print_sink::PrintSink;
+use html5table::profile;
 use markup5ever::buffer_queue::BufferQueue;
+use markup5ever::data::NamedReferences;
 use refusing::Refusing;
 use std::alloc::{AllocError, Global};
 use std::env::FillError;
 use std::process::Abort;
 use std::test::Fail;
+
+mod table;
 
 const PLAIN: [&str; 2] = ["--state", "plaintext"];
 
@@ -219,7 +225,10 @@ fn prints_pauses(rt: HostRuntime) -> Result<(), Fail> {
 fn pauses_for_the_encoding_that_a_tag_names(rt: HostRuntime) -> Result<(), Fail> {
     let alloc = rt.alloc();
     let sink = PrintSink::new(alloc, false);
-    let mut tokenizer = Tokenizer::new(alloc, sink, TokenizerOpts::default());
+    let Ok(names) = NamedReferences::check(alloc, Vec::new(alloc)) else {
+        return Err(AllocError.into());
+    };
+    let mut tokenizer = Tokenizer::new(alloc, sink, TokenizerOpts::default(), &names);
     let mut queue = BufferQueue::new(alloc);
     let text = String::from_str(alloc, "<meta charset=utf-8>x")?;
     let named = String::from_str(alloc, "utf-8")?;
@@ -244,7 +253,7 @@ fn prints_plain_text_behind_its_tag(rt: HostRuntime) -> Result<(), Fail> {
 
 #[test]
 fn tells_what_is_not_built_yet(rt: HostRuntime) -> Result<(), Fail> {
-    for input in ["<b>&amp;", "<!", "<?x>", "</1", "<a b='&"] {
+    for input in ["<b>&amp;<!--", "<!", "<?x>", "</1", "<a b='&'><!"] {
         let ran = run_over(rt.alloc(), &["--cut", "1"], input.as_bytes())?;
         assert_eq!(rt; ran.status, 7, "{input:?}");
         assert_eq!(rt; ran.output.len(), 0, "{input:?}");
@@ -274,7 +283,8 @@ fn refuses_input_that_is_no_text(rt: HostRuntime) -> Result<(), Fail> {
 
 #[test]
 fn refuses_words_that_it_does_not_know(rt: HostRuntime) -> Result<(), Fail> {
-    let faults: [&[&str]; 27] = [
+    let faults: [&[&str]; 28] = [
+        &["--table=a=41"],
         &["--exact", "--state"],
         &["--foreign"],
         &["--state"],
@@ -319,9 +329,10 @@ fn refuses_words_that_it_does_not_know(rt: HostRuntime) -> Result<(), Fail> {
 
 // The settings of a stream that starts in a state, with errors and a byte order mark as they are
 // without further options.
-fn settings_in<A: Allocator>(initial_state: Option<State>) -> Settings<A>
+fn settings_in<A: Allocator>(initial_state: Option<State>) -> Settings<'static, A>
     requires { CanStart initial_state }
-    ensures { CanStart result.opts.initial_state }
+    ensures start { CanStart result.opts.initial_state }
+    ensures table { IsSome (listed result.table.now) }
 {
     Settings {
         opts: TokenizerOpts {
@@ -332,6 +343,7 @@ fn settings_in<A: Allocator>(initial_state: Option<State>) -> Settings<A>
         },
         foreign: false,
         cut: 0,
+        table: profile(),
     }
 }
 
@@ -430,15 +442,31 @@ fn tells_that_memory_ran_out(rt: HostRuntime) -> Result<(), Fail> {
     Ok(())
 }
 
+// Prints the mixed text as plain text, by the table where no other is given.
+fn print_mixed<A: Allocator + Copy>(
+    alloc: A,
+    writer: &mut WriteTarget<Vec<u8>>,
+) -> Result<(), Fault> {
+    let settings = settings_in(Some(State::Plaintext));
+    let Ok(names) = names_of(alloc, settings.table) else {
+        return Err(Fault::Memory);
+    };
+    print_tokens(
+        alloc,
+        &mut ReadSource::new(MIXED),
+        writer,
+        &settings,
+        &names,
+    )
+}
+
 #[test]
 fn prints_nothing_wrong_once_memory_ran_out(rt: HostRuntime) {
     let mut refused = 0u64;
     for admitted in 0..1000u64 {
         let heap = Refusing::new(rt.alloc(), admitted);
-        let mut reader = ReadSource::new(MIXED);
         let mut writer = WriteTarget::new(Vec::new(rt.alloc()));
-        let settings = settings_in(Some(State::Plaintext));
-        let answer = print_tokens(&heap, &mut reader, &mut writer, &settings);
+        let answer = print_mixed(&heap, &mut writer);
         let output: Vec<u8> = writer.into_inner();
         if !heap.has_refused() {
             assert_eq!(rt; answer, Ok(()));

@@ -28,7 +28,7 @@ loop-start-preserved g c =
     IsCut-further (string_bytes c.args.text) c.range_from.result.now c.loop-start.start c.prefix_len.result c.loop-start.invariant.cut (c.range_from.ensures.value ∙ ap (drop c.loop-start.start) c.deref.ensures) c.prefix_len.ensures.within c.prefix_len.ensures.boundary.1 in
     let len : (c.loop-start.start + c.prefix_len.result) - c.loop-start.start ≡ c.prefix_len.result = omega arith in
     FedTo-more _ _ _ (string_bytes c.args.text) (string_bytes c.in_ok-piece.piece) c.loop-start.start c.prefix_len.result _ _ c.loop-start.invariant (IsUtf8-string_bytes c.args.text) cut
-    (c.in_ok-piece.ensures.ok ∙ c.range.ensures.value ∙ rw (c.deref-in-loop-start.ensures, len) refl) c.in_ok-feed_piece.ensures.reads c.in_ok-feed_piece.ensures.exact c.in_ok-feed_piece.ensures.going_on c.in_ok-feed_piece.ensures.not_failed c.in_ok-feed_piece.ensures.taken
+    (c.in_ok-piece.ensures.ok ∙ c.range.ensures.value ∙ rw (c.deref-in-loop-start.ensures, len) refl) c.in_ok-feed_piece.ensures.reads c.in_ok-feed_piece.ensures.rules c.in_ok-feed_piece.ensures.going_on c.in_ok-feed_piece.ensures.not_failed c.in_ok-feed_piece.ensures.taken
 
 pub returns-in_err-feed_piece-clause-not_yet : goal.returns-in_err-feed_piece-clause-not_yet
 returns-in_err-feed_piece-clause-not_yet g c = λ same.

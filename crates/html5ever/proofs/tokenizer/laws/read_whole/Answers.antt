@@ -26,7 +26,7 @@ returns-clause-stops g c =
     (λ e stops K s stands.
     let standing = subst (λ (l : List ℕ). StandsAt g.S.TokenSink.state g.S.TokenSink.step g.S.TokenSink.reply c.feed_until_done.new.tokenizer K s l)
     (queued _ _ (chars (string_bytes c.args.text)) c.new-queue.ensures.text c.in-Ok.ensures.ok) (c.in_ok-feed_until_done.ensures.reads K s [] stands) in
-    subst (λ x. WholeStops g.S.TokenSink.step g.S.TokenSink.faulted g.S.TokenSink.end_faulted e s (messages (reading g.S.TokenSink.step g.S.TokenSink.reply x K s (chars (string_bytes c.args.text)))) (g.S.TokenSink.state c.end.new.self.sink)) c.in_ok-feed_until_done.ensures.exact
+    subst (λ x. WholeStops g.S.TokenSink.step g.S.TokenSink.faulted g.S.TokenSink.end_faulted e s (messages (reading g.S.TokenSink.step g.S.TokenSink.reply x K s (chars (string_bytes c.args.text)))) (g.S.TokenSink.state c.end.new.self.sink)) c.in_ok-feed_until_done.ensures.rules
     (whole-end_stops g.S.TokenSink.state g.S.TokenSink.step g.S.TokenSink.reply g.S.TokenSink.faulted g.S.TokenSink.end_faulted e c.feed_until_done.new.tokenizer K s (g.S.TokenSink.state c.end.new.self.sink) (chars (string_bytes c.args.text)) standing
     (stops K s (chars (string_bytes c.args.text)) standing)))
     c.end.ensures.stops

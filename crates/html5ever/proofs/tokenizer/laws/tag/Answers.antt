@@ -1,34 +1,27 @@
-use Rattle.std.proofs.Common.{◌∙◌, ap, refl, Err}
+use Rattle.html5ever.specs.Tokenizer.{rules_of, collected_of, opened_collecting}
+use Rattle.std.proofs.Common.{refl, true}
 use Rattle.std.specs.Str.{chars}
 use Rattle.std.specs.String.{string_bytes}
-use Rattle.html5ever_interface.specs.Collected.{collected_step, collected_reply, collected_faulted}
+use Rattle.html5ever_interface.specs.Collected.{Collecting, none_collected, collected_step, collected_reply}
 use Rattle.html5ever_interface.specs.Options.{options_of}
-use Rattle.html5grammar.specs.Reading.{reading, messages}
 use Rattle.html5grammar.specs.Start.{start_of}
+use Rattle.html5grammar.specs.OneTag.{IsTag, tag_messages}
 use Rattle.html5grammar.proofs.OneTagCollected.{collects-tag}
 use Rattle.html5grammar.proofs.OneTagReading.{after-tag}
-use Rattle.html5ever.proofs.QueueReading.{error_is}
-use Rattle.html5ever.proofs.Wholes.{whole-not_failed, whole-refusal}
+use Rattle.html5ever.proofs.Wholes.{holds-one, refusal-one}
 use Rattle.html5ever.proofs.tokenizer.laws.tag.Goals as goal
 
-pub returns-in-Ok-clause-tag : goal.returns-in-Ok-clause-tag
-returns-in-Ok-clause-tag g c = λ tag one.
-    let holds = rw (c.in-Ok.is, c.new-sink.ensures.collected) at c.closed-sink.ensures.finishes in
-    holds ∙ collects-tag (Unit {0}) c.args.opts.exact_errors (start_of (options_of c.args.opts)) c.args.foreign (chars (string_bytes c.args.text)) tag one
+pub returns-clause-tag : goal.returns-clause-tag
+returns-clause-tag g c =
+    holds-one c.collect.result (λ tag. IsTag (start_of (options_of c.args.opts)) (chars (string_bytes c.args.text)) tag)
+    (λ (sink : Collecting). sink.collected) (collected_of (options_of c.args.opts) c.args.names.now c.args.foreign (chars (string_bytes c.args.text)))
+    (λ tag. record { messages = tag_messages c.args.opts.exact_errors (start_of (options_of c.args.opts)).input tag; finished = true; foreign = c.args.foreign })
+    c.collect.ensures.reads
+    (λ tag one. collects-tag (Unit {0}) (rules_of (options_of c.args.opts) c.args.names.now) (start_of (options_of c.args.opts)) c.args.foreign (chars (string_bytes c.args.text)) tag one)
 
-pub returns-in-Err-clause-not_failed : goal.returns-in-Err-clause-not_failed
-returns-in-Err-clause-not_failed g c =
-    let stops = rw c.in-Err.is at c.closed-sink.ensures.stops in
-    whole-not_failed collected_step collected_faulted (λ s. s) c.in-Err.error c.new-sink.result.collected
-    (messages (reading collected_step (collected_reply {H = Unit {0}}) c.args.opts.exact_errors (start_of (options_of c.args.opts)) c.new-sink.result.collected (chars (string_bytes c.args.text))))
-    c.closed-sink.result.0.collected stops
-
-pub returns-in-Err-clause-refusals : goal.returns-in-Err-clause-refusals
-returns-in-Err-clause-refusals g c = λ tag one.
-    whole-refusal c.in-Err.error _ (returns-in-Err-clause-not_failed g c) (λ same. c.closed-sink.ensures.not_yet (c.in-Err.is ∙ ap Err same))
-    (rw (after-tag collected_step (collected_reply {H = Unit {0}}) c.args.opts.exact_errors (start_of (options_of c.args.opts)) c.new-sink.result.collected (chars (string_bytes c.args.text)) tag (λ t line. refl) one) tt)
-
-pub returns-in-Err-clause-not_yet : goal.returns-in-Err-clause-not_yet
-returns-in-Err-clause-not_yet g c = λ same.
-    let met = c.closed-sink.ensures.not_yet (c.in-Err.is ∙ ap Err (error_is _ refl same)) in
-    rw c.new-sink.ensures.collected at met
+pub returns-clause-refusals : goal.returns-clause-refusals
+returns-clause-refusals g c =
+    refusal-one c.collect.result (λ tag. IsTag (start_of (options_of c.args.opts)) (chars (string_bytes c.args.text)) tag)
+    (opened_collecting (options_of c.args.opts) c.args.names.now c.args.foreign (chars (string_bytes c.args.text)))
+    c.collect.ensures.not_failed c.collect.ensures.not_yet
+    (λ tag one. rw (after-tag collected_step (collected_reply {H = Unit {0}}) (rules_of (options_of c.args.opts) c.args.names.now) (start_of (options_of c.args.opts)) (none_collected c.args.foreign) (chars (string_bytes c.args.text)) tag (λ t line. refl) one) tt)

@@ -24,7 +24,7 @@ pub returns-in-Done-clause-reads : goal.returns-in-Done-clause-reads
 returns-in-Done-clause-reads g c =
     HasDrained-all g.S.TokenSink.state g.S.TokenSink.step g.S.TokenSink.reply _ _ _ _
     (HasDrained-more g.S.TokenSink.state g.S.TokenSink.step g.S.TokenSink.reply _ _ _ _ _ _ c.loop.invariant.0 c.in_ok-feed.ensures.reads c.in_ok-feed.ensures.left c.in_ok-feed.ensures.end_of_queue
-    c.in_ok-feed.ensures.exact c.in_ok-feed.ensures.going_on
+    c.in_ok-feed.ensures.rules c.in_ok-feed.ensures.going_on
     (c.in_ok-feed.ensures.failed ∙ sym (ok-not_failed c.feed.result _ _ c.in_ok-feed.was c.feed.ensures.failed_before)) c.in_ok-feed.ensures.linear c.in_ok-feed.ensures.handed_in)
     (c.in_ok-feed.ensures.done (ap Ok c.in-Done.is))
 
@@ -34,7 +34,7 @@ returns-in-Done-clause-end_of_queue g c = HasDrained-end g.S.TokenSink.state g.S
 pub loop-preserved-in-Script : goal.loop-preserved-in-Script
 loop-preserved-in-Script g c = (
   HasDrained-more g.S.TokenSink.state g.S.TokenSink.step g.S.TokenSink.reply _ _ _ _ _ _ c.loop.invariant.0 c.in_ok-feed.ensures.reads c.in_ok-feed.ensures.left c.in_ok-feed.ensures.end_of_queue
-      c.in_ok-feed.ensures.exact c.in_ok-feed.ensures.going_on
+      c.in_ok-feed.ensures.rules c.in_ok-feed.ensures.going_on
       (c.in_ok-feed.ensures.failed ∙ sym (ok-not_failed c.feed.result _ _ c.in_ok-feed.was c.feed.ensures.failed_before)) c.in_ok-feed.ensures.linear c.in_ok-feed.ensures.handed_in,
   omega (arith, c.in_ok-feed.ensures.faults, c.loop.invariant.1),
 )
@@ -42,7 +42,7 @@ loop-preserved-in-Script g c = (
 pub loop-preserved-in-Script-2 : goal.loop-preserved-in-Script-2
 loop-preserved-in-Script-2 g c = (
   HasDrained-more g.S.TokenSink.state g.S.TokenSink.step g.S.TokenSink.reply _ _ _ _ _ _ c.loop.invariant.0 c.in_ok-feed.ensures.reads c.in_ok-feed.ensures.left c.in_ok-feed.ensures.end_of_queue
-      c.in_ok-feed.ensures.exact c.in_ok-feed.ensures.going_on
+      c.in_ok-feed.ensures.rules c.in_ok-feed.ensures.going_on
       (c.in_ok-feed.ensures.failed ∙ sym (ok-not_failed c.feed.result _ _ c.in_ok-feed.was c.feed.ensures.failed_before)) c.in_ok-feed.ensures.linear c.in_ok-feed.ensures.handed_in,
   omega (arith, c.in_ok-feed.ensures.faults, c.loop.invariant.1),
 )

@@ -23,7 +23,7 @@ pub loop-step-preserved : goal.loop-step-preserved
 loop-step-preserved g c = (
   HasTaken-more g.S.TokenSink.state g.S.TokenSink.step g.S.TokenSink.reply _ _ _ _ _ (step_of c.in-Some.step) _ _ _ (rw c.in-Some.ensures.steps.0 at c.loop-step.invariant.0) c.in_ok-hand_in.ensures.ok
       c.in_ok-feed_once.ensures.reads c.in_ok-feed_once.ensures.left c.feed_once.ensures.end_of_queue
-      c.feed_once.ensures.exact c.feed_once.ensures.going_on c.in_ok-feed_once.ensures.not_failed,
+      c.feed_once.ensures.rules c.feed_once.ensures.going_on c.in_ok-feed_once.ensures.not_failed,
   omega (arith, c.in_ok-feed_once.ensures.faults, c.loop-step.invariant.1),
   (let short = ap length c.in-Some.ensures.steps.0 in
       let gone = c.in-Some.ensures.steps.1 in
@@ -42,7 +42,7 @@ returns-clause-finishes g c =
     rw (← c.into_iter-step-iterator.ensures.into_iter_gives.0)
     (on_ok_weaker c.end.result
     (λ finishes. HasTaken-finishes g.S.TokenSink.state g.S.TokenSink.step g.S.TokenSink.reply g.S.TokenSink.finish _ _ _ _ _ _ (rw (nothing_left _ (sym c.loop-step.invariant.2 ∙ c.in-None.ensures.steps.0)) at c.loop-step.invariant.0)
-    c.in_ok-feed_until_done.ensures.reads c.in_ok-feed_until_done.ensures.exact finishes)
+    c.in_ok-feed_until_done.ensures.reads c.in_ok-feed_until_done.ensures.rules finishes)
     c.end.ensures.finishes)
 
 pub returns-clause-stops : goal.returns-clause-stops
@@ -50,7 +50,7 @@ returns-clause-stops g c =
     rw (← c.into_iter-step-iterator.ensures.into_iter_gives.0)
     (IfErr-weaker c.end.result _ _
     (λ e stops. HasTaken-end_stops g.S.TokenSink.state g.S.TokenSink.step g.S.TokenSink.reply g.S.TokenSink.faulted g.S.TokenSink.end_faulted e _ _ _ _ _ _ (rw (nothing_left _ (sym c.loop-step.invariant.2 ∙ c.in-None.ensures.steps.0)) at c.loop-step.invariant.0)
-    c.in_ok-feed_until_done.ensures.reads c.in_ok-feed_until_done.ensures.exact stops)
+    c.in_ok-feed_until_done.ensures.reads c.in_ok-feed_until_done.ensures.rules stops)
     c.end.ensures.stops)
 
 pub returns-in_err-hand_in-clause-not_yet : goal.returns-in_err-hand_in-clause-not_yet
@@ -80,5 +80,5 @@ returns-clause-built g c =
     rw (← c.into_iter-step-iterator.ensures.into_iter_gives.0)
     (on_ok_weaker c.end.result
     (λ finishes. HasTaken-built g.S.TokenSink.state g.S.TokenSink.step g.S.TokenSink.reply _ _ _ _ _ (rw (nothing_left _ (sym c.loop-step.invariant.2 ∙ c.in-None.ensures.steps.0)) at c.loop-step.invariant.0)
-    c.in_ok-feed_until_done.ensures.reads c.in_ok-feed_until_done.ensures.exact)
+    c.in_ok-feed_until_done.ensures.reads c.in_ok-feed_until_done.ensures.rules)
     c.end.ensures.finishes)
