@@ -94,9 +94,9 @@ raw_character exact raw c =
 abbrev pub lower : List ℕ → List ℕ
 lower letters = flat_map name_bytes letters
 
--- whether c ends the name of the end tag that ends the text
+-- whether the letters are, in lower case, the name whose end tag ends the text, and c ends a name
 unfoldable pub ends_raw_text : List ℕ → List ℕ → ℕ → Bool
-ends_raw_text name letters c = not (nat_eq (length letters) 0) && bytes_eq (lower letters) name && ends_name c
+ends_raw_text name letters c = not (nat_eq (length name) 0) && (ends_name c && bytes_eq (lower letters) name)
 
 -- behind the letters an end tag goes on, or all of it is text
 unfoldable pub behind_end_name : RawKind → List ℕ → List ℕ → List ℕ → Slice

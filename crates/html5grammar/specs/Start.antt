@@ -135,13 +135,17 @@ pub record Start : Type 0 where
 abbrev pub begun : TagKind → OpenTag
 begun kind = record { kind = kind; name = []; attributes = []; had_duplicate_attributes = false; last_name = []; last_value = [] }
 
+-- script data behind `<!--`, with the dashes directly before
+abbrev pub escaped : ScriptEscapeKind → Dashes → Raw
+escaped escape_kind.Escaped dashes = Escaped dashes
+escaped escape_kind.DoubleEscaped dashes = DoubleEscaped dashes
+
 -- raw text of a kind, from its start on
 abbrev pub raw_of : RawKind → Raw
 raw_of raw_kind.Rcdata = Rcdata
 raw_of raw_kind.Rawtext = Rawtext
 raw_of raw_kind.ScriptData = ScriptData
-raw_of (raw_kind.ScriptDataEscaped escape_kind.Escaped) = Escaped NoDash
-raw_of (raw_kind.ScriptDataEscaped escape_kind.DoubleEscaped) = DoubleEscaped NoDash
+raw_of (raw_kind.ScriptDataEscaped kind) = escaped kind NoDash
 
 -- the mode that a stream starts in: without a choice that is Data
 abbrev pub initial_mode : Option State → List ℕ → Mode
