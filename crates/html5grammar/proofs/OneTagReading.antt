@@ -38,18 +38,18 @@ use Rattle.markup5ever.specs.Names.{AttributeOf}
 
 -- ---- the characters that are spelled are the text
 
-abbrev characters : List Spelled → List ℕ
+abbrev pub characters : List Spelled → List ℕ
 characters cells = map (λ (here : Spelled). here.character) cells
 
-characters-append : (xs ys : List Spelled) → characters (xs ++ ys) ≡ characters xs ++ characters ys
+pub characters-append : (xs ys : List Spelled) → characters (xs ++ ys) ≡ characters xs ++ characters ys
 characters-append xs ys = map-append (λ (here : Spelled). here.character) xs ys
 
-characters-spell : (tells : ℕ → List Told) (run : List ℕ) → characters (spell tells run) ≡ run
+pub characters-spell : (tells : ℕ → List Told) (run : List ℕ) → characters (spell tells run) ≡ run
 characters-spell tells [] = refl
 characters-spell tells (c ∷ run) = ap (λ l. c ∷ l) (characters-spell tells run)
 
 -- two pieces behind one another
-characters-two : (xs ys : List Spelled) (X Y : List ℕ) → characters xs ≡ X → characters ys ≡ Y → characters (xs ++ ys) ≡ X ++ Y
+pub characters-two : (xs ys : List Spelled) (X Y : List ℕ) → characters xs ≡ X → characters ys ≡ Y → characters (xs ++ ys) ≡ X ++ Y
 characters-two xs ys X Y e f = characters-append xs ys ∙ rw (e, f) refl
 
 characters-value : (exact : Bool) (value : Value) → characters (spell_value exact value) ≡ value_text value
@@ -71,7 +71,7 @@ characters-part exact place before (Attribute first rest space behind value) =
     (characters-two (spell_silent space) _ space _ (characters-spell silent space)
     (characters-two (spell_silent (equals_sign ∷ behind)) (spell_value exact value) (equals_sign ∷ behind) (value_text value) (characters-spell silent (equals_sign ∷ behind)) (characters-value exact value))))
 
-characters-parts : (exact : Bool) (place : Place) (before : List AttributeOf) (parts : List Part) → characters (spell_parts exact place before parts) ≡ flat_map part_text parts
+pub characters-parts : (exact : Bool) (place : Place) (before : List AttributeOf) (parts : List Part) → characters (spell_parts exact place before parts) ≡ flat_map part_text parts
 unfolding spell_parts
 characters-parts exact place before [] = refl
 characters-parts exact place before (part ∷ parts) =
@@ -79,10 +79,10 @@ characters-parts exact place before (part ∷ parts) =
     (characters-parts exact (place_behind place part) (attributes_with before part) parts)
 
 -- a tag without its `>`
-abbrev body : Bool → WrittenTag → List Spelled
+abbrev pub body : Bool → WrittenTag → List Spelled
 body exact tag = spell_silent (opening tag.kind) ++ (spell (null_error exact state.TagName) (tag.first ∷ tag.rest) ++ spell_parts exact InName [] tag.parts)
 
-characters-body : (exact : Bool) (tag : WrittenTag) → characters (body exact tag) ++ greater_than ∷ [] ≡ written tag
+pub characters-body : (exact : Bool) (tag : WrittenTag) → characters (body exact tag) ++ greater_than ∷ [] ≡ written tag
 unfolding written
 characters-body exact tag =
     ap (λ l. l ++ greater_than ∷ [])
@@ -120,7 +120,7 @@ module _ (exact : Bool) where
     goes : Goes exact (Between Data) (body exact tag) behind
     ends : step_at exact behind greater_than ≡ TellsTag (end_errors exact tag) (tag_told tag)
 
-  ends-tag : (tag : WrittenTag) (behind : OpenTag) → can_end (end_place tag) ≡ true
+  pub ends-tag : (tag : WrittenTag) (behind : OpenTag) → can_end (end_place tag) ≡ true
       → Holds tag.kind (name_shown tag.first tag.rest) (all_attributes tag) behind
       → step_at exact (InTag (end_place tag) behind) greater_than ≡ TellsTag (end_errors exact tag) (tag_told tag)
   ends-tag tag behind ends holds =
@@ -161,7 +161,7 @@ module _ {S H : Type 0} (step : S → Told → ℕ → S) (reply : S → Told �
   trace-last input before s last opened c errors tag keeps ends =
       rw (brought-tells rules opened c _ refl ends, line_after-past input before c, keeps, append_assoc (bad_character_error rules.exact c) errors (Tag tag ∷ [])) refl
 
-  trace-tag : (input : Input) (before : List ℕ) (s : S) (last : List ℕ) (opened behind : Open) (cells : List Spelled) (c : ℕ) (errors : List Told) (tag : TagOf)
+  pub trace-tag : (input : Input) (before : List ℕ) (s : S) (last : List ℕ) (opened behind : Open) (cells : List Spelled) (c : ℕ) (errors : List Told) (tag : TagOf)
       → ((t : S) (line : ℕ) → reply t (Tag tag) line ≡ KeepOn)
       → Goes rules.exact opened cells behind
       → step_at rules.exact behind c ≡ TellsTag errors tag

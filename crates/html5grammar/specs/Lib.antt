@@ -12,3 +12,4 @@ pub mod Cutting
 pub mod Reading
 pub mod OneTag
 pub mod OneReference
+pub mod WrittenRaw
