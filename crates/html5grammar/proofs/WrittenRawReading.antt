@@ -1,8 +1,12 @@
 -- A text that is raw text tells the messages of how it is written.
-use Rattle.std.proofs.Common.{◌≡◌, ◌≢◌, ℕ, Bool, true, false, List, [], ◌∷◌, ◌++◌, Option, None, Some, refl, ap, sym, ◌∙◌, subst, length, arith}
+use Rattle.std.proofs.Common.{◌≡◌, ◌≢◌, ℕ, Bool, true, false, List, [], ◌∷◌, ◌++◌, Option, None, Some, refl, ap, sym, ◌∙◌, subst, length, length-append, ◌≤◌, arith}
 use Rattle.std.specs.Prelude.{not, flat_map}
 use Rattle.std.specs.List.{list_all}
+use Rattle.std.specs.Bool.{nat_eq}
+use Rattle.std.specs.Char.{to_ascii_lowercase}
 use Rattle.std.specs.Str.{bytes_eq}
+use Rattle.std.proofs.lemmas.Str.{length-le-encodes}
+use Rattle.markup5ever.proofs.NameOrder.{bytes_eq-same}
 use Rattle.std.proofs.lemmas.Bool.{false≢true, and_parts, not-true, ne_eqb}
 use Rattle.std.proofs.lemmas.List.{append_assoc, append-nil}
 use Rattle.html5ever_interface.proofs.Steppings.{stepped-append}
@@ -16,7 +20,7 @@ use Rattle.html5ever_interface.specs.declared.states.RawKind.{RawKind}
 use Rattle.html5ever_interface.specs.declared.states.RawKind.TheVariants as raw_kind
 use Rattle.html5ever_interface.specs.declared.states.ScriptEscapeKind.TheVariants as escape_kind
 use Rattle.html5ever_interface.specs.declared.states.State.TheVariants as state
-use Rattle.html5grammar.specs.Characters.{solidus, less_than, greater_than, is_letter, is_white_space}
+use Rattle.html5grammar.specs.Characters.{solidus, less_than, greater_than, is_letter, is_white_space, shown, name_bytes}
 use Rattle.html5grammar.specs.EndOfInput.{raw_end_error, told_at_raw_end, late_at_end_of, open_at_end_of, told_at_end_of, tokens_at_end}
 use Rattle.html5grammar.specs.ErrorText.{bad_character_error}
 use Rattle.html5grammar.specs.NormalisedText.{normalised, line_after}
@@ -168,11 +172,19 @@ parts-end_name (Solidus ∷ parts) h = refl
 parts-end_name (Name first rest ∷ parts) h = absurd (false≢true h)
 parts-end_name (Attribute first rest space behind value ∷ parts) h = absurd (false≢true h)
 
+-- a name that letters are in lower case isn't empty
+filled_name : (name : List ℕ) (first : ℕ) (rest : List ℕ) → bytes_eq (lower (first ∷ rest)) name ≡ true → nat_eq (length name) 0 ≡ false
+unfolding name_bytes
+filled_name name first rest same =
+    let one : 1 ≤ length (name_bytes first) = subst (λ l. 1 ≤ length l) (append-nil (name_bytes first)) (length-le-encodes (to_ascii_lowercase (shown first) ∷ [])) in
+    let all : length name ≡ length (name_bytes first ++ lower rest) = ap length (sym (bytes_eq-same (lower (first ∷ rest)) name same)) in
+    ne_eqb (length name) 0 (λ e. omega (arith, one, all, e, length-append (name_bytes first) (lower rest)))
+
 -- a letter and more, and a character that ends a name
 name_ends : (name : List ℕ) (first : ℕ) (rest : List ℕ) (c : ℕ) → bytes_eq (lower (first ∷ rest)) name ≡ true → ends_name c ≡ true
     → ends_raw_text name (first ∷ rest) c ≡ true
 unfolding ends_raw_text
-name_ends name first rest c same ends = rw (ne_eqb (length (first ∷ rest)) 0 (λ e. omega (arith, e)), same, ends) refl
+name_ends name first rest c same ends = rw (filled_name name first rest same, ends, same) refl
 
 -- an end tag's cells up to its name, and those of its parts with `>`
 abbrev name_cells : Bool → List Told → ℕ → List ℕ → List Spelled

@@ -91,10 +91,6 @@ or_false : (a b : Bool) → (a || b) ≡ false → (a ≡ false) × (b ≡ false
 or_false true b h = absurd (false≢true (sym h))
 or_false false b h = (refl, h)
 
-and_and-false : (a b : Bool) → (a && b && false) ≡ false
-and_and-false true b = and-false b
-and_and-false false b = refl
-
 or_none : (a : Bool) → (a || false) ≡ true → a ≡ true
 or_none true h = refl
 or_none false h = h
@@ -140,7 +136,7 @@ module _ (exact : Bool) (name : List ℕ) where
   less_than-anew (Within (AfterLessThan raw_kind.ScriptData)) = refl
   less_than-anew (Within (AfterLessThan (raw_kind.ScriptDataEscaped escape_kind.Escaped))) = refl
   less_than-anew (Within (AfterLessThan (raw_kind.ScriptDataEscaped escape_kind.DoubleEscaped))) = refl
-  less_than-anew (Within (InEndName kind letters)) = and_and-false (not (nat_eq (length letters) 0)) (bytes_eq (lower letters) name)
+  less_than-anew (Within (InEndName kind letters)) = and-false (not (nat_eq (length name) 0))
   less_than-anew (Within AfterMark) = refl
   less_than-anew (Within AfterMarkAndDash) = refl
   less_than-anew (Within (InSwitch kind letters)) = refl
