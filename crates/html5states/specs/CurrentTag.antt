@@ -57,6 +57,15 @@ last_name_of at = string_bytes at.last_start_tag
 abbrev pub opened_of : {Z : Type 0} → Opened Z → Open
 opened_of at = open_of at.state at.tag (chars (string_bytes at.letters)) (last_name_of at)
 
+-- whether nothing is open in the state
+abbrev pub is_between : State → Bool
+is_between state.Data = true
+is_between state.Plaintext = true
+is_between (state.RawData kind) = true
+is_between (state.ScriptDataEscapedDash kind) = true
+is_between (state.ScriptDataEscapedDashDash kind) = true
+is_between other = false
+
 -- whether a bad character begins in the state what is not built yet
 abbrev pub stops_at_bad : State → Bool
 stops_at_bad state.Data = false
