@@ -161,12 +161,6 @@ data-any_tag (state.ScriptDataEscapedDashDash kind) t u letters name more last e
 data-any_tag state.ScriptDataDoubleEscapeEnd t u letters name more last e = cc
 data-any_tag other t u letters name more last e = cc
 
-pub data-of_reference : {Z : Type 0} (is_in : Bool) (held : List ℕ) (q : State) (t : CurrentTag Z) (letters name more last : List ℕ)
-    → with_reference is_in held (open_of q t letters name) ≡ Between Data → open_of q t more last ≡ Between Data
-unfolding with_reference
-data-of_reference true held q t letters name more last e = cc
-data-of_reference false held q t letters name more last e = data-any_tag q t t letters name more last e
-
 -- a refusal within what a state tells, where a tag may follow
 pub ended_stops : {S T : Type 0} (Z : Type 0) (step faulted : S → Told → ℕ → S) (r : Result T TokenizerError) (e : TokenizerError) (now : Opened Z) (next : Next) (s u : S) (line : ℕ) (tokens : List Told)
     → IsErrAnd r (λ x. x ≡ e) → Ends {Z = Z} (Err e) now next → telling.Stops step faulted e s (on_line line tokens) u
