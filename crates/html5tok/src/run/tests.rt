@@ -446,7 +446,8 @@ fn tells_that_memory_ran_out(rt: HostRuntime) -> Result<(), Fail> {
     let mut refused = 0u64;
     for admitted in 0..1000u64 {
         let heap = Refusing::new(rt.alloc(), admitted);
-        let Ok(words) = words_of(&heap, &["--state", "plaintext", "--cut", "2"]) else {
+        let said = ["--state", "plaintext", "--cut", "2", "--last", "title"];
+        let Ok(words) = words_of(&heap, &said) else {
             continue;
         };
         let mut reader = ReadSource::new(MIXED);
