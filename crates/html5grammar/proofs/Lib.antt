@@ -21,3 +21,4 @@ mod ReferenceCases
 pub mod WrittenRawSteps
 pub mod WrittenRawReading
 mod WrittenRawCases
+mod CommentCases

@@ -1,8 +1,9 @@
 -- The machine between the slices and the code: what one character tells where something is open, and what is open then.
-use Rattle.std.specs.Prelude.{ℕ, Bool, false, List, [], ◌∷◌, ◌++◌, ◌==◌, ◌||◌, ◌&&◌, codes, encode_utf8, Some, if◌then◌else◌}
+use Rattle.std.specs.Prelude.{ℕ, Bool, false, List, [], ◌∷◌, ◌++◌, ◌==◌, ◌&&◌, codes, encode_utf8, encode_utf8_all, Some, if◌then◌else◌}
+use Rattle.std.specs.Str.{bytes_eq}
 use Rattle.html5ever_interface.specs.Sink.{Message, stepped, on_line}
 use Rattle.html5ever_interface.specs.Token.{Told, Reply}
-use Rattle.html5ever_interface.specs.Token.Told.{Text, Null, Tag}
+use Rattle.html5ever_interface.specs.Token.Told.{Text, Null, Tag, Comment}
 use Rattle.html5ever_interface.specs.declared.interface.token.TagKind.TheVariants.{StartTag, EndTag}
 use Rattle.html5ever_interface.specs.declared.states.AttrValueKind.{AttrValueKind}
 use Rattle.html5ever_interface.specs.declared.states.AttrValueKind.TheVariants.{Unquoted, SingleQuoted, DoubleQuoted}
@@ -11,7 +12,8 @@ use Rattle.html5ever_interface.specs.declared.states.RawKind.TheVariants as raw_
 use Rattle.html5ever_interface.specs.declared.states.ScriptEscapeKind.{ScriptEscapeKind}
 use Rattle.html5ever_interface.specs.declared.states.ScriptEscapeKind.TheVariants as escape_kind
 use Rattle.html5ever_interface.specs.declared.states.State.TheVariants as state
-use Rattle.html5grammar.specs.Characters.{null, exclamation_mark, quotation_mark, ampersand, apostrophe, hyphen, solidus, less_than, equals_sign, greater_than, question_mark, is_letter, is_white_space}
+use Rattle.html5grammar.specs.Characters.{null, exclamation_mark, quotation_mark, ampersand, apostrophe, hyphen, solidus, less_than, equals_sign, greater_than, question_mark, is_letter, is_white_space, value_bytes}
+use Rattle.html5grammar.specs.Comment.{comment_errors, ends_comment, comment_end_error, comment_content, lower_case, begins_keyword, declaration_error}
 use Rattle.html5grammar.specs.ErrorText.{error_in, bad_character_error}
 use Rattle.html5grammar.specs.Reading.{Here, Brought, last_behind, open_after_reply}
 use Rattle.html5grammar.specs.Reading.Here.{Tells, TellsTag, Stops}
@@ -22,7 +24,7 @@ use Rattle.html5grammar.specs.Start.Raw.{ScriptData, Escaped}
 use Rattle.html5grammar.specs.Start.Mode.{Data, Plain, RawText}
 use Rattle.html5grammar.specs.Start.RawPlace.{AfterLessThan, InEndName, AfterMark, AfterMarkAndDash, InSwitch}
 use Rattle.html5grammar.specs.Start.Place.{InName, BeforeAttribute, InAttributeName, AfterAttributeName, BeforeValue, InValue, AfterQuotedValue, AfterSolidus}
-use Rattle.html5grammar.specs.Start.Open.{Between, LessThan, LessThanSolidus, InTag, InRaw, InReference, NotBuilt}
+use Rattle.html5grammar.specs.Start.Open.{Between, LessThan, LessThanSolidus, InTag, InRaw, InDeclaration, InComment, InBogusComment, InReference, NotBuilt}
 use Rattle.html5grammar.specs.Reference.{Found, in_value, reference, is_undecided, ends_number, late_tokens, opened_behind, with_value}
 use Rattle.html5grammar.specs.Tag.{with_last_attribute, duplicate_error, end_tag_errors, told_tag, null_error, in_quoted, in_unquoted, unquoted_error, in_attribute_name, attribute_name_error, with_last_name, place_error, first_error, is_after_solidus, in_tag_name, with_name}
 use Rattle.html5grammar.specs.RawText.{raw_text_of, texts, ends_name, kind_of, is_rcdata, raw_behind, raw_character, ends_raw_text, switched, told_at_less_than, told_behind_less_than, begins_mark, begins_switch}
@@ -108,18 +110,31 @@ data_step exact before c =
     else if c == null then Tells (before ++ error_in exact state.Data c ∷ Null ∷ []) (Between Data)
     else Tells (before ++ Text (encode_utf8 c) ∷ []) (Between Data)
 
+-- comments
+
+unfoldable pub bogus_comment_step : Bool → List ℕ → List Told → ℕ → Here Open
+bogus_comment_step exact before first c =
+    if c == greater_than then Tells (first ++ Comment before ∷ []) (Between Data)
+    else Tells (first ++ null_error exact state.BogusComment c) (InBogusComment (before ++ value_bytes c))
+
+unfoldable pub comment_step : Bool → List ℕ → ℕ → Here Open
+comment_step exact before c =
+    if (c == greater_than) && ends_comment before then Tells (comment_end_error exact before ++ Comment (comment_content before) ∷ []) (Between Data)
+    else Tells (comment_errors exact before c) (InComment (before ++ value_bytes c))
+
 unfoldable pub less_than_step : Bool → ℕ → Here Open
 less_than_step exact c =
     if is_letter c then tag_name_step exact (begun StartTag) c
     else if c == solidus then Tells [] LessThanSolidus
-    else if (c == exclamation_mark) || (c == question_mark) then Stops []
+    else if c == exclamation_mark then Tells [] (InDeclaration [])
+    else if c == question_mark then bogus_comment_step exact [] (error_in exact state.TagOpen c ∷ []) c
     else data_step exact (error_in exact state.TagOpen c ∷ Text (codes "<") ∷ []) c
 
 unfoldable pub solidus_step : Bool → ℕ → Here Open
 solidus_step exact c =
     if is_letter c then tag_name_step exact (begun EndTag) c
     else if c == greater_than then Tells (error_in exact state.EndTagOpen c ∷ []) (Between Data)
-    else Stops []
+    else bogus_comment_step exact [] (error_in exact state.EndTagOpen c ∷ []) c
 
 -- raw text
 
@@ -183,6 +198,9 @@ step_at exact (InRaw place name) c = raw_place_step exact place name c
 step_at exact LessThan c = less_than_step exact c
 step_at exact LessThanSolidus c = solidus_step exact c
 step_at exact (InTag place tag) c = tag_step exact place tag c
+step_at exact (InComment before) c = comment_step exact before c
+step_at exact (InBogusComment before) c = bogus_comment_step exact before [] c
+step_at exact (InDeclaration held) c = Stops []
 step_at exact (InReference stand held) c = Stops []
 step_at exact NotBuilt c = Stops []
 
@@ -194,9 +212,20 @@ reference_step rules stand held c =
     else if ends_number held c then record { settled = late_tokens stand found held; here = Tells [] (opened_behind stand found held) }
     else record { settled = late_tokens stand found held; here = step_at rules.exact (opened_behind stand found held) c }
 
--- what a character brings: where no reference is open it decides nothing that stands before it
+-- a character behind `<!` and what is held there
+unfoldable pub declaration_step : Bool → List ℕ → ℕ → Brought Open
+declaration_step exact held c =
+    if bytes_eq (held ++ c ∷ []) (codes "--") then record { settled = []; here = Tells [] (InComment []) }
+    else if bytes_eq (lower_case (held ++ c ∷ [])) (codes "doctype") then record { settled = []; here = Stops [] }
+    else if begins_keyword (held ++ c ∷ []) then record { settled = []; here = Tells [] (InDeclaration (held ++ c ∷ [])) }
+    else record { settled = declaration_error exact held; here = bogus_comment_step exact (encode_utf8_all held) [] c }
+
+-- what a character brings: where nothing is undecided it decides nothing that stands before it
 unfoldable pub brought_at : Rules → Open → ℕ → Brought Open
 brought_at rules (InReference stand held) c = reference_step rules stand held c
+brought_at rules (InDeclaration held) c = declaration_step rules.exact held c
+brought_at rules (InComment before) c = record { settled = []; here = step_at rules.exact (InComment before) c }
+brought_at rules (InBogusComment before) c = record { settled = []; here = step_at rules.exact (InBogusComment before) c }
 brought_at rules (Between mode) c = record { settled = []; here = step_at rules.exact (Between mode) c }
 brought_at rules LessThan c = record { settled = []; here = step_at rules.exact LessThan c }
 brought_at rules LessThanSolidus c = record { settled = []; here = step_at rules.exact LessThanSolidus c }

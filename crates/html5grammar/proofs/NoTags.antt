@@ -1,8 +1,8 @@
 -- The machine tells a tag where one ends, and no other.
 use Rattle.std.proofs.Common.{◌≡◌, ℕ, Bool, true, false, List, [], ◌∷◌, ◌++◌, refl}
-use Rattle.std.specs.Prelude.{◌&&◌, ◌||◌, ◌==◌, encode_utf8, map, drop, length, Option, None, Some, if◌then◌else◌}
+use Rattle.std.specs.Prelude.{◌&&◌, ◌==◌, codes, encode_utf8, map, drop, length, Option, None, Some, if◌then◌else◌}
 use Rattle.html5ever_interface.specs.Token.{Told, is_tag}
-use Rattle.html5ever_interface.specs.Token.Told.{Text}
+use Rattle.html5ever_interface.specs.Token.Told.{Text, Comment}
 use Rattle.html5ever_interface.specs.declared.states.State.TheVariants as state
 use Rattle.html5ever_interface.specs.declared.states.RawKind.{RawKind}
 use Rattle.html5ever_interface.specs.declared.states.RawKind.TheVariants as raw_kind
@@ -22,11 +22,13 @@ use Rattle.html5grammar.specs.Start.Raw.{ScriptData}
 use Rattle.html5grammar.specs.Start.Mode.{Data, Plain, RawText}
 use Rattle.html5grammar.specs.Start.RawPlace.{AfterLessThan, InEndName, AfterMark, AfterMarkAndDash, InSwitch}
 use Rattle.html5grammar.specs.Start.Place.{InName, BeforeAttribute, InAttributeName, AfterAttributeName, BeforeValue, InValue, AfterQuotedValue, AfterSolidus}
-use Rattle.html5grammar.specs.Start.Open.{Between, LessThan, LessThanSolidus, InTag, InRaw, InReference, NotBuilt}
-use Rattle.html5grammar.specs.Tag.{duplicate_error, end_tag_errors, with_last_attribute, in_quoted, in_unquoted, unquoted_error, in_attribute_name, place_error, first_error, in_tag_name}
+use Rattle.html5grammar.specs.Start.Open.{Between, LessThan, LessThanSolidus, InTag, InRaw, InDeclaration, InComment, InBogusComment, InReference, NotBuilt}
+use Rattle.html5grammar.specs.Tag.{null_error, duplicate_error, end_tag_errors, with_last_attribute, in_quoted, in_unquoted, unquoted_error, in_attribute_name, place_error, first_error, in_tag_name}
+use Rattle.std.specs.Str.{bytes_eq}
+use Rattle.html5grammar.specs.Comment.{comment_state, ends_comment, comment_content, comment_end_error, comment_errors, mark_error, lower_case, begins_keyword}
 use Rattle.html5grammar.specs.RawText.{ends_name, raw_state, kind_of, is_rcdata, raw_character, ends_raw_text, told_at_less_than, told_behind_less_than, begins_mark, begins_switch}
 use Rattle.html5grammar.specs.Text.{plain_text}
-use Rattle.html5grammar.proofs.Machine.{closing_step, tag_name_step, part_step, attribute_name_step, after_attribute_name_step, quoted_step, unquoted_step, before_value_step, tag_step, data_step, less_than_step, solidus_step, raw_step, tag_name_end_step, end_name_step, switch_step, mark_step, mark_and_dash_step, raw_solidus_step, raw_less_than_step, raw_place_step, step_at, reference_step, brought_at}
+use Rattle.html5grammar.proofs.Machine.{closing_step, tag_name_step, part_step, attribute_name_step, after_attribute_name_step, quoted_step, unquoted_step, before_value_step, tag_step, data_step, less_than_step, solidus_step, bogus_comment_step, comment_step, declaration_step, raw_step, tag_name_end_step, end_name_step, switch_step, mark_step, mark_and_dash_step, raw_solidus_step, raw_less_than_step, raw_place_step, step_at, reference_step, brought_at}
 
 unfoldable pub NoTags : List Told → Type 0
 NoTags [] = Unit {0}
@@ -182,6 +184,17 @@ module _ (exact : Bool) (c : ℕ) where
       no_tags-if (c == less_than) _ _ (no_tags-append before _ f (no_tags-less_than (kind_of raw)))
       (no_tags-if (is_rcdata raw && (c == ampersand)) _ _ f (no_tags-append before _ f (no_tags-raw_character raw)))
 
+  no_tags-bogus_comment : (before : List ℕ) (first : List Told) → NoTags first → NoTagsHere (bogus_comment_step exact before first c)
+  unfolding bogus_comment_step NoTagsHere NoTags
+  no_tags-bogus_comment before first f =
+      no_tags-if (c == greater_than) _ _ (no_tags-append first _ f (refl, tt)) (no_tags-append first _ f (no_tags-where _ _ refl))
+
+  no_tags-comment : (before : List ℕ) → NoTagsHere (comment_step exact before c)
+  unfolding comment_step comment_end_error comment_errors mark_error NoTagsHere NoTags
+  no_tags-comment before =
+      no_tags-if ((c == greater_than) && ends_comment before) _ _ (no_tags-append (comment_end_error exact before) (Comment (comment_content before) ∷ []) (no_tags-where _ _ refl) (refl, tt))
+      (no_tags-append (mark_error exact before c) (null_error exact (comment_state state.Comment before) c) (no_tags-where _ _ refl) (no_tags-where _ _ refl))
+
   no_tags-tag_name_end : (tag : OpenTag) → NoTagsHere (tag_name_end_step tag c)
   unfolding tag_name_end_step NoTagsHere NoTags
   no_tags-tag_name_end tag =
@@ -211,11 +224,14 @@ module _ (exact : Bool) (c : ℕ) where
   no_tags-step_at (Between (RawText raw name)) = no_tags-raw raw name [] tt
   no_tags-step_at LessThan =
       no_tags-if (is_letter c) _ _ (no_tags-tag_name _) (no_tags-if (c == solidus) _ _ tt
-      (no_tags-if ((c == exclamation_mark) || (c == question_mark)) _ _ tt (no_tags-data _ (refl, (refl, tt)))))
+      (no_tags-if (c == exclamation_mark) _ _ tt (no_tags-if (c == question_mark) _ _ (no_tags-bogus_comment [] _ (refl, tt)) (no_tags-data _ (refl, (refl, tt))))))
   no_tags-step_at LessThanSolidus =
-      no_tags-if (is_letter c) _ _ (no_tags-tag_name _) (no_tags-if (c == greater_than) _ _ (refl, tt) tt)
+      no_tags-if (is_letter c) _ _ (no_tags-tag_name _) (no_tags-if (c == greater_than) _ _ (refl, tt) (no_tags-bogus_comment [] _ (refl, tt)))
   no_tags-step_at (InTag place tag) = no_tags-tag place tag
   no_tags-step_at (InRaw place name) = no_tags-raw_place place name
+  no_tags-step_at (InDeclaration held) = tt
+  no_tags-step_at (InComment before) = no_tags-comment before
+  no_tags-step_at (InBogusComment before) = no_tags-bogus_comment before [] tt
   no_tags-step_at (InReference stand held) = tt
   no_tags-step_at NotBuilt = tt
 
@@ -264,30 +280,37 @@ unfolding NoTags
 no_tags-late_append [] m f g = g
 no_tags-late_append (x ∷ l) m f g = (f.0, no_tags-late_append l m f.1 g)
 
-no_tags-late_map : (back : ℕ) (is_held : Bool) (tokens : List Told) → NoTags tokens
-    → NoTags (tokens_of_late (map (λ token. record { token = token; back = back; is_held = is_held }) tokens))
+no_tags-late_map : (back : ℕ) (is_at is_held : Bool) (tokens : List Told) → NoTags tokens
+    → NoTags (tokens_of_late (map (λ token. record { token = token; back = back; is_at = is_at; is_held = is_held }) tokens))
 unfolding NoTags
-no_tags-late_map back is_held [] f = tt
-no_tags-late_map back is_held (t ∷ tokens) f = (f.0, no_tags-late_map back is_held tokens f.1)
+no_tags-late_map back is_at is_held [] f = tt
+no_tags-late_map back is_at is_held (t ∷ tokens) f = (f.0, no_tags-late_map back is_at is_held tokens f.1)
 
 no_tags-held_text : (stand : Stand) (held : List ℕ) → NoTags (tokens_of_late (held_text stand held))
 unfolding held_text NoTags
 no_tags-held_text stand [] = tt
 no_tags-held_text stand (c ∷ held) =
-    no_tags-late_append _ _ (no_tags-late_map _ _ (text_in stand (c ∷ [])) (no_tags-text_in stand (c ∷ []))) (no_tags-held_text stand held)
+    no_tags-late_append _ _ (no_tags-late_map _ _ _ (text_in stand (c ∷ [])) (no_tags-text_in stand (c ∷ []))) (no_tags-held_text stand held)
 
 no_tags-late_tokens : (rules : Rules) (stand : Stand) (held : List ℕ) (next : Option ℕ)
     → NoTags (tokens_of_late (late_tokens stand (reference rules (in_value stand) held next) held))
 no_tags-late_tokens rules stand held next =
     let found : Found = reference rules (in_value stand) held next in
     no_tags-late_append _ _
-    (no_tags-late_map _ _ (told_of stand found) (no_tags-append _ _ (no_tags-reference rules (in_value stand) held next) (no_tags-text_in stand (characters_in found))))
+    (no_tags-late_map _ _ _ (told_of stand found) (no_tags-append _ _ (no_tags-reference rules (in_value stand) held next) (no_tags-text_in stand (characters_in found))))
     (no_tags-held_text stand (drop found.taken held))
 
 no_tags-brought : (test : Bool) (p q : Brought Open) → NoTags (tokens_of_late p.settled) → NoTags (tokens_of_late q.settled)
     → NoTags (tokens_of_late (if test then p else q).settled)
 no_tags-brought true p q f g = f
 no_tags-brought false p q f g = g
+
+no_tags-declaration : (exact : Bool) (held : List ℕ) (c : ℕ) → NoTags (tokens_of_late (declaration_step exact held c).settled)
+unfolding declaration_step NoTags
+no_tags-declaration exact held c =
+    no_tags-brought (bytes_eq (held ++ c ∷ []) (codes "--")) _ _ tt
+    (no_tags-brought (bytes_eq (lower_case (held ++ c ∷ [])) (codes "doctype")) _ _ tt
+    (no_tags-brought (begins_keyword (held ++ c ∷ [])) _ _ tt (refl, tt)))
 
 pub no_tags-settled : (rules : Rules) (opened : Open) (c : ℕ) → NoTags (tokens_of_late (brought_at rules opened c).settled)
 unfolding brought_at reference_step NoTags
@@ -296,6 +319,9 @@ no_tags-settled rules LessThan c = tt
 no_tags-settled rules LessThanSolidus c = tt
 no_tags-settled rules (InTag place tag) c = tt
 no_tags-settled rules (InRaw place name) c = tt
+no_tags-settled rules (InDeclaration held) c = no_tags-declaration rules.exact held c
+no_tags-settled rules (InComment before) c = tt
+no_tags-settled rules (InBogusComment before) c = tt
 no_tags-settled rules (InReference stand held) c =
     no_tags-brought (is_undecided rules.names (held ++ c ∷ [])) _ _ tt
     (no_tags-brought (ends_number held c) _ _ (no_tags-late_tokens rules stand held (Some c)) (no_tags-late_tokens rules stand held (Some c)))

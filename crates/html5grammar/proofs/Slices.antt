@@ -1,9 +1,9 @@
 -- The slices do at each character what the machine does.
 use Rattle.std.proofs.Common.{◌≡◌, ℕ, Bool, true, false, List, [], ◌∷◌, ◌++◌, refl, ap, sym, subst, ◌∙◌}
-use Rattle.std.specs.Prelude.{◌==◌, ◌||◌, ◌&&◌, flat_map, drop, codes, Some, if◌then◌else◌}
+use Rattle.std.specs.Prelude.{◌==◌, ◌&&◌, not, encode_utf8_all, flat_map, drop, codes, Some, if◌then◌else◌}
 use Rattle.std.proofs.lemmas.List.{append_assoc, append-nil}
 use Rattle.html5ever_interface.specs.Token.{Told}
-use Rattle.html5ever_interface.specs.Token.Told.{Text}
+use Rattle.html5ever_interface.specs.Token.Told.{Text, Comment}
 use Rattle.html5ever_interface.specs.declared.interface.token.TagKind.TheVariants.{StartTag, EndTag}
 use Rattle.html5ever_interface.specs.declared.states.AttrValueKind.{AttrValueKind}
 use Rattle.html5ever_interface.specs.declared.states.AttrValueKind.TheVariants.{Unquoted, SingleQuoted, DoubleQuoted}
@@ -15,6 +15,8 @@ use Rattle.html5ever_interface.specs.declared.states.State.TheVariants as state
 use Rattle.html5grammar.specs.Characters.{null, exclamation_mark, quotation_mark, ampersand, apostrophe, hyphen, solidus, less_than, equals_sign, greater_than, question_mark, is_letter, is_white_space, name_bytes, value_bytes}
 use Rattle.html5grammar.specs.Reference.{in_value, reference, is_undecided, ends_number, characters_in, opened_in, late_tokens, opened_behind, behind_held, reference_text, with_value}
 use Rattle.html5grammar.specs.Tag.{null_error, in_quoted, in_unquoted, unquoted_error, in_attribute_name, attribute_name_error, with_last_name, place_error, is_after_solidus, in_tag_name, with_name, closing, behind_tag_name, tag_name, behind_quoted, quoted_value, behind_unquoted, unquoted_value, value, value_behind_space, value_or_next, behind_name_and_space, behind_attribute_name, attribute_behind_first, part}
+use Rattle.std.specs.Str.{bytes_eq}
+use Rattle.html5grammar.specs.Comment.{ends_comment, comment, in_bogus_comment, behind_bogus_comment, bogus_comment, bogus_comment_from, lower_case, begins_keyword, declaration_error, declaration}
 use Rattle.html5grammar.specs.RawText.{raw_text_of, texts, ends_name, is_rcdata, ends_raw_text, behind_end_name, end_name, behind_mark, behind_mark_and_dash, switched, behind_switch, switch, told_behind_less_than, behind_raw_solidus, begins_mark, begins_switch, behind_raw_less_than, raw_text}
 use Rattle.html5grammar.specs.Text.{behind_solidus, behind_less_than, data_text}
 use Rattle.html5grammar.specs.ErrorText.{error_in}
@@ -30,8 +32,8 @@ use Rattle.html5grammar.specs.Start.Raw.{ScriptData}
 use Rattle.html5grammar.specs.Start.Mode.{Data, Plain, RawText}
 use Rattle.html5grammar.specs.Start.RawPlace.{AfterLessThan, InEndName, AfterMark, AfterMarkAndDash, InSwitch}
 use Rattle.html5grammar.specs.Start.Place.{InName, BeforeAttribute, InAttributeName, AfterAttributeName, BeforeValue, InValue, AfterQuotedValue, AfterSolidus}
-use Rattle.html5grammar.specs.Start.Open.{Between, LessThan, LessThanSolidus, InTag, InRaw, InReference, NotBuilt}
-use Rattle.html5grammar.proofs.Machine.{step_at, brought_at, reference_step, closing_step, tag_name_step, part_step, attribute_name_step, after_attribute_name_step, quoted_step, unquoted_step, before_value_step, tag_step, data_step, less_than_step, solidus_step, raw_step, tag_name_end_step, end_name_step, switch_step, mark_step, mark_and_dash_step, raw_solidus_step, raw_less_than_step, raw_place_step}
+use Rattle.html5grammar.specs.Start.Open.{Between, LessThan, LessThanSolidus, InTag, InRaw, InDeclaration, InComment, InBogusComment, InReference, NotBuilt}
+use Rattle.html5grammar.proofs.Machine.{step_at, brought_at, reference_step, closing_step, tag_name_step, part_step, attribute_name_step, after_attribute_name_step, quoted_step, unquoted_step, before_value_step, tag_step, data_step, less_than_step, solidus_step, bogus_comment_step, comment_step, declaration_step, raw_step, tag_name_end_step, end_name_step, switch_step, mark_step, mark_and_dash_step, raw_solidus_step, raw_less_than_step, raw_place_step}
 
 abbrev pub going : {F G : Type 0} → (F → G) → Here F → Here G
 going f (Tells told goes_on) = Tells told (f goes_on)
@@ -250,18 +252,55 @@ module _ (rules : Rules) (c : ℕ) (text : List ℕ) where
       begins-if (c == less_than) _ _ _ _ refl
       (begins-if (c == ampersand) _ _ _ _ refl (begins-if (c == null) _ _ _ _ refl refl))
 
+  begins-bogus_comment : (before : List ℕ) (first : List Told) → begins (bogus_comment_from rules.exact before first c text) (bogus_comment_step rules.exact before first c)
+  unfolding bogus_comment_from bogus_comment_step rest_of
+  begins-bogus_comment before first = begins-if (c == greater_than) _ _ _ _ refl refl
+
+  follows-bogus_comment_from : (before : List ℕ) (first : List Told)
+      → follows (no_character (Leaves first (InBogusComment before))) (bogus_comment_step rules.exact before first c)
+  unfolding here slice_at brought next_slice
+  follows-bogus_comment_from before first = (begins-bogus_comment before first, refl)
+
+  follows-behind_bogus_comment : (before : List ℕ) → follows (behind_bogus_comment before (c ∷ text)) (Tells (Comment before ∷ []) (Between Data))
+  unfolding behind_bogus_comment here slice_at brought rest_of
+  follows-behind_bogus_comment before = (refl, refl)
+
+  bogus_comment_step-run : (before : List ℕ) → bogus_comment_step rules.exact before [] c
+      ≡ (if in_bogus_comment c then Tells (null_error rules.exact state.BogusComment c) (InBogusComment (before ++ flat_map value_bytes (c ∷ []))) else Tells (Comment before ∷ []) (Between Data))
+  unfolding bogus_comment_step in_bogus_comment
+  bogus_comment_step-run before = rw (append-nil (value_bytes c)) (elim (c == greater_than) as (λ b.
+      (if b then Tells (Comment before ∷ []) (Between Data) else Tells (null_error rules.exact state.BogusComment c) (InBogusComment (before ++ value_bytes c)))
+      ≡ (if not b then Tells (null_error rules.exact state.BogusComment c) (InBogusComment (before ++ value_bytes c)) else Tells (Comment before ∷ []) (Between Data))) [
+    | true ↦ refl
+    | false ↦ refl
+  ])
+
+  follows-bogus_comment : (before : List ℕ) → follows (bogus_comment rules.exact before (c ∷ text)) (bogus_comment_step rules.exact before [] c)
+  unfolding bogus_comment rest_of
+  follows-bogus_comment before =
+      rw (bogus_comment_step-run before)
+      (follows-run in_bogus_comment (null_error rules.exact state.BogusComment) (λ run later. behind_bogus_comment (before ++ flat_map value_bytes run) later) (InBogusComment (before ++ flat_map value_bytes (c ∷ []))) _
+      (rw (bytes-cons value_bytes before c (run_of in_bogus_comment text)) refl)
+      (rw (append-nil before) (follows-behind_bogus_comment before))
+      (in_bogus_comment c) refl)
+
+  follows-comment : (before : List ℕ) → follows (comment rules.exact before (c ∷ text)) (comment_step rules.exact before c)
+  unfolding comment comment_step here slice_at brought rest_of
+  follows-comment before = follows-if ((c == greater_than) && ends_comment before) _ _ _ _ (refl, refl) (refl, refl)
+
   follows-behind_solidus : follows (behind_solidus rules.exact (c ∷ text)) (solidus_step rules.exact c)
   unfolding behind_solidus solidus_step here slice_at brought rest_of
   follows-behind_solidus =
-      follows-if (is_letter c) _ _ _ _ (follows-tag_name (begun EndTag)) (follows-if (c == greater_than) _ _ _ _ (refl, refl) (refl, refl))
+      follows-if (is_letter c) _ _ _ _ (follows-tag_name (begun EndTag)) (follows-if (c == greater_than) _ _ _ _ (refl, refl) (follows-bogus_comment_from [] (error_in rules.exact state.EndTagOpen c ∷ [])))
 
   follows-behind_less_than : follows (behind_less_than rules.exact (c ∷ text)) (less_than_step rules.exact c)
   unfolding behind_less_than less_than_step here slice_at brought rest_of next_slice
   follows-behind_less_than =
       follows-if (is_letter c) _ _ _ _ (follows-tag_name (begun StartTag))
       (follows-if (c == solidus) _ _ _ _ (refl, refl)
-      (follows-if ((c == exclamation_mark) || (c == question_mark)) _ _ _ _ (refl, refl)
-      (begins-data_text (error_in rules.exact state.TagOpen c ∷ Text (codes "<") ∷ []), refl)))
+      (follows-if (c == exclamation_mark) _ _ _ _ (refl, refl)
+      (follows-if (c == question_mark) _ _ _ _ (follows-bogus_comment_from [] (error_in rules.exact state.TagOpen c ∷ []))
+      (begins-data_text (error_in rules.exact state.TagOpen c ∷ Text (codes "<") ∷ []), refl))))
 
   -- raw text
 
@@ -401,6 +440,16 @@ module _ (rules : Rules) (c : ℕ) (text : List ℕ) where
   brings-reference stand held false h =
       ap (λ (s : Slice). brought rules s c text) (with_while-none (is_undecided rules.names) (behind_held rules stand) held c text h) ∙ rw h (brings-behind_held stand held)
 
+  -- behind `<!`
+
+  brings-declaration : (held : List ℕ) → brings (declaration rules.exact held (c ∷ text)) (declaration_step rules.exact held c)
+  unfolding declaration declaration_step here slice_at brought rest_of
+  brings-declaration held =
+      brings-if (bytes_eq (held ++ c ∷ []) (codes "--")) _ _ _ _ refl
+      (brings-if (bytes_eq (lower_case (held ++ c ∷ [])) (codes "doctype")) _ _ _ _ refl
+      (brings-if (begins_keyword (held ++ c ∷ [])) _ _ _ _ refl
+      (ap (λ h. record { settled = declaration_error rules.exact held; here = h }) (follows-bogus_comment (encode_utf8_all held)).0)))
+
   pub rest_of-brought_at : (opened : Open) → brings (rest_of rules opened (c ∷ text)) (brought_at rules opened c)
   unfolding rest_of brought_at step_at here slice_at brought next_slice
   rest_of-brought_at (Between mode) = brings-from (rest_of rules (Between mode) (c ∷ text)) _ (follows-between mode)
@@ -408,5 +457,8 @@ module _ (rules : Rules) (c : ℕ) (text : List ℕ) where
   rest_of-brought_at LessThanSolidus = brings-from (rest_of rules LessThanSolidus (c ∷ text)) _ follows-behind_solidus
   rest_of-brought_at (InTag place tag) = brings-from (rest_of rules (InTag place tag) (c ∷ text)) _ (follows-tag place tag)
   rest_of-brought_at (InRaw place name) = brings-from (rest_of rules (InRaw place name) (c ∷ text)) _ (follows-raw_place place name)
+  rest_of-brought_at (InDeclaration held) = brings-declaration held
+  rest_of-brought_at (InComment before) = brings-from (rest_of rules (InComment before) (c ∷ text)) _ (follows-comment before)
+  rest_of-brought_at (InBogusComment before) = brings-from (rest_of rules (InBogusComment before) (c ∷ text)) _ (follows-bogus_comment before)
   rest_of-brought_at (InReference stand held) = brings-reference stand held (is_undecided rules.names (held ++ c ∷ [])) refl
   rest_of-brought_at NotBuilt = refl

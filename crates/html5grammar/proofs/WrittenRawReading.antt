@@ -31,7 +31,7 @@ use Rattle.html5grammar.specs.RawText.{texts, lower, ends_name, kind_of, ends_ra
 use Rattle.html5grammar.specs.Reading.{reading, told, messages, after, last_behind}
 use Rattle.html5grammar.specs.Reading.Here.{Tells}
 use Rattle.html5grammar.specs.Slice.{silent}
-use Rattle.html5grammar.specs.Start.{Input, Raw, OpenTag, Open, Start, Rules, is_reference, begun}
+use Rattle.html5grammar.specs.Start.{Input, Raw, OpenTag, Open, Start, Rules, is_undecided_open, begun}
 use Rattle.html5grammar.specs.Start.Mode.{Data, RawText}
 use Rattle.html5grammar.specs.Start.Place.{InName}
 use Rattle.html5grammar.specs.Start.Open.{Between, InTag, InRaw, NotBuilt}
@@ -305,7 +305,7 @@ module _ {S H : Type 0} (step : S → Told → ℕ → S) (reply : S → Told �
       ∙ ap (λ b. with_messages (M ++ N) (trace step reply rules (stepped step s (M ++ N)) (line_after input b) last behind text)) (append_assoc before (here.character ∷ []) (characters more)))
 
   -- where two places do the same at the next character, they tell the same
-  trace-same : (s : S) (line : ℕ) (last : List ℕ) (a b : Open) (is_kind : ℕ → Bool) (text : List ℕ) → is_reference a ≡ false → is_reference b ≡ false
+  trace-same : (s : S) (line : ℕ) (last : List ℕ) (a b : Open) (is_kind : ℕ → Bool) (text : List ℕ) → is_undecided_open a ≡ false → is_undecided_open b ≡ false
       → next_is is_kind text ≡ true → ((c : ℕ) → is_kind c ≡ true → step_at rules.exact a c ≡ step_at rules.exact b c)
       → trace step reply rules s line last a text ≡ trace step reply rules s line last b text
   unfolding trace

@@ -1,11 +1,12 @@
 -- What the end of input tells, by what is open there.
-use Rattle.std.specs.Prelude.{Bool, List, [], ◌∷◌, ◌++◌, codes, None}
+use Rattle.std.specs.Prelude.{Bool, List, [], ◌∷◌, ◌++◌, codes, encode_utf8_all, None}
 use Rattle.html5ever_interface.specs.Token.{Told}
-use Rattle.html5ever_interface.specs.Token.Told.{Text, End}
+use Rattle.html5ever_interface.specs.Token.Told.{Text, Comment, End}
 use Rattle.html5ever_interface.specs.declared.states.State.{State}
 use Rattle.html5ever_interface.specs.declared.states.AttrValueKind.TheVariants.{Unquoted}
 use Rattle.html5ever_interface.specs.declared.states.State.TheVariants as state
 use Rattle.html5grammar.specs.Characters.{solidus, less_than}
+use Rattle.html5grammar.specs.Comment.{comment_state, comment_content, declaration_error}
 use Rattle.html5grammar.specs.ErrorText.{end_error_in}
 use Rattle.html5grammar.specs.Reference.{in_value, reference, late_tokens, opened_behind}
 use Rattle.html5grammar.specs.Slice.{Late, tokens_of_late}
@@ -16,7 +17,7 @@ use Rattle.html5grammar.specs.Start.Raw.{Escaped, DoubleEscaped}
 use Rattle.html5grammar.specs.Start.Mode.{RawText}
 use Rattle.html5grammar.specs.Start.RawPlace.{AfterLessThan, InEndName, AfterMark, AfterMarkAndDash, InSwitch}
 use Rattle.html5grammar.specs.Start.Place.{InName, BeforeAttribute, InAttributeName, AfterAttributeName, BeforeValue, InValue, AfterQuotedValue, AfterSolidus}
-use Rattle.html5grammar.specs.Start.Open.{Between, LessThan, LessThanSolidus, InTag, InRaw, InReference, NotBuilt}
+use Rattle.html5grammar.specs.Start.Open.{Between, LessThan, LessThanSolidus, InTag, InRaw, InDeclaration, InComment, InBogusComment, InReference, NotBuilt}
 
 -- the state that the error of a tag without its end names
 unfoldable pub state_at : Place → State
@@ -29,14 +30,16 @@ state_at (InValue kind) = state.AttributeValue kind
 state_at AfterQuotedValue = state.AfterAttributeValueQuoted
 state_at AfterSolidus = state.SelfClosingStartTag
 
--- what the end decides of a reference, which is told first
+-- what the end decides of a reference, or behind `<!`, which is told first
 unfoldable pub late_at_end_of : Rules → Open → List Late
 late_at_end_of rules (InReference stand held) = late_tokens stand (reference rules (in_value stand) held None) held
+late_at_end_of rules (InDeclaration held) = declaration_error rules.exact held
 late_at_end_of rules opened = []
 
 -- what is open then
 unfoldable pub open_at_end_of : Rules → Open → Open
 open_at_end_of rules (InReference stand held) = opened_behind stand (reference rules (in_value stand) held None) held
+open_at_end_of rules (InDeclaration held) = InBogusComment (encode_utf8_all held)
 open_at_end_of rules opened = opened
 
 -- what the end tells in raw text between items: in escaped script data it is an error
@@ -61,9 +64,12 @@ told_at_end_of exact LessThan = end_error_in exact state.TagOpen ∷ Text (codes
 told_at_end_of exact LessThanSolidus = end_error_in exact state.EndTagOpen ∷ Text (codes "<") ∷ Text (codes "/") ∷ End ∷ []
 told_at_end_of exact (InTag place tag) = end_error_in exact (state_at place) ∷ End ∷ []
 told_at_end_of exact (InRaw place name) = told_at_raw_end exact place ++ End ∷ []
+told_at_end_of exact (InDeclaration held) = []
+told_at_end_of exact (InComment text) = end_error_in exact (comment_state state.CommentEnd text) ∷ Comment (comment_content text) ∷ End ∷ []
+told_at_end_of exact (InBogusComment text) = Comment text ∷ End ∷ []
 told_at_end_of exact (InReference stand held) = []
 told_at_end_of exact NotBuilt = []
 
--- all that the end tells: what it decides of a reference, and then what it tells of what is open behind that
+-- all that the end tells: what it decides, and then what it tells of what is open behind that
 abbrev pub tokens_at_end : Rules → Open → List Told
 tokens_at_end rules opened = tokens_of_late (late_at_end_of rules opened) ++ told_at_end_of rules.exact (open_at_end_of rules opened)

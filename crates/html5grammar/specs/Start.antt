@@ -91,6 +91,11 @@ pub data Open : Type 0 where
   InTag : Place → OpenTag → Open
   -- in raw text, with the name whose end tag ends it
   InRaw : RawPlace → List ℕ → Open
+  -- behind `<!`, with the characters that may begin a keyword
+  InDeclaration : List ℕ → Open
+  -- in a comment, with its text in bytes, and in a bogus one
+  InComment : List ℕ → Open
+  InBogusComment : List ℕ → Open
   -- a reference that is not decided, with the characters behind its `&`
   InReference : Stand → List ℕ → Open
   -- the text met what is not built yet: nothing more is told
@@ -101,14 +106,16 @@ abbrev pub is_clean : Open → Bool
 is_clean (Between mode) = true
 is_clean other = false
 
--- a reference is not decided
-abbrev pub is_reference : Open → Bool
-is_reference (InReference stand held) = true
-is_reference other = false
+-- a reference is not decided, or what stands behind `<!`
+abbrev pub is_undecided_open : Open → Bool
+is_undecided_open (InReference stand held) = true
+is_undecided_open (InDeclaration held) = true
+is_undecided_open other = false
 
--- how many characters are held of a reference
+-- how many characters are held of a reference, or of a keyword
 abbrev pub held_len : Open → ℕ
 held_len (InReference stand held) = length held
+held_len (InDeclaration held) = length held
 held_len other = 0
 
 -- what a reading goes by: whether errors are exact, and the table of named references
