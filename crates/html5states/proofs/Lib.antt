@@ -1,3 +1,5 @@
+pub mod Keywords
+pub mod CommentEnds
 pub mod Tellings
 pub mod RunSteps
 pub mod LongestName

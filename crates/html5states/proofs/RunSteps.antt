@@ -1,6 +1,6 @@
 -- A run is read as its characters are, one by one.
 use Rattle.std.proofs.Common.{◌≡◌, ◌≢◌, ℕ, false, List, [], ◌∷◌, ◌++◌, refl, ap, sym, ◌∙◌, None, Some, lit<, length, get_or, ◌<◌, arith, subst}
-use Rattle.std.specs.Prelude.{All, Contains, flat_map, encode_utf8, encode_utf8_all, ◌==◌}
+use Rattle.std.specs.Prelude.{All, Contains, flat_map, encode_utf8, encode_utf8_all, codes, ◌==◌}
 use Rattle.std.proofs.lemmas.Bool.{ne_eqb}
 use Rattle.std.proofs.Math.Bool.{and-false}
 use Rattle.std.proofs.lemmas.List.Elements.{All-head, All-tail}
@@ -12,12 +12,15 @@ use Rattle.html5grammar.specs.Start.Dashes.{NoDash, OneDash, TwoDashes}
 use Rattle.html5grammar.specs.Start.Raw.{Rcdata, Rawtext, ScriptData, Escaped, DoubleEscaped}
 use Rattle.html5grammar.specs.Start.Mode.{Data, Plain, RawText}
 use Rattle.html5grammar.specs.Start.Place.{InName, BeforeAttribute, InAttributeName, AfterAttributeName, BeforeValue, InValue, AfterQuotedValue, AfterSolidus}
-use Rattle.html5grammar.specs.Start.Open.{Between, LessThan, LessThanSolidus, InTag, InRaw, InReference, NotBuilt}
+use Rattle.html5grammar.specs.Start.Open.{Between, LessThan, LessThanSolidus, InTag, InRaw, InDeclaration, InComment, InBogusComment, InReference, NotBuilt}
 use Rattle.html5grammar.specs.Tag.{in_tag_name, in_attribute_name, in_quoted, in_unquoted, unquoted_error, is_odd_in_name}
+use Rattle.std.proofs.lemmas.List.{append-nil}
+use Rattle.html5grammar.specs.Comment.{ends_in, comment_errors, mark_error}
+use Rattle.html5states.proofs.CommentEnds.{NoDashLast, comment_ends, ends_in_dash-none, ends_in_mark-none, value_bytes-last}
 use Rattle.html5grammar.specs.RawText.{raw_character, raw_behind, dashes_behind}
 use Rattle.html5grammar.specs.Text.{plain_text}
-use Rattle.html5grammar.proofs.Machine.{step_at, tag_step, data_step, raw_step, tag_name_step, attribute_name_step, quoted_step, unquoted_step}
-use Rattle.html5grammar.proofs.Slices.{with_name-nil, with_last_name-nil, with_value-nil, with_name-cons, with_last_name-cons, with_value-cons}
+use Rattle.html5grammar.proofs.Machine.{step_at, tag_step, data_step, raw_step, comment_step, bogus_comment_step, tag_name_step, attribute_name_step, quoted_step, unquoted_step}
+use Rattle.html5grammar.proofs.Slices.{with_name-nil, with_last_name-nil, with_value-nil, with_name-cons, with_last_name-cons, with_value-cons, bytes-cons}
 use Rattle.html5states.specs.Runs.{other_run_ends, run_ends, opened_after_run, run_tokens}
 
 none≢some : {X : Type 0} {x : X} → None ≡ Some x → ⊥
@@ -44,6 +47,9 @@ opened_after_run-nil (InTag (InValue kind) tag) = ap (InTag (InValue kind)) (wit
 opened_after_run-nil (InTag AfterQuotedValue tag) = refl
 opened_after_run-nil (InTag AfterSolidus tag) = refl
 opened_after_run-nil (InRaw place name) = refl
+opened_after_run-nil (InDeclaration held) = refl
+opened_after_run-nil (InComment text) = ap InComment (append-nil text)
+opened_after_run-nil (InBogusComment text) = ap InBogusComment (append-nil text)
 opened_after_run-nil (InReference stand held) = refl
 opened_after_run-nil NotBuilt = refl
 
@@ -61,25 +67,35 @@ opened_after_run-cons (InTag (InValue kind) tag) c run = ap (InTag (InValue kind
 opened_after_run-cons (InTag AfterQuotedValue tag) c run = refl
 opened_after_run-cons (InTag AfterSolidus tag) c run = refl
 opened_after_run-cons (InRaw place name) c run = refl
+opened_after_run-cons (InDeclaration held) c run = refl
+opened_after_run-cons (InComment text) c run = ap InComment (bytes-cons value_bytes text c run)
+opened_after_run-cons (InBogusComment text) c run = ap InBogusComment (bytes-cons value_bytes text c run)
 opened_after_run-cons (InReference stand held) c run = refl
 opened_after_run-cons NotBuilt c run = refl
 
 -- behind a character of a run the same characters end it
-pub other_run_ends-after : (opened : Open) (c : ℕ) → other_run_ends (opened_after_run opened (c ∷ [])) ≡ other_run_ends opened
-other_run_ends-after (Between mode) c = refl
-other_run_ends-after LessThan c = refl
-other_run_ends-after LessThanSolidus c = refl
-other_run_ends-after (InTag InName tag) c = refl
-other_run_ends-after (InTag BeforeAttribute tag) c = refl
-other_run_ends-after (InTag InAttributeName tag) c = refl
-other_run_ends-after (InTag AfterAttributeName tag) c = refl
-other_run_ends-after (InTag BeforeValue tag) c = refl
-other_run_ends-after (InTag (InValue kind) tag) c = refl
-other_run_ends-after (InTag AfterQuotedValue tag) c = refl
-other_run_ends-after (InTag AfterSolidus tag) c = refl
-other_run_ends-after (InRaw place name) c = refl
-other_run_ends-after (InReference stand held) c = refl
-other_run_ends-after NotBuilt c = refl
+pub other_run_ends-after : (opened : Open) (others : List ℕ) (c : ℕ) → other_run_ends opened ≡ Some others → ¬ Contains (run_ends others) c
+    → other_run_ends (opened_after_run opened (c ∷ [])) ≡ other_run_ends opened
+other_run_ends-after (Between mode) others c has out = refl
+other_run_ends-after LessThan others c has out = refl
+other_run_ends-after LessThanSolidus others c has out = refl
+other_run_ends-after (InTag InName tag) others c has out = refl
+other_run_ends-after (InTag BeforeAttribute tag) others c has out = refl
+other_run_ends-after (InTag InAttributeName tag) others c has out = refl
+other_run_ends-after (InTag AfterAttributeName tag) others c has out = refl
+other_run_ends-after (InTag BeforeValue tag) others c has out = refl
+other_run_ends-after (InTag (InValue kind) tag) others c has out = refl
+other_run_ends-after (InTag AfterQuotedValue tag) others c has out = refl
+other_run_ends-after (InTag AfterSolidus tag) others c has out = refl
+other_run_ends-after (InRaw place name) others c has out = refl
+other_run_ends-after (InDeclaration held) others c has out = refl
+other_run_ends-after (InComment text) others c has out =
+    let known_ends : (others ≡ hyphen ∷ greater_than ∷ []) × (ends_in text (codes "-") ≡ false) = comment_ends text others has in
+    let ordinary : ¬ Contains (run_ends (hyphen ∷ greater_than ∷ [])) c = subst (λ l. ¬ Contains (run_ends l) c) known_ends.0 out in
+    rw (known_ends.1, ends_in_dash-none text (flat_map value_bytes (c ∷ [])) (subst NoDashLast (sym (append-nil (value_bytes c))) (value_bytes-last c (λ e. ordinary (3, lit< tt, sym e))))) refl
+other_run_ends-after (InBogusComment text) others c has out = refl
+other_run_ends-after (InReference stand held) others c has out = refl
+other_run_ends-after NotBuilt others c has out = refl
 
 -- what the run tells is what its characters tell
 pub run_tokens-cons : (opened : Open) (c : ℕ) (run : List ℕ)
@@ -96,6 +112,9 @@ run_tokens-cons (InTag (InValue kind) tag) c run = refl
 run_tokens-cons (InTag AfterQuotedValue tag) c run = refl
 run_tokens-cons (InTag AfterSolidus tag) c run = refl
 run_tokens-cons (InRaw place name) c run = refl
+run_tokens-cons (InDeclaration held) c run = refl
+run_tokens-cons (InComment text) c run = refl
+run_tokens-cons (InBogusComment text) c run = refl
 run_tokens-cons (InReference stand held) c run = refl
 run_tokens-cons NotBuilt c run = refl
 
@@ -105,6 +124,9 @@ run_tokens-nil LessThan = refl
 run_tokens-nil LessThanSolidus = refl
 run_tokens-nil (InTag place tag) = refl
 run_tokens-nil (InRaw place name) = refl
+run_tokens-nil (InDeclaration held) = refl
+run_tokens-nil (InComment text) = refl
+run_tokens-nil (InBogusComment text) = refl
 run_tokens-nil (InReference stand held) = refl
 run_tokens-nil NotBuilt = refl
 
@@ -127,7 +149,7 @@ no_carriage_return others c other = λ same. other (2, omega arith, sym same)
 -- a character that ends no run tells itself alone, or is put to the open name or value
 pub step-run : (opened : Open) (others : List ℕ) (c : ℕ) → other_run_ends opened ≡ Some others → ¬ Contains (run_ends others) c
     → step_at false opened c ≡ Tells (run_tokens opened (c ∷ [])) (opened_after_run opened (c ∷ []))
-unfolding step_at tag_step data_step plain_text raw_step raw_character raw_behind dashes_behind tag_name_step attribute_name_step quoted_step unquoted_step in_tag_name in_attribute_name in_quoted in_unquoted unquoted_error is_odd_in_name is_white_space
+unfolding step_at tag_step data_step plain_text raw_step raw_character raw_behind dashes_behind comment_step comment_errors mark_error bogus_comment_step tag_name_step attribute_name_step quoted_step unquoted_step in_tag_name in_attribute_name in_quoted in_unquoted unquoted_error is_odd_in_name is_white_space
 step-run (Between Data) others c has other =
     let out : ¬ Contains (run_ends (less_than ∷ ampersand ∷ [])) c = known (less_than ∷ ampersand ∷ []) others c has other in
     rw (no (less_than ∷ ampersand ∷ []) c out 3 less_than (lit< tt) refl, no (less_than ∷ ampersand ∷ []) c out 4 ampersand (lit< tt) refl, no (less_than ∷ ampersand ∷ []) c out 0 null (lit< tt) refl) refl
@@ -174,5 +196,13 @@ step-run (InTag (InValue Unquoted) tag) others c has other =
 step-run (InTag AfterQuotedValue tag) others c has other = absurd (none≢some has)
 step-run (InTag AfterSolidus tag) others c has other = absurd (none≢some has)
 step-run (InRaw place name) others c has other = absurd (none≢some has)
+step-run (InDeclaration held) others c has other = absurd (none≢some has)
+step-run (InComment text) others c has other =
+    let ends : (others ≡ hyphen ∷ greater_than ∷ []) × (ends_in text (codes "-") ≡ false) = comment_ends text others has in
+    let out : ¬ Contains (run_ends (hyphen ∷ greater_than ∷ [])) c = subst (λ l. ¬ Contains (run_ends l) c) ends.0 other in
+    rw (no (hyphen ∷ greater_than ∷ []) c out 4 greater_than (lit< tt) refl, no (hyphen ∷ greater_than ∷ []) c out 0 null (lit< tt) refl, ends_in_mark-none text ends.1, append-nil (value_bytes c)) refl
+step-run (InBogusComment text) others c has other =
+    let out : ¬ Contains (run_ends (greater_than ∷ [])) c = known (greater_than ∷ []) others c has other in
+    rw (no (greater_than ∷ []) c out 3 greater_than (lit< tt) refl, no (greater_than ∷ []) c out 0 null (lit< tt) refl, append-nil (value_bytes c)) refl
 step-run (InReference stand held) others c has other = absurd (none≢some has)
 step-run NotBuilt others c has other = absurd (none≢some has)

@@ -9,7 +9,7 @@ use Rattle.html5grammar.specs.Start.Dashes.{OneDash, TwoDashes}
 use Rattle.html5grammar.specs.Start.Mode.{Data, Plain, RawText}
 use Rattle.html5grammar.specs.Start.RawPlace.{AfterLessThan, InEndName, AfterMark, AfterMarkAndDash, InSwitch}
 use Rattle.html5grammar.specs.Start.Place.{InName, BeforeAttribute, InAttributeName, AfterAttributeName, BeforeValue, InValue, AfterQuotedValue, AfterSolidus}
-use Rattle.html5grammar.specs.Start.Open.{Between, LessThan, LessThanSolidus, InTag, InRaw, NotBuilt}
+use Rattle.html5grammar.specs.Start.Open.{Between, LessThan, LessThanSolidus, InTag, InRaw, InDeclaration, InComment, InBogusComment, NotBuilt}
 use Rattle.html5states.specs.declared.current_tag.CurrentTag.{CurrentTag}
 use Rattle.html5states.specs.declared.opened.Opened.{Opened}
 use Rattle.markup5ever.specs.Names.{attribute_of}
@@ -24,38 +24,41 @@ open_tag tag = record {
   last_value = string_bytes tag.attr_value;
 }
 
--- what is open in a state, where a tag was begun, and where raw text holds letters and ends at the end tag of a name
-abbrev pub open_of : {Z : Type 0} → State → CurrentTag Z → List ℕ → List ℕ → Open
-open_of state.Data tag letters name = Between Data
-open_of state.Plaintext tag letters name = Between Plain
-open_of state.TagOpen tag letters name = LessThan
-open_of state.EndTagOpen tag letters name = LessThanSolidus
-open_of state.TagName tag letters name = InTag InName (open_tag tag)
-open_of state.BeforeAttributeName tag letters name = InTag BeforeAttribute (open_tag tag)
-open_of state.AttributeName tag letters name = InTag InAttributeName (open_tag tag)
-open_of state.AfterAttributeName tag letters name = InTag AfterAttributeName (open_tag tag)
-open_of state.BeforeAttributeValue tag letters name = InTag BeforeValue (open_tag tag)
-open_of (state.AttributeValue kind) tag letters name = InTag (InValue kind) (open_tag tag)
-open_of state.AfterAttributeValueQuoted tag letters name = InTag AfterQuotedValue (open_tag tag)
-open_of state.SelfClosingStartTag tag letters name = InTag AfterSolidus (open_tag tag)
-open_of (state.RawData kind) tag letters name = Between (RawText (raw_of kind) name)
-open_of (state.RawLessThanSign kind) tag letters name = InRaw (AfterLessThan kind) name
-open_of (state.RawEndTagOpen kind) tag letters name = InRaw (InEndName kind []) name
-open_of (state.RawEndTagName kind) tag letters name = InRaw (InEndName kind letters) name
-open_of (state.ScriptDataEscapeStart escape_kind.Escaped) tag letters name = InRaw AfterMark name
-open_of (state.ScriptDataEscapeStart escape_kind.DoubleEscaped) tag letters name = InRaw (InSwitch escape_kind.Escaped letters) name
-open_of state.ScriptDataEscapeStartDash tag letters name = InRaw AfterMarkAndDash name
-open_of (state.ScriptDataEscapedDash kind) tag letters name = Between (RawText (escaped kind OneDash) name)
-open_of (state.ScriptDataEscapedDashDash kind) tag letters name = Between (RawText (escaped kind TwoDashes) name)
-open_of state.ScriptDataDoubleEscapeEnd tag letters name = InRaw (InSwitch escape_kind.DoubleEscaped letters) name
-open_of other tag letters name = NotBuilt
+-- what is open in a state, where a tag was begun, or a comment, where letters are held, and where raw text ends at the end tag of a name
+abbrev pub open_of : {Z : Type 0} → State → CurrentTag Z → List ℕ → List ℕ → List ℕ → Open
+open_of state.Data tag comment letters name = Between Data
+open_of state.Plaintext tag comment letters name = Between Plain
+open_of state.TagOpen tag comment letters name = LessThan
+open_of state.EndTagOpen tag comment letters name = LessThanSolidus
+open_of state.TagName tag comment letters name = InTag InName (open_tag tag)
+open_of state.BeforeAttributeName tag comment letters name = InTag BeforeAttribute (open_tag tag)
+open_of state.AttributeName tag comment letters name = InTag InAttributeName (open_tag tag)
+open_of state.AfterAttributeName tag comment letters name = InTag AfterAttributeName (open_tag tag)
+open_of state.BeforeAttributeValue tag comment letters name = InTag BeforeValue (open_tag tag)
+open_of (state.AttributeValue kind) tag comment letters name = InTag (InValue kind) (open_tag tag)
+open_of state.AfterAttributeValueQuoted tag comment letters name = InTag AfterQuotedValue (open_tag tag)
+open_of state.SelfClosingStartTag tag comment letters name = InTag AfterSolidus (open_tag tag)
+open_of (state.RawData kind) tag comment letters name = Between (RawText (raw_of kind) name)
+open_of (state.RawLessThanSign kind) tag comment letters name = InRaw (AfterLessThan kind) name
+open_of (state.RawEndTagOpen kind) tag comment letters name = InRaw (InEndName kind []) name
+open_of (state.RawEndTagName kind) tag comment letters name = InRaw (InEndName kind letters) name
+open_of (state.ScriptDataEscapeStart escape_kind.Escaped) tag comment letters name = InRaw AfterMark name
+open_of (state.ScriptDataEscapeStart escape_kind.DoubleEscaped) tag comment letters name = InRaw (InSwitch escape_kind.Escaped letters) name
+open_of state.ScriptDataEscapeStartDash tag comment letters name = InRaw AfterMarkAndDash name
+open_of (state.ScriptDataEscapedDash kind) tag comment letters name = Between (RawText (escaped kind OneDash) name)
+open_of (state.ScriptDataEscapedDashDash kind) tag comment letters name = Between (RawText (escaped kind TwoDashes) name)
+open_of state.ScriptDataDoubleEscapeEnd tag comment letters name = InRaw (InSwitch escape_kind.DoubleEscaped letters) name
+open_of state.MarkupDeclarationOpen tag comment letters name = InDeclaration comment
+open_of state.Comment tag comment letters name = InComment comment
+open_of state.BogusComment tag comment letters name = InBogusComment comment
+open_of other tag comment letters name = NotBuilt
 
 -- the name of the last start tag
 abbrev pub last_name_of : {Z : Type 0} → Opened Z → List ℕ
 last_name_of at = string_bytes at.last_start_tag
 
 abbrev pub opened_of : {Z : Type 0} → Opened Z → Open
-opened_of at = open_of at.state at.tag (chars (string_bytes at.letters)) (last_name_of at)
+opened_of at = open_of at.state at.tag (string_bytes at.comment) (chars (string_bytes at.letters)) (last_name_of at)
 
 -- whether nothing is open in the state
 abbrev pub is_between : State → Bool
@@ -88,4 +91,7 @@ stops_at_bad state.ScriptDataEscapeStartDash = false
 stops_at_bad (state.ScriptDataEscapedDash kind) = false
 stops_at_bad (state.ScriptDataEscapedDashDash kind) = false
 stops_at_bad state.ScriptDataDoubleEscapeEnd = false
+stops_at_bad state.EndTagOpen = false
+stops_at_bad state.Comment = false
+stops_at_bad state.BogusComment = false
 stops_at_bad other = true

@@ -1,16 +1,17 @@
 -- Runs: characters that are read at once, since each of them tells itself alone or is put to the open name or value.
-use Rattle.std.specs.Prelude.{◌≡◌, ◌≢◌, ℕ, List, [], ◌∷◌, All, Contains, Option, None, Some, map, encode_utf8}
+use Rattle.std.specs.Prelude.{◌≡◌, ◌≢◌, ℕ, List, [], ◌∷◌, ◌++◌, All, Contains, Option, None, Some, codes, flat_map, map, encode_utf8, if◌then◌else◌}
 use Rattle.html5ever_interface.specs.Token.{Told}
 use Rattle.html5ever_interface.specs.Token.Told.{Text}
 use Rattle.html5ever_interface.specs.declared.states.AttrValueKind.{AttrValueKind}
 use Rattle.html5ever_interface.specs.declared.states.AttrValueKind.TheVariants.{Unquoted, SingleQuoted, DoubleQuoted}
-use Rattle.html5grammar.specs.Characters.{null, tab, line_feed, form_feed, carriage_return, space, quotation_mark, ampersand, apostrophe, hyphen, solidus, less_than, equals_sign, greater_than}
+use Rattle.html5grammar.specs.Characters.{null, tab, line_feed, form_feed, carriage_return, space, quotation_mark, ampersand, apostrophe, hyphen, solidus, less_than, equals_sign, greater_than, value_bytes}
 use Rattle.html5grammar.specs.Start.{Open}
 use Rattle.html5grammar.specs.Start.Dashes.{NoDash}
 use Rattle.html5grammar.specs.Start.Raw.{Rcdata, Rawtext, ScriptData, Escaped, DoubleEscaped}
 use Rattle.html5grammar.specs.Start.Mode.{Data, Plain, RawText}
-use Rattle.html5grammar.specs.Start.Open.{Between, InTag}
+use Rattle.html5grammar.specs.Start.Open.{Between, InTag, InComment, InBogusComment}
 use Rattle.html5grammar.specs.Start.Place.{InName, InAttributeName, InValue}
+use Rattle.html5grammar.specs.Comment.{ends_in}
 use Rattle.html5grammar.specs.Reference.{with_value}
 use Rattle.html5grammar.specs.Tag.{with_name, with_last_name}
 
@@ -33,6 +34,8 @@ other_run_ends (InTag InName tag) = Some (tab ∷ form_feed ∷ space ∷ solidu
 other_run_ends (InTag InAttributeName tag) =
     Some (tab ∷ form_feed ∷ space ∷ solidus ∷ greater_than ∷ equals_sign ∷ quotation_mark ∷ apostrophe ∷ less_than ∷ [])
 other_run_ends (InTag (InValue kind) tag) = Some (other_value_ends kind)
+other_run_ends (InComment text) = if ends_in text (codes "-") then None else Some (hyphen ∷ greater_than ∷ [])
+other_run_ends (InBogusComment text) = Some (greater_than ∷ [])
 other_run_ends other = None
 
 -- the characters that end a run
@@ -51,6 +54,8 @@ abbrev pub opened_after_run : Open → List ℕ → Open
 opened_after_run (InTag InName tag) run = InTag InName (with_name tag run)
 opened_after_run (InTag InAttributeName tag) run = InTag InAttributeName (with_last_name tag run)
 opened_after_run (InTag (InValue kind) tag) run = InTag (InValue kind) (with_value tag run)
+opened_after_run (InComment text) run = InComment (text ++ flat_map value_bytes run)
+opened_after_run (InBogusComment text) run = InBogusComment (text ++ flat_map value_bytes run)
 opened_after_run other run = other
 
 -- what a run tells: between tags each character is a text

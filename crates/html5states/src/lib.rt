@@ -3,7 +3,10 @@
 
 pub mod char_ref;
 pub mod characters;
+mod comment_states;
+pub mod comments;
 pub mod current_tag;
+pub mod declaration;
 mod emit_tag;
 mod end_of_input;
 pub mod error;

@@ -10,6 +10,8 @@ use std::alloc::{Allocator, Global};
 pub struct Opened<A: Allocator = Global> {
     pub state: State,
     pub tag: CurrentTag<A>,
+    /// The comment that was begun, up to here, or what is held behind `<!`.
+    pub comment: String<A>,
     /// In raw text the letters behind `</`, or behind the `<` of escaped script data.
     pub letters: String<A>,
     /// The name whose end tag ends raw text, that of the last start tag. The empty name is none.

@@ -11,6 +11,7 @@ ghost use Rattle.html5states.specs.CurrentTag.{opened_of, last_name_of};
 ghost use Rattle.html5states.specs.Runs.{IsRunAt, other_value_ends, other_run_ends, run_ends, opened_after_run};
 ghost use Rattle.markup5ever.specs.SmallCharSet.{IsMember};
 
+use crate::comments::ends_in;
 use crate::current_tag::push_name;
 use crate::opened::Opened;
 use html5ever_interface::states::{AttrValueKind, RawKind, State};
@@ -56,6 +57,8 @@ pub fn run_ends<A: Allocator>(at: &Opened<A>) -> Option<SmallCharSet>
         State::AttributeName => Some(SmallCharSet::of(b"\0\n\r\t\x0C />=\"'<")),
         State::AttributeValue(kind) => Some(value_ends(kind)),
         State::RawData(kind) => Some(raw_ends(kind)),
+        State::Comment if !ends_in(&at.comment, b"-") => Some(SmallCharSet::of(b"\0\n\r->")),
+        State::BogusComment => Some(SmallCharSet::of(b"\0\n\r>")),
         _ => None,
     }
 }
@@ -84,6 +87,8 @@ pub fn push_run<A: Allocator>(at: &mut Opened<A>, run: &str) -> Result<(), Alloc
         State::TagName => push_names(&mut at.tag.name, run)?,
         State::AttributeName => push_names(&mut at.tag.attr_name, run)?,
         State::AttributeValue(_) => at.tag.attr_value.push_str(run)?,
+        State::Comment => at.comment.push_str(run)?,
+        State::BogusComment => at.comment.push_str(run)?,
         _ => unreachable!(),
     }
     Ok(())

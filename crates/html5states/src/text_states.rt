@@ -119,7 +119,12 @@ impl<S: TokenSink<Token<A>>, A: Allocator + Copy> Teller<'_, S, A> {
                 at.state = State::EndTagOpen;
                 Ok(Progress::Continues)
             }
-            '!' | '?' => Err(TokenizerError::NotYet),
+            '!' => {
+                at.state = State::MarkupDeclarationOpen;
+                at.comment.clear();
+                Ok(Progress::Continues)
+            }
+            '?' => self.create_bogus_comment(at, c, State::TagOpen),
             _ => self.read_in_data(at, c),
         }
     }
@@ -134,7 +139,7 @@ impl<S: TokenSink<Token<A>>, A: Allocator + Copy> Teller<'_, S, A> {
             return self.create_tag(at, TagKind::EndTag, c);
         }
         if c != '>' {
-            return Err(TokenizerError::NotYet);
+            return self.create_bogus_comment(at, c, State::EndTagOpen);
         }
         at.state = State::Data;
         self.emit_unexpected(c, State::EndTagOpen)?;

@@ -4,7 +4,7 @@ use Rattle.std.specs.Str.{chars}
 use Rattle.std.proofs.lemmas.List.Elements.{All-weaker}
 use Rattle.std.proofs.lemmas.Str.{encodes-chars}
 use Rattle.html5grammar.specs.Characters.{null, value_bytes}
-use Rattle.html5grammar.specs.Start.Open.{InTag}
+use Rattle.html5grammar.specs.Start.Open.{InTag, InComment, InBogusComment}
 use Rattle.html5grammar.specs.Start.Place.{InValue}
 use Rattle.html5states.specs.CurrentTag.{open_tag}
 use Rattle.html5states.specs.Runs.{run_ends}
@@ -23,3 +23,17 @@ returns-in_ok-push_str-in-AttributeValue g c =
           (c.in_ok-push_str-in-AttributeValue.ensures.bytes ∙ ap (λ l. string_bytes c.args.at.now.tag.attr_value ++ l) (sym value)));
       last = refl;
     }
+
+pub returns-in_ok-push_str-in-Comment-clause-run : goal.returns-in_ok-push_str-in-Comment-clause-run
+returns-in_ok-push_str-in-Comment-clause-run g c =
+    let run = chars c.args.run.now in
+    let value : flat_map value_bytes run ≡ c.args.run.now =
+    value_bytes-run run (All-weaker (λ d. ¬ Contains (run_ends c.requires.is_run.others) d) (λ d. d ≢ null) (no_null c.requires.is_run.others) run c.requires.is_run.ordinary) ∙ encodes-chars c.args.run.now c.utf8.run in
+    rw c.in-Comment.is (ap InComment (c.in_ok-push_str-in-Comment.ensures.bytes ∙ ap (λ l. string_bytes c.args.at.now.comment ++ l) (sym value)))
+
+pub returns-in_ok-push_str-in-BogusComment-clause-run : goal.returns-in_ok-push_str-in-BogusComment-clause-run
+returns-in_ok-push_str-in-BogusComment-clause-run g c =
+    let run = chars c.args.run.now in
+    let value : flat_map value_bytes run ≡ c.args.run.now =
+    value_bytes-run run (All-weaker (λ d. ¬ Contains (run_ends c.requires.is_run.others) d) (λ d. d ≢ null) (no_null c.requires.is_run.others) run c.requires.is_run.ordinary) ∙ encodes-chars c.args.run.now c.utf8.run in
+    rw c.in-BogusComment.is (ap InBogusComment (c.in_ok-push_str-in-BogusComment.ensures.bytes ∙ ap (λ l. string_bytes c.args.at.now.comment ++ l) (sym value)))
