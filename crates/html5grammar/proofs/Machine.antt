@@ -1,5 +1,5 @@
 -- The machine between the slices and the code: what one character tells where something is open, and what is open then.
-use Rattle.std.specs.Prelude.{ℕ, Bool, false, List, [], ◌∷◌, ◌++◌, ◌==◌, ◌&&◌, codes, encode_utf8, encode_utf8_all, Some, if◌then◌else◌}
+use Rattle.std.specs.Prelude.{ℕ, Bool, false, List, [], ◌∷◌, ◌++◌, ◌==◌, ◌&&◌, codes, encode_utf8, Some, if◌then◌else◌}
 use Rattle.std.specs.Str.{bytes_eq}
 use Rattle.html5ever_interface.specs.Sink.{Message, stepped, on_line}
 use Rattle.html5ever_interface.specs.Token.{Told, Reply}
@@ -218,7 +218,7 @@ declaration_step exact held c =
     if bytes_eq (held ++ c ∷ []) (codes "--") then record { settled = []; here = Tells [] (InComment []) }
     else if bytes_eq (lower_case (held ++ c ∷ [])) (codes "doctype") then record { settled = []; here = Stops [] }
     else if begins_keyword (held ++ c ∷ []) then record { settled = []; here = Tells [] (InDeclaration (held ++ c ∷ [])) }
-    else record { settled = declaration_error exact held; here = bogus_comment_step exact (encode_utf8_all held) [] c }
+    else record { settled = declaration_error exact held; here = bogus_comment_step exact held [] c }
 
 -- what a character brings: where nothing is undecided it decides nothing that stands before it
 unfoldable pub brought_at : Rules → Open → ℕ → Brought Open

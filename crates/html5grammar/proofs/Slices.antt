@@ -1,6 +1,6 @@
 -- The slices do at each character what the machine does.
 use Rattle.std.proofs.Common.{◌≡◌, ℕ, Bool, true, false, List, [], ◌∷◌, ◌++◌, refl, ap, sym, subst, ◌∙◌}
-use Rattle.std.specs.Prelude.{◌==◌, ◌&&◌, not, encode_utf8_all, flat_map, drop, codes, Some, if◌then◌else◌}
+use Rattle.std.specs.Prelude.{◌==◌, ◌&&◌, not, flat_map, drop, codes, Some, if◌then◌else◌}
 use Rattle.std.proofs.lemmas.List.{append_assoc, append-nil}
 use Rattle.html5ever_interface.specs.Token.{Told}
 use Rattle.html5ever_interface.specs.Token.Told.{Text, Comment}
@@ -86,7 +86,7 @@ with_last_name-nil tag = rw (append-nil tag.last_name) refl
 pub with_value-nil : (tag : OpenTag) → with_value tag [] ≡ tag
 with_value-nil tag = rw (append-nil tag.last_value) refl
 
-bytes-cons : (bytes : ℕ → List ℕ) (front : List ℕ) (c : ℕ) (run : List ℕ)
+pub bytes-cons : (bytes : ℕ → List ℕ) (front : List ℕ) (c : ℕ) (run : List ℕ)
     → front ++ flat_map bytes (c ∷ run) ≡ (front ++ flat_map bytes (c ∷ [])) ++ flat_map bytes run
 bytes-cons bytes front c run = rw (append-nil (bytes c)) (sym (append_assoc front (bytes c) (flat_map bytes run)))
 
@@ -448,7 +448,7 @@ module _ (rules : Rules) (c : ℕ) (text : List ℕ) where
       brings-if (bytes_eq (held ++ c ∷ []) (codes "--")) _ _ _ _ refl
       (brings-if (bytes_eq (lower_case (held ++ c ∷ [])) (codes "doctype")) _ _ _ _ refl
       (brings-if (begins_keyword (held ++ c ∷ [])) _ _ _ _ refl
-      (ap (λ h. record { settled = declaration_error rules.exact held; here = h }) (follows-bogus_comment (encode_utf8_all held)).0)))
+      (ap (λ h. record { settled = declaration_error rules.exact held; here = h }) (follows-bogus_comment held).0)))
 
   pub rest_of-brought_at : (opened : Open) → brings (rest_of rules opened (c ∷ text)) (brought_at rules opened c)
   unfolding rest_of brought_at step_at here slice_at brought next_slice

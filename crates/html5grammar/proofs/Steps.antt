@@ -12,7 +12,7 @@ use Rattle.html5grammar.specs.Start.{Raw, OpenTag, Open}
 use Rattle.html5grammar.specs.Start.Place.{BeforeAttribute, AfterQuotedValue, AfterSolidus}
 use Rattle.html5grammar.specs.RawText.{is_rcdata}
 use Rattle.html5grammar.specs.Tag.{place_error, first_error}
-use Rattle.html5grammar.proofs.Machine.{told_first, part_step, data_step, raw_step}
+use Rattle.html5grammar.proofs.Machine.{told_first, part_step, data_step, raw_step, bogus_comment_step}
 
 told_first-if : (before : List Told) (test : Bool) (p q p2 q2 : Here Open) → p2 ≡ told_first before p → q2 ≡ told_first before q
     → (if test then p2 else q2) ≡ told_first before (if test then p else q)
@@ -33,6 +33,11 @@ pub raw_step-before : (exact : Bool) (raw : Raw) (name : List ℕ) (before : Lis
 unfolding raw_step
 raw_step-before exact raw name before c =
     told_first-if before (c == less_than) _ _ _ _ refl (told_first-if before (is_rcdata raw && (c == ampersand)) _ _ _ _ (Tells-nil before _) refl)
+
+pub bogus_comment_step-before : (exact : Bool) (before : List ℕ) (first : List Told) (c : ℕ)
+    → bogus_comment_step exact before first c ≡ told_first first (bogus_comment_step exact before [] c)
+unfolding bogus_comment_step
+bogus_comment_step-before exact before first c = told_first-if first (c == greater_than) _ _ _ _ refl refl
 
 -- behind `/` or a quoted value another part is read as before an attribute, behind the error of the place
 pub part-after_solidus : (exact : Bool) (tag : OpenTag) (c : ℕ) → (c == greater_than) ≡ false

@@ -1,5 +1,5 @@
 -- Comments, and what stands behind `<!`. What a character of a comment tells is said by the text of the comment before it.
-use Rattle.std.specs.Prelude.{ℕ, ◌+◌, ◌-◌, Bool, true, false, List, [], ◌∷◌, ◌++◌, ◌==◌, ◌||◌, ◌&&◌, codes, encode_utf8_all, flat_map, length, map, nat_eq, not, take, if◌then◌else◌}
+use Rattle.std.specs.Prelude.{ℕ, ◌+◌, ◌-◌, Bool, true, false, List, [], ◌∷◌, ◌++◌, ◌==◌, ◌||◌, ◌&&◌, codes, flat_map, length, map, nat_eq, not, take, if◌then◌else◌}
 use Rattle.std.specs.Char.{to_ascii_lowercase}
 use Rattle.std.specs.List.{ends_with, starts_with}
 use Rattle.std.specs.Str.{bytes_eq}
@@ -111,7 +111,7 @@ bogus_comment_from exact before first c text =
 abbrev pub lower_case : List ℕ → List ℕ
 lower_case held = map to_ascii_lowercase held
 
--- the keywords, one in any case
+-- the keywords, one in any case. What is held of them is ASCII, so its characters are its bytes.
 unfoldable pub begins_keyword : List ℕ → Bool
 begins_keyword held = starts_with nat_eq (codes "--") held || starts_with nat_eq (codes "doctype") (lower_case held)
 
@@ -127,4 +127,4 @@ declaration exact held (c ∷ text) =
     if bytes_eq (held ++ c ∷ []) (codes "--") then with_character [] (comment exact [] text)
     else if bytes_eq (lower_case (held ++ c ∷ [])) (codes "doctype") then no_character (StopsAt [])
     else if begins_keyword (held ++ c ∷ []) then with_character [] (declaration exact (held ++ c ∷ []) text)
-    else no_character (Settles (declaration_error exact held) (InBogusComment (encode_utf8_all held)))
+    else no_character (Settles (declaration_error exact held) (InBogusComment held))

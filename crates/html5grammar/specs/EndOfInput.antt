@@ -1,5 +1,5 @@
 -- What the end of input tells, by what is open there.
-use Rattle.std.specs.Prelude.{Bool, List, [], ◌∷◌, ◌++◌, codes, encode_utf8_all, None}
+use Rattle.std.specs.Prelude.{Bool, List, [], ◌∷◌, ◌++◌, codes, None}
 use Rattle.html5ever_interface.specs.Token.{Told}
 use Rattle.html5ever_interface.specs.Token.Told.{Text, Comment, End}
 use Rattle.html5ever_interface.specs.declared.states.State.{State}
@@ -39,7 +39,7 @@ late_at_end_of rules opened = []
 -- what is open then
 unfoldable pub open_at_end_of : Rules → Open → Open
 open_at_end_of rules (InReference stand held) = opened_behind stand (reference rules (in_value stand) held None) held
-open_at_end_of rules (InDeclaration held) = InBogusComment (encode_utf8_all held)
+open_at_end_of rules (InDeclaration held) = InBogusComment held
 open_at_end_of rules opened = opened
 
 -- what the end tells in raw text between items: in escaped script data it is an error
