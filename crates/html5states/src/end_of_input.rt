@@ -1,5 +1,5 @@
 //! The end of input, in the state that is open.
-#![tactic(auto, unfolding(html5grammar::specs::EndOfInput::told_at_end_of, html5grammar::specs::EndOfInput::told_at_raw_end, html5grammar::specs::EndOfInput::raw_end_error, html5grammar::specs::RawText::raw_state, html5grammar::specs::RawText::escaped_state, html5grammar::specs::EndOfInput::state_at))]
+#![tactic(auto, using(crate::proofs::Tellings::tells_from_memory), unfolding(html5grammar::specs::EndOfInput::told_at_end_of, html5grammar::specs::EndOfInput::told_at_raw_end, html5grammar::specs::EndOfInput::raw_end_error, html5grammar::specs::RawText::raw_state, html5grammar::specs::RawText::escaped_state, html5grammar::specs::EndOfInput::state_at))]
 
 ghost use Rattle.std.specs.Prelude.{◌≡◌, ◌∷◌, [], ◌++◌, false, codes, encode_utf8};
 ghost use Rattle.std.specs.Str.{chars};

@@ -10,5 +10,5 @@ returns-in_err-emit_unexpected g c =
 
 pub returns : goal.returns
 returns g c =
-    reads_then c.in_ok-emit_unexpected.ensures (rw c.clear.ensures.bytes at c.bogus_comment_state.ensures)
-    (rw c.in_ok-emit_unexpected.ensures.kept.exact_errors (bogus_comment_step-before _ _ _ _)) refl
+    reads_then c.in_ok-emit_unexpected.ensures c.bogus_comment_state.ensures
+    (rw (c.in_ok-emit_unexpected.ensures.kept.exact_errors, c.clear.ensures.bytes) (bogus_comment_step-before _ _ _ _)) refl

@@ -12,4 +12,5 @@ pub returns : goal.returns
 unfolding comment_errors mark_error
 returns g c =
     emits_then (rw c.is_behind_mark-mark.ensures at c.in_ok-emit_unexpected_where.ensures)
-    (rw (c.state_in_comment-state.ensures, c.in_ok-emit_unexpected_where.ensures.kept.exact_errors) at c.emit_unexpected_where-2.ensures) refl
+    (rw c.state_in_comment-state.ensures at c.emit_unexpected_where-2.ensures)
+    (rw c.in_ok-emit_unexpected_where.ensures.kept.exact_errors refl)
