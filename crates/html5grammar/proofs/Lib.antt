@@ -18,7 +18,12 @@ pub mod OneReferenceCollected
 mod OneTagCases
 mod OneReferenceCases
 mod ReferenceCases
+pub mod Leading
 pub mod WrittenRawSteps
 pub mod WrittenRawReading
+pub mod OneCommentText
+pub mod OneCommentSteps
+pub mod OneCommentHeld
+pub mod OneCommentReading
 mod WrittenRawCases
 mod CommentCases

@@ -14,3 +14,4 @@ pub mod Reading
 pub mod OneTag
 pub mod OneReference
 pub mod WrittenRaw
+pub mod OneComment
