@@ -27,3 +27,4 @@ pub mod OneCommentHeld
 pub mod OneCommentReading
 mod WrittenRawCases
 mod CommentCases
+mod OneCommentCases

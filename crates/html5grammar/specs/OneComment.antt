@@ -73,7 +73,8 @@ unfoldable pub occurs : List ℕ → List ℕ → Bool
 occurs word [] = false
 occurs word (c ∷ text) = begins_with word (c ∷ text) || occurs word text
 
--- a comment ends at the first end: none stands in its content, and `>` and `->` at its start would end it too
+-- a comment ends at the first end, and an earlier one would lie in its content, since each has `>` last: so `-->` and `--!>`
+-- stand nowhere there, and `>` and `->` not at its start
 unfoldable pub is_content : List ℕ → Bool
 is_content content =
     not (begins_with (codes ">") content)
@@ -112,7 +113,7 @@ behind_one_dash before = ends_in before (codes "-") && not (ends_in before (code
 unfoldable pub is_mark_behind : List ℕ → Bool
 is_mark_behind before = not (is_empty before || behind_one_dash before || ends_in before (codes "--!"))
 
--- a mark is an error at the character behind it, but for `>`
+-- a mark is an error at the character behind it, unless that is `>`
 unfoldable pub behind_mark_error : Bool → List ℕ → ℕ → List Told
 behind_mark_error exact before c =
     where_true (ends_in before (codes "<!--") && (is_mark_behind (without_last 4 before) && not (c == greater_than)))
@@ -154,15 +155,15 @@ spell_odd exact expecting [] = []
 spell_odd exact expecting (c ∷ content) =
     record { character = c; told = error_in exact expecting c ∷ null_error exact state.BogusComment c } ∷ spell_bogus exact content
 
--- the longest beginning of a content that begins a keyword, and what follows it
+-- the longest beginning of a content that is a beginning of a keyword, and what follows it
 abbrev pub held_of : List ℕ → List ℕ
 held_of content = run_while begins_keyword [] content
 
 abbrev pub behind_held_of : List ℕ → List ℕ
 behind_held_of content = behind_while begins_keyword [] content
 
--- the messages of a comment: where `<!` begins no keyword, that is an error at its `!`, told when the first character shows it by
--- which no keyword begins
+-- the messages of a comment. Where no keyword stands behind `<!`, that is an error on the line of its `!`, which is told when the
+-- first character behind what could begin one shows it, before what that character tells.
 unfoldable pub messages_of : Bool → Input → WrittenComment → List Message
 messages_of exact input (Proper content ending) =
     spelled_messages exact input []
