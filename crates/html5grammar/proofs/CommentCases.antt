@@ -35,7 +35,6 @@ event token stands decided_by line = record { message = record { token = token; 
 abbrev tag : TagKind → List ℕ → List AttributeOf → Bool → Bool → Told
 tag kind name attributes self_closing duplicates = Tag (record { kind = kind; name = name; self_closing = self_closing; attributes = attributes; had_duplicate_attributes = duplicates })
 
-
 content_has_greater_than : events false (codes "<!--a>b-->") ≡ event (Comment (codes "a>b")) (Character 9) (Character 9) 1 ∷ event End EndOfInput EndOfInput 1 ∷ []
 unfolding reading encode stepped is_bad_character is_letter is_white_space name_bytes shown value_bytes rest_of next_slice slice_at state_at told_at_end_of bad_character saw saw_end normalised with_line_feeds without_dropped_first read read_from here brought last_behind events_at late_events late_at_end_of open_at_end_of end_events line_after behind_run run_of attribute_behind_first behind_attribute_name behind_name_and_space behind_quoted behind_tag_name behind_unquoted closing duplicate_error end_tag_errors first_error has_attribute in_attribute_name in_quoted in_tag_name in_unquoted is_odd_at_name is_odd_in_name is_odd_in_unquoted part place_error quoted_value repeats_attribute tag_name unquoted_error unquoted_value value value_behind_space value_or_next with_last_attribute behind_solidus behind_less_than data_text plain_text declaration begins_keyword comment comment_state may_begin_mark ends_in_mark mark_error comment_errors ends_comment comment_end_error comment_content in_bogus_comment behind_bogus_comment bogus_comment bogus_comment_from
 content_has_greater_than = refl

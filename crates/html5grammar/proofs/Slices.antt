@@ -271,9 +271,9 @@ module _ (rules : Rules) (c : ℕ) (text : List ℕ) where
   bogus_comment_step-run before = rw (append-nil (value_bytes c)) (elim (c == greater_than) as (λ b.
       (if b then Tells (Comment before ∷ []) (Between Data) else Tells (null_error rules.exact state.BogusComment c) (InBogusComment (before ++ value_bytes c)))
       ≡ (if not b then Tells (null_error rules.exact state.BogusComment c) (InBogusComment (before ++ value_bytes c)) else Tells (Comment before ∷ []) (Between Data))) [
-    | true ↦ refl
-    | false ↦ refl
-  ])
+        | true ↦ refl
+        | false ↦ refl
+      ])
 
   follows-bogus_comment : (before : List ℕ) → follows (bogus_comment rules.exact before (c ∷ text)) (bogus_comment_step rules.exact before [] c)
   unfolding bogus_comment rest_of

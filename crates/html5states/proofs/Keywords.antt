@@ -54,5 +54,10 @@ no_keyword exact held c high =
     let dashes : All (λ x. x < 128) (codes "--") = search rules in
     let doctype : All (λ x. x < 128) (codes "doctype") = search rules in
     let lower : lower_case (held ++ c ∷ []) ≡ lower_case held ++ c ∷ [] = map-append to_ascii_lowercase held (c ∷ []) ∙ ap (λ d. lower_case held ++ d ∷ []) (lower-high c high) in
-    rw (lower, same-no_ascii (codes "--") dashes held c high, same-no_ascii (codes "doctype") doctype (lower_case held) c high,
-    starts-no_ascii (codes "--") dashes held c high, starts-no_ascii (codes "doctype") doctype (lower_case held) c high) refl
+    rw (
+      lower,
+      same-no_ascii (codes "--") dashes held c high,
+      same-no_ascii (codes "doctype") doctype (lower_case held) c high,
+      starts-no_ascii (codes "--") dashes held c high,
+      starts-no_ascii (codes "doctype") doctype (lower_case held) c high,
+    ) refl

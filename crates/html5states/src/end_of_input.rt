@@ -25,8 +25,9 @@ use html5ever_interface::states::{RawKind, ScriptEscapeKind, State};
 use std::alloc::Allocator;
 
 // The state that the error of the end names behind letters that may switch.
-const DOUBLE_ESCAPED: State =
-    State::RawData(RawKind::ScriptDataEscaped(ScriptEscapeKind::DoubleEscaped));
+const DOUBLE_ESCAPED: State = State::RawData(RawKind::ScriptDataEscaped(
+    ScriptEscapeKind::DoubleEscaped,
+));
 
 impl<S: TokenSink<Token<A>>, A: Allocator + Copy> Teller<'_, S, A> {
     // Ends in a state that doesn't expect it.

@@ -150,7 +150,8 @@ impl<S: TokenSink<Token<A>>, A: Allocator + Copy> Teller<'_, S, A> {
         }
         match kind {
             RawKind::ScriptData if c == '!' => self.open_mark(at),
-            RawKind::ScriptDataEscaped(ScriptEscapeKind::Escaped) if is_letter(c) => self.open_switch(at, c),
+            RawKind::ScriptDataEscaped(ScriptEscapeKind::Escaped) if is_letter(c) =>
+                self.open_switch(at, c),
             _ => self.read_behind_less_than(at, kind, c),
         }
     }
@@ -363,7 +364,9 @@ impl<S: TokenSink<Token<A>>, A: Allocator + Copy> Teller<'_, S, A> {
             (Tells (texts (c ∷ [])) (InRaw (InSwitch kind (chars (string_bytes at.old.letters) ++ c ∷ [])) (last_name_of at.old))) at.old at.new }
     {
         at.state = match kind {
-            ScriptEscapeKind::Escaped => State::ScriptDataEscapeStart(ScriptEscapeKind::DoubleEscaped),
+            ScriptEscapeKind::Escaped => State::ScriptDataEscapeStart(
+                ScriptEscapeKind::DoubleEscaped,
+            ),
             ScriptEscapeKind::DoubleEscaped => State::ScriptDataDoubleEscapeEnd,
         };
         push_letter(&mut at.letters, c)?;

@@ -42,7 +42,9 @@ impl<S: TokenSink<Token<A>>, A: Allocator + Copy> Teller<'_, S, A> {
             State::ScriptDataEscapeStart(kind) => self.script_data_escape_start_state(at, kind, c),
             State::ScriptDataEscapeStartDash => self.script_data_escape_start_dash_state(at, c),
             State::ScriptDataEscapedDash(kind) => self.script_data_escaped_dash_state(at, kind, c),
-            State::ScriptDataEscapedDashDash(kind) => self.script_data_escaped_dash_dash_state(at, kind, c),
+            State::ScriptDataEscapedDashDash(kind) => self.script_data_escaped_dash_dash_state(
+                at, kind, c,
+            ),
             State::ScriptDataDoubleEscapeEnd => self.script_data_double_escape_end_state(at, c),
             State::Comment => self.comment_state(at, c),
             State::BogusComment => self.bogus_comment_state(at, c),
