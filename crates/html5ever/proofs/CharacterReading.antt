@@ -41,30 +41,30 @@ use Rattle.html5ever_interface.specs.Token.Reply.{KeepOn}
 use Rattle.std.specs.Result.{IsErrAnd}
 use Rattle.std.proofs.lemmas.Result.{err_from_is_err_and}
 
-pub goes_at_bad : {Z : Type 0} → (exact : Bool) (s : State) (tag : CurrentTag Z) (letters name : List ℕ) (c : ℕ) → is_bad_character c ≡ true → stops_at_bad s ≡ false
-    → Goes (step_at exact (open_of s tag letters name) c)
-goes_at_bad exact state.Data tag letters name c bad goes = bad_goes_data exact c bad
-goes_at_bad exact state.Plaintext tag letters name c bad goes = bad_goes_plain exact c bad
-goes_at_bad exact state.TagOpen tag letters name c bad goes = bad_goes_less_than exact c bad
-goes_at_bad exact state.TagName tag letters name c bad goes = bad_goes_tag exact c bad InName (open_tag tag)
-goes_at_bad exact state.BeforeAttributeName tag letters name c bad goes = bad_goes_tag exact c bad BeforeAttribute (open_tag tag)
-goes_at_bad exact state.AttributeName tag letters name c bad goes = bad_goes_tag exact c bad InAttributeName (open_tag tag)
-goes_at_bad exact state.AfterAttributeName tag letters name c bad goes = bad_goes_tag exact c bad AfterAttributeName (open_tag tag)
-goes_at_bad exact state.BeforeAttributeValue tag letters name c bad goes = bad_goes_tag exact c bad BeforeValue (open_tag tag)
-goes_at_bad exact (state.AttributeValue kind) tag letters name c bad goes = bad_goes_tag exact c bad (InValue kind) (open_tag tag)
-goes_at_bad exact state.AfterAttributeValueQuoted tag letters name c bad goes = bad_goes_tag exact c bad AfterQuotedValue (open_tag tag)
-goes_at_bad exact state.SelfClosingStartTag tag letters name c bad goes = bad_goes_tag exact c bad AfterSolidus (open_tag tag)
-goes_at_bad exact (state.RawData kind) tag letters name c bad goes = bad_goes_raw exact c bad (raw_of kind) name
-goes_at_bad exact (state.RawLessThanSign kind) tag letters name c bad goes = bad_goes_in_raw exact c bad (AfterLessThan kind) name
-goes_at_bad exact (state.RawEndTagOpen kind) tag letters name c bad goes = bad_goes_in_raw exact c bad (InEndName kind []) name
-goes_at_bad exact (state.RawEndTagName kind) tag letters name c bad goes = bad_goes_in_raw exact c bad (InEndName kind letters) name
-goes_at_bad exact (state.ScriptDataEscapeStart escape_kind.Escaped) tag letters name c bad goes = bad_goes_in_raw exact c bad AfterMark name
-goes_at_bad exact (state.ScriptDataEscapeStart escape_kind.DoubleEscaped) tag letters name c bad goes = bad_goes_in_raw exact c bad (InSwitch escape_kind.Escaped letters) name
-goes_at_bad exact state.ScriptDataEscapeStartDash tag letters name c bad goes = bad_goes_in_raw exact c bad AfterMarkAndDash name
-goes_at_bad exact (state.ScriptDataEscapedDash kind) tag letters name c bad goes = bad_goes_raw exact c bad (escaped kind OneDash) name
-goes_at_bad exact (state.ScriptDataEscapedDashDash kind) tag letters name c bad goes = bad_goes_raw exact c bad (escaped kind TwoDashes) name
-goes_at_bad exact state.ScriptDataDoubleEscapeEnd tag letters name c bad goes = bad_goes_in_raw exact c bad (InSwitch escape_kind.DoubleEscaped letters) name
-goes_at_bad exact other tag letters name c bad goes = absurd (false≢true (sym goes))
+pub goes_at_bad : {Z : Type 0} → (exact : Bool) (s : State) (tag : CurrentTag Z) (comment letters name : List ℕ) (c : ℕ) → is_bad_character c ≡ true → stops_at_bad s ≡ false
+    → Goes (step_at exact (open_of s tag comment letters name) c)
+goes_at_bad exact state.Data tag comment letters name c bad goes = bad_goes_data exact c bad
+goes_at_bad exact state.Plaintext tag comment letters name c bad goes = bad_goes_plain exact c bad
+goes_at_bad exact state.TagOpen tag comment letters name c bad goes = bad_goes_less_than exact c bad
+goes_at_bad exact state.TagName tag comment letters name c bad goes = bad_goes_tag exact c bad InName (open_tag tag)
+goes_at_bad exact state.BeforeAttributeName tag comment letters name c bad goes = bad_goes_tag exact c bad BeforeAttribute (open_tag tag)
+goes_at_bad exact state.AttributeName tag comment letters name c bad goes = bad_goes_tag exact c bad InAttributeName (open_tag tag)
+goes_at_bad exact state.AfterAttributeName tag comment letters name c bad goes = bad_goes_tag exact c bad AfterAttributeName (open_tag tag)
+goes_at_bad exact state.BeforeAttributeValue tag comment letters name c bad goes = bad_goes_tag exact c bad BeforeValue (open_tag tag)
+goes_at_bad exact (state.AttributeValue kind) tag comment letters name c bad goes = bad_goes_tag exact c bad (InValue kind) (open_tag tag)
+goes_at_bad exact state.AfterAttributeValueQuoted tag comment letters name c bad goes = bad_goes_tag exact c bad AfterQuotedValue (open_tag tag)
+goes_at_bad exact state.SelfClosingStartTag tag comment letters name c bad goes = bad_goes_tag exact c bad AfterSolidus (open_tag tag)
+goes_at_bad exact (state.RawData kind) tag comment letters name c bad goes = bad_goes_raw exact c bad (raw_of kind) name
+goes_at_bad exact (state.RawLessThanSign kind) tag comment letters name c bad goes = bad_goes_in_raw exact c bad (AfterLessThan kind) name
+goes_at_bad exact (state.RawEndTagOpen kind) tag comment letters name c bad goes = bad_goes_in_raw exact c bad (InEndName kind []) name
+goes_at_bad exact (state.RawEndTagName kind) tag comment letters name c bad goes = bad_goes_in_raw exact c bad (InEndName kind letters) name
+goes_at_bad exact (state.ScriptDataEscapeStart escape_kind.Escaped) tag comment letters name c bad goes = bad_goes_in_raw exact c bad AfterMark name
+goes_at_bad exact (state.ScriptDataEscapeStart escape_kind.DoubleEscaped) tag comment letters name c bad goes = bad_goes_in_raw exact c bad (InSwitch escape_kind.Escaped letters) name
+goes_at_bad exact state.ScriptDataEscapeStartDash tag comment letters name c bad goes = bad_goes_in_raw exact c bad AfterMarkAndDash name
+goes_at_bad exact (state.ScriptDataEscapedDash kind) tag comment letters name c bad goes = bad_goes_raw exact c bad (escaped kind OneDash) name
+goes_at_bad exact (state.ScriptDataEscapedDashDash kind) tag comment letters name c bad goes = bad_goes_raw exact c bad (escaped kind TwoDashes) name
+goes_at_bad exact state.ScriptDataDoubleEscapeEnd tag comment letters name c bad goes = bad_goes_in_raw exact c bad (InSwitch escape_kind.DoubleEscaped letters) name
+goes_at_bad exact other tag comment letters name c bad goes = absurd (false≢true (sym goes))
 
 -- where no reference is open, and where one is
 pub with_reference-none : (is_in : Bool) (held : List ℕ) (opened : Open) → is_reference (with_reference is_in held opened) ≡ false
@@ -73,7 +73,7 @@ unfolding with_reference
 with_reference-none true held opened h later = absurd (false≢true (sym h))
 with_reference-none false held opened h later = refl
 
-pub open_of-no_reference : {Z : Type 0} → (q : State) (t : CurrentTag Z) (letters name : List ℕ) → is_reference (open_of q t letters name) ≡ false
+pub open_of-no_reference : {Z : Type 0} → (q : State) (t : CurrentTag Z) (comment letters name : List ℕ) → is_reference (open_of q t letters name) ≡ false
 open_of-no_reference state.Data t letters name = refl
 open_of-no_reference state.Plaintext t letters name = refl
 open_of-no_reference state.TagOpen t letters name = refl
@@ -222,57 +222,57 @@ module _ {S H : Type 0} (step : S → Told → ℕ → S) (reply : S → Told �
   opened-behind s line last d (Stops told) = refl
 
   -- a character in a state, where a bad one that begins what isn't built yet was excluded
-  module _ {Z : Type 0} (now : State) (tag : CurrentTag Z) (letters name : List ℕ) (s : S) (line d : ℕ) where
+  module _ {Z : Type 0} (now : State) (tag : CurrentTag Z) (comment letters name : List ℕ) (s : S) (line d : ℕ) where
     abbrev told_here : List Message
-    told_here = messages_here step reply rules line d (step_at rules.exact (open_of now tag letters name) d)
+    told_here = messages_here step reply rules line d (step_at rules.exact (open_of now tag comment letters name) d)
 
     abbrev behind_here : Open
-    behind_here = opened_here step reply rules s line name d (step_at rules.exact (open_of now tag letters name) d)
+    behind_here = opened_here step reply rules s line name d (step_at rules.exact (open_of now tag comment letters name) d)
 
-    goes_on : (rules.exact && is_bad_character d && stops_at_bad now) ≡ false → (rules.exact && is_bad_character d) ≡ true → Goes (step_at rules.exact (open_of now tag letters name) d)
+    goes_on : (rules.exact && is_bad_character d && stops_at_bad now) ≡ false → (rules.exact && is_bad_character d) ≡ true → Goes (step_at rules.exact (open_of now tag comment letters name) d)
     goes_on not_stopped both =
-        goes_at_bad rules.exact now tag letters name d (and_parts rules.exact (is_bad_character d) both).1 (rw both at not_stopped)
+        goes_at_bad rules.exact now tag comment letters name d (and_parts rules.exact (is_bad_character d) both).1 (rw both at not_stopped)
 
     told-character : (rules.exact && is_bad_character d && stops_at_bad now) ≡ false
         → told_here
-        ≡ on_line line ((bad_character_error rules.exact d ++ tokens_of (step_at rules.exact (open_of now tag letters name) d)) ++ tag_in (behind (step_at rules.exact (open_of now tag letters name) d)))
-    told-character not_stopped = messages-tokens line d (step_at rules.exact (open_of now tag letters name) d) (goes_on not_stopped)
+        ≡ on_line line ((bad_character_error rules.exact d ++ tokens_of (step_at rules.exact (open_of now tag comment letters name) d)) ++ tag_in (behind (step_at rules.exact (open_of now tag comment letters name) d)))
+    told-character not_stopped = messages-tokens line d (step_at rules.exact (open_of now tag comment letters name) d) (goes_on not_stopped)
 
     after-character : behind_here
-        ≡ open_behind reply (stepped step s (on_line line (bad_character_error rules.exact d ++ tokens_of (step_at rules.exact (open_of now tag letters name) d)))) line name (behind (step_at rules.exact (open_of now tag letters name) d))
-    after-character = opened-behind s line name d (step_at rules.exact (open_of now tag letters name) d)
+        ≡ open_behind reply (stepped step s (on_line line (bad_character_error rules.exact d ++ tokens_of (step_at rules.exact (open_of now tag comment letters name) d)))) line name (behind (step_at rules.exact (open_of now tag comment letters name) d))
+    after-character = opened-behind s line name d (step_at rules.exact (open_of now tag comment letters name) d)
 
     -- where such a character comes, nothing is told
-    stops_at-step : {Y : Type 0} → (q : State) (t : CurrentTag Y) (held last : List ℕ) → stops_at_bad q ≡ true → is_bad_character d ≡ true → step_at rules.exact (open_of q t held last) d ≡ Stops []
+    stops_at-step : {Y : Type 0} → (q : State) (t : CurrentTag Y) (text text held last : List ℕ) → stops_at_bad q ≡ true → is_bad_character d ≡ true → step_at rules.exact (open_of q t text held last) d ≡ Stops []
     unfolding step_at
-    stops_at-step state.Data t held last stops bad = absurd (false≢true stops)
-    stops_at-step state.Plaintext t held last stops bad = absurd (false≢true stops)
-    stops_at-step state.TagOpen t held last stops bad = absurd (false≢true stops)
-    stops_at-step state.EndTagOpen t held last stops bad = bad_stops rules.exact d bad
-    stops_at-step state.TagName t held last stops bad = absurd (false≢true stops)
-    stops_at-step state.BeforeAttributeName t held last stops bad = absurd (false≢true stops)
-    stops_at-step state.AttributeName t held last stops bad = absurd (false≢true stops)
-    stops_at-step state.AfterAttributeName t held last stops bad = absurd (false≢true stops)
-    stops_at-step state.BeforeAttributeValue t held last stops bad = absurd (false≢true stops)
-    stops_at-step (state.AttributeValue kind) t held last stops bad = absurd (false≢true stops)
-    stops_at-step state.AfterAttributeValueQuoted t held last stops bad = absurd (false≢true stops)
-    stops_at-step state.SelfClosingStartTag t held last stops bad = absurd (false≢true stops)
-    stops_at-step (state.RawData kind) t held last stops bad = absurd (false≢true stops)
-    stops_at-step (state.RawLessThanSign kind) t held last stops bad = absurd (false≢true stops)
-    stops_at-step (state.RawEndTagOpen kind) t held last stops bad = absurd (false≢true stops)
-    stops_at-step (state.RawEndTagName kind) t held last stops bad = absurd (false≢true stops)
-    stops_at-step (state.ScriptDataEscapeStart escape_kind.Escaped) t held last stops bad = absurd (false≢true stops)
-    stops_at-step (state.ScriptDataEscapeStart escape_kind.DoubleEscaped) t held last stops bad = absurd (false≢true stops)
-    stops_at-step state.ScriptDataEscapeStartDash t held last stops bad = absurd (false≢true stops)
-    stops_at-step (state.ScriptDataEscapedDash kind) t held last stops bad = absurd (false≢true stops)
-    stops_at-step (state.ScriptDataEscapedDashDash kind) t held last stops bad = absurd (false≢true stops)
-    stops_at-step state.ScriptDataDoubleEscapeEnd t held last stops bad = absurd (false≢true stops)
-    stops_at-step other t held last stops bad = refl
+    stops_at-step state.Data t text held last stops bad = absurd (false≢true stops)
+    stops_at-step state.Plaintext t text held last stops bad = absurd (false≢true stops)
+    stops_at-step state.TagOpen t text held last stops bad = absurd (false≢true stops)
+    stops_at-step state.EndTagOpen t text held last stops bad = bad_stops rules.exact d bad
+    stops_at-step state.TagName t text held last stops bad = absurd (false≢true stops)
+    stops_at-step state.BeforeAttributeName t text held last stops bad = absurd (false≢true stops)
+    stops_at-step state.AttributeName t text held last stops bad = absurd (false≢true stops)
+    stops_at-step state.AfterAttributeName t text held last stops bad = absurd (false≢true stops)
+    stops_at-step state.BeforeAttributeValue t text held last stops bad = absurd (false≢true stops)
+    stops_at-step (state.AttributeValue kind) t text held last stops bad = absurd (false≢true stops)
+    stops_at-step state.AfterAttributeValueQuoted t text held last stops bad = absurd (false≢true stops)
+    stops_at-step state.SelfClosingStartTag t text held last stops bad = absurd (false≢true stops)
+    stops_at-step (state.RawData kind) t text held last stops bad = absurd (false≢true stops)
+    stops_at-step (state.RawLessThanSign kind) t text held last stops bad = absurd (false≢true stops)
+    stops_at-step (state.RawEndTagOpen kind) t text held last stops bad = absurd (false≢true stops)
+    stops_at-step (state.RawEndTagName kind) t text held last stops bad = absurd (false≢true stops)
+    stops_at-step (state.ScriptDataEscapeStart escape_kind.Escaped) t text held last stops bad = absurd (false≢true stops)
+    stops_at-step (state.ScriptDataEscapeStart escape_kind.DoubleEscaped) t text held last stops bad = absurd (false≢true stops)
+    stops_at-step state.ScriptDataEscapeStartDash t text held last stops bad = absurd (false≢true stops)
+    stops_at-step (state.ScriptDataEscapedDash kind) t text held last stops bad = absurd (false≢true stops)
+    stops_at-step (state.ScriptDataEscapedDashDash kind) t text held last stops bad = absurd (false≢true stops)
+    stops_at-step state.ScriptDataDoubleEscapeEnd t text held last stops bad = absurd (false≢true stops)
+    stops_at-step other t text held last stops bad = refl
 
-    stopped-step : (rules.exact && is_bad_character d && stops_at_bad now) ≡ true → step_at rules.exact (open_of now tag letters name) d ≡ Stops []
+    stopped-step : (rules.exact && is_bad_character d && stops_at_bad now) ≡ true → step_at rules.exact (open_of now tag comment letters name) d ≡ Stops []
     stopped-step stopped =
         let both = and_parts (rules.exact && is_bad_character d) (stops_at_bad now) stopped in
-        stops_at-step now tag letters name both.1 (and_parts rules.exact (is_bad_character d) both.0).1
+        stops_at-step now tag comment letters name both.1 (and_parts rules.exact (is_bad_character d) both.0).1
 
     pub told-stopped : (rules.exact && is_bad_character d && stops_at_bad now) ≡ true → told_here ≡ []
     unfolding messages_here
@@ -285,10 +285,10 @@ module _ {S H : Type 0} (step : S → Told → ℕ → S) (reply : S → Told �
     -- a character that is read: the bad character, the tokens of its state and then the tag that it ends, told by calls
     module _ (not_stopped : (rules.exact && is_bad_character d && stops_at_bad now) ≡ false) where
       abbrev here_tokens : List Told
-      here_tokens = bad_character_error rules.exact d ++ tokens_of (step_at rules.exact (open_of now tag letters name) d)
+      here_tokens = bad_character_error rules.exact d ++ tokens_of (step_at rules.exact (open_of now tag comment letters name) d)
 
       abbrev next : Next
-      next = behind (step_at rules.exact (open_of now tag letters name) d)
+      next = behind (step_at rules.exact (open_of now tag comment letters name) d)
 
       whole-told : told_here ≡ on_line line (here_tokens ++ tag_in next)
       whole-told = told-character not_stopped
@@ -298,43 +298,43 @@ module _ {S H : Type 0} (step : S → Told → ℕ → S) (reply : S → Told �
           after-character ∙ ap (λ v. open_behind reply v line name next) (sym e)
 
       module _ (t u : S) (bad_told : t ≡ stepped step s (on_line line (bad_character_error rules.exact d))) where
-        both-told : u ≡ stepped step t (on_line line (tokens_of (step_at rules.exact (open_of now tag letters name) d))) → u ≡ stepped step s (on_line line here_tokens)
+        both-told : u ≡ stepped step t (on_line line (tokens_of (step_at rules.exact (open_of now tag comment letters name) d))) → u ≡ stepped step s (on_line line here_tokens)
         both-told e =
-            e ∙ ap (λ v. stepped step v (on_line line (tokens_of (step_at rules.exact (open_of now tag letters name) d)))) bad_told
-            ∙ sym (stepped-append step s (on_line line (bad_character_error rules.exact d)) (on_line line (tokens_of (step_at rules.exact (open_of now tag letters name) d))))
-            ∙ ap (stepped step s) (sym (map-append (λ (token : Told). record { token = token; line = line }) (bad_character_error rules.exact d) (tokens_of (step_at rules.exact (open_of now tag letters name) d))))
+            e ∙ ap (λ v. stepped step v (on_line line (tokens_of (step_at rules.exact (open_of now tag comment letters name) d)))) bad_told
+            ∙ sym (stepped-append step s (on_line line (bad_character_error rules.exact d)) (on_line line (tokens_of (step_at rules.exact (open_of now tag comment letters name) d))))
+            ∙ ap (stepped step s) (sym (map-append (λ (token : Told). record { token = token; line = line }) (bad_character_error rules.exact d) (tokens_of (step_at rules.exact (open_of now tag comment letters name) d))))
 
         pub tells-ended : {T : Type 0} (faulted : S → Told → ℕ → S) (r : Result T TokenizerError) (told_tag : TagOf) (later : Open) (v : S)
-            → u ≡ stepped step t (on_line line (tokens_of (step_at rules.exact (open_of now tag letters name) d))) → Closes told_tag later ≡ next
+            → u ≡ stepped step t (on_line line (tokens_of (step_at rules.exact (open_of now tag comment letters name) d))) → Closes told_tag later ≡ next
             → telling.Tells step faulted r u (on_line line (Tag told_tag ∷ [])) v
             → telling.Tells step faulted r s (told_here) v
         tells-ended faulted r told_tag later v e is tells =
             rw (whole-told, ← is) (told_then step faulted r s u v line here_tokens (Tag told_tag ∷ []) (both-told e) tells)
 
         pub opened-ended : (told_tag : TagOf) (later : Open)
-            → u ≡ stepped step t (on_line line (tokens_of (step_at rules.exact (open_of now tag letters name) d))) → Closes told_tag later ≡ next
+            → u ≡ stepped step t (on_line line (tokens_of (step_at rules.exact (open_of now tag comment letters name) d))) → Closes told_tag later ≡ next
             → open_after_reply (last_behind name told_tag) (reply u (Tag told_tag) line) ≡ behind_here
         opened-ended told_tag later e is = ap (open_behind reply u line name) is ∙ sym (whole-opened u (both-told e))
 
         pub last-ended : (told_tag : TagOf) (later : Open) → Closes told_tag later ≡ next
-            → last_behind name told_tag ≡ last_here name (step_at rules.exact (open_of now tag letters name) d)
-        last-ended told_tag later is = ap (last_in name) is ∙ sym (last_here-behind name (step_at rules.exact (open_of now tag letters name) d))
+            → last_behind name told_tag ≡ last_here name (step_at rules.exact (open_of now tag comment letters name) d)
+        last-ended told_tag later is = ap (last_in name) is ∙ sym (last_here-behind name (step_at rules.exact (open_of now tag comment letters name) d))
 
-        pub last-going : (later : Open) → Opens later ≡ next → name ≡ last_here name (step_at rules.exact (open_of now tag letters name) d)
-        last-going later is = ap (last_in name) is ∙ sym (last_here-behind name (step_at rules.exact (open_of now tag letters name) d))
+        pub last-going : (later : Open) → Opens later ≡ next → name ≡ last_here name (step_at rules.exact (open_of now tag comment letters name) d)
+        last-going later is = ap (last_in name) is ∙ sym (last_here-behind name (step_at rules.exact (open_of now tag comment letters name) d))
 
         pub pause-ended : ((s : S) (told : Told) (line : ℕ) → is_tag told ≡ false → reply s told line ≡ KeepOn)
             → (told_tag : TagOf) (later : Open)
-            → u ≡ stepped step t (on_line line (tokens_of (step_at rules.exact (open_of now tag letters name) d))) → Closes told_tag later ≡ next
+            → u ≡ stepped step t (on_line line (tokens_of (step_at rules.exact (open_of now tag comment letters name) d))) → Closes told_tag later ≡ next
             → first_pause step reply u (on_line line (Tag told_tag ∷ [])) ≡ first_pause step reply s (told_here)
         pause-ended keeps_on told_tag later e is =
             ap (λ v. first_pause step reply v (on_line line (Tag told_tag ∷ []))) (both-told e)
             ∙ ap (λ m. first_pause step reply (stepped step s (on_line line here_tokens)) (on_line line (tag_in m))) is
-            ∙ sym (pause-character keeps_on s line d (open_of now tag letters name) (tag_in next))
+            ∙ sym (pause-character keeps_on s line d (open_of now tag comment letters name) (tag_in next))
             ∙ ap (first_pause step reply s) (sym whole-told)
 
         pub tells-going : (later : Open)
-            → u ≡ stepped step t (on_line line (tokens_of (step_at rules.exact (open_of now tag letters name) d))) → Opens later ≡ next
+            → u ≡ stepped step t (on_line line (tokens_of (step_at rules.exact (open_of now tag comment letters name) d))) → Opens later ≡ next
             → u ≡ stepped step s (told_here)
         tells-going later e is =
             both-told e
@@ -342,7 +342,7 @@ module _ {S H : Type 0} (step : S → Told → ℕ → S) (reply : S → Told �
             ∙ ap (stepped step s) (sym whole-told)
 
         pub opened-going : (later : Open)
-            → u ≡ stepped step t (on_line line (tokens_of (step_at rules.exact (open_of now tag letters name) d))) → Opens later ≡ next
+            → u ≡ stepped step t (on_line line (tokens_of (step_at rules.exact (open_of now tag comment letters name) d))) → Opens later ≡ next
             → later ≡ behind_here
         opened-going later e is = ap (open_behind reply u line name) is ∙ sym (whole-opened u (both-told e))
 
@@ -352,17 +352,17 @@ module _ {S H : Type 0} (step : S → Told → ℕ → S) (reply : S → Told �
         pause-going keeps_on later is =
             sym (first_pause-none step reply (stepped step s (on_line line here_tokens)))
             ∙ ap (λ m. first_pause step reply (stepped step s (on_line line here_tokens)) (on_line line (tag_in m))) is
-            ∙ sym (pause-character keeps_on s line d (open_of now tag letters name) (tag_in next))
+            ∙ sym (pause-character keeps_on s line d (open_of now tag comment letters name) (tag_in next))
             ∙ ap (first_pause step reply s) (sym whole-told)
 
         pub tells-refused : {T : Type 0} (Z : Type 0) (faulted : S → Told → ℕ → S) (r : Result T TokenizerError) (e : TokenizerError) (opened : Opened Z)
             → IsErrAnd r (λ x. x ≡ e) → Ends {Z = Z} (Err e) opened next
-            → telling.Stops step faulted e t (on_line line (tokens_of (step_at rules.exact (open_of now tag letters name) d))) u
+            → telling.Stops step faulted e t (on_line line (tokens_of (step_at rules.exact (open_of now tag comment letters name) d))) u
             → telling.Tells step faulted r s (told_here) u
         tells-refused Z faulted r e opened h ends stop =
-            rw (whole-told, append_assoc (bad_character_error rules.exact d) (tokens_of (step_at rules.exact (open_of now tag letters name) d)) (tag_in next))
-            (told_then step faulted r s t u line (bad_character_error rules.exact d) (tokens_of (step_at rules.exact (open_of now tag letters name) d) ++ tag_in next) bad_told
-            (ended_stops Z step faulted r e opened next t u line (tokens_of (step_at rules.exact (open_of now tag letters name) d)) h ends stop))
+            rw (whole-told, append_assoc (bad_character_error rules.exact d) (tokens_of (step_at rules.exact (open_of now tag comment letters name) d)) (tag_in next))
+            (told_then step faulted r s t u line (bad_character_error rules.exact d) (tokens_of (step_at rules.exact (open_of now tag comment letters name) d) ++ tag_in next) bad_told
+            (ended_stops Z step faulted r e opened next t u line (tokens_of (step_at rules.exact (open_of now tag comment letters name) d)) h ends stop))
 
       pub leads-refused : {T : Type 0} (Z : Type 0) (r : Result T TokenizerError) (e : TokenizerError) (opened : Opened Z) (later : Open)
           → IsErrAnd r (λ x. x ≡ e) → Ends {Z = Z} (Err e) opened next → Leads r later behind_here
@@ -374,5 +374,5 @@ module _ {S H : Type 0} (step : S → Told → ℕ → S) (reply : S → Told �
           → IsErrAnd r (λ x. x ≡ e) → telling.IsRefusal e → telling.Stops step faulted e s (on_line line (bad_character_error rules.exact d)) t
           → telling.Tells step faulted r s (told_here) t
       tells-bad faulted r e t h refusal stop =
-          rw (whole-told, append_assoc (bad_character_error rules.exact d) (tokens_of (step_at rules.exact (open_of now tag letters name) d)) (tag_in next))
-          (told_stop step faulted r e s t line (bad_character_error rules.exact d) (tokens_of (step_at rules.exact (open_of now tag letters name) d) ++ tag_in next) h refusal stop)
+          rw (whole-told, append_assoc (bad_character_error rules.exact d) (tokens_of (step_at rules.exact (open_of now tag comment letters name) d)) (tag_in next))
+          (told_stop step faulted r e s t line (bad_character_error rules.exact d) (tokens_of (step_at rules.exact (open_of now tag comment letters name) d) ++ tag_in next) h refusal stop)
