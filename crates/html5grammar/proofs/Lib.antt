@@ -25,6 +25,7 @@ pub mod OneCommentText
 pub mod OneCommentSteps
 pub mod OneCommentHeld
 pub mod OneCommentReading
+pub mod OneCommentCollected
 mod WrittenRawCases
 mod CommentCases
 mod OneCommentCases
