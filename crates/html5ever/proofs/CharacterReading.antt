@@ -6,18 +6,21 @@ use Rattle.std.proofs.lemmas.List.{append-nil, append_assoc, map-append}
 use Rattle.html5ever_interface.specs.Sink.{Message, stepped, on_line}
 use Rattle.html5ever_interface.specs.Token.{Told, TagOf, Reply}
 use Rattle.html5ever_interface.specs.Token.Told.{Tag}
+use Rattle.html5ever_interface.specs.declared.states.ScriptEscapeKind.TheVariants as escape_kind
 use Rattle.html5ever_interface.specs.declared.states.State.{State}
 use Rattle.html5ever_interface.specs.declared.states.State.TheVariants as state
 use Rattle.html5grammar.specs.Characters.{is_bad_character}
 use Rattle.html5grammar.specs.ErrorText.{bad_character_error}
-use Rattle.html5grammar.specs.Reading.{Here, open_after_reply}
+use Rattle.html5grammar.specs.Reading.{Here, last_behind, open_after_reply}
 use Rattle.html5grammar.specs.Reading.Here.{Tells, TellsTag, Stops}
-use Rattle.html5grammar.specs.Start.{Mode, Open, Rules, is_reference, held_len}
+use Rattle.html5grammar.specs.Start.{Open, Rules, is_reference, held_len, escaped, raw_of}
+use Rattle.html5grammar.specs.Start.Dashes.{OneDash, TwoDashes}
 use Rattle.html5grammar.specs.Start.Mode.{Data}
-use Rattle.html5grammar.specs.Start.Open.{Between, LessThan, LessThanSolidus, InTag, InReference, NotBuilt}
+use Rattle.html5grammar.specs.Start.RawPlace.{AfterLessThan, InEndName, AfterMark, AfterMarkAndDash, InSwitch}
+use Rattle.html5grammar.specs.Start.Open.{Between, LessThan, LessThanSolidus, InTag, InRaw, InReference, NotBuilt}
 use Rattle.html5grammar.specs.Start.Place.{InName, BeforeAttribute, InAttributeName, AfterAttributeName, BeforeValue, InValue, AfterQuotedValue, AfterSolidus}
-use Rattle.html5grammar.proofs.Going.{Goes, bad_goes_tag, bad_goes_data, bad_goes_plain, bad_goes_less_than, bad_stops}
-use Rattle.html5grammar.proofs.Machine.{step_at, messages_here, opened_here}
+use Rattle.html5grammar.proofs.Going.{Goes, bad_goes_tag, bad_goes_data, bad_goes_plain, bad_goes_raw, bad_goes_in_raw, bad_goes_less_than, bad_stops}
+use Rattle.html5grammar.proofs.Machine.{step_at, messages_here, opened_here, last_here}
 use Rattle.html5ever_interface.proofs.Steppings.{stepped-append}
 use Rattle.html5states.specs.CharRef.{with_reference}
 use Rattle.html5states.specs.CurrentTag.{open_of, open_tag, stops_at_bad}
@@ -38,20 +41,30 @@ use Rattle.html5ever_interface.specs.Token.Reply.{KeepOn}
 use Rattle.std.specs.Result.{IsErrAnd}
 use Rattle.std.proofs.lemmas.Result.{err_from_is_err_and}
 
-pub goes_at_bad : {Z : Type 0} → (exact : Bool) (s : State) (tag : CurrentTag Z) (c : ℕ) → is_bad_character c ≡ true → stops_at_bad s ≡ false
-    → Goes (step_at exact (open_of s tag) c)
-goes_at_bad exact state.Data tag c bad goes = bad_goes_data exact c bad
-goes_at_bad exact state.Plaintext tag c bad goes = bad_goes_plain exact c bad
-goes_at_bad exact state.TagOpen tag c bad goes = bad_goes_less_than exact c bad
-goes_at_bad exact state.TagName tag c bad goes = bad_goes_tag exact c bad InName (open_tag tag)
-goes_at_bad exact state.BeforeAttributeName tag c bad goes = bad_goes_tag exact c bad BeforeAttribute (open_tag tag)
-goes_at_bad exact state.AttributeName tag c bad goes = bad_goes_tag exact c bad InAttributeName (open_tag tag)
-goes_at_bad exact state.AfterAttributeName tag c bad goes = bad_goes_tag exact c bad AfterAttributeName (open_tag tag)
-goes_at_bad exact state.BeforeAttributeValue tag c bad goes = bad_goes_tag exact c bad BeforeValue (open_tag tag)
-goes_at_bad exact (state.AttributeValue kind) tag c bad goes = bad_goes_tag exact c bad (InValue kind) (open_tag tag)
-goes_at_bad exact state.AfterAttributeValueQuoted tag c bad goes = bad_goes_tag exact c bad AfterQuotedValue (open_tag tag)
-goes_at_bad exact state.SelfClosingStartTag tag c bad goes = bad_goes_tag exact c bad AfterSolidus (open_tag tag)
-goes_at_bad exact other tag c bad goes = absurd (false≢true (sym goes))
+pub goes_at_bad : {Z : Type 0} → (exact : Bool) (s : State) (tag : CurrentTag Z) (letters name : List ℕ) (c : ℕ) → is_bad_character c ≡ true → stops_at_bad s ≡ false
+    → Goes (step_at exact (open_of s tag letters name) c)
+goes_at_bad exact state.Data tag letters name c bad goes = bad_goes_data exact c bad
+goes_at_bad exact state.Plaintext tag letters name c bad goes = bad_goes_plain exact c bad
+goes_at_bad exact state.TagOpen tag letters name c bad goes = bad_goes_less_than exact c bad
+goes_at_bad exact state.TagName tag letters name c bad goes = bad_goes_tag exact c bad InName (open_tag tag)
+goes_at_bad exact state.BeforeAttributeName tag letters name c bad goes = bad_goes_tag exact c bad BeforeAttribute (open_tag tag)
+goes_at_bad exact state.AttributeName tag letters name c bad goes = bad_goes_tag exact c bad InAttributeName (open_tag tag)
+goes_at_bad exact state.AfterAttributeName tag letters name c bad goes = bad_goes_tag exact c bad AfterAttributeName (open_tag tag)
+goes_at_bad exact state.BeforeAttributeValue tag letters name c bad goes = bad_goes_tag exact c bad BeforeValue (open_tag tag)
+goes_at_bad exact (state.AttributeValue kind) tag letters name c bad goes = bad_goes_tag exact c bad (InValue kind) (open_tag tag)
+goes_at_bad exact state.AfterAttributeValueQuoted tag letters name c bad goes = bad_goes_tag exact c bad AfterQuotedValue (open_tag tag)
+goes_at_bad exact state.SelfClosingStartTag tag letters name c bad goes = bad_goes_tag exact c bad AfterSolidus (open_tag tag)
+goes_at_bad exact (state.RawData kind) tag letters name c bad goes = bad_goes_raw exact c bad (raw_of kind) name
+goes_at_bad exact (state.RawLessThanSign kind) tag letters name c bad goes = bad_goes_in_raw exact c bad (AfterLessThan kind) name
+goes_at_bad exact (state.RawEndTagOpen kind) tag letters name c bad goes = bad_goes_in_raw exact c bad (InEndName kind []) name
+goes_at_bad exact (state.RawEndTagName kind) tag letters name c bad goes = bad_goes_in_raw exact c bad (InEndName kind letters) name
+goes_at_bad exact (state.ScriptDataEscapeStart escape_kind.Escaped) tag letters name c bad goes = bad_goes_in_raw exact c bad AfterMark name
+goes_at_bad exact (state.ScriptDataEscapeStart escape_kind.DoubleEscaped) tag letters name c bad goes = bad_goes_in_raw exact c bad (InSwitch escape_kind.Escaped letters) name
+goes_at_bad exact state.ScriptDataEscapeStartDash tag letters name c bad goes = bad_goes_in_raw exact c bad AfterMarkAndDash name
+goes_at_bad exact (state.ScriptDataEscapedDash kind) tag letters name c bad goes = bad_goes_raw exact c bad (escaped kind OneDash) name
+goes_at_bad exact (state.ScriptDataEscapedDashDash kind) tag letters name c bad goes = bad_goes_raw exact c bad (escaped kind TwoDashes) name
+goes_at_bad exact state.ScriptDataDoubleEscapeEnd tag letters name c bad goes = bad_goes_in_raw exact c bad (InSwitch escape_kind.DoubleEscaped letters) name
+goes_at_bad exact other tag letters name c bad goes = absurd (false≢true (sym goes))
 
 -- where no reference is open, and where one is
 pub with_reference-none : (is_in : Bool) (held : List ℕ) (opened : Open) → is_reference (with_reference is_in held opened) ≡ false
@@ -60,26 +73,37 @@ unfolding with_reference
 with_reference-none true held opened h later = absurd (false≢true (sym h))
 with_reference-none false held opened h later = refl
 
-pub open_of-no_reference : {Z : Type 0} → (q : State) (t : CurrentTag Z) → is_reference (open_of q t) ≡ false
-open_of-no_reference state.Data t = refl
-open_of-no_reference state.Plaintext t = refl
-open_of-no_reference state.TagOpen t = refl
-open_of-no_reference state.EndTagOpen t = refl
-open_of-no_reference state.TagName t = refl
-open_of-no_reference state.BeforeAttributeName t = refl
-open_of-no_reference state.AttributeName t = refl
-open_of-no_reference state.AfterAttributeName t = refl
-open_of-no_reference state.BeforeAttributeValue t = refl
-open_of-no_reference (state.AttributeValue kind) t = refl
-open_of-no_reference state.AfterAttributeValueQuoted t = refl
-open_of-no_reference state.SelfClosingStartTag t = refl
-open_of-no_reference other t = refl
+pub open_of-no_reference : {Z : Type 0} → (q : State) (t : CurrentTag Z) (letters name : List ℕ) → is_reference (open_of q t letters name) ≡ false
+open_of-no_reference state.Data t letters name = refl
+open_of-no_reference state.Plaintext t letters name = refl
+open_of-no_reference state.TagOpen t letters name = refl
+open_of-no_reference state.EndTagOpen t letters name = refl
+open_of-no_reference state.TagName t letters name = refl
+open_of-no_reference state.BeforeAttributeName t letters name = refl
+open_of-no_reference state.AttributeName t letters name = refl
+open_of-no_reference state.AfterAttributeName t letters name = refl
+open_of-no_reference state.BeforeAttributeValue t letters name = refl
+open_of-no_reference (state.AttributeValue kind) t letters name = refl
+open_of-no_reference state.AfterAttributeValueQuoted t letters name = refl
+open_of-no_reference state.SelfClosingStartTag t letters name = refl
+open_of-no_reference (state.RawData kind) t letters name = refl
+open_of-no_reference (state.RawLessThanSign kind) t letters name = refl
+open_of-no_reference (state.RawEndTagOpen kind) t letters name = refl
+open_of-no_reference (state.RawEndTagName kind) t letters name = refl
+open_of-no_reference (state.ScriptDataEscapeStart escape_kind.Escaped) t letters name = refl
+open_of-no_reference (state.ScriptDataEscapeStart escape_kind.DoubleEscaped) t letters name = refl
+open_of-no_reference state.ScriptDataEscapeStartDash t letters name = refl
+open_of-no_reference (state.ScriptDataEscapedDash kind) t letters name = refl
+open_of-no_reference (state.ScriptDataEscapedDashDash kind) t letters name = refl
+open_of-no_reference state.ScriptDataDoubleEscapeEnd t letters name = refl
+open_of-no_reference other t letters name = refl
 
 pub held_len-none : (opened : Open) → is_reference opened ≡ false → held_len opened ≡ 0
 held_len-none (Between mode) h = refl
 held_len-none LessThan h = refl
 held_len-none LessThanSolidus h = refl
 held_len-none (InTag place tag) h = refl
+held_len-none (InRaw place name) h = refl
 held_len-none (InReference stand held) h = absurd (false≢true (sym h))
 held_len-none NotBuilt h = refl
 
@@ -89,9 +113,20 @@ tag_in (Opens later) = []
 tag_in (Closes tag later) = Tag tag ∷ []
 
 -- what is open behind a character, in the sink's state before that tag
-abbrev pub open_behind : {S H : Type 0} → (S → Told → ℕ → Reply H) → S → ℕ → Next → Open
-open_behind reply s line (Opens later) = later
-open_behind reply s line (Closes tag later) = open_after_reply (reply s (Tag tag) line)
+abbrev pub open_behind : {S H : Type 0} → (S → Told → ℕ → Reply H) → S → ℕ → List ℕ → Next → Open
+open_behind reply s line last (Opens later) = later
+open_behind reply s line last (Closes tag later) = open_after_reply (last_behind last tag) (reply s (Tag tag) line)
+
+-- the last start tag behind a character
+abbrev pub last_in : List ℕ → Next → List ℕ
+last_in last (Opens later) = last
+last_in last (Closes tag later) = last_behind last tag
+
+pub last_here-behind : (last : List ℕ) (h : Here Open) → last_here last h ≡ last_in last (behind h)
+unfolding last_here behind
+last_here-behind last (Tells told later) = refl
+last_here-behind last (TellsTag told tag) = refl
+last_here-behind last (Stops told) = refl
 
 -- behind a tag Data goes on, unless the reply to it chooses
 pub closes-open : (h : Here Open) (tag : TagOf) (later : Open) → Closes tag later ≡ behind h → later ≡ Between Data
@@ -100,21 +135,31 @@ closes-open (Tells told opened) tag later e = cc
 closes-open (TellsTag told ended) tag later e = cc
 closes-open (Stops told) tag later e = cc
 
--- between tags nothing of a tag is open
-pub between-any_tag : {Z : Type 0} (q : State) (t u : CurrentTag Z) (m : Mode) → open_of q t ≡ Between m → open_of q u ≡ Between m
-between-any_tag state.Data t u m e = e
-between-any_tag state.Plaintext t u m e = e
-between-any_tag state.TagOpen t u m e = e
-between-any_tag state.EndTagOpen t u m e = e
-between-any_tag state.TagName t u m e = cc
-between-any_tag state.BeforeAttributeName t u m e = cc
-between-any_tag state.AttributeName t u m e = cc
-between-any_tag state.AfterAttributeName t u m e = cc
-between-any_tag state.BeforeAttributeValue t u m e = cc
-between-any_tag (state.AttributeValue kind) t u m e = cc
-between-any_tag state.AfterAttributeValueQuoted t u m e = cc
-between-any_tag state.SelfClosingStartTag t u m e = cc
-between-any_tag other t u m e = e
+-- in Data nothing of a tag is open, nor of raw text
+pub data-any_tag : {Z : Type 0} (q : State) (t u : CurrentTag Z) (letters name more last : List ℕ) → open_of q t letters name ≡ Between Data → open_of q u more last ≡ Between Data
+data-any_tag state.Data t u letters name more last e = e
+data-any_tag state.Plaintext t u letters name more last e = cc
+data-any_tag state.TagOpen t u letters name more last e = cc
+data-any_tag state.EndTagOpen t u letters name more last e = cc
+data-any_tag state.TagName t u letters name more last e = cc
+data-any_tag state.BeforeAttributeName t u letters name more last e = cc
+data-any_tag state.AttributeName t u letters name more last e = cc
+data-any_tag state.AfterAttributeName t u letters name more last e = cc
+data-any_tag state.BeforeAttributeValue t u letters name more last e = cc
+data-any_tag (state.AttributeValue kind) t u letters name more last e = cc
+data-any_tag state.AfterAttributeValueQuoted t u letters name more last e = cc
+data-any_tag state.SelfClosingStartTag t u letters name more last e = cc
+data-any_tag (state.RawData kind) t u letters name more last e = cc
+data-any_tag (state.RawLessThanSign kind) t u letters name more last e = cc
+data-any_tag (state.RawEndTagOpen kind) t u letters name more last e = cc
+data-any_tag (state.RawEndTagName kind) t u letters name more last e = cc
+data-any_tag (state.ScriptDataEscapeStart escape_kind.Escaped) t u letters name more last e = cc
+data-any_tag (state.ScriptDataEscapeStart escape_kind.DoubleEscaped) t u letters name more last e = cc
+data-any_tag state.ScriptDataEscapeStartDash t u letters name more last e = cc
+data-any_tag (state.ScriptDataEscapedDash kind) t u letters name more last e = cc
+data-any_tag (state.ScriptDataEscapedDashDash kind) t u letters name more last e = cc
+data-any_tag state.ScriptDataDoubleEscapeEnd t u letters name more last e = cc
+data-any_tag other t u letters name more last e = cc
 
 -- a refusal within what a state tells, where a tag may follow
 pub ended_stops : {S T : Type 0} (Z : Type 0) (step faulted : S → Told → ℕ → S) (r : Result T TokenizerError) (e : TokenizerError) (now : Opened Z) (next : Next) (s u : S) (line : ℕ) (tokens : List Told)
@@ -126,12 +171,12 @@ ended_stops Z step faulted r Failed now next s u line tokens h ends stop = absur
 ended_stops Z step faulted r NotYet now next s u line tokens h ends stop =
     rw (ends, append-nil tokens) (tells_stop step faulted r NotYet s u (on_line line tokens) h stop)
 
-pub ended_leads : {S H T : Type 0} (Z : Type 0) (reply : S → Told → ℕ → Reply H) (r : Result T TokenizerError) (e : TokenizerError) (now : Opened Z) (then_open : Open) (next : Next) (t : S) (line : ℕ)
-    → IsErrAnd r (λ x. x ≡ e) → Ends {Z = Z} (Err e) now next → Leads r then_open (open_behind reply t line next)
-ended_leads Z reply r Memory now later next t line h ends = let p = err_from_is_err_and r h in rw (p.1, p.2) tt
-ended_leads Z reply r Sink now later next t line h ends = let p = err_from_is_err_and r h in rw (p.1, p.2) tt
-ended_leads Z reply r Failed now later next t line h ends = absurd ends
-ended_leads Z reply r NotYet now later next t line h ends = let p = err_from_is_err_and r h in rw (p.1, p.2) (ap (open_behind reply t line) ends)
+pub ended_leads : {S H T : Type 0} (Z : Type 0) (reply : S → Told → ℕ → Reply H) (r : Result T TokenizerError) (e : TokenizerError) (now : Opened Z) (then_open : Open) (next : Next) (t : S) (line : ℕ) (last : List ℕ)
+    → IsErrAnd r (λ x. x ≡ e) → Ends {Z = Z} (Err e) now next → Leads r then_open (open_behind reply t line last next)
+ended_leads Z reply r Memory now later next t line last h ends = let p = err_from_is_err_and r h in rw (p.1, p.2) tt
+ended_leads Z reply r Sink now later next t line last h ends = let p = err_from_is_err_and r h in rw (p.1, p.2) tt
+ended_leads Z reply r Failed now later next t line last h ends = absurd ends
+ended_leads Z reply r NotYet now later next t line last h ends = let p = err_from_is_err_and r h in rw (p.1, p.2) (ap (open_behind reply t line last) ends)
 
 -- a state tells no tag before the one that ends
 no_tags-tokens : (h : Here Open) → NoTagsHere h → NoTags (tokens_of h)
@@ -169,55 +214,65 @@ module _ {S H : Type 0} (step : S → Told → ℕ → S) (reply : S → Told �
       rw (no_bad_character d (rules.exact && is_bad_character d) refl goes, append-nil before) refl
 
   -- the reply to a tag is asked behind all that was told before
-  opened-behind : (s : S) (line d : ℕ) (h : Here Open)
-      → opened_here step reply rules s line d h ≡ open_behind reply (stepped step s (on_line line (bad_character_error rules.exact d ++ tokens_of h))) line (behind h)
+  opened-behind : (s : S) (line : ℕ) (last : List ℕ) (d : ℕ) (h : Here Open)
+      → opened_here step reply rules s line last d h ≡ open_behind reply (stepped step s (on_line line (bad_character_error rules.exact d ++ tokens_of h))) line last (behind h)
   unfolding opened_here tokens_of behind
-  opened-behind s line d (Tells told later) = refl
-  opened-behind s line d (TellsTag told tag) = refl
-  opened-behind s line d (Stops told) = refl
+  opened-behind s line last d (Tells told later) = refl
+  opened-behind s line last d (TellsTag told tag) = refl
+  opened-behind s line last d (Stops told) = refl
 
   -- a character in a state, where a bad one that begins what isn't built yet was excluded
-  module _ {Z : Type 0} (now : State) (tag : CurrentTag Z) (s : S) (line d : ℕ) where
+  module _ {Z : Type 0} (now : State) (tag : CurrentTag Z) (letters name : List ℕ) (s : S) (line d : ℕ) where
     abbrev told_here : List Message
-    told_here = messages_here step reply rules line d (step_at rules.exact (open_of now tag) d)
+    told_here = messages_here step reply rules line d (step_at rules.exact (open_of now tag letters name) d)
 
     abbrev behind_here : Open
-    behind_here = opened_here step reply rules s line d (step_at rules.exact (open_of now tag) d)
+    behind_here = opened_here step reply rules s line name d (step_at rules.exact (open_of now tag letters name) d)
 
-    goes_on : (rules.exact && is_bad_character d && stops_at_bad now) ≡ false → (rules.exact && is_bad_character d) ≡ true → Goes (step_at rules.exact (open_of now tag) d)
+    goes_on : (rules.exact && is_bad_character d && stops_at_bad now) ≡ false → (rules.exact && is_bad_character d) ≡ true → Goes (step_at rules.exact (open_of now tag letters name) d)
     goes_on not_stopped both =
-        goes_at_bad rules.exact now tag d (and_parts rules.exact (is_bad_character d) both).1 (rw both at not_stopped)
+        goes_at_bad rules.exact now tag letters name d (and_parts rules.exact (is_bad_character d) both).1 (rw both at not_stopped)
 
     told-character : (rules.exact && is_bad_character d && stops_at_bad now) ≡ false
         → told_here
-        ≡ on_line line ((bad_character_error rules.exact d ++ tokens_of (step_at rules.exact (open_of now tag) d)) ++ tag_in (behind (step_at rules.exact (open_of now tag) d)))
-    told-character not_stopped = messages-tokens line d (step_at rules.exact (open_of now tag) d) (goes_on not_stopped)
+        ≡ on_line line ((bad_character_error rules.exact d ++ tokens_of (step_at rules.exact (open_of now tag letters name) d)) ++ tag_in (behind (step_at rules.exact (open_of now tag letters name) d)))
+    told-character not_stopped = messages-tokens line d (step_at rules.exact (open_of now tag letters name) d) (goes_on not_stopped)
 
     after-character : behind_here
-        ≡ open_behind reply (stepped step s (on_line line (bad_character_error rules.exact d ++ tokens_of (step_at rules.exact (open_of now tag) d)))) line (behind (step_at rules.exact (open_of now tag) d))
-    after-character = opened-behind s line d (step_at rules.exact (open_of now tag) d)
+        ≡ open_behind reply (stepped step s (on_line line (bad_character_error rules.exact d ++ tokens_of (step_at rules.exact (open_of now tag letters name) d)))) line name (behind (step_at rules.exact (open_of now tag letters name) d))
+    after-character = opened-behind s line name d (step_at rules.exact (open_of now tag letters name) d)
 
     -- where such a character comes, nothing is told
-    stops_at-step : {Y : Type 0} → (q : State) (t : CurrentTag Y) → stops_at_bad q ≡ true → is_bad_character d ≡ true → step_at rules.exact (open_of q t) d ≡ Stops []
+    stops_at-step : {Y : Type 0} → (q : State) (t : CurrentTag Y) (held last : List ℕ) → stops_at_bad q ≡ true → is_bad_character d ≡ true → step_at rules.exact (open_of q t held last) d ≡ Stops []
     unfolding step_at
-    stops_at-step state.Data t stops bad = absurd (false≢true stops)
-    stops_at-step state.Plaintext t stops bad = absurd (false≢true stops)
-    stops_at-step state.TagOpen t stops bad = absurd (false≢true stops)
-    stops_at-step state.EndTagOpen t stops bad = bad_stops rules.exact d bad
-    stops_at-step state.TagName t stops bad = absurd (false≢true stops)
-    stops_at-step state.BeforeAttributeName t stops bad = absurd (false≢true stops)
-    stops_at-step state.AttributeName t stops bad = absurd (false≢true stops)
-    stops_at-step state.AfterAttributeName t stops bad = absurd (false≢true stops)
-    stops_at-step state.BeforeAttributeValue t stops bad = absurd (false≢true stops)
-    stops_at-step (state.AttributeValue kind) t stops bad = absurd (false≢true stops)
-    stops_at-step state.AfterAttributeValueQuoted t stops bad = absurd (false≢true stops)
-    stops_at-step state.SelfClosingStartTag t stops bad = absurd (false≢true stops)
-    stops_at-step other t stops bad = refl
+    stops_at-step state.Data t held last stops bad = absurd (false≢true stops)
+    stops_at-step state.Plaintext t held last stops bad = absurd (false≢true stops)
+    stops_at-step state.TagOpen t held last stops bad = absurd (false≢true stops)
+    stops_at-step state.EndTagOpen t held last stops bad = bad_stops rules.exact d bad
+    stops_at-step state.TagName t held last stops bad = absurd (false≢true stops)
+    stops_at-step state.BeforeAttributeName t held last stops bad = absurd (false≢true stops)
+    stops_at-step state.AttributeName t held last stops bad = absurd (false≢true stops)
+    stops_at-step state.AfterAttributeName t held last stops bad = absurd (false≢true stops)
+    stops_at-step state.BeforeAttributeValue t held last stops bad = absurd (false≢true stops)
+    stops_at-step (state.AttributeValue kind) t held last stops bad = absurd (false≢true stops)
+    stops_at-step state.AfterAttributeValueQuoted t held last stops bad = absurd (false≢true stops)
+    stops_at-step state.SelfClosingStartTag t held last stops bad = absurd (false≢true stops)
+    stops_at-step (state.RawData kind) t held last stops bad = absurd (false≢true stops)
+    stops_at-step (state.RawLessThanSign kind) t held last stops bad = absurd (false≢true stops)
+    stops_at-step (state.RawEndTagOpen kind) t held last stops bad = absurd (false≢true stops)
+    stops_at-step (state.RawEndTagName kind) t held last stops bad = absurd (false≢true stops)
+    stops_at-step (state.ScriptDataEscapeStart escape_kind.Escaped) t held last stops bad = absurd (false≢true stops)
+    stops_at-step (state.ScriptDataEscapeStart escape_kind.DoubleEscaped) t held last stops bad = absurd (false≢true stops)
+    stops_at-step state.ScriptDataEscapeStartDash t held last stops bad = absurd (false≢true stops)
+    stops_at-step (state.ScriptDataEscapedDash kind) t held last stops bad = absurd (false≢true stops)
+    stops_at-step (state.ScriptDataEscapedDashDash kind) t held last stops bad = absurd (false≢true stops)
+    stops_at-step state.ScriptDataDoubleEscapeEnd t held last stops bad = absurd (false≢true stops)
+    stops_at-step other t held last stops bad = refl
 
-    stopped-step : (rules.exact && is_bad_character d && stops_at_bad now) ≡ true → step_at rules.exact (open_of now tag) d ≡ Stops []
+    stopped-step : (rules.exact && is_bad_character d && stops_at_bad now) ≡ true → step_at rules.exact (open_of now tag letters name) d ≡ Stops []
     stopped-step stopped =
         let both = and_parts (rules.exact && is_bad_character d) (stops_at_bad now) stopped in
-        stops_at-step now tag both.1 (and_parts rules.exact (is_bad_character d) both.0).1
+        stops_at-step now tag letters name both.1 (and_parts rules.exact (is_bad_character d) both.0).1
 
     pub told-stopped : (rules.exact && is_bad_character d && stops_at_bad now) ≡ true → told_here ≡ []
     unfolding messages_here
@@ -230,49 +285,56 @@ module _ {S H : Type 0} (step : S → Told → ℕ → S) (reply : S → Told �
     -- a character that is read: the bad character, the tokens of its state and then the tag that it ends, told by calls
     module _ (not_stopped : (rules.exact && is_bad_character d && stops_at_bad now) ≡ false) where
       abbrev here_tokens : List Told
-      here_tokens = bad_character_error rules.exact d ++ tokens_of (step_at rules.exact (open_of now tag) d)
+      here_tokens = bad_character_error rules.exact d ++ tokens_of (step_at rules.exact (open_of now tag letters name) d)
 
       abbrev next : Next
-      next = behind (step_at rules.exact (open_of now tag) d)
+      next = behind (step_at rules.exact (open_of now tag letters name) d)
 
       whole-told : told_here ≡ on_line line (here_tokens ++ tag_in next)
       whole-told = told-character not_stopped
 
-      whole-opened : (u : S) → u ≡ stepped step s (on_line line here_tokens) → behind_here ≡ open_behind reply u line next
+      whole-opened : (u : S) → u ≡ stepped step s (on_line line here_tokens) → behind_here ≡ open_behind reply u line name next
       whole-opened u e =
-          after-character ∙ ap (λ v. open_behind reply v line next) (sym e)
+          after-character ∙ ap (λ v. open_behind reply v line name next) (sym e)
 
       module _ (t u : S) (bad_told : t ≡ stepped step s (on_line line (bad_character_error rules.exact d))) where
-        both-told : u ≡ stepped step t (on_line line (tokens_of (step_at rules.exact (open_of now tag) d))) → u ≡ stepped step s (on_line line here_tokens)
+        both-told : u ≡ stepped step t (on_line line (tokens_of (step_at rules.exact (open_of now tag letters name) d))) → u ≡ stepped step s (on_line line here_tokens)
         both-told e =
-            e ∙ ap (λ v. stepped step v (on_line line (tokens_of (step_at rules.exact (open_of now tag) d)))) bad_told
-            ∙ sym (stepped-append step s (on_line line (bad_character_error rules.exact d)) (on_line line (tokens_of (step_at rules.exact (open_of now tag) d))))
-            ∙ ap (stepped step s) (sym (map-append (λ (token : Told). record { token = token; line = line }) (bad_character_error rules.exact d) (tokens_of (step_at rules.exact (open_of now tag) d))))
+            e ∙ ap (λ v. stepped step v (on_line line (tokens_of (step_at rules.exact (open_of now tag letters name) d)))) bad_told
+            ∙ sym (stepped-append step s (on_line line (bad_character_error rules.exact d)) (on_line line (tokens_of (step_at rules.exact (open_of now tag letters name) d))))
+            ∙ ap (stepped step s) (sym (map-append (λ (token : Told). record { token = token; line = line }) (bad_character_error rules.exact d) (tokens_of (step_at rules.exact (open_of now tag letters name) d))))
 
         pub tells-ended : {T : Type 0} (faulted : S → Told → ℕ → S) (r : Result T TokenizerError) (told_tag : TagOf) (later : Open) (v : S)
-            → u ≡ stepped step t (on_line line (tokens_of (step_at rules.exact (open_of now tag) d))) → Closes told_tag later ≡ next
+            → u ≡ stepped step t (on_line line (tokens_of (step_at rules.exact (open_of now tag letters name) d))) → Closes told_tag later ≡ next
             → telling.Tells step faulted r u (on_line line (Tag told_tag ∷ [])) v
             → telling.Tells step faulted r s (told_here) v
         tells-ended faulted r told_tag later v e is tells =
             rw (whole-told, ← is) (told_then step faulted r s u v line here_tokens (Tag told_tag ∷ []) (both-told e) tells)
 
         pub opened-ended : (told_tag : TagOf) (later : Open)
-            → u ≡ stepped step t (on_line line (tokens_of (step_at rules.exact (open_of now tag) d))) → Closes told_tag later ≡ next
-            → open_after_reply (reply u (Tag told_tag) line) ≡ behind_here
-        opened-ended told_tag later e is = ap (open_behind reply u line) is ∙ sym (whole-opened u (both-told e))
+            → u ≡ stepped step t (on_line line (tokens_of (step_at rules.exact (open_of now tag letters name) d))) → Closes told_tag later ≡ next
+            → open_after_reply (last_behind name told_tag) (reply u (Tag told_tag) line) ≡ behind_here
+        opened-ended told_tag later e is = ap (open_behind reply u line name) is ∙ sym (whole-opened u (both-told e))
+
+        pub last-ended : (told_tag : TagOf) (later : Open) → Closes told_tag later ≡ next
+            → last_behind name told_tag ≡ last_here name (step_at rules.exact (open_of now tag letters name) d)
+        last-ended told_tag later is = ap (last_in name) is ∙ sym (last_here-behind name (step_at rules.exact (open_of now tag letters name) d))
+
+        pub last-going : (later : Open) → Opens later ≡ next → name ≡ last_here name (step_at rules.exact (open_of now tag letters name) d)
+        last-going later is = ap (last_in name) is ∙ sym (last_here-behind name (step_at rules.exact (open_of now tag letters name) d))
 
         pub pause-ended : ((s : S) (told : Told) (line : ℕ) → is_tag told ≡ false → reply s told line ≡ KeepOn)
             → (told_tag : TagOf) (later : Open)
-            → u ≡ stepped step t (on_line line (tokens_of (step_at rules.exact (open_of now tag) d))) → Closes told_tag later ≡ next
+            → u ≡ stepped step t (on_line line (tokens_of (step_at rules.exact (open_of now tag letters name) d))) → Closes told_tag later ≡ next
             → first_pause step reply u (on_line line (Tag told_tag ∷ [])) ≡ first_pause step reply s (told_here)
         pause-ended keeps_on told_tag later e is =
             ap (λ v. first_pause step reply v (on_line line (Tag told_tag ∷ []))) (both-told e)
             ∙ ap (λ m. first_pause step reply (stepped step s (on_line line here_tokens)) (on_line line (tag_in m))) is
-            ∙ sym (pause-character keeps_on s line d (open_of now tag) (tag_in next))
+            ∙ sym (pause-character keeps_on s line d (open_of now tag letters name) (tag_in next))
             ∙ ap (first_pause step reply s) (sym whole-told)
 
         pub tells-going : (later : Open)
-            → u ≡ stepped step t (on_line line (tokens_of (step_at rules.exact (open_of now tag) d))) → Opens later ≡ next
+            → u ≡ stepped step t (on_line line (tokens_of (step_at rules.exact (open_of now tag letters name) d))) → Opens later ≡ next
             → u ≡ stepped step s (told_here)
         tells-going later e is =
             both-told e
@@ -280,9 +342,9 @@ module _ {S H : Type 0} (step : S → Told → ℕ → S) (reply : S → Told �
             ∙ ap (stepped step s) (sym whole-told)
 
         pub opened-going : (later : Open)
-            → u ≡ stepped step t (on_line line (tokens_of (step_at rules.exact (open_of now tag) d))) → Opens later ≡ next
+            → u ≡ stepped step t (on_line line (tokens_of (step_at rules.exact (open_of now tag letters name) d))) → Opens later ≡ next
             → later ≡ behind_here
-        opened-going later e is = ap (open_behind reply u line) is ∙ sym (whole-opened u (both-told e))
+        opened-going later e is = ap (open_behind reply u line name) is ∙ sym (whole-opened u (both-told e))
 
         pub pause-going : ((s : S) (told : Told) (line : ℕ) → is_tag told ≡ false → reply s told line ≡ KeepOn)
             → (later : Open) → Opens later ≡ next
@@ -290,27 +352,27 @@ module _ {S H : Type 0} (step : S → Told → ℕ → S) (reply : S → Told �
         pause-going keeps_on later is =
             sym (first_pause-none step reply (stepped step s (on_line line here_tokens)))
             ∙ ap (λ m. first_pause step reply (stepped step s (on_line line here_tokens)) (on_line line (tag_in m))) is
-            ∙ sym (pause-character keeps_on s line d (open_of now tag) (tag_in next))
+            ∙ sym (pause-character keeps_on s line d (open_of now tag letters name) (tag_in next))
             ∙ ap (first_pause step reply s) (sym whole-told)
 
         pub tells-refused : {T : Type 0} (Z : Type 0) (faulted : S → Told → ℕ → S) (r : Result T TokenizerError) (e : TokenizerError) (opened : Opened Z)
             → IsErrAnd r (λ x. x ≡ e) → Ends {Z = Z} (Err e) opened next
-            → telling.Stops step faulted e t (on_line line (tokens_of (step_at rules.exact (open_of now tag) d))) u
+            → telling.Stops step faulted e t (on_line line (tokens_of (step_at rules.exact (open_of now tag letters name) d))) u
             → telling.Tells step faulted r s (told_here) u
         tells-refused Z faulted r e opened h ends stop =
-            rw (whole-told, append_assoc (bad_character_error rules.exact d) (tokens_of (step_at rules.exact (open_of now tag) d)) (tag_in next))
-            (told_then step faulted r s t u line (bad_character_error rules.exact d) (tokens_of (step_at rules.exact (open_of now tag) d) ++ tag_in next) bad_told
-            (ended_stops Z step faulted r e opened next t u line (tokens_of (step_at rules.exact (open_of now tag) d)) h ends stop))
+            rw (whole-told, append_assoc (bad_character_error rules.exact d) (tokens_of (step_at rules.exact (open_of now tag letters name) d)) (tag_in next))
+            (told_then step faulted r s t u line (bad_character_error rules.exact d) (tokens_of (step_at rules.exact (open_of now tag letters name) d) ++ tag_in next) bad_told
+            (ended_stops Z step faulted r e opened next t u line (tokens_of (step_at rules.exact (open_of now tag letters name) d)) h ends stop))
 
       pub leads-refused : {T : Type 0} (Z : Type 0) (r : Result T TokenizerError) (e : TokenizerError) (opened : Opened Z) (later : Open)
           → IsErrAnd r (λ x. x ≡ e) → Ends {Z = Z} (Err e) opened next → Leads r later behind_here
       leads-refused Z r e opened later h ends =
           rw (whole-opened (stepped step s (on_line line here_tokens)) refl)
-          (ended_leads Z reply r e opened later next (stepped step s (on_line line here_tokens)) line h ends)
+          (ended_leads Z reply r e opened later next (stepped step s (on_line line here_tokens)) line name h ends)
 
       pub tells-bad : {T : Type 0} (faulted : S → Told → ℕ → S) (r : Result T TokenizerError) (e : TokenizerError) (t : S)
           → IsErrAnd r (λ x. x ≡ e) → telling.IsRefusal e → telling.Stops step faulted e s (on_line line (bad_character_error rules.exact d)) t
           → telling.Tells step faulted r s (told_here) t
       tells-bad faulted r e t h refusal stop =
-          rw (whole-told, append_assoc (bad_character_error rules.exact d) (tokens_of (step_at rules.exact (open_of now tag) d)) (tag_in next))
-          (told_stop step faulted r e s t line (bad_character_error rules.exact d) (tokens_of (step_at rules.exact (open_of now tag) d) ++ tag_in next) h refusal stop)
+          rw (whole-told, append_assoc (bad_character_error rules.exact d) (tokens_of (step_at rules.exact (open_of now tag letters name) d)) (tag_in next))
+          (told_stop step faulted r e s t line (bad_character_error rules.exact d) (tokens_of (step_at rules.exact (open_of now tag letters name) d) ++ tag_in next) h refusal stop)

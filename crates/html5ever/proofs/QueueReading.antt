@@ -7,7 +7,7 @@ use Rattle.html5grammar.specs.Reading.{told, messages, after}
 use Rattle.html5ever.specs.Runs.{ReadsRun}
 use Rattle.html5ever_interface.specs.Sink.{Message, stepped}
 use Rattle.html5grammar.specs.Start.{Start, Open, is_clean, Rules}
-use Rattle.html5grammar.specs.Start.Open.{Between, LessThan, LessThanSolidus, InTag, InReference, NotBuilt}
+use Rattle.html5grammar.specs.Start.Open.{Between, LessThan, LessThanSolidus, InTag, InRaw, InReference, NotBuilt}
 use Rattle.html5states.specs.Steps.{Leads}
 use Rattle.html5states.specs.Telling.{Stops, IsRefusal}
 use Rattle.html5grammar.specs.NormalisedText.{input_after}
@@ -37,6 +37,7 @@ opened_after_run-clean (Between mode) run clean = refl
 opened_after_run-clean LessThan run clean = absurd (false≢true clean)
 opened_after_run-clean LessThanSolidus run clean = absurd (false≢true clean)
 opened_after_run-clean (InTag place tag) run clean = absurd (false≢true clean)
+opened_after_run-clean (InRaw place name) run clean = absurd (false≢true clean)
 opened_after_run-clean (InReference stand held) run clean = absurd (false≢true clean)
 opened_after_run-clean NotBuilt run clean = absurd (false≢true clean)
 
@@ -45,6 +46,7 @@ run_tokens-clean (Between mode) run clean = refl
 run_tokens-clean LessThan run clean = absurd (false≢true clean)
 run_tokens-clean LessThanSolidus run clean = absurd (false≢true clean)
 run_tokens-clean (InTag place tag) run clean = absurd (false≢true clean)
+run_tokens-clean (InRaw place name) run clean = absurd (false≢true clean)
 run_tokens-clean (InReference stand held) run clean = absurd (false≢true clean)
 run_tokens-clean NotBuilt run clean = absurd (false≢true clean)
 
@@ -54,6 +56,7 @@ run_tokens-tag (Between mode) run in_tag = absurd (false≢true (sym in_tag))
 run_tokens-tag LessThan run in_tag = refl
 run_tokens-tag LessThanSolidus run in_tag = refl
 run_tokens-tag (InTag place tag) run in_tag = refl
+run_tokens-tag (InRaw place name) run in_tag = refl
 run_tokens-tag (InReference stand held) run in_tag = refl
 run_tokens-tag NotBuilt run in_tag = refl
 
@@ -183,23 +186,23 @@ module _ {S H : Type 0} (step : S → Told → ℕ → S) (reply : S → Told �
   tells_nothing faulted (Err e) s memory = rw memory (Memory-at_once step faulted s [])
 
   run_moves : {T : Type 0} (r : Result T TokenizerError) (K L : Start) (s : S) (run : List ℕ) → IsRun rules K run → K.input.line < 2 ^ 64
-      → OnOk r (L.opened ≡ opened_after_run K.opened run) → L.input ≡ K.input → OnOk r (L ≡ after step reply rules K s run)
-  run_moves (Ok x) K L s run is_run fits opened input = rw (after-run step reply rules K s run is_run fits, ← opened, ← input) refl
-  run_moves (Err e) K L s run is_run fits opened input = tt
+      → OnOk r (L.opened ≡ opened_after_run K.opened run) → L.last_start_tag ≡ K.last_start_tag → L.input ≡ K.input → OnOk r (L ≡ after step reply rules K s run)
+  run_moves (Ok x) K L s run is_run fits opened last input = rw (after-run step reply rules K s run is_run fits, ← opened, ← last, ← input) refl
+  run_moves (Err e) K L s run is_run fits opened last input = tt
 
   -- a run was read, or refused
   pub ReadsRun-run : {T : Type 0} (faulted : S → Told → ℕ → S) (r : Result T TokenizerError)
       → ((s : S) (told : Told) (line : ℕ) → is_tag told ≡ false → reply s told line ≡ KeepOn)
       → (K L : Start) (old new : TextQueue) (s t : S) (run : List ℕ) → IsRun rules K run → K.input.line < 2 ^ 64 → Takes old new run
       → Tells step faulted r s (on_line K.input.line (run_tokens K.opened run)) t
-      → OnOk r (L.opened ≡ opened_after_run K.opened run) → L.input ≡ K.input
+      → OnOk r (L.opened ≡ opened_after_run K.opened run) → L.last_start_tag ≡ K.last_start_tag → L.input ≡ K.input
       → ReadsRun step reply faulted rules r K L old new s t
-  ReadsRun-run faulted r keeps_on K L old new s t run is_run fits takes tells opened input = record {
+  ReadsRun-run faulted r keeps_on K L old new s t run is_run fits takes tells opened last input = record {
     run = run;
     takes = takes;
     is_item = inr is_run;
     tells = rw (told-run step reply rules K s run is_run fits) tells;
-    moves = run_moves r K L s run is_run fits opened input;
+    moves = run_moves r K L s run is_run fits opened last input;
     quiet = run-quiet step reply keeps_on rules K s run is_run fits;
   }
 
@@ -212,7 +215,7 @@ module _ {S H : Type 0} (step : S → Told → ℕ → S) (reply : S → Told �
   ReadsRun-text faulted r keeps_on K old new s t run is_run clean fits takes tells =
       ReadsRun-run faulted r keeps_on K K old new s t run is_run fits takes
       (subst (λ (tokens : List Told). Tells step faulted r s (on_line K.input.line tokens) t) (sym (run_tokens-clean K.opened run clean)) tells)
-      (on_ok r (sym (opened_after_run-clean K.opened run clean))) refl
+      (on_ok r (sym (opened_after_run-clean K.opened run clean))) refl refl
 
   -- there was no memory for a run of text
   pub ReadsRun-memory : {T : Type 0} (faulted : S → Told → ℕ → S)
@@ -220,18 +223,18 @@ module _ {S H : Type 0} (step : S → Told → ℕ → S) (reply : S → Told �
       → (K : Start) (old new : TextQueue) (s : S) (run : List ℕ) → IsRun rules K run → K.input.line < 2 ^ 64 → Takes old new run
       → ReadsRun {T = T} step reply faulted rules (Err Memory) K K old new s s
   ReadsRun-memory faulted keeps_on K old new s run is_run fits takes =
-      ReadsRun-run faulted (Err Memory) keeps_on K K old new s s run is_run fits takes (Memory-at_once step faulted s _) tt refl
+      ReadsRun-run faulted (Err Memory) keeps_on K K old new s s run is_run fits takes (Memory-at_once step faulted s _) tt refl refl
 
   -- a run was put to the open name or value, or there was no memory for it
   pub ReadsRun-tag : {T : Type 0} (faulted : S → Told → ℕ → S) (r : Result T TokenizerError)
       → ((s : S) (told : Told) (line : ℕ) → is_tag told ≡ false → reply s told line ≡ KeepOn)
       → (K L : Start) (old new : TextQueue) (s : S) (run : List ℕ) → IsRun rules K run → is_clean K.opened ≡ false → K.input.line < 2 ^ 64 → Takes old new run
-      → IfErr r (λ e. e ≡ Memory) → OnOk r (L.opened ≡ opened_after_run K.opened run) → L.input ≡ K.input
+      → IfErr r (λ e. e ≡ Memory) → OnOk r (L.opened ≡ opened_after_run K.opened run) → L.last_start_tag ≡ K.last_start_tag → L.input ≡ K.input
       → ReadsRun step reply faulted rules r K L old new s s
-  ReadsRun-tag faulted r keeps_on K L old new s run is_run in_tag fits takes memory opened input =
+  ReadsRun-tag faulted r keeps_on K L old new s run is_run in_tag fits takes memory opened last input =
       ReadsRun-run faulted r keeps_on K L old new s s run is_run fits takes
       (subst (λ (tokens : List Told). Tells step faulted r s (on_line K.input.line tokens) s) (sym (run_tokens-tag K.opened run in_tag)) (tells_nothing faulted r s memory))
-      opened input
+      opened last input
 
   -- what the whole feed takes, around an item
   taken-parts : (K L : Start) (old mid new : TextQueue) (s t : S) (item : List ℕ) → (read : HasRead K L old mid s t) → Takes mid new item
@@ -265,8 +268,8 @@ module _ {S H : Type 0} (step : S → Told → ℕ → S) (reply : S → Told �
       ∙ after-append step reply rules L t item is_taken.more
 
   -- a start is what is open and how characters come in
-  pub moved-behind : (N K : Start) (s : S) (X : List ℕ) → N.opened ≡ (after step reply rules K s X).opened → N.input ≡ input_after K.input X → N ≡ after step reply rules K s X
-  moved-behind N K s X opened input = rw (← opened, ← input) refl
+  pub moved-behind : (N K : Start) (s : S) (X : List ℕ) → N.opened ≡ (after step reply rules K s X).opened → N.last_start_tag ≡ (after step reply rules K s X).last_start_tag → N.input ≡ input_after K.input X → N ≡ after step reply rules K s X
+  moved-behind N K s X opened last input = rw (← opened, ← last, ← input) refl
 
   module _ (faulted : S → Told → ℕ → S) where
     pub HasRead-stops : (e : TokenizerError) (K L : Start) (old mid new : TextQueue) (s t u : S) (item : List ℕ)

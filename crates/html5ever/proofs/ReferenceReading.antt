@@ -20,13 +20,13 @@ use Rattle.html5states.specs.Telling as telling
 use Rattle.html5states.specs.declared.error.TokenizerError.{TokenizerError}
 use Rattle.html5ever.specs.Feed.{first_pause}
 use Rattle.html5ever.proofs.Pauses.{first_pause-append, first_pause-no_tags, no_tag_messages}
-use Rattle.html5grammar.proofs.Machine.{step_at, brought_at, reference_step, messages_here, opened_here}
+use Rattle.html5grammar.proofs.Machine.{step_at, brought_at, reference_step, messages_here, opened_here, last_here}
 use Rattle.html5grammar.specs.Characters.{number_sign, semicolon, is_bad_character}
 use Rattle.html5grammar.specs.Reading.{Brought, told, messages, after}
 use Rattle.html5grammar.specs.Reading.Here.{Tells}
 use Rattle.html5grammar.specs.Reference.{in_value, reference, is_undecided, ends_number, has_digits, late_tokens, opened_in, opened_behind}
 use Rattle.html5grammar.specs.Start.{Stand, Start, Open, Rules, is_reference, held_len}
-use Rattle.html5grammar.specs.Start.Open.{Between, LessThan, LessThanSolidus, InTag, InReference, NotBuilt}
+use Rattle.html5grammar.specs.Start.Open.{Between, LessThan, LessThanSolidus, InTag, InRaw, InReference, NotBuilt}
 use Rattle.html5grammar.specs.Start.Stand.{InText, InAttribute}
 use Rattle.html5states.specs.CharRef.{stand_of, with_reference}
 use Rattle.html5states.specs.Steps.{IsBuilt}
@@ -51,11 +51,11 @@ pub answer-is : {E : Type 0} (b d : Bool) → ◌≡◌ {A = Result Bool E} (Ok 
 answer-is b d e = cc
 
 opened_in-no_reference : (stand : Stand) (characters : List ℕ) → is_reference (opened_in stand characters) ≡ false
-opened_in-no_reference InText characters = refl
+opened_in-no_reference (InText mode) characters = refl
 opened_in-no_reference (InAttribute kind tag) characters = refl
 
 pub opened_in-built : (stand : Stand) (characters : List ℕ) → IsBuilt (opened_in stand characters)
-opened_in-built InText characters = tt
+opened_in-built (InText mode) characters = tt
 opened_in-built (InAttribute kind tag) characters = tt
 
 -- the semicolon of a number is no bad character
@@ -143,6 +143,7 @@ end-plain rules (Between mode) none = refl
 end-plain rules LessThan none = refl
 end-plain rules LessThanSolidus none = refl
 end-plain rules (InTag place tag) none = refl
+end-plain rules (InRaw place name) none = refl
 end-plain rules (InReference stand held) none = absurd (false≢true (sym none))
 end-plain rules NotBuilt none = refl
 
@@ -168,8 +169,23 @@ module _ {S H : Type 0} (step : S → Told → ℕ → S) (reply : S → Told �
   told-parts = told-one step reply rules K s c d one ∙ rw (line_after-none K.input fits) refl
 
   after-parts : (after step reply rules K s (c ∷ [])).opened
-      ≡ opened_here step reply rules (stepped step s (on_line K.input.line settled)) line d (brought_at rules K.opened d).here
+      ≡ opened_here step reply rules (stepped step s (on_line K.input.line settled)) line K.last_start_tag d (brought_at rules K.opened d).here
   after-parts = ap (λ (P : Start). P.opened) (after-one step reply rules K s c d one) ∙ rw (line_after-none K.input fits) refl
+
+  last-parts : (after step reply rules K s (c ∷ [])).last_start_tag ≡ last_here K.last_start_tag (brought_at rules K.opened d).here
+  last-parts = ap (λ (P : Start). P.last_start_tag) (after-one step reply rules K s c d one)
+
+  pub last-plain : is_reference K.opened ≡ false
+      → (after step reply rules K s (c ∷ [])).last_start_tag ≡ last_here K.last_start_tag (step_at rules.exact K.opened d)
+  last-plain none = last-parts ∙ rw (brought-step rules K.opened d none) refl
+
+  pub last-belongs : (later : Open) → BelongsTo rules K.opened d later → (after step reply rules K s (c ∷ [])).last_start_tag ≡ K.last_start_tag
+  unfolding last_here
+  last-belongs later b = last-parts ∙ rw b.here refl
+
+  pub last-decides : (later : Open) → Decides rules K.opened d later
+      → (after step reply rules K s (c ∷ [])).last_start_tag ≡ last_here K.last_start_tag (step_at rules.exact later d)
+  last-decides later b = last-parts ∙ rw b.here refl
 
   -- no reference is open
   pub told-plain : is_reference K.opened ≡ false
@@ -177,7 +193,7 @@ module _ {S H : Type 0} (step : S → Told → ℕ → S) (reply : S → Told �
   told-plain none = told-parts ∙ rw (brought-step rules K.opened d none) refl
 
   pub after-plain : is_reference K.opened ≡ false
-      → (after step reply rules K s (c ∷ [])).opened ≡ opened_here step reply rules s line d (step_at rules.exact K.opened d)
+      → (after step reply rules K s (c ∷ [])).opened ≡ opened_here step reply rules s line K.last_start_tag d (step_at rules.exact K.opened d)
   unfolding stepped
   after-plain none = after-parts ∙ rw (brought-step rules K.opened d none) refl
 
@@ -196,7 +212,7 @@ module _ {S H : Type 0} (step : S → Told → ℕ → S) (reply : S → Told �
   told-decides later b = told-parts ∙ rw b.here refl
 
   pub after-decides : (later : Open) → Decides rules K.opened d later
-      → (after step reply rules K s (c ∷ [])).opened ≡ opened_here step reply rules (stepped step s (on_line K.input.line settled)) line d (step_at rules.exact later d)
+      → (after step reply rules K s (c ∷ [])).opened ≡ opened_here step reply rules (stepped step s (on_line K.input.line settled)) line K.last_start_tag d (step_at rules.exact later d)
   after-decides later b = after-parts ∙ rw b.here refl
 
   module _ (keeps_on : (s : S) (told : Told) (line : ℕ) → is_tag told ≡ false → reply s told line ≡ KeepOn) where

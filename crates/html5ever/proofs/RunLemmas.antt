@@ -19,10 +19,10 @@ use Rattle.html5grammar.specs.Characters.{null, line_feed, carriage_return}
 use Rattle.html5grammar.specs.NormalisedText.{with_line_feeds, without_dropped_first, normalised, line_after, input_after, ends_with_carriage_return}
 use Rattle.html5grammar.specs.Reading.{told, messages, after}
 use Rattle.html5grammar.specs.Start.{Input, Start, Open, Rules}
-use Rattle.html5grammar.specs.Start.Open.{Between, LessThan, LessThanSolidus, InTag, InReference, NotBuilt}
+use Rattle.html5grammar.specs.Start.Open.{Between, LessThan, LessThanSolidus, InTag, InRaw, InReference, NotBuilt}
 use Rattle.html5grammar.proofs.InputLemmas.{line_past, line_after-none}
 use Rattle.html5grammar.proofs.NoTags.{NoTags}
-use Rattle.html5grammar.proofs.ReadingLemmas.{told-trace, after-opened}
+use Rattle.html5grammar.proofs.ReadingLemmas.{told-trace, after-opened, after-last}
 use Rattle.html5grammar.proofs.Traces.{Trace, trace, trace_here, with_messages, brought-tells, trace_brought}
 use Rattle.html5states.specs.Runs.{other_run_ends, run_ends, run_tokens, opened_after_run}
 use Rattle.html5states.proofs.RunSteps.{step-run, run_tokens-nil, run_tokens-cons, opened_after_run-nil, opened_after_run-cons, other_run_ends-after, no_null, no_line_feed, no_carriage_return}
@@ -147,33 +147,35 @@ no_tags-run (Between mode) run = no_tags-texts run
 no_tags-run LessThan run = tt
 no_tags-run LessThanSolidus run = tt
 no_tags-run (InTag place tag) run = tt
+no_tags-run (InRaw place name) run = tt
 no_tags-run (InReference stand held) run = tt
 no_tags-run NotBuilt run = tt
 
-trace_is : {M N : List Message} {o p : Open} → M ≡ N → o ≡ p → ◌≡◌ {A = Trace} (record { messages = M; opened = o }) (record { messages = N; opened = p })
+trace_is : {M N : List Message} {o p : Open} {last : List ℕ} → M ≡ N → o ≡ p
+    → ◌≡◌ {A = Trace} (record { messages = M; opened = o; last_start_tag = last }) (record { messages = N; opened = p; last_start_tag = last })
 trace_is e f = rw (e, f) refl
 
 module _ {S H : Type 0} (step : S → Told → ℕ → S) (reply : S → Told → ℕ → Reply H) where
-  trace-run : (rules : Rules) → rules.exact ≡ false → (s : S) (line : ℕ) (opened : Open) (others run : List ℕ) → line < 2 ^ 64 → other_run_ends opened ≡ Some others
+  trace-run : (rules : Rules) → rules.exact ≡ false → (s : S) (line : ℕ) (last : List ℕ) (opened : Open) (others run : List ℕ) → line < 2 ^ 64 → other_run_ends opened ≡ Some others
       → All (λ c. ¬ Contains (run_ends others) c) run
-      → trace step reply rules s line opened run ≡ record { messages = on_line line (run_tokens opened run); opened = opened_after_run opened run }
+      → trace step reply rules s line last opened run ≡ record { messages = on_line line (run_tokens opened run); opened = opened_after_run opened run; last_start_tag = last }
   unfolding trace trace_brought trace_here stepped
-  trace-run rules not_exact s line opened others [] h has all = rw (run_tokens-nil opened, opened_after_run-nil opened) refl
-  trace-run rules not_exact s line opened others (c ∷ run) h has all =
+  trace-run rules not_exact s line last opened others [] h has all = rw (run_tokens-nil opened, opened_after_run-nil opened) refl
+  trace-run rules not_exact s line last opened others (c ∷ run) h has all =
       let out : ¬ Contains (run_ends others) c = All-head (λ d. ¬ Contains (run_ends others) d) c run all in
       let M : List Message = on_line line (run_tokens opened (c ∷ [])) in
       let later : Open = opened_after_run opened (c ∷ []) in
       let here : step_at rules.exact opened c ≡ Tells (run_tokens opened (c ∷ [])) later = ap (λ b. step_at b opened c) not_exact ∙ step-run opened others c has out in
       rw (brought-tells rules opened c (Tells (run_tokens opened (c ∷ [])) later) refl here, line_past-ordinary line c (ordinary others c out) h, not_exact)
-      (ap (with_messages M) (trace-run rules not_exact (stepped step s M) line later others run h (other_run_ends-after opened c ∙ has) (All-tail (λ d. ¬ Contains (run_ends others) d) c run all))
+      (ap (with_messages M) (trace-run rules not_exact (stepped step s M) line last later others run h (other_run_ends-after opened c ∙ has) (All-tail (λ d. ¬ Contains (run_ends others) d) c run all))
       ∙ trace_is (sym (map-append (λ (token : Told). record { token = token; line = line }) (run_tokens opened (c ∷ [])) (run_tokens later run)) ∙ ap (on_line line) (sym (run_tokens-cons opened c run)))
       (sym (opened_after_run-cons opened c run)))
 
   run-trace : (rules : Rules) (K : Start) (s : S) (run : List ℕ) → IsRun rules K run → K.input.line < 2 ^ 64
-      → trace step reply rules s (line_after K.input []) K.opened (normalised K.input run)
-      ≡ record { messages = on_line K.input.line (run_tokens K.opened run); opened = opened_after_run K.opened run }
+      → trace step reply rules s (line_after K.input []) K.last_start_tag K.opened (normalised K.input run)
+      ≡ record { messages = on_line K.input.line (run_tokens K.opened run); opened = opened_after_run K.opened run; last_start_tag = K.last_start_tag }
   run-trace rules K s run r h =
-      rw (line_after-none K.input h, normalised-run rules K run r) (trace-run rules r.not_exact s K.input.line K.opened r.is_run.others run h r.is_run.has_runs r.is_run.ordinary)
+      rw (line_after-none K.input h, normalised-run rules K run r) (trace-run rules r.not_exact s K.input.line K.last_start_tag K.opened r.is_run.others run h r.is_run.has_runs r.is_run.ordinary)
 
   pub told-run : (rules : Rules) (K : Start) (s : S) (run : List ℕ) → IsRun rules K run → K.input.line < 2 ^ 64
       → messages (told step reply rules K s run) ≡ on_line K.input.line (run_tokens K.opened run)
@@ -185,7 +187,9 @@ module _ {S H : Type 0} (step : S → Told → ℕ → S) (reply : S → Told �
   after-run rules K s run r h =
       let opened : (after step reply rules K s run).opened ≡ opened_after_run K.opened run =
       after-opened step reply rules K s run ∙ ap (λ (t : Trace). t.opened) (run-trace rules K s run r h) in
-      rw (opened, input_after-run rules K run r h) refl
+      let last : (after step reply rules K s run).last_start_tag ≡ K.last_start_tag =
+      after-last step reply rules K s run ∙ ap (λ (t : Trace). t.last_start_tag) (run-trace rules K s run r h) in
+      rw (opened, last, input_after-run rules K run r h) refl
 
   -- nothing pauses in a run
   pub run-quiet : ((s : S) (told : Told) (line : ℕ) → is_tag told ≡ false → reply s told line ≡ KeepOn)

@@ -39,16 +39,17 @@ position-line I (c ∷ X) h = refl
 
 -- the state in which a stream starts
 
-pub starts-in : {Z : Type 0} → (chosen : Option State) (tag : CurrentTag Z) → CanStart chosen
-    → open_of (unwrap_or chosen state.Data) tag ≡ Between (initial_mode chosen)
-starts-in None tag can = refl
-starts-in (Some state.Data) tag can = refl
-starts-in (Some state.Plaintext) tag can = refl
-starts-in (Some other) tag can = absurd can
+pub starts-in : {Z : Type 0} → (chosen : Option State) (tag : CurrentTag Z) (letters name : List ℕ) → CanStart chosen
+    → open_of (unwrap_or chosen state.Data) tag letters name ≡ Between (initial_mode chosen name)
+starts-in None tag letters name can = refl
+starts-in (Some state.Data) tag letters name can = refl
+starts-in (Some state.Plaintext) tag letters name can = refl
+starts-in (Some (state.RawData kind)) tag letters name can = refl
+starts-in (Some other) tag letters name can = absurd can
 
-pub start-is : (K L : Start) → K.opened ≡ L.opened → K.input.line ≡ L.input.line → K.input.after_carriage_return ≡ L.input.after_carriage_return
+pub start-is : (K L : Start) → K.opened ≡ L.opened → K.last_start_tag ≡ L.last_start_tag → K.input.line ≡ L.input.line → K.input.after_carriage_return ≡ L.input.after_carriage_return
     → K.input.drops_byte_order_mark ≡ L.input.drops_byte_order_mark → K ≡ L
-start-is K L opened line carriage_return mark = rw (← opened, ← line, ← carriage_return, ← mark) refl
+start-is K L opened last line carriage_return mark = rw (← opened, ← last, ← line, ← carriage_return, ← mark) refl
 
 script≢done : {H T E : Type 0} (handle : H) (r q : Result (TokenizerResult H T) E) → r ≡ Ok (Script handle) → q ≡ Ok Done → r ≡ q → ⊥
 script≢done handle r q h k e = cc
@@ -103,10 +104,10 @@ module _ {X S H : Type 0} (state : X → S) (step : S → Told → ℕ → S) (r
   StandsAt-anew t x built not_failed not_ended = StandsAt-start (record t { sink = x }) t.position refl (built not_failed) not_failed not_ended
 
   -- plain text from here on
-  pub StandsAt-plain : (t : Tokenizing X) (before : Start) → t.position.opened ≡ Between Plain → t.position.input ≡ before.input → t.failed ≡ false → t.ended ≡ false
+  pub StandsAt-plain : (t : Tokenizing X) (before : Start) → t.position.opened ≡ Between Plain → t.position.last_start_tag ≡ before.last_start_tag → t.position.input ≡ before.input → t.failed ≡ false → t.ended ≡ false
       → StandsAt state step reply t (record before { opened = Between Plain }) (state t.sink) []
-  StandsAt-plain t before opened input not_failed not_ended =
-      StandsAt-start t (record before { opened = Between Plain }) (rw (← opened, ← input) refl) (rw opened tt) not_failed not_ended
+  StandsAt-plain t before opened last input not_failed not_ended =
+      StandsAt-start t (record before { opened = Between Plain }) (rw (← opened, ← last, ← input) refl) (rw opened tt) not_failed not_ended
 
   pub StandsAt-more : (t u : Tokenizing X) (K : Start) (s : S) (text more : List ℕ)
       → u.rules ≡ t.rules → state u.sink ≡ stepped step (state t.sink) (messages (told step reply t.rules t.position (state t.sink) more))

@@ -2,7 +2,7 @@
 use Rattle.std.proofs.Common.{◌≡◌, inl, inr, ℕ, List, [], ◌++◌, refl, ap, sym, ◌∙◌, length, drop, subst}
 use Rattle.std.proofs.lemmas.List.{append-nil, append_assoc}
 use Rattle.std.proofs.Common.{Result, Ok, Err, true, false}
-use Rattle.std.specs.Prelude.{IfOk, IfErr}
+use Rattle.std.specs.Prelude.{IfOk, IfErr, ◌≢◌}
 use Rattle.html5ever_interface.proofs.Steppings.{stepped-append}
 use Rattle.html5ever_interface.specs.Collected.{Collected}
 use Rattle.html5ever_interface.specs.Sink.{Message, stepped}
@@ -27,7 +27,7 @@ use Rattle.html5states.proofs.Tellings.{stops_before, stops_after}
 use Rattle.std.proofs.Math.Seq.{drop-append_seam}
 use Rattle.std.proofs.lemmas.List.{length-map}
 use Rattle.html5grammar.specs.EndOfInput.{told_at_end_of, late_at_end_of, open_at_end_of}
-use Rattle.html5grammar.specs.Start.Open.{NotBuilt}
+use Rattle.html5grammar.specs.Start.Open.{Between, LessThan, LessThanSolidus, InTag, InRaw, InReference, NotBuilt}
 
 module _ {X S H : Type 0} (state : X → S) (step : S → Told → ℕ → S) (reply : S → Told → ℕ → Reply H) (faulted : S → Told → ℕ → S) where
   -- the reading is what is told, and then what the end tells
@@ -151,6 +151,16 @@ whole-refusal Memory opened not_failed met built = tt
 whole-refusal Sink opened not_failed met built = tt
 whole-refusal Failed opened not_failed met built = not_failed
 whole-refusal NotYet opened not_failed met built = absurd (subst IsBuilt (met refl) built)
+
+-- what isn't what is not built yet is built
+pub built-unless : (opened : Open) → opened ≢ NotBuilt → IsBuilt opened
+built-unless (Between mode) h = tt
+built-unless LessThan h = tt
+built-unless LessThanSolidus h = tt
+built-unless (InTag place tag) h = tt
+built-unless (InRaw place name) h = tt
+built-unless (InReference stand held) h = tt
+built-unless NotBuilt h = h refl
 
 -- what is open behind a reference
 pub built-reference : (written_as : WrittenReference) → IsBuilt (open_behind_reference written_as)

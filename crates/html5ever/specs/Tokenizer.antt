@@ -6,7 +6,7 @@ use Rattle.markup5ever.specs.NamedReferences.{NamedReference}
 use Rattle.html5ever_interface.specs.Sink.{Message, stepped}
 use Rattle.html5ever_interface.specs.Token.{Told, Reply}
 use Rattle.html5ever_interface.specs.declared.states.State.{State}
-use Rattle.html5ever_interface.specs.declared.states.State.TheVariants.{Data, Plaintext}
+use Rattle.html5ever_interface.specs.declared.states.State.TheVariants.{Data, Plaintext, RawData}
 use Rattle.html5grammar.specs.Reading.{reading, told, messages, after}
 use Rattle.html5grammar.specs.Start.{Start, Open, Rules, start_of}
 use Rattle.html5grammar.specs.Start.Open.{NotBuilt}
@@ -38,6 +38,7 @@ abbrev pub CanStart : Option State → Type 0
 CanStart None = Unit {0}
 CanStart (Some Data) = Unit {0}
 CanStart (Some Plaintext) = Unit {0}
+CanStart (Some (RawData kind)) = Unit {0}
 CanStart (Some other) = ⊥
 
 module _ {X S H : Type 0} (state : X → S) (step : S → Told → ℕ → S) (reply : S → Told → ℕ → Reply H) where

@@ -1,7 +1,7 @@
 //! Where a tokenizer stands in its stream.
 #![tactic(auto, unfolding(html5states::specs::CharRef::with_reference))]
 
-ghost use Rattle.std.specs.Prelude.{◌≡◌, ◌≢◌, ◌^◌, ◌<◌, ◌≤◌, ◌+◌, ◌&&◌, ℕ, List, ◌∷◌, [], true, false, length, take, drop, Contains, Some, IfOk, IfErr, IfSome, OnOk, string_bytes};
+ghost use Rattle.std.specs.Prelude.{◌≡◌, ◌≢◌, ◌^◌, ◌<◌, ◌≤◌, ◌+◌, ◌&&◌, ℕ, List, ◌∷◌, [], true, false, length, take, drop, Contains, Some, IfOk, IfErr, IfSome, OnOk, option_map, string_bytes};
 ghost use Rattle.html5ever_interface.specs.Options.{options_of};
 ghost use Rattle.html5ever_interface.specs.Sink.{stepped, on_line};
 ghost use Rattle.html5ever_interface.specs.Token.{Told, tag_of};
@@ -11,19 +11,19 @@ ghost use Rattle.html5grammar.specs.EndOfInput.{told_at_end_of, tokens_at_end};
 ghost use Rattle.html5grammar.specs.Reference.{ends_number, late_tokens, opened_behind};
 ghost use Rattle.html5grammar.specs.ErrorText.{bad_character_error};
 ghost use Rattle.html5grammar.specs.NormalisedText.{input_after};
-ghost use Rattle.html5grammar.specs.Reading.{told, messages, after, open_after_reply};
+ghost use Rattle.html5grammar.specs.Reading.{told, messages, after, last_behind, open_after_reply};
 ghost use Rattle.html5grammar.specs.Slice.{tokens_of_late};
-ghost use Rattle.html5grammar.specs.Start.{start_of, is_clean, is_reference, held_len};
+ghost use Rattle.html5grammar.specs.Start.{start_of, initial_name, raw_of, is_clean, is_reference, held_len};
 ghost use Rattle.html5states.specs.CharRef.{HasStand, stand_of, found_at, begun_reference};
 ghost use Rattle.html5ever.specs.References.{BelongsTo, Decides};
-ghost use Rattle.html5grammar.specs.Start.Mode.{Data, Plain};
+ghost use Rattle.html5grammar.specs.Start.Mode.{Data, Plain, RawText};
 ghost use Rattle.html5grammar.specs.Start.Open.{Between};
-ghost use Rattle.html5states.specs.CurrentTag.{stops_at_bad, opened_of};
+ghost use Rattle.html5states.specs.CurrentTag.{is_between, stops_at_bad, opened_of, last_name_of};
 ghost use Rattle.html5ever.specs.Feed.{reply_in, first_pause};
 ghost use Rattle.html5ever.specs.Refused.{IsRun};
 ghost use Rattle.html5states.specs.Runs.{IsRunAt, other_run_ends, run_ends, opened_after_run};
 ghost use Rattle.std.specs.Str.{IsUtf8, chars};
-ghost use Rattle.html5grammar.proofs.Machine.{step_at, brought_at, messages_here, opened_here};
+ghost use Rattle.html5grammar.proofs.Machine.{step_at, brought_at, messages_here, opened_here, last_here};
 ghost use Rattle.html5states.specs.Steps.{IsBuilt, Leads, Ends, tokens_of, behind};
 ghost use Rattle.html5states.specs.Telling.{Tells, IsRefusal, tokens_in, faults_of};
 ghost use Rattle.html5ever.specs.Tokenizer.{CanStart};
@@ -33,7 +33,7 @@ use crate::rules::Rules;
 use html5ever_interface::interface::sink::TokenSink;
 use html5ever_interface::interface::token::{SinkFault, Tag, TagKind, Token, TokenSinkResult};
 use html5ever_interface::options::TokenizerOpts;
-use html5ever_interface::states::State;
+use html5ever_interface::states::{RawKind, State};
 use html5states::char_ref::CharRef;
 use html5states::current_tag::CurrentTag;
 use html5states::error::TokenizerError;
@@ -42,7 +42,7 @@ use html5states::opened::{Opened, Progress, Step};
 use html5states::runs::{push_run, run_ends};
 use html5states::teller::Teller;
 use markup5ever::tokenizer_result::TokenizerResult;
-use std::alloc::{Allocator, Global};
+use std::alloc::{AllocError, Allocator, Global};
 use std::marker::Model;
 
 /// Where a tokenizer stands in its stream: how characters come in, and what is open.
@@ -59,12 +59,13 @@ impl<A: Allocator> Model for Position<A> {
     ghost use Rattle.html5grammar.specs.Start.{Start};
     ghost use Rattle.std.specs.Prelude.{◌≡◌, true};
     ghost use Rattle.html5states.specs.CharRef.{HasStand, with_reference};
-    ghost use Rattle.html5states.specs.CurrentTag.{opened_of};
+    ghost use Rattle.html5states.specs.CurrentTag.{opened_of, last_name_of};
 
     ghost Value = { Start };
 
     ghost view = { λ p. record {
       opened = with_reference p.in_reference p.held (opened_of p.opened);
+      last_start_tag = last_name_of p.opened;
       input = p.input;
     } };
 
@@ -73,14 +74,16 @@ impl<A: Allocator> Model for Position<A> {
 
 impl<A: Allocator + Copy> Position<A> {
     /// The start of a stream.
-    pub fn new(alloc: A, opts: &TokenizerOpts<A>) -> Position<A>
-        requires { CanStart opts.now.initial_state }
-        ensures start { result ≡ start_of (options_of opts.now) }
+    pub fn new(alloc: A, opts: TokenizerOpts<A>) -> Position<A>
+        requires { CanStart opts.initial_state }
+        ensures start { result ≡ start_of (options_of opts) }
         ensures built { IsBuilt result.opened }
     {
         let opened = Opened {
             state: opts.initial_state.unwrap_or(State::Data),
             tag: CurrentTag::new(alloc, TagKind::StartTag),
+            letters: String::new(alloc),
+            last_start_tag: name_or_empty(alloc, opts.last_start_tag_name),
         };
         Position::standing(alloc, opened, Input::new(opts.discard_bom))
     }
@@ -88,6 +91,7 @@ impl<A: Allocator + Copy> Position<A> {
     // No reference is open.
     fn standing(alloc: A, opened: Opened<A>, input: Input) -> Position<A>
         ensures opened { result.opened ≡ opened_of opened }
+        ensures last { result.last_start_tag ≡ last_name_of opened }
         ensures input { result.input ≡ input }
     {
         Position {
@@ -135,16 +139,40 @@ impl<A: Allocator + Copy> Position<A> {
     pub fn is_clean(&self) -> bool
         ensures { result ≡ is_clean self.now.opened }
     {
-        !self.in_reference && matches!(self.opened.state, State::Data | State::Plaintext)
+        !self.in_reference && is_between(self.opened.state)
     }
 
     /// Reads plain text from here on.
     pub fn set_plaintext(&mut self)
         ensures opened { self.new.opened ≡ Between Plain }
+        ensures last { self.new.last_start_tag ≡ self.old.last_start_tag }
         ensures input { self.new.input ≡ self.old.input }
     {
         self.opened.state = State::Plaintext;
         self.in_reference = false;
+    }
+
+    // Reads raw text from here on, up to the end tag of the last start tag.
+    fn set_raw_data(&mut self, kind: RawKind)
+        ensures opened { self.new.opened ≡ Between (RawText (raw_of kind) self.old.last_start_tag) }
+        ensures last { self.new.last_start_tag ≡ self.old.last_start_tag }
+        ensures input { self.new.input ≡ self.old.input }
+    {
+        self.opened.state = State::RawData(kind);
+        self.in_reference = false;
+    }
+
+    // Keeps the name of a start tag, which is told next, as that of the last one.
+    fn note_tag(&mut self, tag: &Tag<A>) -> Result<(), TokenizerError>
+        requires { self.old.opened ≡ Between Data }
+        ensures opened { self.new.opened ≡ Between Data }
+        ensures last { OnOk result
+            (self.new.last_start_tag ≡ last_behind self.old.last_start_tag (tag_of tag.now)) }
+        ensures input { self.new.input ≡ self.old.input }
+        ensures memory { IfErr result (λ error. error ≡ TokenizerError.Memory) }
+    {
+        self.in_reference = false;
+        Ok(keep_name(&mut self.opened.last_start_tag, tag)?)
     }
 
     // Begins a reference where the state is.
@@ -152,6 +180,7 @@ impl<A: Allocator + Copy> Position<A> {
         requires no_reference { is_reference self.old.opened ≡ false }
         requires can_stand { IsBuilt (begun_reference self.old.opened) }
         ensures opened { self.new.opened ≡ begun_reference self.old.opened }
+        ensures last { self.new.last_start_tag ≡ self.old.last_start_tag }
         ensures input { self.new.input ≡ self.old.input }
     {
         self.in_reference = true;
@@ -210,11 +239,48 @@ impl<A: Allocator + Copy> Position<A> {
         requires in_tag { is_clean self.old.opened ≡ false }
         ensures opened { OnOk result
             (self.new.opened ≡ opened_after_run self.old.opened (chars run.now)) }
+        ensures last { self.new.last_start_tag ≡ self.old.last_start_tag }
         ensures input { self.new.input ≡ self.old.input }
         ensures held { held_len self.new.opened ≤ held_len self.old.opened }
         ensures memory { IfErr result (λ error. error ≡ TokenizerError.Memory) }
     {
         Ok(push_run(&mut self.opened, run)?)
+    }
+}
+
+// The name that the options give the last start tag, and else the empty one.
+fn name_or_empty<A: Allocator>(alloc: A, name: Option<String<A>>) -> String<A>
+    ensures { string_bytes result ≡ initial_name (option_map string_bytes name) }
+{
+    match name {
+        Some(name) => name,
+        None => String::new(alloc),
+    }
+}
+
+// Whether nothing is open in the state, where no reference is.
+#[inline(always)]
+fn is_between(state: State) -> bool
+    ensures { result ≡ is_between state }
+{
+    match state {
+        State::Data | State::Plaintext | State::RawData(_) => true,
+        State::ScriptDataEscapedDash(_) | State::ScriptDataEscapedDashDash(_) => true,
+        _ => false,
+    }
+}
+
+// Keeps the name of a start tag as that of the last one.
+#[tactic(auto, unfolding(html5grammar::specs::Reading::last_behind))]
+fn keep_name<A: Allocator>(last_name: &mut String<A>, tag: &Tag<A>) -> Result<(), AllocError>
+    ensures { OnOk result (string_bytes last_name.new ≡ last_behind (string_bytes last_name.old) (tag_of tag.now)) }
+{
+    match tag.kind {
+        TagKind::EndTag => Ok(()),
+        TagKind::StartTag => {
+            last_name.clear();
+            last_name.push_str(&tag.name.0)
+        }
     }
 }
 
@@ -228,6 +294,11 @@ fn stops_at_bad(state: State) -> bool
         State::AfterAttributeName | State::BeforeAttributeValue => false,
         State::AttributeValue(_) => false,
         State::AfterAttributeValueQuoted | State::SelfClosingStartTag => false,
+        State::RawData(_) | State::RawLessThanSign(_) => false,
+        State::RawEndTagOpen(_) | State::RawEndTagName(_) => false,
+        State::ScriptDataEscapeStart(_) | State::ScriptDataEscapeStartDash => false,
+        State::ScriptDataEscapedDash(_) | State::ScriptDataEscapedDashDash(_) => false,
+        State::ScriptDataDoubleEscapeEnd => false,
         _ => true,
     }
 }
@@ -275,6 +346,7 @@ fn step<S: TokenSink<Token<A>>, A: Allocator + Copy>(
     ensures tells { Tells S.step S.faulted result (S.state sink.old)
         (on_line line (tokens_of (step_at exact_errors (opened_of opened.old) c))) (S.state sink.new) }
     ensures leads { Ends result opened.new (behind (step_at exact_errors (opened_of opened.old) c)) }
+    ensures last { last_name_of opened.new ≡ last_name_of opened.old }
     ensures faults { S.faults sink.new ≡ S.faults sink.old + faults_of result }
 {
     let mut teller = Teller {
@@ -299,13 +371,16 @@ fn tell_tag<S: TokenSink<Token<A>>, A: Allocator + Copy>(
     ensures tells { Tells S.step S.faulted result (S.state sink.old)
         (on_line line (Told.Tag (tag_of tag) ∷ [])) (S.state sink.new) }
     ensures leads { Leads result position.new.opened
-        (open_after_reply (S.reply (S.state sink.old) (Told.Tag (tag_of tag)) line)) }
+        (open_after_reply (last_behind position.old.last_start_tag (tag_of tag)) (S.reply (S.state sink.old) (Told.Tag (tag_of tag)) line)) }
+    ensures last { OnOk result
+        (position.new.last_start_tag ≡ last_behind position.old.last_start_tag (tag_of tag)) }
     ensures answer { IfOk result (λ answer. reply_in string_bytes answer
         ≡ first_pause S.step S.reply (S.state sink.old) (on_line line (Told.Tag (tag_of tag) ∷ []))) }
     ensures input { position.new.input ≡ position.old.input }
     ensures held { held_len position.new.opened ≡ 0 }
     ensures faults { S.faults sink.new ≡ S.faults sink.old + faults_of result }
 {
+    position.note_tag(&tag)?;
     match sink.process_token(Token::TagToken(tag), line) {
         Ok(TokenSinkResult::Continue) => Ok(TokenizerResult::Done),
         Ok(TokenSinkResult::Plaintext) => {
@@ -316,7 +391,10 @@ fn tell_tag<S: TokenSink<Token<A>>, A: Allocator + Copy>(
         Ok(TokenSinkResult::EncodingIndicator(text)) => {
             Ok(TokenizerResult::EncodingIndicator(text))
         }
-        Ok(TokenSinkResult::RawData(_)) => Err(TokenizerError::NotYet),
+        Ok(TokenSinkResult::RawData(kind)) => {
+            position.set_raw_data(kind);
+            Ok(TokenizerResult::Done)
+        }
         Err(SinkFault) => Err(TokenizerError::Sink),
     }
 }
@@ -334,7 +412,9 @@ fn read_opened<S: TokenSink<Token<A>>, A: Allocator + Copy>(
     ensures tells { Tells S.step S.faulted result (S.state sink.old)
         (messages_here S.step S.reply rules.now position.old.input.line c (step_at rules.now.exact position.old.opened c)) (S.state sink.new) }
     ensures leads { IsBuilt position.old.opened → Leads result position.new.opened
-        (opened_here S.step S.reply rules.now (S.state sink.old) position.old.input.line c (step_at rules.now.exact position.old.opened c)) }
+        (opened_here S.step S.reply rules.now (S.state sink.old) position.old.input.line position.old.last_start_tag c (step_at rules.now.exact position.old.opened c)) }
+    ensures last { OnOk result (position.new.last_start_tag
+        ≡ last_here position.old.last_start_tag (step_at rules.now.exact position.old.opened c)) }
     ensures answer { IfOk result (λ answer. reply_in string_bytes answer
         ≡ first_pause S.step S.reply (S.state sink.old)
         (messages_here S.step S.reply rules.now position.old.input.line c (step_at rules.now.exact position.old.opened c))) }
@@ -409,6 +489,7 @@ fn finish_reference<S: TokenSink<Token<A>>, A: Allocator + Copy>(
         (found_at rules.now.exact rules.now.names (stand_of (opened_of opened.old)) held.now next) held.now) }
     ensures ends { IfOk result (λ ends. (c : ℕ) → next ≡ Some c → ends ≡ ends_number held.now c) }
     ensures stays { HasStand (opened_of opened.new) }
+    ensures last { last_name_of opened.new ≡ last_name_of opened.old }
     ensures faults { S.faults sink.new ≡ S.faults sink.old + faults_of result }
     ensures refusal { IfErr result IsRefusal }
 {
@@ -436,6 +517,7 @@ fn read_reference<S: TokenSink<Token<A>>, A: Allocator + Copy>(
         (on_line line (tokens_of_late (brought_at rules.now position.old.opened c).settled)) (S.state sink.new) }
     ensures taken { result ≡ Ok true → BelongsTo rules.now position.old.opened c position.new.opened }
     ensures decided { result ≡ Ok false → Decides rules.now position.old.opened c position.new.opened }
+    ensures last { position.new.last_start_tag ≡ position.old.last_start_tag }
     ensures refusal { IfErr result IsRefusal }
     ensures input { position.new.input ≡ position.old.input }
     ensures held { held_len position.new.opened ≤ held_len position.old.opened + 1 }
@@ -463,6 +545,8 @@ pub fn read_character<S: TokenSink<Token<A>>, A: Allocator + Copy>(
         (messages (told S.step S.reply rules.now position.old (S.state sink.old) (c ∷ []))) (S.state sink.new) }
     ensures leads { IsBuilt position.old.opened → Leads result position.new.opened
         (after S.step S.reply rules.now position.old (S.state sink.old) (c ∷ [])).opened }
+    ensures last { OnOk result (position.new.last_start_tag
+        ≡ (after S.step S.reply rules.now position.old (S.state sink.old) (c ∷ [])).last_start_tag) }
     ensures answer { IfOk result (λ answer. reply_in string_bytes answer
         ≡ first_pause S.step S.reply (S.state sink.old)
         (messages (told S.step S.reply rules.now position.old (S.state sink.old) (c ∷ [])))) }

@@ -90,7 +90,7 @@ impl<'t, Sink: TokenSink<Token<A>>, A: Allocator + Copy> Tokenizer<'t, Sink, A> 
                 exact_errors: opts.exact_errors,
                 names,
             },
-            position: Position::new(alloc, &opts),
+            position: Position::new(alloc, opts),
             failed: false,
             ended: false,
         }

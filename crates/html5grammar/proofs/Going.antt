@@ -1,21 +1,27 @@
 -- A bad character begins nothing that isn't built yet, but for one behind `</`.
 use Rattle.std.proofs.Common.{◌≡◌, ◌⊎◌, inl, inr, ℕ, ◌<◌, ◌≤◌, ◌%◌, Bool, true, false, List, [], refl, ap, sym, ◌∙◌, arith}
-use Rattle.std.specs.Prelude.{◌==◌, ◌||◌, leb, if◌then◌else◌}
+use Rattle.std.specs.Prelude.{◌==◌, ◌||◌, ◌&&◌, leb, if◌then◌else◌}
 use Rattle.std.proofs.lemmas.Bool.{eqb-true, ne_eqb, false≢true, and_parts, or_cases, lt-leb, leb-true}
 use Rattle.std.proofs.Math.Bool.{and-false}
 use native.Mathlib.Nat.{mod-eq_of_lt}
 use Rattle.html5ever_interface.specs.Token.{Told}
-use Rattle.html5ever_interface.specs.declared.interface.token.TagKind.TheVariants.{StartTag}
+use Rattle.html5ever_interface.specs.declared.interface.token.TagKind.TheVariants.{StartTag, EndTag}
+use Rattle.html5ever_interface.specs.declared.states.RawKind.{RawKind}
+use Rattle.html5ever_interface.specs.declared.states.RawKind.TheVariants as raw_kind
+use Rattle.html5ever_interface.specs.declared.states.ScriptEscapeKind.TheVariants as escape_kind
 use Rattle.html5ever_interface.specs.declared.states.AttrValueKind.TheVariants.{Unquoted, SingleQuoted, DoubleQuoted}
-use Rattle.html5grammar.specs.Characters.{null, exclamation_mark, quotation_mark, ampersand, apostrophe, solidus, less_than, equals_sign, greater_than, question_mark, is_between, is_bad_character, is_letter, is_white_space}
+use Rattle.html5grammar.specs.Characters.{null, exclamation_mark, quotation_mark, ampersand, apostrophe, hyphen, solidus, less_than, equals_sign, greater_than, question_mark, is_between, is_bad_character, is_letter, is_white_space}
 use Rattle.html5grammar.specs.Reading.{Here}
 use Rattle.html5grammar.specs.Reading.Here.{Tells, TellsTag, Stops}
-use Rattle.html5grammar.specs.Start.{OpenTag, Place, Open, begun}
-use Rattle.html5grammar.specs.Start.Mode.{Data, Plain}
+use Rattle.html5grammar.specs.Start.{Raw, OpenTag, Place, RawPlace, Open, begun, raw_of}
+use Rattle.html5grammar.specs.Start.Raw.{ScriptData}
+use Rattle.html5grammar.specs.Start.Mode.{Data, Plain, RawText}
+use Rattle.html5grammar.specs.Start.RawPlace.{AfterLessThan, InEndName, AfterMark, AfterMarkAndDash, InSwitch}
 use Rattle.html5grammar.specs.Start.Place.{InName, BeforeAttribute, InAttributeName, AfterAttributeName, BeforeValue, InValue, AfterQuotedValue, AfterSolidus}
-use Rattle.html5grammar.specs.Start.Open.{Between, LessThan, LessThanSolidus, InTag}
-use Rattle.html5grammar.specs.Tag.{in_tag_name, in_attribute_name, in_quoted, in_unquoted}
-use Rattle.html5grammar.proofs.Machine.{step_at, tag_step, closing_step, tag_name_step, part_step, attribute_name_step, after_attribute_name_step, quoted_step, unquoted_step, before_value_step, data_step, less_than_step, solidus_step}
+use Rattle.html5grammar.specs.Start.Open.{Between, LessThan, LessThanSolidus, InTag, InRaw}
+use Rattle.html5grammar.specs.RawText.{ends_name, is_rcdata, ends_raw_text, begins_mark, begins_switch}
+use Rattle.html5grammar.specs.Tag.{in_tag_name, in_attribute_name, in_quoted, in_unquoted, with_name}
+use Rattle.html5grammar.proofs.Machine.{step_at, tag_step, closing_step, tag_name_step, part_step, attribute_name_step, after_attribute_name_step, quoted_step, unquoted_step, before_value_step, data_step, less_than_step, solidus_step, raw_step, tag_name_end_step, end_name_step, switch_step, mark_step, mark_and_dash_step, raw_solidus_step, raw_less_than_step, raw_place_step}
 
 -- the step goes on
 abbrev pub Goes : Here Open → Type 0
@@ -132,6 +138,28 @@ module _ (exact : Bool) (c : ℕ) (bad : is_bad_character c ≡ true) where
   Goes-tag AfterQuotedValue tag = Goes-part AfterQuotedValue tag
   Goes-tag AfterSolidus tag = Goes-part AfterSolidus tag
 
+  Goes-raw : (raw : Raw) (name : List ℕ) (before : List Told) → Goes (raw_step exact raw name before c)
+  unfolding raw_step
+  Goes-raw raw name before = Goes-if (c == less_than) _ _ tt (Goes-if (is_rcdata raw && (c == ampersand)) _ _ tt tt)
+
+  Goes-tag_name_end : (tag : OpenTag) → Goes (tag_name_end_step tag c)
+  unfolding tag_name_end_step
+  Goes-tag_name_end tag = Goes-if (is_white_space c) _ _ tt (Goes-if (c == solidus) _ _ tt (Goes-closing [] tag false))
+
+  Goes-raw_solidus : (kind : RawKind) (name : List ℕ) → Goes (raw_solidus_step kind name)
+  unfolding raw_solidus_step
+  Goes-raw_solidus raw_kind.Rcdata name = tt
+  Goes-raw_solidus raw_kind.Rawtext name = tt
+  Goes-raw_solidus raw_kind.ScriptData name = tt
+  Goes-raw_solidus (raw_kind.ScriptDataEscaped escape_kind.Escaped) name = tt
+  Goes-raw_solidus (raw_kind.ScriptDataEscaped escape_kind.DoubleEscaped) name = tt
+
+  Goes-raw_less_than : (kind : RawKind) (name : List ℕ) → Goes (raw_less_than_step exact kind name c)
+  unfolding raw_less_than_step
+  Goes-raw_less_than kind name =
+      Goes-if (c == solidus) _ _ (Goes-raw_solidus kind name)
+      (Goes-if (begins_mark kind c) _ _ tt (Goes-if (begins_switch kind c) _ _ tt (Goes-raw (raw_of kind) name _)))
+
   pub bad_goes_tag : (place : Place) (tag : OpenTag) → Goes (step_at exact (InTag place tag) c)
   unfolding step_at
   bad_goes_tag place tag = Goes-tag place tag
@@ -143,6 +171,20 @@ module _ (exact : Bool) (c : ℕ) (bad : is_bad_character c ≡ true) where
   pub bad_goes_plain : Goes (step_at exact (Between Plain) c)
   unfolding step_at
   bad_goes_plain = tt
+
+  pub bad_goes_raw : (raw : Raw) (name : List ℕ) → Goes (step_at exact (Between (RawText raw name)) c)
+  unfolding step_at
+  bad_goes_raw raw name = Goes-raw raw name []
+
+  pub bad_goes_in_raw : (place : RawPlace) (name : List ℕ) → Goes (step_at exact (InRaw place name) c)
+  unfolding step_at raw_place_step end_name_step switch_step mark_step mark_and_dash_step
+  bad_goes_in_raw (AfterLessThan kind) name = Goes-raw_less_than kind name
+  bad_goes_in_raw (InEndName kind letters) name =
+      Goes-if (is_letter c) _ _ tt (Goes-if (ends_raw_text name letters c) _ _ (Goes-tag_name_end (with_name (begun EndTag) letters)) (Goes-raw (raw_of kind) name _))
+  bad_goes_in_raw AfterMark name = Goes-if (c == hyphen) _ _ tt (Goes-raw ScriptData name [])
+  bad_goes_in_raw AfterMarkAndDash name = Goes-if (c == hyphen) _ _ tt (Goes-raw ScriptData name [])
+  bad_goes_in_raw (InSwitch kind letters) name =
+      Goes-if (is_letter c) _ _ tt (Goes-if (ends_name c) _ _ tt (Goes-raw (raw_of (raw_kind.ScriptDataEscaped kind)) name []))
 
   pub bad_goes_less_than : Goes (step_at exact LessThan c)
   unfolding step_at less_than_step

@@ -18,3 +18,6 @@ pub mod OneReferenceCollected
 mod OneTagCases
 mod OneReferenceCases
 mod ReferenceCases
+pub mod WrittenRawSteps
+pub mod WrittenRawReading
+mod WrittenRawCases

@@ -1,23 +1,31 @@
 -- The machine between the slices and the code: what one character tells where something is open, and what is open then.
-use Rattle.std.specs.Prelude.{ℕ, Bool, false, List, [], ◌∷◌, ◌++◌, ◌==◌, ◌||◌, codes, encode_utf8, Some, if◌then◌else◌}
+use Rattle.std.specs.Prelude.{ℕ, Bool, false, List, [], ◌∷◌, ◌++◌, ◌==◌, ◌||◌, ◌&&◌, codes, encode_utf8, Some, if◌then◌else◌}
 use Rattle.html5ever_interface.specs.Sink.{Message, stepped, on_line}
 use Rattle.html5ever_interface.specs.Token.{Told, Reply}
 use Rattle.html5ever_interface.specs.Token.Told.{Text, Null, Tag}
 use Rattle.html5ever_interface.specs.declared.interface.token.TagKind.TheVariants.{StartTag, EndTag}
 use Rattle.html5ever_interface.specs.declared.states.AttrValueKind.{AttrValueKind}
 use Rattle.html5ever_interface.specs.declared.states.AttrValueKind.TheVariants.{Unquoted, SingleQuoted, DoubleQuoted}
+use Rattle.html5ever_interface.specs.declared.states.RawKind.{RawKind}
+use Rattle.html5ever_interface.specs.declared.states.RawKind.TheVariants as raw_kind
+use Rattle.html5ever_interface.specs.declared.states.ScriptEscapeKind.{ScriptEscapeKind}
+use Rattle.html5ever_interface.specs.declared.states.ScriptEscapeKind.TheVariants as escape_kind
 use Rattle.html5ever_interface.specs.declared.states.State.TheVariants as state
-use Rattle.html5grammar.specs.Characters.{null, exclamation_mark, quotation_mark, ampersand, apostrophe, solidus, less_than, equals_sign, greater_than, question_mark, is_letter, is_white_space}
+use Rattle.html5grammar.specs.Characters.{null, exclamation_mark, quotation_mark, ampersand, apostrophe, hyphen, solidus, less_than, equals_sign, greater_than, question_mark, is_letter, is_white_space}
 use Rattle.html5grammar.specs.ErrorText.{error_in, bad_character_error}
-use Rattle.html5grammar.specs.Reading.{Here, Brought, open_after_reply}
+use Rattle.html5grammar.specs.Reading.{Here, Brought, last_behind, open_after_reply}
 use Rattle.html5grammar.specs.Reading.Here.{Tells, TellsTag, Stops}
-use Rattle.html5grammar.specs.Start.{OpenTag, Place, Stand, Open, Rules, begun}
+use Rattle.html5grammar.specs.Start.{Raw, OpenTag, Place, RawPlace, Stand, Open, Rules, begun, raw_of}
 use Rattle.html5grammar.specs.Start.Stand.{InText, InAttribute}
-use Rattle.html5grammar.specs.Start.Mode.{Data, Plain}
+use Rattle.html5grammar.specs.Start.Dashes.{TwoDashes}
+use Rattle.html5grammar.specs.Start.Raw.{ScriptData, Escaped}
+use Rattle.html5grammar.specs.Start.Mode.{Data, Plain, RawText}
+use Rattle.html5grammar.specs.Start.RawPlace.{AfterLessThan, InEndName, AfterMark, AfterMarkAndDash, InSwitch}
 use Rattle.html5grammar.specs.Start.Place.{InName, BeforeAttribute, InAttributeName, AfterAttributeName, BeforeValue, InValue, AfterQuotedValue, AfterSolidus}
-use Rattle.html5grammar.specs.Start.Open.{Between, LessThan, LessThanSolidus, InTag, InReference, NotBuilt}
+use Rattle.html5grammar.specs.Start.Open.{Between, LessThan, LessThanSolidus, InTag, InRaw, InReference, NotBuilt}
 use Rattle.html5grammar.specs.Reference.{Found, in_value, reference, is_undecided, ends_number, late_tokens, opened_behind, with_value}
 use Rattle.html5grammar.specs.Tag.{with_last_attribute, duplicate_error, end_tag_errors, told_tag, null_error, in_quoted, in_unquoted, unquoted_error, in_attribute_name, attribute_name_error, with_last_name, place_error, first_error, is_after_solidus, in_tag_name, with_name}
+use Rattle.html5grammar.specs.RawText.{raw_text_of, texts, ends_name, kind_of, is_rcdata, raw_behind, raw_character, ends_raw_text, switched, told_at_less_than, told_behind_less_than, begins_mark, begins_switch}
 use Rattle.html5grammar.specs.Text.{plain_text}
 
 -- a step with more told in front
@@ -96,7 +104,7 @@ tag_step exact AfterSolidus tag c = part_step exact AfterSolidus tag c
 unfoldable pub data_step : Bool → List Told → ℕ → Here Open
 data_step exact before c =
     if c == less_than then Tells before LessThan
-    else if c == ampersand then Tells before (InReference InText [])
+    else if c == ampersand then Tells before (InReference (InText Data) [])
     else if c == null then Tells (before ++ error_in exact state.Data c ∷ Null ∷ []) (Between Data)
     else Tells (before ++ Text (encode_utf8 c) ∷ []) (Between Data)
 
@@ -113,9 +121,65 @@ solidus_step exact c =
     else if c == greater_than then Tells (error_in exact state.EndTagOpen c ∷ []) (Between Data)
     else Stops []
 
+-- raw text
+
+unfoldable pub raw_step : Bool → Raw → List ℕ → List Told → ℕ → Here Open
+raw_step exact raw name before c =
+    if c == less_than then Tells (before ++ told_at_less_than (kind_of raw)) (InRaw (AfterLessThan (kind_of raw)) name)
+    else if is_rcdata raw && (c == ampersand) then Tells before (InReference (InText (RawText raw name)) [])
+    else Tells (before ++ raw_character exact raw c) (Between (RawText (raw_behind raw c) name))
+
+-- behind the letters of an end tag's name
+unfoldable pub tag_name_end_step : OpenTag → ℕ → Here Open
+tag_name_end_step tag c =
+    if is_white_space c then Tells [] (InTag BeforeAttribute tag)
+    else if c == solidus then Tells [] (InTag AfterSolidus tag)
+    else closing_step [] tag false
+
+unfoldable pub end_name_step : Bool → RawKind → List ℕ → List ℕ → ℕ → Here Open
+end_name_step exact kind name letters c =
+    if is_letter c then Tells [] (InRaw (InEndName kind (letters ++ c ∷ [])) name)
+    else if ends_raw_text name letters c then tag_name_end_step (with_name (begun EndTag) letters) c
+    else raw_step exact (raw_of kind) name (texts (less_than ∷ solidus ∷ letters)) c
+
+unfoldable pub switch_step : Bool → ScriptEscapeKind → List ℕ → List ℕ → ℕ → Here Open
+switch_step exact kind name letters c =
+    if is_letter c then Tells (texts (c ∷ [])) (InRaw (InSwitch kind (letters ++ c ∷ [])) name)
+    else if ends_name c then Tells (texts (c ∷ [])) (raw_text_of (raw_kind.ScriptDataEscaped (switched kind letters)) name)
+    else raw_step exact (raw_of (raw_kind.ScriptDataEscaped kind)) name [] c
+
+unfoldable pub mark_step : Bool → List ℕ → ℕ → Here Open
+mark_step exact name c =
+    if c == hyphen then Tells (texts (c ∷ [])) (InRaw AfterMarkAndDash name) else raw_step exact ScriptData name [] c
+
+unfoldable pub mark_and_dash_step : Bool → List ℕ → ℕ → Here Open
+mark_and_dash_step exact name c =
+    if c == hyphen then Tells (texts (c ∷ [])) (Between (RawText (Escaped TwoDashes) name)) else raw_step exact ScriptData name [] c
+
+unfoldable pub raw_solidus_step : RawKind → List ℕ → Here Open
+raw_solidus_step (raw_kind.ScriptDataEscaped escape_kind.DoubleEscaped) name =
+    Tells (texts (solidus ∷ [])) (InRaw (InSwitch escape_kind.DoubleEscaped []) name)
+raw_solidus_step kind name = Tells [] (InRaw (InEndName kind []) name)
+
+unfoldable pub raw_less_than_step : Bool → RawKind → List ℕ → ℕ → Here Open
+raw_less_than_step exact kind name c =
+    if c == solidus then raw_solidus_step kind name
+    else if begins_mark kind c then Tells (texts (less_than ∷ c ∷ [])) (InRaw AfterMark name)
+    else if begins_switch kind c then Tells (texts (less_than ∷ c ∷ [])) (InRaw (InSwitch escape_kind.Escaped (c ∷ [])) name)
+    else raw_step exact (raw_of kind) name (told_behind_less_than kind) c
+
+unfoldable pub raw_place_step : Bool → RawPlace → List ℕ → ℕ → Here Open
+raw_place_step exact (AfterLessThan kind) name c = raw_less_than_step exact kind name c
+raw_place_step exact (InEndName kind letters) name c = end_name_step exact kind name letters c
+raw_place_step exact AfterMark name c = mark_step exact name c
+raw_place_step exact AfterMarkAndDash name c = mark_and_dash_step exact name c
+raw_place_step exact (InSwitch kind letters) name c = switch_step exact kind name letters c
+
 unfoldable pub step_at : Bool → Open → ℕ → Here Open
 step_at exact (Between Data) c = data_step exact [] c
 step_at exact (Between Plain) c = Tells (plain_text exact c) (Between Plain)
+step_at exact (Between (RawText raw name)) c = raw_step exact raw name [] c
+step_at exact (InRaw place name) c = raw_place_step exact place name c
 step_at exact LessThan c = less_than_step exact c
 step_at exact LessThanSolidus c = solidus_step exact c
 step_at exact (InTag place tag) c = tag_step exact place tag c
@@ -137,6 +201,7 @@ brought_at rules (Between mode) c = record { settled = []; here = step_at rules.
 brought_at rules LessThan c = record { settled = []; here = step_at rules.exact LessThan c }
 brought_at rules LessThanSolidus c = record { settled = []; here = step_at rules.exact LessThanSolidus c }
 brought_at rules (InTag place tag) c = record { settled = []; here = step_at rules.exact (InTag place tag) c }
+brought_at rules (InRaw place name) c = record { settled = []; here = step_at rules.exact (InRaw place name) c }
 brought_at rules NotBuilt c = record { settled = []; here = Stops [] }
 
 module _ {S H : Type 0} (step : S → Told → ℕ → S) (reply : S → Told → ℕ → Reply H) (rules : Rules) where
@@ -147,8 +212,14 @@ module _ {S H : Type 0} (step : S → Told → ℕ → S) (reply : S → Told �
   messages_here line c (TellsTag told tag) = on_line line ((bad_character_error rules.exact c ++ told) ++ Tag tag ∷ [])
   messages_here line c (Stops told) = on_line line told
 
-  unfoldable pub opened_here : S → ℕ → ℕ → Here Open → Open
-  opened_here s line c (Tells told later) = later
-  opened_here s line c (TellsTag told tag) =
-      open_after_reply (reply (stepped step s (on_line line (bad_character_error rules.exact c ++ told))) (Tag tag) line)
-  opened_here s line c (Stops told) = NotBuilt
+  unfoldable pub opened_here : S → ℕ → List ℕ → ℕ → Here Open → Open
+  opened_here s line last c (Tells told later) = later
+  opened_here s line last c (TellsTag told tag) =
+      open_after_reply (last_behind last tag) (reply (stepped step s (on_line line (bad_character_error rules.exact c ++ told))) (Tag tag) line)
+  opened_here s line last c (Stops told) = NotBuilt
+
+-- the name of the last start tag behind a character
+unfoldable pub last_here : List ℕ → Here Open → List ℕ
+last_here last (Tells told later) = last
+last_here last (TellsTag told tag) = last_behind last tag
+last_here last (Stops told) = last

@@ -4,9 +4,12 @@ use Rattle.std.specs.Prelude.{◌&&◌, ◌||◌, ◌==◌, encode_utf8, map, dr
 use Rattle.html5ever_interface.specs.Token.{Told, is_tag}
 use Rattle.html5ever_interface.specs.Token.Told.{Text}
 use Rattle.html5ever_interface.specs.declared.states.State.TheVariants as state
+use Rattle.html5ever_interface.specs.declared.states.RawKind.{RawKind}
+use Rattle.html5ever_interface.specs.declared.states.RawKind.TheVariants as raw_kind
+use Rattle.html5ever_interface.specs.declared.states.ScriptEscapeKind.TheVariants as escape_kind
 use Rattle.html5ever_interface.specs.declared.states.AttrValueKind.{AttrValueKind}
 use Rattle.html5ever_interface.specs.declared.states.AttrValueKind.TheVariants.{Unquoted, SingleQuoted, DoubleQuoted}
-use Rattle.html5grammar.specs.Characters.{null, number_sign, replacement_character, exclamation_mark, quotation_mark, ampersand, apostrophe, solidus, less_than, equals_sign, greater_than, question_mark, is_letter, is_white_space, is_bad_character}
+use Rattle.html5grammar.specs.Characters.{null, number_sign, replacement_character, exclamation_mark, quotation_mark, ampersand, apostrophe, hyphen, solidus, less_than, equals_sign, greater_than, question_mark, is_letter, is_white_space, is_bad_character}
 use Rattle.html5grammar.specs.ErrorText.{error_in, where_true, bad_character_error}
 use Rattle.html5grammar.specs.Reading.{Here, Brought}
 use Rattle.html5grammar.specs.Reference.{Found, in_value, reference, number_reference, named_reference, no_name, unended_number, has_digits, longest_name, is_ended, goes_on, first_or, is_undecided, ends_number, text_in, told_of, characters_in, held_text, late_tokens}
@@ -14,13 +17,16 @@ use Rattle.html5grammar.specs.Slice.{Late, tokens_of_late}
 use Rattle.html5grammar.specs.Start.Stand.{InText, InAttribute}
 use Rattle.markup5ever.specs.NamedReferences.{NamedReference}
 use Rattle.html5grammar.specs.Reading.Here.{Tells, TellsTag, Stops}
-use Rattle.html5grammar.specs.Start.{OpenTag, Place, Stand, Open, Rules}
-use Rattle.html5grammar.specs.Start.Mode.{Data, Plain}
+use Rattle.html5grammar.specs.Start.{Raw, OpenTag, Place, RawPlace, Stand, Open, Rules, raw_of}
+use Rattle.html5grammar.specs.Start.Raw.{ScriptData}
+use Rattle.html5grammar.specs.Start.Mode.{Data, Plain, RawText}
+use Rattle.html5grammar.specs.Start.RawPlace.{AfterLessThan, InEndName, AfterMark, AfterMarkAndDash, InSwitch}
 use Rattle.html5grammar.specs.Start.Place.{InName, BeforeAttribute, InAttributeName, AfterAttributeName, BeforeValue, InValue, AfterQuotedValue, AfterSolidus}
-use Rattle.html5grammar.specs.Start.Open.{Between, LessThan, LessThanSolidus, InTag, InReference, NotBuilt}
+use Rattle.html5grammar.specs.Start.Open.{Between, LessThan, LessThanSolidus, InTag, InRaw, InReference, NotBuilt}
 use Rattle.html5grammar.specs.Tag.{duplicate_error, end_tag_errors, with_last_attribute, in_quoted, in_unquoted, unquoted_error, in_attribute_name, place_error, first_error, in_tag_name}
+use Rattle.html5grammar.specs.RawText.{ends_name, raw_state, kind_of, is_rcdata, raw_character, ends_raw_text, told_at_less_than, told_behind_less_than, begins_mark, begins_switch}
 use Rattle.html5grammar.specs.Text.{plain_text}
-use Rattle.html5grammar.proofs.Machine.{closing_step, tag_name_step, part_step, attribute_name_step, after_attribute_name_step, quoted_step, unquoted_step, before_value_step, tag_step, data_step, less_than_step, solidus_step, step_at, reference_step, brought_at}
+use Rattle.html5grammar.proofs.Machine.{closing_step, tag_name_step, part_step, attribute_name_step, after_attribute_name_step, quoted_step, unquoted_step, before_value_step, tag_step, data_step, less_than_step, solidus_step, raw_step, tag_name_end_step, end_name_step, switch_step, mark_step, mark_and_dash_step, raw_solidus_step, raw_less_than_step, raw_place_step, step_at, reference_step, brought_at}
 
 unfoldable pub NoTags : List Told → Type 0
 NoTags [] = Unit {0}
@@ -41,6 +47,27 @@ no_tags-where : (holds : Bool) (error : Told) → is_tag error ≡ false → NoT
 unfolding NoTags
 no_tags-where true error h = (h, tt)
 no_tags-where false error h = tt
+
+no_tags-texts : (characters : List ℕ) → NoTags (map (λ (c : ℕ). Text (encode_utf8 c)) characters)
+unfolding NoTags
+no_tags-texts [] = tt
+no_tags-texts (c ∷ characters) = (refl, no_tags-texts characters)
+
+no_tags-told_behind : (kind : RawKind) → NoTags (told_behind_less_than kind)
+unfolding NoTags
+no_tags-told_behind raw_kind.Rcdata = (refl, tt)
+no_tags-told_behind raw_kind.Rawtext = (refl, tt)
+no_tags-told_behind raw_kind.ScriptData = (refl, tt)
+no_tags-told_behind (raw_kind.ScriptDataEscaped escape_kind.Escaped) = (refl, tt)
+no_tags-told_behind (raw_kind.ScriptDataEscaped escape_kind.DoubleEscaped) = tt
+
+no_tags-raw_solidus : (kind : RawKind) (name : List ℕ) → NoTagsHere (raw_solidus_step kind name)
+unfolding raw_solidus_step NoTagsHere NoTags
+no_tags-raw_solidus raw_kind.Rcdata name = tt
+no_tags-raw_solidus raw_kind.Rawtext name = tt
+no_tags-raw_solidus raw_kind.ScriptData name = tt
+no_tags-raw_solidus (raw_kind.ScriptDataEscaped escape_kind.Escaped) name = tt
+no_tags-raw_solidus (raw_kind.ScriptDataEscaped escape_kind.DoubleEscaped) name = (refl, tt)
 
 no_tags-if : (test : Bool) (p q : Here Open) → NoTagsHere p → NoTagsHere q → NoTagsHere (if test then p else q)
 no_tags-if true p q f g = f
@@ -134,16 +161,61 @@ module _ (exact : Bool) (c : ℕ) where
   no_tags-tag AfterQuotedValue tag = no_tags-part AfterQuotedValue tag
   no_tags-tag AfterSolidus tag = no_tags-part AfterSolidus tag
 
+  no_tags-raw_character : (raw : Raw) → NoTags (raw_character exact raw c)
+  unfolding raw_character NoTags
+  no_tags-raw_character raw = elim (c == null) as (λ b. NoTags (if b then error_in exact (raw_state raw) c ∷ Text (encode_utf8 replacement_character) ∷ [] else Text (encode_utf8 c) ∷ [])) [
+    | true ↦ (refl, (refl, tt))
+    | false ↦ (refl, tt)
+  ]
+
+  no_tags-less_than : (kind : RawKind) → NoTags (told_at_less_than kind)
+  unfolding NoTags
+  no_tags-less_than raw_kind.Rcdata = tt
+  no_tags-less_than raw_kind.Rawtext = tt
+  no_tags-less_than raw_kind.ScriptData = tt
+  no_tags-less_than (raw_kind.ScriptDataEscaped escape_kind.Escaped) = tt
+  no_tags-less_than (raw_kind.ScriptDataEscaped escape_kind.DoubleEscaped) = (refl, tt)
+
+  no_tags-raw : (raw : Raw) (name : List ℕ) (before : List Told) → NoTags before → NoTagsHere (raw_step exact raw name before c)
+  unfolding raw_step NoTagsHere
+  no_tags-raw raw name before f =
+      no_tags-if (c == less_than) _ _ (no_tags-append before _ f (no_tags-less_than (kind_of raw)))
+      (no_tags-if (is_rcdata raw && (c == ampersand)) _ _ f (no_tags-append before _ f (no_tags-raw_character raw)))
+
+  no_tags-tag_name_end : (tag : OpenTag) → NoTagsHere (tag_name_end_step tag c)
+  unfolding tag_name_end_step NoTagsHere NoTags
+  no_tags-tag_name_end tag =
+      no_tags-if (is_white_space c) _ _ tt (no_tags-if (c == solidus) _ _ tt (no_tags-closing [] tag false tt))
+
+  no_tags-behind_less_than : (kind : RawKind) (name : List ℕ) → NoTagsHere (raw_less_than_step exact kind name c)
+  unfolding raw_less_than_step raw_solidus_step begins_mark begins_switch NoTagsHere NoTags
+  no_tags-behind_less_than kind name =
+      no_tags-if (c == solidus) _ _ (no_tags-raw_solidus kind name)
+      (no_tags-if (begins_mark kind c) _ _ (refl, (refl, tt)) (no_tags-if (begins_switch kind c) _ _ (refl, (refl, tt))
+      (no_tags-raw (raw_of kind) name _ (no_tags-told_behind kind))))
+
+  no_tags-raw_place : (place : RawPlace) (name : List ℕ) → NoTagsHere (raw_place_step exact place name c)
+  unfolding raw_place_step end_name_step switch_step mark_step mark_and_dash_step NoTagsHere NoTags
+  no_tags-raw_place (AfterLessThan kind) name = no_tags-behind_less_than kind name
+  no_tags-raw_place (InEndName kind letters) name =
+      no_tags-if (is_letter c) _ _ tt (no_tags-if (ends_raw_text name letters c) _ _ (no_tags-tag_name_end _) (no_tags-raw (raw_of kind) name _ (no_tags-texts (less_than ∷ solidus ∷ letters))))
+  no_tags-raw_place AfterMark name = no_tags-if (c == hyphen) _ _ (refl, tt) (no_tags-raw ScriptData name [] tt)
+  no_tags-raw_place AfterMarkAndDash name = no_tags-if (c == hyphen) _ _ (refl, tt) (no_tags-raw ScriptData name [] tt)
+  no_tags-raw_place (InSwitch kind letters) name =
+      no_tags-if (is_letter c) _ _ (refl, tt) (no_tags-if (ends_name c) _ _ (refl, tt) (no_tags-raw (raw_of (raw_kind.ScriptDataEscaped kind)) name [] tt))
+
   pub no_tags-step_at : (opened : Open) → NoTagsHere (step_at exact opened c)
   unfolding step_at less_than_step solidus_step NoTagsHere NoTags
   no_tags-step_at (Between Data) = no_tags-data [] tt
   no_tags-step_at (Between Plain) = no_tags-plain_text
+  no_tags-step_at (Between (RawText raw name)) = no_tags-raw raw name [] tt
   no_tags-step_at LessThan =
       no_tags-if (is_letter c) _ _ (no_tags-tag_name _) (no_tags-if (c == solidus) _ _ tt
       (no_tags-if ((c == exclamation_mark) || (c == question_mark)) _ _ tt (no_tags-data _ (refl, (refl, tt)))))
   no_tags-step_at LessThanSolidus =
       no_tags-if (is_letter c) _ _ (no_tags-tag_name _) (no_tags-if (c == greater_than) _ _ (refl, tt) tt)
   no_tags-step_at (InTag place tag) = no_tags-tag place tag
+  no_tags-step_at (InRaw place name) = no_tags-raw_place place name
   no_tags-step_at (InReference stand held) = tt
   no_tags-step_at NotBuilt = tt
 
@@ -182,14 +254,9 @@ no_tags-reference rules in_value (c ∷ held) next =
     no_tags-found (c == number_sign) _ _ (no_tags-number rules.exact held next)
     (no_tags-named rules.exact in_value (c ∷ held) next (longest_name rules.names (c ∷ held)))
 
-no_tags-texts : (characters : List ℕ) → NoTags (map (λ (c : ℕ). Text (encode_utf8 c)) characters)
-unfolding NoTags
-no_tags-texts [] = tt
-no_tags-texts (c ∷ characters) = (refl, no_tags-texts characters)
-
 no_tags-text_in : (stand : Stand) (characters : List ℕ) → NoTags (text_in stand characters)
 unfolding NoTags
-no_tags-text_in InText characters = no_tags-texts characters
+no_tags-text_in (InText mode) characters = no_tags-texts characters
 no_tags-text_in (InAttribute kind tag) characters = tt
 
 no_tags-late_append : (l m : List Late) → NoTags (tokens_of_late l) → NoTags (tokens_of_late m) → NoTags (tokens_of_late (l ++ m))
@@ -228,6 +295,7 @@ no_tags-settled rules (Between mode) c = tt
 no_tags-settled rules LessThan c = tt
 no_tags-settled rules LessThanSolidus c = tt
 no_tags-settled rules (InTag place tag) c = tt
+no_tags-settled rules (InRaw place name) c = tt
 no_tags-settled rules (InReference stand held) c =
     no_tags-brought (is_undecided rules.names (held ++ c ∷ [])) _ _ tt
     (no_tags-brought (ends_number held c) _ _ (no_tags-late_tokens rules stand held (Some c)) (no_tags-late_tokens rules stand held (Some c)))

@@ -135,14 +135,14 @@ tokens-late back [] = refl
 tokens-late back (t ∷ tokens) = ap (λ l. t ∷ l) (tokens-late back tokens)
 
 abbrev tokens_in : Found → List Told
-tokens_in found = told_of InText found
+tokens_in found = told_of (InText Data) found
 
-tokens-taken : (found : Found) (held : List ℕ) → drop found.taken held ≡ [] → tokens_of_late (late_tokens InText found held) ≡ tokens_in found
+tokens-taken : (found : Found) (held : List ℕ) → drop found.taken held ≡ [] → tokens_of_late (late_tokens (InText Data) found held) ≡ tokens_in found
 unfolding held_text
 tokens-taken found held taken = rw taken (tokens-late (suc (length held) - found.taken) (tokens_in found))
 
 end-found : (rules : Rules) (held : List ℕ) (found : Found) → reference rules false held None ≡ found → drop found.taken held ≡ []
-    → tokens_at_end rules (InReference InText held) ≡ tokens_in found ++ End ∷ []
+    → tokens_at_end rules (InReference (InText Data) held) ≡ tokens_in found ++ End ∷ []
 unfolding late_at_end_of open_at_end_of told_at_end_of
 end-found rules held found e taken = rw e (ap (λ l. l ++ End ∷ []) (tokens-taken found held taken))
 
@@ -208,55 +208,55 @@ good-semicolon = refl
 
 -- what is open behind the last character: only the semicolon of a number decides a reference
 abbrev pub open_behind_reference : WrittenReference → Open
-open_behind_reference Ampersand = InReference InText []
-open_behind_reference (Number x digits false) = InReference InText (number_sign ∷ (x_text x ++ digits))
+open_behind_reference Ampersand = InReference (InText Data) []
+open_behind_reference (Number x digits false) = InReference (InText Data) (number_sign ∷ (x_text x ++ digits))
 open_behind_reference (Number x digits true) = Between Data
-open_behind_reference (Named entry) = InReference InText entry.name
+open_behind_reference (Named entry) = InReference (InText Data) entry.name
 
 module _ {S H : Type 0} (step : S → Told → ℕ → S) (reply : S → Told → ℕ → Reply H) (rules : Rules) where
-  trace-held : (s : S) (line : ℕ) (held run more : List ℕ) → Holds rules.names held run
-      → trace step reply rules s line (InReference InText held) (run ++ more)
-      ≡ trace step reply rules s (lines_past line run) (InReference InText (held ++ run)) more
+  trace-held : (s : S) (line : ℕ) (last held run more : List ℕ) → Holds rules.names held run
+      → trace step reply rules s line last (InReference (InText Data) held) (run ++ more)
+      ≡ trace step reply rules s (lines_past line run) last (InReference (InText Data) (held ++ run)) more
   unfolding trace trace_brought trace_here brought_at reference_step lines_past stepped Holds
-  trace-held s line held [] more h = rw (append-nil held) refl
-  trace-held s line held (c ∷ run) more h =
+  trace-held s line last held [] more h = rw (append-nil held) refl
+  trace-held s line last held (c ∷ run) more h =
       rw (h.1, h.0, and-false rules.exact)
-      (trace-held s (line_past line c) (held ++ c ∷ []) run more h.2
-      ∙ ap (λ l. trace step reply rules s (lines_past (line_past line c) run) (InReference InText l) more) (append_assoc held (c ∷ []) run))
+      (trace-held s (line_past line c) last (held ++ c ∷ []) run more h.2
+      ∙ ap (λ l. trace step reply rules s (lines_past (line_past line c) run) last (InReference (InText Data) l) more) (append_assoc held (c ∷ []) run))
 
-  trace-ampersand : (s : S) (line : ℕ) (text : List ℕ)
-      → trace step reply rules s line (Between Data) (ampersand ∷ text) ≡ trace step reply rules s (line_past line ampersand) (InReference InText []) text
+  trace-ampersand : (s : S) (line : ℕ) (last text : List ℕ)
+      → trace step reply rules s line last (Between Data) (ampersand ∷ text) ≡ trace step reply rules s (line_past line ampersand) last (InReference (InText Data) []) text
   unfolding trace trace_brought trace_here brought_at step_at data_step stepped
-  trace-ampersand s line text = rw (good-ampersand, and-false rules.exact) refl
+  trace-ampersand s line last text = rw (good-ampersand, and-false rules.exact) refl
 
   -- the semicolon of a number decides it
-  trace-ended : (s : S) (line : ℕ) (held : List ℕ) (found : Found)
+  trace-ended : (s : S) (line : ℕ) (last held : List ℕ) (found : Found)
       → is_undecided rules.names (held ++ semicolon ∷ []) ≡ false → ends_number held semicolon ≡ true
       → reference rules false held (Some semicolon) ≡ found → drop found.taken held ≡ []
-      → trace step reply rules s line (InReference InText held) (semicolon ∷ [])
-      ≡ record { messages = on_line line (tokens_in found); opened = Between Data }
+      → trace step reply rules s line last (InReference (InText Data) held) (semicolon ∷ [])
+      ≡ record { messages = on_line line (tokens_in found); opened = Between Data; last_start_tag = last }
   unfolding trace trace_brought trace_here brought_at reference_step stepped
-  trace-ended s line held found decides ends is taken =
+  trace-ended s line last held found decides ends is taken =
       rw (decides, ends, is, good-semicolon, and-false rules.exact)
-      (ap (λ M. record { messages = M; opened = Between Data }) (append-nil (on_line line (tokens_of_late (late_tokens InText found held))) ∙ ap (on_line line) (tokens-taken found held taken)))
+      (ap (λ M. record { messages = M; opened = Between Data; last_start_tag = last }) (append-nil (on_line line (tokens_of_late (late_tokens (InText Data) found held))) ∙ ap (on_line line) (tokens-taken found held taken)))
 
   -- what was held is open behind it, on the line that it reached
   trace-run : (K : Start) (s : S) (X run more : List ℕ) → K.opened ≡ Between Data → normalised K.input X ≡ (ampersand ∷ run) ++ more → Holds rules.names [] run
-      → trace step reply rules s (line_after K.input []) K.opened (normalised K.input X)
-      ≡ trace step reply rules s (line_after K.input (ampersand ∷ run)) (InReference InText run) more
+      → trace step reply rules s (line_after K.input []) K.last_start_tag K.opened (normalised K.input X)
+      ≡ trace step reply rules s (line_after K.input (ampersand ∷ run)) K.last_start_tag (InReference (InText Data) run) more
   unfolding lines_past
   trace-run K s X run more starts text holds =
       rw (starts, text)
-      (trace-ampersand s (line_after K.input []) (run ++ more)
-      ∙ trace-held s (line_past (line_after K.input []) ampersand) [] run more holds
-      ∙ ap (λ line. trace step reply rules s line (InReference InText run) more) (sym (line_after-lines_past K.input [] (ampersand ∷ run))))
+      (trace-ampersand s (line_after K.input []) K.last_start_tag (run ++ more)
+      ∙ trace-held s (line_past (line_after K.input []) ampersand) K.last_start_tag [] run more holds
+      ∙ ap (λ line. trace step reply rules s line K.last_start_tag (InReference (InText Data) run) more) (sym (line_after-lines_past K.input [] (ampersand ∷ run))))
 
   -- what a text tells that ends so, and what it leaves open
   record Reads (K : Start) (s : S) (X : List ℕ) (tokens : List Told) (opened : Open) : Type 0 where
     pub told : messages (reading step reply rules K s X) ≡ on_line (line_after K.input (normalised K.input X)) tokens
     pub leaves : (after step reply rules K s X).opened ≡ opened
 
-  reads-trace : (K : Start) (s : S) (X : List ℕ) (t : Trace) (tokens : List Told) → trace step reply rules s (line_after K.input []) K.opened (normalised K.input X) ≡ t
+  reads-trace : (K : Start) (s : S) (X : List ℕ) (t : Trace) (tokens : List Told) → trace step reply rules s (line_after K.input []) K.last_start_tag K.opened (normalised K.input X) ≡ t
       → t.messages ++ on_line (line_after K.input (normalised K.input X)) (tokens_at_end rules t.opened) ≡ on_line (line_after K.input (normalised K.input X)) tokens
       → Reads K s X tokens t.opened
   reads-trace K s X t tokens e same =
@@ -273,10 +273,10 @@ module _ {S H : Type 0} (step : S → Told → ℕ → S) (reply : S → Told �
   -- a text that is decided by its end
   reads-held : (K : Start) (s : S) (X run : List ℕ) (found : Found) → K.opened ≡ Between Data → normalised K.input X ≡ ampersand ∷ run → Holds rules.names [] run
       → reference rules false run None ≡ found → drop found.taken run ≡ []
-      → Reads K s X (tokens_in found ++ End ∷ []) (InReference InText run)
+      → Reads K s X (tokens_in found ++ End ∷ []) (InReference (InText Data) run)
   unfolding trace
   reads-held K s X run found starts text holds is taken =
-      reads-trace K s X (record { messages = []; opened = InReference InText run }) (tokens_in found ++ End ∷ [])
+      reads-trace K s X (record { messages = []; opened = InReference (InText Data) run; last_start_tag = K.last_start_tag }) (tokens_in found ++ End ∷ [])
       (trace-run K s X run [] starts (text ∙ sym (append-nil (ampersand ∷ run))) holds)
       (ap (on_line (line_after K.input (normalised K.input X))) (end-found rules run found is taken))
 
@@ -290,8 +290,8 @@ module _ {S H : Type 0} (step : S → Told → ℕ → S) (reply : S → Told �
       let line : ℕ = line_after K.input (ampersand ∷ held) in
       let last : line_after K.input (normalised K.input X) ≡ line =
       ap (line_after K.input) text ∙ line_after-past K.input (ampersand ∷ held) semicolon ∙ line_after-last K.input (ampersand ∷ held) in
-      reads-trace K s X (record { messages = on_line line (tokens_in found); opened = Between Data }) (tokens_in found ++ End ∷ [])
-      (trace-run K s X held (semicolon ∷ []) starts text holds ∙ trace-ended s line held found decides ends is taken)
+      reads-trace K s X (record { messages = on_line line (tokens_in found); opened = Between Data; last_start_tag = K.last_start_tag }) (tokens_in found ++ End ∷ [])
+      (trace-run K s X held (semicolon ∷ []) starts text holds ∙ trace-ended s line K.last_start_tag held found decides ends is taken)
       (rw last (sym (map-append (λ (token : Told). record { token = token; line = line }) (tokens_in found) (End ∷ []))))
 
   reads-reference : (K : Start) (s : S) (X : List ℕ) (written_as : WrittenReference) → IsTable rules.names → IsReference rules.names K X written_as

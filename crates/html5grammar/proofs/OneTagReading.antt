@@ -19,7 +19,7 @@ use Rattle.html5grammar.specs.NormalisedText.{normalised, line_after}
 use Rattle.html5grammar.specs.OneTag.{Value, Part, WrittenTag, Spelled, spell, spell_silent, spell_value, spell_part, spell_parts, value_text, part_text, opening, written, is_written, can_follow, place_behind, attributes_with, name_shown, all_attributes, end_place, tag_told, end_errors, end_error, repeated_error, spelled, spelled_messages, tag_messages, IsTag}
 use Rattle.html5grammar.specs.OneTag.Part.{Blank, Solidus, Name, Attribute}
 use Rattle.html5grammar.specs.OneTag.Value.{InDoubleQuotes, InSingleQuotes, Bare}
-use Rattle.html5grammar.specs.Reading.{reading, read, told, messages, after, end_events, late_events}
+use Rattle.html5grammar.specs.Reading.{reading, read, told, messages, after, end_events, late_events, last_behind}
 use Rattle.html5grammar.specs.Reading.Here.{TellsTag}
 use Rattle.html5grammar.specs.Start.{Input, OpenTag, Place, Open, Start, begun, Rules}
 use Rattle.html5grammar.specs.Start.Mode.{Data}
@@ -38,18 +38,18 @@ use Rattle.markup5ever.specs.Names.{AttributeOf}
 
 -- ---- the characters that are spelled are the text
 
-abbrev characters : List Spelled → List ℕ
+abbrev pub characters : List Spelled → List ℕ
 characters cells = map (λ (here : Spelled). here.character) cells
 
-characters-append : (xs ys : List Spelled) → characters (xs ++ ys) ≡ characters xs ++ characters ys
+pub characters-append : (xs ys : List Spelled) → characters (xs ++ ys) ≡ characters xs ++ characters ys
 characters-append xs ys = map-append (λ (here : Spelled). here.character) xs ys
 
-characters-spell : (tells : ℕ → List Told) (run : List ℕ) → characters (spell tells run) ≡ run
+pub characters-spell : (tells : ℕ → List Told) (run : List ℕ) → characters (spell tells run) ≡ run
 characters-spell tells [] = refl
 characters-spell tells (c ∷ run) = ap (λ l. c ∷ l) (characters-spell tells run)
 
 -- two pieces behind one another
-characters-two : (xs ys : List Spelled) (X Y : List ℕ) → characters xs ≡ X → characters ys ≡ Y → characters (xs ++ ys) ≡ X ++ Y
+pub characters-two : (xs ys : List Spelled) (X Y : List ℕ) → characters xs ≡ X → characters ys ≡ Y → characters (xs ++ ys) ≡ X ++ Y
 characters-two xs ys X Y e f = characters-append xs ys ∙ rw (e, f) refl
 
 characters-value : (exact : Bool) (value : Value) → characters (spell_value exact value) ≡ value_text value
@@ -71,7 +71,7 @@ characters-part exact place before (Attribute first rest space behind value) =
     (characters-two (spell_silent space) _ space _ (characters-spell silent space)
     (characters-two (spell_silent (equals_sign ∷ behind)) (spell_value exact value) (equals_sign ∷ behind) (value_text value) (characters-spell silent (equals_sign ∷ behind)) (characters-value exact value))))
 
-characters-parts : (exact : Bool) (place : Place) (before : List AttributeOf) (parts : List Part) → characters (spell_parts exact place before parts) ≡ flat_map part_text parts
+pub characters-parts : (exact : Bool) (place : Place) (before : List AttributeOf) (parts : List Part) → characters (spell_parts exact place before parts) ≡ flat_map part_text parts
 unfolding spell_parts
 characters-parts exact place before [] = refl
 characters-parts exact place before (part ∷ parts) =
@@ -79,10 +79,10 @@ characters-parts exact place before (part ∷ parts) =
     (characters-parts exact (place_behind place part) (attributes_with before part) parts)
 
 -- a tag without its `>`
-abbrev body : Bool → WrittenTag → List Spelled
+abbrev pub body : Bool → WrittenTag → List Spelled
 body exact tag = spell_silent (opening tag.kind) ++ (spell (null_error exact state.TagName) (tag.first ∷ tag.rest) ++ spell_parts exact InName [] tag.parts)
 
-characters-body : (exact : Bool) (tag : WrittenTag) → characters (body exact tag) ++ greater_than ∷ [] ≡ written tag
+pub characters-body : (exact : Bool) (tag : WrittenTag) → characters (body exact tag) ++ greater_than ∷ [] ≡ written tag
 unfolding written
 characters-body exact tag =
     ap (λ l. l ++ greater_than ∷ [])
@@ -120,7 +120,7 @@ module _ (exact : Bool) where
     goes : Goes exact (Between Data) (body exact tag) behind
     ends : step_at exact behind greater_than ≡ TellsTag (end_errors exact tag) (tag_told tag)
 
-  ends-tag : (tag : WrittenTag) (behind : OpenTag) → can_end (end_place tag) ≡ true
+  pub ends-tag : (tag : WrittenTag) (behind : OpenTag) → can_end (end_place tag) ≡ true
       → Holds tag.kind (name_shown tag.first tag.rest) (all_attributes tag) behind
       → step_at exact (InTag (end_place tag) behind) greater_than ≡ TellsTag (end_errors exact tag) (tag_told tag)
   ends-tag tag behind ends holds =
@@ -152,41 +152,41 @@ module _ (exact : Bool) where
       }
 
 module _ {S H : Type 0} (step : S → Told → ℕ → S) (reply : S → Told → ℕ → Reply H) (rules : Rules) where
-  trace-last : (input : Input) (before : List ℕ) (s : S) (opened : Open) (c : ℕ) (errors : List Told) (tag : TagOf)
+  trace-last : (input : Input) (before : List ℕ) (s : S) (last : List ℕ) (opened : Open) (c : ℕ) (errors : List Told) (tag : TagOf)
       → ((t : S) (line : ℕ) → reply t (Tag tag) line ≡ KeepOn)
       → step_at rules.exact opened c ≡ TellsTag errors tag
-      → trace step reply rules s (line_after input before) opened (c ∷ [])
-      ≡ record { messages = spelled_messages rules.exact input before (record { character = c; told = errors ++ Tag tag ∷ [] } ∷ []); opened = Between Data }
+      → trace step reply rules s (line_after input before) last opened (c ∷ [])
+      ≡ record { messages = spelled_messages rules.exact input before (record { character = c; told = errors ++ Tag tag ∷ [] } ∷ []); opened = Between Data; last_start_tag = last_behind last tag }
   unfolding trace trace_brought trace_here spelled_messages
-  trace-last input before s opened c errors tag keeps ends =
+  trace-last input before s last opened c errors tag keeps ends =
       rw (brought-tells rules opened c _ refl ends, line_after-past input before c, keeps, append_assoc (bad_character_error rules.exact c) errors (Tag tag ∷ [])) refl
 
-  trace-tag : (input : Input) (before : List ℕ) (s : S) (opened behind : Open) (cells : List Spelled) (c : ℕ) (errors : List Told) (tag : TagOf)
+  pub trace-tag : (input : Input) (before : List ℕ) (s : S) (last : List ℕ) (opened behind : Open) (cells : List Spelled) (c : ℕ) (errors : List Told) (tag : TagOf)
       → ((t : S) (line : ℕ) → reply t (Tag tag) line ≡ KeepOn)
       → Goes rules.exact opened cells behind
       → step_at rules.exact behind c ≡ TellsTag errors tag
-      → trace step reply rules s (line_after input before) opened (characters cells ++ c ∷ [])
-      ≡ record { messages = spelled_messages rules.exact input before (cells ++ record { character = c; told = errors ++ Tag tag ∷ [] } ∷ []); opened = Between Data }
+      → trace step reply rules s (line_after input before) last opened (characters cells ++ c ∷ [])
+      ≡ record { messages = spelled_messages rules.exact input before (cells ++ record { character = c; told = errors ++ Tag tag ∷ [] } ∷ []); opened = Between Data; last_start_tag = last_behind last tag }
   unfolding Goes trace trace_brought trace_here spelled_messages stepped
-  trace-tag input before s opened behind [] c errors tag keeps goes ends =
-      rw goes (trace-last input before s behind c errors tag keeps ends)
-  trace-tag input before s opened behind (here ∷ more) c errors tag keeps goes ends =
+  trace-tag input before s last opened behind [] c errors tag keeps goes ends =
+      rw goes (trace-last input before s last behind c errors tag keeps ends)
+  trace-tag input before s last opened behind (here ∷ more) c errors tag keeps goes ends =
       let M : List Message = on_line (line_after input (before ++ here.character ∷ [])) (bad_character_error rules.exact here.character ++ here.told) in
       rw (brought-tells rules opened here.character _ refl goes.1, ← line_after-past input before here.character)
-      (ap (with_messages M) (trace-tag input (before ++ here.character ∷ []) (stepped step s M) goes.0 behind more c errors tag keeps goes.2 ends))
+      (ap (with_messages M) (trace-tag input (before ++ here.character ∷ []) (stepped step s M) last goes.0 behind more c errors tag keeps goes.2 ends))
 
   -- a text that is one tag, behind which the sink keeps on
 
   reads-one_tag : (K : Start) (s : S) (X : List ℕ) (tag : WrittenTag)
       → ((t : S) (line : ℕ) → reply t (Tag (tag_told tag)) line ≡ KeepOn)
       → IsTag K X tag
-      → trace step reply rules s (line_after K.input []) K.opened (normalised K.input X)
-      ≡ record { messages = spelled_messages rules.exact K.input [] (spelled rules.exact tag); opened = Between Data }
+      → trace step reply rules s (line_after K.input []) K.last_start_tag K.opened (normalised K.input X)
+      ≡ record { messages = spelled_messages rules.exact K.input [] (spelled rules.exact tag); opened = Between Data; last_start_tag = last_behind K.last_start_tag (tag_told tag) }
   unfolding spelled
   reads-one_tag K s X tag keeps one =
       let r : ReadsTag rules.exact tag = reads-tag rules.exact tag one.is_tag in
       rw (one.starts, one.text, ← characters-body rules.exact tag)
-      (trace-tag K.input [] s (Between Data) r.behind (body rules.exact tag) greater_than (end_errors rules.exact tag) (tag_told tag) keeps r.goes r.ends)
+      (trace-tag K.input [] s K.last_start_tag (Between Data) r.behind (body rules.exact tag) greater_than (end_errors rules.exact tag) (tag_told tag) keeps r.goes r.ends)
 
   pub after-tag : (K : Start) (s : S) (X : List ℕ) (tag : WrittenTag)
       → ((t : S) (line : ℕ) → reply t (Tag (tag_told tag)) line ≡ KeepOn)

@@ -11,16 +11,17 @@ use Rattle.html5grammar.specs.Cutting.{rest_of}
 use Rattle.html5grammar.specs.EndOfInput.{late_at_end_of, open_at_end_of, told_at_end_of, tokens_at_end}
 use Rattle.html5grammar.specs.ErrorText.{bad_character_error}
 use Rattle.html5grammar.specs.NormalisedText.{with_line_feeds, without_dropped_first, normalised, line_after, input_after}
-use Rattle.html5grammar.specs.Reading.{Event, Here, Brought, Read, brought, is_character, events_at, late_event, late_events, read_here, read_from, read, end_events, reading, told, messages, after, open_after_reply}
+use Rattle.html5grammar.specs.Reading.{Event, Here, Brought, Read, brought, is_character, events_at, late_event, late_events, read_here, read_from, read, end_events, reading, told, messages, after, last_behind, open_after_reply}
 use Rattle.html5grammar.specs.Reading.TextPlace.{Character, EndOfInput}
 use Rattle.html5grammar.specs.Reference.{Found, in_value, reference, held_text, late_tokens}
 use Rattle.html5ever_interface.specs.declared.states.AttrValueKind.{AttrValueKind}
 use Rattle.html5grammar.specs.Reading.Here.{Tells, TellsTag, Stops}
 use Rattle.html5grammar.specs.Slice.{Slice, Late, cut_off, tokens_of_late}
 use Rattle.html5grammar.specs.Start.{Input, OpenTag, Stand, Start, Open, Rules}
+use Rattle.html5grammar.specs.Start.Mode.{Data, Plain, RawText}
 use Rattle.html5grammar.specs.Start.Stand.{InText, InAttribute}
-use Rattle.html5grammar.specs.Start.Open.{Between, LessThan, LessThanSolidus, InTag, InReference, NotBuilt}
-use Rattle.html5grammar.proofs.Machine.{brought_at, messages_here, opened_here}
+use Rattle.html5grammar.specs.Start.Open.{Between, LessThan, LessThanSolidus, InTag, InRaw, InReference, NotBuilt}
+use Rattle.html5grammar.proofs.Machine.{brought_at, messages_here, opened_here, last_here}
 use Rattle.html5grammar.proofs.InputLemmas.{line_past, lines_past, normalised-append, input_after-line_none, input_after-append, input_after-line_one}
 use Rattle.html5grammar.proofs.Traces.{Trace, Traces, with_messages, trace, trace_here, trace_brought, traces, messages-append, messages-map, messages-late}
 
@@ -44,13 +45,21 @@ decided-events_at I before c tokens F E ih =
     ∙ ap (λ l. events_at I before c tokens ++ l) ih
     ∙ sym (append_assoc (events_at I before c tokens) F (take_while (λ e. is_character e.decided_by) E)))
 
+none_decided : (f : Told → Event) → ((x : Told) → is_character (f x).decided_by ≡ false) → (tokens : List Told)
+    → take_while (λ (e : Event). is_character e.decided_by) (map f tokens) ≡ []
+none_decided f h [] = refl
+none_decided f h (x ∷ tokens) = rw (h x) refl
+
 decided-told_at_end : (exact : Bool) (opened : Open) (f : Told → Event) → ((x : Told) → is_character (f x).decided_by ≡ false)
     → take_while (λ (e : Event). is_character e.decided_by) (map f (told_at_end_of exact opened)) ≡ []
 unfolding told_at_end_of
-decided-told_at_end exact (Between mode) f h = rw (h _) refl
+decided-told_at_end exact (Between Data) f h = rw (h _) refl
+decided-told_at_end exact (Between Plain) f h = rw (h _) refl
+decided-told_at_end exact (Between (RawText raw name)) f h = none_decided f h _
 decided-told_at_end exact LessThan f h = rw (h _) refl
 decided-told_at_end exact LessThanSolidus f h = rw (h _) refl
 decided-told_at_end exact (InTag place tag) f h = rw (h _) refl
+decided-told_at_end exact (InRaw place name) f h = none_decided f h _
 decided-told_at_end exact (InReference stand held) f h = refl
 decided-told_at_end exact NotBuilt f h = refl
 
@@ -102,7 +111,7 @@ module _ (I : Input) (Y : List ℕ) (E : List Event) (none : take_while (λ (e :
 
   decided-late_tokens : (stand : Stand) (found : Found) (held : List ℕ)
       → take_while (λ (e : Event). is_character e.decided_by) (late_events I Y EndOfInput (late_tokens stand found held) ++ E) ≡ []
-  decided-late_tokens InText found held = decided-text _ found.errors _ _ _
+  decided-late_tokens (InText mode) found held = decided-text _ found.errors _ _ _
   decided-late_tokens (InAttribute kind tag) found held =
       rw (held_text-in_value kind tag (drop found.taken held)) (decided-none _ found.errors)
 
@@ -113,6 +122,7 @@ module _ (I : Input) (Y : List ℕ) (E : List Event) (none : take_while (λ (e :
   decided-late_at_end rules LessThan = none
   decided-late_at_end rules LessThanSolidus = none
   decided-late_at_end rules (InTag place tag) = none
+  decided-late_at_end rules (InRaw place name) = none
   decided-late_at_end rules (InReference stand held) = decided-late_tokens stand (reference rules (in_value stand) held None) held
   decided-late_at_end rules NotBuilt = none
 
@@ -128,29 +138,29 @@ module _ {S H : Type 0} (step : S → Told → ℕ → S) (reply : S → Told �
   decided-end K opened Y =
       decided-late_at_end K.input Y _ (decided-told_at_end rules.exact (open_at_end_of rules opened) _ (λ x. refl)) rules opened
 
-  decided-here : (K : Start) (s : S) (before : List ℕ) (c : ℕ) (h : Here Slice) (rest : S → Slice → Read) (E : List Event)
-      → ((t : S) (slice : Slice) → take_while (λ e. is_character e.decided_by) ((rest t slice).events ++ E) ≡ (rest t slice).events ++ take_while (λ e. is_character e.decided_by) E)
-      → take_while (λ e. is_character e.decided_by) ((read_here step reply rules K rest cut_off s before c h).events ++ E)
-      ≡ (read_here step reply rules K rest cut_off s before c h).events ++ take_while (λ e. is_character e.decided_by) E
-  decided-here K s before c (Tells told goes_on) rest E ih = decided-events_at K.input before c _ (rest _ goes_on).events E (ih _ goes_on)
-  decided-here K s before c (TellsTag told tag) rest E ih = decided-events_at K.input before c _ (rest _ _).events E (ih _ _)
-  decided-here K s before c (Stops told) rest E ih =
+  decided-here : (K : Start) (s : S) (last : List ℕ) (before : List ℕ) (c : ℕ) (h : Here Slice) (rest : S → List ℕ → Slice → Read) (E : List Event)
+      → ((t : S) (name : List ℕ) (slice : Slice) → take_while (λ e. is_character e.decided_by) ((rest t name slice).events ++ E) ≡ (rest t name slice).events ++ take_while (λ e. is_character e.decided_by) E)
+      → take_while (λ e. is_character e.decided_by) ((read_here step reply rules K rest cut_off s last before c h).events ++ E)
+      ≡ (read_here step reply rules K rest cut_off s last before c h).events ++ take_while (λ e. is_character e.decided_by) E
+  decided-here K s last before c (Tells told goes_on) rest E ih = decided-events_at K.input before c _ (rest _ last goes_on).events E (ih _ last goes_on)
+  decided-here K s last before c (TellsTag told tag) rest E ih = decided-events_at K.input before c _ (rest _ _ _).events E (ih _ _ _)
+  decided-here K s last before c (Stops told) rest E ih =
       rw (← append-nil (events_at K.input before c told)) (decided-events_at K.input before c told [] E refl)
 
-  decided-read_from : (K : Start) (s : S) (before : List ℕ) (slice : Slice) (Y : List ℕ) (E : List Event)
-      → take_while (λ e. is_character e.decided_by) ((read_from step reply rules K s before slice Y).events ++ E)
-      ≡ (read_from step reply rules K s before slice Y).events ++ take_while (λ e. is_character e.decided_by) E
+  decided-read_from : (K : Start) (s : S) (last : List ℕ) (before : List ℕ) (slice : Slice) (Y : List ℕ) (E : List Event)
+      → take_while (λ e. is_character e.decided_by) ((read_from step reply rules K s last before slice Y).events ++ E)
+      ≡ (read_from step reply rules K s last before slice Y).events ++ take_while (λ e. is_character e.decided_by) E
   unfolding read_from
-  decided-read_from K s before slice [] E = refl
-  decided-read_from K s before slice (c ∷ Y) E =
+  decided-read_from K s last before slice [] E = refl
+  decided-read_from K s last before slice (c ∷ Y) E =
       decided-late K.input before (length before) (brought rules slice c Y).settled _ E
-      (decided-here K _ before c (brought rules slice c Y).here (λ t rest. read_from step reply rules K t (before ++ c ∷ []) rest Y) E
-      (λ t rest. decided-read_from K t (before ++ c ∷ []) rest Y E))
+      (decided-here K _ last before c (brought rules slice c Y).here (λ t name rest. read_from step reply rules K t name (before ++ c ∷ []) rest Y) E
+      (λ t name rest. decided-read_from K t name (before ++ c ∷ []) rest Y E))
 
   pub told-events : (K : Start) (s : S) (X : List ℕ) → told step reply rules K s X ≡ (read step reply rules K s X).events
   unfolding told reading read
   told-events K s X =
-      decided-read_from K s [] (rest_of rules K.opened (normalised K.input X)) (normalised K.input X) _
+      decided-read_from K s K.last_start_tag [] (rest_of rules K.opened (normalised K.input X)) (normalised K.input X) _
       ∙ rw (decided-end K (read step reply rules K s X).opened (normalised K.input X)) (append-nil (read step reply rules K s X).events)
 
   pub reading-events : (K : Start) (s : S) (X : List ℕ)
@@ -175,28 +185,29 @@ module _ {S H : Type 0} (step : S → Told → ℕ → S) (reply : S → Told �
   -- the trace of a text
 
   pub read-traces : (K : Start) (s : S) (X : List ℕ)
-      → Traces (read step reply rules K s X) (trace step reply rules s (line_after K.input []) K.opened (normalised K.input X))
+      → Traces (read step reply rules K s X) (trace step reply rules s (line_after K.input []) K.last_start_tag K.opened (normalised K.input X))
   unfolding read
-  read-traces K s X = traces step reply rules K s [] K.opened (normalised K.input X)
+  read-traces K s X = traces step reply rules K s K.last_start_tag [] K.opened (normalised K.input X)
 
   pub told-trace : (K : Start) (s : S) (X : List ℕ)
-      → messages (told step reply rules K s X) ≡ (trace step reply rules s (line_after K.input []) K.opened (normalised K.input X)).messages
+      → messages (told step reply rules K s X) ≡ (trace step reply rules s (line_after K.input []) K.last_start_tag K.opened (normalised K.input X)).messages
   told-trace K s X = ap messages (told-events K s X) ∙ (read-traces K s X).messages
 
   -- nothing is told where what isn't built yet was met
-  trace-not_built : (s : S) (line : ℕ) (W : List ℕ) → trace step reply rules s line NotBuilt W ≡ record { messages = []; opened = NotBuilt }
+  trace-not_built : (s : S) (line : ℕ) (last W : List ℕ) → trace step reply rules s line last NotBuilt W ≡ record { messages = []; opened = NotBuilt; last_start_tag = last }
   unfolding trace trace_brought trace_here brought_at
-  trace-not_built s line [] = refl
-  trace-not_built s line (c ∷ W) = refl
+  trace-not_built s line last [] = refl
+  trace-not_built s line last (c ∷ W) = refl
 
   abbrev going_on : S → ℕ → Trace → List ℕ → Trace
-  going_on s line t W = with_messages t.messages (trace step reply rules (stepped step s t.messages) line t.opened W)
+  going_on s line t W = with_messages t.messages (trace step reply rules (stepped step s t.messages) line t.last_start_tag t.opened W)
 
   going_on-with : (s : S) (line : ℕ) (M : List Message) (t : Trace) (W : List ℕ)
       → with_messages M (going_on (stepped step s M) line t W) ≡ going_on s line (with_messages M t) W
   going_on-with s line M t W =
-      rw (stepped-append step s M t.messages) (ap (λ l. record { messages = l; opened = (trace step reply rules (stepped step (stepped step s M) t.messages) line t.opened W).opened })
-      (sym (append_assoc M t.messages (trace step reply rules (stepped step (stepped step s M) t.messages) line t.opened W).messages)))
+      let rest : Trace = trace step reply rules (stepped step (stepped step s M) t.messages) line t.last_start_tag t.opened W in
+      rw (stepped-append step s M t.messages) (ap (λ l. record { messages = l; opened = rest.opened; last_start_tag = rest.last_start_tag })
+      (sym (append_assoc M t.messages rest.messages)))
 
   stepped-last : (s : S) (line : ℕ) (tokens : List Told) (token : Told)
       → step (stepped step s (on_line line tokens)) token line ≡ stepped step s (on_line line (tokens ++ token ∷ []))
@@ -204,46 +215,51 @@ module _ {S H : Type 0} (step : S → Told → ℕ → S) (reply : S → Told �
   stepped-last s line [] token = refl
   stepped-last s line (x ∷ tokens) token = stepped-last (step s x line) line tokens token
 
-  trace-append-here : (s : S) (line : ℕ) (c : ℕ) (Y W : List ℕ) (h : Here Open)
-      → ((t : S) (later : Open) → trace step reply rules t line later (Y ++ W) ≡ going_on t (lines_past line Y) (trace step reply rules t line later Y) W)
-      → trace_here step reply rules (λ t later. trace step reply rules t line later (Y ++ W)) s line c h
-      ≡ going_on s (lines_past line Y) (trace_here step reply rules (λ t later. trace step reply rules t line later Y) s line c h) W
+  trace-append-here : (s : S) (line : ℕ) (last : List ℕ) (c : ℕ) (Y W : List ℕ) (h : Here Open)
+      → ((t : S) (name : List ℕ) (later : Open) → trace step reply rules t line name later (Y ++ W) ≡ going_on t (lines_past line Y) (trace step reply rules t line name later Y) W)
+      → trace_here step reply rules (λ t name later. trace step reply rules t line name later (Y ++ W)) s line last c h
+      ≡ going_on s (lines_past line Y) (trace_here step reply rules (λ t name later. trace step reply rules t line name later Y) s line last c h) W
   unfolding trace_here
-  trace-append-here s line c Y W (Tells told later) ih =
+  trace-append-here s line last c Y W (Tells told later) ih =
       let M : List Message = on_line line (bad_character_error rules.exact c ++ told) in
-      ap (with_messages M) (ih (stepped step s M) later)
-      ∙ going_on-with s (lines_past line Y) M (trace step reply rules (stepped step s M) line later Y) W
-  trace-append-here s line c Y W (TellsTag told tag) ih =
+      ap (with_messages M) (ih (stepped step s M) last later)
+      ∙ going_on-with s (lines_past line Y) M (trace step reply rules (stepped step s M) line last later Y) W
+  trace-append-here s line last c Y W (TellsTag told tag) ih =
       let tokens : List Told = bad_character_error rules.exact c ++ told in
       let M : List Message = on_line line (tokens ++ Tag tag ∷ []) in
-      let later : Open = open_after_reply (reply (stepped step s (on_line line tokens)) (Tag tag) line) in
+      let name : List ℕ = last_behind last tag in
+      let later : Open = open_after_reply name (reply (stepped step s (on_line line tokens)) (Tag tag) line) in
       rw (stepped-last s line tokens (Tag tag))
-      (ap (with_messages M) (ih (stepped step s M) later)
-      ∙ going_on-with s (lines_past line Y) M (trace step reply rules (stepped step s M) line later Y) W)
-  trace-append-here s line c Y W (Stops told) ih =
-      rw (trace-not_built (stepped step s (on_line line told)) (lines_past line Y) W, append-nil (on_line line told)) refl
+      (ap (with_messages M) (ih (stepped step s M) name later)
+      ∙ going_on-with s (lines_past line Y) M (trace step reply rules (stepped step s M) line name later Y) W)
+  trace-append-here s line last c Y W (Stops told) ih =
+      rw (trace-not_built (stepped step s (on_line line told)) (lines_past line Y) last W, append-nil (on_line line told)) refl
 
-  trace-append-brought : (s : S) (line : ℕ) (c : ℕ) (Y W : List ℕ) (next : Brought Open)
-      → ((t : S) (later : Open) → trace step reply rules t (line_past line c) later (Y ++ W) ≡ going_on t (lines_past (line_past line c) Y) (trace step reply rules t (line_past line c) later Y) W)
-      → trace_brought step reply rules (λ t later. trace step reply rules t (line_past line c) later (Y ++ W)) s line c next
-      ≡ going_on s (lines_past (line_past line c) Y) (trace_brought step reply rules (λ t later. trace step reply rules t (line_past line c) later Y) s line c next) W
+  trace-append-brought : (s : S) (line : ℕ) (last : List ℕ) (c : ℕ) (Y W : List ℕ) (next : Brought Open)
+      → ((t : S) (name : List ℕ) (later : Open) → trace step reply rules t (line_past line c) name later (Y ++ W) ≡ going_on t (lines_past (line_past line c) Y) (trace step reply rules t (line_past line c) name later Y) W)
+      → trace_brought step reply rules (λ t name later. trace step reply rules t (line_past line c) name later (Y ++ W)) s line last c next
+      ≡ going_on s (lines_past (line_past line c) Y) (trace_brought step reply rules (λ t name later. trace step reply rules t (line_past line c) name later Y) s line last c next) W
   unfolding trace_brought
-  trace-append-brought s line c Y W next ih =
+  trace-append-brought s line last c Y W next ih =
       let M : List Message = on_line line (tokens_of_late next.settled) in
-      ap (with_messages M) (trace-append-here (stepped step s M) (line_past line c) c Y W next.here ih)
+      ap (with_messages M) (trace-append-here (stepped step s M) (line_past line c) last c Y W next.here ih)
       ∙ going_on-with s (lines_past (line_past line c) Y) M
-      (trace_here step reply rules (λ t later. trace step reply rules t (line_past line c) later Y) (stepped step s M) (line_past line c) c next.here) W
+      (trace_here step reply rules (λ t name later. trace step reply rules t (line_past line c) name later Y) (stepped step s M) (line_past line c) last c next.here) W
 
-  trace-append : (s : S) (line : ℕ) (opened : Open) (Y W : List ℕ)
-      → trace step reply rules s line opened (Y ++ W) ≡ going_on s (lines_past line Y) (trace step reply rules s line opened Y) W
+  trace-append : (s : S) (line : ℕ) (last : List ℕ) (opened : Open) (Y W : List ℕ)
+      → trace step reply rules s line last opened (Y ++ W) ≡ going_on s (lines_past line Y) (trace step reply rules s line last opened Y) W
   unfolding trace lines_past stepped
-  trace-append s line opened [] W = refl
-  trace-append s line opened (c ∷ Y) W =
-      trace-append-brought s line c Y W (brought_at rules opened c) (λ t later. trace-append t (line_past line c) later Y W)
+  trace-append s line last opened [] W = refl
+  trace-append s line last opened (c ∷ Y) W =
+      trace-append-brought s line last c Y W (brought_at rules opened c) (λ t name later. trace-append t (line_past line c) name later Y W)
 
   pub after-opened : (K : Start) (s : S) (X : List ℕ)
-      → (start_behind K s X).opened ≡ (trace step reply rules s (line_after K.input []) K.opened (normalised K.input X)).opened
+      → (start_behind K s X).opened ≡ (trace step reply rules s (line_after K.input []) K.last_start_tag K.opened (normalised K.input X)).opened
   after-opened K s X = (read-traces K s X).opened
+
+  pub after-last : (K : Start) (s : S) (X : List ℕ)
+      → (start_behind K s X).last_start_tag ≡ (trace step reply rules s (line_after K.input []) K.last_start_tag K.opened (normalised K.input X)).last_start_tag
+  after-last K s X = (read-traces K s X).last_start_tag
 
   -- forgetting: what a text tells is what its first part tells, then what the rest tells from the start behind that
 
@@ -251,11 +267,11 @@ module _ {S H : Type 0} (step : S → Told → ℕ → S) (reply : S → Told �
   state_behind K s X = stepped step s (messages (told step reply rules K s X))
 
   trace-behind : (K : Start) (s : S) (X Z : List ℕ)
-      → trace step reply rules s (line_after K.input []) K.opened (normalised K.input (X ++ Z))
+      → trace step reply rules s (line_after K.input []) K.last_start_tag K.opened (normalised K.input (X ++ Z))
       ≡ with_messages (messages (told step reply rules K s X))
-      (trace step reply rules (state_behind K s X) (line_after (input_after K.input X) []) (start_behind K s X).opened (normalised (input_after K.input X) Z))
+      (trace step reply rules (state_behind K s X) (line_after (input_after K.input X) []) (start_behind K s X).last_start_tag (start_behind K s X).opened (normalised (input_after K.input X) Z))
   trace-behind K s X Z =
-      rw (normalised-append K.input X Z, trace-append s (line_after K.input []) K.opened (normalised K.input X) (normalised (input_after K.input X) Z), told-trace K s X, input_after-line_none K.input X, after-opened K s X) refl
+      rw (normalised-append K.input X Z, trace-append s (line_after K.input []) K.last_start_tag K.opened (normalised K.input X) (normalised (input_after K.input X) Z), told-trace K s X, input_after-line_none K.input X, after-opened K s X, after-last K s X) refl
 
   pub told-append : (K : Start) (s : S) (X Z : List ℕ)
       → messages (told step reply rules K s (X ++ Z))
@@ -272,10 +288,17 @@ module _ {S H : Type 0} (step : S → Told → ℕ → S) (reply : S → Told �
       ∙ ap (λ (t : Trace). t.opened) (trace-behind K s X Z)
       ∙ sym (after-opened (start_behind K s X) (state_behind K s X) Z)
 
+  last-append : (K : Start) (s : S) (X Z : List ℕ)
+      → (start_behind K s (X ++ Z)).last_start_tag ≡ (start_behind (start_behind K s X) (state_behind K s X) Z).last_start_tag
+  last-append K s X Z =
+      after-last K s (X ++ Z)
+      ∙ ap (λ (t : Trace). t.last_start_tag) (trace-behind K s X Z)
+      ∙ sym (after-last (start_behind K s X) (state_behind K s X) Z)
+
   -- the start behind two parts is the start behind the second, from the start behind the first
   pub after-append : (K : Start) (s : S) (X Z : List ℕ) → start_behind K s (X ++ Z) ≡ start_behind (start_behind K s X) (state_behind K s X) Z
   after-append K s X Z =
-      rw (opened-append K s X Z, input_after-append K.input X Z) refl
+      rw (opened-append K s X Z, last-append K s X Z, input_after-append K.input X Z) refl
 
   -- no character
 
@@ -285,7 +308,7 @@ module _ {S H : Type 0} (step : S → Told → ℕ → S) (reply : S → Told �
 
   pub after-nil : (K : Start) (s : S) → start_behind K s [] ≡ K
   unfolding input_after normalised without_dropped_first with_line_feeds trace
-  after-nil K s = rw (after-opened K s []) refl
+  after-nil K s = rw (after-opened K s [], after-last K s []) refl
 
   -- one character further: one that is dropped tells nothing
 
@@ -294,31 +317,36 @@ module _ {S H : Type 0} (step : S → Told → ℕ → S) (reply : S → Told �
   told-none K s c e = rw (told-trace K s (c ∷ []), e) refl
 
   pub after-none : (K : Start) (s : S) (c : ℕ) → normalised K.input (c ∷ []) ≡ []
-      → start_behind K s (c ∷ []) ≡ record { opened = K.opened; input = input_after K.input (c ∷ []) }
+      → start_behind K s (c ∷ []) ≡ record { opened = K.opened; last_start_tag = K.last_start_tag; input = input_after K.input (c ∷ []) }
   unfolding trace
-  after-none K s c e = rw (after-opened K s (c ∷ []), e) refl
+  after-none K s c e = rw (after-opened K s (c ∷ []), after-last K s (c ∷ []), e) refl
 
   -- what is told at the character that is read for c
 
-  trace_here-one : (s : S) (line : ℕ) (d : ℕ) (h : Here Open)
-      → trace_here step reply rules (λ t later. record { messages = []; opened = later }) s line d h
-      ≡ record { messages = messages_here step reply rules line d h; opened = opened_here step reply rules s line d h }
-  unfolding trace_here messages_here opened_here
-  trace_here-one s line d (Tells told later) = rw (append-nil (on_line line (bad_character_error rules.exact d ++ told))) refl
-  trace_here-one s line d (TellsTag told tag) = rw (append-nil (on_line line ((bad_character_error rules.exact d ++ told) ++ Tag tag ∷ []))) refl
-  trace_here-one s line d (Stops told) = refl
+  trace_here-one : (s : S) (line : ℕ) (last : List ℕ) (d : ℕ) (h : Here Open)
+      → trace_here step reply rules (λ t name later. record { messages = []; opened = later; last_start_tag = name }) s line last d h
+      ≡ record { messages = messages_here step reply rules line d h; opened = opened_here step reply rules s line last d h; last_start_tag = last_here last h }
+  unfolding trace_here messages_here opened_here last_here
+  trace_here-one s line last d (Tells told later) = rw (append-nil (on_line line (bad_character_error rules.exact d ++ told))) refl
+  trace_here-one s line last d (TellsTag told tag) = rw (append-nil (on_line line ((bad_character_error rules.exact d ++ told) ++ Tag tag ∷ []))) refl
+  trace_here-one s line last d (Stops told) = refl
+
+  -- the state of the sink in which the character is told
+  abbrev pub state_here : Start → S → ℕ → S
+  state_here K s d = stepped step s (on_line (line_after K.input []) (tokens_of_late (brought_at rules K.opened d).settled))
 
   trace-one : (K : Start) (s : S) (c d : ℕ) → normalised K.input (c ∷ []) ≡ d ∷ []
-      → trace step reply rules s (line_after K.input []) K.opened (normalised K.input (c ∷ []))
+      → trace step reply rules s (line_after K.input []) K.last_start_tag K.opened (normalised K.input (c ∷ []))
       ≡ record {
         messages = on_line (line_after K.input []) (tokens_of_late (brought_at rules K.opened d).settled) ++ messages_here step reply rules (input_after K.input (c ∷ [])).line d (brought_at rules K.opened d).here;
-        opened = opened_here step reply rules (stepped step s (on_line (line_after K.input []) (tokens_of_late (brought_at rules K.opened d).settled))) (input_after K.input (c ∷ [])).line d (brought_at rules K.opened d).here;
+        opened = opened_here step reply rules (state_here K s d) (input_after K.input (c ∷ [])).line K.last_start_tag d (brought_at rules K.opened d).here;
+        last_start_tag = last_here K.last_start_tag (brought_at rules K.opened d).here;
       }
   unfolding trace trace_brought
   trace-one K s c d e =
       let line : line_past (line_after K.input []) d ≡ (input_after K.input (c ∷ [])).line = input_after-line_one K.input c d e in
       rw (e, line) (ap (with_messages (on_line (line_after K.input []) (tokens_of_late (brought_at rules K.opened d).settled)))
-      (trace_here-one (stepped step s (on_line (line_after K.input []) (tokens_of_late (brought_at rules K.opened d).settled))) (input_after K.input (c ∷ [])).line d (brought_at rules K.opened d).here))
+      (trace_here-one (state_here K s d) (input_after K.input (c ∷ [])).line K.last_start_tag d (brought_at rules K.opened d).here))
 
   pub told-one : (K : Start) (s : S) (c d : ℕ) → normalised K.input (c ∷ []) ≡ d ∷ []
       → messages (told step reply rules K s (c ∷ []))
@@ -327,14 +355,15 @@ module _ {S H : Type 0} (step : S → Told → ℕ → S) (reply : S → Told �
 
   pub after-one : (K : Start) (s : S) (c d : ℕ) → normalised K.input (c ∷ []) ≡ d ∷ []
       → start_behind K s (c ∷ []) ≡ record {
-        opened = opened_here step reply rules (stepped step s (on_line (line_after K.input []) (tokens_of_late (brought_at rules K.opened d).settled))) (input_after K.input (c ∷ [])).line d (brought_at rules K.opened d).here;
+        opened = opened_here step reply rules (state_here K s d) (input_after K.input (c ∷ [])).line K.last_start_tag d (brought_at rules K.opened d).here;
+        last_start_tag = last_here K.last_start_tag (brought_at rules K.opened d).here;
         input = input_after K.input (c ∷ []);
       }
-  after-one K s c d e = rw (after-opened K s (c ∷ []), trace-one K s c d e) refl
+  after-one K s c d e = rw (after-opened K s (c ∷ []), after-last K s (c ∷ []), trace-one K s c d e) refl
 
   -- where what isn't built yet was met, nothing more is told
   pub told-not_built : (K : Start) (s : S) (X : List ℕ) → K.opened ≡ NotBuilt → messages (told step reply rules K s X) ≡ []
-  told-not_built K s X e = told-trace K s X ∙ rw (e, trace-not_built s (line_after K.input []) (normalised K.input X)) refl
+  told-not_built K s X e = told-trace K s X ∙ rw (e, trace-not_built s (line_after K.input []) K.last_start_tag (normalised K.input X)) refl
 
   pub after-not_built : (K : Start) (s : S) (X : List ℕ) → K.opened ≡ NotBuilt → (start_behind K s X).opened ≡ NotBuilt
-  after-not_built K s X e = after-opened K s X ∙ rw (e, trace-not_built s (line_after K.input []) (normalised K.input X)) refl
+  after-not_built K s X e = after-opened K s X ∙ rw (e, trace-not_built s (line_after K.input []) K.last_start_tag (normalised K.input X)) refl

@@ -1,29 +1,37 @@
 -- The slices do at each character what the machine does.
 use Rattle.std.proofs.Common.{◌≡◌, ℕ, Bool, true, false, List, [], ◌∷◌, ◌++◌, refl, ap, sym, subst, ◌∙◌}
-use Rattle.std.specs.Prelude.{◌==◌, ◌||◌, flat_map, drop, codes, Some, if◌then◌else◌}
+use Rattle.std.specs.Prelude.{◌==◌, ◌||◌, ◌&&◌, flat_map, drop, codes, Some, if◌then◌else◌}
 use Rattle.std.proofs.lemmas.List.{append_assoc, append-nil}
 use Rattle.html5ever_interface.specs.Token.{Told}
 use Rattle.html5ever_interface.specs.Token.Told.{Text}
 use Rattle.html5ever_interface.specs.declared.interface.token.TagKind.TheVariants.{StartTag, EndTag}
 use Rattle.html5ever_interface.specs.declared.states.AttrValueKind.{AttrValueKind}
 use Rattle.html5ever_interface.specs.declared.states.AttrValueKind.TheVariants.{Unquoted, SingleQuoted, DoubleQuoted}
+use Rattle.html5ever_interface.specs.declared.states.RawKind.{RawKind}
+use Rattle.html5ever_interface.specs.declared.states.RawKind.TheVariants as raw_kind
+use Rattle.html5ever_interface.specs.declared.states.ScriptEscapeKind.{ScriptEscapeKind}
+use Rattle.html5ever_interface.specs.declared.states.ScriptEscapeKind.TheVariants as escape_kind
 use Rattle.html5ever_interface.specs.declared.states.State.TheVariants as state
-use Rattle.html5grammar.specs.Characters.{null, exclamation_mark, quotation_mark, ampersand, apostrophe, solidus, less_than, equals_sign, greater_than, question_mark, is_letter, is_white_space, name_bytes, value_bytes}
+use Rattle.html5grammar.specs.Characters.{null, exclamation_mark, quotation_mark, ampersand, apostrophe, hyphen, solidus, less_than, equals_sign, greater_than, question_mark, is_letter, is_white_space, name_bytes, value_bytes}
 use Rattle.html5grammar.specs.Reference.{in_value, reference, is_undecided, ends_number, characters_in, opened_in, late_tokens, opened_behind, behind_held, reference_text, with_value}
 use Rattle.html5grammar.specs.Tag.{null_error, in_quoted, in_unquoted, unquoted_error, in_attribute_name, attribute_name_error, with_last_name, place_error, is_after_solidus, in_tag_name, with_name, closing, behind_tag_name, tag_name, behind_quoted, quoted_value, behind_unquoted, unquoted_value, value, value_behind_space, value_or_next, behind_name_and_space, behind_attribute_name, attribute_behind_first, part}
+use Rattle.html5grammar.specs.RawText.{raw_text_of, texts, ends_name, is_rcdata, ends_raw_text, behind_end_name, end_name, behind_mark, behind_mark_and_dash, switched, behind_switch, switch, told_behind_less_than, behind_raw_solidus, begins_mark, begins_switch, behind_raw_less_than, raw_text}
 use Rattle.html5grammar.specs.Text.{behind_solidus, behind_less_than, data_text}
 use Rattle.html5grammar.specs.ErrorText.{error_in}
 use Rattle.html5grammar.specs.Cutting.{rest_of, next_slice, slice_at}
 use Rattle.html5grammar.specs.Reading.{Here, Brought, at_first, here, brought}
 use Rattle.html5grammar.specs.Reading.Here.{Tells, TellsTag, Stops}
-use Rattle.html5grammar.specs.Slice.{Slice, with_run, run_of, behind_run, silent, run_while, behind_while, with_character}
+use Rattle.html5grammar.specs.Slice.{Slice, with_run, run_of, behind_run, silent, run_while, behind_while, no_character, with_character}
 use Rattle.html5grammar.specs.Slice.Cell.{Says}
-use Rattle.html5grammar.specs.Start.{OpenTag, Place, Stand, Open, Rules, begun}
+use Rattle.html5grammar.specs.Slice.Behind.{Leaves}
+use Rattle.html5grammar.specs.Start.{Mode, Raw, OpenTag, Place, RawPlace, Stand, Open, Rules, begun, raw_of}
 use Rattle.html5grammar.specs.Start.Stand.{InText, InAttribute}
-use Rattle.html5grammar.specs.Start.Mode.{Data, Plain}
+use Rattle.html5grammar.specs.Start.Raw.{ScriptData}
+use Rattle.html5grammar.specs.Start.Mode.{Data, Plain, RawText}
+use Rattle.html5grammar.specs.Start.RawPlace.{AfterLessThan, InEndName, AfterMark, AfterMarkAndDash, InSwitch}
 use Rattle.html5grammar.specs.Start.Place.{InName, BeforeAttribute, InAttributeName, AfterAttributeName, BeforeValue, InValue, AfterQuotedValue, AfterSolidus}
-use Rattle.html5grammar.specs.Start.Open.{Between, LessThan, LessThanSolidus, InTag, InReference, NotBuilt}
-use Rattle.html5grammar.proofs.Machine.{step_at, brought_at, reference_step, closing_step, tag_name_step, part_step, attribute_name_step, after_attribute_name_step, quoted_step, unquoted_step, before_value_step, tag_step, data_step, less_than_step, solidus_step}
+use Rattle.html5grammar.specs.Start.Open.{Between, LessThan, LessThanSolidus, InTag, InRaw, InReference, NotBuilt}
+use Rattle.html5grammar.proofs.Machine.{step_at, brought_at, reference_step, closing_step, tag_name_step, part_step, attribute_name_step, after_attribute_name_step, quoted_step, unquoted_step, before_value_step, tag_step, data_step, less_than_step, solidus_step, raw_step, tag_name_end_step, end_name_step, switch_step, mark_step, mark_and_dash_step, raw_solidus_step, raw_less_than_step, raw_place_step}
 
 abbrev pub going : {F G : Type 0} → (F → G) → Here F → Here G
 going f (Tells told goes_on) = Tells told (f goes_on)
@@ -255,6 +263,82 @@ module _ (rules : Rules) (c : ℕ) (text : List ℕ) where
       (follows-if ((c == exclamation_mark) || (c == question_mark)) _ _ _ _ (refl, refl)
       (begins-data_text (error_in rules.exact state.TagOpen c ∷ Text (codes "<") ∷ []), refl)))
 
+  -- raw text
+
+  begins-raw_text : (raw : Raw) (name : List ℕ) (before : List Told) → begins (raw_text rules raw name before c text) (raw_step rules.exact raw name before c)
+  unfolding raw_text raw_step rest_of
+  begins-raw_text raw name before =
+      begins-if (c == less_than) _ _ _ _ refl (begins-if (is_rcdata raw && (c == ampersand)) _ _ _ _ refl refl)
+
+  follows-raw : (raw : Raw) (name : List ℕ) (before : List Told) → follows (no_character (Leaves before (Between (RawText raw name)))) (raw_step rules.exact raw name before c)
+  unfolding here slice_at brought next_slice
+  follows-raw raw name before = (begins-raw_text raw name before, refl)
+
+  follows-tag_name_end : (tag : OpenTag) → follows (behind_tag_name tag (c ∷ text)) (tag_name_end_step tag c)
+  unfolding tag_name_end_step
+  follows-tag_name_end tag = follows-behind_tag_name tag
+
+  follows-behind_end_name : (kind : RawKind) (name letters : List ℕ) → follows (behind_end_name kind name letters (c ∷ text))
+      (if ends_raw_text name letters c then tag_name_end_step (with_name (begun EndTag) letters) c
+      else raw_step rules.exact (raw_of kind) name (texts (less_than ∷ solidus ∷ letters)) c)
+  unfolding behind_end_name
+  follows-behind_end_name kind name letters =
+      follows-if (ends_raw_text name letters c) _ _ _ _ (follows-tag_name_end (with_name (begun EndTag) letters)) (follows-raw (raw_of kind) name _)
+
+  follows-end_name : (kind : RawKind) (name letters : List ℕ) → follows (end_name kind name letters (c ∷ text)) (end_name_step rules.exact kind name letters c)
+  unfolding end_name end_name_step rest_of
+  follows-end_name kind name letters =
+      follows-run is_letter silent (λ run later. behind_end_name kind name (letters ++ run) later) (InRaw (InEndName kind (letters ++ c ∷ [])) name) _
+      (rw (append_assoc letters (c ∷ []) (run_of is_letter text)) refl)
+      (rw (append-nil letters) (follows-behind_end_name kind name letters))
+      (is_letter c) refl
+
+  follows-behind_switch : (kind : ScriptEscapeKind) (name letters : List ℕ) → follows (behind_switch kind name letters (c ∷ text))
+      (if ends_name c then Tells (texts (c ∷ [])) (raw_text_of (raw_kind.ScriptDataEscaped (switched kind letters)) name)
+      else raw_step rules.exact (raw_of (raw_kind.ScriptDataEscaped kind)) name [] c)
+  unfolding behind_switch here slice_at brought rest_of
+  follows-behind_switch kind name letters =
+      follows-if (ends_name c) _ _ _ _ (refl, refl) (follows-raw (raw_of (raw_kind.ScriptDataEscaped kind)) name [])
+
+  follows-switch : (kind : ScriptEscapeKind) (name letters : List ℕ) → follows (switch kind name letters (c ∷ text)) (switch_step rules.exact kind name letters c)
+  unfolding switch switch_step rest_of
+  follows-switch kind name letters =
+      follows-run is_letter (λ d. texts (d ∷ [])) (λ run later. behind_switch kind name (letters ++ run) later) (InRaw (InSwitch kind (letters ++ c ∷ [])) name) _
+      (rw (append_assoc letters (c ∷ []) (run_of is_letter text)) refl)
+      (rw (append-nil letters) (follows-behind_switch kind name letters))
+      (is_letter c) refl
+
+  follows-behind_mark : (name : List ℕ) → follows (behind_mark name (c ∷ text)) (mark_step rules.exact name c)
+  unfolding behind_mark mark_step here slice_at brought rest_of
+  follows-behind_mark name = follows-if (c == hyphen) _ _ _ _ (refl, refl) (follows-raw ScriptData name [])
+
+  follows-behind_mark_and_dash : (name : List ℕ) → follows (behind_mark_and_dash name (c ∷ text)) (mark_and_dash_step rules.exact name c)
+  unfolding behind_mark_and_dash mark_and_dash_step here slice_at brought rest_of
+  follows-behind_mark_and_dash name = follows-if (c == hyphen) _ _ _ _ (refl, refl) (follows-raw ScriptData name [])
+
+  follows-raw_solidus : (kind : RawKind) (name : List ℕ) → follows (behind_raw_solidus kind name text) (raw_solidus_step kind name)
+  unfolding behind_raw_solidus raw_solidus_step here slice_at brought rest_of
+  follows-raw_solidus raw_kind.Rcdata name = (refl, refl)
+  follows-raw_solidus raw_kind.Rawtext name = (refl, refl)
+  follows-raw_solidus raw_kind.ScriptData name = (refl, refl)
+  follows-raw_solidus (raw_kind.ScriptDataEscaped escape_kind.Escaped) name = (refl, refl)
+  follows-raw_solidus (raw_kind.ScriptDataEscaped escape_kind.DoubleEscaped) name = (refl, refl)
+
+  follows-behind_raw_less_than : (kind : RawKind) (name : List ℕ) → follows (behind_raw_less_than kind name (c ∷ text)) (raw_less_than_step rules.exact kind name c)
+  unfolding behind_raw_less_than raw_less_than_step here slice_at brought rest_of
+  follows-behind_raw_less_than kind name =
+      follows-if (c == solidus) _ _ _ _ (follows-raw_solidus kind name)
+      (follows-if (begins_mark kind c) _ _ _ _ (refl, refl)
+      (follows-if (begins_switch kind c) _ _ _ _ (refl, refl) (follows-raw (raw_of kind) name (told_behind_less_than kind))))
+
+  follows-raw_place : (place : RawPlace) (name : List ℕ) → follows (rest_of rules (InRaw place name) (c ∷ text)) (step_at rules.exact (InRaw place name) c)
+  unfolding rest_of step_at raw_place_step
+  follows-raw_place (AfterLessThan kind) name = follows-behind_raw_less_than kind name
+  follows-raw_place (InEndName kind letters) name = follows-end_name kind name letters
+  follows-raw_place AfterMark name = follows-behind_mark name
+  follows-raw_place AfterMarkAndDash name = follows-behind_mark_and_dash name
+  follows-raw_place (InSwitch kind letters) name = follows-switch kind name letters
+
   -- the slice that is open tells at c what the machine does, where that is no reference
   follows-tag : (place : Place) (tag : OpenTag) → follows (rest_of rules (InTag place tag) (c ∷ text)) (step_at rules.exact (InTag place tag) c)
   unfolding rest_of step_at tag_step here slice_at brought next_slice
@@ -269,9 +353,11 @@ module _ (rules : Rules) (c : ℕ) (text : List ℕ) where
   follows-tag AfterQuotedValue tag = (begins-part AfterQuotedValue tag, refl)
   follows-tag AfterSolidus tag = (begins-part AfterSolidus tag, refl)
 
-  follows-data : follows (rest_of rules (Between Data) (c ∷ text)) (step_at rules.exact (Between Data) c)
+  follows-between : (mode : Mode) → follows (rest_of rules (Between mode) (c ∷ text)) (step_at rules.exact (Between mode) c)
   unfolding rest_of step_at here slice_at brought next_slice
-  follows-data = (begins-data_text [], refl)
+  follows-between Data = (begins-data_text [], refl)
+  follows-between Plain = (refl, refl)
+  follows-between (RawText raw name) = follows-raw raw name []
 
   -- references
 
@@ -289,7 +375,7 @@ module _ (rules : Rules) (c : ℕ) (text : List ℕ) where
   -- behind a reference c is read as it is where the reference stands
   here-opened_in : (stand : Stand) (characters : List ℕ)
       → here rules (rest_of rules (opened_in stand characters) (c ∷ text)) c text ≡ going rest (step_at rules.exact (opened_in stand characters) c)
-  here-opened_in InText characters = follows-data.0
+  here-opened_in (InText mode) characters = (follows-between mode).0
   here-opened_in (InAttribute kind tag) characters = (follows-tag (InValue kind) (with_value tag characters)).0
 
   brings-behind_held : (stand : Stand) (held : List ℕ) → brings (behind_held rules stand held (c ∷ text))
@@ -317,10 +403,10 @@ module _ (rules : Rules) (c : ℕ) (text : List ℕ) where
 
   pub rest_of-brought_at : (opened : Open) → brings (rest_of rules opened (c ∷ text)) (brought_at rules opened c)
   unfolding rest_of brought_at step_at here slice_at brought next_slice
-  rest_of-brought_at (Between Data) = brings-from (rest_of rules (Between Data) (c ∷ text)) _ follows-data
-  rest_of-brought_at (Between Plain) = refl
+  rest_of-brought_at (Between mode) = brings-from (rest_of rules (Between mode) (c ∷ text)) _ (follows-between mode)
   rest_of-brought_at LessThan = brings-from (rest_of rules LessThan (c ∷ text)) _ follows-behind_less_than
   rest_of-brought_at LessThanSolidus = brings-from (rest_of rules LessThanSolidus (c ∷ text)) _ follows-behind_solidus
   rest_of-brought_at (InTag place tag) = brings-from (rest_of rules (InTag place tag) (c ∷ text)) _ (follows-tag place tag)
+  rest_of-brought_at (InRaw place name) = brings-from (rest_of rules (InRaw place name) (c ∷ text)) _ (follows-raw_place place name)
   rest_of-brought_at (InReference stand held) = brings-reference stand held (is_undecided rules.names (held ++ c ∷ [])) refl
   rest_of-brought_at NotBuilt = refl

@@ -1,6 +1,6 @@
 -- Steps that are another with more told in front: a character that is read again.
 use Rattle.std.proofs.Common.{◌≡◌, ℕ, Bool, true, false, List, [], ◌∷◌, refl, ap, sym}
-use Rattle.std.specs.Prelude.{◌==◌, if◌then◌else◌}
+use Rattle.std.specs.Prelude.{◌==◌, ◌&&◌, if◌then◌else◌}
 use Rattle.std.proofs.lemmas.List.{append-nil}
 use Rattle.html5ever_interface.specs.Token.{Told}
 use Rattle.html5ever_interface.specs.declared.states.State.TheVariants as state
@@ -8,10 +8,11 @@ use Rattle.html5grammar.specs.Characters.{null, ampersand, solidus, less_than, g
 use Rattle.html5grammar.specs.ErrorText.{error_in}
 use Rattle.html5grammar.specs.Reading.{Here}
 use Rattle.html5grammar.specs.Reading.Here.{Tells}
-use Rattle.html5grammar.specs.Start.{OpenTag, Open}
+use Rattle.html5grammar.specs.Start.{Raw, OpenTag, Open}
 use Rattle.html5grammar.specs.Start.Place.{BeforeAttribute, AfterQuotedValue, AfterSolidus}
+use Rattle.html5grammar.specs.RawText.{is_rcdata}
 use Rattle.html5grammar.specs.Tag.{place_error, first_error}
-use Rattle.html5grammar.proofs.Machine.{told_first, part_step, data_step}
+use Rattle.html5grammar.proofs.Machine.{told_first, part_step, data_step, raw_step}
 
 told_first-if : (before : List Told) (test : Bool) (p q p2 q2 : Here Open) → p2 ≡ told_first before p → q2 ≡ told_first before q
     → (if test then p2 else q2) ≡ told_first before (if test then p else q)
@@ -27,6 +28,11 @@ data_step-before exact before c =
     told_first-if before (c == less_than) _ _ _ _ (Tells-nil before _)
     (told_first-if before (c == ampersand) _ _ _ _ (Tells-nil before _)
     (told_first-if before (c == null) _ _ _ _ refl refl))
+
+pub raw_step-before : (exact : Bool) (raw : Raw) (name : List ℕ) (before : List Told) (c : ℕ) → raw_step exact raw name before c ≡ told_first before (raw_step exact raw name [] c)
+unfolding raw_step
+raw_step-before exact raw name before c =
+    told_first-if before (c == less_than) _ _ _ _ refl (told_first-if before (is_rcdata raw && (c == ampersand)) _ _ _ _ (Tells-nil before _) refl)
 
 -- behind `/` or a quoted value another part is read as before an attribute, behind the error of the place
 pub part-after_solidus : (exact : Bool) (tag : OpenTag) (c : ℕ) → (c == greater_than) ≡ false

@@ -10,7 +10,7 @@ use Rattle.html5ever_interface.specs.Token.Reply.{KeepOn, ReadPlainText, ReadRaw
 use Rattle.html5ever_interface.specs.declared.states.AttrValueKind.TheVariants.{Unquoted, SingleQuoted, DoubleQuoted}
 use Rattle.html5grammar.specs.Cutting.{rest_of}
 use Rattle.html5grammar.specs.ErrorText.{bad_character_error}
-use Rattle.html5grammar.specs.Reading.{TextPlace, Event, Here, Brought, Read, events_at, late_events, messages, open_behind, open_after_reply, with_events, read_here, read_from}
+use Rattle.html5grammar.specs.Reading.{TextPlace, Event, Here, Brought, Read, events_at, late_events, messages, open_behind, last_behind, open_after_reply, with_events, read_here, read_from}
 use Rattle.html5grammar.specs.Reading.TextPlace.{Character}
 use Rattle.html5grammar.specs.Reference.{reference_text, behind_held}
 use Rattle.html5grammar.specs.NormalisedText.{line_after}
@@ -19,42 +19,46 @@ use Rattle.html5grammar.specs.Reading.Here.{Tells, TellsTag, Stops}
 use Rattle.html5grammar.specs.Slice.{Late, cut_off, run_of, behind_run, run_while, behind_while, tokens_of_late}
 use Rattle.html5grammar.specs.Start.{Start, Open, Rules, is_reference}
 use Rattle.html5grammar.specs.Start.Place.{InName, BeforeAttribute, InAttributeName, AfterAttributeName, BeforeValue, InValue, AfterQuotedValue, AfterSolidus}
-use Rattle.html5grammar.specs.Start.Open.{Between, LessThan, LessThanSolidus, InTag, InReference, NotBuilt}
+use Rattle.html5grammar.specs.Start.Open.{Between, LessThan, LessThanSolidus, InTag, InRaw, InReference, NotBuilt}
 use Rattle.html5grammar.specs.Tag.{tag_name, behind_tag_name, attribute_behind_first, behind_attribute_name, behind_name_and_space, value_or_next, value_behind_space, value, quoted_value, behind_quoted, unquoted_value, behind_unquoted}
+use Rattle.html5grammar.specs.RawText.{behind_raw_less_than, end_name, behind_end_name, behind_mark, behind_mark_and_dash, switch, behind_switch}
+use Rattle.html5grammar.specs.Start.RawPlace.{AfterLessThan, InEndName, AfterMark, AfterMarkAndDash, InSwitch}
 use Rattle.html5grammar.specs.Text.{behind_less_than, behind_solidus}
 use Rattle.html5grammar.proofs.Machine.{step_at, brought_at}
 use Rattle.html5grammar.proofs.Slices.{going, rest_of-brought_at, with_name-nil, with_last_name-nil, with_value-nil}
 
--- the messages of a text, and what is open behind it
+-- the messages of a text, and what is open behind it, with the name of the last start tag
 pub record Trace : Type 0 where
   pub messages : List Message
   pub opened : Open
+  pub last_start_tag : List ℕ
 
 abbrev pub with_messages : List Message → Trace → Trace
-with_messages M trace = record { messages = M ++ trace.messages; opened = trace.opened }
+with_messages M trace = record { messages = M ++ trace.messages; opened = trace.opened; last_start_tag = trace.last_start_tag }
 
 module _ {S H : Type 0} (step : S → Told → ℕ → S) (reply : S → Told → ℕ → Reply H) (rules : Rules) where
   -- what is told at a character, on its line, and then by what goes on
-  unfoldable pub trace_here : (S → Open → Trace) → S → ℕ → ℕ → Here Open → Trace
-  trace_here rest s line c (Tells told opened) =
+  unfoldable pub trace_here : (S → List ℕ → Open → Trace) → S → ℕ → List ℕ → ℕ → Here Open → Trace
+  trace_here rest s line last c (Tells told opened) =
       let M : List Message = on_line line (bad_character_error rules.exact c ++ told) in
-      with_messages M (rest (stepped step s M) opened)
-  trace_here rest s line c (TellsTag told tag) =
+      with_messages M (rest (stepped step s M) last opened)
+  trace_here rest s line last c (TellsTag told tag) =
       let t : S = stepped step s (on_line line (bad_character_error rules.exact c ++ told)) in
+      let name : List ℕ = last_behind last tag in
       with_messages (on_line line ((bad_character_error rules.exact c ++ told) ++ Tag tag ∷ []))
-      (rest (step t (Tag tag) line) (open_after_reply (reply t (Tag tag) line)))
-  trace_here rest s line c (Stops told) = record { messages = on_line line told; opened = NotBuilt }
+      (rest (step t (Tag tag) line) name (open_after_reply name (reply t (Tag tag) line)))
+  trace_here rest s line last c (Stops told) = record { messages = on_line line told; opened = NotBuilt; last_start_tag = last }
 
   -- what a character brings: first what it decides, on the line before it
-  unfoldable pub trace_brought : (S → Open → Trace) → S → ℕ → ℕ → Brought Open → Trace
-  trace_brought rest s line c next =
+  unfoldable pub trace_brought : (S → List ℕ → Open → Trace) → S → ℕ → List ℕ → ℕ → Brought Open → Trace
+  trace_brought rest s line last c next =
       let M : List Message = on_line line (tokens_of_late next.settled) in
-      with_messages M (trace_here rest (stepped step s M) (line_past line c) c next.here)
+      with_messages M (trace_here rest (stepped step s M) (line_past line c) last c next.here)
 
-  unfoldable pub trace : S → ℕ → Open → List ℕ → Trace
-  trace s line opened [] = record { messages = []; opened = opened }
-  trace s line opened (c ∷ text) =
-      trace_brought (λ t later. trace t (line_past line c) later text) s line c (brought_at rules opened c)
+  unfoldable pub trace : S → ℕ → List ℕ → Open → List ℕ → Trace
+  trace s line last opened [] = record { messages = []; opened = opened; last_start_tag = last }
+  trace s line last opened (c ∷ text) =
+      trace_brought (λ t name later. trace t (line_past line c) name later text) s line last c (brought_at rules opened c)
 
 -- a character decides nothing that stands before it where no reference is open
 
@@ -65,6 +69,7 @@ brought-step rules (Between mode) c h = refl
 brought-step rules LessThan c h = refl
 brought-step rules LessThanSolidus c h = refl
 brought-step rules (InTag place tag) c h = refl
+brought-step rules (InRaw place name) c h = refl
 brought-step rules (InReference stand held) c h = absurd (false≢true (sym h))
 brought-step rules NotBuilt c h = refl
 
@@ -81,13 +86,14 @@ brought-tells rules (Between mode) c h goes e = brought-step rules (Between mode
 brought-tells rules LessThan c h goes e = brought-step rules LessThan c refl ∙ rw e refl
 brought-tells rules LessThanSolidus c h goes e = brought-step rules LessThanSolidus c refl ∙ rw e refl
 brought-tells rules (InTag place tag) c h goes e = brought-step rules (InTag place tag) c refl ∙ rw e refl
+brought-tells rules (InRaw place name) c h goes e = brought-step rules (InRaw place name) c refl ∙ rw e refl
 brought-tells rules (InReference stand held) c h goes e = absurd (false≢true (sym goes ∙ sym (ap is_stop e)))
 brought-tells rules NotBuilt c h goes e = brought-step rules NotBuilt c refl ∙ rw e refl
 
 -- what is open where a slice has no more
 
 rest_of-nil : (rules : Rules) (opened : Open) → open_behind (rest_of rules opened []).behind ≡ opened
-unfolding rest_of tag_name behind_tag_name attribute_behind_first behind_attribute_name behind_name_and_space value_or_next value_behind_space value quoted_value behind_quoted unquoted_value behind_unquoted behind_less_than behind_solidus reference_text behind_held run_while behind_while run_of behind_run
+unfolding rest_of tag_name behind_tag_name attribute_behind_first behind_attribute_name behind_name_and_space value_or_next value_behind_space value quoted_value behind_quoted unquoted_value behind_unquoted behind_less_than behind_solidus behind_raw_less_than end_name behind_end_name behind_mark behind_mark_and_dash switch behind_switch reference_text behind_held run_while behind_while run_of behind_run
 rest_of-nil rules (Between mode) = refl
 rest_of-nil rules LessThan = refl
 rest_of-nil rules LessThanSolidus = refl
@@ -101,17 +107,22 @@ rest_of-nil rules (InTag (InValue SingleQuoted) tag) = ap (InTag (InValue Single
 rest_of-nil rules (InTag (InValue DoubleQuoted) tag) = ap (InTag (InValue DoubleQuoted)) (with_value-nil tag)
 rest_of-nil rules (InTag AfterQuotedValue tag) = refl
 rest_of-nil rules (InTag AfterSolidus tag) = refl
+rest_of-nil rules (InRaw (AfterLessThan kind) name) = refl
+rest_of-nil rules (InRaw (InEndName kind letters) name) = ap (λ l. InRaw (InEndName kind l) name) (append-nil letters)
+rest_of-nil rules (InRaw AfterMark name) = refl
+rest_of-nil rules (InRaw AfterMarkAndDash name) = refl
+rest_of-nil rules (InRaw (InSwitch kind letters) name) = ap (λ l. InRaw (InSwitch kind l) name) (append-nil letters)
 rest_of-nil rules (InReference stand held) = ap (InReference stand) (append-nil held)
 rest_of-nil rules NotBuilt = refl
 
 -- behind a tag a new slice begins
-rest_of-reply : {H : Type 0} → (rules : Rules) (r : Reply H) (text : List ℕ) → cut_off (open_after_reply r) ≡ rest_of rules (open_after_reply r) text
+rest_of-reply : {H : Type 0} → (rules : Rules) (last : List ℕ) (r : Reply H) (text : List ℕ) → cut_off (open_after_reply last r) ≡ rest_of rules (open_after_reply last r) text
 unfolding rest_of
-rest_of-reply rules KeepOn text = refl
-rest_of-reply rules ReadPlainText text = refl
-rest_of-reply rules (ReadRawData kind) text = refl
-rest_of-reply rules (RunScript handle) text = refl
-rest_of-reply rules (SwitchEncoding bytes) text = refl
+rest_of-reply rules last KeepOn text = refl
+rest_of-reply rules last ReadPlainText text = refl
+rest_of-reply rules last (ReadRawData kind) text = refl
+rest_of-reply rules last (RunScript handle) text = refl
+rest_of-reply rules last (SwitchEncoding bytes) text = refl
 
 pub messages-map : (f : Told → Event) (g : Told → Message) → ((t : Told) → (f t).message ≡ g t) → (ts : List Told) → messages (map f ts) ≡ map g ts
 messages-map f g h [] = refl
@@ -124,6 +135,7 @@ messages-append E F = map-append (λ (e : Event). e.message) E F
 pub record Traces (read : Read) (trace : Trace) : Type 0 where
   pub messages : messages read.events ≡ trace.messages
   pub opened : read.opened ≡ trace.opened
+  pub last_start_tag : read.last_start_tag ≡ trace.last_start_tag
 
 module _ {S H : Type 0} (step : S → Told → ℕ → S) (reply : S → Told → ℕ → Reply H) (rules : Rules) (K : Start) where
   messages-events_at : (before : List ℕ) (c : ℕ) (tokens : List Told)
@@ -133,29 +145,37 @@ module _ {S H : Type 0} (step : S → Told → ℕ → S) (reply : S → Told �
       messages-map _ _ (λ t. refl) tokens ∙ ap (λ line. on_line line tokens) (line_after-past K.input before c)
 
   Traces-with : (E : List Event) (M : List Message) (read : Read) (trace : Trace) → messages E ≡ M → Traces read trace
-      → Traces (record { events = E ++ read.events; opened = read.opened }) (with_messages M trace)
+      → Traces (record { events = E ++ read.events; opened = read.opened; last_start_tag = read.last_start_tag }) (with_messages M trace)
   Traces-with E M read trace e t = record {
     messages = messages-append E read.events ∙ rw (e, t.messages) refl;
     opened = t.opened;
+    last_start_tag = t.last_start_tag;
   }
 
-  traces-here : (s : S) (before : List ℕ) (c : ℕ) (text : List ℕ) (h : Here Open)
-      → ((t : S) (opened : Open) → Traces (read_from step reply rules K t (before ++ c ∷ []) (rest_of rules opened text) text) (trace step reply rules t (line_past (line_after K.input before) c) opened text))
+  -- what goes on behind c traces what goes on in the machine
+  abbrev TracesBehind : List ℕ → ℕ → List ℕ → Type 0
+  TracesBehind before c text = (t : S) (name : List ℕ) (opened : Open)
+      → Traces (read_from step reply rules K t name (before ++ c ∷ []) (rest_of rules opened text) text)
+      (trace step reply rules t (line_past (line_after K.input before) c) name opened text)
+
+  traces-here : (s : S) (last : List ℕ) (before : List ℕ) (c : ℕ) (text : List ℕ) (h : Here Open)
+      → TracesBehind before c text
       → Traces
-      (read_here step reply rules K (λ t rest. read_from step reply rules K t (before ++ c ∷ []) rest text) cut_off s before c (going (λ opened. rest_of rules opened text) h))
-      (trace_here step reply rules (λ t later. trace step reply rules t (line_past (line_after K.input before) c) later text) s (line_past (line_after K.input before) c) c h)
+      (read_here step reply rules K (λ t name rest. read_from step reply rules K t name (before ++ c ∷ []) rest text) cut_off s last before c (going (λ opened. rest_of rules opened text) h))
+      (trace_here step reply rules (λ t name later. trace step reply rules t (line_past (line_after K.input before) c) name later text) s (line_past (line_after K.input before) c) last c h)
   unfolding trace_here
-  traces-here s before c text (Tells told opened) ih =
+  traces-here s last before c text (Tells told opened) ih =
       rw (line_after-past K.input before c)
-      (Traces-with _ _ _ _ (messages-events_at before c (bad_character_error rules.exact c ++ told)) (ih _ opened))
-  traces-here s before c text (TellsTag told tag) ih =
+      (Traces-with _ _ _ _ (messages-events_at before c (bad_character_error rules.exact c ++ told)) (ih _ last opened))
+  traces-here s last before c text (TellsTag told tag) ih =
       let line : ℕ = line_past (line_after K.input before) c in
       let t : S = stepped step s (on_line line (bad_character_error rules.exact c ++ told)) in
-      rw (line_after-past K.input before c, rest_of-reply rules (reply t (Tag tag) line) text)
-      (Traces-with _ _ _ _ (messages-events_at before c ((bad_character_error rules.exact c ++ told) ++ Tag tag ∷ [])) (ih _ _))
-  traces-here s before c text (Stops told) ih = record {
+      rw (line_after-past K.input before c, rest_of-reply rules (last_behind last tag) (reply t (Tag tag) line) text)
+      (Traces-with _ _ _ _ (messages-events_at before c ((bad_character_error rules.exact c ++ told) ++ Tag tag ∷ [])) (ih _ _ _))
+  traces-here s last before c text (Stops told) ih = record {
     messages = messages-events_at before c told;
     opened = refl;
+    last_start_tag = refl;
   }
 
   pub messages-late : (before : List ℕ) (place : TextPlace) (late : List Late)
@@ -165,22 +185,22 @@ module _ {S H : Type 0} (step : S → Told → ℕ → S) (reply : S → Told �
   messages-late before place (l ∷ late) =
       ap (λ M. record { token = l.token; line = line_after K.input before } ∷ M) (messages-late before place late)
 
-  traces-brought : (s : S) (before : List ℕ) (c : ℕ) (text : List ℕ) (next : Brought Open)
-      → ((t : S) (opened : Open) → Traces (read_from step reply rules K t (before ++ c ∷ []) (rest_of rules opened text) text) (trace step reply rules t (line_past (line_after K.input before) c) opened text))
+  traces-brought : (s : S) (last : List ℕ) (before : List ℕ) (c : ℕ) (text : List ℕ) (next : Brought Open)
+      → TracesBehind before c text
       → Traces
       (with_events (late_events K.input before (Character (length before)) next.settled)
-      (read_here step reply rules K (λ t rest. read_from step reply rules K t (before ++ c ∷ []) rest text) cut_off
-      (stepped step s (on_line (line_after K.input before) (tokens_of_late next.settled))) before c (going (λ opened. rest_of rules opened text) next.here)))
-      (trace_brought step reply rules (λ t later. trace step reply rules t (line_past (line_after K.input before) c) later text) s (line_after K.input before) c next)
+      (read_here step reply rules K (λ t name rest. read_from step reply rules K t name (before ++ c ∷ []) rest text) cut_off
+      (stepped step s (on_line (line_after K.input before) (tokens_of_late next.settled))) last before c (going (λ opened. rest_of rules opened text) next.here)))
+      (trace_brought step reply rules (λ t name later. trace step reply rules t (line_past (line_after K.input before) c) name later text) s (line_after K.input before) last c next)
   unfolding trace_brought
-  traces-brought s before c text next ih =
-      Traces-with _ _ _ _ (messages-late before (Character (length before)) next.settled) (traces-here _ before c text next.here ih)
+  traces-brought s last before c text next ih =
+      Traces-with _ _ _ _ (messages-late before (Character (length before)) next.settled) (traces-here _ last before c text next.here ih)
 
-  pub traces : (s : S) (before : List ℕ) (opened : Open) (text : List ℕ)
-      → Traces (read_from step reply rules K s before (rest_of rules opened text) text) (trace step reply rules s (line_after K.input before) opened text)
+  pub traces : (s : S) (last : List ℕ) (before : List ℕ) (opened : Open) (text : List ℕ)
+      → Traces (read_from step reply rules K s last before (rest_of rules opened text) text) (trace step reply rules s (line_after K.input before) last opened text)
   unfolding read_from trace
-  traces s before opened [] = record { messages = refl; opened = rest_of-nil rules opened }
-  traces s before opened (c ∷ text) =
+  traces s last before opened [] = record { messages = refl; opened = rest_of-nil rules opened; last_start_tag = refl }
+  traces s last before opened (c ∷ text) =
       rw (rest_of-brought_at rules c text opened)
-      (traces-brought s before c text (brought_at rules opened c)
-      (λ t later. rw (← line_after-past K.input before c) (traces t (before ++ c ∷ []) later text)))
+      (traces-brought s last before c text (brought_at rules opened c)
+      (λ t name later. rw (← line_after-past K.input before c) (traces t name (before ++ c ∷ []) later text)))

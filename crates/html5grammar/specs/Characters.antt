@@ -35,6 +35,9 @@ ampersand = 0x0026
 abbrev pub apostrophe : ℕ
 apostrophe = 0x0027
 
+abbrev pub hyphen : ℕ
+hyphen = 0x002D
+
 abbrev pub solidus : ℕ
 solidus = 0x002F
 

@@ -6,9 +6,11 @@ use Rattle.html5grammar.specs.Slice.{Slice, Cell, Behind, no_character, cut_off,
 use Rattle.html5grammar.specs.Slice.Behind.{Leaves, StopsAt, Settles}
 use Rattle.html5grammar.specs.Reference.{reference_text}
 use Rattle.html5grammar.specs.Start.{Open, Rules}
-use Rattle.html5grammar.specs.Start.Mode.{Data, Plain}
+use Rattle.html5grammar.specs.Start.Mode.{Data, Plain, RawText}
+use Rattle.html5grammar.specs.Start.RawPlace.{AfterLessThan, InEndName, AfterMark, AfterMarkAndDash, InSwitch}
 use Rattle.html5grammar.specs.Start.Place.{InName, BeforeAttribute, InAttributeName, AfterAttributeName, BeforeValue, InValue, AfterQuotedValue, AfterSolidus}
-use Rattle.html5grammar.specs.Start.Open.{Between, LessThan, LessThanSolidus, InTag, InReference, NotBuilt}
+use Rattle.html5grammar.specs.Start.Open.{Between, LessThan, LessThanSolidus, InTag, InRaw, InReference, NotBuilt}
+use Rattle.html5grammar.specs.RawText.{behind_raw_less_than, end_name, behind_mark, behind_mark_and_dash, switch, raw_text}
 use Rattle.html5grammar.specs.Tag.{part, tag_name, attribute_behind_first, behind_name_and_space, value_behind_space, quoted_value, unquoted_value}
 use Rattle.html5grammar.specs.Text.{plain_text, behind_solidus, behind_less_than, data_text}
 
@@ -26,6 +28,11 @@ rest_of rules (InTag (InValue DoubleQuoted) tag) text = quoted_value rules Doubl
 rest_of rules (InTag BeforeAttribute tag) text = cut_off (InTag BeforeAttribute tag)
 rest_of rules (InTag AfterQuotedValue tag) text = cut_off (InTag AfterQuotedValue tag)
 rest_of rules (InTag AfterSolidus tag) text = cut_off (InTag AfterSolidus tag)
+rest_of rules (InRaw (AfterLessThan kind) name) text = behind_raw_less_than kind name text
+rest_of rules (InRaw (InEndName kind letters) name) text = end_name kind name letters text
+rest_of rules (InRaw AfterMark name) text = behind_mark name text
+rest_of rules (InRaw AfterMarkAndDash name) text = behind_mark_and_dash name text
+rest_of rules (InRaw (InSwitch kind letters) name) text = switch kind name letters text
 rest_of rules (Between mode) text = cut_off (Between mode)
 rest_of rules (InReference stand held) text = reference_text rules stand held text
 rest_of rules NotBuilt text = cut_off NotBuilt
@@ -34,9 +41,11 @@ rest_of rules NotBuilt text = cut_off NotBuilt
 unfoldable pub next_slice : Rules → Open → List Told → ℕ → List ℕ → Slice
 next_slice rules (Between Data) before c text = data_text rules before c text
 next_slice rules (Between Plain) before c text = one_character (before ++ plain_text rules.exact c) (Between Plain)
+next_slice rules (Between (RawText raw name)) before c text = raw_text rules raw name before c text
 next_slice rules (InTag place tag) before c text = part rules place tag c text
 next_slice rules LessThan before c text = no_character (StopsAt before)
 next_slice rules LessThanSolidus before c text = no_character (StopsAt before)
+next_slice rules (InRaw place name) before c text = no_character (StopsAt before)
 next_slice rules (InReference stand held) before c text = no_character (StopsAt before)
 next_slice rules NotBuilt before c text = no_character (StopsAt before)
 

@@ -5,12 +5,18 @@ use Rattle.html5ever_interface.specs.Token.Told.{Text, End}
 use Rattle.html5ever_interface.specs.declared.states.State.{State}
 use Rattle.html5ever_interface.specs.declared.states.AttrValueKind.TheVariants.{Unquoted}
 use Rattle.html5ever_interface.specs.declared.states.State.TheVariants as state
+use Rattle.html5grammar.specs.Characters.{solidus, less_than}
 use Rattle.html5grammar.specs.ErrorText.{end_error_in}
 use Rattle.html5grammar.specs.Reference.{in_value, reference, late_tokens, opened_behind}
 use Rattle.html5grammar.specs.Slice.{Late, tokens_of_late}
-use Rattle.html5grammar.specs.Start.{Place, Open, Rules}
+use Rattle.html5grammar.specs.RawText.{raw_state, texts, told_behind_less_than}
+use Rattle.html5grammar.specs.Start.{Raw, Place, RawPlace, Open, Rules, raw_of}
+use Rattle.html5grammar.specs.Start.Dashes.{NoDash}
+use Rattle.html5grammar.specs.Start.Raw.{Escaped, DoubleEscaped}
+use Rattle.html5grammar.specs.Start.Mode.{RawText}
+use Rattle.html5grammar.specs.Start.RawPlace.{AfterLessThan, InEndName, AfterMark, AfterMarkAndDash, InSwitch}
 use Rattle.html5grammar.specs.Start.Place.{InName, BeforeAttribute, InAttributeName, AfterAttributeName, BeforeValue, InValue, AfterQuotedValue, AfterSolidus}
-use Rattle.html5grammar.specs.Start.Open.{Between, LessThan, LessThanSolidus, InTag, InReference, NotBuilt}
+use Rattle.html5grammar.specs.Start.Open.{Between, LessThan, LessThanSolidus, InTag, InRaw, InReference, NotBuilt}
 
 -- the state that the error of a tag without its end names
 unfoldable pub state_at : Place → State
@@ -33,12 +39,28 @@ unfoldable pub open_at_end_of : Rules → Open → Open
 open_at_end_of rules (InReference stand held) = opened_behind stand (reference rules (in_value stand) held None) held
 open_at_end_of rules opened = opened
 
+-- what the end tells in raw text between items: in escaped script data it is an error
+unfoldable pub raw_end_error : Bool → Raw → List Told
+raw_end_error exact (Escaped dashes) = end_error_in exact (raw_state (Escaped dashes)) ∷ []
+raw_end_error exact (DoubleEscaped dashes) = end_error_in exact (raw_state (DoubleEscaped dashes)) ∷ []
+raw_end_error exact other = []
+
+-- what is held there is text, and comes first; behind `<` and letters the error names double-escaped script data
+unfoldable pub told_at_raw_end : Bool → RawPlace → List Told
+told_at_raw_end exact (AfterLessThan kind) = told_behind_less_than kind ++ raw_end_error exact (raw_of kind)
+told_at_raw_end exact (InEndName kind letters) = texts (less_than ∷ solidus ∷ letters) ++ raw_end_error exact (raw_of kind)
+told_at_raw_end exact AfterMark = []
+told_at_raw_end exact AfterMarkAndDash = []
+told_at_raw_end exact (InSwitch kind letters) = raw_end_error exact (DoubleEscaped NoDash)
+
 -- what is told at the end: a tag without its end is an error, and is not told
 unfoldable pub told_at_end_of : Bool → Open → List Told
+told_at_end_of exact (Between (RawText raw name)) = raw_end_error exact raw ++ End ∷ []
 told_at_end_of exact (Between mode) = End ∷ []
 told_at_end_of exact LessThan = end_error_in exact state.TagOpen ∷ Text (codes "<") ∷ End ∷ []
 told_at_end_of exact LessThanSolidus = end_error_in exact state.EndTagOpen ∷ Text (codes "<") ∷ Text (codes "/") ∷ End ∷ []
 told_at_end_of exact (InTag place tag) = end_error_in exact (state_at place) ∷ End ∷ []
+told_at_end_of exact (InRaw place name) = told_at_raw_end exact place ++ End ∷ []
 told_at_end_of exact (InReference stand held) = []
 told_at_end_of exact NotBuilt = []
 

@@ -6,8 +6,10 @@ pub mod Slice
 pub mod Reference
 pub mod Tag
 pub mod Text
+pub mod RawText
 pub mod EndOfInput
 pub mod Cutting
 pub mod Reading
 pub mod OneTag
 pub mod OneReference
+pub mod WrittenRaw

@@ -11,9 +11,10 @@ use Rattle.html5grammar.specs.NormalisedText.{normalised, line_after, input_afte
 use Rattle.html5grammar.specs.Slice.{Slice, Cell, Behind, Late, cut_off, tokens_of_late}
 use Rattle.html5grammar.specs.Slice.Cell.{Says, Ends, Returns}
 use Rattle.html5grammar.specs.Slice.Behind.{Leaves, StopsAt, Settles}
-use Rattle.html5grammar.specs.Start.{Input, Start, Open, Rules}
-use Rattle.html5grammar.specs.Start.Mode.{Data, Plain}
+use Rattle.html5grammar.specs.Start.{Input, Start, Open, Rules, raw_of}
+use Rattle.html5grammar.specs.Start.Mode.{Data, Plain, RawText}
 use Rattle.html5grammar.specs.Start.Open.{Between, NotBuilt}
+use Rattle.html5grammar.specs.Tag.{is_end_tag}
 
 -- a character of the normalised text, counted from 0, the place directly before it, or the end of input
 pub data TextPlace : Type 0 where
@@ -94,13 +95,14 @@ brought_by rules cells behind c text = record { settled = []; here = here rules 
 unfoldable pub brought : Rules → Slice → ℕ → List ℕ → Brought Slice
 brought rules slice c text = brought_by rules slice.cells slice.behind c text
 
--- the events of a text, and what is open behind it
+-- the events of a text, and what is open behind it, with the name of the last start tag
 pub record Read : Type 0 where
   pub events : List Event
   pub opened : Open
+  pub last_start_tag : List ℕ
 
 abbrev pub with_events : List Event → Read → Read
-with_events events read = record { events = events ++ read.events; opened = read.opened }
+with_events events read = record { events = events ++ read.events; opened = read.opened; last_start_tag = read.last_start_tag }
 
 -- what is open behind the last character of a text
 abbrev pub open_behind : Behind → Open
@@ -108,41 +110,47 @@ open_behind (Leaves before opened) = opened
 open_behind (StopsAt before) = NotBuilt
 open_behind (Settles late opened) = opened
 
--- what is open behind a tag, by the sink's reply
-abbrev pub open_after_reply : {H : Type 0} → Reply H → Open
-open_after_reply KeepOn = Between Data
-open_after_reply ReadPlainText = Between Plain
-open_after_reply (ReadRawData kind) = NotBuilt
-open_after_reply (RunScript handle) = Between Data
-open_after_reply (SwitchEncoding text) = Between Data
+-- the name of the last start tag behind a tag
+unfoldable pub last_behind : List ℕ → TagOf → List ℕ
+last_behind last tag = if is_end_tag tag.kind then last else tag.name
+
+-- what is open behind a tag, by the sink's reply and the name of the last start tag
+abbrev pub open_after_reply : {H : Type 0} → List ℕ → Reply H → Open
+open_after_reply last KeepOn = Between Data
+open_after_reply last ReadPlainText = Between Plain
+open_after_reply last (ReadRawData kind) = Between (RawText (raw_of kind) last)
+open_after_reply last (RunScript handle) = Between Data
+open_after_reply last (SwitchEncoding text) = Between Data
 
 module _ {S H : Type 0} (step : S → Told → ℕ → S) (reply : S → Told → ℕ → Reply H) (rules : Rules) (K : Start) where
   -- the events at the place of c, and those behind it, which `rest` reads from a sink's state and what goes on
-  abbrev pub read_here : {G : Type 0} → (S → G → Read) → (Open → G) → S → List ℕ → ℕ → Here G → Read
-  read_here rest begin s before c (Tells told goes_on) =
+  abbrev pub read_here : {G : Type 0} → (S → List ℕ → G → Read) → (Open → G) → S → List ℕ → List ℕ → ℕ → Here G → Read
+  read_here rest begin s last before c (Tells told goes_on) =
       let tokens : List Told = bad_character_error rules.exact c ++ told in
-      with_events (events_at K.input before c tokens) (rest (stepped step s (on_line (line_after K.input (before ++ c ∷ [])) tokens)) goes_on)
-  read_here rest begin s before c (TellsTag told tag) =
+      with_events (events_at K.input before c tokens) (rest (stepped step s (on_line (line_after K.input (before ++ c ∷ [])) tokens)) last goes_on)
+  read_here rest begin s last before c (TellsTag told tag) =
       let tokens : List Told = bad_character_error rules.exact c ++ told in
       let line : ℕ = line_after K.input (before ++ c ∷ []) in
       let t : S = stepped step s (on_line line tokens) in
+      let name : List ℕ = last_behind last tag in
       with_events (events_at K.input before c (tokens ++ Tag tag ∷ []))
-      (rest (step t (Tag tag) line) (begin (open_after_reply (reply t (Tag tag) line))))
-  read_here rest begin s before c (Stops told) =
-      record { events = events_at K.input before c told; opened = NotBuilt }
+      (rest (step t (Tag tag) line) name (begin (open_after_reply name (reply t (Tag tag) line))))
+  read_here rest begin s last before c (Stops told) =
+      record { events = events_at K.input before c told; opened = NotBuilt; last_start_tag = last }
 
-  -- the events at the places of a text, with `before` in front of it, where the sink has the state s
-  unfoldable pub read_from : S → List ℕ → Slice → List ℕ → Read
-  read_from s before slice [] = record { events = []; opened = open_behind slice.behind }
-  read_from s before slice (c ∷ text) =
+  -- the events at the places of a text, with `before` in front of it, where the sink has the state s and the last start tag
+  -- had the name `last`
+  unfoldable pub read_from : S → List ℕ → List ℕ → Slice → List ℕ → Read
+  read_from s last before slice [] = record { events = []; opened = open_behind slice.behind; last_start_tag = last }
+  read_from s last before slice (c ∷ text) =
       let next : Brought Slice = brought rules slice c text in
       with_events (late_events K.input before (Character (length before)) next.settled)
-      (read_here (λ t rest. read_from t (before ++ c ∷ []) rest text) cut_off
-      (stepped step s (on_line (line_after K.input before) (tokens_of_late next.settled))) before c next.here)
+      (read_here (λ t name rest. read_from t name (before ++ c ∷ []) rest text) cut_off
+      (stepped step s (on_line (line_after K.input before) (tokens_of_late next.settled))) last before c next.here)
 
   -- the events that the characters of X decide, and what is open behind them
   unfoldable pub read : S → List ℕ → Read
-  read s X = let Y = normalised K.input X in read_from s [] (rest_of rules K.opened Y) Y
+  read s X = let Y = normalised K.input X in read_from s K.last_start_tag [] (rest_of rules K.opened Y) Y
 
   -- what the end of input tells after Y
   unfoldable pub end_events : Open → List ℕ → List Event
@@ -164,7 +172,7 @@ module _ {S H : Type 0} (step : S → Told → ℕ → S) (reply : S → Told �
 
   -- the start of what follows X
   abbrev pub after : S → List ℕ → Start
-  after s X = record { opened = (read s X).opened; input = input_after K.input X }
+  after s X = record { opened = (read s X).opened; last_start_tag = (read s X).last_start_tag; input = input_after K.input X }
 
 abbrev pub messages : List Event → List Message
 messages E = map (λ e. e.message) E

@@ -14,7 +14,6 @@ use Rattle.html5grammar.specs.Slice.{Slice, Late, no_character, cut_off, with_ru
 use Rattle.html5grammar.specs.Slice.Behind.{Leaves, Settles}
 use Rattle.html5grammar.specs.Slice.Cell.{Returns}
 use Rattle.html5grammar.specs.Start.{OpenTag, Stand, Open, Rules}
-use Rattle.html5grammar.specs.Start.Mode.{Data}
 use Rattle.html5grammar.specs.Start.Open.{Between, InTag, InReference}
 use Rattle.html5grammar.specs.Start.Place.{InValue}
 use Rattle.html5grammar.specs.Start.Stand.{InText, InAttribute}
@@ -149,7 +148,7 @@ goes_on None = false
 goes_on (Some c) = (c == equals_sign) || is_ascii_alphanumeric c
 
 abbrev pub in_value : Stand → Bool
-in_value InText = false
+in_value (InText mode) = false
 in_value (InAttribute kind tag) = true
 
 -- the error of letters and digits, up to a semicolon, that no name begins
@@ -193,11 +192,11 @@ ends_number (d ∷ held) c = (d == number_sign) && (has_digits held && (c == sem
 
 -- what is told of characters where the reference stands, and what is open then: in a value they are put to it
 abbrev pub text_in : Stand → List ℕ → List Told
-text_in InText characters = map (λ c. Text (encode_utf8 c)) characters
+text_in (InText mode) characters = map (λ c. Text (encode_utf8 c)) characters
 text_in (InAttribute kind tag) characters = []
 
 abbrev pub opened_in : Stand → List ℕ → Open
-opened_in InText characters = Between Data
+opened_in (InText mode) characters = Between mode
 opened_in (InAttribute kind tag) characters = InTag (InValue kind) (with_value tag characters)
 
 abbrev pub told_of : Stand → Found → List Told

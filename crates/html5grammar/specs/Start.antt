@@ -1,17 +1,39 @@
 -- Where the reading of a text starts, and what is open there.
-use Rattle.std.specs.Prelude.{ℕ, Bool, true, false, List, [], length, Option, Some}
+use Rattle.std.specs.Prelude.{ℕ, Bool, true, false, List, [], length, Option, None, Some}
 use Rattle.html5ever_interface.specs.Options.{OptionsOf}
 use Rattle.html5ever_interface.specs.declared.interface.token.TagKind.{TagKind}
 use Rattle.html5ever_interface.specs.declared.states.AttrValueKind.{AttrValueKind}
+use Rattle.html5ever_interface.specs.declared.states.RawKind.{RawKind}
+use Rattle.html5ever_interface.specs.declared.states.RawKind.TheVariants as raw_kind
+use Rattle.html5ever_interface.specs.declared.states.ScriptEscapeKind.{ScriptEscapeKind}
+use Rattle.html5ever_interface.specs.declared.states.ScriptEscapeKind.TheVariants as escape_kind
 use Rattle.html5ever_interface.specs.declared.states.State.{State}
 use Rattle.html5ever_interface.specs.declared.states.State.TheVariants as state
 use Rattle.markup5ever.specs.NamedReferences.{NamedReference}
 use Rattle.markup5ever.specs.Names.{AttributeOf}
 
+-- how many dashes stand directly before, of which two are counted
+pub data Dashes : Type 0 where
+  NoDash : Dashes
+  OneDash : Dashes
+  TwoDashes : Dashes
+
+-- the kinds of raw text
+pub data Raw : Type 0 where
+  Rcdata : Raw
+  Rawtext : Raw
+  ScriptData : Raw
+  -- script data behind `<!--`
+  Escaped : Dashes → Raw
+  -- the same behind a `<script`
+  DoubleEscaped : Dashes → Raw
+
 -- how the characters of the text are read between items
 pub data Mode : Type 0 where
   Data : Mode
   Plain : Mode
+  -- with the name whose end tag ends the text; the empty name is none
+  RawText : Raw → List ℕ → Mode
 
 -- a tag that was begun, with its texts in bytes
 pub record OpenTag : Type 0 where
@@ -40,9 +62,21 @@ pub data Place : Type 0 where
   -- directly behind a `/` outside a value
   AfterSolidus : Place
 
+-- a place in raw text where something is open
+pub data RawPlace : Type 0 where
+  -- behind `<`
+  AfterLessThan : RawKind → RawPlace
+  -- behind `</` and letters, which may be the name of an end tag
+  InEndName : RawKind → List ℕ → RawPlace
+  -- behind the `<!` of script data, and behind its `<!-`
+  AfterMark : RawPlace
+  AfterMarkAndDash : RawPlace
+  -- behind `<` and letters in escaped script data, and behind `</` and letters in double-escaped script data
+  InSwitch : ScriptEscapeKind → List ℕ → RawPlace
+
 -- where a character reference stands
 pub data Stand : Type 0 where
-  InText : Stand
+  InText : Mode → Stand
   -- in a value
   InAttribute : AttrValueKind → OpenTag → Stand
 
@@ -55,6 +89,8 @@ pub data Open : Type 0 where
   -- `</` in the mode Data
   LessThanSolidus : Open
   InTag : Place → OpenTag → Open
+  -- in raw text, with the name whose end tag ends it
+  InRaw : RawPlace → List ℕ → Open
   -- a reference that is not decided, with the characters behind its `&`
   InReference : Stand → List ℕ → Open
   -- the text met what is not built yet: nothing more is told
@@ -91,20 +127,41 @@ pub record Input : Type 0 where
 
 pub record Start : Type 0 where
   pub opened : Open
+  -- the name of the last start tag, which is empty where there is none
+  pub last_start_tag : List ℕ
   pub input : Input
 
 -- a tag of which nothing was read
 abbrev pub begun : TagKind → OpenTag
 begun kind = record { kind = kind; name = []; attributes = []; had_duplicate_attributes = false; last_name = []; last_value = [] }
 
+-- script data behind `<!--`, with the dashes directly before
+abbrev pub escaped : ScriptEscapeKind → Dashes → Raw
+escaped escape_kind.Escaped dashes = Escaped dashes
+escaped escape_kind.DoubleEscaped dashes = DoubleEscaped dashes
+
+-- raw text of a kind, from its start on
+abbrev pub raw_of : RawKind → Raw
+raw_of raw_kind.Rcdata = Rcdata
+raw_of raw_kind.Rawtext = Rawtext
+raw_of raw_kind.ScriptData = ScriptData
+raw_of (raw_kind.ScriptDataEscaped kind) = escaped kind NoDash
+
 -- the mode that a stream starts in: without a choice that is Data
-abbrev pub initial_mode : Option State → Mode
-initial_mode (Some state.Plaintext) = Plain
-initial_mode _ = Data
+abbrev pub initial_mode : Option State → List ℕ → Mode
+initial_mode (Some state.Plaintext) last_start_tag = Plain
+initial_mode (Some (state.RawData kind)) last_start_tag = RawText (raw_of kind) last_start_tag
+initial_mode _ last_start_tag = Data
+
+-- the name that the options give the last start tag
+abbrev pub initial_name : Option (List ℕ) → List ℕ
+initial_name None = []
+initial_name (Some name) = name
 
 -- the start of a stream
 abbrev pub start_of : OptionsOf → Start
 start_of opts = record {
-  opened = Between (initial_mode opts.initial_state);
+  opened = Between (initial_mode opts.initial_state (initial_name opts.last_start_tag_name));
+  last_start_tag = initial_name opts.last_start_tag_name;
   input = record { line = 1; after_carriage_return = false; drops_byte_order_mark = opts.discard_bom };
 }

@@ -42,6 +42,6 @@ behind_less_than exact (c ∷ text) =
 unfoldable pub data_text : Rules → List Told → ℕ → List ℕ → Slice
 data_text rules before c text =
     if c == less_than then with_character before (behind_less_than rules.exact text)
-    else if c == ampersand then with_character before (reference_text rules InText [] text)
+    else if c == ampersand then with_character before (reference_text rules (InText Data) [] text)
     else if c == null then one_character (before ++ error_in rules.exact state.Data c ∷ Null ∷ []) (Between Data)
     else one_character (before ++ Text (encode_utf8 c) ∷ []) (Between Data)

@@ -58,13 +58,13 @@ told_late (token ∷ told) back is_held = ap (λ l. token ∷ l) (told_late told
 
 told_held : (stand : Stand) (rest : List ℕ) → tokens_of_late (held_text stand rest) ≡ text_in stand rest
 unfolding held_text
-told_held InText [] = refl
+told_held (InText mode) [] = refl
 told_held (InAttribute kind tag) [] = refl
-told_held InText (c ∷ rest) = ap (λ l. Text (encode_utf8 c) ∷ l) (told_held InText rest)
+told_held (InText mode) (c ∷ rest) = ap (λ l. Text (encode_utf8 c) ∷ l) (told_held (InText mode) rest)
 told_held (InAttribute kind tag) (c ∷ rest) = told_held (InAttribute kind tag) rest
 
 text_in-append : (stand : Stand) (xs ys : List ℕ) → text_in stand (xs ++ ys) ≡ text_in stand xs ++ text_in stand ys
-text_in-append InText xs ys = map-append (λ (c : ℕ). Text (encode_utf8 c)) xs ys
+text_in-append (InText mode) xs ys = map-append (λ (c : ℕ). Text (encode_utf8 c)) xs ys
 text_in-append (InAttribute kind tag) xs ys = refl
 
 late-told : (stand : Stand) (found : grammar.Found) (held : List ℕ) → tokens_of_late (late_tokens stand found held) ≡ found.errors ++ text_in stand (characters_in found ++ drop found.taken held)

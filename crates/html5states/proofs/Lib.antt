@@ -7,3 +7,5 @@ pub mod Messages
 pub mod Put
 pub mod Resolving
 pub mod Late
+pub mod HeldLetters
+pub mod RawEnds

@@ -2,17 +2,21 @@
 use Rattle.std.proofs.Common.{◌≡◌, ◌≢◌, ℕ, false, List, [], ◌∷◌, ◌++◌, refl, ap, sym, ◌∙◌, None, Some, lit<, length, get_or, ◌<◌, arith, subst}
 use Rattle.std.specs.Prelude.{All, Contains, flat_map, encode_utf8, encode_utf8_all, ◌==◌}
 use Rattle.std.proofs.lemmas.Bool.{ne_eqb}
+use Rattle.std.proofs.Math.Bool.{and-false}
 use Rattle.std.proofs.lemmas.List.Elements.{All-head, All-tail}
 use Rattle.html5ever_interface.specs.declared.states.AttrValueKind.TheVariants.{Unquoted, SingleQuoted, DoubleQuoted}
-use Rattle.html5grammar.specs.Characters.{null, tab, line_feed, form_feed, carriage_return, space, quotation_mark, ampersand, apostrophe, solidus, less_than, equals_sign, greater_than, value_bytes, shown, is_white_space}
+use Rattle.html5grammar.specs.Characters.{null, tab, line_feed, form_feed, carriage_return, space, quotation_mark, ampersand, apostrophe, hyphen, solidus, less_than, equals_sign, greater_than, value_bytes, shown, is_white_space}
 use Rattle.html5grammar.specs.Reading.Here.{Tells}
 use Rattle.html5grammar.specs.Start.{Open}
-use Rattle.html5grammar.specs.Start.Mode.{Data, Plain}
+use Rattle.html5grammar.specs.Start.Dashes.{NoDash, OneDash, TwoDashes}
+use Rattle.html5grammar.specs.Start.Raw.{Rcdata, Rawtext, ScriptData, Escaped, DoubleEscaped}
+use Rattle.html5grammar.specs.Start.Mode.{Data, Plain, RawText}
 use Rattle.html5grammar.specs.Start.Place.{InName, BeforeAttribute, InAttributeName, AfterAttributeName, BeforeValue, InValue, AfterQuotedValue, AfterSolidus}
-use Rattle.html5grammar.specs.Start.Open.{Between, LessThan, LessThanSolidus, InTag, InReference, NotBuilt}
+use Rattle.html5grammar.specs.Start.Open.{Between, LessThan, LessThanSolidus, InTag, InRaw, InReference, NotBuilt}
 use Rattle.html5grammar.specs.Tag.{in_tag_name, in_attribute_name, in_quoted, in_unquoted, unquoted_error, is_odd_in_name}
+use Rattle.html5grammar.specs.RawText.{raw_character, raw_behind, dashes_behind}
 use Rattle.html5grammar.specs.Text.{plain_text}
-use Rattle.html5grammar.proofs.Machine.{step_at, tag_step, data_step, tag_name_step, attribute_name_step, quoted_step, unquoted_step}
+use Rattle.html5grammar.proofs.Machine.{step_at, tag_step, data_step, raw_step, tag_name_step, attribute_name_step, quoted_step, unquoted_step}
 use Rattle.html5grammar.proofs.Slices.{with_name-nil, with_last_name-nil, with_value-nil, with_name-cons, with_last_name-cons, with_value-cons}
 use Rattle.html5states.specs.Runs.{other_run_ends, run_ends, opened_after_run, run_tokens}
 
@@ -39,6 +43,7 @@ opened_after_run-nil (InTag BeforeValue tag) = refl
 opened_after_run-nil (InTag (InValue kind) tag) = ap (InTag (InValue kind)) (with_value-nil tag)
 opened_after_run-nil (InTag AfterQuotedValue tag) = refl
 opened_after_run-nil (InTag AfterSolidus tag) = refl
+opened_after_run-nil (InRaw place name) = refl
 opened_after_run-nil (InReference stand held) = refl
 opened_after_run-nil NotBuilt = refl
 
@@ -55,6 +60,7 @@ opened_after_run-cons (InTag BeforeValue tag) c run = refl
 opened_after_run-cons (InTag (InValue kind) tag) c run = ap (InTag (InValue kind)) (with_value-cons tag c run)
 opened_after_run-cons (InTag AfterQuotedValue tag) c run = refl
 opened_after_run-cons (InTag AfterSolidus tag) c run = refl
+opened_after_run-cons (InRaw place name) c run = refl
 opened_after_run-cons (InReference stand held) c run = refl
 opened_after_run-cons NotBuilt c run = refl
 
@@ -71,6 +77,7 @@ other_run_ends-after (InTag BeforeValue tag) c = refl
 other_run_ends-after (InTag (InValue kind) tag) c = refl
 other_run_ends-after (InTag AfterQuotedValue tag) c = refl
 other_run_ends-after (InTag AfterSolidus tag) c = refl
+other_run_ends-after (InRaw place name) c = refl
 other_run_ends-after (InReference stand held) c = refl
 other_run_ends-after NotBuilt c = refl
 
@@ -88,6 +95,7 @@ run_tokens-cons (InTag BeforeValue tag) c run = refl
 run_tokens-cons (InTag (InValue kind) tag) c run = refl
 run_tokens-cons (InTag AfterQuotedValue tag) c run = refl
 run_tokens-cons (InTag AfterSolidus tag) c run = refl
+run_tokens-cons (InRaw place name) c run = refl
 run_tokens-cons (InReference stand held) c run = refl
 run_tokens-cons NotBuilt c run = refl
 
@@ -96,6 +104,7 @@ run_tokens-nil (Between mode) = refl
 run_tokens-nil LessThan = refl
 run_tokens-nil LessThanSolidus = refl
 run_tokens-nil (InTag place tag) = refl
+run_tokens-nil (InRaw place name) = refl
 run_tokens-nil (InReference stand held) = refl
 run_tokens-nil NotBuilt = refl
 
@@ -118,11 +127,30 @@ no_carriage_return others c other = λ same. other (2, omega arith, sym same)
 -- a character that ends no run tells itself alone, or is put to the open name or value
 pub step-run : (opened : Open) (others : List ℕ) (c : ℕ) → other_run_ends opened ≡ Some others → ¬ Contains (run_ends others) c
     → step_at false opened c ≡ Tells (run_tokens opened (c ∷ [])) (opened_after_run opened (c ∷ []))
-unfolding step_at tag_step data_step plain_text tag_name_step attribute_name_step quoted_step unquoted_step in_tag_name in_attribute_name in_quoted in_unquoted unquoted_error is_odd_in_name is_white_space
+unfolding step_at tag_step data_step plain_text raw_step raw_character raw_behind dashes_behind tag_name_step attribute_name_step quoted_step unquoted_step in_tag_name in_attribute_name in_quoted in_unquoted unquoted_error is_odd_in_name is_white_space
 step-run (Between Data) others c has other =
     let out : ¬ Contains (run_ends (less_than ∷ ampersand ∷ [])) c = known (less_than ∷ ampersand ∷ []) others c has other in
     rw (no (less_than ∷ ampersand ∷ []) c out 3 less_than (lit< tt) refl, no (less_than ∷ ampersand ∷ []) c out 4 ampersand (lit< tt) refl, no (less_than ∷ ampersand ∷ []) c out 0 null (lit< tt) refl) refl
 step-run (Between Plain) others c has other = rw (no others c other 0 null (omega arith) refl) refl
+step-run (Between (RawText Rcdata name)) others c has other =
+    let out : ¬ Contains (run_ends (less_than ∷ ampersand ∷ [])) c = known (less_than ∷ ampersand ∷ []) others c has other in
+    rw (no (less_than ∷ ampersand ∷ []) c out 3 less_than (lit< tt) refl, no (less_than ∷ ampersand ∷ []) c out 4 ampersand (lit< tt) refl, no (less_than ∷ ampersand ∷ []) c out 0 null (lit< tt) refl) refl
+step-run (Between (RawText Rawtext name)) others c has other =
+    let out : ¬ Contains (run_ends (less_than ∷ [])) c = known (less_than ∷ []) others c has other in
+    rw (no (less_than ∷ []) c out 3 less_than (lit< tt) refl, no (less_than ∷ []) c out 0 null (lit< tt) refl) refl
+step-run (Between (RawText ScriptData name)) others c has other =
+    let out : ¬ Contains (run_ends (less_than ∷ [])) c = known (less_than ∷ []) others c has other in
+    rw (no (less_than ∷ []) c out 3 less_than (lit< tt) refl, no (less_than ∷ []) c out 0 null (lit< tt) refl) refl
+step-run (Between (RawText (Escaped NoDash) name)) others c has other =
+    let out : ¬ Contains (run_ends (hyphen ∷ less_than ∷ [])) c = known (hyphen ∷ less_than ∷ []) others c has other in
+    rw (no (hyphen ∷ less_than ∷ []) c out 4 less_than (lit< tt) refl, no (hyphen ∷ less_than ∷ []) c out 0 null (lit< tt) refl, and-false (c == greater_than), no (hyphen ∷ less_than ∷ []) c out 3 hyphen (lit< tt) refl) refl
+step-run (Between (RawText (DoubleEscaped NoDash) name)) others c has other =
+    let out : ¬ Contains (run_ends (hyphen ∷ less_than ∷ [])) c = known (hyphen ∷ less_than ∷ []) others c has other in
+    rw (no (hyphen ∷ less_than ∷ []) c out 4 less_than (lit< tt) refl, no (hyphen ∷ less_than ∷ []) c out 0 null (lit< tt) refl, and-false (c == greater_than), no (hyphen ∷ less_than ∷ []) c out 3 hyphen (lit< tt) refl) refl
+step-run (Between (RawText (Escaped OneDash) name)) others c has other = absurd (none≢some has)
+step-run (Between (RawText (Escaped TwoDashes) name)) others c has other = absurd (none≢some has)
+step-run (Between (RawText (DoubleEscaped OneDash) name)) others c has other = absurd (none≢some has)
+step-run (Between (RawText (DoubleEscaped TwoDashes) name)) others c has other = absurd (none≢some has)
 step-run LessThan others c has other = absurd (none≢some has)
 step-run LessThanSolidus others c has other = absurd (none≢some has)
 step-run (InTag InName tag) others c has other =
@@ -145,5 +173,6 @@ step-run (InTag (InValue Unquoted) tag) others c has other =
     rw (no (tab ∷ form_feed ∷ space ∷ ampersand ∷ greater_than ∷ []) c out 3 tab (lit< tt) refl, no (tab ∷ form_feed ∷ space ∷ ampersand ∷ greater_than ∷ []) c out 1 line_feed (lit< tt) refl, no (tab ∷ form_feed ∷ space ∷ ampersand ∷ greater_than ∷ []) c out 4 form_feed (lit< tt) refl, no (tab ∷ form_feed ∷ space ∷ ampersand ∷ greater_than ∷ []) c out 5 space (lit< tt) refl, no (tab ∷ form_feed ∷ space ∷ ampersand ∷ greater_than ∷ []) c out 7 greater_than (lit< tt) refl, no (tab ∷ form_feed ∷ space ∷ ampersand ∷ greater_than ∷ []) c out 6 ampersand (lit< tt) refl, no (tab ∷ form_feed ∷ space ∷ ampersand ∷ greater_than ∷ []) c out 0 null (lit< tt) refl) refl
 step-run (InTag AfterQuotedValue tag) others c has other = absurd (none≢some has)
 step-run (InTag AfterSolidus tag) others c has other = absurd (none≢some has)
+step-run (InRaw place name) others c has other = absurd (none≢some has)
 step-run (InReference stand held) others c has other = absurd (none≢some has)
 step-run NotBuilt others c has other = absurd (none≢some has)

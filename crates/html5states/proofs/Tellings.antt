@@ -11,6 +11,7 @@ use Rattle.std.specs.Char.{IsScalar}
 use Rattle.std.specs.Result.{IsErrAnd}
 use Rattle.html5ever_interface.proofs.Steppings.{stepped-append}
 use Rattle.html5ever_interface.specs.Sink.{Message, stepped, on_line}
+use Rattle.html5states.specs.CurrentTag.{last_name_of}
 use Rattle.html5states.specs.Steps.{Next, tokens_of, behind, Ends}
 use Rattle.html5states.specs.Telling.{IsRefusal, tokens_in, IsToldAs, IsKept, Stops, Tells, Emits, Reads, faults_of}
 use Rattle.html5grammar.specs.ErrorText.{where_true}
@@ -286,27 +287,42 @@ module _ {Q S Z : Type 0} {state : Q → S} {count : Q → ℕ} {step faulted : 
       }
 
   -- a state that is read behind what is told first
-  pub reads_then : {U : Type 0} {x : U} {r : Result Progress TokenizerError} {before middle after : Teller Q Z} {A : List Told} {all later : Here Open} {at : Opened Z}
-      → Emits state count step faulted {T = U} (Ok x) before middle A → Reads state count step faulted r middle after later at → all ≡ told_first A later
-      → Reads state count step faulted r before after all at
-  reads_then {r = r} {before = before} {A = A} {all = all} {later = later} {at = at} first reads same = record {
+  pub reads_then : {U : Type 0} {x : U} {r : Result Progress TokenizerError} {before middle after : Teller Q Z} {A : List Told} {all later : Here Open} {was then_at at : Opened Z}
+      → Emits state count step faulted {T = U} (Ok x) before middle A → Reads state count step faulted r middle after later then_at at → all ≡ told_first A later
+      → last_name_of then_at ≡ last_name_of was
+      → Reads state count step faulted r before after all was at
+  reads_then {r = r} {before = before} {A = A} {all = all} {later = later} {at = at} first reads same last = record {
     tells = first_then step faulted r _ _ _ before.line A all later same first.tells (rw first.kept.line at reads.tells);
     leads = leads_first r at A all later same reads.leads;
+    last = reads.last ∙ last;
     faults = reads.faults ∙ ap (λ n. n + faults_of r) (first.faults ∙ add-zero _);
     kept = kept_then first.kept reads.kept;
   }
 
-  pub reads_stop : {U : Type 0} {e : TokenizerError} {before after : Teller Q Z} {A : List Told} {all : Here Open} {at : Opened Z} (r : Result Progress TokenizerError)
-      → IsErrAnd r (λ x. x ≡ e) → Emits state count step faulted {T = U} (Err e) before after A → (later : Here Open) → all ≡ told_first A later
-      → Reads state count step faulted r before after all at
-  reads_stop {e = e} {before = before} {A = A} {all = all} {at = at} r h first later same =
+  pub reads_stop : {U : Type 0} {e : TokenizerError} {before after : Teller Q Z} {A : List Told} {all : Here Open} {was at : Opened Z} (r : Result Progress TokenizerError)
+      → IsErrAnd r (λ x. x ≡ e) → Emits state count step faulted {T = U} (Err e) before after A → (later : Here Open) → all ≡ told_first A later → last_name_of at ≡ last_name_of was
+      → Reads state count step faulted r before after all was at
+  reads_stop {e = e} {before = before} {A = A} {all = all} {at = at} r h first later same last =
       let p = err_from_is_err_and r h in
       record {
         tells = first_stop step faulted r e _ _ before.line A all later same h first.refusal first.tells;
         leads = refused_leads r e at (behind all) h first.refusal;
+        last = last;
         faults = rw (p.1, p.2) first.faults;
         kept = first.kept;
       }
+
+  -- a state that is read from another that is open
+  pub reads_as : {r : Result Progress TokenizerError} {before after : Teller Q Z} {all later : Here Open} {was then_at at : Opened Z}
+      → Reads state count step faulted r before after later then_at at → all ≡ later → last_name_of then_at ≡ last_name_of was
+      → Reads state count step faulted r before after all was at
+  reads_as reads same last = record {
+    tells = rw same reads.tells;
+    leads = rw same reads.leads;
+    last = reads.last ∙ last;
+    faults = reads.faults;
+    kept = reads.kept;
+  }
 
   -- a token that the sink took, and one at which it faulted
   pub emits_token : ((s : S) (a b : List ℕ) (line : ℕ) → step (step s (Text a) line) (Text b) line ≡ step s (Text (a ++ b)) line)

@@ -6,7 +6,8 @@ use Rattle.html5grammar.specs.Characters.{number_sign}
 use Rattle.html5grammar.specs.Reference.{is_number}
 use Rattle.html5grammar.specs.Reference as grammar
 use Rattle.html5grammar.specs.Start.{Open, Stand}
-use Rattle.html5grammar.specs.Start.Mode.{Data}
+use Rattle.html5grammar.specs.Start.Mode.{Data, RawText}
+use Rattle.html5grammar.specs.Start.Raw.{Rcdata}
 use Rattle.html5grammar.specs.Start.Open.{Between, InTag, InReference, NotBuilt}
 use Rattle.html5grammar.specs.Start.Place.{InValue}
 use Rattle.html5grammar.specs.Start.Stand.{InText, InAttribute}
@@ -17,13 +18,15 @@ use Rattle.markup5ever.specs.NamedReferences.{NamedReference}
 -- a reference can stand where this is open
 abbrev pub HasStand : Open → Type 0
 HasStand (Between Data) = Unit {0}
+HasStand (Between (RawText Rcdata name)) = Unit {0}
 HasStand (InTag (InValue kind) tag) = Unit {0}
 HasStand other = ⊥
 
 -- where it stands
 abbrev pub stand_of : Open → Stand
 stand_of (InTag (InValue kind) tag) = InAttribute kind tag
-stand_of other = InText
+stand_of (Between mode) = InText mode
+stand_of other = InText Data
 
 -- what stands behind `#` are digits of the base alone
 abbrev pub IsNumberHeld : List ℕ → Type 0
@@ -59,7 +62,8 @@ with_reference is_in held opened = if is_in then InReference (stand_of opened) h
 
 -- what is open behind the `&` of a reference
 abbrev pub begun_reference : Open → Open
-begun_reference (Between Data) = InReference InText []
+begun_reference (Between Data) = InReference (InText Data) []
+begun_reference (Between (RawText Rcdata name)) = InReference (InText (RawText Rcdata name)) []
 begun_reference (InTag (InValue kind) tag) = InReference (InAttribute kind tag) []
 begun_reference other = NotBuilt
 

@@ -4,9 +4,11 @@ use Rattle.html5ever_interface.specs.Token.{Told}
 use Rattle.html5ever_interface.specs.Token.Told.{Text}
 use Rattle.html5ever_interface.specs.declared.states.AttrValueKind.{AttrValueKind}
 use Rattle.html5ever_interface.specs.declared.states.AttrValueKind.TheVariants.{Unquoted, SingleQuoted, DoubleQuoted}
-use Rattle.html5grammar.specs.Characters.{null, tab, line_feed, form_feed, carriage_return, space, quotation_mark, ampersand, apostrophe, solidus, less_than, equals_sign, greater_than}
+use Rattle.html5grammar.specs.Characters.{null, tab, line_feed, form_feed, carriage_return, space, quotation_mark, ampersand, apostrophe, hyphen, solidus, less_than, equals_sign, greater_than}
 use Rattle.html5grammar.specs.Start.{Open}
-use Rattle.html5grammar.specs.Start.Mode.{Data, Plain}
+use Rattle.html5grammar.specs.Start.Dashes.{NoDash}
+use Rattle.html5grammar.specs.Start.Raw.{Rcdata, Rawtext, ScriptData, Escaped, DoubleEscaped}
+use Rattle.html5grammar.specs.Start.Mode.{Data, Plain, RawText}
 use Rattle.html5grammar.specs.Start.Open.{Between, InTag}
 use Rattle.html5grammar.specs.Start.Place.{InName, InAttributeName, InValue}
 use Rattle.html5grammar.specs.Reference.{with_value}
@@ -22,6 +24,11 @@ other_value_ends Unquoted = tab ∷ form_feed ∷ space ∷ ampersand ∷ greate
 abbrev pub other_run_ends : Open → Option (List ℕ)
 other_run_ends (Between Data) = Some (less_than ∷ ampersand ∷ [])
 other_run_ends (Between Plain) = Some []
+other_run_ends (Between (RawText Rcdata name)) = Some (less_than ∷ ampersand ∷ [])
+other_run_ends (Between (RawText Rawtext name)) = Some (less_than ∷ [])
+other_run_ends (Between (RawText ScriptData name)) = Some (less_than ∷ [])
+other_run_ends (Between (RawText (Escaped NoDash) name)) = Some (hyphen ∷ less_than ∷ [])
+other_run_ends (Between (RawText (DoubleEscaped NoDash) name)) = Some (hyphen ∷ less_than ∷ [])
 other_run_ends (InTag InName tag) = Some (tab ∷ form_feed ∷ space ∷ solidus ∷ greater_than ∷ [])
 other_run_ends (InTag InAttributeName tag) =
     Some (tab ∷ form_feed ∷ space ∷ solidus ∷ greater_than ∷ equals_sign ∷ quotation_mark ∷ apostrophe ∷ less_than ∷ [])

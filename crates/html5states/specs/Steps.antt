@@ -5,7 +5,7 @@ use Rattle.html5grammar.specs.Reading.{Here}
 use Rattle.html5grammar.specs.Reading.Here.{Tells, TellsTag, Stops}
 use Rattle.html5grammar.specs.Start.{Open}
 use Rattle.html5grammar.specs.Start.Mode.{Data}
-use Rattle.html5grammar.specs.Start.Open.{Between, LessThan, LessThanSolidus, InTag, InReference, NotBuilt}
+use Rattle.html5grammar.specs.Start.Open.{Between, LessThan, LessThanSolidus, InTag, InRaw, InReference, NotBuilt}
 use Rattle.html5grammar.specs.Tag.{told_tag}
 use Rattle.html5states.specs.CharRef.{begun_reference}
 use Rattle.html5states.specs.CurrentTag.{open_tag, opened_of}
@@ -37,6 +37,7 @@ IsBuilt (Between mode) = Unit {0}
 IsBuilt LessThan = Unit {0}
 IsBuilt LessThanSolidus = Unit {0}
 IsBuilt (InTag place tag) = Unit {0}
+IsBuilt (InRaw place name) = Unit {0}
 IsBuilt (InReference stand held) = Unit {0}
 IsBuilt NotBuilt = ⊥
 

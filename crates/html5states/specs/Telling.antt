@@ -7,6 +7,7 @@ use Rattle.html5ever_interface.specs.Token.{Told}
 use Rattle.html5ever_interface.specs.Token.Told.{Text}
 use Rattle.html5grammar.specs.Reading.{Here}
 use Rattle.html5grammar.specs.Start.{Open}
+use Rattle.html5states.specs.CurrentTag.{last_name_of}
 use Rattle.html5states.specs.Steps.{tokens_of, behind, Ends}
 use Rattle.html5states.specs.declared.opened.Opened.{Opened}
 use Rattle.html5states.specs.declared.opened.Progress.{Progress}
@@ -93,9 +94,10 @@ module _ {Q S Z : Type 0} (state : Q → S) (count : Q → ℕ) (step faulted : 
     pub faults : count after.sink.now ≡ count before.sink.now + faults_of result
     pub kept : IsKept before after
 
-  -- a character told what the machine tells here, and left open what the machine leaves
-  pub record Reads (result : Result Progress TokenizerError) (before after : Teller Q Z) (here : Here Open) (at : Opened Z) : Type 0 where
+  -- a character told what the machine tells here, and left open what the machine leaves, with the last start tag as it was
+  pub record Reads (result : Result Progress TokenizerError) (before after : Teller Q Z) (here : Here Open) (was at : Opened Z) : Type 0 where
     pub tells : Tells step faulted result (state before.sink.now) (on_line before.line (tokens_of here)) (state after.sink.now)
     pub leads : Ends result at (behind here)
+    pub last : last_name_of at ≡ last_name_of was
     pub faults : count after.sink.now ≡ count before.sink.now + faults_of result
     pub kept : IsKept before after

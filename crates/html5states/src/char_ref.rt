@@ -11,7 +11,7 @@ ghost use Rattle.html5grammar.specs.ErrorText.{where_true};
 ghost use Rattle.html5grammar.specs.Reference.{number_reference, named_reference, no_name, is_undecided, is_number, is_x, base_of, behind_x, has_digits, number_value, character_of_number, is_invalid_number, invalid_number, unended_number, without_digits, semicolon_len, unknown_name, longest_name, is_ended, goes_on, first_or, ends_number, in_value, text_in, opened_in, late_tokens, opened_behind};
 ghost use Rattle.html5grammar.specs.Slice.{tokens_of_late};
 ghost use Rattle.html5states.specs.CharRef.{HasStand, stand_of, IsHeld, IsNumberHeld, IsFound, IsNamed, more_of, decided, found_at};
-ghost use Rattle.html5states.specs.CurrentTag.{opened_of};
+ghost use Rattle.html5states.specs.CurrentTag.{opened_of, last_name_of};
 ghost use Rattle.html5states.specs.Telling.{Emits};
 ghost use Rattle.markup5ever.specs.NamedReferences.{begins_name};
 
@@ -587,6 +587,7 @@ impl<S: TokenSink<Token<A>>, A: Allocator + Copy> Teller<'_, S, A> {
             (text_in (stand_of (opened_of at.old)) (found.now.first ∷ (more_of found.now.second ++ rest.now))) }
         ensures leads { OnOk result (opened_of at.new ≡ opened_in (stand_of (opened_of at.old)) (found.now.first ∷ (more_of found.now.second ++ rest.now))) }
         ensures stays { HasStand (opened_of at.new) }
+        ensures last { last_name_of at.new ≡ last_name_of at.old }
     {
         match at.state {
             State::AttributeValue(_) => Ok(push_found(&mut at.tag.attr_value, found, rest)?),
@@ -611,6 +612,7 @@ impl<S: TokenSink<Token<A>>, A: Allocator + Copy> Teller<'_, S, A> {
             (found_at self.old.exact_errors names.now (stand_of (opened_of at.old)) held.now next) held.now) }
         ensures ends { IfOk result (λ ends. (c : ℕ) → next ≡ Some c → ends ≡ ends_number held.now c) }
         ensures stays { HasStand (opened_of at.new) }
+        ensures last { last_name_of at.new ≡ last_name_of at.old }
     {
         let found = self.resolve(names, is_in_value(at), held, next)?;
         let text = held.text();

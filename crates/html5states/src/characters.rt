@@ -1,9 +1,10 @@
 //! Kinds of characters.
-#![tactic(auto, unfolding(html5grammar::specs::Characters::is_white_space, html5grammar::specs::Characters::is_letter, html5grammar::specs::Characters::shown, html5grammar::specs::Tag::is_odd_in_name, html5grammar::specs::Tag::is_odd_at_name, html5grammar::specs::Tag::is_odd_in_unquoted))]
+#![tactic(auto, unfolding(html5grammar::specs::Characters::is_white_space, html5grammar::specs::Characters::is_letter, html5grammar::specs::Characters::shown, html5grammar::specs::Tag::is_odd_in_name, html5grammar::specs::Tag::is_odd_at_name, html5grammar::specs::Tag::is_odd_in_unquoted, html5grammar::specs::RawText::ends_name))]
 
 ghost use Rattle.std.specs.Prelude.{◌≡◌, ◌==◌, ◌||◌, ◌&&◌, IfSome, is_some};
 ghost use Rattle.std.specs.Char.{to_ascii_lowercase};
 ghost use Rattle.html5grammar.specs.Characters.{null, is_white_space, is_letter, shown};
+ghost use Rattle.html5grammar.specs.RawText.{ends_name};
 ghost use Rattle.html5grammar.specs.Tag.{is_odd_in_name, is_odd_at_name, is_odd_in_unquoted, quote_of};
 
 use html5ever_interface::states::AttrValueKind;
@@ -19,6 +20,13 @@ pub fn is_letter(c: char) -> bool
     ensures { result ≡ is_letter c }
 {
     matches!(c, 'A'..='Z' | 'a'..='z')
+}
+
+/// Whether the character ends a name: white space, `/` and `>`.
+pub fn ends_name(c: char) -> bool
+    ensures { result ≡ ends_name c }
+{
+    is_white_space(c) || matches!(c, '/' | '>')
 }
 
 /// The letter in lower case, where the character is an ASCII letter.

@@ -72,7 +72,7 @@ impl<S: TokenSink<Token<A>>, A: Allocator + Copy> Teller<'_, S, A> {
     /// another state than Data.
     pub fn emit_tag(&mut self, at: &mut Opened<A>, self_closing: bool) -> Step
         ensures { Reads S.state S.faults S.step S.faulted result self.old self.new
-            (closing_step [] (open_tag at.old.tag) self_closing) at.new }
+            (closing_step [] (open_tag at.old.tag) self_closing) at.old at.new }
     {
         at.state = State::Data;
         self.finish_tag(&mut at.tag, self_closing)?;

@@ -1,10 +1,14 @@
 //! The end of input, in the state that is open.
-#![tactic(auto, unfolding(html5grammar::specs::EndOfInput::told_at_end_of, html5grammar::specs::EndOfInput::state_at))]
+#![tactic(auto, unfolding(html5grammar::specs::EndOfInput::told_at_end_of, html5grammar::specs::EndOfInput::told_at_raw_end, html5grammar::specs::EndOfInput::raw_end_error, html5grammar::specs::RawText::raw_state, html5grammar::specs::RawText::escaped_state, html5grammar::specs::EndOfInput::state_at))]
 
-ghost use Rattle.std.specs.Prelude.{◌∷◌, [], codes, encode_utf8};
+ghost use Rattle.std.specs.Prelude.{◌∷◌, [], ◌++◌, codes, encode_utf8};
+ghost use Rattle.std.specs.Str.{chars};
 ghost use Rattle.html5ever_interface.specs.Token.Told.{Text, End};
-ghost use Rattle.html5grammar.specs.EndOfInput.{told_at_end_of};
+ghost use Rattle.html5grammar.specs.Characters.{solidus, less_than};
+ghost use Rattle.html5grammar.specs.EndOfInput.{told_at_end_of, raw_end_error};
 ghost use Rattle.html5grammar.specs.ErrorText.{end_error_in};
+ghost use Rattle.html5grammar.specs.RawText.{texts, told_behind_less_than};
+ghost use Rattle.html5grammar.specs.Start.{raw_of};
 ghost use Rattle.html5states.specs.CurrentTag.{opened_of};
 ghost use Rattle.html5states.specs.Steps.{IsBuilt};
 ghost use Rattle.html5states.specs.Telling.{Emits};
@@ -15,8 +19,13 @@ use crate::teller::Teller;
 use html5ever_interface::interface::sink::TokenSink;
 use html5ever_interface::interface::token::Token;
 use html5ever_interface::states::AttrValueKind::Unquoted;
-use html5ever_interface::states::State;
+use html5ever_interface::states::{RawKind, ScriptEscapeKind, State};
 use std::alloc::Allocator;
+
+// The state that the error of the end names behind letters that may switch.
+const DOUBLE_ESCAPED: State = State::RawData(RawKind::ScriptDataEscaped(
+    ScriptEscapeKind::DoubleEscaped,
+));
 
 impl<S: TokenSink<Token<A>>, A: Allocator + Copy> Teller<'_, S, A> {
     // Ends in a state that doesn't expect it.
@@ -65,6 +74,35 @@ impl<S: TokenSink<Token<A>>, A: Allocator + Copy> Teller<'_, S, A> {
         self.end_behind_solidus()
     }
 
+    // Ends in raw text: in escaped script data that is an error.
+    fn end_raw_text(&mut self, kind: RawKind) -> Result<(), TokenizerError>
+        ensures { Emits S.state S.faults S.step S.faulted result self.old self.new
+            (raw_end_error self.old.exact_errors (raw_of kind) ++ End ∷ []) }
+    {
+        match kind {
+            RawKind::ScriptDataEscaped(_) => self.end_unexpected(State::RawData(kind)),
+            _ => self.tell(Token::EOFToken),
+        }
+    }
+
+    // Ends behind a `<` of raw text.
+    fn end_behind_less_than(&mut self, kind: RawKind) -> Result<(), TokenizerError>
+        ensures { Emits S.state S.faults S.step S.faulted result self.old self.new
+            (told_behind_less_than kind ++ (raw_end_error self.old.exact_errors (raw_of kind) ++ End ∷ [])) }
+    {
+        self.emit_behind_less_than(kind)?;
+        self.end_raw_text(kind)
+    }
+
+    // Ends behind `</` and letters of raw text, which are text.
+    fn end_behind_end_name(&mut self, kind: RawKind, letters: &str) -> Result<(), TokenizerError>
+        ensures { Emits S.state S.faults S.step S.faulted result self.old self.new
+            (texts (less_than ∷ solidus ∷ chars letters.now) ++ (raw_end_error self.old.exact_errors (raw_of kind) ++ End ∷ [])) }
+    {
+        self.emit_end_name(letters)?;
+        self.end_raw_text(kind)
+    }
+
     /// Tells what the end of input tells in the state. A tag without its end is not told.
     pub fn tell_end_of_input(&mut self, at: &Opened<A>) -> Result<(), TokenizerError>
         requires built { IsBuilt (opened_of at.now) }
@@ -73,6 +111,20 @@ impl<S: TokenSink<Token<A>>, A: Allocator + Copy> Teller<'_, S, A> {
     {
         match at.state {
             State::Data | State::Plaintext => self.tell(Token::EOFToken),
+            State::RawData(kind) => self.end_raw_text(kind),
+            State::RawLessThanSign(kind) => self.end_behind_less_than(kind),
+            State::RawEndTagOpen(kind) => self.end_behind_end_name(kind, ""),
+            State::RawEndTagName(kind) => self.end_behind_end_name(kind, &at.letters),
+            State::ScriptDataEscapedDash(kind) => {
+                self.end_unexpected(State::ScriptDataEscapedDash(kind))
+            }
+            State::ScriptDataEscapedDashDash(kind) => {
+                self.end_unexpected(State::ScriptDataEscapedDashDash(kind))
+            }
+            State::ScriptDataEscapeStart(ScriptEscapeKind::Escaped)
+            | State::ScriptDataEscapeStartDash => self.tell(Token::EOFToken),
+            State::ScriptDataEscapeStart(ScriptEscapeKind::DoubleEscaped)
+            | State::ScriptDataDoubleEscapeEnd => self.end_unexpected(DOUBLE_ESCAPED),
             State::TagOpen => self.end_in_tag_open(),
             State::EndTagOpen => self.end_in_end_tag_open(),
             State::BeforeAttributeValue => self.end_unexpected(State::AttributeValue(Unquoted)),

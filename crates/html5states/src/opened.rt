@@ -10,6 +10,10 @@ use std::alloc::{Allocator, Global};
 pub struct Opened<A: Allocator = Global> {
     pub state: State,
     pub tag: CurrentTag<A>,
+    /// In raw text the letters behind `</`, or behind the `<` of escaped script data.
+    pub letters: String<A>,
+    /// The name whose end tag ends raw text, that of the last start tag. The empty name is none.
+    pub last_start_tag: String<A>,
 }
 
 /// What a character brings, beside what it tells.

@@ -1,5 +1,5 @@
 //! One character, in the state that is open.
-#![tactic(auto, unfolding(html5grammar::proofs::Machine::step_at, html5grammar::proofs::Machine::tag_step, crate::specs::Steps::tokens_of, crate::specs::Steps::behind, html5ever_interface::specs::Sink::stepped))]
+#![tactic(auto, unfolding(html5grammar::proofs::Machine::step_at, html5grammar::proofs::Machine::tag_step, html5grammar::proofs::Machine::raw_place_step, crate::specs::Steps::tokens_of, crate::specs::Steps::behind, html5ever_interface::specs::Sink::stepped))]
 
 ghost use Rattle.html5grammar.proofs.Machine.{step_at};
 ghost use Rattle.html5states.specs.CurrentTag.{opened_of};
@@ -19,7 +19,7 @@ impl<S: TokenSink<Token<A>>, A: Allocator + Copy> Teller<'_, S, A> {
     #[inline(always)]
     pub fn step(&mut self, at: &mut Opened<A>, c: char) -> Step
         ensures { Reads S.state S.faults S.step S.faulted result self.old self.new
-            (step_at self.old.exact_errors (opened_of at.old) c) at.new }
+            (step_at self.old.exact_errors (opened_of at.old) c) at.old at.new }
     {
         match at.state {
             State::Data => self.data_state(at, c),
@@ -35,6 +35,17 @@ impl<S: TokenSink<Token<A>>, A: Allocator + Copy> Teller<'_, S, A> {
             State::AttributeValue(kind) => self.attribute_value_quoted_state(at, kind, c),
             State::AfterAttributeValueQuoted => self.after_attribute_value_quoted_state(at, c),
             State::SelfClosingStartTag => self.self_closing_start_tag_state(at, c),
+            State::RawData(kind) => self.raw_data_state(at, kind, c),
+            State::RawLessThanSign(kind) => self.raw_less_than_sign_state(at, kind, c),
+            State::RawEndTagOpen(kind) => self.raw_end_tag_open_state(at, kind, c),
+            State::RawEndTagName(kind) => self.raw_end_tag_name_state(at, kind, c),
+            State::ScriptDataEscapeStart(kind) => self.script_data_escape_start_state(at, kind, c),
+            State::ScriptDataEscapeStartDash => self.script_data_escape_start_dash_state(at, c),
+            State::ScriptDataEscapedDash(kind) => self.script_data_escaped_dash_state(at, kind, c),
+            State::ScriptDataEscapedDashDash(kind) => self.script_data_escaped_dash_dash_state(
+                at, kind, c,
+            ),
+            State::ScriptDataDoubleEscapeEnd => self.script_data_double_escape_end_state(at, c),
             _ => Err(TokenizerError::NotYet),
         }
     }

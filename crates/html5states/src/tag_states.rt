@@ -8,7 +8,7 @@ ghost use Rattle.html5grammar.specs.ErrorText.{error_in, where_true};
 ghost use Rattle.html5grammar.specs.Start.Place.{BeforeAttribute, AfterSolidus};
 ghost use Rattle.html5grammar.specs.Tag.{is_odd_at_name, duplicate_error};
 ghost use Rattle.html5grammar.specs.Tag.{with_last_attribute, with_last_name};
-ghost use Rattle.html5states.specs.CurrentTag.{open_tag};
+ghost use Rattle.html5states.specs.CurrentTag.{open_tag, last_name_of};
 ghost use Rattle.html5states.specs.Telling.{Emits, Reads};
 
 use crate::characters::{is_odd_at_name, is_odd_in_name, is_white_space};
@@ -26,7 +26,7 @@ impl<S: TokenSink<Token<A>>, A: Allocator + Copy> Teller<'_, S, A> {
     pub fn tag_name_state(&mut self, at: &mut Opened<A>, c: char) -> Step
         requires { at.old.state ≡ State.TagName }
         ensures { Reads S.state S.faults S.step S.faulted result self.old self.new
-            (tag_name_step self.old.exact_errors (open_tag at.old.tag) c) at.new }
+            (tag_name_step self.old.exact_errors (open_tag at.old.tag) c) at.old at.new }
     {
         if is_white_space(c) {
             at.state = State::BeforeAttributeName;
@@ -46,7 +46,7 @@ impl<S: TokenSink<Token<A>>, A: Allocator + Copy> Teller<'_, S, A> {
     /// The standard's "before attribute name state".
     pub fn before_attribute_name_state(&mut self, at: &mut Opened<A>, c: char) -> Step
         ensures { Reads S.state S.faults S.step S.faulted result self.old self.new
-            (part_step self.old.exact_errors BeforeAttribute (open_tag at.old.tag) c) at.new }
+            (part_step self.old.exact_errors BeforeAttribute (open_tag at.old.tag) c) at.old at.new }
     {
         if c == '>' {
             return self.emit_tag(at, false);
@@ -66,7 +66,7 @@ impl<S: TokenSink<Token<A>>, A: Allocator + Copy> Teller<'_, S, A> {
     pub fn attribute_name_state(&mut self, at: &mut Opened<A>, c: char) -> Step
         requires { at.old.state ≡ State.AttributeName }
         ensures { Reads S.state S.faults S.step S.faulted result self.old self.new
-            (attribute_name_step self.old.exact_errors (open_tag at.old.tag) c) at.new }
+            (attribute_name_step self.old.exact_errors (open_tag at.old.tag) c) at.old at.new }
     {
         if is_white_space(c) {
             at.state = State::AfterAttributeName;
@@ -88,7 +88,7 @@ impl<S: TokenSink<Token<A>>, A: Allocator + Copy> Teller<'_, S, A> {
     pub fn after_attribute_name_state(&mut self, at: &mut Opened<A>, c: char) -> Step
         requires { at.old.state ≡ State.AfterAttributeName }
         ensures { Reads S.state S.faults S.step S.faulted result self.old self.new
-            (after_attribute_name_step self.old.exact_errors (open_tag at.old.tag) c) at.new }
+            (after_attribute_name_step self.old.exact_errors (open_tag at.old.tag) c) at.old at.new }
     {
         if is_white_space(c) {
             return Ok(Progress::Continues);
@@ -130,6 +130,7 @@ impl<S: TokenSink<Token<A>>, A: Allocator + Copy> Teller<'_, S, A> {
         ensures created { OnOk result
             (open_tag at.new.tag ≡ with_last_name (with_last_attribute (open_tag at.old.tag)) (c ∷ [])) }
         ensures state { at.new.state ≡ State.AttributeName }
+        ensures last { last_name_of at.new ≡ last_name_of at.old }
     {
         at.state = State::AttributeName;
         self.finish_previous_attribute(&mut at.tag, c, expected)?;
@@ -140,7 +141,7 @@ impl<S: TokenSink<Token<A>>, A: Allocator + Copy> Teller<'_, S, A> {
     /// The standard's "self-closing start tag state".
     pub fn self_closing_start_tag_state(&mut self, at: &mut Opened<A>, c: char) -> Step
         ensures { Reads S.state S.faults S.step S.faulted result self.old self.new
-            (part_step self.old.exact_errors AfterSolidus (open_tag at.old.tag) c) at.new }
+            (part_step self.old.exact_errors AfterSolidus (open_tag at.old.tag) c) at.old at.new }
     {
         if c == '>' {
             return self.emit_tag(at, true);
@@ -152,7 +153,7 @@ impl<S: TokenSink<Token<A>>, A: Allocator + Copy> Teller<'_, S, A> {
     pub fn read_before_attribute(&mut self, at: &mut Opened<A>, c: char, expected: State) -> Step
         ensures { Reads S.state S.faults S.step S.faulted result self.old self.new
             (told_first (error_in self.old.exact_errors expected c ∷ [])
-            (part_step self.old.exact_errors BeforeAttribute (open_tag at.old.tag) c)) at.new }
+            (part_step self.old.exact_errors BeforeAttribute (open_tag at.old.tag) c)) at.old at.new }
     {
         self.emit_unexpected(c, expected)?;
         self.before_attribute_name_state(at, c)

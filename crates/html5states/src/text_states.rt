@@ -1,7 +1,8 @@
 //! The states between tags, and those that a `<` opens, one function for each.
 #![tactic(auto, using(crate::proofs::Tellings::tells_from_memory), unfolding(html5grammar::proofs::Machine::step_at, html5grammar::proofs::Machine::data_step, html5grammar::proofs::Machine::less_than_step, html5grammar::proofs::Machine::solidus_step, html5grammar::specs::Text::plain_text, crate::specs::Steps::tokens_of, crate::specs::Steps::behind, html5ever_interface::specs::Sink::stepped))]
 
-ghost use Rattle.std.specs.Prelude.{◌≡◌, ◌∷◌, [], codes, encode_utf8};
+ghost use Rattle.std.specs.Prelude.{◌≡◌, ◌∷◌, [], ◌==◌, codes, encode_utf8, if◌then◌else◌};
+ghost use Rattle.html5grammar.specs.Characters.{null, replacement_character};
 ghost use Rattle.html5ever_interface.specs.Token.Told.{Text, Null};
 ghost use Rattle.html5grammar.proofs.Machine.{step_at, tag_name_step, data_step};
 ghost use Rattle.html5grammar.specs.ErrorText.{error_in};
@@ -44,18 +45,27 @@ impl<S: TokenSink<Token<A>>, A: Allocator + Copy> Teller<'_, S, A> {
         self.tell(Token::NullCharacterToken)
     }
 
+    /// Tells a character that is text; NUL is an error in the state, and U+FFFD.
+    #[inline(always)]
+    pub fn emit_text_character(&mut self, c: char, state: State) -> Result<(), TokenizerError>
+        ensures { Emits S.state S.faults S.step S.faulted result self.old self.new
+            (if c == null then error_in self.old.exact_errors state c ∷ Text (encode_utf8 replacement_character) ∷ []
+            else Text (encode_utf8 c) ∷ []) }
+    {
+        if c == '\0' {
+            return self.emit_unexpected_then(c, state, '\u{fffd}');
+        }
+        self.emit_char(c)
+    }
+
     /// The standard's "PLAINTEXT state".
     #[inline(always)]
     pub fn plaintext_state(&mut self, at: &mut Opened<A>, c: char) -> Step
         requires { at.old.state ≡ State.Plaintext }
         ensures { Reads S.state S.faults S.step S.faulted result self.old self.new
-            (step_at self.old.exact_errors (Between Plain) c) at.new }
+            (step_at self.old.exact_errors (Between Plain) c) at.old at.new }
     {
-        if c == '\0' {
-            self.emit_unexpected_then(c, at.state, '\u{fffd}')?;
-        } else {
-            self.emit_char(c)?;
-        }
+        self.emit_text_character(c, State::Plaintext)?;
         Ok(Progress::Continues)
     }
 
@@ -64,7 +74,7 @@ impl<S: TokenSink<Token<A>>, A: Allocator + Copy> Teller<'_, S, A> {
     pub fn data_state(&mut self, at: &mut Opened<A>, c: char) -> Step
         requires { at.old.state ≡ State.Data }
         ensures { Reads S.state S.faults S.step S.faulted result self.old self.new
-            (step_at self.old.exact_errors (Between Data) c) at.new }
+            (step_at self.old.exact_errors (Between Data) c) at.old at.new }
     {
         match c {
             '<' => at.state = State::TagOpen,
@@ -78,7 +88,7 @@ impl<S: TokenSink<Token<A>>, A: Allocator + Copy> Teller<'_, S, A> {
     // Tells the `<` that opened nothing, and reads the character as it stands between tags.
     fn read_in_data(&mut self, at: &mut Opened<A>, c: char) -> Step
         ensures { Reads S.state S.faults S.step S.faulted result self.old self.new
-            (data_step self.old.exact_errors (error_in self.old.exact_errors State.TagOpen c ∷ Text (codes "<") ∷ []) c) at.new }
+            (data_step self.old.exact_errors (error_in self.old.exact_errors State.TagOpen c ∷ Text (codes "<") ∷ []) c) at.old at.new }
     {
         self.emit_unexpected_then(c, State::TagOpen, '<')?;
         at.state = State::Data;
@@ -88,7 +98,7 @@ impl<S: TokenSink<Token<A>>, A: Allocator + Copy> Teller<'_, S, A> {
     // Begins a tag at the first letter of its name.
     fn create_tag(&mut self, at: &mut Opened<A>, kind: TagKind, c: char) -> Step
         ensures { Reads S.state S.faults S.step S.faulted result self.old self.new
-            (tag_name_step self.old.exact_errors (begun kind) c) at.new }
+            (tag_name_step self.old.exact_errors (begun kind) c) at.old at.new }
     {
         at.state = State::TagName;
         at.tag = CurrentTag::new(self.alloc, kind);
@@ -99,7 +109,7 @@ impl<S: TokenSink<Token<A>>, A: Allocator + Copy> Teller<'_, S, A> {
     pub fn tag_open_state(&mut self, at: &mut Opened<A>, c: char) -> Step
         requires { at.old.state ≡ State.TagOpen }
         ensures { Reads S.state S.faults S.step S.faulted result self.old self.new
-            (step_at self.old.exact_errors LessThan c) at.new }
+            (step_at self.old.exact_errors LessThan c) at.old at.new }
     {
         if is_letter(c) {
             return self.create_tag(at, TagKind::StartTag, c);
@@ -118,7 +128,7 @@ impl<S: TokenSink<Token<A>>, A: Allocator + Copy> Teller<'_, S, A> {
     pub fn end_tag_open_state(&mut self, at: &mut Opened<A>, c: char) -> Step
         requires { at.old.state ≡ State.EndTagOpen }
         ensures { Reads S.state S.faults S.step S.faulted result self.old self.new
-            (step_at self.old.exact_errors LessThanSolidus c) at.new }
+            (step_at self.old.exact_errors LessThanSolidus c) at.old at.new }
     {
         if is_letter(c) {
             return self.create_tag(at, TagKind::EndTag, c);

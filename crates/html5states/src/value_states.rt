@@ -24,7 +24,7 @@ impl<S: TokenSink<Token<A>>, A: Allocator + Copy> Teller<'_, S, A> {
     pub fn before_attribute_value_state(&mut self, at: &mut Opened<A>, c: char) -> Step
         requires { at.old.state ≡ State.BeforeAttributeValue }
         ensures { Reads S.state S.faults S.step S.faulted result self.old self.new
-            (before_value_step self.old.exact_errors (open_tag at.old.tag) c) at.new }
+            (before_value_step self.old.exact_errors (open_tag at.old.tag) c) at.old at.new }
     {
         if is_white_space(c) {
             return Ok(Progress::Continues);
@@ -45,7 +45,7 @@ impl<S: TokenSink<Token<A>>, A: Allocator + Copy> Teller<'_, S, A> {
     fn end_without_value(&mut self, at: &mut Opened<A>) -> Step
         ensures { Reads S.state S.faults S.step S.faulted result self.old self.new
             (closing_step (error_in self.old.exact_errors State.BeforeAttributeValue equals_sign ∷ []) (open_tag at.old.tag) false)
-            at.new }
+            at.old at.new }
     {
         self.emit_unexpected('=', State::BeforeAttributeValue)?;
         self.emit_tag(at, false)
@@ -56,7 +56,7 @@ impl<S: TokenSink<Token<A>>, A: Allocator + Copy> Teller<'_, S, A> {
     pub fn attribute_value_quoted_state(&mut self, at: &mut Opened<A>, kind: Kind, c: char) -> Step
         requires { at.old.state ≡ State.AttributeValue kind }
         ensures { Reads S.state S.faults S.step S.faulted result self.old self.new
-            (quoted_step self.old.exact_errors kind (open_tag at.old.tag) c) at.new }
+            (quoted_step self.old.exact_errors kind (open_tag at.old.tag) c) at.old at.new }
     {
         if c == '&' {
             return Ok(Progress::BeginsReference);
@@ -74,7 +74,7 @@ impl<S: TokenSink<Token<A>>, A: Allocator + Copy> Teller<'_, S, A> {
     pub fn attribute_value_unquoted_state(&mut self, at: &mut Opened<A>, c: char) -> Step
         requires { at.old.state ≡ State.AttributeValue Kind.Unquoted }
         ensures { Reads S.state S.faults S.step S.faulted result self.old self.new
-            (unquoted_step self.old.exact_errors (open_tag at.old.tag) c) at.new }
+            (unquoted_step self.old.exact_errors (open_tag at.old.tag) c) at.old at.new }
     {
         if c == '&' {
             return Ok(Progress::BeginsReference);
@@ -95,7 +95,7 @@ impl<S: TokenSink<Token<A>>, A: Allocator + Copy> Teller<'_, S, A> {
     /// The standard's "after attribute value (quoted) state".
     pub fn after_attribute_value_quoted_state(&mut self, at: &mut Opened<A>, c: char) -> Step
         ensures { Reads S.state S.faults S.step S.faulted result self.old self.new
-            (part_step self.old.exact_errors AfterQuotedValue (open_tag at.old.tag) c) at.new }
+            (part_step self.old.exact_errors AfterQuotedValue (open_tag at.old.tag) c) at.old at.new }
     {
         if c == '>' {
             return self.emit_tag(at, false);

@@ -2,12 +2,14 @@
 ghost use Rattle.std.specs.Prelude.{◌≡◌, ℕ, ◌+◌, true, false, List, [], map, IfErr, IfOk, OnOk, string_bytes};
 ghost use Rattle.std.specs.List.{concat};
 ghost use Rattle.std.specs.Str.{chars};
+ghost use Rattle.html5ever_interface.specs.Collected.{none_collected, collected_step, collected_finish};
 ghost use Rattle.html5ever_interface.specs.Options.{options_of};
 ghost use Rattle.html5ever_interface.specs.Sink.{stepped};
 ghost use Rattle.html5grammar.specs.OneReference.{WrittenReference, IsReference, reference_messages};
 ghost use Rattle.html5grammar.specs.OneTag.{WrittenTag, IsTag, tag_messages};
+ghost use Rattle.html5grammar.specs.WrittenRaw.{WrittenRaw, IsRawText, raw_messages};
 ghost use Rattle.html5grammar.specs.Reading.{reading, messages, after};
-ghost use Rattle.html5grammar.specs.Start.{Start, Rules, start_of};
+ghost use Rattle.html5grammar.specs.Start.{Raw, Start, Rules, start_of};
 ghost use Rattle.html5grammar.specs.Start.Open.{NotBuilt};
 ghost use Rattle.html5ever.specs.RunSteps.{run_text};
 ghost use Rattle.html5ever.specs.RunSteps.StepOf.{AtBack};
@@ -159,6 +161,33 @@ pub fn reference<A: Allocator + Copy>(
         IsReference names.now (start_of (options_of opts)) (chars (string_bytes text)) reference → IsRefusal error) }
 {
     names.is_checked();
+    collect(alloc, opts, foreign, names, text)
+}
+
+/// Reads a whole text by a collector. Where the text is raw text, written out, up to its end or to the
+/// end tag that ends it, the collector then holds what its items tell, adjacent texts joined, the end
+/// tag, and the end. `opts` choose the kind of raw text, and the name of the end tag.
+pub fn raw<A: Allocator + Copy>(
+    alloc: A,
+    opts: TokenizerOpts<A>,
+    foreign: bool,
+    names: &NamedReferences<A>,
+    text: String<A>,
+) -> Result<Collector<A>, TokenizerError>
+    requires { CanStart opts.initial_state }
+    ensures reads { IfOk result (λ sink. sink.collected ≡ collected_of (options_of opts) names.now foreign (chars (string_bytes text))) }
+    ensures raw { IfOk result (λ sink. (raw : Raw) (name : List ℕ) (written : WrittenRaw) →
+        IsRawText (start_of (options_of opts)) (chars (string_bytes text)) raw name written →
+        sink.collected ≡ collected_finish (stepped collected_step (none_collected foreign)
+        (raw_messages opts.exact_errors (start_of (options_of opts)).input raw written))) }
+    ensures built { OnOk result (IsBuilt (opened_collecting (options_of opts) names.now foreign (chars (string_bytes text)))) }
+    ensures not_yet { result ≡ Err TokenizerError.NotYet
+        → opened_collecting (options_of opts) names.now foreign (chars (string_bytes text)) ≡ NotBuilt }
+    ensures no_fault { IfOk result (λ sink. sink.faults ≡ 0) }
+    ensures not_failed { IfErr result IsNotFailed }
+    ensures refusals { IfErr result (λ error. (raw : Raw) (name : List ℕ) (written : WrittenRaw) →
+        IsRawText (start_of (options_of opts)) (chars (string_bytes text)) raw name written → IsRefusal error) }
+{
     collect(alloc, opts, foreign, names, text)
 }
 

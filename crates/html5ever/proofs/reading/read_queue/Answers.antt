@@ -93,7 +93,7 @@ loop-queue-preserved g c =
     let leads = c.in_ok-pause.ensures.leads c.in_ok-read_waiting_run.ensures.built in
     let quiet = rw c.in-Done.is at c.in_ok-pause.ensures.answer in (
       HasRead-more g.S.TokenSink.step g.S.TokenSink.reply c.args.rules.now _ _ _ _ _ _ _ _ _ (c.in-Some.c ∷ []) (HasRead-run g.S.TokenSink.step g.S.TokenSink.reply c.args.rules.now g.S.TokenSink.faulted _ _ _ _ _ _ _ _ _ c.loop-queue.invariant.0 c.in_ok-read_waiting_run.ensures.reads) c.in-Some.ensures.some c.in_ok-pause.ensures.tells
-          (moved-behind g.S.TokenSink.step g.S.TokenSink.reply c.args.rules.now _ _ _ (c.in-Some.c ∷ []) leads.0 c.read_character.ensures.input) (ap pauses (sym quiet)),
+          (moved-behind g.S.TokenSink.step g.S.TokenSink.reply c.args.rules.now _ _ _ (c.in-Some.c ∷ []) leads.0 c.in_ok-pause.ensures.last c.read_character.ensures.input) (ap pauses (sym quiet)),
       omega (arith, c.in_ok-pause.ensures.faults, c.in_ok-read_waiting_run.ensures.faults, c.loop-queue.invariant.1),
       rw leads.0 leads.1,
       omega (arith, ap length c.in-Some.ensures.some.text, c.read_character.ensures.held, c.in_ok-read_waiting_run.ensures.held, c.loop-queue.invariant.3),
@@ -104,7 +104,7 @@ returns-in_default-2 g c =
     let leads = c.in_ok-pause.ensures.leads c.in_ok-read_waiting_run.ensures.built in
     let read = HasRead-run g.S.TokenSink.step g.S.TokenSink.reply c.args.rules.now g.S.TokenSink.faulted _ _ _ _ _ _ _ _ _ c.loop-queue.invariant.0 c.in_ok-read_waiting_run.ensures.reads in
     let fed = HasFed-pause g.S.TokenSink.step g.S.TokenSink.reply c.args.rules.now _ _ _ _ _ _ _ _ _ c.in-Some.c _ read c.in-Some.ensures.some c.in_ok-pause.ensures.tells
-    (moved-behind g.S.TokenSink.step g.S.TokenSink.reply c.args.rules.now _ _ _ (c.in-Some.c ∷ []) leads.0 c.read_character.ensures.input) c.in_ok-pause.ensures.answer (reply_in-pauses string_bytes _ c.in_default-2.not-Done) in
+    (moved-behind g.S.TokenSink.step g.S.TokenSink.reply c.args.rules.now _ _ _ (c.in-Some.c ∷ []) leads.0 c.in_ok-pause.ensures.last c.read_character.ensures.input) c.in_ok-pause.ensures.answer (reply_in-pauses string_bytes _ c.in_default-2.not-Done) in
     record {
       tells = fed.told_all;
       moves = fed.position;

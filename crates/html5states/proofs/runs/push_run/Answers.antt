@@ -1,4 +1,4 @@
-use Rattle.std.proofs.Common.{◌≡◌, ◌≢◌, ◌++◌, ap, sym, ◌∙◌, string_bytes}
+use Rattle.std.proofs.Common.{◌≡◌, ◌≢◌, ◌++◌, refl, ap, sym, ◌∙◌, string_bytes}
 use Rattle.std.specs.Prelude.{Contains, flat_map}
 use Rattle.std.specs.Str.{chars}
 use Rattle.std.proofs.lemmas.List.Elements.{All-weaker}
@@ -17,5 +17,9 @@ returns-in_ok-push_str-in-AttributeValue g c =
     let ordinary = c.requires.is_run.ordinary in
     let value : flat_map value_bytes run ≡ c.args.run.now =
     value_bytes-run run (All-weaker (λ d. ¬ Contains (run_ends c.requires.is_run.others) d) (λ d. d ≢ null) (no_null c.requires.is_run.others) run ordinary) ∙ encodes-chars c.args.run.now c.utf8.run in
-    rw c.in-AttributeValue.is (ap (λ v. InTag (InValue c.in-AttributeValue.field-0) (record (open_tag c.args.at.now.tag) { last_value = v }))
-    (c.in_ok-push_str-in-AttributeValue.ensures.bytes ∙ ap (λ l. string_bytes c.args.at.now.tag.attr_value ++ l) (sym value)))
+    record {
+      run =
+          rw c.in-AttributeValue.is (ap (λ v. InTag (InValue c.in-AttributeValue.field-0) (record (open_tag c.args.at.now.tag) { last_value = v }))
+          (c.in_ok-push_str-in-AttributeValue.ensures.bytes ∙ ap (λ l. string_bytes c.args.at.now.tag.attr_value ++ l) (sym value)));
+      last = refl;
+    }

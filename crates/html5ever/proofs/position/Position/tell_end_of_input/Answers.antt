@@ -1,13 +1,13 @@
 use Rattle.html5states.proofs.Tellings.{told_then, told_stop}
-use Rattle.html5states.specs.CurrentTag.{opened_of}
+use Rattle.html5states.specs.CurrentTag.{opened_of, last_name_of}
 use Rattle.html5ever.proofs.CharacterReading.{with_reference-none, open_of-no_reference}
 use Rattle.html5ever.proofs.ReferenceReading.{not_in, end-plain, end-reference}
 use Rattle.html5ever.proofs.position.Position.tell_end_of_input.Goals as goal
 
 pub returns-then-not-self-clause-tells : goal.returns-then-not-self-clause-tells
 returns-then-not-self-clause-tells g c =
-    let none = not_in c.self.inside.in_reference c.self.inside.held (opened_of c.self.inside.opened) (open_of-no_reference _ _) c.if-not-self.true in
-    rw (← c.self.view_is, with_reference-none _ _ _ none _, end-plain c.args.rules.now (opened_of c.self.inside.opened) (open_of-no_reference _ _), ← c.line-line.ensures.line) c.tell_end.ensures.tells
+    let none = not_in c.self.inside.in_reference c.self.inside.held (opened_of c.self.inside.opened) (open_of-no_reference _ _ _ _) c.if-not-self.true in
+    rw (← c.self.view_is, with_reference-none _ _ _ none _, end-plain c.args.rules.now (opened_of c.self.inside.opened) (open_of-no_reference _ _ _ _), ← c.line-line.ensures.line) c.tell_end.ensures.tells
 
 pub returns-in_err-finish_reference-clause-tells : goal.returns-in_err-finish_reference-clause-tells
 returns-in_err-finish_reference-clause-tells g c =

@@ -1,0 +1,451 @@
+-- A text that is raw text tells the messages of how it is written.
+use Rattle.std.proofs.Common.{◌≡◌, ◌≢◌, ℕ, Bool, true, false, List, [], ◌∷◌, ◌++◌, Option, None, Some, refl, ap, sym, ◌∙◌, subst, length, length-append, ◌≤◌, arith}
+use Rattle.std.specs.Prelude.{not, flat_map}
+use Rattle.std.specs.List.{list_all}
+use Rattle.std.specs.Bool.{nat_eq}
+use Rattle.std.specs.Char.{to_ascii_lowercase}
+use Rattle.std.specs.Str.{bytes_eq}
+use Rattle.std.proofs.lemmas.Str.{length-le-encodes}
+use Rattle.markup5ever.proofs.NameOrder.{bytes_eq-same}
+use Rattle.std.proofs.lemmas.Bool.{false≢true, and_parts, not-true, ne_eqb}
+use Rattle.std.proofs.lemmas.List.{append_assoc, append-nil}
+use Rattle.html5ever_interface.proofs.Steppings.{stepped-append}
+use Rattle.html5ever_interface.specs.Sink.{Message, stepped, on_line}
+use Rattle.html5ever_interface.specs.Token.{Told, Reply}
+use Rattle.html5ever_interface.specs.Token.Told.{Tag, End}
+use Rattle.html5ever_interface.specs.Token.Reply.{KeepOn}
+use Rattle.html5ever_interface.specs.declared.interface.token.TagKind.{TagKind}
+use Rattle.html5ever_interface.specs.declared.interface.token.TagKind.TheVariants.{StartTag, EndTag}
+use Rattle.html5ever_interface.specs.declared.states.RawKind.{RawKind}
+use Rattle.html5ever_interface.specs.declared.states.RawKind.TheVariants as raw_kind
+use Rattle.html5ever_interface.specs.declared.states.ScriptEscapeKind.TheVariants as escape_kind
+use Rattle.html5ever_interface.specs.declared.states.State.TheVariants as state
+use Rattle.html5grammar.specs.Characters.{solidus, less_than, greater_than, is_letter, is_white_space, shown, name_bytes}
+use Rattle.html5grammar.specs.EndOfInput.{raw_end_error, told_at_raw_end, late_at_end_of, open_at_end_of, told_at_end_of, tokens_at_end}
+use Rattle.html5grammar.specs.ErrorText.{bad_character_error}
+use Rattle.html5grammar.specs.NormalisedText.{normalised, line_after}
+use Rattle.html5grammar.specs.OneTag as one_tag
+use Rattle.html5grammar.specs.OneTag.{Part, WrittenTag, Spelled, spell, spell_silent, spell_parts, part_text, name_shown, all_attributes, end_place, tag_told, end_errors, spelled, spelled_messages}
+use Rattle.html5grammar.specs.OneTag.Part.{Blank, Solidus, Name, Attribute}
+use Rattle.html5grammar.specs.RawText.{texts, lower, ends_name, kind_of, ends_raw_text, told_at_less_than, told_behind_less_than}
+use Rattle.html5grammar.specs.Reading.{reading, told, messages, after, last_behind}
+use Rattle.html5grammar.specs.Reading.Here.{Tells}
+use Rattle.html5grammar.specs.Slice.{silent}
+use Rattle.html5grammar.specs.Start.{Input, Raw, OpenTag, Open, Start, Rules, is_reference, begun}
+use Rattle.html5grammar.specs.Start.Mode.{Data, RawText}
+use Rattle.html5grammar.specs.Start.Place.{InName}
+use Rattle.html5grammar.specs.Start.Open.{Between, InTag, InRaw, NotBuilt}
+use Rattle.html5grammar.specs.Start.RawPlace.{AfterLessThan, InEndName, AfterMark, AfterMarkAndDash, InSwitch}
+use Rattle.html5grammar.specs.Tag.{with_name, null_error, in_tag_name}
+use Rattle.html5grammar.specs.WrittenRaw.{RawItem, WrittenRaw, raw_behind_item, raw_behind_items, switch_text, item_text, items_text, written, next_is, is_double_escaped, can_stand, can_follow, is_raw, carried, carried_to, spell_text, spell_item, spell_items, carried_behind, spell_raw, raw_at_end, told_at_end, raw_messages, IsRawText}
+use Rattle.html5grammar.specs.WrittenRaw.RawItem.{Character, LessThan, Letters, Mark, Switch}
+use Rattle.html5grammar.proofs.InputLemmas.{line_after-past}
+use Rattle.html5grammar.proofs.Machine.{step_at, raw_place_step, end_name_step, tag_name_end_step, tag_step, tag_name_step}
+use Rattle.html5grammar.proofs.OneTagParts.{Holds-none, Led, goes-parts, can_end-parts}
+use Rattle.html5grammar.proofs.OneTagReading.{characters, characters-append, characters-spell, characters-two, characters-parts, body, characters-body, ends-tag, trace-tag}
+use Rattle.html5grammar.proofs.OneTagSteps.{Goes, Goes-append}
+use Rattle.html5grammar.proofs.ReadingLemmas.{told-trace, after-opened, reading-events, messages-at_end}
+use Rattle.html5grammar.proofs.Traces.{brought-step, brought-tells, trace_brought, Trace, trace, trace_here, with_messages, messages-append}
+use Rattle.html5grammar.proofs.WrittenRawSteps.{Standing, opened_at, raw_at, carried_at, fits, end_from, letter-no_null, end-no_letter, reads_less_than, goes-end_letters, ReadsItem, reads_item}
+use Rattle.html5grammar.proofs.WrittenRawSteps.Standing.{Free, Within}
+
+-- ---- the characters that are spelled are the text
+
+characters-carried : (before : List Told) (cells : List Spelled) → characters (carried_to before cells) ≡ characters cells
+characters-carried before [] = refl
+characters-carried before (here ∷ more) = refl
+
+characters-item : (exact : Bool) (raw : Raw) (item : RawItem) → characters (spell_item exact raw item) ≡ item_text raw item
+characters-item exact raw (Character c) = refl
+characters-item exact raw LessThan = refl
+characters-item exact raw (Letters letters) = ap (λ l. less_than ∷ solidus ∷ l) (characters-spell silent letters)
+characters-item exact raw Mark = refl
+characters-item exact raw (Switch letters c) =
+    let text : List ℕ = switch_text (kind_of raw) letters c in
+    ap (λ l. less_than ∷ l) (characters-carried (told_behind_less_than (kind_of raw)) (spell_text text) ∙ characters-spell (λ d. texts (d ∷ [])) text)
+
+characters-items : (exact : Bool) (raw : Raw) (before : List Told) (items : List RawItem) (later : List ℕ)
+    → characters (spell_items exact raw before items) ++ later ≡ items_text raw items later
+unfolding spell_items items_text
+characters-items exact raw before [] later = refl
+characters-items exact raw before (item ∷ items) later =
+    let next : Raw = raw_behind_item raw item in
+    let more : List Spelled = spell_items exact next (carried raw item) items in
+    ap (λ l. l ++ later) (characters-two (carried_to before (spell_item exact raw item)) more (item_text raw item) (characters more) (characters-carried before (spell_item exact raw item) ∙ characters-item exact raw item) refl)
+    ∙ append_assoc (item_text raw item) (characters more) later
+    ∙ ap (λ l. item_text raw item ++ l) (characters-items exact next (carried raw item) items later)
+
+characters-tag : (exact : Bool) (before : List Told) (tag : WrittenTag) → characters (carried_to before (spelled exact tag)) ≡ one_tag.written tag
+unfolding spelled
+characters-tag exact before tag =
+    characters-carried before (spelled exact tag)
+    ∙ characters-append (body exact tag) (record { character = greater_than; told = end_errors exact tag ++ Tag (tag_told tag) ∷ [] } ∷ [])
+    ∙ characters-body exact tag
+
+-- ---- the machine reads items
+
+module _ (exact : Bool) (name : List ℕ) where
+  -- items, and where the machine stands behind them
+  record ReadsItems (standing : Standing) (raw : Raw) (before : List Told) (items : List RawItem) : Type 0 where
+    behind : Standing
+    goes : Goes exact (opened_at name standing) (spell_items exact raw before items) (opened_at name behind)
+    raw_is : raw_at behind ≡ raw_behind_items raw items
+    carried_is : carried_at behind ≡ carried_behind raw before items
+    end_is : end_from standing (items_text raw items []) (raw_at_end raw items) ≡ end_from behind [] (raw_at behind)
+
+  abbrev ReadsFrom : Standing → Raw → List Told → List RawItem → List ℕ → Type 0
+  ReadsFrom standing raw before items later =
+      can_follow name raw items later ≡ true → fits name standing (items_text raw items later) ≡ true → ReadsItems standing raw before items
+
+  reads_items : (standing : Standing) (items : List RawItem) (later : List ℕ) → ReadsFrom standing (raw_at standing) (carried_at standing) items later
+  unfolding Goes items_text can_follow spell_items raw_behind_items carried_behind raw_at_end
+  reads_items standing [] later can f = record { behind = standing; goes = refl; raw_is = refl; carried_is = refl; end_is = refl }
+  reads_items standing (item ∷ items) later can f =
+      let raw : Raw = raw_behind_item (raw_at standing) item in
+      let before : List Told = carried (raw_at standing) item in
+      let p = and_parts (can_stand name (raw_at standing) item (items_text raw items later)) (can_follow name raw items later) can in
+      let one : ReadsItem exact name standing item (items_text raw items later) = reads_item exact name standing item (items_text raw items later) p.0 f in
+      let rest : ReadsItems one.next raw before items =
+      subst (λ r. ReadsFrom one.next r before items later) one.raw_is
+      (subst (λ b. ReadsFrom one.next (raw_at one.next) b items later) one.carried_is (reads_items one.next items later)) p.1 one.fits_behind in
+      record {
+        behind = rest.behind;
+        goes = Goes-append exact (opened_at name standing) (opened_at name one.next) (opened_at name rest.behind) (carried_to (carried_at standing) (spell_item exact (raw_at standing) item)) (spell_items exact raw before items) one.goes rest.goes;
+        raw_is = rest.raw_is;
+        carried_is = rest.carried_is;
+        end_is = ◌∙◌ {c = end_from rest.behind [] (raw_at rest.behind)} (one.end_is (items_text raw items []) (raw_at_end raw items)) rest.end_is;
+      }
+
+-- what the end tells where the machine stands
+tokens-standing : (rules : Rules) (name : List ℕ) (standing : Standing)
+    → tokens_at_end rules (opened_at name standing)
+    ≡ (carried_at standing ++ raw_end_error rules.exact (end_from standing [] (raw_at standing))) ++ End ∷ []
+unfolding late_at_end_of open_at_end_of told_at_end_of told_at_raw_end raw_end_error
+tokens-standing rules name (Free raw) = refl
+tokens-standing rules name (Within (AfterLessThan raw_kind.Rcdata)) = refl
+tokens-standing rules name (Within (AfterLessThan raw_kind.Rawtext)) = refl
+tokens-standing rules name (Within (AfterLessThan raw_kind.ScriptData)) = refl
+tokens-standing rules name (Within (AfterLessThan (raw_kind.ScriptDataEscaped escape_kind.Escaped))) = refl
+tokens-standing rules name (Within (AfterLessThan (raw_kind.ScriptDataEscaped escape_kind.DoubleEscaped))) = refl
+tokens-standing rules name (Within (InEndName kind letters)) = refl
+tokens-standing rules name (Within AfterMark) = refl
+tokens-standing rules name (Within AfterMarkAndDash) = refl
+tokens-standing rules name (Within (InSwitch escape_kind.Escaped letters)) = refl
+tokens-standing rules name (Within (InSwitch escape_kind.DoubleEscaped letters)) = refl
+
+abbrev is_built : Open → Bool
+is_built NotBuilt = false
+is_built opened = true
+
+built-standing : (name : List ℕ) (standing : Standing) → is_built (opened_at name standing) ≡ true
+built-standing name (Free raw) = refl
+built-standing name (Within place) = refl
+
+-- what can be open behind raw text
+abbrev IsBehind : Option WrittenTag → Open → Type 0
+IsBehind None opened = is_built opened ≡ true
+IsBehind (Some tag) opened = opened ≡ Between Data
+
+built-behind : (end_tag : Option WrittenTag) (opened : Open) → IsBehind end_tag opened → is_built opened ≡ true
+built-behind None opened h = h
+built-behind (Some tag) opened h = ap is_built h
+
+-- ---- the machine reads the end tag
+
+told-single : (kind : RawKind) → is_double_escaped kind ≡ false → told_at_less_than kind ≡ []
+told-single raw_kind.Rcdata h = refl
+told-single raw_kind.Rawtext h = refl
+told-single raw_kind.ScriptData h = refl
+told-single (raw_kind.ScriptDataEscaped escape_kind.Escaped) h = refl
+told-single (raw_kind.ScriptDataEscaped escape_kind.DoubleEscaped) h = absurd (false≢true (sym h))
+
+ends-no_name : (c : ℕ) → ends_name c ≡ true → in_tag_name c ≡ false
+unfolding ends_name in_tag_name
+ends-no_name c h = ap not h
+
+-- what stands behind the name of a tag ends it
+parts-end_name : (parts : List Part) → one_tag.can_follow InName parts ≡ true → next_is ends_name (flat_map part_text parts ++ greater_than ∷ []) ≡ true
+unfolding one_tag.can_follow ends_name is_white_space
+parts-end_name [] h = refl
+parts-end_name (Blank c ∷ parts) h = rw (and_parts (is_white_space c) (one_tag.can_follow (one_tag.place_behind InName (Blank c)) parts) h).0 refl
+parts-end_name (Solidus ∷ parts) h = refl
+parts-end_name (Name first rest ∷ parts) h = absurd (false≢true h)
+parts-end_name (Attribute first rest space behind value ∷ parts) h = absurd (false≢true h)
+
+-- a name that letters are in lower case isn't empty
+filled_name : (name : List ℕ) (first : ℕ) (rest : List ℕ) → bytes_eq (lower (first ∷ rest)) name ≡ true → nat_eq (length name) 0 ≡ false
+unfolding name_bytes
+filled_name name first rest same =
+    let one : 1 ≤ length (name_bytes first) = subst (λ l. 1 ≤ length l) (append-nil (name_bytes first)) (length-le-encodes (to_ascii_lowercase (shown first) ∷ [])) in
+    let all : length name ≡ length (name_bytes first ++ lower rest) = ap length (sym (bytes_eq-same (lower (first ∷ rest)) name same)) in
+    ne_eqb (length name) 0 (λ e. omega (arith, one, all, e, length-append (name_bytes first) (lower rest)))
+
+-- a letter and more, and a character that ends a name
+name_ends : (name : List ℕ) (first : ℕ) (rest : List ℕ) (c : ℕ) → bytes_eq (lower (first ∷ rest)) name ≡ true → ends_name c ≡ true
+    → ends_raw_text name (first ∷ rest) c ≡ true
+unfolding ends_raw_text
+name_ends name first rest c same ends = rw (filled_name name first rest same, ends, same) refl
+
+-- an end tag's cells up to its name, and those of its parts with `>`
+abbrev name_cells : Bool → List Told → ℕ → List ℕ → List Spelled
+name_cells exact before first rest =
+    carried_to before (spell_silent (less_than ∷ solidus ∷ []) ++ spell (null_error exact state.TagName) (first ∷ rest))
+
+abbrev end_tag_of : ℕ → List ℕ → List Part → WrittenTag
+end_tag_of first rest parts = record { kind = EndTag; first = first; rest = rest; parts = parts }
+
+abbrev end_cell : Bool → WrittenTag → Spelled
+end_cell exact tag = record { character = greater_than; told = end_errors exact tag ++ Tag (tag_told tag) ∷ [] }
+
+cells-end_tag : (exact : Bool) (before : List Told) (first : ℕ) (rest : List ℕ) (parts : List Part)
+    → carried_to before (spelled exact (end_tag_of first rest parts))
+    ≡ name_cells exact before first rest ++ (spell_parts exact InName [] parts ++ end_cell exact (end_tag_of first rest parts) ∷ [])
+unfolding spelled
+cells-end_tag exact before first rest parts =
+    ap (λ l. record { character = less_than; told = before ++ [] } ∷ record { character = solidus; told = [] } ∷ l)
+    (append_assoc (spell (null_error exact state.TagName) (first ∷ rest)) (spell_parts exact InName [] parts) (end_cell exact (end_tag_of first rest parts) ∷ []))
+
+-- what is known of raw text that ends with an end tag
+record IsEnded (name : List ℕ) (raw : Raw) (items : List RawItem) (first : ℕ) (rest : List ℕ) (parts : List Part) : Type 0 where
+  follow : can_follow name raw items (one_tag.written (end_tag_of first rest parts)) ≡ true
+  single : is_double_escaped (kind_of (raw_behind_items raw items)) ≡ false
+  letters : list_all is_letter (first ∷ rest) ≡ true
+  name_is : bytes_eq (lower (first ∷ rest)) name ≡ true
+  parts_follow : one_tag.can_follow InName parts ≡ true
+
+is_ended : (name : List ℕ) (raw : Raw) (items : List RawItem) (first : ℕ) (rest : List ℕ) (parts : List Part)
+    → is_raw name raw (record { items = items; end_tag = Some (end_tag_of first rest parts) }) ≡ true → IsEnded name raw items first rest parts
+unfolding is_raw one_tag.is_written
+is_ended name raw items first rest parts h =
+    let double : Bool = is_double_escaped (kind_of (raw_behind_items raw items)) in
+    let p = and_parts (can_follow name raw items (one_tag.written (end_tag_of first rest parts))) _ h in
+    let q = and_parts (not double) _ p.1 in
+    let r = and_parts (list_all is_letter rest) _ q.1 in
+    let s = and_parts (bytes_eq (lower (first ∷ rest)) name) _ r.1 in
+    let t = and_parts (is_letter first) _ s.1 in
+    let u = and_parts (list_all in_tag_name rest) (one_tag.can_follow InName parts) t.1 in
+    record { follow = p.0; single = not-true double q.0; letters = rw (t.0, r.0) refl; name_is = s.0; parts_follow = u.1 }
+
+module _ (exact : Bool) (name : List ℕ) where
+  goes-end_tag : (standing : Standing) (first : ℕ) (rest : List ℕ) → is_double_escaped (kind_of (raw_at standing)) ≡ false → list_all is_letter (first ∷ rest) ≡ true
+      → Goes exact (opened_at name standing) (name_cells exact (carried_at standing) first rest) (InRaw (InEndName (kind_of (raw_at standing)) (first ∷ rest)) name)
+  unfolding Goes
+  goes-end_tag standing first rest single all =
+      let kind : RawKind = kind_of (raw_at standing) in (
+        InRaw (AfterLessThan kind) name,
+        reads_less_than exact name standing ∙ ap (λ l. Tells (carried_at standing ++ l) (InRaw (AfterLessThan kind) name)) (told-single kind single),
+        goes-end_letters exact name kind (null_error exact state.TagName) (first ∷ rest) (λ c letter. rw (letter-no_null c letter) refl) single all,
+      )
+
+  -- raw text up to the end of the name of its end tag
+  abbrev front : Raw → List RawItem → ℕ → List ℕ → List Spelled
+  front raw items first rest = spell_items exact raw [] items ++ name_cells exact (carried_behind raw [] items) first rest
+
+  record ReadsName (raw : Raw) (items : List RawItem) (first : ℕ) (rest : List ℕ) : Type 0 where
+    kind : RawKind
+    goes : Goes exact (Between (RawText raw name)) (front raw items first rest) (InRaw (InEndName kind (first ∷ rest)) name)
+
+  reads_name : (raw : Raw) (items : List RawItem) (first : ℕ) (rest : List ℕ) (parts : List Part) → IsEnded name raw items first rest parts → ReadsName raw items first rest
+  reads_name raw items first rest parts ended =
+      let r : ReadsItems exact name (Free raw) raw [] items = reads_items exact name (Free raw) items (one_tag.written (end_tag_of first rest parts)) ended.follow refl in
+      let kind : RawKind = kind_of (raw_at r.behind) in
+      let opened : Open = InRaw (InEndName kind (first ∷ rest)) name in
+      record {
+        kind = kind;
+        goes =
+            Goes-append exact (Between (RawText raw name)) (opened_at name r.behind) opened (spell_items exact raw [] items) (name_cells exact (carried_behind raw [] items) first rest) r.goes
+            (subst (λ before. Goes exact (opened_at name r.behind) (name_cells exact before first rest) opened) r.carried_is
+            (goes-end_tag r.behind first rest (ap (λ later. is_double_escaped (kind_of later)) r.raw_is ∙ ended.single) ended.letters));
+      }
+
+  -- where the name of the end tag ends, the machine goes on as behind the name of any tag
+  step-end_name : (kind : RawKind) (letters : List ℕ) (c : ℕ) → ends_name c ≡ true → ends_raw_text name letters c ≡ true
+      → step_at exact (InRaw (InEndName kind letters) name) c ≡ step_at exact (InTag InName (with_name (begun EndTag) letters)) c
+  unfolding step_at raw_place_step end_name_step tag_name_end_step tag_step tag_name_step
+  step-end_name kind letters c ends name_is = rw (end-no_letter exact name c ends, name_is, ends-no_name c ends) refl
+
+-- ---- the messages
+
+spelled_messages-append : (exact : Bool) (input : Input) (before : List ℕ) (xs ys : List Spelled)
+    → spelled_messages exact input before (xs ++ ys) ≡ spelled_messages exact input before xs ++ spelled_messages exact input (before ++ characters xs) ys
+unfolding spelled_messages
+spelled_messages-append exact input before [] ys = rw (append-nil before) refl
+spelled_messages-append exact input before (here ∷ more) ys =
+    let past : List ℕ = before ++ here.character ∷ [] in
+    let M : List Message = on_line (line_after input past) (bad_character_error exact here.character ++ here.told) in
+    ap (λ l. M ++ l)
+    (spelled_messages-append exact input past more ys
+    ∙ ap (λ b. spelled_messages exact input past more ++ spelled_messages exact input b ys) (append_assoc before (here.character ∷ []) (characters more)))
+    ∙ sym (append_assoc M (spelled_messages exact input past more) (spelled_messages exact input (before ++ here.character ∷ characters more) ys))
+
+module _ {S H : Type 0} (step : S → Told → ℕ → S) (reply : S → Told → ℕ → Reply H) (rules : Rules) where
+  with-two : (s : S) (M N : List Message) (line : ℕ) (last : List ℕ) (opened : Open) (text : List ℕ)
+      → with_messages M (with_messages N (trace step reply rules (stepped step (stepped step s M) N) line last opened text))
+      ≡ with_messages (M ++ N) (trace step reply rules (stepped step s (M ++ N)) line last opened text)
+  with-two s M N line last opened text =
+      let rest : Trace = trace step reply rules (stepped step (stepped step s M) N) line last opened text in
+      rw (stepped-append step s M N)
+      (ap (λ l. record { messages = l; opened = rest.opened; last_start_tag = rest.last_start_tag }) (sym (append_assoc M N rest.messages)))
+
+  -- what is spelled is told, and the machine goes on behind it
+  trace-goes : (input : Input) (before : List ℕ) (s : S) (last : List ℕ) (opened behind : Open) (cells : List Spelled) (text : List ℕ)
+      → Goes rules.exact opened cells behind
+      → trace step reply rules s (line_after input before) last opened (characters cells ++ text)
+      ≡ with_messages (spelled_messages rules.exact input before cells)
+      (trace step reply rules (stepped step s (spelled_messages rules.exact input before cells)) (line_after input (before ++ characters cells)) last behind text)
+  unfolding Goes trace trace_brought trace_here spelled_messages stepped
+  trace-goes input before s last opened behind [] text goes = rw (goes, append-nil before) refl
+  trace-goes input before s last opened behind (here ∷ more) text goes =
+      let past : List ℕ = before ++ here.character ∷ [] in
+      let M : List Message = on_line (line_after input past) (bad_character_error rules.exact here.character ++ here.told) in
+      let N : List Message = spelled_messages rules.exact input past more in
+      rw (brought-tells rules opened here.character _ refl goes.1, ← line_after-past input before here.character)
+      (ap (with_messages M) (trace-goes input past (stepped step s M) last goes.0 behind more text goes.2)
+      ∙ with-two s M N (line_after input (past ++ characters more)) last behind text
+      ∙ ap (λ b. with_messages (M ++ N) (trace step reply rules (stepped step s (M ++ N)) (line_after input b) last behind text)) (append_assoc before (here.character ∷ []) (characters more)))
+
+  -- where two places do the same at the next character, they tell the same
+  trace-same : (s : S) (line : ℕ) (last : List ℕ) (a b : Open) (is_kind : ℕ → Bool) (text : List ℕ) → is_reference a ≡ false → is_reference b ≡ false
+      → next_is is_kind text ≡ true → ((c : ℕ) → is_kind c ≡ true → step_at rules.exact a c ≡ step_at rules.exact b c)
+      → trace step reply rules s line last a text ≡ trace step reply rules s line last b text
+  unfolding trace
+  trace-same s line last a b is_kind [] no_a no_b h same = absurd (false≢true h)
+  trace-same s line last a b is_kind (c ∷ text) no_a no_b h same = rw (brought-step rules a c no_a, brought-step rules b c no_b, same c h) refl
+
+  -- the sink keeps on behind the end tag, where there is one
+  abbrev pub KeepsOn : Option WrittenTag → Type 0
+  KeepsOn end_tag = (tag : WrittenTag) (t : S) (line : ℕ) → end_tag ≡ Some tag → reply t (Tag (tag_told tag)) line ≡ KeepOn
+
+  -- what a text tells, and what is open behind it
+  record Reads (K : Start) (s : S) (X : List ℕ) (raw : Raw) (items : List RawItem) (end_tag : Option WrittenTag) : Type 0 where
+    behind : Open
+    last : List ℕ
+    trace_is : trace step reply rules s (line_after K.input []) K.last_start_tag K.opened (normalised K.input X)
+        ≡ record { messages = spelled_messages rules.exact K.input [] (spell_raw rules.exact raw (record { items = items; end_tag = end_tag })); opened = behind; last_start_tag = last }
+    end_is : tokens_at_end rules behind ≡ told_at_end rules.exact raw items end_tag
+    opened_is : IsBehind end_tag behind
+
+  reads_open : (K : Start) (s : S) (X : List ℕ) (raw : Raw) (name : List ℕ) (items : List RawItem)
+      → IsRawText K X raw name (record { items = items; end_tag = None }) → Reads K s X raw items None
+  unfolding is_raw written trace
+  reads_open K s X raw name items one =
+      let r : ReadsItems rules.exact name (Free raw) raw [] items = reads_items rules.exact name (Free raw) items [] (and_parts (can_follow name raw items []) true one.is_raw).0 refl in
+      let cells : List Spelled = spell_items rules.exact raw [] items in
+      record {
+        behind = opened_at name r.behind;
+        last = K.last_start_tag;
+        trace_is =
+            rw (one.starts, one.text, ← characters-items rules.exact raw [] items [], append-nil cells)
+            (trace-goes K.input [] s K.last_start_tag (Between (RawText raw name)) (opened_at name r.behind) cells [] r.goes
+            ∙ ap (λ l. record { messages = l; opened = opened_at name r.behind; last_start_tag = K.last_start_tag }) (append-nil (spelled_messages rules.exact K.input [] cells)));
+        end_is =
+            tokens-standing rules name r.behind
+            ∙ ap (λ told. (told ++ raw_end_error rules.exact (end_from r.behind [] (raw_at r.behind))) ++ End ∷ []) r.carried_is
+            ∙ ap (λ end. (carried_behind raw [] items ++ raw_end_error rules.exact end) ++ End ∷ []) (sym r.end_is);
+        opened_is = built-standing name r.behind;
+      }
+
+  -- the end tag behind items
+
+  text-end_tag : (K : Start) (X : List ℕ) (raw : Raw) (name : List ℕ) (items : List RawItem) (first : ℕ) (rest : List ℕ) (parts : List Part)
+      → IsRawText K X raw name (record { items = items; end_tag = Some (end_tag_of first rest parts) })
+      → normalised K.input X ≡ characters (front rules.exact name raw items first rest) ++ (characters (spell_parts rules.exact InName [] parts) ++ greater_than ∷ [])
+  unfolding written
+  text-end_tag K X raw name items first rest parts one =
+      let tag : WrittenTag = end_tag_of first rest parts in
+      let cells : List Spelled = spell_items rules.exact raw [] items in
+      let before : List Told = carried_behind raw [] items in
+      let named : List Spelled = name_cells rules.exact before first rest in
+      let tail : List Spelled = spell_parts rules.exact InName [] parts in
+      let ends : characters (tail ++ end_cell rules.exact tag ∷ []) ≡ characters tail ++ greater_than ∷ [] = characters-append tail (end_cell rules.exact tag ∷ []) in
+      one.text
+      ∙ sym (characters-items rules.exact raw [] items (one_tag.written tag))
+      ∙ ap (λ l. characters cells ++ l) (sym (characters-tag rules.exact before tag) ∙ ap characters (cells-end_tag rules.exact before first rest parts) ∙ characters-two named (tail ++ end_cell rules.exact tag ∷ []) (characters named) (characters tail ++ greater_than ∷ []) refl ends)
+      ∙ sym (append_assoc (characters cells) (characters named) (characters tail ++ greater_than ∷ []))
+      ∙ ap (λ l. l ++ (characters tail ++ greater_than ∷ [])) (sym (characters-append cells named))
+
+  reads_end_tag : (K : Start) (s : S) (X : List ℕ) (raw : Raw) (name : List ℕ) (items : List RawItem) (first : ℕ) (rest : List ℕ) (parts : List Part)
+      → ((t : S) (line : ℕ) → reply t (Tag (tag_told (end_tag_of first rest parts))) line ≡ KeepOn)
+      → IsRawText K X raw name (record { items = items; end_tag = Some (end_tag_of first rest parts) })
+      → Reads K s X raw items (Some (end_tag_of first rest parts))
+  unfolding late_at_end_of open_at_end_of told_at_end_of
+  reads_end_tag K s X raw name items first rest parts keeps one =
+      let tag : WrittenTag = end_tag_of first rest parts in
+      let ended : IsEnded name raw items first rest parts = is_ended name raw items first rest parts one.is_raw in
+      let r : ReadsName rules.exact name raw items first rest = reads_name rules.exact name raw items first rest parts ended in
+      let before : List Spelled = front rules.exact name raw items first rest in
+      let tail : List Spelled = spell_parts rules.exact InName [] parts in
+      let opened : Open = InRaw (InEndName r.kind (first ∷ rest)) name in
+      let named : OpenTag = with_name (begun EndTag) (first ∷ rest) in
+      let led : Led rules.exact EndTag (name_shown first rest) InName [] named tail (end_place tag) (all_attributes tag) =
+      goes-parts rules.exact EndTag (name_shown first rest) InName [] named parts (Holds-none EndTag (name_shown first rest)) ended.parts_follow in
+      let cells : before ++ (tail ++ end_cell rules.exact tag ∷ []) ≡ spell_raw rules.exact raw (record { items = items; end_tag = Some tag }) =
+      append_assoc (spell_items rules.exact raw [] items) (name_cells rules.exact (carried_behind raw [] items) first rest) (tail ++ end_cell rules.exact tag ∷ [])
+      ∙ ap (λ l. spell_items rules.exact raw [] items ++ l) (sym (cells-end_tag rules.exact (carried_behind raw [] items) first rest parts)) in
+      let begins : next_is ends_name (characters tail ++ greater_than ∷ []) ≡ true =
+      ap (λ l. next_is ends_name (l ++ greater_than ∷ [])) (characters-parts rules.exact InName [] parts) ∙ parts-end_name parts ended.parts_follow in
+      let M : List Message = spelled_messages rules.exact K.input [] before in
+      let later : S = stepped step s M in
+      let line : ℕ = line_after K.input (characters before) in
+      record {
+        behind = Between Data;
+        last = last_behind K.last_start_tag (tag_told tag);
+        trace_is =
+            rw (one.starts, text-end_tag K X raw name items first rest parts one, ← cells, spelled_messages-append rules.exact K.input [] before (tail ++ end_cell rules.exact tag ∷ []))
+            (trace-goes K.input [] s K.last_start_tag (Between (RawText raw name)) opened before (characters tail ++ greater_than ∷ []) r.goes
+            ∙ ap (with_messages M)
+            (trace-same later line K.last_start_tag opened (InTag InName named) ends_name (characters tail ++ greater_than ∷ []) refl refl begins
+            (λ c ends. step-end_name rules.exact name r.kind (first ∷ rest) c ends (name_ends name first rest c ended.name_is ends))
+            ∙ trace-tag step reply rules K.input (characters before) later K.last_start_tag (InTag InName named) (InTag (end_place tag) led.behind) tail greater_than (end_errors rules.exact tag) (tag_told tag) keeps led.goes
+            (ends-tag rules.exact tag led.behind (can_end-parts InName parts refl) led.holds)));
+        end_is = refl;
+        opened_is = refl;
+      }
+
+  -- what is told of any raw text
+
+  reads_ended : (K : Start) (s : S) (X : List ℕ) (raw : Raw) (name : List ℕ) (items : List RawItem) (kind : TagKind) (first : ℕ) (rest : List ℕ) (parts : List Part)
+      → ((t : S) (line : ℕ) → reply t (Tag (tag_told (record { kind = kind; first = first; rest = rest; parts = parts }))) line ≡ KeepOn)
+      → IsRawText K X raw name (record { items = items; end_tag = Some (record { kind = kind; first = first; rest = rest; parts = parts }) })
+      → Reads K s X raw items (Some (record { kind = kind; first = first; rest = rest; parts = parts }))
+  unfolding is_raw
+  reads_ended K s X raw name items StartTag first rest parts keeps one =
+      let p = and_parts (can_follow name raw items (one_tag.written (record { kind = StartTag; first = first; rest = rest; parts = parts }))) _ one.is_raw in
+      absurd (false≢true (and_parts (not (is_double_escaped (kind_of (raw_behind_items raw items)))) false p.1).1)
+  reads_ended K s X raw name items EndTag first rest parts keeps one = reads_end_tag K s X raw name items first rest parts keeps one
+
+  reads_raw : (K : Start) (s : S) (X : List ℕ) (raw : Raw) (name : List ℕ) (items : List RawItem) (end_tag : Option WrittenTag)
+      → KeepsOn end_tag → IsRawText K X raw name (record { items = items; end_tag = end_tag }) → Reads K s X raw items end_tag
+  reads_raw K s X raw name items None keeps one = reads_open K s X raw name items one
+  reads_raw K s X raw name items (Some tag) keeps one = reads_ended K s X raw name items tag.kind tag.first tag.rest tag.parts (λ t line. keeps tag t line refl) one
+
+  -- a text that is raw text, where the sink keeps on behind the end tag
+  pub reading-raw : (K : Start) (s : S) (X : List ℕ) (raw : Raw) (name : List ℕ) (written_as : WrittenRaw)
+      → KeepsOn written_as.end_tag → IsRawText K X raw name written_as
+      → messages (reading step reply rules K s X) ≡ raw_messages rules.exact K.input raw written_as
+  unfolding raw_messages
+  reading-raw K s X raw name written_as keeps one =
+      let r : Reads K s X raw written_as.items written_as.end_tag = reads_raw K s X raw name written_as.items written_as.end_tag keeps one in
+      ap messages (reading-events step reply rules K s X)
+      ∙ messages-append (told step reply rules K s X) _
+      ∙ ap (λ M. messages (told step reply rules K s X) ++ M) (messages-at_end step reply rules K s X)
+      ∙ rw (told-trace step reply rules K s X, after-opened step reply rules K s X, r.trace_is, r.end_is, one.text) refl
+
+  after-reads : (K : Start) (s : S) (X : List ℕ) (raw : Raw) (items : List RawItem) (end_tag : Option WrittenTag)
+      → Reads K s X raw items end_tag → IsBehind end_tag (after step reply rules K s X).opened
+  after-reads K s X raw items end_tag r =
+      subst (IsBehind end_tag) (sym (after-opened step reply rules K s X ∙ ap (λ (t : Trace). t.opened) r.trace_is)) r.opened_is
+
+  pub after-raw : (K : Start) (s : S) (X : List ℕ) (raw : Raw) (name : List ℕ) (written_as : WrittenRaw)
+      → KeepsOn written_as.end_tag → IsRawText K X raw name written_as
+      → (after step reply rules K s X).opened ≢ NotBuilt
+  after-raw K s X raw name written_as keeps one e =
+      let r : Reads K s X raw written_as.items written_as.end_tag = reads_raw K s X raw name written_as.items written_as.end_tag keeps one in
+      false≢true (sym (ap is_built e) ∙ built-behind written_as.end_tag (after step reply rules K s X).opened (after-reads K s X raw written_as.items written_as.end_tag r))
+
+  -- nothing is open behind an end tag
+  pub after-raw_end_tag : (K : Start) (s : S) (X : List ℕ) (raw : Raw) (name : List ℕ) (items : List RawItem) (tag : WrittenTag)
+      → KeepsOn (Some tag) → IsRawText K X raw name (record { items = items; end_tag = Some tag })
+      → (after step reply rules K s X).opened ≡ Between Data
+  after-raw_end_tag K s X raw name items tag keeps one =
+      after-reads K s X raw items (Some tag) (reads_raw K s X raw name items (Some tag) keeps one)
