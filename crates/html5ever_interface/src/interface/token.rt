@@ -77,7 +77,7 @@ pub enum TokenSinkResult<Handle, Text> {
     Script(Handle),
     /// Read all that follows as plain text.
     Plaintext,
-    /// Read raw text, up to the end tag of this tag's name. Not built yet.
+    /// Read raw text, up to the end tag of this tag's name.
     RawData(RawKind),
     /// Pause, since the tag names an encoding: `feed` answers its name.
     EncodingIndicator(Text),
