@@ -37,8 +37,9 @@ fn print_and_reply<A: Allocator + Copy>(
 /// Prints what it is told: a line for each token, where adjacent texts share one and an empty text
 /// has none, and a line for each pause. A token that could not be printed leaves no part of a line.
 ///
-/// It replies to the start tag `plaintext` to read plain text, to a start tag `meta` with an
-/// attribute `charset` to switch the encoding, and to the end tag `script` to run the script.
+/// It replies to the start tag `plaintext` to read plain text, to the start tags of eight names to
+/// read raw text, such as `title`, `style` and `script`, to a start tag `meta` with an attribute
+/// `charset` to switch the encoding, and to the end tag `script` to run the script.
 #[derive(Drop)]
 pub struct PrintSink<A: Allocator = Global> {
     page: Vec<u8, A>,

@@ -1,5 +1,5 @@
 -- The page of a whole reading, and what is known of the bytes of a reader that was read to its end.
-use Rattle.std.proofs.Common.{◌≡◌, ℕ, List, [], ◌∷◌, ◌++◌, Option, None, Some, refl, ap, sym, ◌∙◌, subst}
+use Rattle.std.proofs.Common.{◌≡◌, ℕ, Bool, List, [], ◌∷◌, ◌++◌, Option, None, Some, refl, ap, sym, ◌∙◌, subst}
 use Rattle.std.specs.Prelude.{IfSome, codes}
 use Rattle.std.specs.Io.KnownBytes.{Consumes, IsAtEnd, Keeps}
 use Rattle.std.specs.Str.{chars}
@@ -8,13 +8,14 @@ use Rattle.html5ever_interface.specs.Sink.{Message, stepped, on_line}
 use Rattle.html5ever_interface.specs.Token.{Told, Reply}
 use Rattle.html5ever_interface.specs.Token.Told.{Text, End}
 use Rattle.html5ever_interface.specs.declared.states.State.TheVariants as state
-use Rattle.html5grammar.specs.EndOfInput.{late_at_end_of, open_at_end_of, told_at_end_of, state_at}
+use Rattle.html5grammar.specs.EndOfInput.{late_at_end_of, open_at_end_of, told_at_end_of, told_at_raw_end, raw_end_error, state_at}
 use Rattle.html5grammar.specs.ErrorText.{end_error_in}
 use Rattle.html5grammar.specs.NormalisedText.{normalised, line_after}
 use Rattle.html5grammar.specs.Reading.{Event, end_events, late_events, read, reading, told, messages, after}
 use Rattle.html5grammar.specs.Reading.TextPlace.{EndOfInput}
-use Rattle.html5grammar.specs.Start.{Start, Open, Rules, start_of}
-use Rattle.html5grammar.specs.Start.Open.{Between, LessThan, LessThanSolidus, InTag, InReference, NotBuilt}
+use Rattle.html5grammar.specs.Start.{Start, Mode, Open, Rules, start_of}
+use Rattle.html5grammar.specs.Start.Mode.{Data, Plain, RawText}
+use Rattle.html5grammar.specs.Start.Open.{Between, LessThan, LessThanSolidus, InTag, InRaw, InReference, NotBuilt}
 use Rattle.html5grammar.specs.Start.Place.{InValue}
 use Rattle.html5grammar.specs.Start.Stand.{InText, InAttribute}
 use Rattle.html5grammar.proofs.ReadingLemmas.{reading-events}
@@ -31,13 +32,20 @@ use Rattle.html5tok.specs.Settings.{SettingsOf, rules_said}
 EndsWithEnd : List Told → Type 0
 EndsWithEnd tokens = (front : List Told) × (tokens ≡ front ++ End ∷ [])
 
+between-ends : (exact : Bool) (mode : Mode) → EndsWithEnd (told_at_end_of exact (Between mode))
+unfolding told_at_end_of EndsWithEnd
+between-ends exact Data = ([], refl)
+between-ends exact Plain = ([], refl)
+between-ends exact (RawText raw name) = (raw_end_error exact raw, refl)
+
 told_at_end_of-ends : (rules : Rules) (opened : Open) → IsBuilt opened → EndsWithEnd (told_at_end_of rules.exact (open_at_end_of rules opened))
 unfolding told_at_end_of open_at_end_of EndsWithEnd
-told_at_end_of-ends rules (Between mode) built = ([], refl)
+told_at_end_of-ends rules (Between mode) built = between-ends rules.exact mode
 told_at_end_of-ends rules LessThan built = (end_error_in rules.exact state.TagOpen ∷ Text (codes "<") ∷ [], refl)
 told_at_end_of-ends rules LessThanSolidus built = (end_error_in rules.exact state.EndTagOpen ∷ Text (codes "<") ∷ Text (codes "/") ∷ [], refl)
 told_at_end_of-ends rules (InTag place tag) built = (end_error_in rules.exact (state_at place) ∷ [], refl)
-told_at_end_of-ends rules (InReference InText held) built = ([], refl)
+told_at_end_of-ends rules (InRaw place name) built = (told_at_raw_end rules.exact place, refl)
+told_at_end_of-ends rules (InReference (InText mode) held) built = between-ends rules.exact mode
 told_at_end_of-ends rules (InReference (InAttribute kind tag) held) built = (end_error_in rules.exact (state_at (InValue kind)) ∷ [], refl)
 told_at_end_of-ends rules NotBuilt built = absurd built
 

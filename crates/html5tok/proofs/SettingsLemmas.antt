@@ -11,16 +11,9 @@ use Rattle.std.specs.Option.{is_some, option_map, option_and_then, option_or}
 use Rattle.std.specs.Str.{bytes_eq, all_ascii_digits}
 use Rattle.std.proofs.lemmas.Bool.{false_from_ne_true, false≢true}
 use Rattle.std.proofs.lemmas.Slice.Eq.{bytes_eq-Decides}
-use Rattle.html5ever_interface.specs.declared.states.State.{State}
-use Rattle.html5ever_interface.specs.declared.options.TokenizerOpts.{TokenizerOpts}
-use Rattle.html5ever_interface.specs.Options.{options_of}
-use Rattle.html5tok.specs.Settings.{SettingsOf, state_said, cut_said, flag_said, value_said, said_after, with_exact_errors, with_byte_order_mark, with_state, with_cut, with_table}
-use Rattle.html5table.specs.Listed.{listed, entries_in}
+use Rattle.html5tok.specs.Settings.{SettingsOf, state_said, cut_said, flag_said, value_said, said_after, with_exact_errors, with_byte_order_mark, with_state, with_last, with_cut, with_table}
+use Rattle.html5table.specs.Listed.{listed}
 use Rattle.markup5ever.specs.NamedReferences.{NamedReference}
-
--- what the words said so far
-abbrev pub said_so_far : {Z : Type 0} → TokenizerOpts Z → ℕ → List ℕ → SettingsOf
-said_so_far opts cut list = record { opts = options_of opts; foreign = false; cut = cut; table = entries_in list }
 
 -- an answer that is there just where a list has the form
 pub some_from : {X Y : Type 0} {x : X} {r : Option X} (o : Option Y) → IsSome r ↔ IsSome o → r ≡ Some x → IsSome o
@@ -34,107 +27,104 @@ option_or-none : {X : Type 0} (o : Option X) → option_or o None ≡ o
 option_or-none None = refl
 option_or-none (Some x) = refl
 
-pub said_after-exact : (s : SettingsOf) (W : List (List ℕ)) → said_after s (codes "--exact" ∷ W) ≡ said_after (with_exact_errors s) W
-unfolding said_after flag_said value_said
-said_after-exact s [] = refl
-said_after-exact s (v ∷ W) = option_or-none (said_after (with_exact_errors s) (v ∷ W))
+-- a word that stands alone
+pub said_after-flag : (s t : SettingsOf) (w : List ℕ) (W : List (List ℕ)) → flag_said s w ≡ Some t → ((v : List ℕ) → value_said s w v ≡ None)
+    → said_after s (w ∷ W) ≡ said_after t W
+unfolding said_after
+said_after-flag s t w [] flag no_value = rw flag refl
+said_after-flag s t w (v ∷ W) flag no_value = rw (flag, no_value v) (option_or-none (said_after t (v ∷ W)))
 
-pub said_after-keep_bom : (s : SettingsOf) (W : List (List ℕ)) → said_after s (codes "--keep-bom" ∷ W) ≡ said_after (with_byte_order_mark s) W
-unfolding said_after flag_said value_said
-said_after-keep_bom s [] = refl
-said_after-keep_bom s (v ∷ W) = option_or-none (said_after (with_byte_order_mark s) (v ∷ W))
+-- a word that wants a value, and has none behind it
+pub said_after-no_value : (s : SettingsOf) (w : List ℕ) → flag_said s w ≡ None → said_after s (w ∷ []) ≡ None
+unfolding said_after
+said_after-no_value s w no_flag = rw no_flag refl
 
-pub said_after-no_state : (s : SettingsOf) → said_after s (codes "--state" ∷ []) ≡ None
-unfolding said_after flag_said value_said
-said_after-no_state s = refl
-
-pub said_after-state : (s : SettingsOf) (v : List ℕ) (W : List (List ℕ)) → said_after s (codes "--state" ∷ v ∷ W) ≡ option_and_then (λ state. said_after (with_state s state) W) (state_said v)
-unfolding said_after flag_said value_said
-said_after-state s v W = elim (state_said v) as (λ o. option_and_then (λ t. said_after t W) (option_map (with_state s) o) ≡ option_and_then (λ state. said_after (with_state s state) W) o) [ None ↦ refl | Some state ↦ refl ]
-
-pub said_after-no_cut : (s : SettingsOf) → said_after s (codes "--cut" ∷ []) ≡ None
-unfolding said_after flag_said value_said
-said_after-no_cut s = refl
-
-pub said_after-cut : (s : SettingsOf) (v : List ℕ) (W : List (List ℕ)) → said_after s (codes "--cut" ∷ v ∷ W) ≡ option_and_then (λ cut. said_after (with_cut s cut) W) (cut_said v)
-unfolding said_after flag_said value_said
-said_after-cut s v W = elim (cut_said v) as (λ o. option_and_then (λ t. said_after t W) (option_map (with_cut s) o) ≡ option_and_then (λ cut. said_after (with_cut s cut) W) o) [ None ↦ refl | Some cut ↦ refl ]
-
-pub said_after-no_table : (s : SettingsOf) → said_after s (codes "--table" ∷ []) ≡ None
-unfolding said_after flag_said value_said
-said_after-no_table s = refl
-
-pub said_after-table : (s : SettingsOf) (v : List ℕ) (W : List (List ℕ)) → said_after s (codes "--table" ∷ v ∷ W) ≡ option_and_then (λ entries. said_after (with_table s entries) W) (listed v)
-unfolding said_after flag_said value_said
-said_after-table s v W = elim (listed v) as (λ o. option_and_then (λ t. said_after t W) (option_map (with_table s) o) ≡ option_and_then (λ entries. said_after (with_table s entries) W) o) [ None ↦ refl | Some entries ↦ refl ]
+-- a word with its value
+pub said_after-value : (s : SettingsOf) (w v : List ℕ) (W : List (List ℕ)) → flag_said s w ≡ None
+    → said_after s (w ∷ v ∷ W) ≡ option_and_then (λ t. said_after t W) (value_said s w v)
+unfolding said_after
+said_after-value s w v W no_flag = rw no_flag refl
 
 differs : (w p : List ℕ) → w ≢ p → bytes_eq w p ≡ false
 differs w p n = false_from_ne_true (bytes_eq w p) (λ e. n ((bytes_eq-Decides w p).0 e))
 
-pub said_after-unknown : (s : SettingsOf) (w : List ℕ) (W : List (List ℕ)) → w ≢ codes "--exact" → w ≢ codes "--keep-bom" → w ≢ codes "--state" → w ≢ codes "--cut" → w ≢ codes "--table" → said_after s (w ∷ W) ≡ None
-unfolding said_after flag_said value_said
-said_after-unknown s w [] a b c d e = rw (differs w (codes "--exact") a, differs w (codes "--keep-bom") b) refl
-said_after-unknown s w (v ∷ W) a b c d e = rw (differs w (codes "--exact") a, differs w (codes "--keep-bom") b, differs w (codes "--state") c, differs w (codes "--cut") d, differs w (codes "--table") e) refl
+-- a word that is none of those that stand alone or have a value
+pub record IsUnknown (w : List ℕ) : Type 0 where
+  pub no_exact : w ≢ codes "--exact"
+  pub no_keep_bom : w ≢ codes "--keep-bom"
+  pub no_state : w ≢ codes "--state"
+  pub no_last : w ≢ codes "--last"
+  pub no_cut : w ≢ codes "--cut"
+  pub no_table : w ≢ codes "--table"
+
+flag_said-unknown : (s : SettingsOf) (w : List ℕ) → IsUnknown w → flag_said s w ≡ None
+unfolding flag_said
+flag_said-unknown s w unknown = rw (differs w (codes "--exact") unknown.no_exact, differs w (codes "--keep-bom") unknown.no_keep_bom) refl
+
+value_said-unknown : (s : SettingsOf) (w v : List ℕ) → IsUnknown w → value_said s w v ≡ None
+unfolding value_said
+value_said-unknown s w v unknown =
+    rw (differs w (codes "--state") unknown.no_state, differs w (codes "--last") unknown.no_last, differs w (codes "--cut") unknown.no_cut, differs w (codes "--table") unknown.no_table) refl
+
+pub said_after-unknown : (s : SettingsOf) (w : List ℕ) (W : List (List ℕ)) → IsUnknown w → said_after s (w ∷ W) ≡ None
+said_after-unknown s w [] unknown = said_after-no_value s w (flag_said-unknown s w unknown)
+said_after-unknown s w (v ∷ W) unknown =
+    said_after-value s w v W (flag_said-unknown s w unknown) ∙ ap (λ o. option_and_then (λ t. said_after t W) o) (value_said-unknown s w v unknown)
 
 -- a list that has the form says its entries
-some-entries : (o : Option (List NamedReference)) → IsSome o → o ≡ Some (unwrap_or o [])
+pub some-entries : (o : Option (List NamedReference)) → IsSome o → o ≡ Some (unwrap_or o [])
 some-entries None form = absurd (false≢true form)
 some-entries (Some entries) form = refl
 
+-- what each word says
+pub exact_said : (s : SettingsOf) → (flag_said s (codes "--exact") ≡ Some (with_exact_errors s)) × ((v : List ℕ) → value_said s (codes "--exact") v ≡ None)
+unfolding flag_said value_said
+exact_said s = (refl, λ v. refl)
+
+pub keep_bom_said : (s : SettingsOf) → (flag_said s (codes "--keep-bom") ≡ Some (with_byte_order_mark s)) × ((v : List ℕ) → value_said s (codes "--keep-bom") v ≡ None)
+unfolding flag_said value_said
+keep_bom_said s = (refl, λ v. refl)
+
+pub state_word : (s : SettingsOf) → (flag_said s (codes "--state") ≡ None) × ((v : List ℕ) → value_said s (codes "--state") v ≡ option_map (with_state s) (state_said v))
+unfolding flag_said value_said
+state_word s = (refl, λ v. refl)
+
+pub last_word : (s : SettingsOf) → (flag_said s (codes "--last") ≡ None) × ((v : List ℕ) → value_said s (codes "--last") v ≡ Some (with_last s v))
+unfolding flag_said value_said
+last_word s = (refl, λ v. refl)
+
+pub cut_word : (s : SettingsOf) → (flag_said s (codes "--cut") ≡ None) × ((v : List ℕ) → value_said s (codes "--cut") v ≡ option_map (with_cut s) (cut_said v))
+unfolding flag_said value_said
+cut_word s = (refl, λ v. refl)
+
+pub table_word : (s : SettingsOf) → (flag_said s (codes "--table") ≡ None) × ((v : List ℕ) → value_said s (codes "--table") v ≡ option_map (with_table s) (listed v))
+unfolding flag_said value_said
+table_word s = (refl, λ v. refl)
+
 -- the same in a loop over texts, where `all` is what the words say
 module _ {Z : Type 0} (s : SettingsOf) (texts rest : List (String Z)) (word : String Z) (all : Option SettingsOf) (h : said_after s (map string_bytes texts) ≡ all) (e : texts ≡ word ∷ rest) where
-  first : (p : List ℕ) → string_bytes word ≡ p → said_after s (p ∷ map string_bytes rest) ≡ all
-  first p f = sym (ap (λ l. said_after s (map string_bytes l)) e ∙ ap (λ q. said_after s (q ∷ map string_bytes rest)) f) ∙ h
+  first : (w : List ℕ) → string_bytes word ≡ w → said_after s (w ∷ map string_bytes rest) ≡ all
+  first w f = sym (ap (λ l. said_after s (map string_bytes l)) e ∙ ap (λ q. said_after s (q ∷ map string_bytes rest)) f) ∙ h
 
-  pub read-exact : string_bytes word ≡ codes "--exact" → said_after (with_exact_errors s) (map string_bytes rest) ≡ all
-  read-exact f = sym (said_after-exact s (map string_bytes rest)) ∙ first (codes "--exact") f
+  pub read-flag : (w : List ℕ) (t : SettingsOf) → string_bytes word ≡ w → (flag_said s w ≡ Some t) × ((v : List ℕ) → value_said s w v ≡ None)
+      → said_after t (map string_bytes rest) ≡ all
+  read-flag w t f said = sym (said_after-flag s t w (map string_bytes rest) said.0 said.1) ∙ first w f
 
-  pub read-keep_bom : string_bytes word ≡ codes "--keep-bom" → said_after (with_byte_order_mark s) (map string_bytes rest) ≡ all
-  read-keep_bom f = sym (said_after-keep_bom s (map string_bytes rest)) ∙ first (codes "--keep-bom") f
+  pub read-unknown : IsUnknown (string_bytes word) → None ≡ all
+  read-unknown unknown = sym (said_after-unknown s (string_bytes word) (map string_bytes rest) unknown) ∙ first (string_bytes word) refl
 
-  pub read-unknown : string_bytes word ≢ codes "--exact" → string_bytes word ≢ codes "--keep-bom" → string_bytes word ≢ codes "--state" → string_bytes word ≢ codes "--cut" → string_bytes word ≢ codes "--table" → None ≡ all
-  read-unknown a b c d e = sym (said_after-unknown s (string_bytes word) (map string_bytes rest) a b c d e) ∙ first (string_bytes word) refl
+  pub read-no_value : (w : List ℕ) → string_bytes word ≡ w → flag_said s w ≡ None → rest ≡ [] → None ≡ all
+  read-no_value w f no_flag none = sym (ap (λ l. said_after s (w ∷ map string_bytes l)) none ∙ said_after-no_value s w no_flag) ∙ first w f
 
-  pub read-no_state : string_bytes word ≡ codes "--state" → rest ≡ [] → None ≡ all
-  read-no_state f n = sym (ap (λ l. said_after s (codes "--state" ∷ map string_bytes l)) n ∙ said_after-no_state s) ∙ first (codes "--state") f
+  module _ (later : List (String Z)) (value : String Z) (n : rest ≡ value ∷ later) (w : List ℕ) (f : string_bytes word ≡ w) (no_flag : flag_said s w ≡ None) where
+    value_first : option_and_then (λ t. said_after t (map string_bytes later)) (value_said s w (string_bytes value)) ≡ all
+    value_first = sym (ap (λ l. said_after s (w ∷ map string_bytes l)) n ∙ said_after-value s w (string_bytes value) (map string_bytes later) no_flag) ∙ first w f
 
-  pub read-no_cut : string_bytes word ≡ codes "--cut" → rest ≡ [] → None ≡ all
-  read-no_cut f n = sym (ap (λ l. said_after s (codes "--cut" ∷ map string_bytes l)) n ∙ said_after-no_cut s) ∙ first (codes "--cut") f
+    pub read-value : (t : SettingsOf) → value_said s w (string_bytes value) ≡ Some t → said_after t (map string_bytes later) ≡ all
+    read-value t said = sym (ap (λ o. option_and_then (λ t. said_after t (map string_bytes later)) o) said) ∙ value_first
 
-  pub read-no_table : string_bytes word ≡ codes "--table" → rest ≡ [] → None ≡ all
-  read-no_table f n = sym (ap (λ l. said_after s (codes "--table" ∷ map string_bytes l)) n ∙ said_after-no_table s) ∙ first (codes "--table") f
-
-  module _ (later : List (String Z)) (value : String Z) (n : rest ≡ value ∷ later) where
-    state_first : string_bytes word ≡ codes "--state" → option_and_then (λ state. said_after (with_state s state) (map string_bytes later)) (state_said (string_bytes value)) ≡ all
-    state_first f = sym (ap (λ l. said_after s (codes "--state" ∷ map string_bytes l)) n ∙ said_after-state s (string_bytes value) (map string_bytes later)) ∙ first (codes "--state") f
-
-    cut_first : string_bytes word ≡ codes "--cut" → option_and_then (λ cut. said_after (with_cut s cut) (map string_bytes later)) (cut_said (string_bytes value)) ≡ all
-    cut_first f = sym (ap (λ l. said_after s (codes "--cut" ∷ map string_bytes l)) n ∙ said_after-cut s (string_bytes value) (map string_bytes later)) ∙ first (codes "--cut") f
-
-    table_first : string_bytes word ≡ codes "--table" → option_and_then (λ entries. said_after (with_table s entries) (map string_bytes later)) (listed (string_bytes value)) ≡ all
-    table_first f = sym (ap (λ l. said_after s (codes "--table" ∷ map string_bytes l)) n ∙ said_after-table s (string_bytes value) (map string_bytes later)) ∙ first (codes "--table") f
-
-    pub read-state : (state : State) → string_bytes word ≡ codes "--state" → state_said (string_bytes value) ≡ Some state → said_after (with_state s state) (map string_bytes later) ≡ all
-    read-state state f v = sym (ap (λ o. option_and_then (λ t. said_after (with_state s t) (map string_bytes later)) o) v) ∙ state_first f
-
-    pub read-bad_state : string_bytes word ≡ codes "--state" → state_said (string_bytes value) ≡ None → None ≡ all
-    read-bad_state f v = sym (ap (λ o. option_and_then (λ t. said_after (with_state s t) (map string_bytes later)) o) v) ∙ state_first f
-
-    pub read-cut : (cut : ℕ) → string_bytes word ≡ codes "--cut" → cut_said (string_bytes value) ≡ Some cut → said_after (with_cut s cut) (map string_bytes later) ≡ all
-    read-cut cut f v = sym (ap (λ o. option_and_then (λ t. said_after (with_cut s t) (map string_bytes later)) o) v) ∙ cut_first f
-
-    pub read-bad_cut : string_bytes word ≡ codes "--cut" → cut_said (string_bytes value) ≡ None → None ≡ all
-    read-bad_cut f v = sym (ap (λ o. option_and_then (λ t. said_after (with_cut s t) (map string_bytes later)) o) v) ∙ cut_first f
-
-    -- a list that has the form, as the loop holds it
-    pub read-table : (list : List ℕ) → string_bytes word ≡ codes "--table" → list ≡ string_bytes value → IsSome (listed (string_bytes value))
-        → said_after (with_table s (entries_in list)) (map string_bytes later) ≡ all
-    read-table list f same form =
-        let entries : listed (string_bytes value) ≡ Some (entries_in list) = ap listed (sym same) ∙ some-entries (listed list) (rw (← same) at form) in
-        sym (ap (λ o. option_and_then (λ t. said_after (with_table s t) (map string_bytes later)) o) entries) ∙ table_first f
-
-    pub read-bad_table : string_bytes word ≡ codes "--table" → listed (string_bytes value) ≡ None → None ≡ all
-    read-bad_table f v = sym (ap (λ o. option_and_then (λ t. said_after (with_table s t) (map string_bytes later)) o) v) ∙ table_first f
+    pub read-bad_value : value_said s w (string_bytes value) ≡ None → None ≡ all
+    read-bad_value said = sym (ap (λ o. option_and_then (λ t. said_after t (map string_bytes later)) o) said) ∙ value_first
 
 -- behind the last word
 module _ {Z : Type 0} (s : SettingsOf) (texts : List (String Z)) (all : Option SettingsOf) (h : said_after s (map string_bytes texts) ≡ all) (e : texts ≡ []) where

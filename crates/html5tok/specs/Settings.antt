@@ -6,9 +6,10 @@ use Rattle.std.specs.Str.Parse.{digits_value}
 use Rattle.html5table.specs.Listed.{listed, entries_in}
 use Rattle.html5table.specs.Profile.{profile_entries}
 use Rattle.markup5ever.specs.NamedReferences.{NamedReference, table_of}
-use Rattle.html5ever_interface.specs.Options.{OptionsOf, options_of, default_options}
+use Rattle.html5ever_interface.specs.Options.{OptionsOf, default_options}
 use Rattle.html5ever_interface.specs.declared.states.State.{State}
-use Rattle.html5ever_interface.specs.declared.states.State.TheVariants.{Data, Plaintext}
+use Rattle.html5ever_interface.specs.declared.states.State.TheVariants.{Data, Plaintext, RawData}
+use Rattle.html5ever_interface.specs.declared.states.RawKind.TheVariants.{Rcdata, Rawtext, ScriptData}
 use Rattle.html5grammar.specs.Start.{Rules}
 use Rattle.html5ever.specs.Tokenizer.{rules_of}
 use Rattle.html5tok.specs.declared.print.Settings.{Settings}
@@ -22,8 +23,17 @@ pub record SettingsOf : Type 0 where
   -- the entries of the table
   pub table : List NamedReference
 
-abbrev pub said_by : {Z : Type 0} → Settings Z → SettingsOf
-said_by settings = record { opts = options_of settings.opts; foreign = settings.foreign; cut = settings.cut; table = entries_in settings.table.now }
+-- the options that the settings give a tokenizer
+abbrev pub options_said : Settings → OptionsOf
+options_said settings = record {
+  exact_errors = settings.exact_errors;
+  discard_bom = settings.discard_bom;
+  initial_state = settings.initial_state;
+  last_start_tag_name = option_map (λ name. name.now) settings.last;
+}
+
+abbrev pub said_by : Settings → SettingsOf
+said_by settings = record { opts = options_said settings; foreign = settings.foreign; cut = settings.cut; table = entries_in settings.table.now }
 
 -- the settings before the first word
 abbrev pub unsaid : SettingsOf
@@ -37,6 +47,9 @@ with_byte_order_mark s = record s { opts = record s.opts { discard_bom = false }
 
 abbrev pub with_state : SettingsOf → State → SettingsOf
 with_state s state = record s { opts = record s.opts { initial_state = Some state } }
+
+abbrev pub with_last : SettingsOf → List ℕ → SettingsOf
+with_last s name = record s { opts = record s.opts { last_start_tag_name = Some name } }
 
 abbrev pub with_cut : SettingsOf → ℕ → SettingsOf
 with_cut s cut = record s { cut = cut }
@@ -53,6 +66,9 @@ unfoldable pub state_said : List ℕ → Option State
 state_said name =
     if bytes_eq name (codes "data") then Some Data
     else if bytes_eq name (codes "plaintext") then Some Plaintext
+    else if bytes_eq name (codes "rcdata") then Some (RawData Rcdata)
+    else if bytes_eq name (codes "rawtext") then Some (RawData Rawtext)
+    else if bytes_eq name (codes "script") then Some (RawData ScriptData)
     else None
 
 -- a number in decimal digits, at least 1 and below 2 ^ 32
@@ -72,6 +88,7 @@ flag_said s word =
 unfoldable pub value_said : SettingsOf → List ℕ → List ℕ → Option SettingsOf
 value_said s word value =
     if bytes_eq word (codes "--state") then option_map (with_state s) (state_said value)
+    else if bytes_eq word (codes "--last") then Some (with_last s value)
     else if bytes_eq word (codes "--cut") then option_map (with_cut s) (cut_said value)
     else if bytes_eq word (codes "--table") then option_map (with_table s) (listed value)
     else None

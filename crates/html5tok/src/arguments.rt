@@ -3,43 +3,52 @@ ghost use Rattle.std.specs.Prelude.{◌≡◌, ◌<◌, ◌^◌, ◌↔◌, fals
 ghost use Rattle.std.specs.Option.{option_map};
 ghost use Rattle.html5ever.specs.Tokenizer.{CanStart};
 ghost use Rattle.html5table.specs.Listed.{listed};
-ghost use Rattle.html5tok.specs.Settings.{said_by, state_said, cut_said, settings_said};
+ghost use Rattle.html5tok.specs.Settings.{said_by, unsaid, state_said, cut_said, settings_said};
 
 use crate::print::Settings;
-use html5ever_interface::options::TokenizerOpts;
-use html5ever_interface::states::State;
+use html5ever_interface::states::{RawKind, State};
 use html5table::{has_form, profile};
 use std::alloc::Allocator;
 
 /// The settings that the words behind the program's name say, if they are ones that it knows. Of an
 /// option that is given more than once the last counts.
-pub fn settings_of<A: Allocator>(words: &[String<A>]) -> Option<Settings<'_, A>>
+pub fn settings_of<A: Allocator>(words: &[String<A>]) -> Option<Settings<'_>>
     ensures said { option_map said_by result ≡ settings_said (map string_bytes words.now) }
-    ensures state { IfSome result (λ settings. CanStart settings.opts.initial_state) }
+    ensures state { IfSome result (λ settings. CanStart settings.initial_state) }
     ensures foreign { IfSome result (λ settings. settings.foreign ≡ false) }
     ensures cut { IfSome result (λ settings. settings.cut < 2 ^ 32) }
     ensures table { IfSome result (λ settings. IsSome (listed settings.table.now)) }
 {
-    let mut opts = TokenizerOpts::default();
-    let mut cut = 0;
-    let mut table = profile();
+    let mut settings = unsaid();
     let mut words = words.iter();
     while let Some(word) = words.next() {
         match word.as_str() {
-            "--exact" => opts.exact_errors = true,
-            "--keep-bom" => opts.discard_bom = false,
-            "--state" => opts.initial_state = Some(state_of(words.next()?)?),
-            "--cut" => cut = cut_of(words.next()?)?,
-            "--table" => table = list_of(words.next()?)?,
+            "--exact" => settings.exact_errors = true,
+            "--keep-bom" => settings.discard_bom = false,
+            "--state" => settings.initial_state = Some(state_of(words.next()?)?),
+            "--last" => settings.last = Some(words.next()?),
+            "--cut" => settings.cut = cut_of(words.next()?)?,
+            "--table" => settings.table = list_of(words.next()?)?,
             _ => return None,
         }
     }
-    Some(Settings {
-        opts,
+    Some(settings)
+}
+
+// The settings before the first word.
+fn unsaid() -> Settings<'static>
+    ensures said { said_by result ≡ unsaid }
+    ensures table { IsSome (listed result.table.now) }
+{
+    Settings {
+        exact_errors: false,
+        discard_bom: true,
+        initial_state: None,
+        last: None,
         foreign: false,
-        cut,
-        table,
-    })
+        cut: 0,
+        table: profile(),
+    }
 }
 
 // The state of that name.
@@ -51,6 +60,9 @@ fn state_of(name: &str) -> Option<State>
     match name {
         "data" => Some(State::Data),
         "plaintext" => Some(State::Plaintext),
+        "rcdata" => Some(State::RawData(RawKind::Rcdata)),
+        "rawtext" => Some(State::RawData(RawKind::Rawtext)),
+        "script" => Some(State::RawData(RawKind::ScriptData)),
         _ => None,
     }
 }

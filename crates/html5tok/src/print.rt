@@ -1,9 +1,10 @@
-ghost use Rattle.std.specs.Prelude.{◌≡◌, ◌≢◌, ◌↔◌, ◌+◌, ◌<◌, ◌≤◌, ◌⊎◌, [], true, false, IfOk, IfErr, OnOk, OnErr, length, take, drop, string_bytes};
+ghost use Rattle.std.specs.Prelude.{◌≡◌, ◌≢◌, ◌↔◌, ◌+◌, ◌<◌, ◌≤◌, ◌⊎◌, [], true, false, IfOk, IfErr, OnOk, OnErr, length, take, drop, option_map, string_bytes};
 ghost use Rattle.std.specs.Io.KnownBytes.{Keeps};
 ghost use Rattle.std.specs.Str.{IsUtf8, chars};
 ghost use Rattle.html5tok.specs.Device.{IsRefusal, reported_failures};
 ghost use Rattle.html5print.specs.Page.{page_step, page_reply};
-ghost use Rattle.html5tok.specs.Settings.{said_by};
+ghost use Rattle.html5ever_interface.specs.Options.{options_of};
+ghost use Rattle.html5tok.specs.Settings.{options_said, said_by};
 ghost use Rattle.html5tok.specs.Printing.{printed_reading, open_behind_text, IsWholeBuilt, PrintsNotYet, PrintsReading, PrintsBeginning, PrintsNothing};
 ghost use Rattle.html5grammar.specs.Start.Open.{NotBuilt};
 ghost use Rattle.html5ever.specs.Tokenizer.{CanStart, ReadsOn, MeetsNotBuilt};
@@ -15,16 +16,23 @@ use html5ever::TokenizerError;
 use html5ever::tokenizer::Tokenizer;
 use html5ever::tokenizer::steps::feed_until_done;
 use html5ever_interface::options::TokenizerOpts;
+use html5ever_interface::states::State;
 use html5print::print_sink::PrintSink;
 use markup5ever::buffer_queue::BufferQueue;
 use markup5ever::data::NamedReferences;
-use std::alloc::{Allocator, Global};
+use std::alloc::{AllocError, Allocator};
 
 /// How the program reads its input.
-#[derive(Drop)]
-#[derive_where(Debug, PartialEq, Eq)]
-pub struct Settings<'w, A: Allocator = Global> {
-    pub opts: TokenizerOpts<A>,
+#[derive(Clone, Copy, Debug, PartialEq, Eq)]
+pub struct Settings<'w> {
+    /// Report every bad character, and name no state in error messages.
+    pub exact_errors: bool,
+    /// Drop U+FEFF where it is the first character.
+    pub discard_bom: bool,
+    /// The state to start in, where it is not `Data`.
+    pub initial_state: Option<State>,
+    /// The name of the start tag before the input, where one is given.
+    pub last: Option<&'w str>,
     /// The sink's answer about foreign content.
     pub foreign: bool,
     /// How many characters are fed at once, and 0 for all of them.
@@ -172,14 +180,40 @@ fn feed_text<A: Allocator + Copy>(
     Ok(())
 }
 
+// The name as a text of its own, where there is one.
+fn owned<A: Allocator>(alloc: A, name: Option<&str>) -> Result<Option<String<A>>, AllocError>
+    ensures { IfOk result (λ owned. option_map string_bytes owned
+        ≡ option_map (λ name. name.now) name.entry) }
+{
+    match name {
+        None => Ok(None),
+        Some(name) => Ok(Some(String::from_str(alloc, name)?)),
+    }
+}
+
+// The options that the settings give a tokenizer.
+fn options_of<A: Allocator>(
+    alloc: A,
+    settings: &Settings<'_>,
+) -> Result<TokenizerOpts<A>, AllocError>
+    ensures { IfOk result (λ opts. options_of opts ≡ options_said settings.now) }
+{
+    Ok(TokenizerOpts {
+        exact_errors: settings.exact_errors,
+        discard_bom: settings.discard_bom,
+        initial_state: settings.initial_state,
+        last_start_tag_name: owned(alloc, settings.last)?,
+    })
+}
+
 // Prints the reading of a text to a page.
 fn print_text<A: Allocator + Copy>(
     alloc: A,
     text: String<A>,
-    settings: &Settings<'_, A>,
+    settings: &Settings<'_>,
     names: &NamedReferences<A>,
 ) -> Result<PrintSink<A>, Fault>
-    requires start { CanStart settings.now.opts.initial_state }
+    requires start { CanStart settings.now.initial_state }
     requires names { names.now ≡ table_of (said_by settings.now).table }
     ensures ok { IfOk result (λ sink. sink.page.lines ≡ printed_reading (said_by settings.now) (string_bytes text)) }
     ensures built { OnOk result (IsWholeBuilt (said_by settings.now) (string_bytes text)) }
@@ -188,7 +222,8 @@ fn print_text<A: Allocator + Copy>(
     ensures err { IfErr result IsRefusal }
 {
     let sink = PrintSink::new(alloc, settings.foreign);
-    let mut tokenizer = Tokenizer::new(alloc, sink, settings.opts.try_clone()?, names);
+    let opts = options_of(alloc, settings)?;
+    let mut tokenizer = Tokenizer::new(alloc, sink, opts, names);
     feed_text(alloc, &mut tokenizer, text, settings.cut)?;
     match tokenizer.end() {
         Ok(()) => Ok(tokenizer.into_sink()),
@@ -201,10 +236,10 @@ pub fn print_tokens<R: Source, W: Target, A: Allocator + Copy>(
     alloc: A,
     reader: &mut R,
     writer: &mut W,
-    settings: &Settings<'_, A>,
+    settings: &Settings<'_>,
     names: &NamedReferences<A>,
 ) -> Result<(), Fault>
-    requires start { CanStart settings.now.opts.initial_state }
+    requires start { CanStart settings.now.initial_state }
     requires names { names.now ≡ table_of (said_by settings.now).table }
     ensures ok { OnOk result (PrintsReading (said_by settings.now)
         (R.remaining reader.old) (R.remaining reader.new) (W.contents writer.old) (W.contents writer.new)) }

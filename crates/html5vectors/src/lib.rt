@@ -22,6 +22,8 @@ mod not_built;
 #[cfg(test)]
 mod pause_cases;
 #[cfg(test)]
+mod raw_text_cases;
+#[cfg(test)]
 mod reference_cases;
 #[cfg(test)]
 mod refused;

@@ -3,9 +3,8 @@ use crate::lines::lines_of;
 use crate::names::profile;
 use crate::refused::{check_refused, drained};
 use crate::running::{options, push_text};
-use crate::sinks::Steering;
 use html5ever::TokenizerError;
-use html5ever::tokenizer::{Tokenizer, TokenizerResult};
+use html5ever::tokenizer::Tokenizer;
 use html5ever_interface::collect::Collector;
 use markup5ever::buffer_queue::BufferQueue;
 use std::alloc::{AllocError, Global};
@@ -50,26 +49,5 @@ fn refuses_what_is_not_built(rt: HostRuntime) -> Result<(), Fail> {
     for stop in STOPS {
         check_stop(&rt, rt.alloc(), stop)?;
     }
-    Ok(())
-}
-
-#[test]
-fn refuses_a_reply_that_is_not_built(rt: HostRuntime) -> Result<(), Fail> {
-    let alloc = rt.alloc();
-    let opts = options(false, false);
-    let names = profile(alloc)?;
-    let mut tokenizer = Tokenizer::new(alloc, Steering::new(alloc), opts, &names);
-    let mut queue = BufferQueue::new(alloc);
-    push_text(alloc, &mut queue, "<a></x><xx>")?;
-    assert_eq!(rt; tokenizer.feed(&mut queue), Ok(TokenizerResult::Done));
-    push_text(alloc, &mut queue, "b<X c=1>y")?;
-    assert_eq!(rt; tokenizer.feed(&mut queue), Err(TokenizerError::NotYet));
-    check_refused(&rt, &mut tokenizer, &mut queue, "a reply");
-    let told = lines_of(alloc, tokenizer.sink.inner.entries())?;
-    assert_eq!(rt;
-        told.as_str(),
-        "start 1 \"a\"\nend 1 \"x\"\nstart 1 \"xx\"\ntext \"b\"\nstart 1 \"x\" \"c\"=\"1\""
-    );
-    assert_eq!(rt; drained(alloc, &mut queue)?.as_str(), "y");
     Ok(())
 }

@@ -386,5 +386,8 @@ fn a_refused_request_leaves_a_beginning_of_a_run(rt: HostRuntime) -> Result<(), 
     // A text in front takes what waits behind it, which needs room.
     let longer = [Piece::Behind("<s>x"), Piece::InFront("<b    >")];
     assert!(rt; refusals_of(&rt, alloc, &longer, lines)? > 3);
+    let raw_text = [Piece::Behind("<x>a</X >b")];
+    let lines = "start 1 \"x\"\ntext \"a\"\nend 1 \"x\"\ntext \"b\"\neof 1";
+    assert!(rt; refusals_of(&rt, alloc, &raw_text, lines)? > 3);
     Ok(())
 }

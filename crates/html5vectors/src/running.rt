@@ -1,5 +1,5 @@
 //! Running the tokenizer on a text that comes in pieces.
-ghost use Rattle.std.specs.Prelude.{◌≡◌};
+ghost use Rattle.std.specs.Prelude.{◌≡◌, IfOk};
 ghost use Rattle.html5ever.specs.Tokenizer.{CanStart};
 
 use crate::lines::lines_of;
@@ -27,6 +27,34 @@ pub fn options<A: Allocator>(exact_errors: bool, plain: bool) -> TokenizerOpts<A
         initial_state: if plain { Some(State::Plaintext) } else { None },
         last_start_tag_name: None,
     }
+}
+
+/// Where a stream starts: its state, where it is not `Data`, and the name of the start tag before it.
+#[derive(Clone, Copy)]
+pub struct Start<'a> {
+    pub state: Option<State>,
+    pub last: Option<&'a str>,
+}
+
+/// The default options, but for the errors and the start.
+pub fn options_from<A: Allocator>(
+    alloc: A,
+    exact_errors: bool,
+    start: Start,
+) -> Result<TokenizerOpts<A>, AllocError>
+    requires starts { CanStart start.state }
+    ensures starts { IfOk result (λ opts. CanStart opts.initial_state) }
+{
+    let last_start_tag_name = match start.last {
+        None => None,
+        Some(name) => Some(String::from_str(alloc, name)?),
+    };
+    Ok(TokenizerOpts {
+        exact_errors,
+        discard_bom: true,
+        initial_state: start.state,
+        last_start_tag_name,
+    })
 }
 
 /// Hands in a text.
@@ -142,7 +170,7 @@ pub fn check_case(
     check_case_by(rt, alloc, plain, &profile(alloc)?, case)
 }
 
-/// Runs a case: fed in its pieces, in any two, and in single characters it tells the same lines.
+/// Runs a case by a table of names.
 pub fn check_case_by(
     rt: &impl Abort,
     alloc: Global,
@@ -150,17 +178,34 @@ pub fn check_case_by(
     names: &NamedReferences,
     case: Case,
 ) -> Result<(), AllocError> {
+    let state = if plain { Some(State::Plaintext) } else { None };
+    check_case_from(rt, alloc, Start { state, last: None }, names, case)
+}
+
+/// Runs a case: fed in its pieces, in any two, and in single characters it tells the same lines.
+pub fn check_case_from(
+    rt: &impl Abort,
+    alloc: Global,
+    start: Start,
+    names: &NamedReferences,
+    case: Case,
+) -> Result<(), AllocError>
+    requires starts { CanStart start.state }
+{
     let (name, pieces, exact, lines) = case;
-    let told = lines_of_pieces(rt, alloc, options(exact, plain), names, pieces)?;
+    let opts = options_from(alloc, exact, start)?;
+    let told = lines_of_pieces(rt, alloc, opts, names, pieces)?;
     assert_eq!(rt; told.as_str(), lines, "{name}");
     let text = joined(alloc, pieces)?;
     for count in 0..text.len() {
         let (first, second) = cut(alloc, &text, count)?;
         let parts = [first.as_str(), second.as_str()];
-        let told = lines_of_pieces(rt, alloc, options(exact, plain), names, &parts)?;
+        let opts = options_from(alloc, exact, start)?;
+        let told = lines_of_pieces(rt, alloc, opts, names, &parts)?;
         assert_eq!(rt; told.as_str(), lines, "{name}, cut at {count}");
     }
-    let told = lines_of_characters(rt, alloc, options(exact, plain), names, &text)?;
+    let opts = options_from(alloc, exact, start)?;
+    let told = lines_of_characters(rt, alloc, opts, names, &text)?;
     assert_eq!(rt; told.as_str(), lines, "{name}, in characters");
     Ok(())
 }

@@ -1,5 +1,6 @@
 use super::*;
 use html5ever_interface::interface::token::{Doctype, Tag, TagKind};
+use html5ever_interface::states::RawKind;
 use markup5ever::interface::{Attribute, LocalName, Namespace, QualName};
 use refusing::Refusing;
 use std::test::Fail;
@@ -245,9 +246,9 @@ fn keeps_on_at_other_tags_with_those_names(rt: HostRuntime) -> Result<(), Fail> 
     let end = tag_with(alloc, TagKind::EndTag, "meta", "charset", "utf-8")?;
     let printed = "end 1 \"meta\" \"charset\"=\"utf-8\"\n";
     assert!(rt; replies(alloc, end, TokenSinkResult::Continue, printed));
-    let script = tag_with(alloc, TagKind::StartTag, "script", "charset", "utf-8")?;
-    let printed = "start 1 \"script\" \"charset\"=\"utf-8\"\n";
-    assert!(rt; replies(alloc, script, TokenSinkResult::Continue, printed));
+    let link = tag_with(alloc, TagKind::StartTag, "link", "charset", "utf-8")?;
+    let printed = "start 1 \"link\" \"charset\"=\"utf-8\"\n";
+    assert!(rt; replies(alloc, link, TokenSinkResult::Continue, printed));
     let plaintext = tag_of(alloc, TagKind::EndTag, "plaintext")?;
     let printed = "end 1 \"plaintext\"\n";
     assert!(rt; replies(alloc, plaintext, TokenSinkResult::Continue, printed));
@@ -270,6 +271,72 @@ fn pauses_behind_a_script_and_not_before_plain_text(rt: HostRuntime) -> Result<(
     assert!(rt; told(&mut sink, text_of(alloc, "y")?, 3));
     let expected = "text \"x\"\nend 2 \"script\"\npause script\ntext \"y";
     assert_eq!(rt; sink.page(), expected.as_bytes());
+    Ok(())
+}
+
+// The names of elements that hold raw text, and its kind.
+const RAW_TEXTS: [(&str, RawKind); 8] = [
+    ("title", RawKind::Rcdata),
+    ("textarea", RawKind::Rcdata),
+    ("style", RawKind::Rawtext),
+    ("xmp", RawKind::Rawtext),
+    ("iframe", RawKind::Rawtext),
+    ("noembed", RawKind::Rawtext),
+    ("noframes", RawKind::Rawtext),
+    ("script", RawKind::ScriptData),
+];
+
+#[test]
+fn asks_for_the_raw_text_of_eight_names(rt: HostRuntime) -> Result<(), Fail> {
+    let alloc = rt.alloc();
+    for (name, kind) in RAW_TEXTS {
+        let tag = tag_of(alloc, TagKind::StartTag, name)?;
+        let printed = format!(in alloc; "start 1 \"{name}\"\n")?;
+        assert!(rt;
+            replies(alloc, tag, TokenSinkResult::RawData(kind), &printed),
+            "{name}"
+        );
+    }
+    Ok(())
+}
+
+#[test]
+fn asks_for_raw_text_behind_a_solidus(rt: HostRuntime) -> Result<(), Fail> {
+    let alloc = rt.alloc();
+    for (name, kind) in RAW_TEXTS {
+        let mut tag = bare_tag(alloc, TagKind::StartTag, name)?;
+        tag.self_closing = true;
+        let tag = Token::TagToken(tag);
+        let printed = format!(in alloc; "start 1 \"{name}\" self-closing\n")?;
+        assert!(rt;
+            replies(alloc, tag, TokenSinkResult::RawData(kind), &printed),
+            "{name}"
+        );
+    }
+    Ok(())
+}
+
+#[test]
+fn asks_for_no_raw_text_at_other_tags(rt: HostRuntime) -> Result<(), Fail> {
+    let alloc = rt.alloc();
+    for name in ["t", "titl", "titles", "TITLE", "Script", "noscript", "pre"] {
+        let tag = tag_of(alloc, TagKind::StartTag, name)?;
+        let printed = format!(in alloc; "start 1 \"{name}\"\n")?;
+        assert!(rt;
+            replies(alloc, tag, TokenSinkResult::Continue, &printed),
+            "{name}"
+        );
+    }
+    for name in [
+        "title", "textarea", "style", "xmp", "iframe", "noembed", "noframes",
+    ] {
+        let tag = tag_of(alloc, TagKind::EndTag, name)?;
+        let printed = format!(in alloc; "end 1 \"{name}\"\n")?;
+        assert!(rt;
+            replies(alloc, tag, TokenSinkResult::Continue, &printed),
+            "{name}"
+        );
+    }
     Ok(())
 }
 

@@ -8,7 +8,7 @@ use crate::device::{ReadSource, WriteTarget};
 use crate::print::Settings;
 use html5ever::tokenizer::{Tokenizer, TokenizerResult};
 use html5ever_interface::options::TokenizerOpts;
-use html5ever_interface::states::State;
+use html5ever_interface::states::{RawKind, State};
 use html5print::print_sink::PrintSink;
 use html5table::profile;
 use markup5ever::buffer_queue::BufferQueue;
@@ -19,6 +19,7 @@ use std::env::FillError;
 use std::process::Abort;
 use std::test::Fail;
 
+mod raw_text;
 mod table;
 
 const PLAIN: [&str; 2] = ["--state", "plaintext"];
@@ -283,12 +284,20 @@ fn refuses_input_that_is_no_text(rt: HostRuntime) -> Result<(), Fail> {
 
 #[test]
 fn refuses_words_that_it_does_not_know(rt: HostRuntime) -> Result<(), Fail> {
-    let faults: [&[&str]; 28] = [
+    let faults: [&[&str]; 36] = [
         &["--table=a=41"],
         &["--exact", "--state"],
         &["--foreign"],
         &["--state"],
-        &["--state", "rcdata"],
+        &["--state", "cdata"],
+        &["--state", "Rcdata"],
+        &["--state", "script data"],
+        &["--state", "scriptdata"],
+        &["--last"],
+        &["--exact", "--last"],
+        &["--last=title"],
+        &["--last", "title", "title"],
+        &["--last", "--state", "plaintext"],
         &["--state", "Plaintext"],
         &["--state", ""],
         &["--state", "--exact"],
@@ -329,18 +338,16 @@ fn refuses_words_that_it_does_not_know(rt: HostRuntime) -> Result<(), Fail> {
 
 // The settings of a stream that starts in a state, with errors and a byte order mark as they are
 // without further options.
-fn settings_in<A: Allocator>(initial_state: Option<State>) -> Settings<'static, A>
+fn settings_in(initial_state: Option<State>) -> Settings<'static>
     requires { CanStart initial_state }
-    ensures start { CanStart result.opts.initial_state }
+    ensures start { CanStart result.initial_state }
     ensures table { IsSome (listed result.table.now) }
 {
     Settings {
-        opts: TokenizerOpts {
-            exact_errors: false,
-            discard_bom: true,
-            initial_state,
-            last_start_tag_name: None,
-        },
+        exact_errors: false,
+        discard_bom: true,
+        initial_state,
+        last: None,
         foreign: false,
         cut: 0,
         table: profile(),
@@ -369,12 +376,39 @@ fn reads_states(rt: HostRuntime) -> Result<(), Fail> {
         settings_in(Some(State::Data)),
     )?;
     says(&rt, alloc, &PLAIN, settings_in(Some(State::Plaintext)))?;
+    for (name, kind) in [
+        ("rcdata", RawKind::Rcdata),
+        ("rawtext", RawKind::Rawtext),
+        ("script", RawKind::ScriptData),
+    ] {
+        let settings = settings_in(Some(State::RawData(kind)));
+        says(&rt, alloc, &["--state", name], settings)?;
+    }
     says(
         &rt,
         alloc,
         &["--state", "data", "--state", "plaintext"],
         settings_in(Some(State::Plaintext)),
     )?;
+    Ok(())
+}
+
+#[test]
+fn reads_last_names(rt: HostRuntime) -> Result<(), Fail> {
+    let alloc = rt.alloc();
+    // The word behind the option is the name, whatever it is.
+    let cases: [(&[&str], &str); 5] = [
+        (&["--last", "title"], "title"),
+        (&["--last", "TITLE"], "TITLE"),
+        (&["--last", ""], ""),
+        (&["--last", "--exact"], "--exact"),
+        (&["--last", "title", "--last", "--last"], "--last"),
+    ];
+    for (words, name) in cases {
+        let mut settings = settings_in(None);
+        settings.last = Some(name);
+        says(&rt, alloc, words, settings)?;
+    }
     Ok(())
 }
 
@@ -388,7 +422,7 @@ fn reads_cuts(rt: HostRuntime) -> Result<(), Fail> {
         (&["--cut", "0000000000000000000000000000000000000001"], 1),
     ];
     for (words, cut) in cases {
-        let mut settings: Settings = settings_in(None);
+        let mut settings = settings_in(None);
         settings.cut = cut;
         says(&rt, alloc, words, settings)?;
     }
@@ -398,11 +432,11 @@ fn reads_cuts(rt: HostRuntime) -> Result<(), Fail> {
 #[test]
 fn reads_flags(rt: HostRuntime) -> Result<(), Fail> {
     let alloc = rt.alloc();
-    let mut exact: Settings = settings_in(None);
-    exact.opts.exact_errors = true;
+    let mut exact = settings_in(None);
+    exact.exact_errors = true;
     says(&rt, alloc, &["--exact", "--exact"], exact)?;
-    let mut kept: Settings = settings_in(None);
-    kept.opts.discard_bom = false;
+    let mut kept = settings_in(None);
+    kept.discard_bom = false;
     says(&rt, alloc, &["--keep-bom"], kept)?;
     Ok(())
 }
@@ -412,7 +446,8 @@ fn tells_that_memory_ran_out(rt: HostRuntime) -> Result<(), Fail> {
     let mut refused = 0u64;
     for admitted in 0..1000u64 {
         let heap = Refusing::new(rt.alloc(), admitted);
-        let Ok(words) = words_of(&heap, &["--state", "plaintext", "--cut", "2"]) else {
+        let said = ["--state", "plaintext", "--cut", "2", "--last", "title"];
+        let Ok(words) = words_of(&heap, &said) else {
             continue;
         };
         let mut reader = ReadSource::new(MIXED);

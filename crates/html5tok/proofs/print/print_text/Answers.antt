@@ -6,14 +6,14 @@ use Rattle.html5grammar.specs.Reading.{reading, messages}
 use Rattle.html5grammar.specs.Start.{Start, start_of}
 use Rattle.html5ever_interface.specs.Options.{OptionsOf, options_of}
 use Rattle.html5print.specs.Page.{Page, Printer, page_step, page_reply}
-use Rattle.html5tok.specs.Settings.{said_by, rules_said}
+use Rattle.html5tok.specs.Settings.{options_said, said_by, rules_said}
 use Rattle.html5tok.proofs.PrintedPages.{printed-page, built-reading}
 use Rattle.html5tok.proofs.print.print_text.Goals as goal
 
 pub returns-in-Ok-clause-ok : goal.returns-in-Ok-clause-ok
 returns-in-Ok-clause-ok g c =
-    let same : options_of c.in_ok-try_clone.field-0 ≡ options_of c.args.settings.now.opts = c.in_ok-try_clone.ensures in
-    let K : Start = start_of (options_of c.in_ok-try_clone.field-0) in
+    let same : options_of c.in_ok-opts.opts ≡ options_said c.args.settings.now = c.in_ok-opts.ensures in
+    let K : Start = start_of (options_of c.in_ok-opts.opts) in
     let stands = c.in_ok-feed_text.ensures.reads K c.new-sink.result.page [] c.new-tokenizer.ensures.stands in
     let settings = said_by c.args.settings.now in
     let rules : c.feed_text.new.tokenizer.rules ≡ rules_said settings =
