@@ -13,16 +13,17 @@ use Rattle.html5grammar.specs.Characters.{is_bad_character}
 use Rattle.html5grammar.specs.ErrorText.{bad_character_error}
 use Rattle.html5grammar.specs.Reading.{Here, last_behind, open_after_reply}
 use Rattle.html5grammar.specs.Reading.Here.{Tells, TellsTag, Stops}
-use Rattle.html5grammar.specs.Start.{Open, Rules, is_reference, held_len, escaped, raw_of}
+use Rattle.html5grammar.specs.Start.{Open, Rules, is_undecided_open, held_len, escaped, raw_of}
 use Rattle.html5grammar.specs.Start.Dashes.{OneDash, TwoDashes}
 use Rattle.html5grammar.specs.Start.Mode.{Data}
 use Rattle.html5grammar.specs.Start.RawPlace.{AfterLessThan, InEndName, AfterMark, AfterMarkAndDash, InSwitch}
-use Rattle.html5grammar.specs.Start.Open.{Between, LessThan, LessThanSolidus, InTag, InRaw, InReference, NotBuilt}
+use Rattle.html5grammar.specs.Start.Open.{Between, LessThan, LessThanSolidus, InTag, InRaw, InDeclaration, InComment, InBogusComment, InReference, NotBuilt}
 use Rattle.html5grammar.specs.Start.Place.{InName, BeforeAttribute, InAttributeName, AfterAttributeName, BeforeValue, InValue, AfterQuotedValue, AfterSolidus}
-use Rattle.html5grammar.proofs.Going.{Goes, bad_goes_tag, bad_goes_data, bad_goes_plain, bad_goes_raw, bad_goes_in_raw, bad_goes_less_than, bad_stops}
+use Rattle.html5grammar.proofs.Going.{Goes, bad_goes_tag, bad_goes_data, bad_goes_plain, bad_goes_raw, bad_goes_in_raw, bad_goes_less_than, bad_goes_solidus, bad_goes_comment, bad_goes_bogus_comment}
+use Rattle.html5grammar.proofs.Holding.{HoldsNothing}
 use Rattle.html5grammar.proofs.Machine.{step_at, messages_here, opened_here, last_here}
 use Rattle.html5ever_interface.proofs.Steppings.{stepped-append}
-use Rattle.html5states.specs.CharRef.{with_reference}
+use Rattle.html5states.specs.CharRef.{begun_reference, with_reference}
 use Rattle.html5states.specs.CurrentTag.{open_of, open_tag, stops_at_bad}
 use Rattle.html5states.specs.Steps.{tokens_of, Next, behind}
 use Rattle.html5states.specs.Steps.Next.{Opens, Closes}
@@ -31,7 +32,8 @@ use Rattle.html5states.specs.declared.opened.Opened.{Opened}
 use Rattle.html5states.specs.declared.error.TokenizerError.{TokenizerError}
 use Rattle.html5states.specs.declared.error.TokenizerError.TheVariants.{Memory, Sink, Failed, NotYet}
 use Rattle.html5ever.specs.Feed.{first_pause}
-use Rattle.html5states.specs.Steps.{Leads, Ends}
+use Rattle.html5states.specs.Steps.{IsBuilt, Leads, Ends}
+use Rattle.html5ever.specs.Undecided.{is_reference}
 use Rattle.html5states.specs.Telling as telling
 use Rattle.html5ever.proofs.Pauses.{first_pause-none, first_pause-append, first_pause-no_tags, no_tag_messages}
 use Rattle.html5states.proofs.Tellings.{told_then, told_stop, tells_stop}
@@ -64,48 +66,24 @@ goes_at_bad exact state.ScriptDataEscapeStartDash tag comment letters name c bad
 goes_at_bad exact (state.ScriptDataEscapedDash kind) tag comment letters name c bad goes = bad_goes_raw exact c bad (escaped kind OneDash) name
 goes_at_bad exact (state.ScriptDataEscapedDashDash kind) tag comment letters name c bad goes = bad_goes_raw exact c bad (escaped kind TwoDashes) name
 goes_at_bad exact state.ScriptDataDoubleEscapeEnd tag comment letters name c bad goes = bad_goes_in_raw exact c bad (InSwitch escape_kind.DoubleEscaped letters) name
+goes_at_bad exact state.EndTagOpen tag comment letters name c bad goes = bad_goes_solidus exact c bad
+goes_at_bad exact state.Comment tag comment letters name c bad goes = bad_goes_comment exact c bad comment
+goes_at_bad exact state.BogusComment tag comment letters name c bad goes = bad_goes_bogus_comment exact c bad comment
 goes_at_bad exact other tag comment letters name c bad goes = absurd (false≢true (sym goes))
 
--- where no reference is open, and where one is
-pub with_reference-none : (is_in : Bool) (held : List ℕ) (opened : Open) → is_reference (with_reference is_in held opened) ≡ false
-    → (later : Open) → with_reference is_in held later ≡ later
-unfolding with_reference
-with_reference-none true held opened h later = absurd (false≢true (sym h))
-with_reference-none false held opened h later = refl
+-- behind a character that was read nothing is held
+pub held_len-behind : (h : Here Open) (later : Open) → HoldsNothing h → Opens later ≡ behind h → held_len later ≡ 0
+unfolding behind
+held_len-behind (Tells told opened) later nothing is = let same : later ≡ opened = cc in rw same nothing
+held_len-behind (TellsTag told tag) later nothing is = cc
+held_len-behind (Stops told) later nothing is = let same : later ≡ NotBuilt = cc in rw same refl
 
-pub open_of-no_reference : {Z : Type 0} → (q : State) (t : CurrentTag Z) (comment letters name : List ℕ) → is_reference (open_of q t letters name) ≡ false
-open_of-no_reference state.Data t letters name = refl
-open_of-no_reference state.Plaintext t letters name = refl
-open_of-no_reference state.TagOpen t letters name = refl
-open_of-no_reference state.EndTagOpen t letters name = refl
-open_of-no_reference state.TagName t letters name = refl
-open_of-no_reference state.BeforeAttributeName t letters name = refl
-open_of-no_reference state.AttributeName t letters name = refl
-open_of-no_reference state.AfterAttributeName t letters name = refl
-open_of-no_reference state.BeforeAttributeValue t letters name = refl
-open_of-no_reference (state.AttributeValue kind) t letters name = refl
-open_of-no_reference state.AfterAttributeValueQuoted t letters name = refl
-open_of-no_reference state.SelfClosingStartTag t letters name = refl
-open_of-no_reference (state.RawData kind) t letters name = refl
-open_of-no_reference (state.RawLessThanSign kind) t letters name = refl
-open_of-no_reference (state.RawEndTagOpen kind) t letters name = refl
-open_of-no_reference (state.RawEndTagName kind) t letters name = refl
-open_of-no_reference (state.ScriptDataEscapeStart escape_kind.Escaped) t letters name = refl
-open_of-no_reference (state.ScriptDataEscapeStart escape_kind.DoubleEscaped) t letters name = refl
-open_of-no_reference state.ScriptDataEscapeStartDash t letters name = refl
-open_of-no_reference (state.ScriptDataEscapedDash kind) t letters name = refl
-open_of-no_reference (state.ScriptDataEscapedDashDash kind) t letters name = refl
-open_of-no_reference state.ScriptDataDoubleEscapeEnd t letters name = refl
-open_of-no_reference other t letters name = refl
-
-pub held_len-none : (opened : Open) → is_reference opened ≡ false → held_len opened ≡ 0
-held_len-none (Between mode) h = refl
-held_len-none LessThan h = refl
-held_len-none LessThanSolidus h = refl
-held_len-none (InTag place tag) h = refl
-held_len-none (InRaw place name) h = refl
-held_len-none (InReference stand held) h = absurd (false≢true (sym h))
-held_len-none NotBuilt h = refl
+-- a refusal says nothing of what is open
+pub Ends-refused : {Z Y : Type 0} (e : TokenizerError) (now : Opened Z) (then_at : Opened Y) (next : Next) → Ends {Z = Z} (Err e) now next → Ends {Z = Y} (Err e) then_at next
+Ends-refused Memory now then_at next ends = tt
+Ends-refused Sink now then_at next ends = tt
+Ends-refused Failed now then_at next ends = absurd ends
+Ends-refused NotYet now then_at next ends = ends
 
 -- the tag that is told last, where one ends
 abbrev pub tag_in : Next → List Told
@@ -136,30 +114,33 @@ closes-open (TellsTag told ended) tag later e = cc
 closes-open (Stops told) tag later e = cc
 
 -- in Data nothing of a tag is open, nor of raw text
-pub data-any_tag : {Z : Type 0} (q : State) (t u : CurrentTag Z) (letters name more last : List ℕ) → open_of q t letters name ≡ Between Data → open_of q u more last ≡ Between Data
-data-any_tag state.Data t u letters name more last e = e
-data-any_tag state.Plaintext t u letters name more last e = cc
-data-any_tag state.TagOpen t u letters name more last e = cc
-data-any_tag state.EndTagOpen t u letters name more last e = cc
-data-any_tag state.TagName t u letters name more last e = cc
-data-any_tag state.BeforeAttributeName t u letters name more last e = cc
-data-any_tag state.AttributeName t u letters name more last e = cc
-data-any_tag state.AfterAttributeName t u letters name more last e = cc
-data-any_tag state.BeforeAttributeValue t u letters name more last e = cc
-data-any_tag (state.AttributeValue kind) t u letters name more last e = cc
-data-any_tag state.AfterAttributeValueQuoted t u letters name more last e = cc
-data-any_tag state.SelfClosingStartTag t u letters name more last e = cc
-data-any_tag (state.RawData kind) t u letters name more last e = cc
-data-any_tag (state.RawLessThanSign kind) t u letters name more last e = cc
-data-any_tag (state.RawEndTagOpen kind) t u letters name more last e = cc
-data-any_tag (state.RawEndTagName kind) t u letters name more last e = cc
-data-any_tag (state.ScriptDataEscapeStart escape_kind.Escaped) t u letters name more last e = cc
-data-any_tag (state.ScriptDataEscapeStart escape_kind.DoubleEscaped) t u letters name more last e = cc
-data-any_tag state.ScriptDataEscapeStartDash t u letters name more last e = cc
-data-any_tag (state.ScriptDataEscapedDash kind) t u letters name more last e = cc
-data-any_tag (state.ScriptDataEscapedDashDash kind) t u letters name more last e = cc
-data-any_tag state.ScriptDataDoubleEscapeEnd t u letters name more last e = cc
-data-any_tag other t u letters name more last e = cc
+pub data-any_tag : {Z : Type 0} (q : State) (t u : CurrentTag Z) (text letters name comment more last : List ℕ) → open_of q t text letters name ≡ Between Data → open_of q u comment more last ≡ Between Data
+data-any_tag state.Data t u text letters name comment more last e = e
+data-any_tag state.Plaintext t u text letters name comment more last e = cc
+data-any_tag state.TagOpen t u text letters name comment more last e = cc
+data-any_tag state.EndTagOpen t u text letters name comment more last e = cc
+data-any_tag state.TagName t u text letters name comment more last e = cc
+data-any_tag state.BeforeAttributeName t u text letters name comment more last e = cc
+data-any_tag state.AttributeName t u text letters name comment more last e = cc
+data-any_tag state.AfterAttributeName t u text letters name comment more last e = cc
+data-any_tag state.BeforeAttributeValue t u text letters name comment more last e = cc
+data-any_tag (state.AttributeValue kind) t u text letters name comment more last e = cc
+data-any_tag state.AfterAttributeValueQuoted t u text letters name comment more last e = cc
+data-any_tag state.SelfClosingStartTag t u text letters name comment more last e = cc
+data-any_tag (state.RawData kind) t u text letters name comment more last e = cc
+data-any_tag (state.RawLessThanSign kind) t u text letters name comment more last e = cc
+data-any_tag (state.RawEndTagOpen kind) t u text letters name comment more last e = cc
+data-any_tag (state.RawEndTagName kind) t u text letters name comment more last e = cc
+data-any_tag (state.ScriptDataEscapeStart escape_kind.Escaped) t u text letters name comment more last e = cc
+data-any_tag (state.ScriptDataEscapeStart escape_kind.DoubleEscaped) t u text letters name comment more last e = cc
+data-any_tag state.ScriptDataEscapeStartDash t u text letters name comment more last e = cc
+data-any_tag (state.ScriptDataEscapedDash kind) t u text letters name comment more last e = cc
+data-any_tag (state.ScriptDataEscapedDashDash kind) t u text letters name comment more last e = cc
+data-any_tag state.ScriptDataDoubleEscapeEnd t u text letters name comment more last e = cc
+data-any_tag state.MarkupDeclarationOpen t u text letters name comment more last e = cc
+data-any_tag state.Comment t u text letters name comment more last e = cc
+data-any_tag state.BogusComment t u text letters name comment more last e = cc
+data-any_tag other t u text letters name comment more last e = cc
 
 -- a refusal within what a state tells, where a tag may follow
 pub ended_stops : {S T : Type 0} (Z : Type 0) (step faulted : S → Told → ℕ → S) (r : Result T TokenizerError) (e : TokenizerError) (now : Opened Z) (next : Next) (s u : S) (line : ℕ) (tokens : List Told)
@@ -243,12 +224,12 @@ module _ {S H : Type 0} (step : S → Told → ℕ → S) (reply : S → Told �
     after-character = opened-behind s line name d (step_at rules.exact (open_of now tag comment letters name) d)
 
     -- where such a character comes, nothing is told
-    stops_at-step : {Y : Type 0} → (q : State) (t : CurrentTag Y) (text text held last : List ℕ) → stops_at_bad q ≡ true → is_bad_character d ≡ true → step_at rules.exact (open_of q t text held last) d ≡ Stops []
+    stops_at-step : {Y : Type 0} → (q : State) (t : CurrentTag Y) (text held last : List ℕ) → stops_at_bad q ≡ true → is_bad_character d ≡ true → step_at rules.exact (open_of q t text held last) d ≡ Stops []
     unfolding step_at
     stops_at-step state.Data t text held last stops bad = absurd (false≢true stops)
     stops_at-step state.Plaintext t text held last stops bad = absurd (false≢true stops)
     stops_at-step state.TagOpen t text held last stops bad = absurd (false≢true stops)
-    stops_at-step state.EndTagOpen t text held last stops bad = bad_stops rules.exact d bad
+    stops_at-step state.EndTagOpen t text held last stops bad = absurd (false≢true stops)
     stops_at-step state.TagName t text held last stops bad = absurd (false≢true stops)
     stops_at-step state.BeforeAttributeName t text held last stops bad = absurd (false≢true stops)
     stops_at-step state.AttributeName t text held last stops bad = absurd (false≢true stops)
@@ -267,6 +248,9 @@ module _ {S H : Type 0} (step : S → Told → ℕ → S) (reply : S → Told �
     stops_at-step (state.ScriptDataEscapedDash kind) t text held last stops bad = absurd (false≢true stops)
     stops_at-step (state.ScriptDataEscapedDashDash kind) t text held last stops bad = absurd (false≢true stops)
     stops_at-step state.ScriptDataDoubleEscapeEnd t text held last stops bad = absurd (false≢true stops)
+    stops_at-step state.MarkupDeclarationOpen t text held last stops bad = refl
+    stops_at-step state.Comment t text held last stops bad = absurd (false≢true stops)
+    stops_at-step state.BogusComment t text held last stops bad = absurd (false≢true stops)
     stops_at-step other t text held last stops bad = refl
 
     stopped-step : (rules.exact && is_bad_character d && stops_at_bad now) ≡ true → step_at rules.exact (open_of now tag comment letters name) d ≡ Stops []

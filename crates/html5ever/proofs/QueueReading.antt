@@ -7,7 +7,7 @@ use Rattle.html5grammar.specs.Reading.{told, messages, after}
 use Rattle.html5ever.specs.Runs.{ReadsRun}
 use Rattle.html5ever_interface.specs.Sink.{Message, stepped}
 use Rattle.html5grammar.specs.Start.{Start, Open, is_clean, Rules}
-use Rattle.html5grammar.specs.Start.Open.{Between, LessThan, LessThanSolidus, InTag, InRaw, InReference, NotBuilt}
+use Rattle.html5grammar.specs.Start.Open.{Between, LessThan, LessThanSolidus, InTag, InRaw, InDeclaration, InComment, InBogusComment, InReference, NotBuilt}
 use Rattle.html5states.specs.Steps.{Leads}
 use Rattle.html5states.specs.Telling.{Stops, IsRefusal}
 use Rattle.html5grammar.specs.NormalisedText.{input_after}
@@ -38,6 +38,9 @@ opened_after_run-clean LessThan run clean = absurd (false≢true clean)
 opened_after_run-clean LessThanSolidus run clean = absurd (false≢true clean)
 opened_after_run-clean (InTag place tag) run clean = absurd (false≢true clean)
 opened_after_run-clean (InRaw place name) run clean = absurd (false≢true clean)
+opened_after_run-clean (InDeclaration held) run clean = absurd (false≢true clean)
+opened_after_run-clean (InComment text) run clean = absurd (false≢true clean)
+opened_after_run-clean (InBogusComment text) run clean = absurd (false≢true clean)
 opened_after_run-clean (InReference stand held) run clean = absurd (false≢true clean)
 opened_after_run-clean NotBuilt run clean = absurd (false≢true clean)
 
@@ -47,20 +50,26 @@ run_tokens-clean LessThan run clean = absurd (false≢true clean)
 run_tokens-clean LessThanSolidus run clean = absurd (false≢true clean)
 run_tokens-clean (InTag place tag) run clean = absurd (false≢true clean)
 run_tokens-clean (InRaw place name) run clean = absurd (false≢true clean)
+run_tokens-clean (InDeclaration held) run clean = absurd (false≢true clean)
+run_tokens-clean (InComment text) run clean = absurd (false≢true clean)
+run_tokens-clean (InBogusComment text) run clean = absurd (false≢true clean)
 run_tokens-clean (InReference stand held) run clean = absurd (false≢true clean)
 run_tokens-clean NotBuilt run clean = absurd (false≢true clean)
 
--- within a tag it tells nothing
-run_tokens-tag : (opened : Open) (run : List ℕ) → is_clean opened ≡ false → run_tokens opened run ≡ []
-run_tokens-tag (Between mode) run in_tag = absurd (false≢true (sym in_tag))
-run_tokens-tag LessThan run in_tag = refl
-run_tokens-tag LessThanSolidus run in_tag = refl
-run_tokens-tag (InTag place tag) run in_tag = refl
-run_tokens-tag (InRaw place name) run in_tag = refl
-run_tokens-tag (InReference stand held) run in_tag = refl
-run_tokens-tag NotBuilt run in_tag = refl
+-- within a tag or a comment it tells nothing
+run_tokens-open : (opened : Open) (run : List ℕ) → is_clean opened ≡ false → run_tokens opened run ≡ []
+run_tokens-open (Between mode) run not_clean = absurd (false≢true (sym not_clean))
+run_tokens-open LessThan run not_clean = refl
+run_tokens-open LessThanSolidus run not_clean = refl
+run_tokens-open (InTag place tag) run not_clean = refl
+run_tokens-open (InRaw place name) run not_clean = refl
+run_tokens-open (InDeclaration held) run not_clean = refl
+run_tokens-open (InComment text) run not_clean = refl
+run_tokens-open (InBogusComment text) run not_clean = refl
+run_tokens-open (InReference stand held) run not_clean = refl
+run_tokens-open NotBuilt run not_clean = refl
 
-on_ok : {T E : Type 0} {P : Type 0} (r : Result T E) → P → OnOk r P
+pub on_ok : {T E : Type 0} {P : Type 0} (r : Result T E) → P → OnOk r P
 on_ok (Ok x) p = p
 on_ok (Err e) p = tt
 
@@ -226,14 +235,14 @@ module _ {S H : Type 0} (step : S → Told → ℕ → S) (reply : S → Told �
       ReadsRun-run faulted (Err Memory) keeps_on K K old new s s run is_run fits takes (Memory-at_once step faulted s _) tt refl refl
 
   -- a run was put to the open name or value, or there was no memory for it
-  pub ReadsRun-tag : {T : Type 0} (faulted : S → Told → ℕ → S) (r : Result T TokenizerError)
+  pub ReadsRun-open : {T : Type 0} (faulted : S → Told → ℕ → S) (r : Result T TokenizerError)
       → ((s : S) (told : Told) (line : ℕ) → is_tag told ≡ false → reply s told line ≡ KeepOn)
       → (K L : Start) (old new : TextQueue) (s : S) (run : List ℕ) → IsRun rules K run → is_clean K.opened ≡ false → K.input.line < 2 ^ 64 → Takes old new run
       → IfErr r (λ e. e ≡ Memory) → OnOk r (L.opened ≡ opened_after_run K.opened run) → L.last_start_tag ≡ K.last_start_tag → L.input ≡ K.input
       → ReadsRun step reply faulted rules r K L old new s s
-  ReadsRun-tag faulted r keeps_on K L old new s run is_run in_tag fits takes memory opened last input =
+  ReadsRun-open faulted r keeps_on K L old new s run is_run not_clean fits takes memory opened last input =
       ReadsRun-run faulted r keeps_on K L old new s s run is_run fits takes
-      (subst (λ (tokens : List Told). Tells step faulted r s (on_line K.input.line tokens) s) (sym (run_tokens-tag K.opened run in_tag)) (tells_nothing faulted r s memory))
+      (subst (λ (tokens : List Told). Tells step faulted r s (on_line K.input.line tokens) s) (sym (run_tokens-open K.opened run not_clean)) (tells_nothing faulted r s memory))
       opened last input
 
   -- what the whole feed takes, around an item

@@ -19,7 +19,7 @@ use Rattle.html5grammar.specs.Characters.{null, line_feed, carriage_return}
 use Rattle.html5grammar.specs.NormalisedText.{with_line_feeds, without_dropped_first, normalised, line_after, input_after, ends_with_carriage_return}
 use Rattle.html5grammar.specs.Reading.{told, messages, after}
 use Rattle.html5grammar.specs.Start.{Input, Start, Open, Rules}
-use Rattle.html5grammar.specs.Start.Open.{Between, LessThan, LessThanSolidus, InTag, InRaw, InReference, NotBuilt}
+use Rattle.html5grammar.specs.Start.Open.{Between, LessThan, LessThanSolidus, InTag, InRaw, InDeclaration, InComment, InBogusComment, InReference, NotBuilt}
 use Rattle.html5grammar.proofs.InputLemmas.{line_past, line_after-none}
 use Rattle.html5grammar.proofs.NoTags.{NoTags}
 use Rattle.html5grammar.proofs.ReadingLemmas.{told-trace, after-opened, after-last}
@@ -148,6 +148,9 @@ no_tags-run LessThan run = tt
 no_tags-run LessThanSolidus run = tt
 no_tags-run (InTag place tag) run = tt
 no_tags-run (InRaw place name) run = tt
+no_tags-run (InDeclaration held) run = tt
+no_tags-run (InComment text) run = tt
+no_tags-run (InBogusComment text) run = tt
 no_tags-run (InReference stand held) run = tt
 no_tags-run NotBuilt run = tt
 
@@ -167,7 +170,7 @@ module _ {S H : Type 0} (step : S → Told → ℕ → S) (reply : S → Told �
       let later : Open = opened_after_run opened (c ∷ []) in
       let here : step_at rules.exact opened c ≡ Tells (run_tokens opened (c ∷ [])) later = ap (λ b. step_at b opened c) not_exact ∙ step-run opened others c has out in
       rw (brought-tells rules opened c (Tells (run_tokens opened (c ∷ [])) later) refl here, line_past-ordinary line c (ordinary others c out) h, not_exact)
-      (ap (with_messages M) (trace-run rules not_exact (stepped step s M) line last later others run h (other_run_ends-after opened c ∙ has) (All-tail (λ d. ¬ Contains (run_ends others) d) c run all))
+      (ap (with_messages M) (trace-run rules not_exact (stepped step s M) line last later others run h (other_run_ends-after opened others c has out ∙ has) (All-tail (λ d. ¬ Contains (run_ends others) d) c run all))
       ∙ trace_is (sym (map-append (λ (token : Told). record { token = token; line = line }) (run_tokens opened (c ∷ [])) (run_tokens later run)) ∙ ap (on_line line) (sym (run_tokens-cons opened c run)))
       (sym (opened_after_run-cons opened c run)))
 

@@ -39,13 +39,13 @@ position-line I (c ∷ X) h = refl
 
 -- the state in which a stream starts
 
-pub starts-in : {Z : Type 0} → (chosen : Option State) (tag : CurrentTag Z) (letters name : List ℕ) → CanStart chosen
-    → open_of (unwrap_or chosen state.Data) tag letters name ≡ Between (initial_mode chosen name)
-starts-in None tag letters name can = refl
-starts-in (Some state.Data) tag letters name can = refl
-starts-in (Some state.Plaintext) tag letters name can = refl
-starts-in (Some (state.RawData kind)) tag letters name can = refl
-starts-in (Some other) tag letters name can = absurd can
+pub starts-in : {Z : Type 0} → (chosen : Option State) (tag : CurrentTag Z) (comment letters name : List ℕ) → CanStart chosen
+    → open_of (unwrap_or chosen state.Data) tag comment letters name ≡ Between (initial_mode chosen name)
+starts-in None tag comment letters name can = refl
+starts-in (Some state.Data) tag comment letters name can = refl
+starts-in (Some state.Plaintext) tag comment letters name can = refl
+starts-in (Some (state.RawData kind)) tag comment letters name can = refl
+starts-in (Some other) tag comment letters name can = absurd can
 
 pub start-is : (K L : Start) → K.opened ≡ L.opened → K.last_start_tag ≡ L.last_start_tag → K.input.line ≡ L.input.line → K.input.after_carriage_return ≡ L.input.after_carriage_return
     → K.input.drops_byte_order_mark ≡ L.input.drops_byte_order_mark → K ≡ L

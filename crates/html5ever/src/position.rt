@@ -7,17 +7,18 @@ ghost use Rattle.html5ever_interface.specs.Sink.{stepped, on_line};
 ghost use Rattle.html5ever_interface.specs.Token.{Told, tag_of};
 ghost use Rattle.html5ever_interface.specs.Token.Told.{Text};
 ghost use Rattle.html5grammar.specs.Characters.{is_bad_character};
-ghost use Rattle.html5grammar.specs.EndOfInput.{told_at_end_of, tokens_at_end};
+ghost use Rattle.html5grammar.specs.Comment.{declaration_error};
+ghost use Rattle.html5grammar.specs.EndOfInput.{late_at_end_of, open_at_end_of, told_at_end_of, tokens_at_end};
 ghost use Rattle.html5grammar.specs.Reference.{ends_number, late_tokens, opened_behind};
 ghost use Rattle.html5grammar.specs.ErrorText.{bad_character_error};
 ghost use Rattle.html5grammar.specs.NormalisedText.{input_after};
 ghost use Rattle.html5grammar.specs.Reading.{told, messages, after, last_behind, open_after_reply};
 ghost use Rattle.html5grammar.specs.Slice.{tokens_of_late};
-ghost use Rattle.html5grammar.specs.Start.{start_of, initial_name, raw_of, is_clean, is_reference, held_len};
+ghost use Rattle.html5grammar.specs.Start.{start_of, initial_name, raw_of, is_clean, is_undecided_open, held_len};
 ghost use Rattle.html5states.specs.CharRef.{HasStand, stand_of, found_at, begun_reference};
-ghost use Rattle.html5ever.specs.References.{BelongsTo, Decides};
+ghost use Rattle.html5ever.specs.Undecided.{BelongsTo, Decides, IsLateRefusal, is_reference, is_declaration, is_declaration_state};
 ghost use Rattle.html5grammar.specs.Start.Mode.{Data, Plain, RawText};
-ghost use Rattle.html5grammar.specs.Start.Open.{Between};
+ghost use Rattle.html5grammar.specs.Start.Open.{Between, InBogusComment};
 ghost use Rattle.html5states.specs.CurrentTag.{is_between, stops_at_bad, opened_of, last_name_of};
 ghost use Rattle.html5ever.specs.Feed.{reply_in, first_pause};
 ghost use Rattle.html5ever.specs.Refused.{IsRun};
@@ -36,6 +37,7 @@ use html5ever_interface::options::TokenizerOpts;
 use html5ever_interface::states::{RawKind, State};
 use html5states::char_ref::CharRef;
 use html5states::current_tag::CurrentTag;
+use html5states::declaration::hold_declaration;
 use html5states::error::TokenizerError;
 use html5states::message::is_bad;
 use html5states::opened::{Opened, Progress, Step};
@@ -82,6 +84,7 @@ impl<A: Allocator + Copy> Position<A> {
         let opened = Opened {
             state: opts.initial_state.unwrap_or(State::Data),
             tag: CurrentTag::new(alloc, TagKind::StartTag),
+            comment: String::new(alloc),
             letters: String::new(alloc),
             last_start_tag: name_or_empty(alloc, opts.last_start_tag_name),
         };
@@ -126,12 +129,44 @@ impl<A: Allocator + Copy> Position<A> {
         ensures fits { self.old.input.line < 2 ^ 64 }
     {
         let line = self.input.line();
-        if !self.in_reference {
-            return tell_end(alloc, sink, rules, &self.opened, line);
-        }
-        finish_reference(alloc, sink, rules, &mut self.opened, &self.held, None, line)?;
-        self.in_reference = false;
+        self.decide_at_end(alloc, sink, rules, line)?;
         tell_end(alloc, sink, rules, &self.opened, line)
+    }
+
+    // Tells what the end of input decides of a reference, or of what stands behind `<!`.
+    fn decide_at_end<S: TokenSink<Token<A>>>(
+        &mut self,
+        alloc: A,
+        sink: &mut S,
+        rules: &Rules<'_, A>,
+        line: u64,
+    ) -> Result<(), TokenizerError>
+        requires { IsBuilt self.old.opened }
+        ensures tells { Tells S.step S.faulted result (S.state sink.old)
+            (on_line line (tokens_of_late (late_at_end_of rules.now self.old.opened))) (S.state sink.new) }
+        ensures opened { OnOk result (self.new.opened ≡ open_at_end_of rules.now self.old.opened) }
+        ensures decided { OnOk result (is_undecided_open self.new.opened ≡ false) }
+        ensures built { IsBuilt self.new.opened }
+        ensures faults { S.faults sink.new ≡ S.faults sink.old + faults_of result }
+        ensures refusal { IfErr result IsRefusal }
+    {
+        if self.in_reference {
+            finish_reference(alloc, sink, rules, &mut self.opened, &self.held, None, line)?;
+            self.in_reference = false;
+            return Ok(());
+        }
+        if is_declaration(self.opened.state) {
+            return finish_declaration(alloc, sink, rules, &mut self.opened, line);
+        }
+        Ok(())
+    }
+
+    // Whether a reference is not decided, or what stands behind `<!`.
+    #[inline(always)]
+    fn is_undecided(&self) -> bool
+        ensures { result ≡ is_undecided_open self.now.opened }
+    {
+        self.in_reference || is_declaration(self.opened.state)
     }
 
     /// Whether nothing is open.
@@ -177,7 +212,7 @@ impl<A: Allocator + Copy> Position<A> {
 
     // Begins a reference where the state is.
     fn begin_reference(&mut self)
-        requires no_reference { is_reference self.old.opened ≡ false }
+        requires decided { is_undecided_open self.old.opened ≡ false }
         requires can_stand { IsBuilt (begun_reference self.old.opened) }
         ensures opened { self.new.opened ≡ begun_reference self.old.opened }
         ensures last { self.new.last_start_tag ≡ self.old.last_start_tag }
@@ -232,11 +267,11 @@ impl<A: Allocator + Copy> Position<A> {
         teller.tell(Token::CharacterTokens(run))
     }
 
-    /// Puts a run to the open name or value.
+    /// Puts a run to the open name, value or comment.
     #[inline(always)]
     pub fn push_run(&mut self, run: &str) -> Result<(), TokenizerError>
         requires is_run { IsRunAt self.old.opened (chars run.now) }
-        requires in_tag { is_clean self.old.opened ≡ false }
+        requires not_clean { is_clean self.old.opened ≡ false }
         ensures opened { OnOk result
             (self.new.opened ≡ opened_after_run self.old.opened (chars run.now)) }
         ensures last { self.new.last_start_tag ≡ self.old.last_start_tag }
@@ -270,6 +305,14 @@ fn is_between(state: State) -> bool
     }
 }
 
+// Whether what stands behind `<!` is open in the state.
+#[inline(always)]
+fn is_declaration(state: State) -> bool
+    ensures { result ≡ is_declaration_state state }
+{
+    matches!(state, State::MarkupDeclarationOpen)
+}
+
 // Keeps the name of a start tag as that of the last one.
 #[tactic(auto, unfolding(html5grammar::specs::Reading::last_behind))]
 fn keep_name<A: Allocator>(last_name: &mut String<A>, tag: &Tag<A>) -> Result<(), AllocError>
@@ -289,7 +332,7 @@ fn stops_at_bad(state: State) -> bool
     ensures { result ≡ stops_at_bad state }
 {
     match state {
-        State::Data | State::Plaintext | State::TagOpen => false,
+        State::Data | State::Plaintext | State::TagOpen | State::EndTagOpen => false,
         State::TagName | State::BeforeAttributeName | State::AttributeName => false,
         State::AfterAttributeName | State::BeforeAttributeValue => false,
         State::AttributeValue(_) => false,
@@ -298,7 +341,7 @@ fn stops_at_bad(state: State) -> bool
         State::RawEndTagOpen(_) | State::RawEndTagName(_) => false,
         State::ScriptDataEscapeStart(_) | State::ScriptDataEscapeStartDash => false,
         State::ScriptDataEscapedDash(_) | State::ScriptDataEscapedDashDash(_) => false,
-        State::ScriptDataDoubleEscapeEnd => false,
+        State::ScriptDataDoubleEscapeEnd | State::Comment | State::BogusComment => false,
         _ => true,
     }
 }
@@ -333,7 +376,7 @@ fn report_bad_character<S: TokenSink<Token<A>>, A: Allocator + Copy>(
     teller.emit_bad_character(c)
 }
 
-// Reads one character in the state that is open.
+// Reads one character in the state that is open. Where that is refused, nothing is held.
 #[inline(always)]
 fn step<S: TokenSink<Token<A>>, A: Allocator + Copy>(
     alloc: A,
@@ -347,6 +390,7 @@ fn step<S: TokenSink<Token<A>>, A: Allocator + Copy>(
         (on_line line (tokens_of (step_at exact_errors (opened_of opened.old) c))) (S.state sink.new) }
     ensures leads { Ends result opened.new (behind (step_at exact_errors (opened_of opened.old) c)) }
     ensures last { last_name_of opened.new ≡ last_name_of opened.old }
+    ensures held { IfErr result (λ error. held_len (opened_of opened.new) ≡ 0) }
     ensures faults { S.faults sink.new ≡ S.faults sink.old + faults_of result }
 {
     let mut teller = Teller {
@@ -355,7 +399,11 @@ fn step<S: TokenSink<Token<A>>, A: Allocator + Copy>(
         exact_errors,
         line,
     };
-    teller.step(opened, c)
+    let step = teller.step(opened, c);
+    if step.is_err() {
+        opened.comment.clear();
+    }
+    step
 }
 
 // Tells the sink a tag, and goes on as it replies.
@@ -399,7 +447,7 @@ fn tell_tag<S: TokenSink<Token<A>>, A: Allocator + Copy>(
     }
 }
 
-// Reads a character in the state that is open, where no reference is.
+// Reads a character in the state that is open, where nothing is undecided.
 #[inline(always)]
 fn read_opened<S: TokenSink<Token<A>>, A: Allocator + Copy>(
     alloc: A,
@@ -408,7 +456,7 @@ fn read_opened<S: TokenSink<Token<A>>, A: Allocator + Copy>(
     position: &mut Position<A>,
     c: char,
 ) -> Result<TokenizerResult<S::Handle, String<A>>, TokenizerError>
-    requires { is_reference position.old.opened ≡ false }
+    requires { is_undecided_open position.old.opened ≡ false }
     ensures tells { Tells S.step S.faulted result (S.state sink.old)
         (messages_here S.step S.reply rules.now position.old.input.line c (step_at rules.now.exact position.old.opened c)) (S.state sink.new) }
     ensures leads { IsBuilt position.old.opened → Leads result position.new.opened
@@ -447,7 +495,7 @@ fn read_opened<S: TokenSink<Token<A>>, A: Allocator + Copy>(
     }
 }
 
-// Tells what the end of input tells, where no reference is open.
+// Tells what the end of input tells, where nothing is undecided.
 fn tell_end<S: TokenSink<Token<A>>, A: Allocator + Copy>(
     alloc: A,
     sink: &mut S,
@@ -455,7 +503,8 @@ fn tell_end<S: TokenSink<Token<A>>, A: Allocator + Copy>(
     opened: &Opened<A>,
     line: u64,
 ) -> Result<(), TokenizerError>
-    requires { IsBuilt (opened_of opened.now) }
+    requires built { IsBuilt (opened_of opened.now) }
+    requires decided { is_undecided_open (opened_of opened.now) ≡ false }
     ensures tells { Tells S.step S.faulted result (S.state sink.old)
         (on_line line (told_at_end_of rules.now.exact (opened_of opened.now))) (S.state sink.new) }
     ensures faults { S.faults sink.new ≡ S.faults sink.old + faults_of result }
@@ -502,6 +551,30 @@ fn finish_reference<S: TokenSink<Token<A>>, A: Allocator + Copy>(
     teller.finish_reference(rules.names, opened, held, next)
 }
 
+// Tells that no keyword stands behind `<!`, and begins a bogus comment there.
+fn finish_declaration<S: TokenSink<Token<A>>, A: Allocator + Copy>(
+    alloc: A,
+    sink: &mut S,
+    rules: &Rules<'_, A>,
+    opened: &mut Opened<A>,
+    line: u64,
+) -> Result<(), TokenizerError>
+    ensures tells { Tells S.step S.faulted result (S.state sink.old)
+        (on_line line (tokens_of_late (declaration_error rules.now.exact (string_bytes opened.old.comment)))) (S.state sink.new) }
+    ensures opened { opened_of opened.new ≡ InBogusComment (string_bytes opened.old.comment) }
+    ensures last { last_name_of opened.new ≡ last_name_of opened.old }
+    ensures faults { S.faults sink.new ≡ S.faults sink.old + faults_of result }
+    ensures refusal { IfErr result IsRefusal }
+{
+    let mut teller = Teller {
+        sink,
+        alloc,
+        exact_errors: rules.exact_errors,
+        line,
+    };
+    teller.finish_declaration(opened)
+}
+
 // Reads a character behind what is held of a reference, whose line before it was `line`: whether it
 // belongs to the reference. Else the reference is decided, and the character is still to be read.
 fn read_reference<S: TokenSink<Token<A>>, A: Allocator + Copy>(
@@ -532,6 +605,60 @@ fn read_reference<S: TokenSink<Token<A>>, A: Allocator + Copy>(
     Ok(ends)
 }
 
+// Reads a character behind what is held behind `<!`, in the same way.
+fn read_declaration<S: TokenSink<Token<A>>, A: Allocator + Copy>(
+    alloc: A,
+    sink: &mut S,
+    rules: &Rules<'_, A>,
+    position: &mut Position<A>,
+    line: u64,
+    c: char,
+) -> Result<bool, TokenizerError>
+    requires { is_declaration position.old.opened ≡ true }
+    ensures tells { Tells S.step S.faulted result (S.state sink.old)
+        (on_line line (tokens_of_late (brought_at rules.now position.old.opened c).settled)) (S.state sink.new) }
+    ensures taken { result ≡ Ok true → BelongsTo rules.now position.old.opened c position.new.opened }
+    ensures decided { result ≡ Ok false → Decides rules.now position.old.opened c position.new.opened }
+    ensures last { position.new.last_start_tag ≡ position.old.last_start_tag }
+    ensures refusal { IfErr result (IsLateRefusal (brought_at rules.now position.old.opened c)) }
+    ensures input { position.new.input ≡ position.old.input }
+    ensures held { held_len position.new.opened ≤ held_len position.old.opened + 1 }
+    ensures faults { S.faults sink.new ≡ S.faults sink.old + faults_of result }
+{
+    if hold_declaration(&mut position.opened, c)? {
+        return Ok(true);
+    }
+    finish_declaration(alloc, sink, rules, &mut position.opened, line)?;
+    Ok(false)
+}
+
+// Reads a character where a reference is not decided, or what stands behind `<!`: whether it belongs
+// to that. Else it decides, and is still to be read.
+fn read_undecided<S: TokenSink<Token<A>>, A: Allocator + Copy>(
+    alloc: A,
+    sink: &mut S,
+    rules: &Rules<'_, A>,
+    position: &mut Position<A>,
+    line: u64,
+    c: char,
+) -> Result<bool, TokenizerError>
+    requires { is_undecided_open position.old.opened ≡ true }
+    ensures tells { Tells S.step S.faulted result (S.state sink.old)
+        (on_line line (tokens_of_late (brought_at rules.now position.old.opened c).settled)) (S.state sink.new) }
+    ensures taken { result ≡ Ok true → BelongsTo rules.now position.old.opened c position.new.opened }
+    ensures decided { result ≡ Ok false → Decides rules.now position.old.opened c position.new.opened }
+    ensures last { position.new.last_start_tag ≡ position.old.last_start_tag }
+    ensures refusal { IfErr result (IsLateRefusal (brought_at rules.now position.old.opened c)) }
+    ensures input { position.new.input ≡ position.old.input }
+    ensures held { held_len position.new.opened ≤ held_len position.old.opened + 1 }
+    ensures faults { S.faults sink.new ≡ S.faults sink.old + faults_of result }
+{
+    if position.in_reference {
+        return read_reference(alloc, sink, rules, position, line, c);
+    }
+    read_declaration(alloc, sink, rules, position, line, c)
+}
+
 /// Reads one character of the stream. The answer is `Done`, but behind a tag whose reply pauses.
 #[inline(always)]
 pub fn read_character<S: TokenSink<Token<A>>, A: Allocator + Copy>(
@@ -558,10 +685,10 @@ pub fn read_character<S: TokenSink<Token<A>>, A: Allocator + Copy>(
     let Some(c) = position.input.advance(c) else {
         return Ok(TokenizerResult::Done);
     };
-    if !position.in_reference {
+    if !position.is_undecided() {
         return read_opened(alloc, sink, rules, position, c);
     }
-    if read_reference(alloc, sink, rules, position, before, c)? {
+    if read_undecided(alloc, sink, rules, position, before, c)? {
         return Ok(TokenizerResult::Done);
     }
     read_opened(alloc, sink, rules, position, c)

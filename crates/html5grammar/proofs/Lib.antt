@@ -7,6 +7,7 @@ pub mod ReadingLemmas
 pub mod Steps
 pub mod Going
 pub mod NoTags
+pub mod Holding
 pub mod OneTagSteps
 pub mod OneTagParts
 pub mod OneTagReading

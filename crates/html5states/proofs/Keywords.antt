@@ -1,16 +1,22 @@
 -- Which characters begin a keyword, by bytes.
-use Rattle.std.proofs.Common.{◌≡◌, ◌≢◌, ℕ, ◌≤◌, Bool, true, false, List, [], ◌∷◌, ◌++◌, ◌<◌, refl, ap, sym, ◌∙◌, arith, rules}
-use Rattle.std.specs.Prelude.{◌↔◌, All, IsTrue, nat_eq, codes}
+use Rattle.std.proofs.Common.{◌≡◌, ◌≢◌, ◌⊎◌, inl, inr, ℕ, ◌≤◌, Bool, true, false, List, [], ◌∷◌, ◌++◌, ◌<◌, refl, ap, sym, ◌∙◌, arith, rules}
+use Rattle.std.specs.Prelude.{◌↔◌, All, IsTrue, nat_eq, nat_lt, codes}
 use Rattle.std.specs.Cmp.Lexicographic.{pointwise, same_text, other_text}
 use Rattle.std.specs.Char.{to_ascii_lowercase}
 use Rattle.std.specs.List.{starts_with}
 use Rattle.std.specs.Str.{bytes_eq}
 use Rattle.std.proofs.Math.Bool.{and-false}
-use Rattle.std.proofs.lemmas.Bool.{false≢true, ne_eqb, le-ltb}
+use Rattle.std.proofs.lemmas.Bool.{false≢true, ne_eqb, le-ltb, lt-ltb, ltb-true, ltb-false}
 use Rattle.std.proofs.lemmas.List.{map-append}
 use Rattle.std.proofs.lemmas.List.Elements.{All-head, All-tail}
 use Rattle.markup5ever.proofs.NameOrder.{bytes_eq-same, begins-itself}
 use Rattle.html5grammar.proofs.Machine.{declaration_step, bogus_comment_step}
+use Rattle.html5grammar.proofs.Going.{good_between}
+use Rattle.html5grammar.specs.Characters.{is_bad_character}
+use Rattle.html5grammar.specs.Reading.{Brought}
+use Rattle.html5grammar.specs.Reading.Here.{Tells}
+use Rattle.html5grammar.specs.Start.{Open}
+use Rattle.html5states.proofs.Tellings.{cons≢nil}
 use Rattle.html5grammar.specs.Comment.{lower_case, begins_keyword, declaration_error}
 
 -- a test of two texts
@@ -24,40 +30,65 @@ test-is r xs ys test =
       ] test.0
     ] refl
 
--- a character that is not ASCII belongs to no keyword
+-- a character that is neither a dash nor a letter, nor between these, belongs to no keyword
 
-pub starts-no_ascii : (word : List ℕ) → All (λ x. x < 128) word → (held : List ℕ) (c : ℕ) → 128 ≤ c → starts_with nat_eq word (held ++ c ∷ []) ≡ false
-starts-no_ascii [] ascii [] c high = refl
-starts-no_ascii [] ascii (h ∷ held) c high = refl
-starts-no_ascii (x ∷ word) ascii [] c high =
-    let low : x < 128 = All-head (λ x. x < 128) x word ascii in
-    rw (ne_eqb c x (λ e. omega (arith, high, low, e))) refl
-starts-no_ascii (x ∷ word) ascii (h ∷ held) c high =
-    rw (starts-no_ascii word (All-tail (λ x. x < 128) x word ascii) held c high) (and-false (nat_eq h x))
+abbrev IsInside : ℕ → Type 0
+IsInside c = (0x2D ≤ c) × (c ≤ 0x7A)
 
-pub same-no_ascii : (word : List ℕ) → All (λ x. x < 128) word → (held : List ℕ) (c : ℕ) → 128 ≤ c → bytes_eq (held ++ c ∷ []) word ≡ false
-same-no_ascii word ascii held c high =
+abbrev IsOutside : ℕ → Type 0
+IsOutside c = (c < 0x2D) ⊎ (0x7A < c)
+
+apart : (c x : ℕ) → IsOutside c → IsInside x → c ≢ x
+apart c x (inl below) inside = λ e. omega (arith, below, inside.0, e)
+apart c x (inr above) inside = λ e. omega (arith, above, inside.1, e)
+
+starts-apart : (word : List ℕ) → All IsInside word → (held : List ℕ) (c : ℕ) → IsOutside c → starts_with nat_eq word (held ++ c ∷ []) ≡ false
+starts-apart [] inside [] c out = refl
+starts-apart [] inside (h ∷ held) c out = refl
+starts-apart (x ∷ word) inside [] c out = rw (ne_eqb c x (apart c x out (All-head IsInside x word inside))) refl
+starts-apart (x ∷ word) inside (h ∷ held) c out = rw (starts-apart word (All-tail IsInside x word inside) held c out) (and-false (nat_eq h x))
+
+same-apart : (word : List ℕ) → All IsInside word → (held : List ℕ) (c : ℕ) → IsOutside c → bytes_eq (held ++ c ∷ []) word ≡ false
+same-apart word inside held c out =
     elim (bytes_eq (held ++ c ∷ []) word) as (λ b. bytes_eq (held ++ c ∷ []) word ≡ b → b ≡ false) [
       | true ↦ λ e.
           let same : held ++ c ∷ [] ≡ word = bytes_eq-same (held ++ c ∷ []) word e in
-          absurd (false≢true (sym (starts-no_ascii word ascii held c high) ∙ ap (starts_with nat_eq word) same ∙ begins-itself word))
+          absurd (false≢true (sym (starts-apart word inside held c out) ∙ ap (starts_with nat_eq word) same ∙ begins-itself word))
       | false ↦ λ e. refl
     ] refl
 
-lower-high : (c : ℕ) → 128 ≤ c → to_ascii_lowercase c ≡ c
-lower-high c high = rw (le-ltb c 65 (omega (arith, high)), le-ltb c 91 (omega (arith, high))) refl
+lower-apart : (c : ℕ) → IsOutside c → to_ascii_lowercase c ≡ c
+lower-apart c (inl below) = rw (lt-ltb c 65 (omega (arith, below))) refl
+lower-apart c (inr above) = rw (le-ltb c 65 (omega (arith, above)), le-ltb c 91 (omega (arith, above))) refl
 
-pub no_keyword : (exact : Bool) (held : List ℕ) (c : ℕ) → 128 ≤ c
+no_keyword : (exact : Bool) (held : List ℕ) (c : ℕ) → IsOutside c
     → declaration_step exact held c ≡ record { settled = declaration_error exact held; here = bogus_comment_step exact held [] c }
 unfolding declaration_step begins_keyword
-no_keyword exact held c high =
-    let dashes : All (λ x. x < 128) (codes "--") = search rules in
-    let doctype : All (λ x. x < 128) (codes "doctype") = search rules in
-    let lower : lower_case (held ++ c ∷ []) ≡ lower_case held ++ c ∷ [] = map-append to_ascii_lowercase held (c ∷ []) ∙ ap (λ d. lower_case held ++ d ∷ []) (lower-high c high) in
+no_keyword exact held c out =
+    let dashes : All IsInside (codes "--") = search rules in
+    let doctype : All IsInside (codes "doctype") = search rules in
+    let lower : lower_case (held ++ c ∷ []) ≡ lower_case held ++ c ∷ [] = map-append to_ascii_lowercase held (c ∷ []) ∙ ap (λ d. lower_case held ++ d ∷ []) (lower-apart c out) in
     rw (
       lower,
-      same-no_ascii (codes "--") dashes held c high,
-      same-no_ascii (codes "doctype") doctype (lower_case held) c high,
-      starts-no_ascii (codes "--") dashes held c high,
-      starts-no_ascii (codes "doctype") doctype (lower_case held) c high,
+      same-apart (codes "--") dashes held c out,
+      same-apart (codes "doctype") doctype (lower_case held) c out,
+      starts-apart (codes "--") dashes held c out,
+      starts-apart (codes "doctype") doctype (lower_case held) c out,
     ) refl
+
+pub no_keyword-high : (exact : Bool) (held : List ℕ) (c : ℕ) → 128 ≤ c
+    → declaration_step exact held c ≡ record { settled = declaration_error exact held; here = bogus_comment_step exact held [] c }
+no_keyword-high exact held c high = no_keyword exact held c (inr (omega (arith, high)))
+
+-- a character that belongs to a keyword is no bad one
+pub keyword-good : (exact : Bool) (held : List ℕ) (c : ℕ) (later : Open) → declaration_step exact held c ≡ record { settled = []; here = Tells [] later } → is_bad_character c ≡ false
+keyword-good exact held c later step =
+    let outside : IsOutside c → is_bad_character c ≡ false =
+    λ out. absurd (cons≢nil _ _ (ap (λ (b : Brought Open). b.settled) (sym (no_keyword exact held c out) ∙ step))) in
+    elim (nat_lt c 0x2D) as (λ b. nat_lt c 0x2D ≡ b → is_bad_character c ≡ false) [
+      | true ↦ λ below. outside (inl (ltb-true c 0x2D below))
+      | false ↦ λ low. elim (nat_lt 0x7A c) as (λ b. nat_lt 0x7A c ≡ b → is_bad_character c ≡ false) [
+        | true ↦ λ above. outside (inr (ltb-true 0x7A c above))
+        | false ↦ λ high. good_between c (omega (arith, ltb-false c 0x2D low)) (omega (arith, ltb-false 0x7A c high))
+      ] refl
+    ] refl

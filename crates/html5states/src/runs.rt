@@ -3,7 +3,7 @@
 ghost use Rattle.std.specs.Prelude.{◌≡◌, ℕ, [], false, ◌↔◌, ◌++◌, Contains, OnOk, IfSome, is_some, string_bytes, flat_map};
 ghost use Rattle.std.specs.Str.{chars};
 ghost use Rattle.html5grammar.specs.Characters.{name_bytes};
-ghost use Rattle.html5grammar.specs.Start.{is_clean};
+ghost use Rattle.html5grammar.specs.Start.{is_clean, held_len};
 ghost use Rattle.html5grammar.specs.Start.{raw_of};
 ghost use Rattle.html5grammar.specs.Start.Mode.{RawText};
 ghost use Rattle.html5grammar.specs.Start.Open.{Between};
@@ -74,14 +74,15 @@ pub fn push_names<A: Allocator>(name: &mut String<A>, run: &str) -> Result<(), A
     Ok(())
 }
 
-/// Puts a run to the open name or value.
+/// Puts a run to the open name, value or comment.
 #[inline(always)]
 pub fn push_run<A: Allocator>(at: &mut Opened<A>, run: &str) -> Result<(), AllocError>
     requires is_run { IsRunAt (opened_of at.old) (chars run.now) }
-    requires in_tag { is_clean (opened_of at.old) ≡ false }
+    requires not_clean { is_clean (opened_of at.old) ≡ false }
     ensures run { OnOk result
         (opened_of at.new ≡ opened_after_run (opened_of at.old) (chars run.now)) }
     ensures last { last_name_of at.new ≡ last_name_of at.old }
+    ensures held { held_len (opened_of at.new) ≡ 0 }
 {
     match at.state {
         State::TagName => push_names(&mut at.tag.name, run)?,

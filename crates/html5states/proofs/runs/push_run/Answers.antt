@@ -22,6 +22,7 @@ returns-in_ok-push_str-in-AttributeValue g c =
           rw c.in-AttributeValue.is (ap (λ v. InTag (InValue c.in-AttributeValue.field-0) (record (open_tag c.args.at.now.tag) { last_value = v }))
           (c.in_ok-push_str-in-AttributeValue.ensures.bytes ∙ ap (λ l. string_bytes c.args.at.now.tag.attr_value ++ l) (sym value)));
       last = refl;
+      held = rw c.in-AttributeValue.is refl;
     }
 
 pub returns-in_ok-push_str-in-Comment-clause-run : goal.returns-in_ok-push_str-in-Comment-clause-run

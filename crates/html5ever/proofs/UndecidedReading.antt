@@ -1,4 +1,4 @@
--- A character behind what is held of a reference: it is held too, or it decides.
+-- A character behind what is held of a reference, or behind `<!`: it is held too, or it decides.
 use Rattle.std.proofs.Common.{◌≡◌, ℕ, ◌≤◌, ◌+◌, Bool, true, false, List, [], ◌∷◌, ◌++◌, refl, ap, sym, ◌∙◌, Some, None, Result, Ok, length-append, arith, subst}
 use Rattle.std.specs.Prelude.{◌==◌, ◌<◌, ◌^◌, if◌then◌else◌}
 use Rattle.std.proofs.lemmas.Bool.{false≢true, eqb-true, and_parts}
@@ -12,7 +12,7 @@ use Rattle.html5grammar.proofs.InputLemmas.{line_after-none}
 use Rattle.html5grammar.proofs.NoTags.{no_tags-settled}
 use Rattle.html5grammar.proofs.ReadingLemmas.{told-one, after-one}
 use Rattle.html5grammar.proofs.Traces.{brought-step}
-use Rattle.html5grammar.specs.EndOfInput.{late_at_end_of, open_at_end_of, told_at_end_of, tokens_at_end}
+use Rattle.html5grammar.specs.EndOfInput.{late_at_end_of, open_at_end_of}
 use Rattle.html5grammar.specs.NormalisedText.{normalised, input_after}
 use Rattle.html5grammar.specs.Slice.{tokens_of_late}
 use Rattle.html5states.proofs.Tellings.{stops_before, tells_stop, tells_after}
@@ -25,34 +25,21 @@ use Rattle.html5grammar.specs.Characters.{number_sign, semicolon, is_bad_charact
 use Rattle.html5grammar.specs.Reading.{Brought, told, messages, after}
 use Rattle.html5grammar.specs.Reading.Here.{Tells}
 use Rattle.html5grammar.specs.Reference.{in_value, reference, is_undecided, ends_number, has_digits, late_tokens, opened_in, opened_behind}
-use Rattle.html5grammar.specs.Start.{Stand, Start, Open, Rules, is_reference, held_len}
-use Rattle.html5grammar.specs.Start.Open.{Between, LessThan, LessThanSolidus, InTag, InRaw, InReference, NotBuilt}
+use Rattle.html5grammar.specs.Start.{Stand, Start, Open, Rules, is_undecided_open, held_len}
+use Rattle.html5grammar.specs.Start.Open.{Between, LessThan, LessThanSolidus, InTag, InRaw, InDeclaration, InComment, InBogusComment, InReference, NotBuilt}
 use Rattle.html5grammar.specs.Start.Stand.{InText, InAttribute}
 use Rattle.html5states.specs.CharRef.{stand_of, with_reference}
-use Rattle.html5states.specs.Steps.{IsBuilt}
-use Rattle.html5ever.specs.References.{BelongsTo, Decides}
-
--- where a reference is open it is the one that is kept
-pub is_in : (is_in : Bool) (held : List ℕ) (opened : Open) → is_reference opened ≡ false → is_reference (with_reference is_in held opened) ≡ true → is_in ≡ true
-unfolding with_reference
-is_in true held opened none one = refl
-is_in false held opened none one = absurd (false≢true (sym none ∙ one))
-
-pub not_in : (is_in : Bool) (held : List ℕ) (opened : Open) → is_reference opened ≡ false → is_in ≡ false → is_reference (with_reference is_in held opened) ≡ false
-unfolding with_reference
-not_in true held opened none out = absurd (false≢true (sym out))
-not_in false held opened none out = none
-
-pub with_reference-out : (held : List ℕ) (opened : Open) → with_reference false held opened ≡ opened
-unfolding with_reference
-with_reference-out held opened = refl
+use Rattle.html5states.specs.Steps.{IsBuilt, Leads}
+use Rattle.html5states.specs.declared.error.TokenizerError.TheVariants.{Memory, Sink, Failed, NotYet}
+use Rattle.std.proofs.lemmas.Result.{err_from_is_err_and}
+use Rattle.html5ever.specs.Undecided.{BelongsTo, Decides, IsLateRefusal, is_reference, is_declaration, is_declaration_state}
 
 pub answer-is : {E : Type 0} (b d : Bool) → ◌≡◌ {A = Result Bool E} (Ok b) (Ok d) → b ≡ d
 answer-is b d e = cc
 
-opened_in-no_reference : (stand : Stand) (characters : List ℕ) → is_reference (opened_in stand characters) ≡ false
-opened_in-no_reference (InText mode) characters = refl
-opened_in-no_reference (InAttribute kind tag) characters = refl
+opened_in-decided : (stand : Stand) (characters : List ℕ) → is_undecided_open (opened_in stand characters) ≡ false
+opened_in-decided (InText mode) characters = refl
+opened_in-decided (InAttribute kind tag) characters = refl
 
 pub opened_in-built : (stand : Stand) (characters : List ℕ) → IsBuilt (opened_in stand characters)
 opened_in-built (InText mode) characters = tt
@@ -120,7 +107,7 @@ module _ (rules : Rules) (is_in : Bool) (held : List ℕ) (opened : Open) (c : �
       → Decides rules (with_reference is_in held opened) c later
   decides later h ends is = record {
     here = ap (λ (b : Brought Open). b.here) (brought-decided h) ∙ rw (ends, is) refl;
-    past_reference = ap is_reference is ∙ opened_in-no_reference stand _;
+    decided = ap is_undecided_open is ∙ opened_in-decided stand _;
     built = subst IsBuilt (sym is) (opened_in-built stand _);
   }
 
@@ -137,21 +124,40 @@ held_len-same is_in held opened later inside = rw inside (omega arith)
 
 -- the end of input
 
-pub end-plain : (rules : Rules) (opened : Open) → is_reference opened ≡ false → tokens_at_end rules opened ≡ told_at_end_of rules.exact opened
-unfolding late_at_end_of open_at_end_of
-end-plain rules (Between mode) none = refl
-end-plain rules LessThan none = refl
-end-plain rules LessThanSolidus none = refl
-end-plain rules (InTag place tag) none = refl
-end-plain rules (InRaw place name) none = refl
-end-plain rules (InReference stand held) none = absurd (false≢true (sym none))
-end-plain rules NotBuilt none = refl
+pub late-none : (rules : Rules) (opened : Open) → is_undecided_open opened ≡ false → late_at_end_of rules opened ≡ []
+unfolding late_at_end_of
+late-none rules (Between mode) none = refl
+late-none rules LessThan none = refl
+late-none rules LessThanSolidus none = refl
+late-none rules (InTag place tag) none = refl
+late-none rules (InRaw place name) none = refl
+late-none rules (InDeclaration held) none = absurd (false≢true (sym none))
+late-none rules (InComment text) none = refl
+late-none rules (InBogusComment text) none = refl
+late-none rules (InReference stand held) none = absurd (false≢true (sym none))
+late-none rules NotBuilt none = refl
+
+pub end-none : (rules : Rules) (opened : Open) → is_undecided_open opened ≡ false → open_at_end_of rules opened ≡ opened
+unfolding open_at_end_of
+end-none rules (Between mode) none = refl
+end-none rules LessThan none = refl
+end-none rules LessThanSolidus none = refl
+end-none rules (InTag place tag) none = refl
+end-none rules (InRaw place name) none = refl
+end-none rules (InDeclaration held) none = absurd (false≢true (sym none))
+end-none rules (InComment text) none = refl
+end-none rules (InBogusComment text) none = refl
+end-none rules (InReference stand held) none = absurd (false≢true (sym none))
+end-none rules NotBuilt none = refl
+
+pub late-reference : (rules : Rules) (is_in : Bool) (held : List ℕ) (opened : Open) → is_in ≡ true
+    → late_at_end_of rules (with_reference is_in held opened) ≡ late_tokens (stand_of opened) (reference rules (in_value (stand_of opened)) held None) held
+unfolding with_reference late_at_end_of
+late-reference rules is_in held opened inside = rw inside refl
 
 pub end-reference : (rules : Rules) (is_in : Bool) (held : List ℕ) (opened : Open) → is_in ≡ true
-    → tokens_at_end rules (with_reference is_in held opened)
-    ≡ tokens_of_late (late_tokens (stand_of opened) (reference rules (in_value (stand_of opened)) held None) held)
-    ++ told_at_end_of rules.exact (opened_behind (stand_of opened) (reference rules (in_value (stand_of opened)) held None) held)
-unfolding with_reference late_at_end_of open_at_end_of
+    → open_at_end_of rules (with_reference is_in held opened) ≡ opened_behind (stand_of opened) (reference rules (in_value (stand_of opened)) held None) held
+unfolding with_reference open_at_end_of
 end-reference rules is_in held opened inside = rw inside refl
 
 -- one character of the stream, for which d is read
@@ -175,7 +181,7 @@ module _ {S H : Type 0} (step : S → Told → ℕ → S) (reply : S → Told �
   last-parts : (after step reply rules K s (c ∷ [])).last_start_tag ≡ last_here K.last_start_tag (brought_at rules K.opened d).here
   last-parts = ap (λ (P : Start). P.last_start_tag) (after-one step reply rules K s c d one)
 
-  pub last-plain : is_reference K.opened ≡ false
+  pub last-plain : is_undecided_open K.opened ≡ false
       → (after step reply rules K s (c ∷ [])).last_start_tag ≡ last_here K.last_start_tag (step_at rules.exact K.opened d)
   last-plain none = last-parts ∙ rw (brought-step rules K.opened d none) refl
 
@@ -187,17 +193,17 @@ module _ {S H : Type 0} (step : S → Told → ℕ → S) (reply : S → Told �
       → (after step reply rules K s (c ∷ [])).last_start_tag ≡ last_here K.last_start_tag (step_at rules.exact later d)
   last-decides later b = last-parts ∙ rw b.here refl
 
-  -- no reference is open
-  pub told-plain : is_reference K.opened ≡ false
+  -- nothing is undecided
+  pub told-plain : is_undecided_open K.opened ≡ false
       → messages (told step reply rules K s (c ∷ [])) ≡ messages_here step reply rules line d (step_at rules.exact K.opened d)
   told-plain none = told-parts ∙ rw (brought-step rules K.opened d none) refl
 
-  pub after-plain : is_reference K.opened ≡ false
+  pub after-plain : is_undecided_open K.opened ≡ false
       → (after step reply rules K s (c ∷ [])).opened ≡ opened_here step reply rules s line K.last_start_tag d (step_at rules.exact K.opened d)
   unfolding stepped
   after-plain none = after-parts ∙ rw (brought-step rules K.opened d none) refl
 
-  -- it belongs to the reference that is open
+  -- it belongs to what is undecided
   pub told-belongs : (later : Open) → BelongsTo rules K.opened d later → messages (told step reply rules K s (c ∷ [])) ≡ on_line K.input.line settled
   unfolding messages_here
   told-belongs later b = told-parts ∙ rw (b.here, b.good, and-false rules.exact) (append-nil (on_line K.input.line settled))
@@ -206,7 +212,7 @@ module _ {S H : Type 0} (step : S → Told → ℕ → S) (reply : S → Told �
   unfolding opened_here
   after-belongs later b = after-parts ∙ rw b.here refl
 
-  -- it decides the reference, and is then read
+  -- it decides, and is then read
   pub told-decides : (later : Open) → Decides rules K.opened d later
       → messages (told step reply rules K s (c ∷ [])) ≡ on_line K.input.line settled ++ messages_here step reply rules line d (step_at rules.exact later d)
   told-decides later b = told-parts ∙ rw b.here refl
@@ -231,12 +237,26 @@ module _ {S H : Type 0} (step : S → Told → ℕ → S) (reply : S → Told �
         ∙ first_pause-append step reply s (on_line K.input.line settled) _
         ∙ rw quiet refl)
 
-  -- a refusal within what is decided late
+  -- a refusal within what is decided late, or at a character that begins what isn't built yet
   pub tells-late : {T : Type 0} (faulted : S → Told → ℕ → S) (r : Result T TokenizerError) (e : TokenizerError) (t : S)
-      → IsErrAnd r (λ x. x ≡ e) → telling.IsRefusal e → telling.Stops step faulted e s (on_line K.input.line settled) t
+      → IsErrAnd r (λ x. x ≡ e) → IsLateRefusal (brought_at rules K.opened d) e → telling.Stops step faulted e s (on_line K.input.line settled) t
       → telling.Tells step faulted r s (messages (told step reply rules K s (c ∷ []))) t
-  tells-late faulted r e t h refusal stop =
-      rw told-parts (tells_stop step faulted r e s t _ h (stops_before step faulted e s t (on_line K.input.line settled) _ refusal stop))
+  unfolding messages_here
+  tells-late faulted r Memory t h refusal stop =
+      rw told-parts (tells_stop step faulted r Memory s t _ h (stops_before step faulted Memory s t (on_line K.input.line settled) _ tt stop))
+  tells-late faulted r Sink t h refusal stop =
+      rw told-parts (tells_stop step faulted r Sink s t _ h (stops_before step faulted Sink s t (on_line K.input.line settled) _ tt stop))
+  tells-late faulted r Failed t h refusal stop = absurd refusal
+  tells-late faulted r NotYet t h refusal stop =
+      rw (told-parts, refusal, append-nil (on_line K.input.line settled)) (tells_stop step faulted r NotYet s t _ h stop)
+
+  pub leads-late : {T : Type 0} (r : Result T TokenizerError) (e : TokenizerError) (later : Open)
+      → IsErrAnd r (λ x. x ≡ e) → IsLateRefusal (brought_at rules K.opened d) e → Leads r later (after step reply rules K s (c ∷ [])).opened
+  unfolding opened_here
+  leads-late r Memory later h refusal = let p = err_from_is_err_and r h in rw (p.1, p.2) tt
+  leads-late r Sink later h refusal = let p = err_from_is_err_and r h in rw (p.1, p.2) tt
+  leads-late r Failed later h refusal = absurd refusal
+  leads-late r NotYet later h refusal = let p = err_from_is_err_and r h in rw (p.1, p.2) (after-parts ∙ rw refusal refl)
 
   pub tells-decides : {T : Type 0} (faulted : S → Told → ℕ → S) (r : Result T TokenizerError) (t u : S) (later : Open) → Decides rules K.opened d later
       → t ≡ stepped step s (on_line K.input.line settled)
