@@ -14,7 +14,7 @@ use std::test::Fail;
 // and what the queue keeps.
 type Stop<'a> = (&'a str, bool, usize, bool, &'a str);
 
-const STOPS: [Stop<'static>; 11] = [
+const STOPS: [Stop<'static>; 14] = [
     ("a\0bc", true, 0, false, "\0bc"),
     ("a\0bc", true, 1, false, "bc"),
     ("a\0bc", true, 2, true, "bc"),
@@ -26,6 +26,9 @@ const STOPS: [Stop<'static>; 11] = [
     ("<a b=\"1\"c='2'c>x", false, 2, true, "x"),
     ("<a b=\"1\"c='2'c>x", false, 3, true, "x"),
     ("<a b=\"1\"c='2'c>x", false, 4, true, ""),
+    ("<!x>b", false, 0, false, ">b"),
+    ("<!x>b", false, 1, true, "b"),
+    ("<!--a-->b", false, 0, false, "b"),
 ];
 
 // Feeds a text to a sink that faults.

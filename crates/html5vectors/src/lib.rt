@@ -4,6 +4,8 @@
 #[cfg(test)]
 mod characters;
 #[cfg(test)]
+mod comment_cases;
+#[cfg(test)]
 mod end_cases;
 #[cfg(test)]
 mod errors;

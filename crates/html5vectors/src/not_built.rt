@@ -14,13 +14,19 @@ use std::test::Fail;
 // A text, whether errors are exact, what is told of it, and what it leaves in the queue.
 type Stop<'a> = (&'a str, bool, &'a str, &'a str);
 
-const STOPS: [Stop<'static>; 6] = [
-    ("<b><!amp;", false, "start 1 \"b\"", "amp;"),
-    ("</\u{1}x", true, "", "x"),
-    ("a</\u{1}x", false, "text \"a\"", "x"),
-    ("<!", false, "", ""),
-    ("<?", false, "", ""),
-    ("</1", false, "", ""),
+const STOPS: [Stop<'static>; 7] = [
+    ("<b><!doctypeamp;", false, "start 1 \"b\"", "amp;"),
+    ("<!doctype\u{1}x", true, "", "\u{1}x"),
+    (
+        "a\u{1}<!doctypex",
+        true,
+        "text \"a\"\nerror 1 \"Bad character \\u{1}\"\ntext \"\\u{1}\"",
+        "x",
+    ),
+    ("<!doctype", false, "", ""),
+    ("<!DOCTYPE html>", false, "", " html>"),
+    ("<!dOcTyPe>", false, "", ">"),
+    ("<!--a--><!doctype>", false, "comment 1 \"a\"", ">"),
 ];
 
 // Feeds a text that meets what is not built.

@@ -176,7 +176,7 @@ fn is_done_where_no_reply_pauses(rt: HostRuntime) -> Result<(), Fail> {
 type Run<'a> = (&'a [Piece<'a>], &'a str);
 
 // A CR and a LF are one line break, also where one of them was put in front of what waits.
-const RUNS: [Run<'static>; 5] = [
+const RUNS: [Run<'static>; 6] = [
     (
         &[Piece::Behind("<s>x"), Piece::InFront("<b>")],
         "start 1 \"s\"\nstart 1 \"b\"\ntext \"x\"\neof 1",
@@ -192,6 +192,10 @@ const RUNS: [Run<'static>; 5] = [
     (
         &[Piece::Behind("a\r"), Piece::InFront("\nb")],
         "text \"a\\nb\"\neof 2",
+    ),
+    (
+        &[Piece::Behind("<s>x-->y"), Piece::InFront("<!--")],
+        "start 1 \"s\"\ncomment 1 \"x\"\ntext \"y\"\neof 1",
     ),
     (&[], "eof 1"),
 ];
@@ -320,7 +324,7 @@ fn something_is_pending_behind_a_refusal(rt: HostRuntime) -> Result<(), Fail> {
         &names,
     );
     let mut queue = BufferQueue::new(alloc);
-    push_text(alloc, &mut queue, "a<!")?;
+    push_text(alloc, &mut queue, "a<!doctype")?;
     assert_eq!(rt; tokenizer.feed(&mut queue), Err(TokenizerError::NotYet));
     assert!(rt; !tokenizer.nothing_pending());
     Ok(())

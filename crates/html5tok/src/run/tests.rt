@@ -19,6 +19,7 @@ use std::env::FillError;
 use std::process::Abort;
 use std::test::Fail;
 
+mod comments;
 mod raw_text;
 mod table;
 
@@ -254,7 +255,13 @@ fn prints_plain_text_behind_its_tag(rt: HostRuntime) -> Result<(), Fail> {
 
 #[test]
 fn tells_what_is_not_built_yet(rt: HostRuntime) -> Result<(), Fail> {
-    for input in ["<b>&amp;<!--", "<!", "<?x>", "</1", "<a b='&'><!"] {
+    for input in [
+        "<b>&amp;<!doctype",
+        "<!doctype",
+        "<!DOCTYPE html>",
+        "</1><!--a--><!Doctype>",
+        "<a b='&'><!doctype",
+    ] {
         let ran = run_over(rt.alloc(), &["--cut", "1"], input.as_bytes())?;
         assert_eq!(rt; ran.status, 7, "{input:?}");
         assert_eq!(rt; ran.output.len(), 0, "{input:?}");
