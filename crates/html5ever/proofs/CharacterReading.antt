@@ -13,17 +13,16 @@ use Rattle.html5grammar.specs.Characters.{is_bad_character}
 use Rattle.html5grammar.specs.ErrorText.{bad_character_error}
 use Rattle.html5grammar.specs.Reading.{Here, last_behind, open_after_reply}
 use Rattle.html5grammar.specs.Reading.Here.{Tells, TellsTag, Stops}
-use Rattle.html5grammar.specs.Start.{Open, Rules, is_undecided_open, held_len, escaped, raw_of}
+use Rattle.html5grammar.specs.Start.{Open, Rules, held_len, escaped, raw_of}
 use Rattle.html5grammar.specs.Start.Dashes.{OneDash, TwoDashes}
 use Rattle.html5grammar.specs.Start.Mode.{Data}
 use Rattle.html5grammar.specs.Start.RawPlace.{AfterLessThan, InEndName, AfterMark, AfterMarkAndDash, InSwitch}
-use Rattle.html5grammar.specs.Start.Open.{Between, LessThan, LessThanSolidus, InTag, InRaw, InDeclaration, InComment, InBogusComment, InReference, NotBuilt}
+use Rattle.html5grammar.specs.Start.Open.{Between, NotBuilt}
 use Rattle.html5grammar.specs.Start.Place.{InName, BeforeAttribute, InAttributeName, AfterAttributeName, BeforeValue, InValue, AfterQuotedValue, AfterSolidus}
 use Rattle.html5grammar.proofs.Going.{Goes, bad_goes_tag, bad_goes_data, bad_goes_plain, bad_goes_raw, bad_goes_in_raw, bad_goes_less_than, bad_goes_solidus, bad_goes_comment, bad_goes_bogus_comment}
 use Rattle.html5grammar.proofs.Holding.{HoldsNothing}
 use Rattle.html5grammar.proofs.Machine.{step_at, messages_here, opened_here, last_here}
 use Rattle.html5ever_interface.proofs.Steppings.{stepped-append}
-use Rattle.html5states.specs.CharRef.{begun_reference, with_reference}
 use Rattle.html5states.specs.CurrentTag.{open_of, open_tag, stops_at_bad}
 use Rattle.html5states.specs.Steps.{tokens_of, Next, behind}
 use Rattle.html5states.specs.Steps.Next.{Opens, Closes}
@@ -32,8 +31,7 @@ use Rattle.html5states.specs.declared.opened.Opened.{Opened}
 use Rattle.html5states.specs.declared.error.TokenizerError.{TokenizerError}
 use Rattle.html5states.specs.declared.error.TokenizerError.TheVariants.{Memory, Sink, Failed, NotYet}
 use Rattle.html5ever.specs.Feed.{first_pause}
-use Rattle.html5states.specs.Steps.{IsBuilt, Leads, Ends}
-use Rattle.html5ever.specs.Undecided.{is_reference}
+use Rattle.html5states.specs.Steps.{Leads, Ends}
 use Rattle.html5states.specs.Telling as telling
 use Rattle.html5ever.proofs.Pauses.{first_pause-none, first_pause-append, first_pause-no_tags, no_tag_messages}
 use Rattle.html5states.proofs.Tellings.{told_then, told_stop, tells_stop}
@@ -77,13 +75,6 @@ unfolding behind
 held_len-behind (Tells told opened) later nothing is = let same : later ≡ opened = cc in rw same nothing
 held_len-behind (TellsTag told tag) later nothing is = cc
 held_len-behind (Stops told) later nothing is = let same : later ≡ NotBuilt = cc in rw same refl
-
--- a refusal says nothing of what is open
-pub Ends-refused : {Z Y : Type 0} (e : TokenizerError) (now : Opened Z) (then_at : Opened Y) (next : Next) → Ends {Z = Z} (Err e) now next → Ends {Z = Y} (Err e) then_at next
-Ends-refused Memory now then_at next ends = tt
-Ends-refused Sink now then_at next ends = tt
-Ends-refused Failed now then_at next ends = absurd ends
-Ends-refused NotYet now then_at next ends = ends
 
 -- the tag that is told last, where one ends
 abbrev pub tag_in : Next → List Told

@@ -1,5 +1,5 @@
 -- Where a reference is not decided, or what stands behind `<!`, and where nothing is undecided.
-use Rattle.std.proofs.Common.{◌≡◌, ◌⊎◌, inl, inr, ℕ, ◌≤◌, ◌+◌, Bool, true, false, List, [], refl, ap, sym, ◌∙◌, None, Some}
+use Rattle.std.proofs.Common.{◌≡◌, ◌⊎◌, inl, inr, ℕ, ◌≤◌, ◌+◌, Bool, true, false, List, refl, sym, ◌∙◌, None, Some}
 use Rattle.std.proofs.lemmas.Bool.{false≢true}
 use Rattle.html5ever_interface.specs.declared.states.ScriptEscapeKind.TheVariants as escape_kind
 use Rattle.html5ever_interface.specs.declared.states.State.{State}
@@ -77,50 +77,21 @@ state-cases state.BogusComment t comment letters name = inr (refl, refl)
 state-cases other t comment letters name = inr (refl, refl)
 
 module _ {Z : Type 0} (q : State) (t : CurrentTag Z) (comment letters name : List ℕ) where
+  by_state : (P : Type 0) → (q ≡ state.MarkupDeclarationOpen → P) → (is_undecided_open (open_of q t comment letters name) ≡ false → is_declaration_state q ≡ false → P) → P
+  by_state P declared decided = elim (state-cases q t comment letters name) as (λ x. P) [ inl is ↦ declared is | inr other ↦ decided other.0 other.1 ]
+
   pub state-no_reference : is_reference (open_of q t comment letters name) ≡ false
-  state-no_reference =
-      let of_case : (q ≡ state.MarkupDeclarationOpen) ⊎ ((is_undecided_open (open_of q t comment letters name) ≡ false) × (is_declaration_state q ≡ false))
-      → is_reference (open_of q t comment letters name) ≡ false =
-      λ e. elim e as (λ x. is_reference (open_of q t comment letters name) ≡ false) [ | inl is ↦ rw is refl | inr other ↦ (is_decided _ other.0).no_reference ] in
-      of_case (state-cases q t comment letters name)
+  state-no_reference = by_state (is_reference (open_of q t comment letters name) ≡ false) (λ is. rw is refl) (λ decided other. (is_decided _ decided).no_reference)
 
   pub state-declaration : is_declaration (open_of q t comment letters name) ≡ is_declaration_state q
   state-declaration =
-      let of_case : (q ≡ state.MarkupDeclarationOpen) ⊎ ((is_undecided_open (open_of q t comment letters name) ≡ false) × (is_declaration_state q ≡ false))
-      → is_declaration (open_of q t comment letters name) ≡ is_declaration_state q =
-      λ e. elim e as (λ x. is_declaration (open_of q t comment letters name) ≡ is_declaration_state q) [
-        | inl is ↦ rw is refl
-        | inr other ↦ (is_decided _ other.0).no_declaration ∙ sym other.1
-      ] in
-      of_case (state-cases q t comment letters name)
+      by_state (is_declaration (open_of q t comment letters name) ≡ is_declaration_state q) (λ is. rw is refl) (λ decided other. (is_decided _ decided).no_declaration ∙ sym other)
 
   pub state-undecided : is_undecided_open (open_of q t comment letters name) ≡ is_declaration_state q
-  state-undecided =
-      let of_case : (q ≡ state.MarkupDeclarationOpen) ⊎ ((is_undecided_open (open_of q t comment letters name) ≡ false) × (is_declaration_state q ≡ false))
-      → is_undecided_open (open_of q t comment letters name) ≡ is_declaration_state q =
-      λ e. elim e as (λ x. is_undecided_open (open_of q t comment letters name) ≡ is_declaration_state q) [
-        | inl is ↦ rw is refl
-        | inr other ↦ other.0 ∙ sym other.1
-      ] in
-      of_case (state-cases q t comment letters name)
+  state-undecided = by_state (is_undecided_open (open_of q t comment letters name) ≡ is_declaration_state q) (λ is. rw is refl) (λ decided other. decided ∙ sym other)
 
   pub state-is : is_declaration_state q ≡ true → q ≡ state.MarkupDeclarationOpen
-  state-is h =
-      let of_case : (q ≡ state.MarkupDeclarationOpen) ⊎ ((is_undecided_open (open_of q t comment letters name) ≡ false) × (is_declaration_state q ≡ false))
-      → q ≡ state.MarkupDeclarationOpen =
-      λ e. elim e as (λ x. q ≡ state.MarkupDeclarationOpen) [
-        | inl is ↦ is
-        | inr other ↦ absurd (false≢true (sym other.1 ∙ h))
-      ] in
-      of_case (state-cases q t comment letters name)
-
--- where what is held behind `<!` is forgotten nothing is held
-pub state-cleared : {Z : Type 0} → (q : State) (t : CurrentTag Z) (letters name : List ℕ) → held_len (open_of q t [] letters name) ≡ 0
-state-cleared q t letters name =
-    let of_case : (q ≡ state.MarkupDeclarationOpen) ⊎ ((is_undecided_open (open_of q t [] letters name) ≡ false) × (is_declaration_state q ≡ false))
-    → held_len (open_of q t [] letters name) ≡ 0 =
-    λ e. elim e as (λ x. held_len (open_of q t [] letters name) ≡ 0) [ | inl is ↦ rw is refl | inr other ↦ (is_decided _ other.0).nothing_held ] in
-    of_case (state-cases q t [] letters name)
+  state-is h = by_state (q ≡ state.MarkupDeclarationOpen) (λ is. is) (λ decided other. absurd (false≢true (sym other ∙ h)))
 
 -- ---- where a reference is kept beside
 

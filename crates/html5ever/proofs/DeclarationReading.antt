@@ -1,5 +1,5 @@
 -- A character behind `<!` and what is held there.
-use Rattle.std.proofs.Common.{◌≡◌, ◌⊎◌, inl, inr, ℕ, Bool, true, false, List, [], ◌∷◌, ◌++◌, refl, ap, sym, ◌∙◌, subst, Result, Ok, Err}
+use Rattle.std.proofs.Common.{◌≡◌, ◌⊎◌, inl, inr, ℕ, Bool, true, false, List, [], refl, ap, sym, ◌∙◌, Result, Err}
 use Rattle.std.specs.Prelude.{IfErr}
 use Rattle.std.specs.Result.{IsErrAnd}
 use Rattle.std.proofs.lemmas.Result.{err_from_is_err_and}
@@ -14,17 +14,17 @@ use Rattle.html5grammar.specs.Reading.{Brought}
 use Rattle.html5grammar.specs.Reading.Here.{Tells, Stops}
 use Rattle.html5grammar.specs.Slice.{tokens_of_late}
 use Rattle.html5grammar.specs.Start.{Open, Rules}
-use Rattle.html5grammar.specs.Start.Open.{InDeclaration, InBogusComment}
+use Rattle.html5grammar.specs.Start.Open.{InBogusComment}
 use Rattle.html5states.proofs.Keywords.{keyword-good}
 use Rattle.html5states.proofs.Tellings.{Memory-at_once}
 use Rattle.html5states.specs.CharRef.{with_reference}
 use Rattle.html5states.specs.CurrentTag.{open_of}
 use Rattle.html5states.specs.Steps.{IsBuilt}
-use Rattle.html5states.specs.Telling.{Tells as TellsAll, faults_of, IsRefusal}
+use Rattle.html5states.specs.Telling.{Tells as TellsAll}
 use Rattle.html5states.specs.declared.current_tag.CurrentTag.{CurrentTag}
 use Rattle.html5states.specs.declared.error.TokenizerError.{TokenizerError}
-use Rattle.html5states.specs.declared.error.TokenizerError.TheVariants.{Memory, Sink, Failed, NotYet}
-use Rattle.html5ever.specs.Undecided.{BelongsTo, Decides, IsLateRefusal, is_declaration, is_declaration_state}
+use Rattle.html5states.specs.declared.error.TokenizerError.TheVariants.{Memory, NotYet}
+use Rattle.html5ever.specs.Undecided.{BelongsTo, Decides, IsLateRefusal, is_declaration}
 use Rattle.html5ever.proofs.Decided.{declaration-out, state-declaration, state-is}
 
 -- where what stands behind `<!` is open
@@ -89,9 +89,6 @@ module _ {S T : Type 0} (step faulted : S → Told → ℕ → S) (r : Result T 
   pub refusal-holding : IfErr r (IsLateRefusal brought)
   refusal-holding =
       by_cases (IfErr r (IsLateRefusal brought)) (λ is. rw is tt) (λ is stops. rw is (ap (λ (b : Brought Open). b.here) stops))
-
-  pub faults-holding : faults_of r ≡ 0
-  faults-holding = by_cases (faults_of r ≡ 0) (λ is. rw is refl) (λ is stops. rw is refl)
 
   pub tells-holding : (s : S) (line : ℕ) → TellsAll step faulted r s (on_line line (tokens_of_late brought.settled)) s
   unfolding stepped

@@ -22,7 +22,7 @@ use Rattle.html5ever.specs.Refused.{IsRun, IsItem, RefusedBehind}
 use Rattle.html5states.specs.Runs.{run_tokens, opened_after_run}
 use Rattle.html5ever.proofs.RunLemmas.{told-run, after-run, run-quiet}
 use Rattle.html5ever_interface.specs.Sink.{on_line}
-use Rattle.html5states.specs.Telling.{Tells, faults_of}
+use Rattle.html5states.specs.Telling.{Tells}
 use Rattle.std.specs.Prelude.{OnOk, IsNone}
 use Rattle.html5ever.proofs.Pauses.{told_beyond-behind, state_behind-append, pause_here, feed-goes_on, feed-takes, feed-pauses}
 use Rattle.html5states.specs.declared.error.TokenizerError.{TokenizerError}

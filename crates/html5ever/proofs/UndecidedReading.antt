@@ -32,7 +32,7 @@ use Rattle.html5states.specs.CharRef.{stand_of, with_reference}
 use Rattle.html5states.specs.Steps.{IsBuilt, Leads}
 use Rattle.html5states.specs.declared.error.TokenizerError.TheVariants.{Memory, Sink, Failed, NotYet}
 use Rattle.std.proofs.lemmas.Result.{err_from_is_err_and}
-use Rattle.html5ever.specs.Undecided.{BelongsTo, Decides, IsLateRefusal, is_reference, is_declaration, is_declaration_state}
+use Rattle.html5ever.specs.Undecided.{BelongsTo, Decides, IsLateRefusal}
 
 pub answer-is : {E : Type 0} (b d : Bool) → ◌≡◌ {A = Result Bool E} (Ok b) (Ok d) → b ≡ d
 answer-is b d e = cc
@@ -124,31 +124,19 @@ held_len-same is_in held opened later inside = rw inside (omega arith)
 
 -- the end of input
 
-pub late-none : (rules : Rules) (opened : Open) → is_undecided_open opened ≡ false → late_at_end_of rules opened ≡ []
-unfolding late_at_end_of
-late-none rules (Between mode) none = refl
-late-none rules LessThan none = refl
-late-none rules LessThanSolidus none = refl
-late-none rules (InTag place tag) none = refl
-late-none rules (InRaw place name) none = refl
-late-none rules (InDeclaration held) none = absurd (false≢true (sym none))
-late-none rules (InComment text) none = refl
-late-none rules (InBogusComment text) none = refl
-late-none rules (InReference stand held) none = absurd (false≢true (sym none))
-late-none rules NotBuilt none = refl
-
-pub end-none : (rules : Rules) (opened : Open) → is_undecided_open opened ≡ false → open_at_end_of rules opened ≡ opened
-unfolding open_at_end_of
-end-none rules (Between mode) none = refl
-end-none rules LessThan none = refl
-end-none rules LessThanSolidus none = refl
-end-none rules (InTag place tag) none = refl
-end-none rules (InRaw place name) none = refl
+-- where nothing is undecided it decides nothing
+pub end-none : (rules : Rules) (opened : Open) → is_undecided_open opened ≡ false → (late_at_end_of rules opened ≡ []) × (open_at_end_of rules opened ≡ opened)
+unfolding late_at_end_of open_at_end_of
+end-none rules (Between mode) none = (refl, refl)
+end-none rules LessThan none = (refl, refl)
+end-none rules LessThanSolidus none = (refl, refl)
+end-none rules (InTag place tag) none = (refl, refl)
+end-none rules (InRaw place name) none = (refl, refl)
 end-none rules (InDeclaration held) none = absurd (false≢true (sym none))
-end-none rules (InComment text) none = refl
-end-none rules (InBogusComment text) none = refl
-end-none rules (InReference stand held) none = absurd (false≢true (sym none))
-end-none rules NotBuilt none = refl
+end-none rules (InComment text) none = (refl, refl)
+end-none rules (InBogusComment text) none = (refl, refl)
+end-none rules (InReference place held) none = absurd (false≢true (sym none))
+end-none rules NotBuilt none = (refl, refl)
 
 pub late-reference : (rules : Rules) (is_in : Bool) (held : List ℕ) (opened : Open) → is_in ≡ true
     → late_at_end_of rules (with_reference is_in held opened) ≡ late_tokens (stand_of opened) (reference rules (in_value (stand_of opened)) held None) held

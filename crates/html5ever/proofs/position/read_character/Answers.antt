@@ -7,7 +7,6 @@ use Rattle.html5states.specs.CharRef.{with_reference}
 use Rattle.html5states.specs.CurrentTag.{opened_of, last_name_of}
 use Rattle.html5ever.proofs.Pauses.{first_pause-none}
 use Rattle.html5ever.proofs.UndecidedReading.{told-plain, after-plain, last-plain, last-belongs, last-decides, told-belongs, after-belongs, after-decides, pause-belongs, pause-decides, tells-late, leads-late, tells-decides}
-use Rattle.html5ever.proofs.Decided.{state-no_reference}
 use Rattle.html5ever.proofs.position.read_character.Goals as goal
 
 pub returns-in_default-clause-tells : goal.returns-in_default-clause-tells

@@ -1,14 +1,10 @@
-use Rattle.std.proofs.Common.{◌≤◌, ◌+◌, [], ◌∙◌, refl, ap, sym, subst, Ok, Err, arith, string_bytes}
+use Rattle.std.proofs.Common.{◌∙◌, refl, ap, Ok, Err, arith, string_bytes}
 use Rattle.std.specs.Str.{chars}
 use Rattle.html5ever_interface.specs.Sink.{stepped}
-use Rattle.html5grammar.specs.Reading.{Brought}
-use Rattle.html5grammar.specs.Slice.{tokens_of_late}
-use Rattle.html5grammar.specs.Start.{held_len}
 use Rattle.html5states.proofs.Tellings.{tells_stop}
-use Rattle.html5states.specs.CharRef.{with_reference}
 use Rattle.html5states.specs.CurrentTag.{opened_of}
 use Rattle.html5ever.proofs.Decided.{with_reference-false, held_len-beside}
-use Rattle.html5ever.proofs.DeclarationReading.{no_reference-declaration, state-declared, brought-declaration, belongs-keyword, decides-no_keyword, refusal-holding, faults-holding, tells-holding}
+use Rattle.html5ever.proofs.DeclarationReading.{no_reference-declaration, state-declared, brought-declaration, belongs-keyword, decides-no_keyword, refusal-holding, tells-holding}
 use Rattle.html5ever.proofs.position.read_declaration.Goals as goal
 
 pub hold_declaration-requires : goal.hold_declaration-requires

@@ -4,7 +4,7 @@ use Rattle.html5grammar.proofs.Going.{good_between}
 use Rattle.html5states.proofs.Tellings.{tells_from_memory, tells_stop}
 use Rattle.html5states.specs.CharRef.{with_reference}
 use Rattle.html5grammar.specs.Start.{held_len}
-use Rattle.html5states.specs.CurrentTag.{opened_of, last_name_of}
+use Rattle.html5states.specs.CurrentTag.{opened_of}
 use Rattle.html5ever.proofs.UndecidedReading.{brought-held, brought-decided, belongs-held, belongs-end, decides, held_len-held, held_len-same, answer-is}
 use Rattle.html5ever.proofs.Decided.{is_in, state-no_reference, with_reference-out}
 use Rattle.html5ever.proofs.position.read_reference.Goals as goal

@@ -1,14 +1,13 @@
-use Rattle.std.proofs.Common.{◌≡◌, ◌∙◌, refl, sym, true, false, string_bytes}
+use Rattle.std.proofs.Common.{◌≡◌, ◌∙◌, refl, sym, false, string_bytes}
 use Rattle.std.specs.Str.{chars}
 use Rattle.html5ever_interface.specs.Sink.{stepped}
 use Rattle.html5grammar.specs.Start.{is_undecided_open}
 use Rattle.html5states.proofs.Tellings.{tells_stop}
-use Rattle.html5states.specs.CharRef.{with_reference}
 use Rattle.html5states.specs.CurrentTag.{opened_of}
 use Rattle.html5ever.proofs.DeclarationReading.{late-declaration, end-declaration}
 use Rattle.html5ever.proofs.Decided.{with_reference-false, with_reference-out, state-is, state-undecided}
 use Rattle.html5ever.proofs.QueueReading.{on_ok}
-use Rattle.html5ever.proofs.UndecidedReading.{late-none, end-none, late-reference, end-reference}
+use Rattle.html5ever.proofs.UndecidedReading.{end-none, late-reference, end-reference}
 use Rattle.html5ever.proofs.position.Position.decide_at_end.Goals as goal
 
 -- a reference is open
@@ -51,12 +50,12 @@ pub returns-clause-tells : goal.returns-clause-tells
 unfolding stepped
 returns-clause-tells g c =
     let none : is_undecided_open (opened_of c.self.inside.opened) ≡ false = state-undecided c.self.inside.opened.state c.self.inside.opened.tag (string_bytes c.self.inside.opened.comment) (chars (string_bytes c.self.inside.opened.letters)) (string_bytes c.self.inside.opened.last_start_tag) ∙ sym c.is_declaration.ensures ∙ c.if-is_declaration.false in
-    rw (← c.self.view_is, with_reference-false c.self.inside.in_reference c.self.inside.held (opened_of c.self.inside.opened) c.if-self.false, late-none c.args.rules.now (opened_of c.self.inside.opened) none) refl
+    rw (← c.self.view_is, with_reference-false c.self.inside.in_reference c.self.inside.held (opened_of c.self.inside.opened) c.if-self.false, (end-none c.args.rules.now (opened_of c.self.inside.opened) none).0) refl
 
 pub returns-clause-opened : goal.returns-clause-opened
 returns-clause-opened g c =
     let none : is_undecided_open (opened_of c.self.inside.opened) ≡ false = state-undecided c.self.inside.opened.state c.self.inside.opened.tag (string_bytes c.self.inside.opened.comment) (chars (string_bytes c.self.inside.opened.letters)) (string_bytes c.self.inside.opened.last_start_tag) ∙ sym c.is_declaration.ensures ∙ c.if-is_declaration.false in
-    rw (← c.self.view_is, with_reference-false c.self.inside.in_reference c.self.inside.held (opened_of c.self.inside.opened) c.if-self.false) (sym (end-none c.args.rules.now (opened_of c.self.inside.opened) none))
+    rw (← c.self.view_is, with_reference-false c.self.inside.in_reference c.self.inside.held (opened_of c.self.inside.opened) c.if-self.false) (sym (end-none c.args.rules.now (opened_of c.self.inside.opened) none).1)
 
 pub returns-clause-decided : goal.returns-clause-decided
 returns-clause-decided g c =

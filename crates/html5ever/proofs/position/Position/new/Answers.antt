@@ -1,7 +1,7 @@
-use Rattle.std.proofs.Common.{◌≡◌, ◌∙◌, ap}
+use Rattle.std.proofs.Common.{◌∙◌, ap}
 use Rattle.std.specs.Prelude.{string_bytes}
 use Rattle.std.specs.Str.{chars}
-use Rattle.html5grammar.specs.Start.{Open, initial_mode}
+use Rattle.html5grammar.specs.Start.{initial_mode}
 use Rattle.html5grammar.specs.Start.Open.{Between}
 use Rattle.html5states.specs.CurrentTag.{open_of}
 use Rattle.html5ever.proofs.Standing.{starts-in, start-is}

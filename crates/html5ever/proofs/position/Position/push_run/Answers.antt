@@ -1,8 +1,4 @@
-use Rattle.std.proofs.Common.{◌≤◌, refl, sym, ap, ◌∙◌, arith}
-use Rattle.std.proofs.lemmas.Result.{on_ok_weaker}
-use Rattle.std.specs.Str.{chars}
-use Rattle.html5grammar.specs.Start.{held_len}
-use Rattle.html5states.specs.CharRef.{with_reference}
+use Rattle.std.proofs.Common.{arith}
 use Rattle.html5states.specs.CurrentTag.{opened_of}
 use Rattle.html5ever.proofs.Decided.{no_reference-run, with_reference-false}
 use Rattle.html5ever.proofs.position.Position.push_run.Goals as goal
@@ -15,8 +11,11 @@ returns-in_err-push_run-clause-held g c =
 pub returns-clause-opened : goal.returns-clause-opened
 returns-clause-opened g c =
     let out = no_reference-run c.self.inside.in_reference c.self.inside.held (opened_of c.self.inside.opened) _ (rw (← c.self.view_is) at c.requires.is_run) in
-    rw (← c.self.view_is, with_reference-false c.self.inside.in_reference c.self.inside.held (opened_of c.push_run.new.at) out,
-    with_reference-false c.self.inside.in_reference c.self.inside.held (opened_of c.self.inside.opened) out) c.in_ok-push_run.ensures.run
+    rw (
+      ← c.self.view_is,
+      with_reference-false c.self.inside.in_reference c.self.inside.held (opened_of c.push_run.new.at) out,
+      with_reference-false c.self.inside.in_reference c.self.inside.held (opened_of c.self.inside.opened) out,
+    ) c.in_ok-push_run.ensures.run
 
 pub returns-clause-held : goal.returns-clause-held
 returns-clause-held g c =

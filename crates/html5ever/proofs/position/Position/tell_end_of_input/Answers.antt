@@ -1,4 +1,4 @@
-use Rattle.std.proofs.Common.{◌≡◌, ◌∙◌, sym, ap, false}
+use Rattle.std.proofs.Common.{◌≡◌, ◌∙◌, sym, ap}
 use Rattle.html5grammar.specs.EndOfInput.{open_at_end_of}
 use Rattle.html5grammar.specs.Start.{Start, is_undecided_open}
 use Rattle.html5states.proofs.Tellings.{told_then, told_stop}
