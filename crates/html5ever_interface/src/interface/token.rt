@@ -56,7 +56,7 @@ pub enum Token<A: Allocator = Global> {
     DoctypeToken(Doctype<A>),
     /// A tag, at its `>`. One that has none is not told.
     TagToken(Tag<A>),
-    /// A comment's text, without `<!--` and `-->`. None is told yet.
+    /// A comment's text, without `<!--` and `-->`, or that of a bogus comment.
     CommentToken(String<A>),
     /// Text, never empty: line breaks are LF. A run of text may come in any number of these.
     CharacterTokens(String<A>),
@@ -77,7 +77,7 @@ pub enum TokenSinkResult<Handle, Text> {
     Script(Handle),
     /// Read all that follows as plain text.
     Plaintext,
-    /// Read raw text, up to the end tag of this tag's name. Not built yet.
+    /// Read raw text, up to the end tag of this tag's name.
     RawData(RawKind),
     /// Pause, since the tag names an encoding: `feed` answers its name.
     EncodingIndicator(Text),
