@@ -194,7 +194,6 @@ impl<A: Allocator> BufferQueue<A> {
         ensures begins { (result ≡ Some true) ↔ BeginsLike case self.old.text pat.now }
         ensures differs { (result ≡ Some false) ↔ Differ case self.old.text pat.now }
         ensures undecided { IsNone result ↔ EndsWithin case self.old.text pat.now }
-
         ensures takes { result ≡ Some true →
             Takes self.old self.new (take (length pat.now) self.old.text) }
         ensures count { result ≡ Some true → self.new.taken ≡ self.old.taken + length pat.now }
