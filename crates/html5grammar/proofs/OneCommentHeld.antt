@@ -12,8 +12,8 @@ use lib.Utf8.{encode}
 use Rattle.html5ever_interface.specs.Sink.{Message, stepped, on_line}
 use Rattle.html5ever_interface.specs.Token.{Told, Reply}
 use Rattle.html5ever_interface.specs.declared.states.State.TheVariants as state
-use Rattle.html5grammar.specs.Characters.{null, line_feed, hyphen, exclamation_mark, greater_than, is_between, shown, value_bytes}
-use Rattle.html5grammar.specs.Comment.{lower_case, begins_keyword, declaration_error}
+use Rattle.html5grammar.specs.Characters.{null, line_feed, hyphen, exclamation_mark, greater_than, is_between, shown, value_bytes, lower_case}
+use Rattle.html5grammar.specs.Comment.{begins_keyword, declaration_error}
 use Rattle.html5grammar.specs.ErrorText.{error_in}
 use Rattle.html5grammar.specs.NormalisedText.{line_after}
 use Rattle.html5grammar.specs.OneComment.{begins_with, can_open, held_of, behind_held_of}

@@ -1,16 +1,16 @@
 -- Comments, and what stands behind `<!`. What a character of a comment tells is said by the text of the comment before it.
-use Rattle.std.specs.Prelude.{ℕ, ◌+◌, ◌-◌, Bool, true, false, List, [], ◌∷◌, ◌++◌, ◌==◌, ◌||◌, ◌&&◌, codes, flat_map, length, map, nat_eq, not, take, if◌then◌else◌}
-use Rattle.std.specs.Char.{to_ascii_lowercase}
+use Rattle.std.specs.Prelude.{ℕ, ◌+◌, ◌-◌, Bool, true, false, List, [], ◌∷◌, ◌++◌, ◌==◌, ◌||◌, ◌&&◌, codes, flat_map, length, nat_eq, not, take, if◌then◌else◌}
 use Rattle.std.specs.List.{ends_with, starts_with}
 use Rattle.std.specs.Str.{bytes_eq}
-use Rattle.html5ever_interface.specs.Token.{Told}
+use Rattle.html5ever_interface.specs.Token.{Told, empty_doctype}
 use Rattle.html5ever_interface.specs.Token.Told.{Comment}
 use Rattle.html5ever_interface.specs.declared.states.State.{State}
 use Rattle.html5ever_interface.specs.declared.states.State.TheVariants as state
-use Rattle.html5grammar.specs.Characters.{exclamation_mark, greater_than, value_bytes}
+use Rattle.html5grammar.specs.Characters.{exclamation_mark, greater_than, lower_case, value_bytes}
+use Rattle.html5grammar.specs.Doctype.{doctype}
 use Rattle.html5grammar.specs.ErrorText.{error_in, where_true}
 use Rattle.html5grammar.specs.Slice.{Slice, Late, no_character, cut_off, one_character, with_character, with_run, run_of, behind_run}
-use Rattle.html5grammar.specs.Slice.Behind.{StopsAt, Settles}
+use Rattle.html5grammar.specs.Slice.Behind.{Settles}
 use Rattle.html5grammar.specs.Start.Mode.{Data}
 use Rattle.html5grammar.specs.Start.Open.{Between, InDeclaration, InComment, InBogusComment}
 use Rattle.html5grammar.specs.Tag.{null_error}
@@ -108,9 +108,6 @@ bogus_comment_from exact before first c text =
 
 -- ---- behind `<!`
 
-abbrev pub lower_case : List ℕ → List ℕ
-lower_case held = map to_ascii_lowercase held
-
 -- the keywords, one in any case. What is held of them is ASCII, so its characters are its bytes.
 unfoldable pub begins_keyword : List ℕ → Bool
 begins_keyword held = starts_with nat_eq (codes "--") held || starts_with nat_eq (codes "doctype") (lower_case held)
@@ -125,6 +122,6 @@ unfoldable pub declaration : Bool → List ℕ → List ℕ → Slice
 declaration exact held [] = cut_off (InDeclaration held)
 declaration exact held (c ∷ text) =
     if bytes_eq (held ++ c ∷ []) (codes "--") then with_character [] (comment exact [] text)
-    else if bytes_eq (lower_case (held ++ c ∷ [])) (codes "doctype") then no_character (StopsAt [])
+    else if bytes_eq (lower_case (held ++ c ∷ [])) (codes "doctype") then with_character [] (doctype exact empty_doctype text)
     else if begins_keyword (held ++ c ∷ []) then with_character [] (declaration exact (held ++ c ∷ []) text)
     else no_character (Settles (declaration_error exact held) (InBogusComment held))

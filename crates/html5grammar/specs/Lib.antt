@@ -6,6 +6,7 @@ pub mod Slice
 pub mod Reference
 pub mod Tag
 pub mod Text
+pub mod Doctype
 pub mod Comment
 pub mod RawText
 pub mod EndOfInput

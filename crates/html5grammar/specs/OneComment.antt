@@ -6,8 +6,8 @@ use Rattle.html5ever_interface.specs.Token.{Told}
 use Rattle.html5ever_interface.specs.Token.Told.{Comment, End}
 use Rattle.html5ever_interface.specs.declared.states.State.{State}
 use Rattle.html5ever_interface.specs.declared.states.State.TheVariants as state
-use Rattle.html5grammar.specs.Characters.{exclamation_mark, greater_than, question_mark, is_letter, value_bytes}
-use Rattle.html5grammar.specs.Comment.{ends_in, without_last, is_lone_dash, in_bogus_comment, lower_case, begins_keyword}
+use Rattle.html5grammar.specs.Characters.{exclamation_mark, greater_than, question_mark, is_letter, value_bytes, lower_case}
+use Rattle.html5grammar.specs.Comment.{ends_in, without_last, is_lone_dash, in_bogus_comment, begins_keyword}
 use Rattle.html5grammar.specs.ErrorText.{error_in, where_true}
 use Rattle.html5grammar.specs.NormalisedText.{normalised, line_after}
 use Rattle.html5grammar.specs.OneTag.{Spelled, spell, spell_silent, spelled_messages}
