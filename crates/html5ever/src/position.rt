@@ -32,12 +32,15 @@ ghost use Rattle.html5ever.specs.Tokenizer.{CanStart};
 use crate::input::Input;
 use crate::rules::Rules;
 use html5ever_interface::interface::sink::TokenSink;
-use html5ever_interface::interface::token::{SinkFault, Tag, TagKind, Token, TokenSinkResult};
+use html5ever_interface::interface::token::{
+    Doctype, SinkFault, Tag, TagKind, Token, TokenSinkResult,
+};
 use html5ever_interface::options::TokenizerOpts;
 use html5ever_interface::states::{RawKind, State};
 use html5states::char_ref::CharRef;
 use html5states::current_tag::CurrentTag;
 use html5states::declaration::hold_declaration;
+use html5states::doctype_keyword::hold_doctype_keyword;
 use html5states::error::TokenizerError;
 use html5states::message::is_bad;
 use html5states::opened::{Opened, Progress, Step};
@@ -85,6 +88,7 @@ impl<A: Allocator + Copy> Position<A> {
             state: opts.initial_state.unwrap_or(State::Data),
             tag: CurrentTag::new(alloc, TagKind::StartTag),
             comment: String::new(alloc),
+            doctype: Doctype::default(),
             letters: String::new(alloc),
             last_start_tag: name_or_empty(alloc, opts.last_start_tag_name),
         };
@@ -155,10 +159,10 @@ impl<A: Allocator + Copy> Position<A> {
             self.in_reference = false;
             return Ok(());
         }
-        if is_declaration(self.opened.state) {
-            return finish_declaration(alloc, sink, rules, &mut self.opened, line);
+        if !holds_keyword(&self.opened) {
+            return Ok(());
         }
-        Ok(())
+        finish_keyword(alloc, sink, rules, &mut self.opened, line)
     }
 
     // Whether a reference is not decided, or what stands behind `<!`.
@@ -166,7 +170,7 @@ impl<A: Allocator + Copy> Position<A> {
     fn is_undecided(&self) -> bool
         ensures { result ≡ is_undecided_open self.now.opened }
     {
-        self.in_reference || is_declaration(self.opened.state)
+        self.in_reference || holds_keyword(&self.opened)
     }
 
     /// Whether nothing is open.
@@ -305,12 +309,14 @@ fn is_between(state: State) -> bool
     }
 }
 
-// Whether what stands behind `<!` is open in the state.
+// Whether what stands behind `<!` is open, or characters that begin a keyword of a DOCTYPE.
 #[inline(always)]
-fn is_declaration(state: State) -> bool
-    ensures { result ≡ is_declaration_state state }
-{
-    matches!(state, State::MarkupDeclarationOpen)
+fn holds_keyword<A: Allocator>(opened: &Opened<A>) -> bool {
+    match opened.state {
+        State::MarkupDeclarationOpen => true,
+        State::AfterDoctypeName => !opened.comment.is_empty(),
+        _ => false,
+    }
 }
 
 // Keeps the name of a start tag as that of the last one.
@@ -342,6 +348,11 @@ fn stops_at_bad(state: State) -> bool
         State::ScriptDataEscapeStart(_) | State::ScriptDataEscapeStartDash => false,
         State::ScriptDataEscapedDash(_) | State::ScriptDataEscapedDashDash(_) => false,
         State::ScriptDataDoubleEscapeEnd | State::Comment | State::BogusComment => false,
+        State::MarkupDeclarationOpen | State::Doctype | State::BeforeDoctypeName => false,
+        State::DoctypeName | State::AfterDoctypeName | State::AfterDoctypeKeyword(_) => false,
+        State::BeforeDoctypeIdentifier(_) | State::DoctypeIdentifierDoubleQuoted(_) => false,
+        State::DoctypeIdentifierSingleQuoted(_) | State::AfterDoctypeIdentifier(_) => false,
+        State::BetweenDoctypePublicAndSystemIdentifiers | State::BogusDoctype => false,
         _ => true,
     }
 }
@@ -551,28 +562,32 @@ fn finish_reference<S: TokenSink<Token<A>>, A: Allocator + Copy>(
     teller.finish_reference(rules.names, opened, held, next)
 }
 
-// Tells that no keyword stands behind `<!`, and begins a bogus comment there.
-fn finish_declaration<S: TokenSink<Token<A>>, A: Allocator + Copy>(
+// Tells that no keyword stands where characters are held that may begin one.
+fn finish_keyword<S: TokenSink<Token<A>>, A: Allocator + Copy>(
     alloc: A,
     sink: &mut S,
     rules: &Rules<'_, A>,
     opened: &mut Opened<A>,
     line: u64,
-) -> Result<(), TokenizerError>
-    ensures tells { Tells S.step S.faulted result (S.state sink.old)
-        (on_line line (tokens_of_late (declaration_error rules.now.exact (string_bytes opened.old.comment)))) (S.state sink.new) }
-    ensures opened { opened_of opened.new ≡ InBogusComment (string_bytes opened.old.comment) }
-    ensures last { last_name_of opened.new ≡ last_name_of opened.old }
-    ensures faults { S.faults sink.new ≡ S.faults sink.old + faults_of result }
-    ensures refusal { IfErr result IsRefusal }
-{
+) -> Result<(), TokenizerError> {
     let mut teller = Teller {
         sink,
         alloc,
         exact_errors: rules.exact_errors,
         line,
     };
-    teller.finish_declaration(opened)
+    match opened.state {
+        State::MarkupDeclarationOpen => teller.finish_declaration(opened),
+        _ => teller.finish_doctype_keyword(opened),
+    }
+}
+
+// Holds a character behind those that may begin a keyword, and answers whether it belongs to one.
+fn hold_keyword<A: Allocator>(opened: &mut Opened<A>, c: char) -> Result<bool, AllocError> {
+    match opened.state {
+        State::MarkupDeclarationOpen => hold_declaration(opened, c),
+        _ => hold_doctype_keyword(opened, c),
+    }
 }
 
 // Reads a character behind what is held of a reference, whose line before it was `line`: whether it
@@ -605,8 +620,8 @@ fn read_reference<S: TokenSink<Token<A>>, A: Allocator + Copy>(
     Ok(ends)
 }
 
-// Reads a character behind what is held behind `<!`, in the same way.
-fn read_declaration<S: TokenSink<Token<A>>, A: Allocator + Copy>(
+// Reads a character behind what may begin a keyword, in the same way.
+fn read_keyword<S: TokenSink<Token<A>>, A: Allocator + Copy>(
     alloc: A,
     sink: &mut S,
     rules: &Rules<'_, A>,
@@ -625,10 +640,10 @@ fn read_declaration<S: TokenSink<Token<A>>, A: Allocator + Copy>(
     ensures held { held_len position.new.opened ≤ held_len position.old.opened + 1 }
     ensures faults { S.faults sink.new ≡ S.faults sink.old + faults_of result }
 {
-    if hold_declaration(&mut position.opened, c)? {
+    if hold_keyword(&mut position.opened, c)? {
         return Ok(true);
     }
-    finish_declaration(alloc, sink, rules, &mut position.opened, line)?;
+    finish_keyword(alloc, sink, rules, &mut position.opened, line)?;
     Ok(false)
 }
 
@@ -656,7 +671,7 @@ fn read_undecided<S: TokenSink<Token<A>>, A: Allocator + Copy>(
     if position.in_reference {
         return read_reference(alloc, sink, rules, position, line, c);
     }
-    read_declaration(alloc, sink, rules, position, line, c)
+    read_keyword(alloc, sink, rules, position, line, c)
 }
 
 /// Reads one character of the stream. The answer is `Done`, but behind a tag whose reply pauses.

@@ -3,3 +3,4 @@ pub mod Steps
 pub mod Telling
 pub mod Runs
 pub mod CharRef
+pub mod Doctypes

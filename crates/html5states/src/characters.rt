@@ -1,9 +1,9 @@
 //! Kinds of characters.
-#![tactic(auto, unfolding(html5grammar::specs::Characters::is_white_space, html5grammar::specs::Characters::is_letter, html5grammar::specs::Characters::shown, html5grammar::specs::Tag::is_odd_in_name, html5grammar::specs::Tag::is_odd_at_name, html5grammar::specs::Tag::is_odd_in_unquoted, html5grammar::specs::RawText::ends_name))]
+#![tactic(auto, unfolding(html5grammar::specs::Characters::is_white_space, html5grammar::specs::Characters::is_letter, html5grammar::specs::Characters::shown, html5grammar::specs::Characters::name_bytes, html5grammar::specs::Tag::is_odd_in_name, html5grammar::specs::Tag::is_odd_at_name, html5grammar::specs::Tag::is_odd_in_unquoted, html5grammar::specs::RawText::ends_name))]
 
-ghost use Rattle.std.specs.Prelude.{◌≡◌, ◌==◌, ◌||◌, ◌&&◌, IfSome, is_some};
+ghost use Rattle.std.specs.Prelude.{◌≡◌, ◌==◌, ◌||◌, ◌&&◌, IfSome, is_some, encode_utf8};
 ghost use Rattle.std.specs.Char.{to_ascii_lowercase};
-ghost use Rattle.html5grammar.specs.Characters.{null, is_white_space, is_letter, shown};
+ghost use Rattle.html5grammar.specs.Characters.{null, is_white_space, is_letter, shown, name_bytes};
 ghost use Rattle.html5grammar.specs.RawText.{ends_name};
 ghost use Rattle.html5grammar.specs.Tag.{is_odd_in_name, is_odd_at_name, is_odd_in_unquoted, quote_of};
 
@@ -46,6 +46,13 @@ pub fn shown(c: char) -> char
     ensures { result ≡ shown c }
 {
     if c == '\0' { '\u{fffd}' } else { c }
+}
+
+/// The character that stands for one in names: a letter in lower case, and U+FFFD for NUL.
+pub fn name_character(c: char) -> char
+    ensures { encode_utf8 result ≡ name_bytes c }
+{
+    lower_ascii_letter(c).unwrap_or(shown(c))
 }
 
 /// Whether the character is an error in an attribute's name.

@@ -10,7 +10,7 @@ ghost use Rattle.html5ever_interface.specs.Token.{tag_of};
 ghost use Rattle.html5states.specs.Telling.{Emits};
 ghost use Rattle.markup5ever.specs.Names.{attribute_of};
 
-use crate::characters::{lower_ascii_letter, shown};
+use crate::characters::{name_character, shown};
 use crate::error::TokenizerError;
 use crate::teller::Teller;
 use html5ever_interface::interface::sink::TokenSink;
@@ -64,10 +64,7 @@ impl<A: Allocator + Copy> CurrentTag<A> {
 pub fn push_name<A: Allocator>(name: &mut String<A>, c: char) -> Result<(), AllocError>
     ensures { OnOk result (string_bytes name.new ≡ string_bytes name.old ++ name_bytes c) }
 {
-    match lower_ascii_letter(c) {
-        Some(letter) => name.push(letter),
-        None => name.push(shown(c)),
-    }
+    name.push(name_character(c))
 }
 
 /// Appends a character to a value.

@@ -17,9 +17,9 @@ use crate::error::TokenizerError;
 use crate::opened::Opened;
 use crate::teller::Teller;
 use html5ever_interface::interface::sink::TokenSink;
-use html5ever_interface::interface::token::Token;
+use html5ever_interface::interface::token::{Doctype, Token};
 use html5ever_interface::states::State;
-use std::alloc::Allocator;
+use std::alloc::{AllocError, Allocator};
 
 // Whether the bytes begin the keyword of a doctype, in any case.
 fn begins_doctype(held: &[u8]) -> bool
@@ -37,7 +37,7 @@ fn begins_keyword(held: &[u8]) -> bool
 
 /// Holds a character behind `<!`, and answers whether it belongs to a keyword. That of a comment
 /// begins one. A character by which no keyword begins is still to be read.
-pub fn hold_declaration<A: Allocator>(at: &mut Opened<A>, c: char) -> Result<bool, TokenizerError>
+pub fn hold_declaration<A: Allocator>(at: &mut Opened<A>, c: char) -> Result<bool, AllocError>
     requires { at.old.state ≡ State.MarkupDeclarationOpen }
     ensures taken { result ≡ Ok true → (exact : Bool) → declaration_step exact (string_bytes at.old.comment) c
         ≡ record { settled = []; here = Tells [] (opened_of at.new) } }
@@ -61,7 +61,9 @@ pub fn hold_declaration<A: Allocator>(at: &mut Opened<A>, c: char) -> Result<boo
         return Ok(true);
     }
     if at.comment.eq_ignore_ascii_case("doctype") {
-        return Err(TokenizerError::NotYet);
+        at.state = State::Doctype;
+        at.doctype = Doctype::default();
+        return Ok(true);
     }
     if begins_keyword(at.comment.as_bytes()) {
         return Ok(true);

@@ -1,9 +1,12 @@
 //! The end of input, in the state that is open.
-#![tactic(auto, using(crate::proofs::Tellings::tells_from_memory), unfolding(html5grammar::specs::EndOfInput::told_at_end_of, html5grammar::specs::EndOfInput::told_at_raw_end, html5grammar::specs::EndOfInput::raw_end_error, html5grammar::specs::RawText::raw_state, html5grammar::specs::RawText::escaped_state, html5grammar::specs::EndOfInput::state_at))]
+#![tactic(auto, using(crate::proofs::Tellings::tells_from_memory), unfolding(html5grammar::specs::EndOfInput::told_at_end_of, html5grammar::specs::EndOfInput::told_at_raw_end, html5grammar::specs::EndOfInput::raw_end_error, html5grammar::specs::RawText::raw_state, html5grammar::specs::RawText::escaped_state, html5grammar::specs::EndOfInput::state_at, html5grammar::specs::EndOfInput::told_at_doctype_end, html5grammar::specs::EndOfInput::doctype_state_at))]
 
 ghost use Rattle.std.specs.Prelude.{◌≡◌, ◌∷◌, [], ◌++◌, false, codes, encode_utf8};
 ghost use Rattle.std.specs.Str.{chars};
+ghost use Rattle.html5ever_interface.specs.Token.{doctype_of};
 ghost use Rattle.html5ever_interface.specs.Token.Told.{Text, Comment, End};
+ghost use Rattle.html5ever_interface.specs.Token.Told as told;
+ghost use Rattle.html5grammar.specs.Doctype.{with_quirks};
 ghost use Rattle.html5grammar.specs.Characters.{solidus, less_than};
 ghost use Rattle.html5grammar.specs.EndOfInput.{told_at_end_of, raw_end_error};
 ghost use Rattle.html5grammar.specs.ErrorText.{end_error_in};
@@ -15,11 +18,12 @@ ghost use Rattle.html5states.specs.Steps.{IsBuilt};
 ghost use Rattle.html5states.specs.Telling.{Emits};
 
 use crate::comments::{content_len, state_in_comment};
+use crate::doctypes::is_doctype_state;
 use crate::error::TokenizerError;
 use crate::opened::Opened;
 use crate::teller::Teller;
 use html5ever_interface::interface::sink::TokenSink;
-use html5ever_interface::interface::token::Token;
+use html5ever_interface::interface::token::{Doctype, Token};
 use html5ever_interface::states::AttrValueKind::Unquoted;
 use html5ever_interface::states::{RawKind, ScriptEscapeKind, State};
 use std::alloc::Allocator;
@@ -132,6 +136,30 @@ impl<S: TokenSink<Token<A>>, A: Allocator + Copy> Teller<'_, S, A> {
         self.end_behind_comment(&text[..content_len(text)])
     }
 
+    // Ends behind a DOCTYPE, with quirks or without.
+    fn end_behind_doctype(
+        &mut self,
+        doctype: &Doctype<A>,
+        force_quirks: bool,
+    ) -> Result<(), TokenizerError>
+        ensures { Emits S.state S.faults S.step S.faulted result self.old self.new
+            (told.Doctype (record (doctype_of doctype.now) { force_quirks = force_quirks }) ∷ End ∷ []) }
+    {
+        let mut doctype = doctype.try_clone()?;
+        doctype.force_quirks = force_quirks;
+        self.tell(Token::DoctypeToken(doctype))?;
+        self.tell(Token::EOFToken)
+    }
+
+    // Ends in a state of DOCTYPEs that doesn't expect it.
+    fn end_in_doctype(&mut self, state: State, doctype: &Doctype<A>) -> Result<(), TokenizerError>
+        ensures { Emits S.state S.faults S.step S.faulted result self.old self.new
+            (end_error_in self.old.exact_errors state ∷ told.Doctype (with_quirks (doctype_of doctype.now)) ∷ End ∷ []) }
+    {
+        self.emit_end_error(state)?;
+        self.end_behind_doctype(doctype, true)
+    }
+
     /// Tells what the end of input tells in the state. A tag without its end is not told.
     pub fn tell_end_of_input(&mut self, at: &Opened<A>) -> Result<(), TokenizerError>
         requires built { IsBuilt (opened_of at.now) }
@@ -161,6 +189,8 @@ impl<S: TokenSink<Token<A>>, A: Allocator + Copy> Teller<'_, S, A> {
             State::TagOpen => self.end_in_tag_open(),
             State::EndTagOpen => self.end_in_end_tag_open(),
             State::BeforeAttributeValue => self.end_unexpected(State::AttributeValue(Unquoted)),
+            State::BogusDoctype => self.end_behind_doctype(&at.doctype, at.doctype.force_quirks),
+            state if is_doctype_state(state) => self.end_in_doctype(state, &at.doctype),
             state => self.end_unexpected(state),
         }
     }

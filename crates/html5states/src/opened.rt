@@ -2,6 +2,7 @@
 
 use crate::current_tag::CurrentTag;
 use crate::error::TokenizerError;
+use html5ever_interface::interface::token::Doctype;
 use html5ever_interface::states::State;
 use std::alloc::{Allocator, Global};
 
@@ -10,8 +11,10 @@ use std::alloc::{Allocator, Global};
 pub struct Opened<A: Allocator = Global> {
     pub state: State,
     pub tag: CurrentTag<A>,
-    /// The comment that was begun, up to here, or what is held behind `<!`.
+    /// The comment that was begun, up to here, or the characters that may begin a keyword.
     pub comment: String<A>,
+    /// The DOCTYPE that was begun, up to here.
+    pub doctype: Doctype<A>,
     /// In raw text the letters behind `</`, or behind the `<` of escaped script data.
     pub letters: String<A>,
     /// The name whose end tag ends raw text, that of the last start tag. The empty name is none.

@@ -5,6 +5,7 @@ ghost use Rattle.html5grammar.proofs.Machine.{step_at};
 ghost use Rattle.html5states.specs.CurrentTag.{opened_of};
 ghost use Rattle.html5states.specs.Telling.{Reads};
 
+use crate::doctypes::is_doctype_state;
 use crate::error::TokenizerError;
 use crate::opened::{Opened, Step};
 use crate::teller::Teller;
@@ -48,6 +49,7 @@ impl<S: TokenSink<Token<A>>, A: Allocator + Copy> Teller<'_, S, A> {
             State::ScriptDataDoubleEscapeEnd => self.script_data_double_escape_end_state(at, c),
             State::Comment => self.comment_state(at, c),
             State::BogusComment => self.bogus_comment_state(at, c),
+            state if is_doctype_state(state) => self.step_in_doctype(at, c),
             _ => Err(TokenizerError::NotYet),
         }
     }
