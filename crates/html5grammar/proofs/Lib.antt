@@ -29,4 +29,5 @@ pub mod OneCommentReading
 pub mod OneCommentCollected
 mod WrittenRawCases
 mod CommentCases
+mod DoctypeCases
 mod OneCommentCases
