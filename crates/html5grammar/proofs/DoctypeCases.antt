@@ -3,11 +3,12 @@ use Rattle.std.specs.Prelude.{◌≡◌, ℕ, Bool, true, false, List, [], ◌�
 use Rattle.html5ever_interface.specs.Token.{Told}
 use Rattle.html5ever_interface.specs.Token.Told.{Text, Error, Doctype, End}
 use Rattle.html5ever_interface.specs.Token.Reply.{KeepOn}
-use Rattle.html5grammar.specs.Reading.{TextPlace, Event, reading}
+use Rattle.html5grammar.specs.Reading.{TextPlace, Event, reading, told, after}
 use Rattle.html5grammar.specs.Reading.TextPlace.{Character, EndOfInput}
-use Rattle.html5grammar.specs.Start.{Start}
+use Rattle.html5grammar.specs.Start.{Start, Open}
 use Rattle.html5grammar.specs.Start.Mode.{Data}
-use Rattle.html5grammar.specs.Start.Open.{Between}
+use Rattle.html5grammar.specs.Start.DoctypePlace.{Skipped}
+use Rattle.html5grammar.specs.Start.Open.{Between, InDoctype, InDoctypeKeyword}
 use lib.Utf8.{encode}
 use Rattle.html5ever_interface.specs.Sink.{stepped}
 use Rattle.html5grammar.specs.Characters.{is_bad_character, is_letter, is_white_space, name_bytes, shown, value_bytes}
@@ -26,6 +27,13 @@ start = record { opened = Between Data; last_start_tag = []; input = record { li
 
 abbrev events : Bool → List ℕ → List Event
 events exact text = reading {S = ℕ} {H = ℕ} (λ s t l. s) (λ s t l. KeepOn) (record { exact = exact; names = [] }) start 0 text
+
+-- what is told where the text may go on, and what is open then
+abbrev told_of : List ℕ → List Event
+told_of text = told {S = ℕ} {H = ℕ} (λ s t l. s) (λ s t l. KeepOn) (record { exact = false; names = [] }) start 0 text
+
+abbrev opened_behind : List ℕ → Open
+opened_behind text = (after {S = ℕ} {H = ℕ} (λ s t l. s) (λ s t l. KeepOn) (record { exact = false; names = [] }) start 0 text).opened
 
 abbrev event : Told → TextPlace → TextPlace → ℕ → Event
 event token stands decided_by line = record { message = record { token = token; line = line }; stands = stands; decided_by = decided_by }
@@ -212,3 +220,23 @@ end_in_the_skipped_rest = refl
 exact_end : events true (codes "<!doctype a") ≡ event (Error (codes "Unexpected EOF")) EndOfInput EndOfInput 1 ∷ event (doctype_token (Some (codes "a")) None None true) EndOfInput EndOfInput 1 ∷ event End EndOfInput EndOfInput 1 ∷ []
 unfolding reading encode stepped is_bad_character is_letter is_white_space name_bytes shown value_bytes rest_of next_slice slice_at doctype_state_at told_at_doctype_end told_at_end_of bad_character saw saw_end normalised with_line_feeds without_dropped_first read read_from here brought events_at late_events late_at_end_of open_at_end_of end_events line_after behind_run run_of data_text behind_less_than declaration begins_keyword doctype before_doctype_name behind_word_and_space wanted_name doctype_name in_doctype_name behind_doctype_name behind_doctype_name_and_space keyword_or_end begins_doctype_keyword keyword_error doctype_keyword behind_keyword behind_keyword_and_space identifier_behind_space wanted_identifier in_identifier identifier behind_in_identifier behind_identifier system_or_end behind_space_between between_identifiers in_skipped_rest behind_skipped_rest skipped_rest skipped_from
 exact_end = refl
+
+held_keyword_is_not_told : told_of (codes "<!doctype a PU") ≡ []
+unfolding reading told encode stepped is_bad_character is_letter is_white_space name_bytes shown value_bytes rest_of next_slice slice_at doctype_state_at told_at_doctype_end told_at_end_of bad_character saw saw_end normalised with_line_feeds without_dropped_first read read_from here brought events_at late_events late_at_end_of open_at_end_of end_events line_after behind_run run_of data_text behind_less_than declaration begins_keyword doctype before_doctype_name behind_word_and_space wanted_name doctype_name in_doctype_name behind_doctype_name behind_doctype_name_and_space keyword_or_end begins_doctype_keyword keyword_error doctype_keyword behind_keyword behind_keyword_and_space identifier_behind_space wanted_identifier in_identifier identifier behind_in_identifier behind_identifier system_or_end behind_space_between between_identifiers in_skipped_rest behind_skipped_rest skipped_rest skipped_from
+held_keyword_is_not_told = refl
+
+held_keyword_is_open : opened_behind (codes "<!doctype a PU") ≡ InDoctypeKeyword (codes "PU") (record { name = Some (codes "a"); public_id = None; system_id = None; force_quirks = false })
+unfolding reading told encode stepped is_bad_character is_letter is_white_space name_bytes shown value_bytes rest_of next_slice slice_at doctype_state_at told_at_doctype_end told_at_end_of bad_character saw saw_end normalised with_line_feeds without_dropped_first read read_from here brought events_at late_events late_at_end_of open_at_end_of end_events line_after behind_run run_of data_text behind_less_than declaration begins_keyword doctype before_doctype_name behind_word_and_space wanted_name doctype_name in_doctype_name behind_doctype_name behind_doctype_name_and_space keyword_or_end begins_doctype_keyword keyword_error doctype_keyword behind_keyword behind_keyword_and_space identifier_behind_space wanted_identifier in_identifier identifier behind_in_identifier behind_identifier system_or_end behind_space_between between_identifiers in_skipped_rest behind_skipped_rest skipped_rest skipped_from
+held_keyword_is_open = refl
+
+failed_keyword_is_told : told_of (codes "<!doctype a PX") ≡ event (Error (codes "Saw P in state AfterDoctypeName")) (Character 12) (Character 13) 1 ∷ []
+unfolding reading told encode stepped is_bad_character is_letter is_white_space name_bytes shown value_bytes rest_of next_slice slice_at doctype_state_at told_at_doctype_end told_at_end_of bad_character saw saw_end normalised with_line_feeds without_dropped_first read read_from here brought events_at late_events late_at_end_of open_at_end_of end_events line_after behind_run run_of data_text behind_less_than declaration begins_keyword doctype before_doctype_name behind_word_and_space wanted_name doctype_name in_doctype_name behind_doctype_name behind_doctype_name_and_space keyword_or_end begins_doctype_keyword keyword_error doctype_keyword behind_keyword behind_keyword_and_space identifier_behind_space wanted_identifier in_identifier identifier behind_in_identifier behind_identifier system_or_end behind_space_between between_identifiers in_skipped_rest behind_skipped_rest skipped_rest skipped_from
+failed_keyword_is_told = refl
+
+failed_keyword_is_skipped : opened_behind (codes "<!doctype a PX") ≡ InDoctype Skipped (record { name = Some (codes "a"); public_id = None; system_id = None; force_quirks = true })
+unfolding reading told encode stepped is_bad_character is_letter is_white_space name_bytes shown value_bytes rest_of next_slice slice_at doctype_state_at told_at_doctype_end told_at_end_of bad_character saw saw_end normalised with_line_feeds without_dropped_first read read_from here brought events_at late_events late_at_end_of open_at_end_of end_events line_after behind_run run_of data_text behind_less_than declaration begins_keyword doctype before_doctype_name behind_word_and_space wanted_name doctype_name in_doctype_name behind_doctype_name behind_doctype_name_and_space keyword_or_end begins_doctype_keyword keyword_error doctype_keyword behind_keyword behind_keyword_and_space identifier_behind_space wanted_identifier in_identifier identifier behind_in_identifier behind_identifier system_or_end behind_space_between between_identifiers in_skipped_rest behind_skipped_rest skipped_rest skipped_from
+failed_keyword_is_skipped = refl
+
+nothing_is_open_behind : opened_behind (codes "<!doctype a>") ≡ Between Data
+unfolding reading told encode stepped is_bad_character is_letter is_white_space name_bytes shown value_bytes rest_of next_slice slice_at doctype_state_at told_at_doctype_end told_at_end_of bad_character saw saw_end normalised with_line_feeds without_dropped_first read read_from here brought events_at late_events late_at_end_of open_at_end_of end_events line_after behind_run run_of data_text behind_less_than declaration begins_keyword doctype before_doctype_name behind_word_and_space wanted_name doctype_name in_doctype_name behind_doctype_name behind_doctype_name_and_space keyword_or_end begins_doctype_keyword keyword_error doctype_keyword behind_keyword behind_keyword_and_space identifier_behind_space wanted_identifier in_identifier identifier behind_in_identifier behind_identifier system_or_end behind_space_between between_identifiers in_skipped_rest behind_skipped_rest skipped_rest skipped_from
+nothing_is_open_behind = refl

@@ -297,8 +297,8 @@ declaration_step exact held c =
 -- a character behind what may begin a keyword of a doctype
 unfoldable pub doctype_keyword_step : Bool → List ℕ → DoctypeOf → ℕ → Brought Open
 doctype_keyword_step exact held d c =
-    if is_keyword (held ++ c ∷ []) (codes "public") then record { settled = []; here = Tells [] (InDoctype (AfterKeyword Public) d) }
-    else if is_keyword (held ++ c ∷ []) (codes "system") then record { settled = []; here = Tells [] (InDoctype (AfterKeyword System) d) }
+    if is_keyword Public (held ++ c ∷ []) then record { settled = []; here = Tells [] (InDoctype (AfterKeyword Public) d) }
+    else if is_keyword System (held ++ c ∷ []) then record { settled = []; here = Tells [] (InDoctype (AfterKeyword System) d) }
     else if begins_doctype_keyword (held ++ c ∷ []) then record { settled = []; here = Tells [] (InDoctypeKeyword (held ++ c ∷ []) d) }
     else record { settled = keyword_error exact held; here = skipped_step exact [] (with_quirks d) c }
 

@@ -374,8 +374,8 @@ no_tags-keyword_error exact (c ∷ held) = (refl, tt)
 no_tags-doctype_keyword : (exact : Bool) (held : List ℕ) (d : DoctypeOf) (c : ℕ) → NoTags (tokens_of_late (doctype_keyword_step exact held d c).settled)
 unfolding doctype_keyword_step NoTags
 no_tags-doctype_keyword exact held d c =
-    no_tags-brought (is_keyword (held ++ c ∷ []) (codes "public")) _ _ tt
-    (no_tags-brought (is_keyword (held ++ c ∷ []) (codes "system")) _ _ tt
+    no_tags-brought (is_keyword Public (held ++ c ∷ [])) _ _ tt
+    (no_tags-brought (is_keyword System (held ++ c ∷ [])) _ _ tt
     (no_tags-brought (begins_doctype_keyword (held ++ c ∷ [])) _ _ tt (no_tags-keyword_error exact held)))
 
 pub no_tags-settled : (rules : Rules) (opened : Open) (c : ℕ) → NoTags (tokens_of_late (brought_at rules opened c).settled)

@@ -626,8 +626,8 @@ module _ (rules : Rules) (c : ℕ) (text : List ℕ) where
   brings-doctype_keyword : (held : List ℕ) (d : DoctypeOf) → brings (doctype_keyword rules.exact held d (c ∷ text)) (doctype_keyword_step rules.exact held d c)
   unfolding doctype_keyword doctype_keyword_step here slice_at brought rest_of
   brings-doctype_keyword held d =
-      brings-if (is_keyword (held ++ c ∷ []) (codes "public")) _ _ _ _ refl
-      (brings-if (is_keyword (held ++ c ∷ []) (codes "system")) _ _ _ _ refl
+      brings-if (is_keyword Public (held ++ c ∷ [])) _ _ _ _ refl
+      (brings-if (is_keyword System (held ++ c ∷ [])) _ _ _ _ refl
       (brings-if (begins_doctype_keyword (held ++ c ∷ [])) _ _ _ _ refl
       (ap (λ h. record { settled = keyword_error rules.exact held; here = h }) (follows-skipped_rest (with_quirks d)).0)))
 

@@ -2,7 +2,7 @@
 use Rattle.std.proofs.Common.{◌≡◌, ℕ, Bool, true, false, List, [], ◌∷◌, refl, ap, sym}
 use Rattle.std.specs.Prelude.{◌==◌, ◌&&◌, if◌then◌else◌}
 use Rattle.std.proofs.lemmas.List.{append-nil}
-use Rattle.html5ever_interface.specs.Token.{Told}
+use Rattle.html5ever_interface.specs.Token.{Told, DoctypeOf}
 use Rattle.html5ever_interface.specs.declared.states.State.TheVariants as state
 use Rattle.html5grammar.specs.Characters.{null, ampersand, solidus, less_than, greater_than, is_white_space}
 use Rattle.html5grammar.specs.ErrorText.{error_in}
@@ -12,7 +12,7 @@ use Rattle.html5grammar.specs.Start.{Raw, OpenTag, Open}
 use Rattle.html5grammar.specs.Start.Place.{BeforeAttribute, AfterQuotedValue, AfterSolidus}
 use Rattle.html5grammar.specs.RawText.{is_rcdata}
 use Rattle.html5grammar.specs.Tag.{place_error, first_error}
-use Rattle.html5grammar.proofs.Machine.{told_first, part_step, data_step, raw_step, bogus_comment_step}
+use Rattle.html5grammar.proofs.Machine.{told_first, part_step, data_step, raw_step, bogus_comment_step, skipped_step, wanted_name_step}
 
 told_first-if : (before : List Told) (test : Bool) (p q p2 q2 : Here Open) → p2 ≡ told_first before p → q2 ≡ told_first before q
     → (if test then p2 else q2) ≡ told_first before (if test then p else q)
@@ -38,6 +38,14 @@ pub bogus_comment_step-before : (exact : Bool) (before : List ℕ) (first : List
     → bogus_comment_step exact before first c ≡ told_first first (bogus_comment_step exact before [] c)
 unfolding bogus_comment_step
 bogus_comment_step-before exact before first c = told_first-if first (c == greater_than) _ _ _ _ refl refl
+
+pub skipped_step-before : (exact : Bool) (errors : List Told) (d : DoctypeOf) (c : ℕ) → skipped_step exact errors d c ≡ told_first errors (skipped_step exact [] d c)
+unfolding skipped_step
+skipped_step-before exact errors d c = told_first-if errors (c == greater_than) _ _ _ _ refl refl
+
+pub wanted_name_step-before : (exact : Bool) (errors : List Told) (d : DoctypeOf) (c : ℕ) → wanted_name_step exact errors d c ≡ told_first errors (wanted_name_step exact [] d c)
+unfolding wanted_name_step
+wanted_name_step-before exact errors d c = told_first-if errors (c == greater_than) _ _ _ _ refl refl
 
 -- behind `/` or a quoted value another part is read as before an attribute, behind the error of the place
 pub part-after_solidus : (exact : Bool) (tag : OpenTag) (c : ℕ) → (c == greater_than) ≡ false

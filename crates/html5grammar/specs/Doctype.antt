@@ -1,4 +1,5 @@
--- Doctypes: a name, and behind it maybe `public` or `system` with identifiers, up to `>`. What doesn't belong there is skipped.
+-- Doctypes: a name, behind it maybe `public` or `system` with identifiers, and `>`. From what doesn't belong there on the rest is
+-- skipped. Below, the parts stand from the last to the first.
 use Rattle.std.specs.Prelude.{ℕ, ◌+◌, Bool, true, false, List, [], ◌∷◌, ◌++◌, ◌==◌, ◌||◌, codes, flat_map, length, nat_eq, not, Option, Some, option_map, if◌then◌else◌}
 use Rattle.std.specs.List.{starts_with}
 use Rattle.std.specs.Str.{bytes_eq}
@@ -19,7 +20,7 @@ use Rattle.html5grammar.specs.Start.Open.{Between, InDoctype, InDoctypeKeyword}
 use Rattle.html5grammar.specs.Start.Quotes.{DoubleQuotes, SingleQuotes}
 use Rattle.html5grammar.specs.Tag.{null_error}
 
--- ---- what a doctype has so far
+-- ---- what a doctype has so far, which is d below
 
 abbrev pub with_quirks : DoctypeOf → DoctypeOf
 with_quirks d = record d { force_quirks = true }
@@ -45,12 +46,13 @@ abbrev pub with_identifier : DoctypeIdKind → DoctypeOf → List ℕ → Doctyp
 with_identifier Public d run = record d { public_id = with_more d.public_id (flat_map value_bytes run) }
 with_identifier System d run = record d { system_id = with_more d.system_id (flat_map value_bytes run) }
 
--- the `>` of a doctype, where something is told before it
+-- the `>` of a doctype, where errors are told first
 abbrev pub told_doctype : List Told → DoctypeOf → Slice
-told_doctype first d = one_character (first ++ Doctype d ∷ []) (Between Data)
+told_doctype errors d = one_character (errors ++ Doctype d ∷ []) (Between Data)
 
 -- ---- the rest that is skipped
 
+-- all up to `>` is dropped, at which the doctype is told; a NUL in it is an error
 unfoldable pub in_skipped_rest : ℕ → Bool
 in_skipped_rest c = not (c == greater_than)
 
@@ -58,13 +60,12 @@ unfoldable pub behind_skipped_rest : DoctypeOf → List ℕ → Slice
 behind_skipped_rest d [] = cut_off (InDoctype Skipped d)
 behind_skipped_rest d (c ∷ text) = told_doctype [] d
 
--- all up to `>` is dropped; a NUL in it is an error
 unfoldable pub skipped_rest : Bool → DoctypeOf → List ℕ → Slice
 skipped_rest exact d text =
     let run : List ℕ = run_of in_skipped_rest text in
     with_run (null_error exact state.BogusDoctype) run (behind_skipped_rest d (behind_run in_skipped_rest text))
 
--- the same from c on, where errors are told first
+-- the rest from c on, where errors are told first
 unfoldable pub skipped_from : Bool → List Told → DoctypeOf → ℕ → List ℕ → Slice
 skipped_from exact errors d c text =
     if c == greater_than then told_doctype errors d
@@ -81,25 +82,24 @@ abbrev pub identifier_state : Quotes → DoctypeIdKind → State
 identifier_state DoubleQuotes kind = state.DoctypeIdentifierDoubleQuoted kind
 identifier_state SingleQuotes kind = state.DoctypeIdentifierSingleQuoted kind
 
+-- an identifier runs to its quote, or to a `>` before that, which is an error and ends the doctype with quirks
 unfoldable pub in_identifier : Quotes → ℕ → Bool
 in_identifier quotes c = not ((c == quote_mark quotes) || (c == greater_than))
 
--- a `>` before the quote ends the doctype, which is an error
 unfoldable pub behind_in_identifier : Bool → Quotes → DoctypeIdKind → DoctypeOf → List ℕ → Slice
 behind_in_identifier exact quotes kind d [] = cut_off (InDoctype (InIdentifier quotes kind) d)
 behind_in_identifier exact quotes kind d (c ∷ text) =
     if c == greater_than then told_doctype (error_in exact (identifier_state quotes kind) c ∷ []) (with_quirks d)
     else one_character [] (InDoctype (AfterIdentifier kind) d)
 
--- an identifier runs to its quote, or to `>`
 unfoldable pub identifier : Bool → Quotes → DoctypeIdKind → DoctypeOf → List ℕ → Slice
 identifier exact quotes kind d text =
     let run : List ℕ = run_of (in_identifier quotes) text in
     with_run (null_error exact (identifier_state quotes kind)) run
     (behind_in_identifier exact quotes kind (with_identifier kind d run) (behind_run (in_identifier quotes) text))
 
--- where an identifier is wanted a quote begins it, which is an error where no white space came before; all else is an error, and
--- is skipped. The error names the state.
+-- where an identifier is wanted a quote begins it, and that is an error where it stands directly behind what came before. Another
+-- character is an error, and the first of the skipped rest, with quirks.
 unfoldable pub wanted_identifier : Bool → Bool → State → DoctypeIdKind → DoctypeOf → ℕ → List ℕ → Slice
 wanted_identifier exact is_direct named kind d c text =
     let error : Told = error_in exact named c in
@@ -107,11 +107,12 @@ wanted_identifier exact is_direct named kind d c text =
     else if c == apostrophe then with_character (where_true is_direct error) (identifier exact SingleQuotes kind (with_begun_identifier kind d) text)
     else skipped_from exact (error ∷ []) (with_quirks d) c text
 
--- behind a public identifier that of the system may stand
+-- behind a public identifier `>` ends the doctype, and that of the system may stand
 unfoldable pub system_or_end : Bool → Bool → State → DoctypeOf → ℕ → List ℕ → Slice
 system_or_end exact is_direct named d c text =
     if c == greater_than then told_doctype [] d else wanted_identifier exact is_direct named System d c text
 
+-- behind a public identifier and white space
 unfoldable pub behind_space_between : Bool → DoctypeOf → List ℕ → Slice
 behind_space_between exact d [] = cut_off (InDoctype BetweenIdentifiers d)
 behind_space_between exact d (c ∷ text) = system_or_end exact false state.BetweenDoctypePublicAndSystemIdentifiers d c text
@@ -119,7 +120,8 @@ behind_space_between exact d (c ∷ text) = system_or_end exact false state.Betw
 unfoldable pub between_identifiers : Bool → DoctypeOf → List ℕ → Slice
 between_identifiers exact d text = with_run silent (run_of is_white_space text) (behind_space_between exact d (behind_run is_white_space text))
 
--- what c begins behind an identifier
+-- what c begins directly behind an identifier: behind that of the system there is only white space up to `>`, and an error is
+-- without quirks
 unfoldable pub behind_identifier : Bool → DoctypeIdKind → DoctypeOf → ℕ → List ℕ → Slice
 behind_identifier exact Public d c text =
     if is_white_space c then with_character [] (between_identifiers exact d text)
@@ -129,7 +131,7 @@ behind_identifier exact System d c text =
     else if c == greater_than then told_doctype [] d
     else skipped_from exact (error_in exact (state.AfterDoctypeIdentifier System) c ∷ []) d c text
 
--- ---- the keywords `public` and `system`, one in any case
+-- ---- the keywords `public` and `system`, in any case
 
 -- behind a keyword and white space
 unfoldable pub behind_keyword_and_space : Bool → DoctypeIdKind → DoctypeOf → List ℕ → Slice
@@ -140,36 +142,42 @@ unfoldable pub identifier_behind_space : Bool → DoctypeIdKind → DoctypeOf �
 identifier_behind_space exact kind d text =
     with_run silent (run_of is_white_space text) (behind_keyword_and_space exact kind d (behind_run is_white_space text))
 
+-- directly behind a keyword
 unfoldable pub behind_keyword : Bool → DoctypeIdKind → DoctypeOf → List ℕ → Slice
 behind_keyword exact kind d [] = cut_off (InDoctype (AfterKeyword kind) d)
 behind_keyword exact kind d (c ∷ text) =
     if is_white_space c then with_character [] (identifier_behind_space exact kind d text)
     else wanted_identifier exact true (state.AfterDoctypeKeyword kind) kind d c text
 
-abbrev pub is_keyword : List ℕ → List ℕ → Bool
-is_keyword held word = bytes_eq (lower_case held) word
+abbrev pub keyword_of : DoctypeIdKind → List ℕ
+keyword_of Public = codes "public"
+keyword_of System = codes "system"
+
+-- whether the characters are the keyword, and whether a keyword begins with them
+abbrev pub is_keyword : DoctypeIdKind → List ℕ → Bool
+is_keyword kind held = bytes_eq (lower_case held) (keyword_of kind)
 
 unfoldable pub begins_doctype_keyword : List ℕ → Bool
-begins_doctype_keyword held = starts_with nat_eq (codes "public") (lower_case held) || starts_with nat_eq (codes "system") (lower_case held)
+begins_doctype_keyword held = starts_with nat_eq (keyword_of Public) (lower_case held) || starts_with nat_eq (keyword_of System) (lower_case held)
 
--- where characters begin a keyword and none comes, that is an error at the first of them
+-- where held characters begin a keyword and none comes, that is an error at the first of them, which it names
 unfoldable pub keyword_error : Bool → List ℕ → List Late
 keyword_error exact [] = []
 keyword_error exact (c ∷ held) =
     record { token = error_in exact state.AfterDoctypeName c; back = length held + 2; is_at = true; is_held = false } ∷ []
 
--- the keyword with which the text begins decides, or the first character by which none begins; then the rest is skipped
+-- a keyword decides, or the first character by which none begins: then what is held is dropped, and the rest is skipped
 unfoldable pub doctype_keyword : Bool → List ℕ → DoctypeOf → List ℕ → Slice
 doctype_keyword exact held d [] = cut_off (InDoctypeKeyword held d)
 doctype_keyword exact held d (c ∷ text) =
-    if is_keyword (held ++ c ∷ []) (codes "public") then with_character [] (behind_keyword exact Public d text)
-    else if is_keyword (held ++ c ∷ []) (codes "system") then with_character [] (behind_keyword exact System d text)
+    if is_keyword Public (held ++ c ∷ []) then with_character [] (behind_keyword exact Public d text)
+    else if is_keyword System (held ++ c ∷ []) then with_character [] (behind_keyword exact System d text)
     else if begins_doctype_keyword (held ++ c ∷ []) then with_character [] (doctype_keyword exact (held ++ c ∷ []) d text)
     else no_character (Settles (keyword_error exact held) (InDoctype Skipped (with_quirks d)))
 
 -- ---- the name
 
--- what stands behind the name and white space: the end, a keyword, or what is skipped, with an error
+-- behind the name and white space stands `>`, or a keyword; another character is an error, and the first of the skipped rest
 unfoldable pub keyword_or_end : Bool → DoctypeOf → List ℕ → Slice
 keyword_or_end exact d [] = cut_off (InDoctype AfterName d)
 keyword_or_end exact d (c ∷ text) =
@@ -181,21 +189,23 @@ unfoldable pub behind_doctype_name_and_space : Bool → DoctypeOf → List ℕ �
 behind_doctype_name_and_space exact d text =
     with_run silent (run_of is_white_space text) (keyword_or_end exact d (behind_run is_white_space text))
 
+-- directly behind the name
 unfoldable pub behind_doctype_name : Bool → DoctypeOf → List ℕ → Slice
 behind_doctype_name exact d [] = cut_off (InDoctype InDoctypeName d)
 behind_doctype_name exact d (c ∷ text) =
     if c == greater_than then told_doctype [] d else with_character [] (behind_doctype_name_and_space exact d text)
 
+-- a name runs to white space or `>`
 unfoldable pub in_doctype_name : ℕ → Bool
 in_doctype_name c = not (is_white_space c || (c == greater_than))
 
--- the name behind its first character runs to white space or `>`
+-- the name behind its first character
 unfoldable pub doctype_name : Bool → DoctypeOf → List ℕ → Slice
 doctype_name exact d text =
     let run : List ℕ = run_of in_doctype_name text in
     with_run (null_error exact state.DoctypeName) run (behind_doctype_name exact (with_doctype_name d run) (behind_run in_doctype_name text))
 
--- c is the first character of the name, or the `>` of a doctype without one, where errors are told first
+-- where the name is wanted c is its first character, or the `>` of a doctype without one, with quirks; errors are told first
 unfoldable pub wanted_name : Bool → List Told → DoctypeOf → ℕ → List ℕ → Slice
 wanted_name exact errors d c text =
     if c == greater_than then one_character (errors ++ error_in exact state.BeforeDoctypeName c ∷ Doctype (with_quirks d) ∷ []) (Between Data)
