@@ -8,10 +8,10 @@ use Rattle.html5ever_interface.specs.declared.states.AttrValueKind.TheVariants.{
 use Rattle.html5ever_interface.specs.declared.states.DoctypeIdKind.{DoctypeIdKind}
 use Rattle.html5ever_interface.specs.declared.states.DoctypeIdKind.TheVariants.{Public, System}
 use Rattle.html5ever_interface.specs.declared.states.RawKind.{RawKind}
-use Rattle.html5ever_interface.specs.declared.states.State.{State}
-use Rattle.html5ever_interface.specs.declared.states.State.TheVariants as state
 use Rattle.html5ever_interface.specs.declared.states.RawKind.TheVariants as raw_kind
 use Rattle.html5ever_interface.specs.declared.states.ScriptEscapeKind.TheVariants as escape_kind
+use Rattle.html5ever_interface.specs.declared.states.State.{State}
+use Rattle.html5ever_interface.specs.declared.states.State.TheVariants as state
 use Rattle.html5grammar.specs.Characters.{null, exclamation_mark, quotation_mark, ampersand, apostrophe, hyphen, solidus, less_than, equals_sign, greater_than, question_mark, is_letter, is_white_space}
 use Rattle.html5grammar.specs.Comment.{ends_comment}
 use Rattle.html5grammar.specs.Doctype.{in_identifier, begins_doctype_keyword, in_doctype_name}

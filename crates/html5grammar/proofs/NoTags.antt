@@ -3,11 +3,11 @@ use Rattle.std.proofs.Common.{◌≡◌, ℕ, Bool, true, false, List, [], ◌�
 use Rattle.std.specs.Prelude.{◌&&◌, ◌==◌, codes, encode_utf8, map, drop, length, Option, None, Some, if◌then◌else◌}
 use Rattle.html5ever_interface.specs.Token.{Told, DoctypeOf, is_tag}
 use Rattle.html5ever_interface.specs.Token.Told.{Text, Comment, Doctype}
+use Rattle.html5ever_interface.specs.declared.states.State.{State}
 use Rattle.html5ever_interface.specs.declared.states.State.TheVariants as state
 use Rattle.html5ever_interface.specs.declared.states.DoctypeIdKind.{DoctypeIdKind}
 use Rattle.html5ever_interface.specs.declared.states.DoctypeIdKind.TheVariants.{Public, System}
 use Rattle.html5ever_interface.specs.declared.states.RawKind.{RawKind}
-use Rattle.html5ever_interface.specs.declared.states.State.{State}
 use Rattle.html5ever_interface.specs.declared.states.RawKind.TheVariants as raw_kind
 use Rattle.html5ever_interface.specs.declared.states.ScriptEscapeKind.TheVariants as escape_kind
 use Rattle.html5ever_interface.specs.declared.states.AttrValueKind.{AttrValueKind}
