@@ -12,7 +12,7 @@ use Rattle.html5grammar.specs.Start.Dashes.{NoDash, OneDash, TwoDashes}
 use Rattle.html5grammar.specs.Start.Raw.{Rcdata, Rawtext, ScriptData, Escaped, DoubleEscaped}
 use Rattle.html5grammar.specs.Start.Mode.{Data, Plain, RawText}
 use Rattle.html5grammar.specs.Start.Place.{InName, BeforeAttribute, InAttributeName, AfterAttributeName, BeforeValue, InValue, AfterQuotedValue, AfterSolidus}
-use Rattle.html5grammar.specs.Start.Open.{Between, LessThan, LessThanSolidus, InTag, InRaw, InDeclaration, InComment, InBogusComment, InReference, NotBuilt}
+use Rattle.html5grammar.specs.Start.Open.{Between, LessThan, LessThanSolidus, InTag, InRaw, InDeclaration, InComment, InBogusComment, InDoctype, InDoctypeKeyword, InReference, NotBuilt}
 use Rattle.html5grammar.specs.Tag.{in_tag_name, in_attribute_name, in_quoted, in_unquoted, unquoted_error, is_odd_in_name}
 use Rattle.std.proofs.lemmas.List.{append-nil}
 use Rattle.html5grammar.specs.Comment.{ends_in, comment_errors, mark_error}
@@ -50,6 +50,8 @@ opened_after_run-nil (InRaw place name) = refl
 opened_after_run-nil (InDeclaration held) = refl
 opened_after_run-nil (InComment text) = ap InComment (append-nil text)
 opened_after_run-nil (InBogusComment text) = ap InBogusComment (append-nil text)
+opened_after_run-nil (InDoctype place doctype) = refl
+opened_after_run-nil (InDoctypeKeyword held doctype) = refl
 opened_after_run-nil (InReference stand held) = refl
 opened_after_run-nil NotBuilt = refl
 
@@ -70,6 +72,8 @@ opened_after_run-cons (InRaw place name) c run = refl
 opened_after_run-cons (InDeclaration held) c run = refl
 opened_after_run-cons (InComment text) c run = ap InComment (bytes-cons value_bytes text c run)
 opened_after_run-cons (InBogusComment text) c run = ap InBogusComment (bytes-cons value_bytes text c run)
+opened_after_run-cons (InDoctype place doctype) c run = refl
+opened_after_run-cons (InDoctypeKeyword held doctype) c run = refl
 opened_after_run-cons (InReference stand held) c run = refl
 opened_after_run-cons NotBuilt c run = refl
 
@@ -94,6 +98,8 @@ other_run_ends-after (InComment text) others c has out =
     let ordinary : ¬ Contains (run_ends (hyphen ∷ greater_than ∷ [])) c = subst (λ l. ¬ Contains (run_ends l) c) known_ends.0 out in
     rw (known_ends.1, ends_in_dash-none text (flat_map value_bytes (c ∷ [])) (subst NoDashLast (sym (append-nil (value_bytes c))) (value_bytes-last c (λ e. ordinary (3, lit< tt, sym e))))) refl
 other_run_ends-after (InBogusComment text) others c has out = refl
+other_run_ends-after (InDoctype place doctype) others c has out = refl
+other_run_ends-after (InDoctypeKeyword held doctype) others c has out = refl
 other_run_ends-after (InReference stand held) others c has out = refl
 other_run_ends-after NotBuilt others c has out = refl
 
@@ -115,6 +121,8 @@ run_tokens-cons (InRaw place name) c run = refl
 run_tokens-cons (InDeclaration held) c run = refl
 run_tokens-cons (InComment text) c run = refl
 run_tokens-cons (InBogusComment text) c run = refl
+run_tokens-cons (InDoctype place doctype) c run = refl
+run_tokens-cons (InDoctypeKeyword held doctype) c run = refl
 run_tokens-cons (InReference stand held) c run = refl
 run_tokens-cons NotBuilt c run = refl
 
@@ -127,6 +135,8 @@ run_tokens-nil (InRaw place name) = refl
 run_tokens-nil (InDeclaration held) = refl
 run_tokens-nil (InComment text) = refl
 run_tokens-nil (InBogusComment text) = refl
+run_tokens-nil (InDoctype place doctype) = refl
+run_tokens-nil (InDoctypeKeyword held doctype) = refl
 run_tokens-nil (InReference stand held) = refl
 run_tokens-nil NotBuilt = refl
 
@@ -204,5 +214,7 @@ step-run (InComment text) others c has other =
 step-run (InBogusComment text) others c has other =
     let out : ¬ Contains (run_ends (greater_than ∷ [])) c = known (greater_than ∷ []) others c has other in
     rw (no (greater_than ∷ []) c out 3 greater_than (lit< tt) refl, no (greater_than ∷ []) c out 0 null (lit< tt) refl, append-nil (value_bytes c)) refl
+step-run (InDoctype place doctype) others c has other = absurd (none≢some has)
+step-run (InDoctypeKeyword held doctype) others c has other = absurd (none≢some has)
 step-run (InReference stand held) others c has other = absurd (none≢some has)
 step-run NotBuilt others c has other = absurd (none≢some has)

@@ -1,5 +1,5 @@
 -- Parts of a DOCTYPE, as the grammar speaks of them.
-use Rattle.std.specs.Prelude.{ℕ, List, [], Option, None, Some, codes, if◌then◌else◌}
+use Rattle.std.specs.Prelude.{ℕ, List, [], Option, None, Some, if◌then◌else◌}
 use Rattle.html5ever_interface.specs.declared.states.DoctypeIdKind.{DoctypeIdKind}
 use Rattle.html5ever_interface.specs.declared.states.DoctypeIdKind.TheVariants.{Public, System}
 use Rattle.html5grammar.specs.Doctype.{is_keyword}
@@ -19,4 +19,4 @@ quotes_of Single = SingleQuotes
 
 -- the keyword, where the text is one, in any case
 abbrev pub keyword_in : List ℕ → Option DoctypeIdKind
-keyword_in held = if is_keyword held (codes "public") then Some Public else if is_keyword held (codes "system") then Some System else None
+keyword_in held = if is_keyword Public held then Some Public else if is_keyword System held then Some System else None

@@ -3,7 +3,7 @@
 
 ghost use Rattle.std.specs.Prelude.{◌≡◌, ◌==◌, ◌||◌, ◌&&◌, IfSome, is_some, encode_utf8};
 ghost use Rattle.std.specs.Char.{to_ascii_lowercase};
-ghost use Rattle.html5grammar.specs.Characters.{null, is_white_space, is_letter, shown, name_bytes};
+ghost use Rattle.html5grammar.specs.Characters.{null, quotation_mark, apostrophe, is_white_space, is_letter, shown, name_bytes};
 ghost use Rattle.html5grammar.specs.RawText.{ends_name};
 ghost use Rattle.html5grammar.specs.Tag.{is_odd_in_name, is_odd_at_name, is_odd_in_unquoted, quote_of};
 
@@ -81,6 +81,13 @@ pub fn is_unquoted_error(exact_errors: bool, c: char) -> bool
     ensures { result ≡ ((c == null) || (exact_errors && is_odd_in_unquoted c)) }
 {
     c == '\0' || exact_errors && is_odd_in_unquoted(c)
+}
+
+/// Whether the character is a quote.
+pub fn is_quote(c: char) -> bool
+    ensures { result ≡ ((c == quotation_mark) || (c == apostrophe)) }
+{
+    matches!(c, '"' | '\'')
 }
 
 /// The quote that ends a value.

@@ -1,11 +1,12 @@
 //! What stands behind `<!`: the keyword of a comment or a doctype, or else a bogus comment.
 #![tactic(auto, using(crate::proofs::Tellings::tells_from_memory), unfolding(html5grammar::proofs::Machine::declaration_step, html5grammar::specs::Comment::begins_keyword))]
 
-ghost use Rattle.std.specs.Prelude.{◌≡◌, ◌⊎◌, ℕ, Bool, ◌∷◌, [], codes, nat_eq, ◌≤◌, ◌+◌, OnOk, IfErr, Ok, Err, true, false, string_bytes};
+ghost use Rattle.std.specs.Prelude.{◌≡◌, ℕ, Bool, ◌∷◌, [], codes, nat_eq, ◌≤◌, ◌+◌, OnOk, Ok, true, false, string_bytes};
 ghost use Rattle.std.specs.List.{starts_with};
 ghost use Rattle.html5grammar.proofs.Machine.{declaration_step, bogus_comment_step};
-ghost use Rattle.html5grammar.specs.Comment.{lower_case, begins_keyword, declaration_error};
-ghost use Rattle.html5grammar.specs.Reading.Here.{Tells, Stops};
+ghost use Rattle.html5grammar.specs.Characters.{lower_case};
+ghost use Rattle.html5grammar.specs.Comment.{begins_keyword, declaration_error};
+ghost use Rattle.html5grammar.specs.Reading.Here.{Tells};
 ghost use Rattle.html5grammar.specs.Slice.{tokens_of_late};
 ghost use Rattle.html5grammar.specs.Start.{held_len};
 ghost use Rattle.html5grammar.specs.Start.Open.{InBogusComment};
@@ -44,12 +45,9 @@ pub fn hold_declaration<A: Allocator>(at: &mut Opened<A>, c: char) -> Result<boo
     ensures decided { result ≡ Ok false → (exact : Bool) → declaration_step exact (string_bytes at.old.comment) c
         ≡ record { settled = declaration_error exact (string_bytes at.old.comment); here = bogus_comment_step exact (string_bytes at.old.comment) [] c } }
     ensures kept { result ≡ Ok false → string_bytes at.new.comment ≡ string_bytes at.old.comment }
-    ensures not_yet { result ≡ Err TokenizerError.NotYet → (exact : Bool) → declaration_step exact (string_bytes at.old.comment) c
-        ≡ record { settled = []; here = Stops [] } }
     ensures last { last_name_of at.new ≡ last_name_of at.old }
     ensures built { OnOk result (IsBuilt (opened_of at.new)) }
     ensures held { held_len (opened_of at.new) ≤ held_len (opened_of at.old) + 1 }
-    ensures refusal { IfErr result (λ error. (error ≡ TokenizerError.Memory) ⊎ (error ≡ TokenizerError.NotYet)) }
 {
     if !c.is_ascii() {
         return Ok(false);

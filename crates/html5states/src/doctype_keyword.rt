@@ -1,7 +1,7 @@
 //! What stands behind the name of a DOCTYPE: the keyword of an identifier, or else what is skipped.
 #![tactic(auto, using(crate::proofs::Tellings::tells_from_memory), unfolding(html5grammar::proofs::Machine::doctype_keyword_step, html5grammar::specs::Doctype::begins_doctype_keyword, html5grammar::specs::Doctype::keyword_error))]
 
-ghost use Rattle.std.specs.Prelude.{◌≡◌, ◌≢◌, ℕ, Bool, ◌∷◌, [], ◌||◌, codes, nat_eq, ◌≤◌, ◌+◌, OnOk, Ok, true, false, string_bytes};
+ghost use Rattle.std.specs.Prelude.{◌≡◌, ◌≢◌, ℕ, Bool, ◌∷◌, [], ◌||◌, codes, nat_eq, ◌<◌, ◌≤◌, ◌+◌, OnOk, Ok, true, false, string_bytes};
 ghost use Rattle.std.specs.List.{starts_with};
 ghost use Rattle.html5ever_interface.specs.Token.{doctype_of};
 ghost use Rattle.html5grammar.proofs.Machine.{doctype_keyword_step, skipped_step};
@@ -27,16 +27,25 @@ use std::alloc::{AllocError, Allocator};
 
 /// Whether the character begins a keyword.
 pub fn begins_doctype_keyword(c: char) -> bool
-    ensures { result ≡ begins_doctype_keyword (c ∷ []) }
+    ensures keyword { result ≡ begins_doctype_keyword (c ∷ []) }
+    ensures ascii { result ≡ true → c < 128 }
 {
     matches!(c, 'P' | 'p' | 'S' | 's')
 }
 
-// Whether the bytes begin the word of six letters, in any case.
+// Whether the bytes begin the word of six small letters, in any case.
 fn begins_word(word: &[u8; 6], held: &[u8]) -> bool
+    requires { lower_case word.now ≡ word.now }
     ensures { result ≡ starts_with nat_eq word.now (lower_case held.now) }
 {
     held.len() <= 6 && word[..held.len()].eq_ignore_ascii_case(held)
+}
+
+// Whether the bytes begin a keyword.
+fn begins_any(held: &[u8]) -> bool
+    ensures { result ≡ begins_doctype_keyword held.now }
+{
+    begins_word(b"public", held) || begins_word(b"system", held)
 }
 
 // The keyword, where the text is one, in any case.
@@ -75,8 +84,7 @@ pub fn hold_doctype_keyword<A: Allocator>(at: &mut Opened<A>, c: char) -> Result
         at.state = State::AfterDoctypeKeyword(kind);
         return Ok(true);
     }
-    let held = at.comment.as_bytes();
-    if begins_word(b"public", held) || begins_word(b"system", held) {
+    if begins_any(at.comment.as_bytes()) {
         return Ok(true);
     }
     at.comment.pop();

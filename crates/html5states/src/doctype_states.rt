@@ -1,9 +1,9 @@
 //! The states of DOCTYPEs.
-#![tactic(auto, using(crate::proofs::Tellings::tells_from_memory), unfolding(html5grammar::proofs::Machine::doctype_step, html5grammar::proofs::Machine::space_step, html5grammar::proofs::Machine::skipped_step, html5grammar::proofs::Machine::wanted_name_step, html5grammar::proofs::Machine::doctype_name_step, html5grammar::proofs::Machine::keyword_or_end_step, html5grammar::proofs::Machine::wanted_identifier_step, html5grammar::proofs::Machine::system_or_end_step, html5grammar::proofs::Machine::identifier_step, html5grammar::proofs::Machine::behind_identifier_step, html5grammar::specs::Doctype::in_identifier, html5grammar::specs::Doctype::in_doctype_name, crate::specs::Steps::tokens_of, crate::specs::Steps::behind, html5ever_interface::specs::Sink::stepped))]
+#![tactic(auto, using(crate::proofs::Tellings::tells_from_memory), unfolding(html5grammar::proofs::Machine::step_at, html5grammar::proofs::Machine::doctype_step, html5grammar::proofs::Machine::space_step, html5grammar::proofs::Machine::skipped_step, html5grammar::proofs::Machine::wanted_name_step, html5grammar::proofs::Machine::doctype_name_step, html5grammar::proofs::Machine::keyword_or_end_step, html5grammar::proofs::Machine::wanted_identifier_step, html5grammar::proofs::Machine::system_or_end_step, html5grammar::proofs::Machine::identifier_step, html5grammar::proofs::Machine::behind_identifier_step, html5grammar::specs::Doctype::in_identifier, html5grammar::specs::Doctype::in_doctype_name, crate::specs::Steps::tokens_of, crate::specs::Steps::behind, html5ever_interface::specs::Sink::stepped))]
 
 ghost use Rattle.std.specs.Prelude.{◌≡◌, ◌∷◌, [], true, false, string_bytes};
 ghost use Rattle.html5ever_interface.specs.Token.{doctype_of};
-ghost use Rattle.html5ever_interface.specs.Token.Told as told;
+ghost use Rattle.html5ever_interface.specs.Token.{Told};
 ghost use Rattle.html5grammar.proofs.Machine.{step_at, doctype_step, skipped_step, wanted_name_step, wanted_identifier_step, system_or_end_step};
 ghost use Rattle.html5grammar.specs.Doctype.{with_quirks, identifier_state};
 ghost use Rattle.html5grammar.specs.ErrorText.{error_in};
@@ -15,7 +15,7 @@ ghost use Rattle.html5states.specs.CurrentTag.{is_doctype_state, opened_of};
 ghost use Rattle.html5states.specs.Doctypes.{quotes_of};
 ghost use Rattle.html5states.specs.Telling.{Emits, Reads};
 
-use crate::characters::is_white_space;
+use crate::characters::{is_quote, is_white_space};
 use crate::doctype_keyword::begins_doctype_keyword;
 use crate::doctypes::{
     Quotes, begin_identifier, begin_name, push_doctype_name, push_identifier,
@@ -34,7 +34,7 @@ impl<S: TokenSink<Token<A>>, A: Allocator + Copy> Teller<'_, S, A> {
     // Tells the DOCTYPE that was begun.
     fn emit_doctype(&mut self, at: &mut Opened<A>) -> Step
         ensures { Reads S.state S.faults S.step S.faulted result self.old self.new
-            (Tells (told.Doctype (doctype_of at.old.doctype) ∷ []) (Between Data)) at.old at.new }
+            (Tells (Told.Doctype (doctype_of at.old.doctype) ∷ []) (Between Data)) at.old at.new }
     {
         at.state = State::Data;
         let doctype = mem::replace(&mut at.doctype, Doctype::default());
@@ -120,13 +120,13 @@ impl<S: TokenSink<Token<A>>, A: Allocator + Copy> Teller<'_, S, A> {
         ensures { Reads S.state S.faults S.step S.faulted result self.old self.new
             (doctype_step self.old.exact_errors InDoctypeName (doctype_of at.old.doctype) c) at.old at.new }
     {
+        if c == '>' {
+            return self.emit_doctype(at);
+        }
         if is_white_space(c) {
             at.state = State::AfterDoctypeName;
             at.comment.clear();
             return Ok(Progress::Continues);
-        }
-        if c == '>' {
-            return self.emit_doctype(at);
         }
         push_doctype_name(&mut at.doctype, c)?;
         self.emit_unexpected_where(c == '\0', c, State::DoctypeName)?;
@@ -185,7 +185,7 @@ impl<S: TokenSink<Token<A>>, A: Allocator + Copy> Teller<'_, S, A> {
         ensures { Reads S.state S.faults S.step S.faulted result self.old self.new
             (wanted_identifier_step self.old.exact_errors true expected kind (doctype_of at.old.doctype) c) at.old at.new }
     {
-        self.emit_unexpected_where(matches!(c, '"' | '\''), c, expected)?;
+        self.emit_unexpected_where(is_quote(c), c, expected)?;
         self.begin_or_skip(at, kind, c, expected)
     }
 
@@ -250,9 +250,9 @@ impl<S: TokenSink<Token<A>>, A: Allocator + Copy> Teller<'_, S, A> {
 
     // The standard's "after DOCTYPE public identifier state".
     fn after_public_identifier_state(&mut self, at: &mut Opened<A>, c: char) -> Step
-        requires { at.old.state ≡ State.AfterDoctypeIdentifier Public }
+        requires { at.old.state ≡ State.AfterDoctypeIdentifier DoctypeIdKind.Public }
         ensures { Reads S.state S.faults S.step S.faulted result self.old self.new
-            (doctype_step self.old.exact_errors (AfterIdentifier Public) (doctype_of at.old.doctype) c) at.old at.new }
+            (doctype_step self.old.exact_errors (AfterIdentifier DoctypeIdKind.Public) (doctype_of at.old.doctype) c) at.old at.new }
     {
         if is_white_space(c) {
             at.state = State::BetweenDoctypePublicAndSystemIdentifiers;
@@ -281,9 +281,9 @@ impl<S: TokenSink<Token<A>>, A: Allocator + Copy> Teller<'_, S, A> {
 
     // The standard's "after DOCTYPE system identifier state".
     fn after_system_identifier_state(&mut self, at: &mut Opened<A>, c: char) -> Step
-        requires { at.old.state ≡ State.AfterDoctypeIdentifier System }
+        requires { at.old.state ≡ State.AfterDoctypeIdentifier DoctypeIdKind.System }
         ensures { Reads S.state S.faults S.step S.faulted result self.old self.new
-            (doctype_step self.old.exact_errors (AfterIdentifier System) (doctype_of at.old.doctype) c) at.old at.new }
+            (doctype_step self.old.exact_errors (AfterIdentifier DoctypeIdKind.System) (doctype_of at.old.doctype) c) at.old at.new }
     {
         if is_white_space(c) {
             return Ok(Progress::Continues);

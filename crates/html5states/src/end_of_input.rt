@@ -5,7 +5,7 @@ ghost use Rattle.std.specs.Prelude.{◌≡◌, ◌∷◌, [], ◌++◌, false, c
 ghost use Rattle.std.specs.Str.{chars};
 ghost use Rattle.html5ever_interface.specs.Token.{doctype_of};
 ghost use Rattle.html5ever_interface.specs.Token.Told.{Text, Comment, End};
-ghost use Rattle.html5ever_interface.specs.Token.Told as told;
+ghost use Rattle.html5ever_interface.specs.Token.{Told};
 ghost use Rattle.html5grammar.specs.Doctype.{with_quirks};
 ghost use Rattle.html5grammar.specs.Characters.{solidus, less_than};
 ghost use Rattle.html5grammar.specs.EndOfInput.{told_at_end_of, raw_end_error};
@@ -143,7 +143,7 @@ impl<S: TokenSink<Token<A>>, A: Allocator + Copy> Teller<'_, S, A> {
         force_quirks: bool,
     ) -> Result<(), TokenizerError>
         ensures { Emits S.state S.faults S.step S.faulted result self.old self.new
-            (told.Doctype (record (doctype_of doctype.now) { force_quirks = force_quirks }) ∷ End ∷ []) }
+            (Told.Doctype (record (doctype_of doctype.now) { force_quirks = force_quirks }) ∷ End ∷ []) }
     {
         let mut doctype = doctype.try_clone()?;
         doctype.force_quirks = force_quirks;
@@ -154,7 +154,7 @@ impl<S: TokenSink<Token<A>>, A: Allocator + Copy> Teller<'_, S, A> {
     // Ends in a state of DOCTYPEs that doesn't expect it.
     fn end_in_doctype(&mut self, state: State, doctype: &Doctype<A>) -> Result<(), TokenizerError>
         ensures { Emits S.state S.faults S.step S.faulted result self.old self.new
-            (end_error_in self.old.exact_errors state ∷ told.Doctype (with_quirks (doctype_of doctype.now)) ∷ End ∷ []) }
+            (end_error_in self.old.exact_errors state ∷ Told.Doctype (with_quirks (doctype_of doctype.now)) ∷ End ∷ []) }
     {
         self.emit_end_error(state)?;
         self.end_behind_doctype(doctype, true)

@@ -3,7 +3,7 @@ use Rattle.std.specs.Prelude.{codes, nat_eq}
 use Rattle.std.specs.Char.{to_ascii_lowercase}
 use Rattle.std.specs.Cmp.Lexicographic.{pointwise}
 use Rattle.std.proofs.lemmas.List.{take-map, length-map}
-use Rattle.html5grammar.specs.Comment.{lower_case}
+use Rattle.html5grammar.specs.Characters.{lower_case}
 use Rattle.html5states.proofs.Keywords.{test-is}
 use Rattle.html5states.proofs.declaration.begins_doctype.Goals as goal
 
