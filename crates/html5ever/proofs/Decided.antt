@@ -5,7 +5,7 @@ use Rattle.html5ever_interface.specs.declared.states.ScriptEscapeKind.TheVariant
 use Rattle.html5ever_interface.specs.declared.states.State.{State}
 use Rattle.html5ever_interface.specs.declared.states.State.TheVariants as state
 use Rattle.html5grammar.specs.Start.{Open, is_undecided_open, held_len}
-use Rattle.html5grammar.specs.Start.Open.{Between, LessThan, LessThanSolidus, InTag, InRaw, InDeclaration, InComment, InBogusComment, InReference, NotBuilt}
+use Rattle.html5grammar.specs.Start.Open.{Between, LessThan, LessThanSolidus, InTag, InRaw, InDeclaration, InComment, InBogusComment, InDoctype, InDoctypeKeyword, InReference, NotBuilt}
 use Rattle.html5states.specs.CharRef.{begun_reference, with_reference}
 use Rattle.html5states.specs.CurrentTag.{open_of}
 use Rattle.html5states.specs.Runs.{IsRunAt}
@@ -16,20 +16,22 @@ use Rattle.html5ever.specs.Undecided.{is_reference, is_declaration, is_declarati
 -- nothing is undecided there
 pub record IsDecided (opened : Open) : Type 0 where
   pub no_reference : is_reference opened ≡ false
-  pub no_declaration : is_declaration opened ≡ false
+  pub no_keyword : is_keyword_open opened ≡ false
   pub nothing_held : held_len opened ≡ 0
 
 pub is_decided : (opened : Open) → is_undecided_open opened ≡ false → IsDecided opened
-is_decided (Between mode) h = record { no_reference = refl; no_declaration = refl; nothing_held = refl }
-is_decided LessThan h = record { no_reference = refl; no_declaration = refl; nothing_held = refl }
-is_decided LessThanSolidus h = record { no_reference = refl; no_declaration = refl; nothing_held = refl }
-is_decided (InTag place tag) h = record { no_reference = refl; no_declaration = refl; nothing_held = refl }
-is_decided (InRaw place name) h = record { no_reference = refl; no_declaration = refl; nothing_held = refl }
+is_decided (Between mode) h = record { no_reference = refl; no_keyword = refl; nothing_held = refl }
+is_decided LessThan h = record { no_reference = refl; no_keyword = refl; nothing_held = refl }
+is_decided LessThanSolidus h = record { no_reference = refl; no_keyword = refl; nothing_held = refl }
+is_decided (InTag place tag) h = record { no_reference = refl; no_keyword = refl; nothing_held = refl }
+is_decided (InRaw place name) h = record { no_reference = refl; no_keyword = refl; nothing_held = refl }
 is_decided (InDeclaration held) h = absurd (false≢true (sym h))
-is_decided (InComment text) h = record { no_reference = refl; no_declaration = refl; nothing_held = refl }
-is_decided (InBogusComment text) h = record { no_reference = refl; no_declaration = refl; nothing_held = refl }
+is_decided (InComment text) h = record { no_reference = refl; no_keyword = refl; nothing_held = refl }
+is_decided (InBogusComment text) h = record { no_reference = refl; no_keyword = refl; nothing_held = refl }
+is_decided (InDoctype place doctype) h = record { no_reference = refl; no_keyword = refl; nothing_held = refl }
+is_decided (InDoctypeKeyword held doctype) h = absurd (false≢true (sym h))
 is_decided (InReference stand held) h = absurd (false≢true (sym h))
-is_decided NotBuilt h = record { no_reference = refl; no_declaration = refl; nothing_held = refl }
+is_decided NotBuilt h = record { no_reference = refl; no_keyword = refl; nothing_held = refl }
 
 -- a reference begins where nothing is undecided
 pub begun-decided : (opened : Open) → IsBuilt (begun_reference opened) → is_undecided_open opened ≡ false
@@ -41,57 +43,64 @@ begun-decided (InRaw place name) built = refl
 begun-decided (InDeclaration held) built = absurd built
 begun-decided (InComment text) built = refl
 begun-decided (InBogusComment text) built = refl
+begun-decided (InDoctype place doctype) built = refl
+begun-decided (InDoctypeKeyword held doctype) built = absurd built
 begun-decided (InReference stand held) built = absurd built
 begun-decided NotBuilt built = refl
 
 -- ---- by states
 
--- what stands behind `<!` is open in its own state alone, and no state is that of a reference
-state-cases : {Z : Type 0} → (q : State) (t : CurrentTag Z) (comment letters name : List ℕ)
-    → (q ≡ state.MarkupDeclarationOpen) ⊎ ((is_undecided_open (open_of q t comment letters name) ≡ false) × (is_declaration_state q ≡ false))
-state-cases state.Data t comment letters name = inr (refl, refl)
-state-cases state.Plaintext t comment letters name = inr (refl, refl)
-state-cases state.TagOpen t comment letters name = inr (refl, refl)
-state-cases state.EndTagOpen t comment letters name = inr (refl, refl)
-state-cases state.TagName t comment letters name = inr (refl, refl)
-state-cases state.BeforeAttributeName t comment letters name = inr (refl, refl)
-state-cases state.AttributeName t comment letters name = inr (refl, refl)
-state-cases state.AfterAttributeName t comment letters name = inr (refl, refl)
-state-cases state.BeforeAttributeValue t comment letters name = inr (refl, refl)
-state-cases (state.AttributeValue kind) t comment letters name = inr (refl, refl)
-state-cases state.AfterAttributeValueQuoted t comment letters name = inr (refl, refl)
-state-cases state.SelfClosingStartTag t comment letters name = inr (refl, refl)
-state-cases (state.RawData kind) t comment letters name = inr (refl, refl)
-state-cases (state.RawLessThanSign kind) t comment letters name = inr (refl, refl)
-state-cases (state.RawEndTagOpen kind) t comment letters name = inr (refl, refl)
-state-cases (state.RawEndTagName kind) t comment letters name = inr (refl, refl)
-state-cases (state.ScriptDataEscapeStart escape_kind.Escaped) t comment letters name = inr (refl, refl)
-state-cases (state.ScriptDataEscapeStart escape_kind.DoubleEscaped) t comment letters name = inr (refl, refl)
-state-cases state.ScriptDataEscapeStartDash t comment letters name = inr (refl, refl)
-state-cases (state.ScriptDataEscapedDash kind) t comment letters name = inr (refl, refl)
-state-cases (state.ScriptDataEscapedDashDash kind) t comment letters name = inr (refl, refl)
-state-cases state.ScriptDataDoubleEscapeEnd t comment letters name = inr (refl, refl)
-state-cases state.MarkupDeclarationOpen t comment letters name = inl refl
-state-cases state.Comment t comment letters name = inr (refl, refl)
-state-cases state.BogusComment t comment letters name = inr (refl, refl)
-state-cases other t comment letters name = inr (refl, refl)
+behind_name-holds : (held : List ℕ) (d : DoctypeOf)
+    → (is_undecided_open (behind_doctype_name held d) ≡ not (is_empty held)) × (is_reference (behind_doctype_name held d) ≡ false)
+behind_name-holds [] d = (refl, refl)
+behind_name-holds (c ∷ held) d = (refl, refl)
 
-module _ {Z : Type 0} (q : State) (t : CurrentTag Z) (comment letters name : List ℕ) where
-  by_state : (P : Type 0) → (q ≡ state.MarkupDeclarationOpen → P) → (is_undecided_open (open_of q t comment letters name) ≡ false → is_declaration_state q ≡ false → P) → P
-  by_state P declared decided = elim (state-cases q t comment letters name) as (λ x. P) [ inl is ↦ declared is | inr other ↦ decided other.0 other.1 ]
+-- a keyword is open where what is held may begin one, and no state is that of a reference
+state-holds : {Z : Type 0} → (q : State) (at : Opened Z)
+    → (is_undecided_open (open_of q at) ≡ holds_keyword_in q (string_bytes at.comment)) × (is_reference (open_of q at) ≡ false)
+state-holds state.Data at = (refl, refl)
+state-holds state.Plaintext at = (refl, refl)
+state-holds state.TagOpen at = (refl, refl)
+state-holds state.EndTagOpen at = (refl, refl)
+state-holds state.TagName at = (refl, refl)
+state-holds state.BeforeAttributeName at = (refl, refl)
+state-holds state.AttributeName at = (refl, refl)
+state-holds state.AfterAttributeName at = (refl, refl)
+state-holds state.BeforeAttributeValue at = (refl, refl)
+state-holds (state.AttributeValue kind) at = (refl, refl)
+state-holds state.AfterAttributeValueQuoted at = (refl, refl)
+state-holds state.SelfClosingStartTag at = (refl, refl)
+state-holds (state.RawData kind) at = (refl, refl)
+state-holds (state.RawLessThanSign kind) at = (refl, refl)
+state-holds (state.RawEndTagOpen kind) at = (refl, refl)
+state-holds (state.RawEndTagName kind) at = (refl, refl)
+state-holds (state.ScriptDataEscapeStart escape_kind.Escaped) at = (refl, refl)
+state-holds (state.ScriptDataEscapeStart escape_kind.DoubleEscaped) at = (refl, refl)
+state-holds state.ScriptDataEscapeStartDash at = (refl, refl)
+state-holds (state.ScriptDataEscapedDash kind) at = (refl, refl)
+state-holds (state.ScriptDataEscapedDashDash kind) at = (refl, refl)
+state-holds state.ScriptDataDoubleEscapeEnd at = (refl, refl)
+state-holds state.MarkupDeclarationOpen at = (refl, refl)
+state-holds state.Comment at = (refl, refl)
+state-holds state.BogusComment at = (refl, refl)
+state-holds state.Doctype at = (refl, refl)
+state-holds state.BeforeDoctypeName at = (refl, refl)
+state-holds state.DoctypeName at = (refl, refl)
+state-holds state.AfterDoctypeName at = behind_name-holds (string_bytes at.comment) (doctype_of at.doctype)
+state-holds (state.AfterDoctypeKeyword kind) at = (refl, refl)
+state-holds (state.BeforeDoctypeIdentifier kind) at = (refl, refl)
+state-holds (state.DoctypeIdentifierDoubleQuoted kind) at = (refl, refl)
+state-holds (state.DoctypeIdentifierSingleQuoted kind) at = (refl, refl)
+state-holds (state.AfterDoctypeIdentifier kind) at = (refl, refl)
+state-holds state.BetweenDoctypePublicAndSystemIdentifiers at = (refl, refl)
+state-holds state.BogusDoctype at = (refl, refl)
+state-holds other at = (refl, refl)
 
-  pub state-no_reference : is_reference (open_of q t comment letters name) ≡ false
-  state-no_reference = by_state (is_reference (open_of q t comment letters name) ≡ false) (λ is. rw is refl) (λ decided other. (is_decided _ decided).no_reference)
+pub state-no_reference : {Z : Type 0} → (q : State) (at : Opened Z) → is_reference (open_of q at) ≡ false
+state-no_reference q at = (state-holds q at).1
 
-  pub state-declaration : is_declaration (open_of q t comment letters name) ≡ is_declaration_state q
-  state-declaration =
-      by_state (is_declaration (open_of q t comment letters name) ≡ is_declaration_state q) (λ is. rw is refl) (λ decided other. (is_decided _ decided).no_declaration ∙ sym other)
-
-  pub state-undecided : is_undecided_open (open_of q t comment letters name) ≡ is_declaration_state q
-  state-undecided = by_state (is_undecided_open (open_of q t comment letters name) ≡ is_declaration_state q) (λ is. rw is refl) (λ decided other. decided ∙ sym other)
-
-  pub state-is : is_declaration_state q ≡ true → q ≡ state.MarkupDeclarationOpen
-  state-is h = by_state (q ≡ state.MarkupDeclarationOpen) (λ is. is) (λ decided other. absurd (false≢true (sym other ∙ h)))
+pub state-undecided : {Z : Type 0} → (q : State) (at : Opened Z) → is_undecided_open (open_of q at) ≡ holds_keyword_in q (string_bytes at.comment)
+state-undecided q at = (state-holds q at).0
 
 -- ---- where a reference is kept beside
 
@@ -115,12 +124,12 @@ unfolding with_reference
 is_in true held opened none one = refl
 is_in false held opened none one = absurd (false≢true (sym none ∙ one))
 
--- where what stands behind `<!` is open, none is
-pub declaration-out : (is_in : Bool) (held : List ℕ) (opened : Open) → is_declaration (with_reference is_in held opened) ≡ true
-    → (is_in ≡ false) × (is_declaration opened ≡ true)
+-- where a keyword is open, none is
+pub keyword-out : (is_in : Bool) (held : List ℕ) (opened : Open) → is_keyword_open (with_reference is_in held opened) ≡ true
+    → (is_in ≡ false) × (is_keyword_open opened ≡ true)
 unfolding with_reference
-declaration-out true held opened h = absurd (false≢true h)
-declaration-out false held opened h = (refl, h)
+keyword-out true held opened h = absurd (false≢true h)
+keyword-out false held opened h = (refl, h)
 
 -- runs are read where none is
 none≢some : {X : Type 0} {x : X} → None ≡ Some x → ⊥
