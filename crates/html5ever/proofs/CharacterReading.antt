@@ -13,25 +13,29 @@ use Rattle.html5grammar.specs.Characters.{is_bad_character}
 use Rattle.html5grammar.specs.ErrorText.{bad_character_error}
 use Rattle.html5grammar.specs.Reading.{Here, last_behind, open_after_reply}
 use Rattle.html5grammar.specs.Reading.Here.{Tells, TellsTag, Stops}
-use Rattle.html5grammar.specs.Start.{Open, Rules, is_reference, held_len, escaped, raw_of}
+use Rattle.html5grammar.specs.Start.{Open, Rules, held_len, is_undecided_open, escaped, raw_of}
 use Rattle.html5grammar.specs.Start.Dashes.{OneDash, TwoDashes}
 use Rattle.html5grammar.specs.Start.Mode.{Data}
 use Rattle.html5grammar.specs.Start.RawPlace.{AfterLessThan, InEndName, AfterMark, AfterMarkAndDash, InSwitch}
-use Rattle.html5grammar.specs.Start.Open.{Between, LessThan, LessThanSolidus, InTag, InRaw, InReference, NotBuilt}
+use Rattle.html5grammar.specs.Start.Open.{Between, NotBuilt}
 use Rattle.html5grammar.specs.Start.Place.{InName, BeforeAttribute, InAttributeName, AfterAttributeName, BeforeValue, InValue, AfterQuotedValue, AfterSolidus}
-use Rattle.html5grammar.proofs.Going.{Goes, bad_goes_tag, bad_goes_data, bad_goes_plain, bad_goes_raw, bad_goes_in_raw, bad_goes_less_than, bad_stops}
+use Rattle.html5grammar.proofs.Going.{Goes, bad_goes_tag, bad_goes_data, bad_goes_plain, bad_goes_raw, bad_goes_in_raw, bad_goes_less_than, bad_goes_solidus, bad_goes_comment, bad_goes_bogus_comment, bad_goes_doctype}
+use Rattle.html5grammar.proofs.Holding.{HoldsAtMostOne}
 use Rattle.html5grammar.proofs.Machine.{step_at, messages_here, opened_here, last_here}
 use Rattle.html5ever_interface.proofs.Steppings.{stepped-append}
-use Rattle.html5states.specs.CharRef.{with_reference}
-use Rattle.html5states.specs.CurrentTag.{open_of, open_tag, stops_at_bad}
-use Rattle.html5states.specs.Steps.{tokens_of, Next, behind}
-use Rattle.html5states.specs.Steps.Next.{Opens, Closes}
-use Rattle.html5states.specs.declared.current_tag.CurrentTag.{CurrentTag}
-use Rattle.html5states.specs.declared.opened.Opened.{Opened}
-use Rattle.html5states.specs.declared.error.TokenizerError.{TokenizerError}
-use Rattle.html5states.specs.declared.error.TokenizerError.TheVariants.{Memory, Sink, Failed, NotYet}
+use Rattle.html5ever_interface.specs.Token.{DoctypeOf, doctype_of}
+use Rattle.std.proofs.Common.{string_bytes, ◌≤◌, ◌≢◌, arith}
+use Rattle.html5grammar.specs.Start.DoctypePlace.{AfterWord, BeforeName, InDoctypeName, AfterName, AfterKeyword, BeforeIdentifier, InIdentifier, AfterIdentifier, BetweenIdentifiers, Skipped}
+use Rattle.html5grammar.specs.Start.Quotes.{DoubleQuotes, SingleQuotes}
+use Rattle.html5parts.specs.CurrentTag.{open_of, open_tag, behind_doctype_name, last_name_of, letters_of, stops_at_bad}
+use Rattle.html5parts.specs.Steps.{tokens_of, Next, behind}
+use Rattle.html5parts.specs.Steps.Next.{Opens, Closes}
+use Rattle.html5parts.specs.declared.current_tag.CurrentTag.{CurrentTag}
+use Rattle.html5parts.specs.declared.opened.Opened.{Opened}
+use Rattle.html5parts.specs.declared.error.TokenizerError.{TokenizerError}
+use Rattle.html5parts.specs.declared.error.TokenizerError.TheVariants.{Memory, Sink, Failed, NotYet}
 use Rattle.html5ever.specs.Feed.{first_pause}
-use Rattle.html5states.specs.Steps.{Leads, Ends}
+use Rattle.html5parts.specs.Steps.{Leads, Ends}
 use Rattle.html5states.specs.Telling as telling
 use Rattle.html5ever.proofs.Pauses.{first_pause-none, first_pause-append, first_pause-no_tags, no_tag_messages}
 use Rattle.html5states.proofs.Tellings.{told_then, told_stop, tells_stop}
@@ -41,71 +45,57 @@ use Rattle.html5ever_interface.specs.Token.Reply.{KeepOn}
 use Rattle.std.specs.Result.{IsErrAnd}
 use Rattle.std.proofs.lemmas.Result.{err_from_is_err_and}
 
-pub goes_at_bad : {Z : Type 0} → (exact : Bool) (s : State) (tag : CurrentTag Z) (letters name : List ℕ) (c : ℕ) → is_bad_character c ≡ true → stops_at_bad s ≡ false
-    → Goes (step_at exact (open_of s tag letters name) c)
-goes_at_bad exact state.Data tag letters name c bad goes = bad_goes_data exact c bad
-goes_at_bad exact state.Plaintext tag letters name c bad goes = bad_goes_plain exact c bad
-goes_at_bad exact state.TagOpen tag letters name c bad goes = bad_goes_less_than exact c bad
-goes_at_bad exact state.TagName tag letters name c bad goes = bad_goes_tag exact c bad InName (open_tag tag)
-goes_at_bad exact state.BeforeAttributeName tag letters name c bad goes = bad_goes_tag exact c bad BeforeAttribute (open_tag tag)
-goes_at_bad exact state.AttributeName tag letters name c bad goes = bad_goes_tag exact c bad InAttributeName (open_tag tag)
-goes_at_bad exact state.AfterAttributeName tag letters name c bad goes = bad_goes_tag exact c bad AfterAttributeName (open_tag tag)
-goes_at_bad exact state.BeforeAttributeValue tag letters name c bad goes = bad_goes_tag exact c bad BeforeValue (open_tag tag)
-goes_at_bad exact (state.AttributeValue kind) tag letters name c bad goes = bad_goes_tag exact c bad (InValue kind) (open_tag tag)
-goes_at_bad exact state.AfterAttributeValueQuoted tag letters name c bad goes = bad_goes_tag exact c bad AfterQuotedValue (open_tag tag)
-goes_at_bad exact state.SelfClosingStartTag tag letters name c bad goes = bad_goes_tag exact c bad AfterSolidus (open_tag tag)
-goes_at_bad exact (state.RawData kind) tag letters name c bad goes = bad_goes_raw exact c bad (raw_of kind) name
-goes_at_bad exact (state.RawLessThanSign kind) tag letters name c bad goes = bad_goes_in_raw exact c bad (AfterLessThan kind) name
-goes_at_bad exact (state.RawEndTagOpen kind) tag letters name c bad goes = bad_goes_in_raw exact c bad (InEndName kind []) name
-goes_at_bad exact (state.RawEndTagName kind) tag letters name c bad goes = bad_goes_in_raw exact c bad (InEndName kind letters) name
-goes_at_bad exact (state.ScriptDataEscapeStart escape_kind.Escaped) tag letters name c bad goes = bad_goes_in_raw exact c bad AfterMark name
-goes_at_bad exact (state.ScriptDataEscapeStart escape_kind.DoubleEscaped) tag letters name c bad goes = bad_goes_in_raw exact c bad (InSwitch escape_kind.Escaped letters) name
-goes_at_bad exact state.ScriptDataEscapeStartDash tag letters name c bad goes = bad_goes_in_raw exact c bad AfterMarkAndDash name
-goes_at_bad exact (state.ScriptDataEscapedDash kind) tag letters name c bad goes = bad_goes_raw exact c bad (escaped kind OneDash) name
-goes_at_bad exact (state.ScriptDataEscapedDashDash kind) tag letters name c bad goes = bad_goes_raw exact c bad (escaped kind TwoDashes) name
-goes_at_bad exact state.ScriptDataDoubleEscapeEnd tag letters name c bad goes = bad_goes_in_raw exact c bad (InSwitch escape_kind.DoubleEscaped letters) name
-goes_at_bad exact other tag letters name c bad goes = absurd (false≢true (sym goes))
+goes-behind_name : (exact : Bool) (held : List ℕ) (d : DoctypeOf) (c : ℕ) → is_bad_character c ≡ true → is_undecided_open (behind_doctype_name held d) ≡ false
+    → Goes (step_at exact (behind_doctype_name held d) c)
+goes-behind_name exact [] d c bad decided = bad_goes_doctype exact c bad AfterName d
+goes-behind_name exact (h ∷ held) d c bad decided = absurd (false≢true (sym decided))
 
--- where no reference is open, and where one is
-pub with_reference-none : (is_in : Bool) (held : List ℕ) (opened : Open) → is_reference (with_reference is_in held opened) ≡ false
-    → (later : Open) → with_reference is_in held later ≡ later
-unfolding with_reference
-with_reference-none true held opened h later = absurd (false≢true (sym h))
-with_reference-none false held opened h later = refl
+pub goes_at_bad : {Z : Type 0} → (exact : Bool) (s : State) (at : Opened Z) (c : ℕ) → is_bad_character c ≡ true → is_undecided_open (open_of s at) ≡ false → stops_at_bad s ≡ false
+    → Goes (step_at exact (open_of s at) c)
+goes_at_bad exact state.Data at c bad decided goes = bad_goes_data exact c bad
+goes_at_bad exact state.Plaintext at c bad decided goes = bad_goes_plain exact c bad
+goes_at_bad exact state.TagOpen at c bad decided goes = bad_goes_less_than exact c bad
+goes_at_bad exact state.TagName at c bad decided goes = bad_goes_tag exact c bad InName (open_tag at.tag)
+goes_at_bad exact state.BeforeAttributeName at c bad decided goes = bad_goes_tag exact c bad BeforeAttribute (open_tag at.tag)
+goes_at_bad exact state.AttributeName at c bad decided goes = bad_goes_tag exact c bad InAttributeName (open_tag at.tag)
+goes_at_bad exact state.AfterAttributeName at c bad decided goes = bad_goes_tag exact c bad AfterAttributeName (open_tag at.tag)
+goes_at_bad exact state.BeforeAttributeValue at c bad decided goes = bad_goes_tag exact c bad BeforeValue (open_tag at.tag)
+goes_at_bad exact (state.AttributeValue kind) at c bad decided goes = bad_goes_tag exact c bad (InValue kind) (open_tag at.tag)
+goes_at_bad exact state.AfterAttributeValueQuoted at c bad decided goes = bad_goes_tag exact c bad AfterQuotedValue (open_tag at.tag)
+goes_at_bad exact state.SelfClosingStartTag at c bad decided goes = bad_goes_tag exact c bad AfterSolidus (open_tag at.tag)
+goes_at_bad exact (state.RawData kind) at c bad decided goes = bad_goes_raw exact c bad (raw_of kind) (last_name_of at)
+goes_at_bad exact (state.RawLessThanSign kind) at c bad decided goes = bad_goes_in_raw exact c bad (AfterLessThan kind) (last_name_of at)
+goes_at_bad exact (state.RawEndTagOpen kind) at c bad decided goes = bad_goes_in_raw exact c bad (InEndName kind []) (last_name_of at)
+goes_at_bad exact (state.RawEndTagName kind) at c bad decided goes = bad_goes_in_raw exact c bad (InEndName kind (letters_of at)) (last_name_of at)
+goes_at_bad exact (state.ScriptDataEscapeStart escape_kind.Escaped) at c bad decided goes = bad_goes_in_raw exact c bad AfterMark (last_name_of at)
+goes_at_bad exact (state.ScriptDataEscapeStart escape_kind.DoubleEscaped) at c bad decided goes = bad_goes_in_raw exact c bad (InSwitch escape_kind.Escaped (letters_of at)) (last_name_of at)
+goes_at_bad exact state.ScriptDataEscapeStartDash at c bad decided goes = bad_goes_in_raw exact c bad AfterMarkAndDash (last_name_of at)
+goes_at_bad exact (state.ScriptDataEscapedDash kind) at c bad decided goes = bad_goes_raw exact c bad (escaped kind OneDash) (last_name_of at)
+goes_at_bad exact (state.ScriptDataEscapedDashDash kind) at c bad decided goes = bad_goes_raw exact c bad (escaped kind TwoDashes) (last_name_of at)
+goes_at_bad exact state.ScriptDataDoubleEscapeEnd at c bad decided goes = bad_goes_in_raw exact c bad (InSwitch escape_kind.DoubleEscaped (letters_of at)) (last_name_of at)
+goes_at_bad exact state.EndTagOpen at c bad decided goes = bad_goes_solidus exact c bad
+goes_at_bad exact state.Comment at c bad decided goes = bad_goes_comment exact c bad (string_bytes at.comment)
+goes_at_bad exact state.BogusComment at c bad decided goes = bad_goes_bogus_comment exact c bad (string_bytes at.comment)
+goes_at_bad exact state.MarkupDeclarationOpen at c bad decided goes = absurd (false≢true (sym decided))
+goes_at_bad exact state.Doctype at c bad decided goes = bad_goes_doctype exact c bad AfterWord (doctype_of at.doctype)
+goes_at_bad exact state.BeforeDoctypeName at c bad decided goes = bad_goes_doctype exact c bad BeforeName (doctype_of at.doctype)
+goes_at_bad exact state.DoctypeName at c bad decided goes = bad_goes_doctype exact c bad InDoctypeName (doctype_of at.doctype)
+goes_at_bad exact state.AfterDoctypeName at c bad decided goes = goes-behind_name exact (string_bytes at.comment) (doctype_of at.doctype) c bad decided
+goes_at_bad exact (state.AfterDoctypeKeyword kind) at c bad decided goes = bad_goes_doctype exact c bad (AfterKeyword kind) (doctype_of at.doctype)
+goes_at_bad exact (state.BeforeDoctypeIdentifier kind) at c bad decided goes = bad_goes_doctype exact c bad (BeforeIdentifier kind) (doctype_of at.doctype)
+goes_at_bad exact (state.DoctypeIdentifierDoubleQuoted kind) at c bad decided goes = bad_goes_doctype exact c bad (InIdentifier DoubleQuotes kind) (doctype_of at.doctype)
+goes_at_bad exact (state.DoctypeIdentifierSingleQuoted kind) at c bad decided goes = bad_goes_doctype exact c bad (InIdentifier SingleQuotes kind) (doctype_of at.doctype)
+goes_at_bad exact (state.AfterDoctypeIdentifier kind) at c bad decided goes = bad_goes_doctype exact c bad (AfterIdentifier kind) (doctype_of at.doctype)
+goes_at_bad exact state.BetweenDoctypePublicAndSystemIdentifiers at c bad decided goes = bad_goes_doctype exact c bad BetweenIdentifiers (doctype_of at.doctype)
+goes_at_bad exact state.BogusDoctype at c bad decided goes = bad_goes_doctype exact c bad Skipped (doctype_of at.doctype)
+goes_at_bad exact other at c bad decided goes = absurd (false≢true (sym goes))
 
-pub open_of-no_reference : {Z : Type 0} → (q : State) (t : CurrentTag Z) (letters name : List ℕ) → is_reference (open_of q t letters name) ≡ false
-open_of-no_reference state.Data t letters name = refl
-open_of-no_reference state.Plaintext t letters name = refl
-open_of-no_reference state.TagOpen t letters name = refl
-open_of-no_reference state.EndTagOpen t letters name = refl
-open_of-no_reference state.TagName t letters name = refl
-open_of-no_reference state.BeforeAttributeName t letters name = refl
-open_of-no_reference state.AttributeName t letters name = refl
-open_of-no_reference state.AfterAttributeName t letters name = refl
-open_of-no_reference state.BeforeAttributeValue t letters name = refl
-open_of-no_reference (state.AttributeValue kind) t letters name = refl
-open_of-no_reference state.AfterAttributeValueQuoted t letters name = refl
-open_of-no_reference state.SelfClosingStartTag t letters name = refl
-open_of-no_reference (state.RawData kind) t letters name = refl
-open_of-no_reference (state.RawLessThanSign kind) t letters name = refl
-open_of-no_reference (state.RawEndTagOpen kind) t letters name = refl
-open_of-no_reference (state.RawEndTagName kind) t letters name = refl
-open_of-no_reference (state.ScriptDataEscapeStart escape_kind.Escaped) t letters name = refl
-open_of-no_reference (state.ScriptDataEscapeStart escape_kind.DoubleEscaped) t letters name = refl
-open_of-no_reference state.ScriptDataEscapeStartDash t letters name = refl
-open_of-no_reference (state.ScriptDataEscapedDash kind) t letters name = refl
-open_of-no_reference (state.ScriptDataEscapedDashDash kind) t letters name = refl
-open_of-no_reference state.ScriptDataDoubleEscapeEnd t letters name = refl
-open_of-no_reference other t letters name = refl
-
-pub held_len-none : (opened : Open) → is_reference opened ≡ false → held_len opened ≡ 0
-held_len-none (Between mode) h = refl
-held_len-none LessThan h = refl
-held_len-none LessThanSolidus h = refl
-held_len-none (InTag place tag) h = refl
-held_len-none (InRaw place name) h = refl
-held_len-none (InReference stand held) h = absurd (false≢true (sym h))
-held_len-none NotBuilt h = refl
+-- behind a character that was read at most that one is held
+pub held_len-behind : (h : Here Open) (later : Open) → HoldsAtMostOne h → Opens later ≡ behind h → held_len later ≤ 1
+unfolding behind
+held_len-behind (Tells told opened) later one is = let same : later ≡ opened = cc in rw same one
+held_len-behind (TellsTag told tag) later one is = cc
+held_len-behind (Stops told) later one is = let same : later ≡ NotBuilt = cc in rw same (omega arith)
 
 -- the tag that is told last, where one ends
 abbrev pub tag_in : Next → List Told
@@ -136,30 +126,48 @@ closes-open (TellsTag told ended) tag later e = cc
 closes-open (Stops told) tag later e = cc
 
 -- in Data nothing of a tag is open, nor of raw text
-pub data-any_tag : {Z : Type 0} (q : State) (t u : CurrentTag Z) (letters name more last : List ℕ) → open_of q t letters name ≡ Between Data → open_of q u more last ≡ Between Data
-data-any_tag state.Data t u letters name more last e = e
-data-any_tag state.Plaintext t u letters name more last e = cc
-data-any_tag state.TagOpen t u letters name more last e = cc
-data-any_tag state.EndTagOpen t u letters name more last e = cc
-data-any_tag state.TagName t u letters name more last e = cc
-data-any_tag state.BeforeAttributeName t u letters name more last e = cc
-data-any_tag state.AttributeName t u letters name more last e = cc
-data-any_tag state.AfterAttributeName t u letters name more last e = cc
-data-any_tag state.BeforeAttributeValue t u letters name more last e = cc
-data-any_tag (state.AttributeValue kind) t u letters name more last e = cc
-data-any_tag state.AfterAttributeValueQuoted t u letters name more last e = cc
-data-any_tag state.SelfClosingStartTag t u letters name more last e = cc
-data-any_tag (state.RawData kind) t u letters name more last e = cc
-data-any_tag (state.RawLessThanSign kind) t u letters name more last e = cc
-data-any_tag (state.RawEndTagOpen kind) t u letters name more last e = cc
-data-any_tag (state.RawEndTagName kind) t u letters name more last e = cc
-data-any_tag (state.ScriptDataEscapeStart escape_kind.Escaped) t u letters name more last e = cc
-data-any_tag (state.ScriptDataEscapeStart escape_kind.DoubleEscaped) t u letters name more last e = cc
-data-any_tag state.ScriptDataEscapeStartDash t u letters name more last e = cc
-data-any_tag (state.ScriptDataEscapedDash kind) t u letters name more last e = cc
-data-any_tag (state.ScriptDataEscapedDashDash kind) t u letters name more last e = cc
-data-any_tag state.ScriptDataDoubleEscapeEnd t u letters name more last e = cc
-data-any_tag other t u letters name more last e = cc
+behind_name≢data : (held : List ℕ) (d : DoctypeOf) → behind_doctype_name held d ≢ Between Data
+behind_name≢data [] d = λ e. cc
+behind_name≢data (c ∷ held) d = λ e. cc
+
+pub data-any_tag : {Z : Type 0} (q : State) (at later : Opened Z) → open_of q at ≡ Between Data → open_of q later ≡ Between Data
+data-any_tag state.Data at later e = e
+data-any_tag state.Plaintext at later e = cc
+data-any_tag state.TagOpen at later e = cc
+data-any_tag state.EndTagOpen at later e = cc
+data-any_tag state.TagName at later e = cc
+data-any_tag state.BeforeAttributeName at later e = cc
+data-any_tag state.AttributeName at later e = cc
+data-any_tag state.AfterAttributeName at later e = cc
+data-any_tag state.BeforeAttributeValue at later e = cc
+data-any_tag (state.AttributeValue kind) at later e = cc
+data-any_tag state.AfterAttributeValueQuoted at later e = cc
+data-any_tag state.SelfClosingStartTag at later e = cc
+data-any_tag (state.RawData kind) at later e = cc
+data-any_tag (state.RawLessThanSign kind) at later e = cc
+data-any_tag (state.RawEndTagOpen kind) at later e = cc
+data-any_tag (state.RawEndTagName kind) at later e = cc
+data-any_tag (state.ScriptDataEscapeStart escape_kind.Escaped) at later e = cc
+data-any_tag (state.ScriptDataEscapeStart escape_kind.DoubleEscaped) at later e = cc
+data-any_tag state.ScriptDataEscapeStartDash at later e = cc
+data-any_tag (state.ScriptDataEscapedDash kind) at later e = cc
+data-any_tag (state.ScriptDataEscapedDashDash kind) at later e = cc
+data-any_tag state.ScriptDataDoubleEscapeEnd at later e = cc
+data-any_tag state.MarkupDeclarationOpen at later e = cc
+data-any_tag state.Comment at later e = cc
+data-any_tag state.BogusComment at later e = cc
+data-any_tag state.Doctype at later e = cc
+data-any_tag state.BeforeDoctypeName at later e = cc
+data-any_tag state.DoctypeName at later e = cc
+data-any_tag state.AfterDoctypeName at later e = absurd (behind_name≢data _ _ e)
+data-any_tag (state.AfterDoctypeKeyword kind) at later e = cc
+data-any_tag (state.BeforeDoctypeIdentifier kind) at later e = cc
+data-any_tag (state.DoctypeIdentifierDoubleQuoted kind) at later e = cc
+data-any_tag (state.DoctypeIdentifierSingleQuoted kind) at later e = cc
+data-any_tag (state.AfterDoctypeIdentifier kind) at later e = cc
+data-any_tag state.BetweenDoctypePublicAndSystemIdentifiers at later e = cc
+data-any_tag state.BogusDoctype at later e = cc
+data-any_tag other at later e = cc
 
 -- a refusal within what a state tells, where a tag may follow
 pub ended_stops : {S T : Type 0} (Z : Type 0) (step faulted : S → Told → ℕ → S) (r : Result T TokenizerError) (e : TokenizerError) (now : Opened Z) (next : Next) (s u : S) (line : ℕ) (tokens : List Told)
@@ -222,57 +230,71 @@ module _ {S H : Type 0} (step : S → Told → ℕ → S) (reply : S → Told �
   opened-behind s line last d (Stops told) = refl
 
   -- a character in a state, where a bad one that begins what isn't built yet was excluded
-  module _ {Z : Type 0} (now : State) (tag : CurrentTag Z) (letters name : List ℕ) (s : S) (line d : ℕ) where
+  module _ {Z : Type 0} (now : State) (at : Opened Z) (s : S) (line d : ℕ) (decided : is_undecided_open (open_of now at) ≡ false) where
     abbrev told_here : List Message
-    told_here = messages_here step reply rules line d (step_at rules.exact (open_of now tag letters name) d)
+    told_here = messages_here step reply rules line d (step_at rules.exact (open_of now at) d)
 
     abbrev behind_here : Open
-    behind_here = opened_here step reply rules s line name d (step_at rules.exact (open_of now tag letters name) d)
+    behind_here = opened_here step reply rules s line (last_name_of at) d (step_at rules.exact (open_of now at) d)
 
-    goes_on : (rules.exact && is_bad_character d && stops_at_bad now) ≡ false → (rules.exact && is_bad_character d) ≡ true → Goes (step_at rules.exact (open_of now tag letters name) d)
+    goes_on : (rules.exact && is_bad_character d && stops_at_bad now) ≡ false → (rules.exact && is_bad_character d) ≡ true → Goes (step_at rules.exact (open_of now at) d)
     goes_on not_stopped both =
-        goes_at_bad rules.exact now tag letters name d (and_parts rules.exact (is_bad_character d) both).1 (rw both at not_stopped)
+        goes_at_bad rules.exact now at d (and_parts rules.exact (is_bad_character d) both).1 decided (rw both at not_stopped)
 
     told-character : (rules.exact && is_bad_character d && stops_at_bad now) ≡ false
         → told_here
-        ≡ on_line line ((bad_character_error rules.exact d ++ tokens_of (step_at rules.exact (open_of now tag letters name) d)) ++ tag_in (behind (step_at rules.exact (open_of now tag letters name) d)))
-    told-character not_stopped = messages-tokens line d (step_at rules.exact (open_of now tag letters name) d) (goes_on not_stopped)
+        ≡ on_line line ((bad_character_error rules.exact d ++ tokens_of (step_at rules.exact (open_of now at) d)) ++ tag_in (behind (step_at rules.exact (open_of now at) d)))
+    told-character not_stopped = messages-tokens line d (step_at rules.exact (open_of now at) d) (goes_on not_stopped)
 
     after-character : behind_here
-        ≡ open_behind reply (stepped step s (on_line line (bad_character_error rules.exact d ++ tokens_of (step_at rules.exact (open_of now tag letters name) d)))) line name (behind (step_at rules.exact (open_of now tag letters name) d))
-    after-character = opened-behind s line name d (step_at rules.exact (open_of now tag letters name) d)
+        ≡ open_behind reply (stepped step s (on_line line (bad_character_error rules.exact d ++ tokens_of (step_at rules.exact (open_of now at) d)))) line (last_name_of at) (behind (step_at rules.exact (open_of now at) d))
+    after-character = opened-behind s line (last_name_of at) d (step_at rules.exact (open_of now at) d)
 
     -- where such a character comes, nothing is told
-    stops_at-step : {Y : Type 0} → (q : State) (t : CurrentTag Y) (held last : List ℕ) → stops_at_bad q ≡ true → is_bad_character d ≡ true → step_at rules.exact (open_of q t held last) d ≡ Stops []
+    stops_at-step : {Y : Type 0} → (q : State) (then_at : Opened Y) → stops_at_bad q ≡ true → is_bad_character d ≡ true → step_at rules.exact (open_of q then_at) d ≡ Stops []
     unfolding step_at
-    stops_at-step state.Data t held last stops bad = absurd (false≢true stops)
-    stops_at-step state.Plaintext t held last stops bad = absurd (false≢true stops)
-    stops_at-step state.TagOpen t held last stops bad = absurd (false≢true stops)
-    stops_at-step state.EndTagOpen t held last stops bad = bad_stops rules.exact d bad
-    stops_at-step state.TagName t held last stops bad = absurd (false≢true stops)
-    stops_at-step state.BeforeAttributeName t held last stops bad = absurd (false≢true stops)
-    stops_at-step state.AttributeName t held last stops bad = absurd (false≢true stops)
-    stops_at-step state.AfterAttributeName t held last stops bad = absurd (false≢true stops)
-    stops_at-step state.BeforeAttributeValue t held last stops bad = absurd (false≢true stops)
-    stops_at-step (state.AttributeValue kind) t held last stops bad = absurd (false≢true stops)
-    stops_at-step state.AfterAttributeValueQuoted t held last stops bad = absurd (false≢true stops)
-    stops_at-step state.SelfClosingStartTag t held last stops bad = absurd (false≢true stops)
-    stops_at-step (state.RawData kind) t held last stops bad = absurd (false≢true stops)
-    stops_at-step (state.RawLessThanSign kind) t held last stops bad = absurd (false≢true stops)
-    stops_at-step (state.RawEndTagOpen kind) t held last stops bad = absurd (false≢true stops)
-    stops_at-step (state.RawEndTagName kind) t held last stops bad = absurd (false≢true stops)
-    stops_at-step (state.ScriptDataEscapeStart escape_kind.Escaped) t held last stops bad = absurd (false≢true stops)
-    stops_at-step (state.ScriptDataEscapeStart escape_kind.DoubleEscaped) t held last stops bad = absurd (false≢true stops)
-    stops_at-step state.ScriptDataEscapeStartDash t held last stops bad = absurd (false≢true stops)
-    stops_at-step (state.ScriptDataEscapedDash kind) t held last stops bad = absurd (false≢true stops)
-    stops_at-step (state.ScriptDataEscapedDashDash kind) t held last stops bad = absurd (false≢true stops)
-    stops_at-step state.ScriptDataDoubleEscapeEnd t held last stops bad = absurd (false≢true stops)
-    stops_at-step other t held last stops bad = refl
+    stops_at-step state.Data then_at stops bad = absurd (false≢true stops)
+    stops_at-step state.Plaintext then_at stops bad = absurd (false≢true stops)
+    stops_at-step state.TagOpen then_at stops bad = absurd (false≢true stops)
+    stops_at-step state.EndTagOpen then_at stops bad = absurd (false≢true stops)
+    stops_at-step state.TagName then_at stops bad = absurd (false≢true stops)
+    stops_at-step state.BeforeAttributeName then_at stops bad = absurd (false≢true stops)
+    stops_at-step state.AttributeName then_at stops bad = absurd (false≢true stops)
+    stops_at-step state.AfterAttributeName then_at stops bad = absurd (false≢true stops)
+    stops_at-step state.BeforeAttributeValue then_at stops bad = absurd (false≢true stops)
+    stops_at-step (state.AttributeValue kind) then_at stops bad = absurd (false≢true stops)
+    stops_at-step state.AfterAttributeValueQuoted then_at stops bad = absurd (false≢true stops)
+    stops_at-step state.SelfClosingStartTag then_at stops bad = absurd (false≢true stops)
+    stops_at-step (state.RawData kind) then_at stops bad = absurd (false≢true stops)
+    stops_at-step (state.RawLessThanSign kind) then_at stops bad = absurd (false≢true stops)
+    stops_at-step (state.RawEndTagOpen kind) then_at stops bad = absurd (false≢true stops)
+    stops_at-step (state.RawEndTagName kind) then_at stops bad = absurd (false≢true stops)
+    stops_at-step (state.ScriptDataEscapeStart escape_kind.Escaped) then_at stops bad = absurd (false≢true stops)
+    stops_at-step (state.ScriptDataEscapeStart escape_kind.DoubleEscaped) then_at stops bad = absurd (false≢true stops)
+    stops_at-step state.ScriptDataEscapeStartDash then_at stops bad = absurd (false≢true stops)
+    stops_at-step (state.ScriptDataEscapedDash kind) then_at stops bad = absurd (false≢true stops)
+    stops_at-step (state.ScriptDataEscapedDashDash kind) then_at stops bad = absurd (false≢true stops)
+    stops_at-step state.ScriptDataDoubleEscapeEnd then_at stops bad = absurd (false≢true stops)
+    stops_at-step state.MarkupDeclarationOpen then_at stops bad = absurd (false≢true stops)
+    stops_at-step state.Comment then_at stops bad = absurd (false≢true stops)
+    stops_at-step state.BogusComment then_at stops bad = absurd (false≢true stops)
+    stops_at-step state.Doctype then_at stops bad = absurd (false≢true stops)
+    stops_at-step state.BeforeDoctypeName then_at stops bad = absurd (false≢true stops)
+    stops_at-step state.DoctypeName then_at stops bad = absurd (false≢true stops)
+    stops_at-step state.AfterDoctypeName then_at stops bad = absurd (false≢true stops)
+    stops_at-step (state.AfterDoctypeKeyword kind) then_at stops bad = absurd (false≢true stops)
+    stops_at-step (state.BeforeDoctypeIdentifier kind) then_at stops bad = absurd (false≢true stops)
+    stops_at-step (state.DoctypeIdentifierDoubleQuoted kind) then_at stops bad = absurd (false≢true stops)
+    stops_at-step (state.DoctypeIdentifierSingleQuoted kind) then_at stops bad = absurd (false≢true stops)
+    stops_at-step (state.AfterDoctypeIdentifier kind) then_at stops bad = absurd (false≢true stops)
+    stops_at-step state.BetweenDoctypePublicAndSystemIdentifiers then_at stops bad = absurd (false≢true stops)
+    stops_at-step state.BogusDoctype then_at stops bad = absurd (false≢true stops)
+    stops_at-step other then_at stops bad = refl
 
-    stopped-step : (rules.exact && is_bad_character d && stops_at_bad now) ≡ true → step_at rules.exact (open_of now tag letters name) d ≡ Stops []
+    stopped-step : (rules.exact && is_bad_character d && stops_at_bad now) ≡ true → step_at rules.exact (open_of now at) d ≡ Stops []
     stopped-step stopped =
         let both = and_parts (rules.exact && is_bad_character d) (stops_at_bad now) stopped in
-        stops_at-step now tag letters name both.1 (and_parts rules.exact (is_bad_character d) both.0).1
+        stops_at-step now at both.1 (and_parts rules.exact (is_bad_character d) both.0).1
 
     pub told-stopped : (rules.exact && is_bad_character d && stops_at_bad now) ≡ true → told_here ≡ []
     unfolding messages_here
@@ -285,56 +307,56 @@ module _ {S H : Type 0} (step : S → Told → ℕ → S) (reply : S → Told �
     -- a character that is read: the bad character, the tokens of its state and then the tag that it ends, told by calls
     module _ (not_stopped : (rules.exact && is_bad_character d && stops_at_bad now) ≡ false) where
       abbrev here_tokens : List Told
-      here_tokens = bad_character_error rules.exact d ++ tokens_of (step_at rules.exact (open_of now tag letters name) d)
+      here_tokens = bad_character_error rules.exact d ++ tokens_of (step_at rules.exact (open_of now at) d)
 
       abbrev next : Next
-      next = behind (step_at rules.exact (open_of now tag letters name) d)
+      next = behind (step_at rules.exact (open_of now at) d)
 
       whole-told : told_here ≡ on_line line (here_tokens ++ tag_in next)
       whole-told = told-character not_stopped
 
-      whole-opened : (u : S) → u ≡ stepped step s (on_line line here_tokens) → behind_here ≡ open_behind reply u line name next
+      whole-opened : (u : S) → u ≡ stepped step s (on_line line here_tokens) → behind_here ≡ open_behind reply u line (last_name_of at) next
       whole-opened u e =
-          after-character ∙ ap (λ v. open_behind reply v line name next) (sym e)
+          after-character ∙ ap (λ v. open_behind reply v line (last_name_of at) next) (sym e)
 
       module _ (t u : S) (bad_told : t ≡ stepped step s (on_line line (bad_character_error rules.exact d))) where
-        both-told : u ≡ stepped step t (on_line line (tokens_of (step_at rules.exact (open_of now tag letters name) d))) → u ≡ stepped step s (on_line line here_tokens)
+        both-told : u ≡ stepped step t (on_line line (tokens_of (step_at rules.exact (open_of now at) d))) → u ≡ stepped step s (on_line line here_tokens)
         both-told e =
-            e ∙ ap (λ v. stepped step v (on_line line (tokens_of (step_at rules.exact (open_of now tag letters name) d)))) bad_told
-            ∙ sym (stepped-append step s (on_line line (bad_character_error rules.exact d)) (on_line line (tokens_of (step_at rules.exact (open_of now tag letters name) d))))
-            ∙ ap (stepped step s) (sym (map-append (λ (token : Told). record { token = token; line = line }) (bad_character_error rules.exact d) (tokens_of (step_at rules.exact (open_of now tag letters name) d))))
+            e ∙ ap (λ v. stepped step v (on_line line (tokens_of (step_at rules.exact (open_of now at) d)))) bad_told
+            ∙ sym (stepped-append step s (on_line line (bad_character_error rules.exact d)) (on_line line (tokens_of (step_at rules.exact (open_of now at) d))))
+            ∙ ap (stepped step s) (sym (map-append (λ (token : Told). record { token = token; line = line }) (bad_character_error rules.exact d) (tokens_of (step_at rules.exact (open_of now at) d))))
 
         pub tells-ended : {T : Type 0} (faulted : S → Told → ℕ → S) (r : Result T TokenizerError) (told_tag : TagOf) (later : Open) (v : S)
-            → u ≡ stepped step t (on_line line (tokens_of (step_at rules.exact (open_of now tag letters name) d))) → Closes told_tag later ≡ next
+            → u ≡ stepped step t (on_line line (tokens_of (step_at rules.exact (open_of now at) d))) → Closes told_tag later ≡ next
             → telling.Tells step faulted r u (on_line line (Tag told_tag ∷ [])) v
             → telling.Tells step faulted r s (told_here) v
         tells-ended faulted r told_tag later v e is tells =
             rw (whole-told, ← is) (told_then step faulted r s u v line here_tokens (Tag told_tag ∷ []) (both-told e) tells)
 
         pub opened-ended : (told_tag : TagOf) (later : Open)
-            → u ≡ stepped step t (on_line line (tokens_of (step_at rules.exact (open_of now tag letters name) d))) → Closes told_tag later ≡ next
-            → open_after_reply (last_behind name told_tag) (reply u (Tag told_tag) line) ≡ behind_here
-        opened-ended told_tag later e is = ap (open_behind reply u line name) is ∙ sym (whole-opened u (both-told e))
+            → u ≡ stepped step t (on_line line (tokens_of (step_at rules.exact (open_of now at) d))) → Closes told_tag later ≡ next
+            → open_after_reply (last_behind (last_name_of at) told_tag) (reply u (Tag told_tag) line) ≡ behind_here
+        opened-ended told_tag later e is = ap (open_behind reply u line (last_name_of at)) is ∙ sym (whole-opened u (both-told e))
 
         pub last-ended : (told_tag : TagOf) (later : Open) → Closes told_tag later ≡ next
-            → last_behind name told_tag ≡ last_here name (step_at rules.exact (open_of now tag letters name) d)
-        last-ended told_tag later is = ap (last_in name) is ∙ sym (last_here-behind name (step_at rules.exact (open_of now tag letters name) d))
+            → last_behind (last_name_of at) told_tag ≡ last_here (last_name_of at) (step_at rules.exact (open_of now at) d)
+        last-ended told_tag later is = ap (last_in (last_name_of at)) is ∙ sym (last_here-behind (last_name_of at) (step_at rules.exact (open_of now at) d))
 
-        pub last-going : (later : Open) → Opens later ≡ next → name ≡ last_here name (step_at rules.exact (open_of now tag letters name) d)
-        last-going later is = ap (last_in name) is ∙ sym (last_here-behind name (step_at rules.exact (open_of now tag letters name) d))
+        pub last-going : (later : Open) → Opens later ≡ next → last_name_of at ≡ last_here (last_name_of at) (step_at rules.exact (open_of now at) d)
+        last-going later is = ap (last_in (last_name_of at)) is ∙ sym (last_here-behind (last_name_of at) (step_at rules.exact (open_of now at) d))
 
         pub pause-ended : ((s : S) (told : Told) (line : ℕ) → is_tag told ≡ false → reply s told line ≡ KeepOn)
             → (told_tag : TagOf) (later : Open)
-            → u ≡ stepped step t (on_line line (tokens_of (step_at rules.exact (open_of now tag letters name) d))) → Closes told_tag later ≡ next
+            → u ≡ stepped step t (on_line line (tokens_of (step_at rules.exact (open_of now at) d))) → Closes told_tag later ≡ next
             → first_pause step reply u (on_line line (Tag told_tag ∷ [])) ≡ first_pause step reply s (told_here)
         pause-ended keeps_on told_tag later e is =
             ap (λ v. first_pause step reply v (on_line line (Tag told_tag ∷ []))) (both-told e)
             ∙ ap (λ m. first_pause step reply (stepped step s (on_line line here_tokens)) (on_line line (tag_in m))) is
-            ∙ sym (pause-character keeps_on s line d (open_of now tag letters name) (tag_in next))
+            ∙ sym (pause-character keeps_on s line d (open_of now at) (tag_in next))
             ∙ ap (first_pause step reply s) (sym whole-told)
 
         pub tells-going : (later : Open)
-            → u ≡ stepped step t (on_line line (tokens_of (step_at rules.exact (open_of now tag letters name) d))) → Opens later ≡ next
+            → u ≡ stepped step t (on_line line (tokens_of (step_at rules.exact (open_of now at) d))) → Opens later ≡ next
             → u ≡ stepped step s (told_here)
         tells-going later e is =
             both-told e
@@ -342,9 +364,9 @@ module _ {S H : Type 0} (step : S → Told → ℕ → S) (reply : S → Told �
             ∙ ap (stepped step s) (sym whole-told)
 
         pub opened-going : (later : Open)
-            → u ≡ stepped step t (on_line line (tokens_of (step_at rules.exact (open_of now tag letters name) d))) → Opens later ≡ next
+            → u ≡ stepped step t (on_line line (tokens_of (step_at rules.exact (open_of now at) d))) → Opens later ≡ next
             → later ≡ behind_here
-        opened-going later e is = ap (open_behind reply u line name) is ∙ sym (whole-opened u (both-told e))
+        opened-going later e is = ap (open_behind reply u line (last_name_of at)) is ∙ sym (whole-opened u (both-told e))
 
         pub pause-going : ((s : S) (told : Told) (line : ℕ) → is_tag told ≡ false → reply s told line ≡ KeepOn)
             → (later : Open) → Opens later ≡ next
@@ -352,27 +374,27 @@ module _ {S H : Type 0} (step : S → Told → ℕ → S) (reply : S → Told �
         pause-going keeps_on later is =
             sym (first_pause-none step reply (stepped step s (on_line line here_tokens)))
             ∙ ap (λ m. first_pause step reply (stepped step s (on_line line here_tokens)) (on_line line (tag_in m))) is
-            ∙ sym (pause-character keeps_on s line d (open_of now tag letters name) (tag_in next))
+            ∙ sym (pause-character keeps_on s line d (open_of now at) (tag_in next))
             ∙ ap (first_pause step reply s) (sym whole-told)
 
         pub tells-refused : {T : Type 0} (Z : Type 0) (faulted : S → Told → ℕ → S) (r : Result T TokenizerError) (e : TokenizerError) (opened : Opened Z)
             → IsErrAnd r (λ x. x ≡ e) → Ends {Z = Z} (Err e) opened next
-            → telling.Stops step faulted e t (on_line line (tokens_of (step_at rules.exact (open_of now tag letters name) d))) u
+            → telling.Stops step faulted e t (on_line line (tokens_of (step_at rules.exact (open_of now at) d))) u
             → telling.Tells step faulted r s (told_here) u
         tells-refused Z faulted r e opened h ends stop =
-            rw (whole-told, append_assoc (bad_character_error rules.exact d) (tokens_of (step_at rules.exact (open_of now tag letters name) d)) (tag_in next))
-            (told_then step faulted r s t u line (bad_character_error rules.exact d) (tokens_of (step_at rules.exact (open_of now tag letters name) d) ++ tag_in next) bad_told
-            (ended_stops Z step faulted r e opened next t u line (tokens_of (step_at rules.exact (open_of now tag letters name) d)) h ends stop))
+            rw (whole-told, append_assoc (bad_character_error rules.exact d) (tokens_of (step_at rules.exact (open_of now at) d)) (tag_in next))
+            (told_then step faulted r s t u line (bad_character_error rules.exact d) (tokens_of (step_at rules.exact (open_of now at) d) ++ tag_in next) bad_told
+            (ended_stops Z step faulted r e opened next t u line (tokens_of (step_at rules.exact (open_of now at) d)) h ends stop))
 
       pub leads-refused : {T : Type 0} (Z : Type 0) (r : Result T TokenizerError) (e : TokenizerError) (opened : Opened Z) (later : Open)
           → IsErrAnd r (λ x. x ≡ e) → Ends {Z = Z} (Err e) opened next → Leads r later behind_here
       leads-refused Z r e opened later h ends =
           rw (whole-opened (stepped step s (on_line line here_tokens)) refl)
-          (ended_leads Z reply r e opened later next (stepped step s (on_line line here_tokens)) line name h ends)
+          (ended_leads Z reply r e opened later next (stepped step s (on_line line here_tokens)) line (last_name_of at) h ends)
 
       pub tells-bad : {T : Type 0} (faulted : S → Told → ℕ → S) (r : Result T TokenizerError) (e : TokenizerError) (t : S)
           → IsErrAnd r (λ x. x ≡ e) → telling.IsRefusal e → telling.Stops step faulted e s (on_line line (bad_character_error rules.exact d)) t
           → telling.Tells step faulted r s (told_here) t
       tells-bad faulted r e t h refusal stop =
-          rw (whole-told, append_assoc (bad_character_error rules.exact d) (tokens_of (step_at rules.exact (open_of now tag letters name) d)) (tag_in next))
-          (told_stop step faulted r e s t line (bad_character_error rules.exact d) (tokens_of (step_at rules.exact (open_of now tag letters name) d) ++ tag_in next) h refusal stop)
+          rw (whole-told, append_assoc (bad_character_error rules.exact d) (tokens_of (step_at rules.exact (open_of now at) d)) (tag_in next))
+          (told_stop step faulted r e s t line (bad_character_error rules.exact d) (tokens_of (step_at rules.exact (open_of now at) d) ++ tag_in next) h refusal stop)

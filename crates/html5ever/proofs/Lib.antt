@@ -2,8 +2,10 @@ pub mod RunLemmas
 pub mod Pauses
 pub mod QueueReading
 pub mod Standing
+pub mod Decided
 pub mod CharacterReading
 pub mod Wholes
 pub mod Draining
 pub mod StepRuns
-pub mod ReferenceReading
+pub mod UndecidedReading
+pub mod KeywordReading

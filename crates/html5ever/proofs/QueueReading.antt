@@ -7,8 +7,8 @@ use Rattle.html5grammar.specs.Reading.{told, messages, after}
 use Rattle.html5ever.specs.Runs.{ReadsRun}
 use Rattle.html5ever_interface.specs.Sink.{Message, stepped}
 use Rattle.html5grammar.specs.Start.{Start, Open, is_clean, Rules}
-use Rattle.html5grammar.specs.Start.Open.{Between, LessThan, LessThanSolidus, InTag, InRaw, InReference, NotBuilt}
-use Rattle.html5states.specs.Steps.{Leads}
+use Rattle.html5grammar.specs.Start.Open.{Between, LessThan, LessThanSolidus, InTag, InRaw, InDeclaration, InComment, InBogusComment, InDoctype, InDoctypeKeyword, InReference, NotBuilt}
+use Rattle.html5parts.specs.Steps.{Leads}
 use Rattle.html5states.specs.Telling.{Stops, IsRefusal}
 use Rattle.html5grammar.specs.NormalisedText.{input_after}
 use Rattle.std.specs.Result.{IsErrAnd}
@@ -19,17 +19,18 @@ use Rattle.html5ever_interface.specs.Token.Reply.{KeepOn}
 use Rattle.std.proofs.lemmas.Bool.{false≢true}
 use Rattle.html5ever.specs.Feed.{Feed, pauses, takes_before, first_pause, feed, IsEndOf}
 use Rattle.html5ever.specs.Refused.{IsRun, IsItem, RefusedBehind}
-use Rattle.html5states.specs.Runs.{run_tokens, opened_after_run}
+use Rattle.html5parts.specs.Runs.{run_tokens, opened_after_run}
 use Rattle.html5ever.proofs.RunLemmas.{told-run, after-run, run-quiet}
 use Rattle.html5ever_interface.specs.Sink.{on_line}
-use Rattle.html5states.specs.Telling.{Tells, faults_of}
+use Rattle.html5states.specs.Telling.{Tells}
 use Rattle.std.specs.Prelude.{OnOk, IsNone}
 use Rattle.html5ever.proofs.Pauses.{told_beyond-behind, state_behind-append, pause_here, feed-goes_on, feed-takes, feed-pauses}
-use Rattle.html5states.specs.declared.error.TokenizerError.{TokenizerError}
-use Rattle.html5states.specs.declared.error.TokenizerError.TheVariants.{Memory, Sink, Failed, NotYet}
+use Rattle.html5parts.specs.declared.error.TokenizerError.{TokenizerError}
+use Rattle.html5parts.specs.declared.error.TokenizerError.TheVariants.{Memory, Sink, Failed, NotYet}
 use Rattle.html5grammar.proofs.ReadingLemmas.{state_behind, told-nil, told-append, after-nil, after-append, told-not_built, after-not_built}
 use Rattle.html5ever_interface.proofs.Steppings.{stepped-append}
-use Rattle.html5states.proofs.Tellings.{Memory-at_once, cons≢nil, stops_before, stops_after}
+use Rattle.html5parts.proofs.Keywords.{cons≢nil}
+use Rattle.html5states.proofs.Tellings.{Memory-at_once, stops_before, stops_after}
 
 -- between tags a run tells its characters and opens nothing
 opened_after_run-clean : (opened : Open) (run : List ℕ) → is_clean opened ≡ true → opened_after_run opened run ≡ opened
@@ -38,6 +39,11 @@ opened_after_run-clean LessThan run clean = absurd (false≢true clean)
 opened_after_run-clean LessThanSolidus run clean = absurd (false≢true clean)
 opened_after_run-clean (InTag place tag) run clean = absurd (false≢true clean)
 opened_after_run-clean (InRaw place name) run clean = absurd (false≢true clean)
+opened_after_run-clean (InDeclaration held) run clean = absurd (false≢true clean)
+opened_after_run-clean (InComment text) run clean = absurd (false≢true clean)
+opened_after_run-clean (InBogusComment text) run clean = absurd (false≢true clean)
+opened_after_run-clean (InDoctype place doctype) run clean = absurd (false≢true clean)
+opened_after_run-clean (InDoctypeKeyword held doctype) run clean = absurd (false≢true clean)
 opened_after_run-clean (InReference stand held) run clean = absurd (false≢true clean)
 opened_after_run-clean NotBuilt run clean = absurd (false≢true clean)
 
@@ -47,20 +53,30 @@ run_tokens-clean LessThan run clean = absurd (false≢true clean)
 run_tokens-clean LessThanSolidus run clean = absurd (false≢true clean)
 run_tokens-clean (InTag place tag) run clean = absurd (false≢true clean)
 run_tokens-clean (InRaw place name) run clean = absurd (false≢true clean)
+run_tokens-clean (InDeclaration held) run clean = absurd (false≢true clean)
+run_tokens-clean (InComment text) run clean = absurd (false≢true clean)
+run_tokens-clean (InBogusComment text) run clean = absurd (false≢true clean)
+run_tokens-clean (InDoctype place doctype) run clean = absurd (false≢true clean)
+run_tokens-clean (InDoctypeKeyword held doctype) run clean = absurd (false≢true clean)
 run_tokens-clean (InReference stand held) run clean = absurd (false≢true clean)
 run_tokens-clean NotBuilt run clean = absurd (false≢true clean)
 
--- within a tag it tells nothing
-run_tokens-tag : (opened : Open) (run : List ℕ) → is_clean opened ≡ false → run_tokens opened run ≡ []
-run_tokens-tag (Between mode) run in_tag = absurd (false≢true (sym in_tag))
-run_tokens-tag LessThan run in_tag = refl
-run_tokens-tag LessThanSolidus run in_tag = refl
-run_tokens-tag (InTag place tag) run in_tag = refl
-run_tokens-tag (InRaw place name) run in_tag = refl
-run_tokens-tag (InReference stand held) run in_tag = refl
-run_tokens-tag NotBuilt run in_tag = refl
+-- within a tag or a comment it tells nothing
+run_tokens-open : (opened : Open) (run : List ℕ) → is_clean opened ≡ false → run_tokens opened run ≡ []
+run_tokens-open (Between mode) run not_clean = absurd (false≢true (sym not_clean))
+run_tokens-open LessThan run not_clean = refl
+run_tokens-open LessThanSolidus run not_clean = refl
+run_tokens-open (InTag place tag) run not_clean = refl
+run_tokens-open (InRaw place name) run not_clean = refl
+run_tokens-open (InDeclaration held) run not_clean = refl
+run_tokens-open (InComment text) run not_clean = refl
+run_tokens-open (InBogusComment text) run not_clean = refl
+run_tokens-open (InDoctype place doctype) run not_clean = refl
+run_tokens-open (InDoctypeKeyword held doctype) run not_clean = refl
+run_tokens-open (InReference stand held) run not_clean = refl
+run_tokens-open NotBuilt run not_clean = refl
 
-on_ok : {T E : Type 0} {P : Type 0} (r : Result T E) → P → OnOk r P
+pub on_ok : {T E : Type 0} {P : Type 0} (r : Result T E) → P → OnOk r P
 on_ok (Ok x) p = p
 on_ok (Err e) p = tt
 
@@ -226,14 +242,14 @@ module _ {S H : Type 0} (step : S → Told → ℕ → S) (reply : S → Told �
       ReadsRun-run faulted (Err Memory) keeps_on K K old new s s run is_run fits takes (Memory-at_once step faulted s _) tt refl refl
 
   -- a run was put to the open name or value, or there was no memory for it
-  pub ReadsRun-tag : {T : Type 0} (faulted : S → Told → ℕ → S) (r : Result T TokenizerError)
+  pub ReadsRun-open : {T : Type 0} (faulted : S → Told → ℕ → S) (r : Result T TokenizerError)
       → ((s : S) (told : Told) (line : ℕ) → is_tag told ≡ false → reply s told line ≡ KeepOn)
       → (K L : Start) (old new : TextQueue) (s : S) (run : List ℕ) → IsRun rules K run → is_clean K.opened ≡ false → K.input.line < 2 ^ 64 → Takes old new run
       → IfErr r (λ e. e ≡ Memory) → OnOk r (L.opened ≡ opened_after_run K.opened run) → L.last_start_tag ≡ K.last_start_tag → L.input ≡ K.input
       → ReadsRun step reply faulted rules r K L old new s s
-  ReadsRun-tag faulted r keeps_on K L old new s run is_run in_tag fits takes memory opened last input =
+  ReadsRun-open faulted r keeps_on K L old new s run is_run not_clean fits takes memory opened last input =
       ReadsRun-run faulted r keeps_on K L old new s s run is_run fits takes
-      (subst (λ (tokens : List Told). Tells step faulted r s (on_line K.input.line tokens) s) (sym (run_tokens-tag K.opened run in_tag)) (tells_nothing faulted r s memory))
+      (subst (λ (tokens : List Told). Tells step faulted r s (on_line K.input.line tokens) s) (sym (run_tokens-open K.opened run not_clean)) (tells_nothing faulted r s memory))
       opened last input
 
   -- what the whole feed takes, around an item

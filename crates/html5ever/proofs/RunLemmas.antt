@@ -19,13 +19,13 @@ use Rattle.html5grammar.specs.Characters.{null, line_feed, carriage_return}
 use Rattle.html5grammar.specs.NormalisedText.{with_line_feeds, without_dropped_first, normalised, line_after, input_after, ends_with_carriage_return}
 use Rattle.html5grammar.specs.Reading.{told, messages, after}
 use Rattle.html5grammar.specs.Start.{Input, Start, Open, Rules}
-use Rattle.html5grammar.specs.Start.Open.{Between, LessThan, LessThanSolidus, InTag, InRaw, InReference, NotBuilt}
+use Rattle.html5grammar.specs.Start.Open.{Between, LessThan, LessThanSolidus, InTag, InRaw, InDeclaration, InComment, InBogusComment, InDoctype, InDoctypeKeyword, InReference, NotBuilt}
 use Rattle.html5grammar.proofs.InputLemmas.{line_past, line_after-none}
 use Rattle.html5grammar.proofs.NoTags.{NoTags}
 use Rattle.html5grammar.proofs.ReadingLemmas.{told-trace, after-opened, after-last}
 use Rattle.html5grammar.proofs.Traces.{Trace, trace, trace_here, with_messages, brought-tells, trace_brought}
-use Rattle.html5states.specs.Runs.{other_run_ends, run_ends, run_tokens, opened_after_run}
-use Rattle.html5states.proofs.RunSteps.{step-run, run_tokens-nil, run_tokens-cons, opened_after_run-nil, opened_after_run-cons, other_run_ends-after, no_null, no_line_feed, no_carriage_return}
+use Rattle.html5parts.specs.Runs.{other_run_ends, run_ends, run_tokens, opened_after_run}
+use Rattle.html5parts.proofs.RunSteps.{step-run, run_tokens-nil, run_tokens-cons, opened_after_run-nil, opened_after_run-cons, other_run_ends-after, no_null, no_line_feed, no_carriage_return}
 use Rattle.html5ever.specs.Feed.{first_pause}
 use Rattle.html5ever.specs.Refused.{IsRun}
 use Rattle.html5ever.proofs.Pauses.{first_pause-no_tags, no_tag_messages}
@@ -148,6 +148,11 @@ no_tags-run LessThan run = tt
 no_tags-run LessThanSolidus run = tt
 no_tags-run (InTag place tag) run = tt
 no_tags-run (InRaw place name) run = tt
+no_tags-run (InDeclaration held) run = tt
+no_tags-run (InComment text) run = tt
+no_tags-run (InBogusComment text) run = tt
+no_tags-run (InDoctype place doctype) run = tt
+no_tags-run (InDoctypeKeyword held doctype) run = tt
 no_tags-run (InReference stand held) run = tt
 no_tags-run NotBuilt run = tt
 
@@ -167,7 +172,7 @@ module _ {S H : Type 0} (step : S → Told → ℕ → S) (reply : S → Told �
       let later : Open = opened_after_run opened (c ∷ []) in
       let here : step_at rules.exact opened c ≡ Tells (run_tokens opened (c ∷ [])) later = ap (λ b. step_at b opened c) not_exact ∙ step-run opened others c has out in
       rw (brought-tells rules opened c (Tells (run_tokens opened (c ∷ [])) later) refl here, line_past-ordinary line c (ordinary others c out) h, not_exact)
-      (ap (with_messages M) (trace-run rules not_exact (stepped step s M) line last later others run h (other_run_ends-after opened c ∙ has) (All-tail (λ d. ¬ Contains (run_ends others) d) c run all))
+      (ap (with_messages M) (trace-run rules not_exact (stepped step s M) line last later others run h (other_run_ends-after opened others c has out ∙ has) (All-tail (λ d. ¬ Contains (run_ends others) d) c run all))
       ∙ trace_is (sym (map-append (λ (token : Told). record { token = token; line = line }) (run_tokens opened (c ∷ [])) (run_tokens later run)) ∙ ap (on_line line) (sym (run_tokens-cons opened c run)))
       (sym (opened_after_run-cons opened c run)))
 

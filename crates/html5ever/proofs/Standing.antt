@@ -19,17 +19,17 @@ use Rattle.html5ever.proofs.Pauses.{told_beyond-behind, state_behind-append, fee
 use Rattle.markup5ever.specs.declared.tokenizer_result.TokenizerResult.{TokenizerResult}
 use Rattle.markup5ever.specs.declared.tokenizer_result.TokenizerResult.TheVariants.{Done, Script, EncodingIndicator}
 use Rattle.std.specs.Prelude.{Result, Ok, Err, OnOk, IfOk, IfErr, is_err, ◌≢◌}
-use Rattle.html5states.specs.Steps.{IsBuilt}
+use Rattle.html5parts.specs.Steps.{IsBuilt}
 use Rattle.html5states.specs.Telling.{Stops, Tells}
 use Rattle.std.specs.Prelude.{Option, None, Some}
 use Rattle.std.specs.Option.{unwrap_or}
 use Rattle.html5ever_interface.specs.declared.states.State.{State}
 use Rattle.html5ever_interface.specs.declared.states.State.TheVariants as state
-use Rattle.html5states.specs.CurrentTag.{open_of}
-use Rattle.html5states.specs.declared.current_tag.CurrentTag.{CurrentTag}
+use Rattle.html5parts.specs.CurrentTag.{open_of, opened_of, last_name_of}
+use Rattle.html5parts.specs.declared.opened.Opened.{Opened}
 use Rattle.html5ever.specs.Tokenizer.{CanStart, Tokenizing, StandsAt, FeedsOn, HandsOn, LeavesWaiting, FeedMeetsNotBuilt, StopsFeeding, LeavesRefused, EndStops}
-use Rattle.html5states.specs.declared.error.TokenizerError.{TokenizerError}
-use Rattle.html5states.specs.declared.error.TokenizerError.TheVariants.{Failed}
+use Rattle.html5parts.specs.declared.error.TokenizerError.{TokenizerError}
+use Rattle.html5parts.specs.declared.error.TokenizerError.TheVariants.{Failed}
 
 -- the line on which the tokenizer stands is the one that the text has reached
 position-line : (I : Input) (X : List ℕ) → (input_after I X).line < 2 ^ 64 → (input_after I X).line ≡ line_after I (normalised I X)
@@ -39,13 +39,16 @@ position-line I (c ∷ X) h = refl
 
 -- the state in which a stream starts
 
-pub starts-in : {Z : Type 0} → (chosen : Option State) (tag : CurrentTag Z) (letters name : List ℕ) → CanStart chosen
-    → open_of (unwrap_or chosen state.Data) tag letters name ≡ Between (initial_mode chosen name)
-starts-in None tag letters name can = refl
-starts-in (Some state.Data) tag letters name can = refl
-starts-in (Some state.Plaintext) tag letters name can = refl
-starts-in (Some (state.RawData kind)) tag letters name can = refl
-starts-in (Some other) tag letters name can = absurd can
+starts-mode : {Z : Type 0} → (chosen : Option State) (at : Opened Z) → CanStart chosen → open_of (unwrap_or chosen state.Data) at ≡ Between (initial_mode chosen (last_name_of at))
+starts-mode None at can = refl
+starts-mode (Some state.Data) at can = refl
+starts-mode (Some state.Plaintext) at can = refl
+starts-mode (Some (state.RawData kind)) at can = refl
+starts-mode (Some other) at can = absurd can
+
+pub starts-in : {Z : Type 0} → (chosen : Option State) (at : Opened Z) → at.state ≡ unwrap_or chosen state.Data → CanStart chosen
+    → opened_of at ≡ Between (initial_mode chosen (last_name_of at))
+starts-in chosen at is can = ap (λ s. open_of s at) is ∙ starts-mode chosen at can
 
 pub start-is : (K L : Start) → K.opened ≡ L.opened → K.last_start_tag ≡ L.last_start_tag → K.input.line ≡ L.input.line → K.input.after_carriage_return ≡ L.input.after_carriage_return
     → K.input.drops_byte_order_mark ≡ L.input.drops_byte_order_mark → K ≡ L

@@ -13,11 +13,11 @@ use Rattle.html5ever.specs.Feed.{Feed, feed, told_beyond, IsEndOf}
 use Rattle.html5ever.specs.RunSteps.StepOf.{AtBack}
 use Rattle.html5ever.proofs.Pauses.{feed-parts}
 use Rattle.html5ever.specs.RunSteps.{StepOf, waiting_with, run_text, FinishesRun, StopsRun, IsBuiltInRun, MeetsInRun}
-use Rattle.html5states.specs.Steps.{IsBuilt}
+use Rattle.html5parts.specs.Steps.{IsBuilt}
 use Rattle.html5states.specs.Telling.{Stops}
 use Rattle.html5ever.specs.Tokenizer.{Tokenizing, StandsAt, ReadsOn, FeedsOn, LeavesWaiting, Finishes, FeedMeetsNotBuilt, MeetsNotBuilt, StopsFeeding, StopsReading, StopsEnding, WholeStops}
-use Rattle.html5states.specs.declared.error.TokenizerError.{TokenizerError}
-use Rattle.html5states.specs.declared.error.TokenizerError.TheVariants.{Memory, NotYet}
+use Rattle.html5parts.specs.declared.error.TokenizerError.{TokenizerError}
+use Rattle.html5parts.specs.declared.error.TokenizerError.TheVariants.{Memory, NotYet}
 use Rattle.html5ever.proofs.Draining.{taken-is}
 use Rattle.html5ever.proofs.QueueReading.{memory≢not_yet}
 use Rattle.html5states.proofs.Tellings.{Memory-at_once}

@@ -17,17 +17,17 @@ use Rattle.html5grammar.proofs.ReadingLemmas.{told-nil, told-append, told-not_bu
 use Rattle.html5ever.proofs.Draining.{told-beyond}
 use Rattle.html5grammar.proofs.Traces.{messages-append}
 use Rattle.html5ever.specs.Feed.{told_beyond, told_at_end}
-use Rattle.html5states.specs.Steps.{IsBuilt}
+use Rattle.html5parts.specs.Steps.{IsBuilt}
 use Rattle.html5states.specs.Telling.{Stops, StopsWithin, IsNotFailed, IsRefusal}
 use Rattle.html5ever.specs.Tokenizer.{Tokenizing, StandsAt, EndStops, WholeStops}
-use Rattle.html5states.specs.declared.error.TokenizerError.{TokenizerError}
-use Rattle.html5states.specs.declared.error.TokenizerError.TheVariants.{Memory, Sink, Failed, NotYet}
+use Rattle.html5parts.specs.declared.error.TokenizerError.{TokenizerError}
+use Rattle.html5parts.specs.declared.error.TokenizerError.TheVariants.{Memory, Sink, Failed, NotYet}
 use Rattle.markup5ever.specs.BufferQueue.{TextQueue, Gains}
 use Rattle.html5states.proofs.Tellings.{stops_before, stops_after}
 use Rattle.std.proofs.Math.Seq.{drop-append_seam}
 use Rattle.std.proofs.lemmas.List.{length-map}
 use Rattle.html5grammar.specs.EndOfInput.{told_at_end_of, late_at_end_of, open_at_end_of}
-use Rattle.html5grammar.specs.Start.Open.{Between, LessThan, LessThanSolidus, InTag, InRaw, InReference, NotBuilt}
+use Rattle.html5grammar.specs.Start.Open.{Between, LessThan, LessThanSolidus, InTag, InRaw, InDeclaration, InComment, InBogusComment, InDoctype, InDoctypeKeyword, InReference, NotBuilt}
 
 module _ {X S H : Type 0} (state : X → S) (step : S → Told → ℕ → S) (reply : S → Told → ℕ → Reply H) (faulted : S → Told → ℕ → S) where
   -- the reading is what is told, and then what the end tells
@@ -159,6 +159,11 @@ built-unless LessThan h = tt
 built-unless LessThanSolidus h = tt
 built-unless (InTag place tag) h = tt
 built-unless (InRaw place name) h = tt
+built-unless (InDeclaration held) h = tt
+built-unless (InComment text) h = tt
+built-unless (InBogusComment text) h = tt
+built-unless (InDoctype place doctype) h = tt
+built-unless (InDoctypeKeyword held doctype) h = tt
 built-unless (InReference stand held) h = tt
 built-unless NotBuilt h = h refl
 

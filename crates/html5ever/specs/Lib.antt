@@ -3,4 +3,4 @@ pub mod Tokenizer
 pub mod Refused
 pub mod Runs
 pub mod RunSteps
-pub mod References
+pub mod Undecided

@@ -5,9 +5,9 @@ use Rattle.html5ever_interface.specs.Token.{Told, Reply}
 use Rattle.html5grammar.specs.Reading.{told, messages, after}
 use Rattle.html5grammar.specs.Start.{Start, Rules}
 use Rattle.html5ever.specs.Feed.{told_beyond}
-use Rattle.html5states.specs.Runs.{IsRunAt}
+use Rattle.html5parts.specs.Runs.{IsRunAt}
 use Rattle.html5states.specs.Telling.{Stops}
-use Rattle.html5states.specs.declared.error.TokenizerError.{TokenizerError}
+use Rattle.html5parts.specs.declared.error.TokenizerError.{TokenizerError}
 
 -- a run that is read at once: errors are not exact, and no first character may be dropped
 pub record IsRun (rules : Rules) (K : Start) (run : List ℕ) : Type 0 where

@@ -8,9 +8,9 @@ use Rattle.html5grammar.specs.Reading.{reading, messages, after}
 use Rattle.html5grammar.specs.Start.{Start, Rules}
 use Rattle.html5grammar.specs.Start.Open.{NotBuilt}
 use Rattle.html5ever.specs.Feed.{Feed, feed}
-use Rattle.html5states.specs.Steps.{IsBuilt}
+use Rattle.html5parts.specs.Steps.{IsBuilt}
 use Rattle.html5ever.specs.Tokenizer.{Tokenizing, StandsAt, WholeStops}
-use Rattle.html5states.specs.declared.error.TokenizerError.{TokenizerError}
+use Rattle.html5parts.specs.declared.error.TokenizerError.{TokenizerError}
 use Rattle.html5ever.specs.declared.tokenizer.steps.Step.{Step}
 use Rattle.html5ever.specs.declared.tokenizer.steps.Step.TheVariants.{Push, Insert}
 

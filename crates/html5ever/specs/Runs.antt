@@ -7,7 +7,7 @@ use Rattle.html5grammar.specs.Start.{Start, Rules}
 use Rattle.html5ever.specs.Feed.{first_pause}
 use Rattle.html5ever.specs.Refused.{IsItem}
 use Rattle.html5states.specs.Telling.{Tells}
-use Rattle.html5states.specs.declared.error.TokenizerError.{TokenizerError}
+use Rattle.html5parts.specs.declared.error.TokenizerError.{TokenizerError}
 use Rattle.markup5ever.specs.BufferQueue.{TextQueue, Takes}
 
 module _ {S H T : Type 0} (step : S → Told → ℕ → S) (reply : S → Told → ℕ → Reply H) (faulted : S → Told → ℕ → S) (rules : Rules) where

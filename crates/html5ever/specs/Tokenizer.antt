@@ -12,10 +12,10 @@ use Rattle.html5grammar.specs.Start.{Start, Open, Rules, start_of}
 use Rattle.html5grammar.specs.Start.Open.{NotBuilt}
 use Rattle.html5ever.specs.Feed.{told_beyond, told_at_end, feed}
 use Rattle.html5ever.specs.Refused.{RefusedBehind}
-use Rattle.html5states.specs.Steps.{IsBuilt}
+use Rattle.html5parts.specs.Steps.{IsBuilt}
 use Rattle.html5states.specs.Telling.{Stops, StopsWithin, FaultsWithin}
-use Rattle.html5states.specs.declared.error.TokenizerError.{TokenizerError}
-use Rattle.html5states.specs.declared.error.TokenizerError.TheVariants.{Memory, Sink, Failed, NotYet}
+use Rattle.html5parts.specs.declared.error.TokenizerError.{TokenizerError}
+use Rattle.html5parts.specs.declared.error.TokenizerError.TheVariants.{Memory, Sink, Failed, NotYet}
 
 -- what contracts see of a tokenizer
 pub record Tokenizing (X : Type 0) : Type 0 where

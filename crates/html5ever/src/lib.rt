@@ -2,10 +2,11 @@
 #![tactic(auto)]
 
 mod input;
+mod keyword;
 mod position;
 mod reading;
 mod rules;
 pub mod tokenizer;
 
 pub use crate::tokenizer::{Tokenizer, TokenizerResult};
-pub use html5states::error::TokenizerError;
+pub use html5parts::error::TokenizerError;

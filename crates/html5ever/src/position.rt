@@ -1,5 +1,5 @@
 //! Where a tokenizer stands in its stream.
-#![tactic(auto, unfolding(html5states::specs::CharRef::with_reference))]
+#![tactic(auto, unfolding(html5parts::specs::CharRef::with_reference))]
 
 ghost use Rattle.std.specs.Prelude.{◌≡◌, ◌≢◌, ◌^◌, ◌<◌, ◌≤◌, ◌+◌, ◌&&◌, ℕ, List, ◌∷◌, [], true, false, length, take, drop, Contains, Some, IfOk, IfErr, IfSome, OnOk, option_map, string_bytes};
 ghost use Rattle.html5ever_interface.specs.Options.{options_of};
@@ -7,39 +7,42 @@ ghost use Rattle.html5ever_interface.specs.Sink.{stepped, on_line};
 ghost use Rattle.html5ever_interface.specs.Token.{Told, tag_of};
 ghost use Rattle.html5ever_interface.specs.Token.Told.{Text};
 ghost use Rattle.html5grammar.specs.Characters.{is_bad_character};
-ghost use Rattle.html5grammar.specs.EndOfInput.{told_at_end_of, tokens_at_end};
+ghost use Rattle.html5grammar.specs.EndOfInput.{late_at_end_of, open_at_end_of, told_at_end_of, tokens_at_end};
 ghost use Rattle.html5grammar.specs.Reference.{ends_number, late_tokens, opened_behind};
 ghost use Rattle.html5grammar.specs.ErrorText.{bad_character_error};
 ghost use Rattle.html5grammar.specs.NormalisedText.{input_after};
 ghost use Rattle.html5grammar.specs.Reading.{told, messages, after, last_behind, open_after_reply};
 ghost use Rattle.html5grammar.specs.Slice.{tokens_of_late};
-ghost use Rattle.html5grammar.specs.Start.{start_of, initial_name, raw_of, is_clean, is_reference, held_len};
-ghost use Rattle.html5states.specs.CharRef.{HasStand, stand_of, found_at, begun_reference};
-ghost use Rattle.html5ever.specs.References.{BelongsTo, Decides};
+ghost use Rattle.html5grammar.specs.Start.{start_of, initial_name, raw_of, is_clean, is_undecided_open, held_len};
+ghost use Rattle.html5parts.specs.CharRef.{HasStand, stand_of, found_at, begun_reference};
+ghost use Rattle.html5ever.specs.Undecided.{BelongsTo, Decides, is_reference, is_keyword_open};
 ghost use Rattle.html5grammar.specs.Start.Mode.{Data, Plain, RawText};
-ghost use Rattle.html5grammar.specs.Start.Open.{Between};
-ghost use Rattle.html5states.specs.CurrentTag.{is_between, stops_at_bad, opened_of, last_name_of};
+ghost use Rattle.html5grammar.specs.Start.Open.{Between, InBogusComment};
+ghost use Rattle.html5parts.specs.CurrentTag.{is_between, stops_at_bad, opened_of, last_name_of};
 ghost use Rattle.html5ever.specs.Feed.{reply_in, first_pause};
 ghost use Rattle.html5ever.specs.Refused.{IsRun};
-ghost use Rattle.html5states.specs.Runs.{IsRunAt, other_run_ends, run_ends, opened_after_run};
+ghost use Rattle.html5parts.specs.Runs.{IsRunAt, other_run_ends, run_ends, opened_after_run};
 ghost use Rattle.std.specs.Str.{IsUtf8, chars};
 ghost use Rattle.html5grammar.proofs.Machine.{step_at, brought_at, messages_here, opened_here, last_here};
-ghost use Rattle.html5states.specs.Steps.{IsBuilt, Leads, Ends, tokens_of, behind};
+ghost use Rattle.html5parts.specs.Steps.{IsBuilt, Leads, Ends, tokens_of, behind};
 ghost use Rattle.html5states.specs.Telling.{Tells, IsRefusal, tokens_in, faults_of};
 ghost use Rattle.html5ever.specs.Tokenizer.{CanStart};
 
 use crate::input::Input;
+use crate::keyword::{finish_keyword, hold_keyword, holds_keyword};
 use crate::rules::Rules;
 use html5ever_interface::interface::sink::TokenSink;
-use html5ever_interface::interface::token::{SinkFault, Tag, TagKind, Token, TokenSinkResult};
+use html5ever_interface::interface::token::{
+    Doctype, SinkFault, Tag, TagKind, Token, TokenSinkResult,
+};
 use html5ever_interface::options::TokenizerOpts;
 use html5ever_interface::states::{RawKind, State};
-use html5states::char_ref::CharRef;
-use html5states::current_tag::CurrentTag;
-use html5states::error::TokenizerError;
-use html5states::message::is_bad;
-use html5states::opened::{Opened, Progress, Step};
-use html5states::runs::{push_run, run_ends};
+use html5parts::char_ref::CharRef;
+use html5parts::current_tag::CurrentTag;
+use html5parts::error::TokenizerError;
+use html5parts::message::is_bad;
+use html5parts::opened::{Opened, Progress, Step};
+use html5parts::runs::{push_run, run_ends};
 use html5states::teller::Teller;
 use markup5ever::tokenizer_result::TokenizerResult;
 use std::alloc::{AllocError, Allocator, Global};
@@ -58,8 +61,8 @@ pub struct Position<A: Allocator = Global> {
 impl<A: Allocator> Model for Position<A> {
     ghost use Rattle.html5grammar.specs.Start.{Start};
     ghost use Rattle.std.specs.Prelude.{◌≡◌, true};
-    ghost use Rattle.html5states.specs.CharRef.{HasStand, with_reference};
-    ghost use Rattle.html5states.specs.CurrentTag.{opened_of, last_name_of};
+    ghost use Rattle.html5parts.specs.CharRef.{HasStand, with_reference};
+    ghost use Rattle.html5parts.specs.CurrentTag.{opened_of, last_name_of};
 
     ghost Value = { Start };
 
@@ -82,6 +85,8 @@ impl<A: Allocator + Copy> Position<A> {
         let opened = Opened {
             state: opts.initial_state.unwrap_or(State::Data),
             tag: CurrentTag::new(alloc, TagKind::StartTag),
+            comment: String::new(alloc),
+            doctype: Doctype::default(),
             letters: String::new(alloc),
             last_start_tag: name_or_empty(alloc, opts.last_start_tag_name),
         };
@@ -126,12 +131,44 @@ impl<A: Allocator + Copy> Position<A> {
         ensures fits { self.old.input.line < 2 ^ 64 }
     {
         let line = self.input.line();
-        if !self.in_reference {
-            return tell_end(alloc, sink, rules, &self.opened, line);
-        }
-        finish_reference(alloc, sink, rules, &mut self.opened, &self.held, None, line)?;
-        self.in_reference = false;
+        self.decide_at_end(alloc, sink, rules, line)?;
         tell_end(alloc, sink, rules, &self.opened, line)
+    }
+
+    // Tells what the end of input decides of a reference, or of what stands behind `<!`.
+    fn decide_at_end<S: TokenSink<Token<A>>>(
+        &mut self,
+        alloc: A,
+        sink: &mut S,
+        rules: &Rules<'_, A>,
+        line: u64,
+    ) -> Result<(), TokenizerError>
+        requires { IsBuilt self.old.opened }
+        ensures tells { Tells S.step S.faulted result (S.state sink.old)
+            (on_line line (tokens_of_late (late_at_end_of rules.now self.old.opened))) (S.state sink.new) }
+        ensures opened { OnOk result (self.new.opened ≡ open_at_end_of rules.now self.old.opened) }
+        ensures decided { OnOk result (is_undecided_open self.new.opened ≡ false) }
+        ensures built { IsBuilt self.new.opened }
+        ensures faults { S.faults sink.new ≡ S.faults sink.old + faults_of result }
+        ensures refusal { IfErr result IsRefusal }
+    {
+        if self.in_reference {
+            finish_reference(alloc, sink, rules, &mut self.opened, &self.held, None, line)?;
+            self.in_reference = false;
+            return Ok(());
+        }
+        if !holds_keyword(&self.opened) {
+            return Ok(());
+        }
+        finish_keyword(alloc, sink, rules, &mut self.opened, line)
+    }
+
+    // Whether a reference is not decided, or what stands behind `<!`.
+    #[inline(always)]
+    fn is_undecided(&self) -> bool
+        ensures { result ≡ is_undecided_open self.now.opened }
+    {
+        self.in_reference || holds_keyword(&self.opened)
     }
 
     /// Whether nothing is open.
@@ -177,7 +214,7 @@ impl<A: Allocator + Copy> Position<A> {
 
     // Begins a reference where the state is.
     fn begin_reference(&mut self)
-        requires no_reference { is_reference self.old.opened ≡ false }
+        requires decided { is_undecided_open self.old.opened ≡ false }
         requires can_stand { IsBuilt (begun_reference self.old.opened) }
         ensures opened { self.new.opened ≡ begun_reference self.old.opened }
         ensures last { self.new.last_start_tag ≡ self.old.last_start_tag }
@@ -232,11 +269,11 @@ impl<A: Allocator + Copy> Position<A> {
         teller.tell(Token::CharacterTokens(run))
     }
 
-    /// Puts a run to the open name or value.
+    /// Puts a run to the open name, value or comment.
     #[inline(always)]
     pub fn push_run(&mut self, run: &str) -> Result<(), TokenizerError>
         requires is_run { IsRunAt self.old.opened (chars run.now) }
-        requires in_tag { is_clean self.old.opened ≡ false }
+        requires not_clean { is_clean self.old.opened ≡ false }
         ensures opened { OnOk result
             (self.new.opened ≡ opened_after_run self.old.opened (chars run.now)) }
         ensures last { self.new.last_start_tag ≡ self.old.last_start_tag }
@@ -289,7 +326,7 @@ fn stops_at_bad(state: State) -> bool
     ensures { result ≡ stops_at_bad state }
 {
     match state {
-        State::Data | State::Plaintext | State::TagOpen => false,
+        State::Data | State::Plaintext | State::TagOpen | State::EndTagOpen => false,
         State::TagName | State::BeforeAttributeName | State::AttributeName => false,
         State::AfterAttributeName | State::BeforeAttributeValue => false,
         State::AttributeValue(_) => false,
@@ -298,7 +335,12 @@ fn stops_at_bad(state: State) -> bool
         State::RawEndTagOpen(_) | State::RawEndTagName(_) => false,
         State::ScriptDataEscapeStart(_) | State::ScriptDataEscapeStartDash => false,
         State::ScriptDataEscapedDash(_) | State::ScriptDataEscapedDashDash(_) => false,
-        State::ScriptDataDoubleEscapeEnd => false,
+        State::ScriptDataDoubleEscapeEnd | State::Comment | State::BogusComment => false,
+        State::MarkupDeclarationOpen | State::Doctype | State::BeforeDoctypeName => false,
+        State::DoctypeName | State::AfterDoctypeName | State::AfterDoctypeKeyword(_) => false,
+        State::BeforeDoctypeIdentifier(_) | State::DoctypeIdentifierDoubleQuoted(_) => false,
+        State::DoctypeIdentifierSingleQuoted(_) | State::AfterDoctypeIdentifier(_) => false,
+        State::BetweenDoctypePublicAndSystemIdentifiers | State::BogusDoctype => false,
         _ => true,
     }
 }
@@ -333,7 +375,7 @@ fn report_bad_character<S: TokenSink<Token<A>>, A: Allocator + Copy>(
     teller.emit_bad_character(c)
 }
 
-// Reads one character in the state that is open.
+// Reads one character in the state that is open. Where that is refused, nothing is held.
 #[inline(always)]
 fn step<S: TokenSink<Token<A>>, A: Allocator + Copy>(
     alloc: A,
@@ -347,6 +389,7 @@ fn step<S: TokenSink<Token<A>>, A: Allocator + Copy>(
         (on_line line (tokens_of (step_at exact_errors (opened_of opened.old) c))) (S.state sink.new) }
     ensures leads { Ends result opened.new (behind (step_at exact_errors (opened_of opened.old) c)) }
     ensures last { last_name_of opened.new ≡ last_name_of opened.old }
+    ensures held { IfErr result (λ error. held_len (opened_of opened.new) ≡ 0) }
     ensures faults { S.faults sink.new ≡ S.faults sink.old + faults_of result }
 {
     let mut teller = Teller {
@@ -355,7 +398,11 @@ fn step<S: TokenSink<Token<A>>, A: Allocator + Copy>(
         exact_errors,
         line,
     };
-    teller.step(opened, c)
+    let step = teller.step(opened, c);
+    if step.is_err() {
+        opened.comment.clear();
+    }
+    step
 }
 
 // Tells the sink a tag, and goes on as it replies.
@@ -399,7 +446,7 @@ fn tell_tag<S: TokenSink<Token<A>>, A: Allocator + Copy>(
     }
 }
 
-// Reads a character in the state that is open, where no reference is.
+// Reads a character in the state that is open, where nothing is undecided.
 #[inline(always)]
 fn read_opened<S: TokenSink<Token<A>>, A: Allocator + Copy>(
     alloc: A,
@@ -408,7 +455,7 @@ fn read_opened<S: TokenSink<Token<A>>, A: Allocator + Copy>(
     position: &mut Position<A>,
     c: char,
 ) -> Result<TokenizerResult<S::Handle, String<A>>, TokenizerError>
-    requires { is_reference position.old.opened ≡ false }
+    requires { is_undecided_open position.old.opened ≡ false }
     ensures tells { Tells S.step S.faulted result (S.state sink.old)
         (messages_here S.step S.reply rules.now position.old.input.line c (step_at rules.now.exact position.old.opened c)) (S.state sink.new) }
     ensures leads { IsBuilt position.old.opened → Leads result position.new.opened
@@ -419,7 +466,7 @@ fn read_opened<S: TokenSink<Token<A>>, A: Allocator + Copy>(
         ≡ first_pause S.step S.reply (S.state sink.old)
         (messages_here S.step S.reply rules.now position.old.input.line c (step_at rules.now.exact position.old.opened c))) }
     ensures input { position.new.input ≡ position.old.input }
-    ensures held { held_len position.new.opened ≡ 0 }
+    ensures held { held_len position.new.opened ≤ 1 }
     ensures faults { S.faults sink.new ≡ S.faults sink.old + faults_of result }
 {
     let line = position.input.line();
@@ -447,7 +494,7 @@ fn read_opened<S: TokenSink<Token<A>>, A: Allocator + Copy>(
     }
 }
 
-// Tells what the end of input tells, where no reference is open.
+// Tells what the end of input tells, where nothing is undecided.
 fn tell_end<S: TokenSink<Token<A>>, A: Allocator + Copy>(
     alloc: A,
     sink: &mut S,
@@ -455,7 +502,8 @@ fn tell_end<S: TokenSink<Token<A>>, A: Allocator + Copy>(
     opened: &Opened<A>,
     line: u64,
 ) -> Result<(), TokenizerError>
-    requires { IsBuilt (opened_of opened.now) }
+    requires built { IsBuilt (opened_of opened.now) }
+    requires decided { is_undecided_open (opened_of opened.now) ≡ false }
     ensures tells { Tells S.step S.faulted result (S.state sink.old)
         (on_line line (told_at_end_of rules.now.exact (opened_of opened.now))) (S.state sink.new) }
     ensures faults { S.faults sink.new ≡ S.faults sink.old + faults_of result }
@@ -532,6 +580,60 @@ fn read_reference<S: TokenSink<Token<A>>, A: Allocator + Copy>(
     Ok(ends)
 }
 
+// Reads a character behind what may begin a keyword, in the same way.
+fn read_keyword<S: TokenSink<Token<A>>, A: Allocator + Copy>(
+    alloc: A,
+    sink: &mut S,
+    rules: &Rules<'_, A>,
+    position: &mut Position<A>,
+    line: u64,
+    c: char,
+) -> Result<bool, TokenizerError>
+    requires { is_keyword_open position.old.opened ≡ true }
+    ensures tells { Tells S.step S.faulted result (S.state sink.old)
+        (on_line line (tokens_of_late (brought_at rules.now position.old.opened c).settled)) (S.state sink.new) }
+    ensures taken { result ≡ Ok true → BelongsTo rules.now position.old.opened c position.new.opened }
+    ensures decided { result ≡ Ok false → Decides rules.now position.old.opened c position.new.opened }
+    ensures last { position.new.last_start_tag ≡ position.old.last_start_tag }
+    ensures refusal { IfErr result IsRefusal }
+    ensures input { position.new.input ≡ position.old.input }
+    ensures held { held_len position.new.opened ≤ held_len position.old.opened + 1 }
+    ensures faults { S.faults sink.new ≡ S.faults sink.old + faults_of result }
+{
+    if hold_keyword(&mut position.opened, c)? {
+        return Ok(true);
+    }
+    finish_keyword(alloc, sink, rules, &mut position.opened, line)?;
+    Ok(false)
+}
+
+// Reads a character where a reference is not decided, or what stands behind `<!`: whether it belongs
+// to that. Else it decides, and is still to be read.
+fn read_undecided<S: TokenSink<Token<A>>, A: Allocator + Copy>(
+    alloc: A,
+    sink: &mut S,
+    rules: &Rules<'_, A>,
+    position: &mut Position<A>,
+    line: u64,
+    c: char,
+) -> Result<bool, TokenizerError>
+    requires { is_undecided_open position.old.opened ≡ true }
+    ensures tells { Tells S.step S.faulted result (S.state sink.old)
+        (on_line line (tokens_of_late (brought_at rules.now position.old.opened c).settled)) (S.state sink.new) }
+    ensures taken { result ≡ Ok true → BelongsTo rules.now position.old.opened c position.new.opened }
+    ensures decided { result ≡ Ok false → Decides rules.now position.old.opened c position.new.opened }
+    ensures last { position.new.last_start_tag ≡ position.old.last_start_tag }
+    ensures refusal { IfErr result IsRefusal }
+    ensures input { position.new.input ≡ position.old.input }
+    ensures held { held_len position.new.opened ≤ held_len position.old.opened + 1 }
+    ensures faults { S.faults sink.new ≡ S.faults sink.old + faults_of result }
+{
+    if position.in_reference {
+        return read_reference(alloc, sink, rules, position, line, c);
+    }
+    read_keyword(alloc, sink, rules, position, line, c)
+}
+
 /// Reads one character of the stream. The answer is `Done`, but behind a tag whose reply pauses.
 #[inline(always)]
 pub fn read_character<S: TokenSink<Token<A>>, A: Allocator + Copy>(
@@ -558,10 +660,10 @@ pub fn read_character<S: TokenSink<Token<A>>, A: Allocator + Copy>(
     let Some(c) = position.input.advance(c) else {
         return Ok(TokenizerResult::Done);
     };
-    if !position.in_reference {
+    if !position.is_undecided() {
         return read_opened(alloc, sink, rules, position, c);
     }
-    if read_reference(alloc, sink, rules, position, before, c)? {
+    if read_undecided(alloc, sink, rules, position, before, c)? {
         return Ok(TokenizerResult::Done);
     }
     read_opened(alloc, sink, rules, position, c)

@@ -7,14 +7,14 @@ ghost use Rattle.html5grammar.specs.Start.Open.{NotBuilt};
 ghost use Rattle.html5ever.specs.Feed.{IsEndOf, reply_in, feed};
 ghost use Rattle.html5ever.specs.Refused.{IsRun, RefusedBehind};
 ghost use Rattle.html5ever.specs.Runs.{ReadsRun};
-ghost use Rattle.html5states.specs.Steps.{IsBuilt};
+ghost use Rattle.html5parts.specs.Steps.{IsBuilt};
 ghost use Rattle.html5states.specs.Telling.{Tells, IsNotFailed, IsRefusal, faults_of};
 
 use crate::position::{Position, read_character};
 use crate::rules::Rules;
 use html5ever_interface::interface::sink::TokenSink;
 use html5ever_interface::interface::token::Token;
-use html5states::error::TokenizerError;
+use html5parts::error::TokenizerError;
 use markup5ever::buffer_queue::BufferQueue;
 use markup5ever::tokenizer_result::TokenizerResult;
 use std::alloc::Allocator;

@@ -8,7 +8,7 @@ ghost use Rattle.html5grammar.specs.Start.{Start, start_of, is_clean, held_len};
 ghost use Rattle.html5grammar.specs.Start.Mode.{Plain};
 ghost use Rattle.html5grammar.specs.Start.Open.{Between};
 ghost use Rattle.html5ever.specs.Feed.{reply_in, IsEndOf, IsLinear};
-ghost use Rattle.html5states.specs.Steps.{IsBuilt};
+ghost use Rattle.html5parts.specs.Steps.{IsBuilt};
 ghost use Rattle.html5states.specs.Telling.{faults_of};
 ghost use Rattle.html5ever.specs.Tokenizer.{CanStart, rules_of, StandsAt, FeedsOn, HandsOn, LeavesWaiting, FeedMeetsNotBuilt};
 ghost use Rattle.html5ever.specs.Tokenizer.{StopsFeeding, LeavesRefused, Finishes, StopsEnding, EndStops};
@@ -34,7 +34,7 @@ pub use html5ever_interface::interface::token::{
     Doctype, ProcessResult, SinkFault, Tag, TagKind, Token, TokenSinkResult,
 };
 pub use html5ever_interface::options::TokenizerOpts;
-pub use html5states::error::TokenizerError;
+pub use html5parts::error::TokenizerError;
 pub use markup5ever::buffer_queue::SetResult::{FromSet, NotFromSet};
 pub use markup5ever::buffer_queue::{BufferQueue, SetResult};
 pub use markup5ever::data::{NamedReferences, TableError};
@@ -54,7 +54,7 @@ pub struct Tokenizer<'t, Sink, A: Allocator = Global> {
 
 impl<'t, Sink, A: Allocator> Model for Tokenizer<'t, Sink, A> {
     ghost use Rattle.std.specs.Prelude.{◌≡◌, false};
-    ghost use Rattle.html5states.specs.Steps.{IsBuilt};
+    ghost use Rattle.html5parts.specs.Steps.{IsBuilt};
     ghost use Rattle.html5ever.specs.Tokenizer.{Tokenizing};
 
     ghost Value = { Tokenizing Sink };

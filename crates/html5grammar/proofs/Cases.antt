@@ -90,14 +90,6 @@ line_of_break : lines (codes "<a b=\n'c'>") ≡ 2 ∷ 2 ∷ []
 unfolding reading encode stepped is_bad_character is_letter is_white_space name_bytes shown value_bytes rest_of next_slice slice_at state_at told_at_end_of bad_character saw saw_end normalised with_line_feeds without_dropped_first read read_from here brought last_behind events_at late_events late_at_end_of open_at_end_of end_events line_after behind_run run_of attribute_behind_first behind_attribute_name behind_name_and_space behind_quoted behind_tag_name behind_unquoted closing duplicate_error end_tag_errors first_error has_attribute in_attribute_name in_quoted in_tag_name in_unquoted is_odd_at_name is_odd_in_name is_odd_in_unquoted part place_error quoted_value repeats_attribute tag_name unquoted_error unquoted_value value value_behind_space value_or_next with_last_attribute behind_solidus behind_less_than data_text plain_text
 line_of_break = refl
 
-not_built : told (codes "<b><!x") ≡ tag StartTag (codes "b") [] false false ∷ []
-unfolding reading encode stepped is_bad_character is_letter is_white_space name_bytes shown value_bytes rest_of next_slice slice_at state_at told_at_end_of bad_character saw saw_end normalised with_line_feeds without_dropped_first read read_from here brought last_behind events_at late_events late_at_end_of open_at_end_of end_events line_after behind_run run_of attribute_behind_first behind_attribute_name behind_name_and_space behind_quoted behind_tag_name behind_unquoted closing duplicate_error end_tag_errors first_error has_attribute in_attribute_name in_quoted in_tag_name in_unquoted is_odd_at_name is_odd_in_name is_odd_in_unquoted part place_error quoted_value repeats_attribute tag_name unquoted_error unquoted_value value value_behind_space value_or_next with_last_attribute behind_solidus behind_less_than data_text plain_text
-not_built = refl
-
-not_built_at : exact (codes "</\u{1}") ≡ []
-unfolding reading encode stepped is_bad_character is_letter is_white_space name_bytes shown value_bytes rest_of next_slice slice_at state_at told_at_end_of bad_character saw saw_end normalised with_line_feeds without_dropped_first read read_from here brought last_behind events_at late_events late_at_end_of open_at_end_of end_events line_after behind_run run_of attribute_behind_first behind_attribute_name behind_name_and_space behind_quoted behind_tag_name behind_unquoted closing duplicate_error end_tag_errors first_error has_attribute in_attribute_name in_quoted in_tag_name in_unquoted is_odd_at_name is_odd_in_name is_odd_in_unquoted part place_error quoted_value repeats_attribute tag_name unquoted_error unquoted_value value value_behind_space value_or_next with_last_attribute behind_solidus behind_less_than data_text plain_text
-not_built_at = refl
-
 exact_carry : exact (codes "<\u{1}") ≡ Error (codes "Bad character \u{1}") ∷ Error (codes "Bad character") ∷ Text (codes "<") ∷ Text (codes "\u{1}") ∷ End ∷ []
 unfolding reading encode stepped is_bad_character is_letter is_white_space name_bytes shown value_bytes rest_of next_slice slice_at state_at told_at_end_of bad_character saw saw_end normalised with_line_feeds without_dropped_first read read_from here brought last_behind events_at late_events late_at_end_of open_at_end_of end_events line_after behind_run run_of attribute_behind_first behind_attribute_name behind_name_and_space behind_quoted behind_tag_name behind_unquoted closing duplicate_error end_tag_errors first_error has_attribute in_attribute_name in_quoted in_tag_name in_unquoted is_odd_at_name is_odd_in_name is_odd_in_unquoted part place_error quoted_value repeats_attribute tag_name unquoted_error unquoted_value value value_behind_space value_or_next with_last_attribute behind_solidus behind_less_than data_text plain_text
 exact_carry = refl

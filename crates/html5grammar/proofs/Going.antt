@@ -1,27 +1,34 @@
--- A bad character begins nothing that isn't built yet, but for one behind `</`.
-use Rattle.std.proofs.Common.{◌≡◌, ◌⊎◌, inl, inr, ℕ, ◌<◌, ◌≤◌, ◌%◌, Bool, true, false, List, [], refl, ap, sym, ◌∙◌, arith}
-use Rattle.std.specs.Prelude.{◌==◌, ◌||◌, ◌&&◌, leb, if◌then◌else◌}
-use Rattle.std.proofs.lemmas.Bool.{eqb-true, ne_eqb, false≢true, and_parts, or_cases, lt-leb, leb-true}
+-- A bad character begins nothing that isn't built yet.
+use Rattle.std.proofs.Common.{◌≡◌, ◌⊎◌, inl, inr, ℕ, ◌<◌, ◌≤◌, ◌%◌, Bool, true, false, List, [], ◌∷◌, refl, ap, sym, ◌∙◌, arith}
+use Rattle.std.specs.Prelude.{◌==◌, ◌&&◌, leb, if◌then◌else◌}
+use Rattle.std.proofs.lemmas.Bool.{eqb-true, ne_eqb, false≢true, and_parts, lt-leb, leb-true}
 use Rattle.std.proofs.Math.Bool.{and-false}
 use native.Mathlib.Nat.{mod-eq_of_lt}
-use Rattle.html5ever_interface.specs.Token.{Told}
+use Rattle.html5ever_interface.specs.Token.{Told, DoctypeOf}
 use Rattle.html5ever_interface.specs.declared.interface.token.TagKind.TheVariants.{StartTag, EndTag}
+use Rattle.html5ever_interface.specs.declared.states.DoctypeIdKind.{DoctypeIdKind}
+use Rattle.html5ever_interface.specs.declared.states.DoctypeIdKind.TheVariants.{Public, System}
 use Rattle.html5ever_interface.specs.declared.states.RawKind.{RawKind}
 use Rattle.html5ever_interface.specs.declared.states.RawKind.TheVariants as raw_kind
 use Rattle.html5ever_interface.specs.declared.states.ScriptEscapeKind.TheVariants as escape_kind
+use Rattle.html5ever_interface.specs.declared.states.State.{State}
+use Rattle.html5ever_interface.specs.declared.states.State.TheVariants as state
 use Rattle.html5ever_interface.specs.declared.states.AttrValueKind.TheVariants.{Unquoted, SingleQuoted, DoubleQuoted}
 use Rattle.html5grammar.specs.Characters.{null, exclamation_mark, quotation_mark, ampersand, apostrophe, hyphen, solidus, less_than, equals_sign, greater_than, question_mark, is_between, is_bad_character, is_letter, is_white_space}
 use Rattle.html5grammar.specs.Reading.{Here}
 use Rattle.html5grammar.specs.Reading.Here.{Tells, TellsTag, Stops}
-use Rattle.html5grammar.specs.Start.{Raw, OpenTag, Place, RawPlace, Open, begun, raw_of}
+use Rattle.html5grammar.specs.Start.{Raw, OpenTag, Place, RawPlace, DoctypePlace, Open, begun, raw_of}
 use Rattle.html5grammar.specs.Start.Raw.{ScriptData}
 use Rattle.html5grammar.specs.Start.Mode.{Data, Plain, RawText}
 use Rattle.html5grammar.specs.Start.RawPlace.{AfterLessThan, InEndName, AfterMark, AfterMarkAndDash, InSwitch}
 use Rattle.html5grammar.specs.Start.Place.{InName, BeforeAttribute, InAttributeName, AfterAttributeName, BeforeValue, InValue, AfterQuotedValue, AfterSolidus}
-use Rattle.html5grammar.specs.Start.Open.{Between, LessThan, LessThanSolidus, InTag, InRaw}
+use Rattle.html5grammar.specs.Start.DoctypePlace.{AfterWord, BeforeName, InDoctypeName, AfterName, AfterKeyword, BeforeIdentifier, InIdentifier, AfterIdentifier, BetweenIdentifiers, Skipped}
+use Rattle.html5grammar.specs.Start.Open.{Between, LessThan, LessThanSolidus, InTag, InRaw, InComment, InBogusComment, InDoctype}
+use Rattle.html5grammar.specs.Comment.{ends_comment}
+use Rattle.html5grammar.specs.Doctype.{in_identifier, begins_doctype_keyword, in_doctype_name}
 use Rattle.html5grammar.specs.RawText.{ends_name, is_rcdata, ends_raw_text, begins_mark, begins_switch}
 use Rattle.html5grammar.specs.Tag.{in_tag_name, in_attribute_name, in_quoted, in_unquoted, with_name}
-use Rattle.html5grammar.proofs.Machine.{step_at, tag_step, closing_step, tag_name_step, part_step, attribute_name_step, after_attribute_name_step, quoted_step, unquoted_step, before_value_step, data_step, less_than_step, solidus_step, raw_step, tag_name_end_step, end_name_step, switch_step, mark_step, mark_and_dash_step, raw_solidus_step, raw_less_than_step, raw_place_step}
+use Rattle.html5grammar.proofs.Machine.{step_at, tag_step, closing_step, tag_name_step, part_step, attribute_name_step, after_attribute_name_step, quoted_step, unquoted_step, before_value_step, data_step, less_than_step, solidus_step, bogus_comment_step, comment_step, skipped_step, wanted_name_step, doctype_name_step, keyword_or_end_step, wanted_identifier_step, system_or_end_step, identifier_step, behind_identifier_step, space_step, doctype_step, raw_step, tag_name_end_step, end_name_step, switch_step, mark_step, mark_and_dash_step, raw_solidus_step, raw_less_than_step, raw_place_step}
 
 -- the step goes on
 abbrev pub Goes : Here Open → Type 0
@@ -71,24 +78,10 @@ good_between c low high =
     )
     refl
 
-letter_is_good : (c : ℕ) (b : Bool) → is_letter c ≡ b → is_bad_character c ≡ true → b ≡ false
-unfolding is_letter
-letter_is_good c false letter bad = refl
-letter_is_good c true letter bad =
-    let good : is_bad_character c ≡ false = elim (or_cases (is_between 0x41 0x5A c) (is_between 0x61 0x7A c) letter) [
-      | inl upper ↦ good_between c (omega (arith, (within 0x41 0x5A c upper).0)) (omega (arith, (within 0x41 0x5A c upper).1))
-      | inr lower ↦ good_between c (omega (arith, (within 0x61 0x7A c lower).0)) (within 0x61 0x7A c lower).1
-    ] in
-    sym bad ∙ good
-
 module _ (exact : Bool) (c : ℕ) (bad : is_bad_character c ≡ true) where
   no_ampersand : (c == ampersand) ≡ false
   unfolding is_bad_character
   no_ampersand = not_bad c ampersand bad refl
-
-  no_mark : ((c == exclamation_mark) || (c == question_mark)) ≡ false
-  unfolding is_bad_character
-  no_mark = rw (not_bad c exclamation_mark bad refl, not_bad c question_mark bad refl) refl
 
   Goes-closing : (errors : List Told) (tag : OpenTag) (self_closing : Bool) → Goes (closing_step errors tag self_closing)
   unfolding closing_step
@@ -186,19 +179,64 @@ module _ (exact : Bool) (c : ℕ) (bad : is_bad_character c ≡ true) where
   bad_goes_in_raw (InSwitch kind letters) name =
       Goes-if (is_letter c) _ _ tt (Goes-if (ends_name c) _ _ tt (Goes-raw (raw_of (raw_kind.ScriptDataEscaped kind)) name []))
 
+  Goes-bogus_comment : (before : List ℕ) (first : List Told) → Goes (bogus_comment_step exact before first c)
+  unfolding bogus_comment_step
+  Goes-bogus_comment before first = Goes-if (c == greater_than) _ _ tt tt
+
   pub bad_goes_less_than : Goes (step_at exact LessThan c)
   unfolding step_at less_than_step
   bad_goes_less_than =
-      Goes-if (is_letter c) _ _ (Goes-tag_name (begun StartTag)) (Goes-if (c == solidus) _ _ tt (Goes-unless ((c == exclamation_mark) || (c == question_mark)) _ _ no_mark (Goes-data _)))
+      Goes-if (is_letter c) _ _ (Goes-tag_name (begun StartTag)) (Goes-if (c == solidus) _ _ tt
+      (Goes-if (c == exclamation_mark) _ _ tt (Goes-if (c == question_mark) _ _ (Goes-bogus_comment [] _) (Goes-data _))))
 
-  -- behind `</` it stops
-  not_bad_greater_than : (c == greater_than) ≡ false
-  unfolding is_bad_character
-  not_bad_greater_than = not_bad c greater_than bad refl
-
-  no_letter : is_letter c ≡ false
-  no_letter = letter_is_good c (is_letter c) refl bad
-
-  pub bad_stops : step_at exact LessThanSolidus c ≡ Stops []
+  pub bad_goes_solidus : Goes (step_at exact LessThanSolidus c)
   unfolding step_at solidus_step
-  bad_stops = rw (no_letter, not_bad_greater_than) refl
+  bad_goes_solidus =
+      Goes-if (is_letter c) _ _ (Goes-tag_name (begun EndTag)) (Goes-if (c == greater_than) _ _ tt (Goes-bogus_comment [] _))
+
+  pub bad_goes_comment : (before : List ℕ) → Goes (step_at exact (InComment before) c)
+  unfolding step_at comment_step
+  bad_goes_comment before = Goes-if ((c == greater_than) && ends_comment before) _ _ tt tt
+
+  pub bad_goes_bogus_comment : (before : List ℕ) → Goes (step_at exact (InBogusComment before) c)
+  unfolding step_at
+  bad_goes_bogus_comment before = Goes-bogus_comment before []
+
+  Goes-skipped : (errors : List Told) (d : DoctypeOf) → Goes (skipped_step exact errors d c)
+  unfolding skipped_step
+  Goes-skipped errors d = Goes-if (c == greater_than) _ _ tt tt
+
+  Goes-wanted_name : (errors : List Told) (d : DoctypeOf) → Goes (wanted_name_step exact errors d c)
+  unfolding wanted_name_step
+  Goes-wanted_name errors d = Goes-if (c == greater_than) _ _ tt tt
+
+  Goes-wanted_identifier : (is_direct : Bool) (named : State) (kind : DoctypeIdKind) (d : DoctypeOf) → Goes (wanted_identifier_step exact is_direct named kind d c)
+  unfolding wanted_identifier_step
+  Goes-wanted_identifier is_direct named kind d = Goes-if (c == quotation_mark) _ _ tt (Goes-if (c == apostrophe) _ _ tt (Goes-skipped _ _))
+
+  Goes-system_or_end : (is_direct : Bool) (named : State) (d : DoctypeOf) → Goes (system_or_end_step exact is_direct named d c)
+  unfolding system_or_end_step
+  Goes-system_or_end is_direct named d = Goes-if (c == greater_than) _ _ tt (Goes-wanted_identifier is_direct named System d)
+
+  Goes-behind_identifier : (kind : DoctypeIdKind) (d : DoctypeOf) → Goes (behind_identifier_step exact kind d c)
+  unfolding behind_identifier_step
+  Goes-behind_identifier Public d = Goes-if (is_white_space c) _ _ tt (Goes-system_or_end true (state.AfterDoctypeIdentifier Public) d)
+  Goes-behind_identifier System d = Goes-if (is_white_space c) _ _ tt (Goes-if (c == greater_than) _ _ tt (Goes-skipped _ d))
+
+  Goes-space : (place : DoctypePlace) (d : DoctypeOf) (next : Here Open) → Goes next → Goes (space_step place d c next)
+  unfolding space_step
+  Goes-space place d next f = Goes-if (is_white_space c) (Tells [] (InDoctype place d)) next tt f
+
+  pub bad_goes_doctype : (place : DoctypePlace) (d : DoctypeOf) → Goes (step_at exact (InDoctype place d) c)
+  unfolding step_at doctype_step doctype_name_step keyword_or_end_step identifier_step
+  bad_goes_doctype AfterWord d = Goes-space _ d _ (Goes-wanted_name _ d)
+  bad_goes_doctype BeforeName d = Goes-space _ d _ (Goes-wanted_name [] d)
+  bad_goes_doctype InDoctypeName d = Goes-if (in_doctype_name c) _ _ tt (Goes-if (c == greater_than) _ _ tt tt)
+  bad_goes_doctype AfterName d =
+      Goes-space _ d _ (Goes-if (c == greater_than) _ _ tt (Goes-if (begins_doctype_keyword (c ∷ [])) _ _ tt (Goes-skipped _ _)))
+  bad_goes_doctype (AfterKeyword kind) d = Goes-space _ d _ (Goes-wanted_identifier true (state.AfterDoctypeKeyword kind) kind d)
+  bad_goes_doctype (BeforeIdentifier kind) d = Goes-space _ d _ (Goes-wanted_identifier false (state.BeforeDoctypeIdentifier kind) kind d)
+  bad_goes_doctype (InIdentifier quotes kind) d = Goes-if (in_identifier quotes c) _ _ tt (Goes-if (c == greater_than) _ _ tt tt)
+  bad_goes_doctype (AfterIdentifier kind) d = Goes-behind_identifier kind d
+  bad_goes_doctype BetweenIdentifiers d = Goes-space _ d _ (Goes-system_or_end false state.BetweenDoctypePublicAndSystemIdentifiers d)
+  bad_goes_doctype Skipped d = Goes-skipped [] d

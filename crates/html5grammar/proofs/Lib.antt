@@ -7,6 +7,7 @@ pub mod ReadingLemmas
 pub mod Steps
 pub mod Going
 pub mod NoTags
+pub mod Holding
 pub mod OneTagSteps
 pub mod OneTagParts
 pub mod OneTagReading
@@ -18,6 +19,25 @@ pub mod OneReferenceCollected
 mod OneTagCases
 mod OneReferenceCases
 mod ReferenceCases
+pub mod Leading
 pub mod WrittenRawSteps
 pub mod WrittenRawReading
+pub mod OneCommentText
+pub mod HeldWords
+pub mod OneCommentSteps
+pub mod OneCommentHeld
+pub mod OneCommentReading
+pub mod OneCommentCollected
+pub mod OneDoctypeSteps
+pub mod OneDoctypeParts
+pub mod OneDoctypeHeld
+pub mod OneDoctypeSpelled
+pub mod OneDoctypeName
+pub mod OneDoctypeReading
+pub mod OneDoctypeCollected
+pub mod OneDoctypeForms
 mod WrittenRawCases
+mod CommentCases
+mod DoctypeCases
+mod OneCommentCases
+mod OneDoctypeCases

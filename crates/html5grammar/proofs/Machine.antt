@@ -1,28 +1,36 @@
 -- The machine between the slices and the code: what one character tells where something is open, and what is open then.
-use Rattle.std.specs.Prelude.{ℕ, Bool, false, List, [], ◌∷◌, ◌++◌, ◌==◌, ◌||◌, ◌&&◌, codes, encode_utf8, Some, if◌then◌else◌}
+use Rattle.std.specs.Prelude.{ℕ, Bool, true, false, List, [], ◌∷◌, ◌++◌, ◌==◌, ◌&&◌, codes, encode_utf8, Some, if◌then◌else◌}
+use Rattle.std.specs.Str.{bytes_eq}
 use Rattle.html5ever_interface.specs.Sink.{Message, stepped, on_line}
-use Rattle.html5ever_interface.specs.Token.{Told, Reply}
-use Rattle.html5ever_interface.specs.Token.Told.{Text, Null, Tag}
+use Rattle.html5ever_interface.specs.Token.{Told, DoctypeOf, Reply, empty_doctype}
+use Rattle.html5ever_interface.specs.Token.Told.{Text, Null, Tag, Comment, Doctype}
 use Rattle.html5ever_interface.specs.declared.interface.token.TagKind.TheVariants.{StartTag, EndTag}
 use Rattle.html5ever_interface.specs.declared.states.AttrValueKind.{AttrValueKind}
 use Rattle.html5ever_interface.specs.declared.states.AttrValueKind.TheVariants.{Unquoted, SingleQuoted, DoubleQuoted}
+use Rattle.html5ever_interface.specs.declared.states.DoctypeIdKind.{DoctypeIdKind}
+use Rattle.html5ever_interface.specs.declared.states.DoctypeIdKind.TheVariants.{Public, System}
 use Rattle.html5ever_interface.specs.declared.states.RawKind.{RawKind}
 use Rattle.html5ever_interface.specs.declared.states.RawKind.TheVariants as raw_kind
 use Rattle.html5ever_interface.specs.declared.states.ScriptEscapeKind.{ScriptEscapeKind}
 use Rattle.html5ever_interface.specs.declared.states.ScriptEscapeKind.TheVariants as escape_kind
+use Rattle.html5ever_interface.specs.declared.states.State.{State}
 use Rattle.html5ever_interface.specs.declared.states.State.TheVariants as state
-use Rattle.html5grammar.specs.Characters.{null, exclamation_mark, quotation_mark, ampersand, apostrophe, hyphen, solidus, less_than, equals_sign, greater_than, question_mark, is_letter, is_white_space}
-use Rattle.html5grammar.specs.ErrorText.{error_in, bad_character_error}
+use Rattle.html5grammar.specs.Characters.{null, exclamation_mark, quotation_mark, ampersand, apostrophe, hyphen, solidus, less_than, equals_sign, greater_than, question_mark, is_letter, is_white_space, value_bytes, lower_case}
+use Rattle.html5grammar.specs.Comment.{comment_errors, ends_comment, comment_end_error, comment_content, begins_keyword, declaration_error}
+use Rattle.html5grammar.specs.Doctype.{with_quirks, with_doctype_name, with_first_of_name, with_begun_identifier, with_identifier, identifier_state, in_identifier, is_keyword, begins_doctype_keyword, keyword_error, in_doctype_name, word_error}
+use Rattle.html5grammar.specs.ErrorText.{error_in, where_true, bad_character_error}
 use Rattle.html5grammar.specs.Reading.{Here, Brought, last_behind, open_after_reply}
 use Rattle.html5grammar.specs.Reading.Here.{Tells, TellsTag, Stops}
-use Rattle.html5grammar.specs.Start.{Raw, OpenTag, Place, RawPlace, Stand, Open, Rules, begun, raw_of}
+use Rattle.html5grammar.specs.Start.{Raw, OpenTag, Place, RawPlace, Quotes, DoctypePlace, Stand, Open, Rules, begun, raw_of}
 use Rattle.html5grammar.specs.Start.Stand.{InText, InAttribute}
 use Rattle.html5grammar.specs.Start.Dashes.{TwoDashes}
 use Rattle.html5grammar.specs.Start.Raw.{ScriptData, Escaped}
 use Rattle.html5grammar.specs.Start.Mode.{Data, Plain, RawText}
 use Rattle.html5grammar.specs.Start.RawPlace.{AfterLessThan, InEndName, AfterMark, AfterMarkAndDash, InSwitch}
 use Rattle.html5grammar.specs.Start.Place.{InName, BeforeAttribute, InAttributeName, AfterAttributeName, BeforeValue, InValue, AfterQuotedValue, AfterSolidus}
-use Rattle.html5grammar.specs.Start.Open.{Between, LessThan, LessThanSolidus, InTag, InRaw, InReference, NotBuilt}
+use Rattle.html5grammar.specs.Start.DoctypePlace.{AfterWord, BeforeName, InDoctypeName, AfterName, AfterKeyword, BeforeIdentifier, InIdentifier, AfterIdentifier, BetweenIdentifiers, Skipped}
+use Rattle.html5grammar.specs.Start.Quotes.{DoubleQuotes, SingleQuotes}
+use Rattle.html5grammar.specs.Start.Open.{Between, LessThan, LessThanSolidus, InTag, InRaw, InDeclaration, InComment, InBogusComment, InDoctype, InDoctypeKeyword, InReference, NotBuilt}
 use Rattle.html5grammar.specs.Reference.{Found, in_value, reference, is_undecided, ends_number, late_tokens, opened_behind, with_value}
 use Rattle.html5grammar.specs.Tag.{with_last_attribute, duplicate_error, end_tag_errors, told_tag, null_error, in_quoted, in_unquoted, unquoted_error, in_attribute_name, attribute_name_error, with_last_name, place_error, first_error, is_after_solidus, in_tag_name, with_name}
 use Rattle.html5grammar.specs.RawText.{raw_text_of, texts, ends_name, kind_of, is_rcdata, raw_behind, raw_character, ends_raw_text, switched, told_at_less_than, told_behind_less_than, begins_mark, begins_switch}
@@ -108,18 +116,97 @@ data_step exact before c =
     else if c == null then Tells (before ++ error_in exact state.Data c ∷ Null ∷ []) (Between Data)
     else Tells (before ++ Text (encode_utf8 c) ∷ []) (Between Data)
 
+-- comments
+
+unfoldable pub bogus_comment_step : Bool → List ℕ → List Told → ℕ → Here Open
+bogus_comment_step exact before first c =
+    if c == greater_than then Tells (first ++ Comment before ∷ []) (Between Data)
+    else Tells (first ++ null_error exact state.BogusComment c) (InBogusComment (before ++ value_bytes c))
+
+unfoldable pub comment_step : Bool → List ℕ → ℕ → Here Open
+comment_step exact before c =
+    if (c == greater_than) && ends_comment before then Tells (comment_end_error exact before ++ Comment (comment_content before) ∷ []) (Between Data)
+    else Tells (comment_errors exact before c) (InComment (before ++ value_bytes c))
+
+-- doctypes
+
+unfoldable pub skipped_step : Bool → List Told → DoctypeOf → ℕ → Here Open
+skipped_step exact errors d c =
+    if c == greater_than then Tells (errors ++ Doctype d ∷ []) (Between Data)
+    else Tells (errors ++ null_error exact state.BogusDoctype c) (InDoctype Skipped d)
+
+unfoldable pub wanted_name_step : Bool → List Told → DoctypeOf → ℕ → Here Open
+wanted_name_step exact errors d c =
+    if c == greater_than then Tells (errors ++ error_in exact state.BeforeDoctypeName c ∷ Doctype (with_quirks d) ∷ []) (Between Data)
+    else Tells (errors ++ null_error exact state.BeforeDoctypeName c) (InDoctype InDoctypeName (with_first_of_name d c))
+
+unfoldable pub doctype_name_step : Bool → DoctypeOf → ℕ → Here Open
+doctype_name_step exact d c =
+    if in_doctype_name c then Tells (null_error exact state.DoctypeName c) (InDoctype InDoctypeName (with_doctype_name d (c ∷ [])))
+    else if c == greater_than then Tells (Doctype d ∷ []) (Between Data)
+    else Tells [] (InDoctype AfterName d)
+
+unfoldable pub keyword_or_end_step : Bool → DoctypeOf → ℕ → Here Open
+keyword_or_end_step exact d c =
+    if c == greater_than then Tells (Doctype d ∷ []) (Between Data)
+    else if begins_doctype_keyword (c ∷ []) then Tells [] (InDoctypeKeyword (c ∷ []) d)
+    else skipped_step exact (error_in exact state.AfterDoctypeName c ∷ []) (with_quirks d) c
+
+unfoldable pub wanted_identifier_step : Bool → Bool → State → DoctypeIdKind → DoctypeOf → ℕ → Here Open
+wanted_identifier_step exact is_direct named kind d c =
+    let error : Told = error_in exact named c in
+    if c == quotation_mark then Tells (where_true is_direct error) (InDoctype (InIdentifier DoubleQuotes kind) (with_begun_identifier kind d))
+    else if c == apostrophe then Tells (where_true is_direct error) (InDoctype (InIdentifier SingleQuotes kind) (with_begun_identifier kind d))
+    else skipped_step exact (error ∷ []) (with_quirks d) c
+
+unfoldable pub system_or_end_step : Bool → Bool → State → DoctypeOf → ℕ → Here Open
+system_or_end_step exact is_direct named d c =
+    if c == greater_than then Tells (Doctype d ∷ []) (Between Data) else wanted_identifier_step exact is_direct named System d c
+
+unfoldable pub identifier_step : Bool → Quotes → DoctypeIdKind → DoctypeOf → ℕ → Here Open
+identifier_step exact quotes kind d c =
+    if in_identifier quotes c then Tells (null_error exact (identifier_state quotes kind) c) (InDoctype (InIdentifier quotes kind) (with_identifier kind d (c ∷ [])))
+    else if c == greater_than then Tells (error_in exact (identifier_state quotes kind) c ∷ Doctype (with_quirks d) ∷ []) (Between Data)
+    else Tells [] (InDoctype (AfterIdentifier kind) d)
+
+unfoldable pub behind_identifier_step : Bool → DoctypeIdKind → DoctypeOf → ℕ → Here Open
+behind_identifier_step exact Public d c =
+    if is_white_space c then Tells [] (InDoctype BetweenIdentifiers d)
+    else system_or_end_step exact true (state.AfterDoctypeIdentifier Public) d c
+behind_identifier_step exact System d c =
+    if is_white_space c then Tells [] (InDoctype (AfterIdentifier System) d)
+    else if c == greater_than then Tells (Doctype d ∷ []) (Between Data)
+    else skipped_step exact (error_in exact (state.AfterDoctypeIdentifier System) c ∷ []) d c
+
+-- where white space is skipped, behind which the place is this
+unfoldable pub space_step : DoctypePlace → DoctypeOf → ℕ → Here Open → Here Open
+space_step place d c next = if is_white_space c then Tells [] (InDoctype place d) else next
+
+unfoldable pub doctype_step : Bool → DoctypePlace → DoctypeOf → ℕ → Here Open
+doctype_step exact AfterWord d c = space_step BeforeName d c (wanted_name_step exact (word_error exact c) d c)
+doctype_step exact BeforeName d c = space_step BeforeName d c (wanted_name_step exact [] d c)
+doctype_step exact InDoctypeName d c = doctype_name_step exact d c
+doctype_step exact AfterName d c = space_step AfterName d c (keyword_or_end_step exact d c)
+doctype_step exact (AfterKeyword kind) d c = space_step (BeforeIdentifier kind) d c (wanted_identifier_step exact true (state.AfterDoctypeKeyword kind) kind d c)
+doctype_step exact (BeforeIdentifier kind) d c = space_step (BeforeIdentifier kind) d c (wanted_identifier_step exact false (state.BeforeDoctypeIdentifier kind) kind d c)
+doctype_step exact (InIdentifier quotes kind) d c = identifier_step exact quotes kind d c
+doctype_step exact (AfterIdentifier kind) d c = behind_identifier_step exact kind d c
+doctype_step exact BetweenIdentifiers d c = space_step BetweenIdentifiers d c (system_or_end_step exact false state.BetweenDoctypePublicAndSystemIdentifiers d c)
+doctype_step exact Skipped d c = skipped_step exact [] d c
+
 unfoldable pub less_than_step : Bool → ℕ → Here Open
 less_than_step exact c =
     if is_letter c then tag_name_step exact (begun StartTag) c
     else if c == solidus then Tells [] LessThanSolidus
-    else if (c == exclamation_mark) || (c == question_mark) then Stops []
+    else if c == exclamation_mark then Tells [] (InDeclaration [])
+    else if c == question_mark then bogus_comment_step exact [] (error_in exact state.TagOpen c ∷ []) c
     else data_step exact (error_in exact state.TagOpen c ∷ Text (codes "<") ∷ []) c
 
 unfoldable pub solidus_step : Bool → ℕ → Here Open
 solidus_step exact c =
     if is_letter c then tag_name_step exact (begun EndTag) c
     else if c == greater_than then Tells (error_in exact state.EndTagOpen c ∷ []) (Between Data)
-    else Stops []
+    else bogus_comment_step exact [] (error_in exact state.EndTagOpen c ∷ []) c
 
 -- raw text
 
@@ -183,6 +270,11 @@ step_at exact (InRaw place name) c = raw_place_step exact place name c
 step_at exact LessThan c = less_than_step exact c
 step_at exact LessThanSolidus c = solidus_step exact c
 step_at exact (InTag place tag) c = tag_step exact place tag c
+step_at exact (InComment before) c = comment_step exact before c
+step_at exact (InBogusComment before) c = bogus_comment_step exact before [] c
+step_at exact (InDoctype place d) c = doctype_step exact place d c
+step_at exact (InDeclaration held) c = Stops []
+step_at exact (InDoctypeKeyword held d) c = Stops []
 step_at exact (InReference stand held) c = Stops []
 step_at exact NotBuilt c = Stops []
 
@@ -194,9 +286,30 @@ reference_step rules stand held c =
     else if ends_number held c then record { settled = late_tokens stand found held; here = Tells [] (opened_behind stand found held) }
     else record { settled = late_tokens stand found held; here = step_at rules.exact (opened_behind stand found held) c }
 
--- what a character brings: where no reference is open it decides nothing that stands before it
+-- a character behind `<!` and what is held there
+unfoldable pub declaration_step : Bool → List ℕ → ℕ → Brought Open
+declaration_step exact held c =
+    if bytes_eq (held ++ c ∷ []) (codes "--") then record { settled = []; here = Tells [] (InComment []) }
+    else if bytes_eq (lower_case (held ++ c ∷ [])) (codes "doctype") then record { settled = []; here = Tells [] (InDoctype AfterWord empty_doctype) }
+    else if begins_keyword (held ++ c ∷ []) then record { settled = []; here = Tells [] (InDeclaration (held ++ c ∷ [])) }
+    else record { settled = declaration_error exact held; here = bogus_comment_step exact held [] c }
+
+-- a character behind what may begin a keyword of a doctype
+unfoldable pub doctype_keyword_step : Bool → List ℕ → DoctypeOf → ℕ → Brought Open
+doctype_keyword_step exact held d c =
+    if is_keyword Public (held ++ c ∷ []) then record { settled = []; here = Tells [] (InDoctype (AfterKeyword Public) d) }
+    else if is_keyword System (held ++ c ∷ []) then record { settled = []; here = Tells [] (InDoctype (AfterKeyword System) d) }
+    else if begins_doctype_keyword (held ++ c ∷ []) then record { settled = []; here = Tells [] (InDoctypeKeyword (held ++ c ∷ []) d) }
+    else record { settled = keyword_error exact held; here = skipped_step exact [] (with_quirks d) c }
+
+-- what a character brings: where nothing is undecided it decides nothing that stands before it
 unfoldable pub brought_at : Rules → Open → ℕ → Brought Open
 brought_at rules (InReference stand held) c = reference_step rules stand held c
+brought_at rules (InDeclaration held) c = declaration_step rules.exact held c
+brought_at rules (InDoctypeKeyword held d) c = doctype_keyword_step rules.exact held d c
+brought_at rules (InDoctype place d) c = record { settled = []; here = step_at rules.exact (InDoctype place d) c }
+brought_at rules (InComment before) c = record { settled = []; here = step_at rules.exact (InComment before) c }
+brought_at rules (InBogusComment before) c = record { settled = []; here = step_at rules.exact (InBogusComment before) c }
 brought_at rules (Between mode) c = record { settled = []; here = step_at rules.exact (Between mode) c }
 brought_at rules LessThan c = record { settled = []; here = step_at rules.exact LessThan c }
 brought_at rules LessThanSolidus c = record { settled = []; here = step_at rules.exact LessThanSolidus c }

@@ -1,15 +1,18 @@
 -- The machine tells a tag where one ends, and no other.
 use Rattle.std.proofs.Common.{◌≡◌, ℕ, Bool, true, false, List, [], ◌∷◌, ◌++◌, refl}
-use Rattle.std.specs.Prelude.{◌&&◌, ◌||◌, ◌==◌, encode_utf8, map, drop, length, Option, None, Some, if◌then◌else◌}
-use Rattle.html5ever_interface.specs.Token.{Told, is_tag}
-use Rattle.html5ever_interface.specs.Token.Told.{Text}
+use Rattle.std.specs.Prelude.{◌&&◌, ◌==◌, codes, encode_utf8, map, drop, length, Option, None, Some, if◌then◌else◌}
+use Rattle.html5ever_interface.specs.Token.{Told, DoctypeOf, is_tag}
+use Rattle.html5ever_interface.specs.Token.Told.{Text, Comment, Doctype}
+use Rattle.html5ever_interface.specs.declared.states.State.{State}
 use Rattle.html5ever_interface.specs.declared.states.State.TheVariants as state
+use Rattle.html5ever_interface.specs.declared.states.DoctypeIdKind.{DoctypeIdKind}
+use Rattle.html5ever_interface.specs.declared.states.DoctypeIdKind.TheVariants.{Public, System}
 use Rattle.html5ever_interface.specs.declared.states.RawKind.{RawKind}
 use Rattle.html5ever_interface.specs.declared.states.RawKind.TheVariants as raw_kind
 use Rattle.html5ever_interface.specs.declared.states.ScriptEscapeKind.TheVariants as escape_kind
 use Rattle.html5ever_interface.specs.declared.states.AttrValueKind.{AttrValueKind}
 use Rattle.html5ever_interface.specs.declared.states.AttrValueKind.TheVariants.{Unquoted, SingleQuoted, DoubleQuoted}
-use Rattle.html5grammar.specs.Characters.{null, number_sign, replacement_character, exclamation_mark, quotation_mark, ampersand, apostrophe, hyphen, solidus, less_than, equals_sign, greater_than, question_mark, is_letter, is_white_space, is_bad_character}
+use Rattle.html5grammar.specs.Characters.{null, number_sign, replacement_character, exclamation_mark, quotation_mark, ampersand, apostrophe, hyphen, solidus, less_than, equals_sign, greater_than, question_mark, is_letter, is_white_space, is_bad_character, lower_case}
 use Rattle.html5grammar.specs.ErrorText.{error_in, where_true, bad_character_error}
 use Rattle.html5grammar.specs.Reading.{Here, Brought}
 use Rattle.html5grammar.specs.Reference.{Found, in_value, reference, number_reference, named_reference, no_name, unended_number, has_digits, longest_name, is_ended, goes_on, first_or, is_undecided, ends_number, text_in, told_of, characters_in, held_text, late_tokens}
@@ -17,16 +20,20 @@ use Rattle.html5grammar.specs.Slice.{Late, tokens_of_late}
 use Rattle.html5grammar.specs.Start.Stand.{InText, InAttribute}
 use Rattle.markup5ever.specs.NamedReferences.{NamedReference}
 use Rattle.html5grammar.specs.Reading.Here.{Tells, TellsTag, Stops}
-use Rattle.html5grammar.specs.Start.{Raw, OpenTag, Place, RawPlace, Stand, Open, Rules, raw_of}
+use Rattle.html5grammar.specs.Start.{Raw, OpenTag, Place, RawPlace, DoctypePlace, Stand, Open, Rules, raw_of}
 use Rattle.html5grammar.specs.Start.Raw.{ScriptData}
 use Rattle.html5grammar.specs.Start.Mode.{Data, Plain, RawText}
 use Rattle.html5grammar.specs.Start.RawPlace.{AfterLessThan, InEndName, AfterMark, AfterMarkAndDash, InSwitch}
 use Rattle.html5grammar.specs.Start.Place.{InName, BeforeAttribute, InAttributeName, AfterAttributeName, BeforeValue, InValue, AfterQuotedValue, AfterSolidus}
-use Rattle.html5grammar.specs.Start.Open.{Between, LessThan, LessThanSolidus, InTag, InRaw, InReference, NotBuilt}
-use Rattle.html5grammar.specs.Tag.{duplicate_error, end_tag_errors, with_last_attribute, in_quoted, in_unquoted, unquoted_error, in_attribute_name, place_error, first_error, in_tag_name}
+use Rattle.html5grammar.specs.Start.DoctypePlace.{AfterWord, BeforeName, InDoctypeName, AfterName, AfterKeyword, BeforeIdentifier, InIdentifier, AfterIdentifier, BetweenIdentifiers, Skipped}
+use Rattle.html5grammar.specs.Start.Open.{Between, LessThan, LessThanSolidus, InTag, InRaw, InDeclaration, InComment, InBogusComment, InDoctype, InDoctypeKeyword, InReference, NotBuilt}
+use Rattle.html5grammar.specs.Tag.{null_error, duplicate_error, end_tag_errors, with_last_attribute, in_quoted, in_unquoted, unquoted_error, in_attribute_name, place_error, first_error, in_tag_name}
+use Rattle.std.specs.Str.{bytes_eq}
+use Rattle.html5grammar.specs.Comment.{comment_state, ends_comment, comment_content, comment_end_error, comment_errors, mark_error, begins_keyword}
+use Rattle.html5grammar.specs.Doctype.{with_quirks, in_identifier, is_keyword, begins_doctype_keyword, keyword_error, in_doctype_name, word_error}
 use Rattle.html5grammar.specs.RawText.{ends_name, raw_state, kind_of, is_rcdata, raw_character, ends_raw_text, told_at_less_than, told_behind_less_than, begins_mark, begins_switch}
 use Rattle.html5grammar.specs.Text.{plain_text}
-use Rattle.html5grammar.proofs.Machine.{closing_step, tag_name_step, part_step, attribute_name_step, after_attribute_name_step, quoted_step, unquoted_step, before_value_step, tag_step, data_step, less_than_step, solidus_step, raw_step, tag_name_end_step, end_name_step, switch_step, mark_step, mark_and_dash_step, raw_solidus_step, raw_less_than_step, raw_place_step, step_at, reference_step, brought_at}
+use Rattle.html5grammar.proofs.Machine.{closing_step, tag_name_step, part_step, attribute_name_step, after_attribute_name_step, quoted_step, unquoted_step, before_value_step, tag_step, data_step, less_than_step, solidus_step, bogus_comment_step, comment_step, skipped_step, wanted_name_step, doctype_name_step, keyword_or_end_step, wanted_identifier_step, system_or_end_step, identifier_step, behind_identifier_step, space_step, doctype_step, declaration_step, doctype_keyword_step, raw_step, tag_name_end_step, end_name_step, switch_step, mark_step, mark_and_dash_step, raw_solidus_step, raw_less_than_step, raw_place_step, step_at, reference_step, brought_at}
 
 unfoldable pub NoTags : List Told → Type 0
 NoTags [] = Unit {0}
@@ -182,6 +189,64 @@ module _ (exact : Bool) (c : ℕ) where
       no_tags-if (c == less_than) _ _ (no_tags-append before _ f (no_tags-less_than (kind_of raw)))
       (no_tags-if (is_rcdata raw && (c == ampersand)) _ _ f (no_tags-append before _ f (no_tags-raw_character raw)))
 
+  no_tags-bogus_comment : (before : List ℕ) (first : List Told) → NoTags first → NoTagsHere (bogus_comment_step exact before first c)
+  unfolding bogus_comment_step NoTagsHere NoTags
+  no_tags-bogus_comment before first f =
+      no_tags-if (c == greater_than) _ _ (no_tags-append first _ f (refl, tt)) (no_tags-append first _ f (no_tags-where _ _ refl))
+
+  no_tags-comment : (before : List ℕ) → NoTagsHere (comment_step exact before c)
+  unfolding comment_step comment_end_error comment_errors mark_error NoTagsHere NoTags
+  no_tags-comment before =
+      no_tags-if ((c == greater_than) && ends_comment before) _ _ (no_tags-append (comment_end_error exact before) (Comment (comment_content before) ∷ []) (no_tags-where _ _ refl) (refl, tt))
+      (no_tags-append (mark_error exact before c) (null_error exact (comment_state state.Comment before) c) (no_tags-where _ _ refl) (no_tags-where _ _ refl))
+
+  no_tags-skipped : (errors : List Told) (d : DoctypeOf) → NoTags errors → NoTagsHere (skipped_step exact errors d c)
+  unfolding skipped_step NoTagsHere NoTags
+  no_tags-skipped errors d f =
+      no_tags-if (c == greater_than) _ _ (no_tags-append errors (Doctype d ∷ []) f (refl, tt)) (no_tags-append errors _ f (no_tags-where _ _ refl))
+
+  no_tags-wanted_name : (errors : List Told) (d : DoctypeOf) → NoTags errors → NoTagsHere (wanted_name_step exact errors d c)
+  unfolding wanted_name_step NoTagsHere NoTags
+  no_tags-wanted_name errors d f =
+      no_tags-if (c == greater_than) _ _ (no_tags-append errors _ f (refl, (refl, tt))) (no_tags-append errors _ f (no_tags-where _ _ refl))
+
+  no_tags-wanted_identifier : (is_direct : Bool) (named : State) (kind : DoctypeIdKind) (d : DoctypeOf) → NoTagsHere (wanted_identifier_step exact is_direct named kind d c)
+  unfolding wanted_identifier_step NoTagsHere NoTags
+  no_tags-wanted_identifier is_direct named kind d =
+      no_tags-if (c == quotation_mark) _ _ (no_tags-where is_direct (error_in exact named c) refl)
+      (no_tags-if (c == apostrophe) _ _ (no_tags-where is_direct (error_in exact named c) refl)
+      (no_tags-skipped (error_in exact named c ∷ []) (with_quirks d) (refl, tt)))
+
+  no_tags-system_or_end : (is_direct : Bool) (named : State) (d : DoctypeOf) → NoTagsHere (system_or_end_step exact is_direct named d c)
+  unfolding system_or_end_step NoTagsHere NoTags
+  no_tags-system_or_end is_direct named d = no_tags-if (c == greater_than) _ _ (refl, tt) (no_tags-wanted_identifier is_direct named System d)
+
+  no_tags-behind_identifier : (kind : DoctypeIdKind) (d : DoctypeOf) → NoTagsHere (behind_identifier_step exact kind d c)
+  unfolding behind_identifier_step NoTagsHere NoTags
+  no_tags-behind_identifier Public d = no_tags-if (is_white_space c) _ _ tt (no_tags-system_or_end true (state.AfterDoctypeIdentifier Public) d)
+  no_tags-behind_identifier System d =
+      no_tags-if (is_white_space c) _ _ tt (no_tags-if (c == greater_than) _ _ (refl, tt) (no_tags-skipped _ d (refl, tt)))
+
+  no_tags-space : (place : DoctypePlace) (d : DoctypeOf) (next : Here Open) → NoTagsHere next → NoTagsHere (space_step place d c next)
+  unfolding space_step NoTagsHere NoTags
+  no_tags-space place d next f = no_tags-if (is_white_space c) (Tells [] (InDoctype place d)) next tt f
+
+  no_tags-doctype : (place : DoctypePlace) (d : DoctypeOf) → NoTagsHere (doctype_step exact place d c)
+  unfolding doctype_step doctype_name_step keyword_or_end_step identifier_step NoTagsHere NoTags
+  no_tags-doctype AfterWord d = no_tags-space _ d _ (no_tags-wanted_name (word_error exact c) d (no_tags-where _ _ refl))
+  no_tags-doctype BeforeName d = no_tags-space _ d _ (no_tags-wanted_name [] d tt)
+  no_tags-doctype InDoctypeName d =
+      no_tags-if (in_doctype_name c) _ _ (no_tags-where _ _ refl) (no_tags-if (c == greater_than) _ _ (refl, tt) tt)
+  no_tags-doctype AfterName d =
+      no_tags-space _ d _ (no_tags-if (c == greater_than) _ _ (refl, tt) (no_tags-if (begins_doctype_keyword (c ∷ [])) _ _ tt (no_tags-skipped _ _ (refl, tt))))
+  no_tags-doctype (AfterKeyword kind) d = no_tags-space _ d _ (no_tags-wanted_identifier true (state.AfterDoctypeKeyword kind) kind d)
+  no_tags-doctype (BeforeIdentifier kind) d = no_tags-space _ d _ (no_tags-wanted_identifier false (state.BeforeDoctypeIdentifier kind) kind d)
+  no_tags-doctype (InIdentifier quotes kind) d =
+      no_tags-if (in_identifier quotes c) _ _ (no_tags-where _ _ refl) (no_tags-if (c == greater_than) _ _ (refl, (refl, tt)) tt)
+  no_tags-doctype (AfterIdentifier kind) d = no_tags-behind_identifier kind d
+  no_tags-doctype BetweenIdentifiers d = no_tags-space _ d _ (no_tags-system_or_end false state.BetweenDoctypePublicAndSystemIdentifiers d)
+  no_tags-doctype Skipped d = no_tags-skipped [] d tt
+
   no_tags-tag_name_end : (tag : OpenTag) → NoTagsHere (tag_name_end_step tag c)
   unfolding tag_name_end_step NoTagsHere NoTags
   no_tags-tag_name_end tag =
@@ -211,11 +276,16 @@ module _ (exact : Bool) (c : ℕ) where
   no_tags-step_at (Between (RawText raw name)) = no_tags-raw raw name [] tt
   no_tags-step_at LessThan =
       no_tags-if (is_letter c) _ _ (no_tags-tag_name _) (no_tags-if (c == solidus) _ _ tt
-      (no_tags-if ((c == exclamation_mark) || (c == question_mark)) _ _ tt (no_tags-data _ (refl, (refl, tt)))))
+      (no_tags-if (c == exclamation_mark) _ _ tt (no_tags-if (c == question_mark) _ _ (no_tags-bogus_comment [] _ (refl, tt)) (no_tags-data _ (refl, (refl, tt))))))
   no_tags-step_at LessThanSolidus =
-      no_tags-if (is_letter c) _ _ (no_tags-tag_name _) (no_tags-if (c == greater_than) _ _ (refl, tt) tt)
+      no_tags-if (is_letter c) _ _ (no_tags-tag_name _) (no_tags-if (c == greater_than) _ _ (refl, tt) (no_tags-bogus_comment [] _ (refl, tt)))
   no_tags-step_at (InTag place tag) = no_tags-tag place tag
   no_tags-step_at (InRaw place name) = no_tags-raw_place place name
+  no_tags-step_at (InDeclaration held) = tt
+  no_tags-step_at (InComment before) = no_tags-comment before
+  no_tags-step_at (InBogusComment before) = no_tags-bogus_comment before [] tt
+  no_tags-step_at (InDoctype place d) = no_tags-doctype place d
+  no_tags-step_at (InDoctypeKeyword held d) = tt
   no_tags-step_at (InReference stand held) = tt
   no_tags-step_at NotBuilt = tt
 
@@ -264,30 +334,49 @@ unfolding NoTags
 no_tags-late_append [] m f g = g
 no_tags-late_append (x ∷ l) m f g = (f.0, no_tags-late_append l m f.1 g)
 
-no_tags-late_map : (back : ℕ) (is_held : Bool) (tokens : List Told) → NoTags tokens
-    → NoTags (tokens_of_late (map (λ token. record { token = token; back = back; is_held = is_held }) tokens))
+no_tags-late_map : (back : ℕ) (is_at is_held : Bool) (tokens : List Told) → NoTags tokens
+    → NoTags (tokens_of_late (map (λ token. record { token = token; back = back; is_at = is_at; is_held = is_held }) tokens))
 unfolding NoTags
-no_tags-late_map back is_held [] f = tt
-no_tags-late_map back is_held (t ∷ tokens) f = (f.0, no_tags-late_map back is_held tokens f.1)
+no_tags-late_map back is_at is_held [] f = tt
+no_tags-late_map back is_at is_held (t ∷ tokens) f = (f.0, no_tags-late_map back is_at is_held tokens f.1)
 
 no_tags-held_text : (stand : Stand) (held : List ℕ) → NoTags (tokens_of_late (held_text stand held))
 unfolding held_text NoTags
 no_tags-held_text stand [] = tt
 no_tags-held_text stand (c ∷ held) =
-    no_tags-late_append _ _ (no_tags-late_map _ _ (text_in stand (c ∷ [])) (no_tags-text_in stand (c ∷ []))) (no_tags-held_text stand held)
+    no_tags-late_append _ _ (no_tags-late_map _ _ _ (text_in stand (c ∷ [])) (no_tags-text_in stand (c ∷ []))) (no_tags-held_text stand held)
 
 no_tags-late_tokens : (rules : Rules) (stand : Stand) (held : List ℕ) (next : Option ℕ)
     → NoTags (tokens_of_late (late_tokens stand (reference rules (in_value stand) held next) held))
 no_tags-late_tokens rules stand held next =
     let found : Found = reference rules (in_value stand) held next in
     no_tags-late_append _ _
-    (no_tags-late_map _ _ (told_of stand found) (no_tags-append _ _ (no_tags-reference rules (in_value stand) held next) (no_tags-text_in stand (characters_in found))))
+    (no_tags-late_map _ _ _ (told_of stand found) (no_tags-append _ _ (no_tags-reference rules (in_value stand) held next) (no_tags-text_in stand (characters_in found))))
     (no_tags-held_text stand (drop found.taken held))
 
 no_tags-brought : (test : Bool) (p q : Brought Open) → NoTags (tokens_of_late p.settled) → NoTags (tokens_of_late q.settled)
     → NoTags (tokens_of_late (if test then p else q).settled)
 no_tags-brought true p q f g = f
 no_tags-brought false p q f g = g
+
+no_tags-declaration : (exact : Bool) (held : List ℕ) (c : ℕ) → NoTags (tokens_of_late (declaration_step exact held c).settled)
+unfolding declaration_step NoTags
+no_tags-declaration exact held c =
+    no_tags-brought (bytes_eq (held ++ c ∷ []) (codes "--")) _ _ tt
+    (no_tags-brought (bytes_eq (lower_case (held ++ c ∷ [])) (codes "doctype")) _ _ tt
+    (no_tags-brought (begins_keyword (held ++ c ∷ [])) _ _ tt (refl, tt)))
+
+no_tags-keyword_error : (exact : Bool) (held : List ℕ) → NoTags (tokens_of_late (keyword_error exact held))
+unfolding keyword_error NoTags
+no_tags-keyword_error exact [] = tt
+no_tags-keyword_error exact (c ∷ held) = (refl, tt)
+
+no_tags-doctype_keyword : (exact : Bool) (held : List ℕ) (d : DoctypeOf) (c : ℕ) → NoTags (tokens_of_late (doctype_keyword_step exact held d c).settled)
+unfolding doctype_keyword_step NoTags
+no_tags-doctype_keyword exact held d c =
+    no_tags-brought (is_keyword Public (held ++ c ∷ [])) _ _ tt
+    (no_tags-brought (is_keyword System (held ++ c ∷ [])) _ _ tt
+    (no_tags-brought (begins_doctype_keyword (held ++ c ∷ [])) _ _ tt (no_tags-keyword_error exact held)))
 
 pub no_tags-settled : (rules : Rules) (opened : Open) (c : ℕ) → NoTags (tokens_of_late (brought_at rules opened c).settled)
 unfolding brought_at reference_step NoTags
@@ -296,6 +385,11 @@ no_tags-settled rules LessThan c = tt
 no_tags-settled rules LessThanSolidus c = tt
 no_tags-settled rules (InTag place tag) c = tt
 no_tags-settled rules (InRaw place name) c = tt
+no_tags-settled rules (InDeclaration held) c = no_tags-declaration rules.exact held c
+no_tags-settled rules (InComment before) c = tt
+no_tags-settled rules (InBogusComment before) c = tt
+no_tags-settled rules (InDoctype place d) c = tt
+no_tags-settled rules (InDoctypeKeyword held d) c = no_tags-doctype_keyword rules.exact held d c
 no_tags-settled rules (InReference stand held) c =
     no_tags-brought (is_undecided rules.names (held ++ c ∷ [])) _ _ tt
     (no_tags-brought (ends_number held c) _ _ (no_tags-late_tokens rules stand held (Some c)) (no_tags-late_tokens rules stand held (Some c)))

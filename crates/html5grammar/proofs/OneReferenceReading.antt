@@ -130,7 +130,7 @@ Holds-name names before (c ∷ name) found e all more =
 
 -- ---- what the end tells where all is held, and all is taken
 
-tokens-late : (back : ℕ) (tokens : List Told) → tokens_of_late (map (λ (token : Told). record { token = token; back = back; is_held = false }) tokens ++ []) ≡ tokens
+tokens-late : (back : ℕ) (tokens : List Told) → tokens_of_late (map (λ (token : Told). record { token = token; back = back; is_at = false; is_held = false }) tokens ++ []) ≡ tokens
 tokens-late back [] = refl
 tokens-late back (t ∷ tokens) = ap (λ l. t ∷ l) (tokens-late back tokens)
 

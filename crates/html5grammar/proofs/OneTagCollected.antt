@@ -36,21 +36,21 @@ pub HasNoText-where : (holds : Bool) (message : List ℕ) → HasNoText (where_t
 HasNoText-where true message = (refl, tt)
 HasNoText-where false message = tt
 
-abbrev TellNoText : List Spelled → Type 0
+abbrev pub TellNoText : List Spelled → Type 0
 TellNoText [] = Unit {0}
 TellNoText (here ∷ more) = HasNoText here.told × TellNoText more
 
-TellNoText-append : (xs ys : List Spelled) → TellNoText xs → TellNoText ys → TellNoText (xs ++ ys)
+pub TellNoText-append : (xs ys : List Spelled) → TellNoText xs → TellNoText ys → TellNoText (xs ++ ys)
 TellNoText-append [] ys f g = g
 TellNoText-append (x ∷ xs) ys f g = (f.0, TellNoText-append xs ys f.1 g)
 
-TellNoText-spell : (tells : ℕ → List Told) → ((c : ℕ) → HasNoText (tells c)) → (run : List ℕ) → TellNoText (spell tells run)
+pub TellNoText-spell : (tells : ℕ → List Told) → ((c : ℕ) → HasNoText (tells c)) → (run : List ℕ) → TellNoText (spell tells run)
 TellNoText-spell tells h [] = tt
 TellNoText-spell tells h (c ∷ run) = (h c, TellNoText-spell tells h run)
 
 -- ---- what a tag tells
 
-TellNoText-silent : (run : List ℕ) → TellNoText (spell_silent run)
+pub TellNoText-silent : (run : List ℕ) → TellNoText (spell_silent run)
 TellNoText-silent run = TellNoText-spell silent (λ c. tt) run
 
 HasNoText-place : (exact : Bool) (place : Place) (c : ℕ) → HasNoText (place_error exact place c)
@@ -151,7 +151,7 @@ collected-on_line c line (token ∷ tokens) h =
     ∙ (collected-on_line (record c { messages = c.messages ++ record { token = token; line = line } ∷ [] }) line tokens h.1
     ∙ rw (append_assoc c.messages (record { token = token; line = line } ∷ []) (on_line line tokens)) refl)
 
-collected-spelled_messages : (exact : Bool) (input : Input) (before : List ℕ) (c : Collected) (cells : List Spelled) → TellNoText cells
+pub collected-spelled_messages : (exact : Bool) (input : Input) (before : List ℕ) (c : Collected) (cells : List Spelled) → TellNoText cells
     → stepped collected_step c (spelled_messages exact input before cells) ≡ record c { messages = c.messages ++ spelled_messages exact input before cells }
 unfolding spelled_messages stepped
 collected-spelled_messages exact input before c [] h = rw append-nil refl

@@ -78,50 +78,50 @@ module _ (exact : Bool) where
   unfolding Goes
   Goes-one a b c told e = (b, e, refl)
 
-  -- a run of characters that only make the tag grow
-  goes-run : (place : Place) (more : OpenTag → List ℕ → OpenTag) (is_kind : ℕ → Bool) (tells : ℕ → List Told)
-      → ((tag : OpenTag) → more tag [] ≡ tag)
-      → ((tag : OpenTag) (c : ℕ) (run : List ℕ) → more tag (c ∷ run) ≡ more (more tag (c ∷ [])) run)
-      → ((tag : OpenTag) (c : ℕ) → is_kind c ≡ true → step_at exact (InTag place tag) c ≡ Tells (tells c) (InTag place (more tag (c ∷ []))))
-      → (tag : OpenTag) (run : List ℕ) → list_all is_kind run ≡ true → Goes (InTag place tag) (spell tells run) (InTag place (more tag run))
+  -- a run of characters that only make what is open grow
+  pub goes-run : {X : Type 0} → (opened : X → Open) (more : X → List ℕ → X) (is_kind : ℕ → Bool) (tells : ℕ → List Told)
+      → ((x : X) → more x [] ≡ x)
+      → ((x : X) (c : ℕ) (run : List ℕ) → more x (c ∷ run) ≡ more (more x (c ∷ [])) run)
+      → ((x : X) (c : ℕ) → is_kind c ≡ true → step_at exact (opened x) c ≡ Tells (tells c) (opened (more x (c ∷ []))))
+      → (x : X) (run : List ℕ) → list_all is_kind run ≡ true → Goes (opened x) (spell tells run) (opened (more x run))
   unfolding Goes
-  goes-run place more is_kind tells none cons step tag [] all = ap (InTag place) (sym (none tag))
-  goes-run place more is_kind tells none cons step tag (c ∷ run) all =
+  goes-run opened more is_kind tells none cons step x [] all = ap opened (sym (none x))
+  goes-run opened more is_kind tells none cons step x (c ∷ run) all =
       let p = and_parts (is_kind c) (list_all is_kind run) all in (
-        InTag place (more tag (c ∷ [])),
-        step tag c p.0,
-        subst (λ t. Goes (InTag place (more tag (c ∷ []))) (spell tells run) (InTag place t)) (sym (cons tag c run))
-            (goes-run place more is_kind tells none cons step (more tag (c ∷ [])) run p.1),
+        opened (more x (c ∷ [])),
+        step x c p.0,
+        subst (λ y. Goes (opened (more x (c ∷ []))) (spell tells run) (opened y)) (sym (cons x c run))
+            (goes-run opened more is_kind tells none cons step (more x (c ∷ [])) run p.1),
       )
 
   pub goes-name : (tag : OpenTag) (run : List ℕ) → list_all in_tag_name run ≡ true
       → Goes (InTag InName tag) (spell (null_error exact state.TagName) run) (InTag InName (with_name tag run))
   unfolding step_at tag_step tag_name_step
-  goes-name tag run all = goes-run InName with_name in_tag_name (null_error exact state.TagName) with_name-nil with_name-cons (λ t c h. rw h refl) tag run all
+  goes-name tag run all = goes-run (InTag InName) with_name in_tag_name (null_error exact state.TagName) with_name-nil with_name-cons (λ t c h. rw h refl) tag run all
 
   pub goes-attribute_name : (tag : OpenTag) (run : List ℕ) → list_all in_attribute_name run ≡ true
       → Goes (InTag InAttributeName tag) (spell (attribute_name_error exact) run) (InTag InAttributeName (with_last_name tag run))
   unfolding step_at tag_step attribute_name_step
   goes-attribute_name tag run all =
-      goes-run InAttributeName with_last_name in_attribute_name (attribute_name_error exact) with_last_name-nil with_last_name-cons (λ t c h. rw h refl) tag run all
+      goes-run (InTag InAttributeName) with_last_name in_attribute_name (attribute_name_error exact) with_last_name-nil with_last_name-cons (λ t c h. rw h refl) tag run all
 
   pub goes-unquoted : (tag : OpenTag) (run : List ℕ) → list_all in_unquoted run ≡ true
       → Goes (InTag (InValue Unquoted) tag) (spell (unquoted_error exact) run) (InTag (InValue Unquoted) (with_value tag run))
   unfolding step_at tag_step unquoted_step
   goes-unquoted tag run all =
-      goes-run (InValue Unquoted) with_value in_unquoted (unquoted_error exact) with_value-nil with_value-cons (λ t c h. rw h refl) tag run all
+      goes-run (InTag (InValue Unquoted)) with_value in_unquoted (unquoted_error exact) with_value-nil with_value-cons (λ t c h. rw h refl) tag run all
 
   pub goes-double : (tag : OpenTag) (run : List ℕ) → list_all (in_quoted DoubleQuoted) run ≡ true
       → Goes (InTag (InValue DoubleQuoted) tag) (spell (null_error exact (state.AttributeValue DoubleQuoted)) run) (InTag (InValue DoubleQuoted) (with_value tag run))
   unfolding step_at tag_step quoted_step
   goes-double tag run all =
-      goes-run (InValue DoubleQuoted) with_value (in_quoted DoubleQuoted) (null_error exact (state.AttributeValue DoubleQuoted)) with_value-nil with_value-cons (λ t c h. rw h refl) tag run all
+      goes-run (InTag (InValue DoubleQuoted)) with_value (in_quoted DoubleQuoted) (null_error exact (state.AttributeValue DoubleQuoted)) with_value-nil with_value-cons (λ t c h. rw h refl) tag run all
 
   pub goes-single : (tag : OpenTag) (run : List ℕ) → list_all (in_quoted SingleQuoted) run ≡ true
       → Goes (InTag (InValue SingleQuoted) tag) (spell (null_error exact (state.AttributeValue SingleQuoted)) run) (InTag (InValue SingleQuoted) (with_value tag run))
   unfolding step_at tag_step quoted_step
   goes-single tag run all =
-      goes-run (InValue SingleQuoted) with_value (in_quoted SingleQuoted) (null_error exact (state.AttributeValue SingleQuoted)) with_value-nil with_value-cons (λ t c h. rw h refl) tag run all
+      goes-run (InTag (InValue SingleQuoted)) with_value (in_quoted SingleQuoted) (null_error exact (state.AttributeValue SingleQuoted)) with_value-nil with_value-cons (λ t c h. rw h refl) tag run all
 
   abbrev unchanged : OpenTag → List ℕ → OpenTag
   unchanged tag run = tag
@@ -130,13 +130,13 @@ module _ (exact : Bool) where
       → Goes (InTag AfterAttributeName tag) (spell_silent run) (InTag AfterAttributeName tag)
   unfolding step_at tag_step after_attribute_name_step
   goes-space_behind_name tag run all =
-      goes-run AfterAttributeName unchanged is_white_space silent (λ t. refl) (λ t c r. refl) (λ t c h. rw h refl) tag run all
+      goes-run (InTag AfterAttributeName) unchanged is_white_space silent (λ t. refl) (λ t c r. refl) (λ t c h. rw h refl) tag run all
 
   pub goes-space_before_value : (tag : OpenTag) (run : List ℕ) → list_all is_white_space run ≡ true
       → Goes (InTag BeforeValue tag) (spell_silent run) (InTag BeforeValue tag)
   unfolding step_at tag_step before_value_step
   goes-space_before_value tag run all =
-      goes-run BeforeValue unchanged is_white_space silent (λ t. refl) (λ t c r. refl) (λ t c h. rw h refl) tag run all
+      goes-run (InTag BeforeValue) unchanged is_white_space silent (λ t. refl) (λ t c r. refl) (λ t c h. rw h refl) tag run all
 
   -- ---- single characters
 

@@ -9,6 +9,7 @@ use Rattle.html5ever_interface.specs.Token.{Told, Reply}
 use Rattle.html5ever_interface.specs.Token.Told.{Tag}
 use Rattle.html5grammar.specs.Cutting.{rest_of}
 use Rattle.html5grammar.specs.EndOfInput.{late_at_end_of, open_at_end_of, told_at_end_of, tokens_at_end}
+use Rattle.html5grammar.specs.Doctype.{keyword_error}
 use Rattle.html5grammar.specs.ErrorText.{bad_character_error}
 use Rattle.html5grammar.specs.NormalisedText.{with_line_feeds, without_dropped_first, normalised, line_after, input_after}
 use Rattle.html5grammar.specs.Reading.{Event, Here, Brought, Read, brought, is_character, events_at, late_event, late_events, read_here, read_from, read, end_events, reading, told, messages, after, last_behind, open_after_reply}
@@ -20,7 +21,7 @@ use Rattle.html5grammar.specs.Slice.{Slice, Late, cut_off, tokens_of_late}
 use Rattle.html5grammar.specs.Start.{Input, OpenTag, Stand, Start, Open, Rules}
 use Rattle.html5grammar.specs.Start.Mode.{Data, Plain, RawText}
 use Rattle.html5grammar.specs.Start.Stand.{InText, InAttribute}
-use Rattle.html5grammar.specs.Start.Open.{Between, LessThan, LessThanSolidus, InTag, InRaw, InReference, NotBuilt}
+use Rattle.html5grammar.specs.Start.Open.{Between, LessThan, LessThanSolidus, InTag, InRaw, InDeclaration, InComment, InBogusComment, InDoctype, InDoctypeKeyword, InReference, NotBuilt}
 use Rattle.html5grammar.proofs.Machine.{brought_at, messages_here, opened_here, last_here}
 use Rattle.html5grammar.proofs.InputLemmas.{line_past, lines_past, normalised-append, input_after-line_none, input_after-append, input_after-line_one}
 use Rattle.html5grammar.proofs.Traces.{Trace, Traces, with_messages, trace, trace_here, trace_brought, traces, messages-append, messages-map, messages-late}
@@ -60,6 +61,11 @@ decided-told_at_end exact LessThan f h = rw (h _) refl
 decided-told_at_end exact LessThanSolidus f h = rw (h _) refl
 decided-told_at_end exact (InTag place tag) f h = rw (h _) refl
 decided-told_at_end exact (InRaw place name) f h = none_decided f h _
+decided-told_at_end exact (InDeclaration held) f h = refl
+decided-told_at_end exact (InComment before) f h = none_decided f h (told_at_end_of exact (InComment before))
+decided-told_at_end exact (InBogusComment before) f h = rw (h _) refl
+decided-told_at_end exact (InDoctype place d) f h = none_decided f h (told_at_end_of exact (InDoctype place d))
+decided-told_at_end exact (InDoctypeKeyword held d) f h = refl
 decided-told_at_end exact (InReference stand held) f h = refl
 decided-told_at_end exact NotBuilt f h = refl
 
@@ -86,7 +92,7 @@ decided-late I before k late F E ih =
 
 late_first : (I : Input) (Y : List ℕ) (back : ℕ) (tokens : List Told) (later : List Late) (E : List Event) → (t : Told) (ts : List Told) → tokens ≡ t ∷ ts
     → take_while (λ (e : Event). is_character e.decided_by)
-    (late_events I Y EndOfInput (map (λ token. record { token = token; back = back; is_held = false }) tokens ++ later) ++ E) ≡ []
+    (late_events I Y EndOfInput (map (λ token. record { token = token; back = back; is_at = false; is_held = false }) tokens ++ later) ++ E) ≡ []
 unfolding late_events
 late_first I Y back tokens later E t ts e = rw e refl
 
@@ -98,14 +104,14 @@ held_text-in_value kind tag (c ∷ held) = held_text-in_value kind tag held
 module _ (I : Input) (Y : List ℕ) (E : List Event) (none : take_while (λ (e : Event). is_character e.decided_by) E ≡ []) where
   decided-none : (back : ℕ) (errors : List Told)
       → take_while (λ (e : Event). is_character e.decided_by)
-      (late_events I Y EndOfInput (map (λ token. record { token = token; back = back; is_held = false }) (errors ++ []) ++ []) ++ E) ≡ []
+      (late_events I Y EndOfInput (map (λ token. record { token = token; back = back; is_at = false; is_held = false }) (errors ++ []) ++ []) ++ E) ≡ []
   unfolding late_events
   decided-none back [] = none
   decided-none back (t ∷ errors) = late_first I Y back (t ∷ (errors ++ [])) [] E t (errors ++ []) refl
 
   decided-text : (back : ℕ) (errors : List Told) (t : Told) (ts : List Told) (later : List Late)
       → take_while (λ (e : Event). is_character e.decided_by)
-      (late_events I Y EndOfInput (map (λ token. record { token = token; back = back; is_held = false }) (errors ++ t ∷ ts) ++ later) ++ E) ≡ []
+      (late_events I Y EndOfInput (map (λ token. record { token = token; back = back; is_at = false; is_held = false }) (errors ++ t ∷ ts) ++ later) ++ E) ≡ []
   decided-text back [] t ts later = late_first I Y back (t ∷ ts) later E t ts refl
   decided-text back (x ∷ errors) t ts later = late_first I Y back (x ∷ (errors ++ t ∷ ts)) later E x (errors ++ t ∷ ts) refl
 
@@ -117,12 +123,18 @@ module _ (I : Input) (Y : List ℕ) (E : List Event) (none : take_while (λ (e :
 
   decided-late_at_end : (rules : Rules) (opened : Open)
       → take_while (λ (e : Event). is_character e.decided_by) (late_events I Y EndOfInput (late_at_end_of rules opened) ++ E) ≡ []
-  unfolding late_at_end_of late_events
+  unfolding late_at_end_of late_events keyword_error
   decided-late_at_end rules (Between mode) = none
   decided-late_at_end rules LessThan = none
   decided-late_at_end rules LessThanSolidus = none
   decided-late_at_end rules (InTag place tag) = none
   decided-late_at_end rules (InRaw place name) = none
+  decided-late_at_end rules (InDeclaration held) = refl
+  decided-late_at_end rules (InComment before) = none
+  decided-late_at_end rules (InBogusComment before) = none
+  decided-late_at_end rules (InDoctype place d) = none
+  decided-late_at_end rules (InDoctypeKeyword [] d) = none
+  decided-late_at_end rules (InDoctypeKeyword (c ∷ held) d) = refl
   decided-late_at_end rules (InReference stand held) = decided-late_tokens stand (reference rules (in_value stand) held None) held
   decided-late_at_end rules NotBuilt = none
 

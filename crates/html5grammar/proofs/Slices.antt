@@ -1,20 +1,26 @@
 -- The slices do at each character what the machine does.
 use Rattle.std.proofs.Common.{◌≡◌, ℕ, Bool, true, false, List, [], ◌∷◌, ◌++◌, refl, ap, sym, subst, ◌∙◌}
-use Rattle.std.specs.Prelude.{◌==◌, ◌||◌, ◌&&◌, flat_map, drop, codes, Some, if◌then◌else◌}
+use Rattle.std.specs.Prelude.{◌==◌, ◌&&◌, not, flat_map, drop, codes, Option, None, Some, if◌then◌else◌}
 use Rattle.std.proofs.lemmas.List.{append_assoc, append-nil}
-use Rattle.html5ever_interface.specs.Token.{Told}
-use Rattle.html5ever_interface.specs.Token.Told.{Text}
+use Rattle.html5ever_interface.specs.Token.{Told, DoctypeOf}
+use Rattle.html5ever_interface.specs.Token.Told.{Text, Comment, Doctype}
 use Rattle.html5ever_interface.specs.declared.interface.token.TagKind.TheVariants.{StartTag, EndTag}
 use Rattle.html5ever_interface.specs.declared.states.AttrValueKind.{AttrValueKind}
 use Rattle.html5ever_interface.specs.declared.states.AttrValueKind.TheVariants.{Unquoted, SingleQuoted, DoubleQuoted}
+use Rattle.html5ever_interface.specs.declared.states.DoctypeIdKind.{DoctypeIdKind}
+use Rattle.html5ever_interface.specs.declared.states.DoctypeIdKind.TheVariants.{Public, System}
 use Rattle.html5ever_interface.specs.declared.states.RawKind.{RawKind}
 use Rattle.html5ever_interface.specs.declared.states.RawKind.TheVariants as raw_kind
 use Rattle.html5ever_interface.specs.declared.states.ScriptEscapeKind.{ScriptEscapeKind}
 use Rattle.html5ever_interface.specs.declared.states.ScriptEscapeKind.TheVariants as escape_kind
+use Rattle.html5ever_interface.specs.declared.states.State.{State}
 use Rattle.html5ever_interface.specs.declared.states.State.TheVariants as state
-use Rattle.html5grammar.specs.Characters.{null, exclamation_mark, quotation_mark, ampersand, apostrophe, hyphen, solidus, less_than, equals_sign, greater_than, question_mark, is_letter, is_white_space, name_bytes, value_bytes}
+use Rattle.html5grammar.specs.Characters.{null, exclamation_mark, quotation_mark, ampersand, apostrophe, hyphen, solidus, less_than, equals_sign, greater_than, question_mark, is_letter, is_white_space, name_bytes, value_bytes, lower_case}
 use Rattle.html5grammar.specs.Reference.{in_value, reference, is_undecided, ends_number, characters_in, opened_in, late_tokens, opened_behind, behind_held, reference_text, with_value}
 use Rattle.html5grammar.specs.Tag.{null_error, in_quoted, in_unquoted, unquoted_error, in_attribute_name, attribute_name_error, with_last_name, place_error, is_after_solidus, in_tag_name, with_name, closing, behind_tag_name, tag_name, behind_quoted, quoted_value, behind_unquoted, unquoted_value, value, value_behind_space, value_or_next, behind_name_and_space, behind_attribute_name, attribute_behind_first, part}
+use Rattle.std.specs.Str.{bytes_eq}
+use Rattle.html5grammar.specs.Comment.{ends_comment, comment, in_bogus_comment, behind_bogus_comment, bogus_comment, bogus_comment_from, begins_keyword, declaration_error, declaration}
+use Rattle.html5grammar.specs.Doctype.{with_quirks, with_more, with_doctype_name, with_identifier, in_skipped_rest, behind_skipped_rest, skipped_rest, skipped_from, identifier_state, in_identifier, behind_in_identifier, identifier, wanted_identifier, system_or_end, behind_space_between, between_identifiers, behind_identifier, behind_keyword_and_space, identifier_behind_space, behind_keyword, is_keyword, begins_doctype_keyword, keyword_error, doctype_keyword, keyword_or_end, behind_doctype_name_and_space, behind_doctype_name, in_doctype_name, doctype_name, wanted_name, behind_word_and_space, before_doctype_name, word_error, doctype}
 use Rattle.html5grammar.specs.RawText.{raw_text_of, texts, ends_name, is_rcdata, ends_raw_text, behind_end_name, end_name, behind_mark, behind_mark_and_dash, switched, behind_switch, switch, told_behind_less_than, behind_raw_solidus, begins_mark, begins_switch, behind_raw_less_than, raw_text}
 use Rattle.html5grammar.specs.Text.{behind_solidus, behind_less_than, data_text}
 use Rattle.html5grammar.specs.ErrorText.{error_in}
@@ -24,14 +30,15 @@ use Rattle.html5grammar.specs.Reading.Here.{Tells, TellsTag, Stops}
 use Rattle.html5grammar.specs.Slice.{Slice, with_run, run_of, behind_run, silent, run_while, behind_while, no_character, with_character}
 use Rattle.html5grammar.specs.Slice.Cell.{Says}
 use Rattle.html5grammar.specs.Slice.Behind.{Leaves}
-use Rattle.html5grammar.specs.Start.{Mode, Raw, OpenTag, Place, RawPlace, Stand, Open, Rules, begun, raw_of}
+use Rattle.html5grammar.specs.Start.{Mode, Raw, OpenTag, Place, RawPlace, Quotes, DoctypePlace, Stand, Open, Rules, begun, raw_of}
 use Rattle.html5grammar.specs.Start.Stand.{InText, InAttribute}
 use Rattle.html5grammar.specs.Start.Raw.{ScriptData}
 use Rattle.html5grammar.specs.Start.Mode.{Data, Plain, RawText}
 use Rattle.html5grammar.specs.Start.RawPlace.{AfterLessThan, InEndName, AfterMark, AfterMarkAndDash, InSwitch}
 use Rattle.html5grammar.specs.Start.Place.{InName, BeforeAttribute, InAttributeName, AfterAttributeName, BeforeValue, InValue, AfterQuotedValue, AfterSolidus}
-use Rattle.html5grammar.specs.Start.Open.{Between, LessThan, LessThanSolidus, InTag, InRaw, InReference, NotBuilt}
-use Rattle.html5grammar.proofs.Machine.{step_at, brought_at, reference_step, closing_step, tag_name_step, part_step, attribute_name_step, after_attribute_name_step, quoted_step, unquoted_step, before_value_step, tag_step, data_step, less_than_step, solidus_step, raw_step, tag_name_end_step, end_name_step, switch_step, mark_step, mark_and_dash_step, raw_solidus_step, raw_less_than_step, raw_place_step}
+use Rattle.html5grammar.specs.Start.DoctypePlace.{AfterWord, BeforeName, InDoctypeName, AfterName, AfterKeyword, BeforeIdentifier, InIdentifier, AfterIdentifier, BetweenIdentifiers, Skipped}
+use Rattle.html5grammar.specs.Start.Open.{Between, LessThan, LessThanSolidus, InTag, InRaw, InDeclaration, InComment, InBogusComment, InDoctype, InDoctypeKeyword, InReference, NotBuilt}
+use Rattle.html5grammar.proofs.Machine.{step_at, brought_at, reference_step, closing_step, tag_name_step, part_step, attribute_name_step, after_attribute_name_step, quoted_step, unquoted_step, before_value_step, tag_step, data_step, less_than_step, solidus_step, bogus_comment_step, comment_step, skipped_step, wanted_name_step, doctype_name_step, keyword_or_end_step, wanted_identifier_step, system_or_end_step, identifier_step, behind_identifier_step, space_step, doctype_step, declaration_step, doctype_keyword_step, raw_step, tag_name_end_step, end_name_step, switch_step, mark_step, mark_and_dash_step, raw_solidus_step, raw_less_than_step, raw_place_step}
 
 abbrev pub going : {F G : Type 0} → (F → G) → Here F → Here G
 going f (Tells told goes_on) = Tells told (f goes_on)
@@ -84,7 +91,7 @@ with_last_name-nil tag = rw (append-nil tag.last_name) refl
 pub with_value-nil : (tag : OpenTag) → with_value tag [] ≡ tag
 with_value-nil tag = rw (append-nil tag.last_value) refl
 
-bytes-cons : (bytes : ℕ → List ℕ) (front : List ℕ) (c : ℕ) (run : List ℕ)
+pub bytes-cons : (bytes : ℕ → List ℕ) (front : List ℕ) (c : ℕ) (run : List ℕ)
     → front ++ flat_map bytes (c ∷ run) ≡ (front ++ flat_map bytes (c ∷ [])) ++ flat_map bytes run
 bytes-cons bytes front c run = rw (append-nil (bytes c)) (sym (append_assoc front (bytes c) (flat_map bytes run)))
 
@@ -96,6 +103,37 @@ with_last_name-cons tag c run = ap (λ name. record tag { last_name = name }) (b
 
 pub with_value-cons : (tag : OpenTag) (c : ℕ) (run : List ℕ) → with_value tag (c ∷ run) ≡ with_value (with_value tag (c ∷ [])) run
 with_value-cons tag c run = ap (λ value. record tag { last_value = value }) (bytes-cons value_bytes tag.last_value c run)
+
+-- a doctype with more of its name, or of an identifier
+
+with_more-nil : (begun : Option (List ℕ)) → with_more begun [] ≡ begun
+with_more-nil None = refl
+with_more-nil (Some before) = ap Some (append-nil before)
+
+with_more-cons : (bytes : ℕ → List ℕ) (begun : Option (List ℕ)) (c : ℕ) (run : List ℕ)
+    → with_more begun (flat_map bytes (c ∷ run)) ≡ with_more (with_more begun (flat_map bytes (c ∷ []))) (flat_map bytes run)
+with_more-cons bytes None c run = refl
+with_more-cons bytes (Some before) c run = ap Some (bytes-cons bytes before c run)
+
+pub with_doctype_name-nil : (d : DoctypeOf) → with_doctype_name d [] ≡ d
+with_doctype_name-nil d = ap (λ name. record d { name = name }) (with_more-nil d.name)
+
+pub with_doctype_name-cons : (d : DoctypeOf) (c : ℕ) (run : List ℕ) → with_doctype_name d (c ∷ run) ≡ with_doctype_name (with_doctype_name d (c ∷ [])) run
+with_doctype_name-cons d c run = ap (λ name. record d { name = name }) (with_more-cons name_bytes d.name c run)
+
+pub with_identifier-nil : (kind : DoctypeIdKind) (d : DoctypeOf) → with_identifier kind d [] ≡ d
+with_identifier-nil Public d = ap (λ id. record d { public_id = id }) (with_more-nil d.public_id)
+with_identifier-nil System d = ap (λ id. record d { system_id = id }) (with_more-nil d.system_id)
+
+pub with_identifier-cons : (kind : DoctypeIdKind) (d : DoctypeOf) (c : ℕ) (run : List ℕ)
+    → with_identifier kind d (c ∷ run) ≡ with_identifier kind (with_identifier kind d (c ∷ [])) run
+with_identifier-cons Public d c run = ap (λ id. record d { public_id = id }) (with_more-cons value_bytes d.public_id c run)
+with_identifier-cons System d c run = ap (λ id. record d { system_id = id }) (with_more-cons value_bytes d.system_id c run)
+
+-- a choice by what isn't so
+flipped : {X : Type 0} → (test : Bool) (p q : X) → (if test then p else q) ≡ (if not test then q else p)
+flipped true p q = refl
+flipped false p q = refl
 
 module _ (rules : Rules) (c : ℕ) (text : List ℕ) where
   abbrev rest : Open → Slice
@@ -250,18 +288,192 @@ module _ (rules : Rules) (c : ℕ) (text : List ℕ) where
       begins-if (c == less_than) _ _ _ _ refl
       (begins-if (c == ampersand) _ _ _ _ refl (begins-if (c == null) _ _ _ _ refl refl))
 
+  begins-bogus_comment : (before : List ℕ) (first : List Told) → begins (bogus_comment_from rules.exact before first c text) (bogus_comment_step rules.exact before first c)
+  unfolding bogus_comment_from bogus_comment_step rest_of
+  begins-bogus_comment before first = begins-if (c == greater_than) _ _ _ _ refl refl
+
+  follows-bogus_comment_from : (before : List ℕ) (first : List Told)
+      → follows (no_character (Leaves first (InBogusComment before))) (bogus_comment_step rules.exact before first c)
+  unfolding here slice_at brought next_slice
+  follows-bogus_comment_from before first = (begins-bogus_comment before first, refl)
+
+  follows-behind_bogus_comment : (before : List ℕ) → follows (behind_bogus_comment before (c ∷ text)) (Tells (Comment before ∷ []) (Between Data))
+  unfolding behind_bogus_comment here slice_at brought rest_of
+  follows-behind_bogus_comment before = (refl, refl)
+
+  bogus_comment_step-run : (before : List ℕ) → bogus_comment_step rules.exact before [] c
+      ≡ (if in_bogus_comment c then Tells (null_error rules.exact state.BogusComment c) (InBogusComment (before ++ flat_map value_bytes (c ∷ []))) else Tells (Comment before ∷ []) (Between Data))
+  unfolding bogus_comment_step in_bogus_comment
+  bogus_comment_step-run before = rw (append-nil (value_bytes c)) (elim (c == greater_than) as (λ b.
+      (if b then Tells (Comment before ∷ []) (Between Data) else Tells (null_error rules.exact state.BogusComment c) (InBogusComment (before ++ value_bytes c)))
+      ≡ (if not b then Tells (null_error rules.exact state.BogusComment c) (InBogusComment (before ++ value_bytes c)) else Tells (Comment before ∷ []) (Between Data))) [
+        | true ↦ refl
+        | false ↦ refl
+      ])
+
+  follows-bogus_comment : (before : List ℕ) → follows (bogus_comment rules.exact before (c ∷ text)) (bogus_comment_step rules.exact before [] c)
+  unfolding bogus_comment rest_of
+  follows-bogus_comment before =
+      rw (bogus_comment_step-run before)
+      (follows-run in_bogus_comment (null_error rules.exact state.BogusComment) (λ run later. behind_bogus_comment (before ++ flat_map value_bytes run) later) (InBogusComment (before ++ flat_map value_bytes (c ∷ []))) _
+      (rw (bytes-cons value_bytes before c (run_of in_bogus_comment text)) refl)
+      (rw (append-nil before) (follows-behind_bogus_comment before))
+      (in_bogus_comment c) refl)
+
+  follows-comment : (before : List ℕ) → follows (comment rules.exact before (c ∷ text)) (comment_step rules.exact before c)
+  unfolding comment comment_step here slice_at brought rest_of
+  follows-comment before = follows-if ((c == greater_than) && ends_comment before) _ _ _ _ (refl, refl) (refl, refl)
+
+  -- doctypes
+
+  follows-behind_skipped_rest : (d : DoctypeOf) → follows (behind_skipped_rest d (c ∷ text)) (Tells (Doctype d ∷ []) (Between Data))
+  unfolding behind_skipped_rest here slice_at brought rest_of
+  follows-behind_skipped_rest d = (refl, refl)
+
+  follows-skipped_rest : (d : DoctypeOf) → follows (skipped_rest rules.exact d (c ∷ text)) (skipped_step rules.exact [] d c)
+  unfolding skipped_rest skipped_step in_skipped_rest rest_of
+  follows-skipped_rest d =
+      rw (flipped (c == greater_than) (Tells (Doctype d ∷ []) (Between Data)) (Tells (null_error rules.exact state.BogusDoctype c) (InDoctype Skipped d)))
+      (follows-run in_skipped_rest (null_error rules.exact state.BogusDoctype) (λ run later. behind_skipped_rest d later) (InDoctype Skipped d) _
+      refl (follows-behind_skipped_rest d) (in_skipped_rest c) refl)
+
+  follows-skipped_from : (errors : List Told) (d : DoctypeOf) → follows (skipped_from rules.exact errors d c text) (skipped_step rules.exact errors d c)
+  unfolding skipped_from skipped_step here slice_at brought rest_of
+  follows-skipped_from errors d = follows-if (c == greater_than) _ _ _ _ (refl, refl) (refl, refl)
+
+  follows-behind_in_identifier : (quotes : Quotes) (kind : DoctypeIdKind) (d : DoctypeOf) → follows (behind_in_identifier rules.exact quotes kind d (c ∷ text))
+      (if c == greater_than then Tells (error_in rules.exact (identifier_state quotes kind) c ∷ Doctype (with_quirks d) ∷ []) (Between Data) else Tells [] (InDoctype (AfterIdentifier kind) d))
+  unfolding behind_in_identifier here slice_at brought rest_of
+  follows-behind_in_identifier quotes kind d = follows-if (c == greater_than) _ _ _ _ (refl, refl) (refl, refl)
+
+  follows-identifier : (quotes : Quotes) (kind : DoctypeIdKind) (d : DoctypeOf) → follows (identifier rules.exact quotes kind d (c ∷ text)) (identifier_step rules.exact quotes kind d c)
+  unfolding identifier identifier_step rest_of
+  follows-identifier quotes kind d =
+      follows-run (in_identifier quotes) (null_error rules.exact (identifier_state quotes kind)) (λ run later. behind_in_identifier rules.exact quotes kind (with_identifier kind d run) later) (InDoctype (InIdentifier quotes kind) (with_identifier kind d (c ∷ []))) _
+      (rw (with_identifier-cons kind d c (run_of (in_identifier quotes) text)) refl)
+      (rw (with_identifier-nil kind d) (follows-behind_in_identifier quotes kind d))
+      (in_identifier quotes c) refl
+
+  follows-wanted_identifier : (is_direct : Bool) (named : State) (kind : DoctypeIdKind) (d : DoctypeOf)
+      → follows (wanted_identifier rules.exact is_direct named kind d c text) (wanted_identifier_step rules.exact is_direct named kind d c)
+  unfolding wanted_identifier wanted_identifier_step here slice_at brought rest_of
+  follows-wanted_identifier is_direct named kind d =
+      follows-if (c == quotation_mark) _ _ _ _ (refl, refl) (follows-if (c == apostrophe) _ _ _ _ (refl, refl) (follows-skipped_from _ (with_quirks d)))
+
+  follows-system_or_end : (is_direct : Bool) (named : State) (d : DoctypeOf)
+      → follows (system_or_end rules.exact is_direct named d c text) (system_or_end_step rules.exact is_direct named d c)
+  unfolding system_or_end system_or_end_step here slice_at brought rest_of
+  follows-system_or_end is_direct named d = follows-if (c == greater_than) _ _ _ _ (refl, refl) (follows-wanted_identifier is_direct named System d)
+
+  -- white space, and what follows it
+  follows-space : (place : DoctypePlace) (behind : List ℕ → Slice) (d : DoctypeOf) (next : Here Open)
+      → (rest_of rules (InDoctype place d) text ≡ with_run silent (run_of is_white_space text) (behind (behind_run is_white_space text)))
+      → follows (behind (c ∷ text)) next
+      → follows (with_run silent (run_of is_white_space (c ∷ text)) (behind (behind_run is_white_space (c ∷ text)))) (space_step place d c next)
+  unfolding space_step
+  follows-space place behind d next inside stops =
+      follows-run is_white_space silent (λ run later. behind later) (InDoctype place d) next inside stops (is_white_space c) refl
+
+  follows-between_identifiers : (d : DoctypeOf) → follows (between_identifiers rules.exact d (c ∷ text))
+      (space_step BetweenIdentifiers d c (system_or_end_step rules.exact false state.BetweenDoctypePublicAndSystemIdentifiers d c))
+  unfolding between_identifiers behind_space_between rest_of
+  follows-between_identifiers d =
+      follows-space BetweenIdentifiers (behind_space_between rules.exact d) d _ refl (follows-system_or_end false state.BetweenDoctypePublicAndSystemIdentifiers d)
+
+  -- the same of a slice that c begins
+  begins-skipped_from : (errors : List Told) (d : DoctypeOf) → begins (skipped_from rules.exact errors d c text) (skipped_step rules.exact errors d c)
+  unfolding skipped_from skipped_step rest_of
+  begins-skipped_from errors d = begins-if (c == greater_than) _ _ _ _ refl refl
+
+  begins-wanted_identifier : (is_direct : Bool) (named : State) (kind : DoctypeIdKind) (d : DoctypeOf)
+      → begins (wanted_identifier rules.exact is_direct named kind d c text) (wanted_identifier_step rules.exact is_direct named kind d c)
+  unfolding wanted_identifier wanted_identifier_step rest_of
+  begins-wanted_identifier is_direct named kind d =
+      begins-if (c == quotation_mark) _ _ _ _ refl (begins-if (c == apostrophe) _ _ _ _ refl (begins-skipped_from _ (with_quirks d)))
+
+  begins-system_or_end : (is_direct : Bool) (named : State) (d : DoctypeOf)
+      → begins (system_or_end rules.exact is_direct named d c text) (system_or_end_step rules.exact is_direct named d c)
+  unfolding system_or_end system_or_end_step rest_of
+  begins-system_or_end is_direct named d = begins-if (c == greater_than) _ _ _ _ refl (begins-wanted_identifier is_direct named System d)
+
+  begins-behind_identifier : (kind : DoctypeIdKind) (d : DoctypeOf) → begins (behind_identifier rules.exact kind d c text) (behind_identifier_step rules.exact kind d c)
+  unfolding behind_identifier behind_identifier_step rest_of
+  begins-behind_identifier Public d = begins-if (is_white_space c) _ _ _ _ refl (begins-system_or_end true (state.AfterDoctypeIdentifier Public) d)
+  begins-behind_identifier System d =
+      begins-if (is_white_space c) _ _ _ _ refl (begins-if (c == greater_than) _ _ _ _ refl (begins-skipped_from _ d))
+
+  follows-identifier_behind_space : (kind : DoctypeIdKind) (d : DoctypeOf) → follows (identifier_behind_space rules.exact kind d (c ∷ text))
+      (space_step (BeforeIdentifier kind) d c (wanted_identifier_step rules.exact false (state.BeforeDoctypeIdentifier kind) kind d c))
+  unfolding identifier_behind_space behind_keyword_and_space rest_of
+  follows-identifier_behind_space kind d =
+      follows-space (BeforeIdentifier kind) (behind_keyword_and_space rules.exact kind d) d _ refl (follows-wanted_identifier false (state.BeforeDoctypeIdentifier kind) kind d)
+
+  follows-behind_keyword : (kind : DoctypeIdKind) (d : DoctypeOf) → follows (behind_keyword rules.exact kind d (c ∷ text))
+      (space_step (BeforeIdentifier kind) d c (wanted_identifier_step rules.exact true (state.AfterDoctypeKeyword kind) kind d c))
+  unfolding behind_keyword space_step here slice_at brought rest_of
+  follows-behind_keyword kind d = follows-if (is_white_space c) _ _ _ _ (refl, refl) (follows-wanted_identifier true (state.AfterDoctypeKeyword kind) kind d)
+
+  follows-keyword_or_end : (d : DoctypeOf) → follows (keyword_or_end rules.exact d (c ∷ text)) (keyword_or_end_step rules.exact d c)
+  unfolding keyword_or_end keyword_or_end_step here slice_at brought rest_of
+  follows-keyword_or_end d =
+      follows-if (c == greater_than) _ _ _ _ (refl, refl)
+      (follows-if (begins_doctype_keyword (c ∷ [])) _ _ _ _ (refl, refl) (follows-skipped_from _ (with_quirks d)))
+
+  follows-behind_doctype_name_and_space : (d : DoctypeOf) → follows (behind_doctype_name_and_space rules.exact d (c ∷ text)) (space_step AfterName d c (keyword_or_end_step rules.exact d c))
+  unfolding behind_doctype_name_and_space rest_of
+  follows-behind_doctype_name_and_space d = follows-space AfterName (keyword_or_end rules.exact d) d _ refl (follows-keyword_or_end d)
+
+  follows-behind_doctype_name : (d : DoctypeOf) → follows (behind_doctype_name rules.exact d (c ∷ text))
+      (if c == greater_than then Tells (Doctype d ∷ []) (Between Data) else Tells [] (InDoctype AfterName d))
+  unfolding behind_doctype_name here slice_at brought rest_of
+  follows-behind_doctype_name d = follows-if (c == greater_than) _ _ _ _ (refl, refl) (refl, refl)
+
+  follows-doctype_name : (d : DoctypeOf) → follows (doctype_name rules.exact d (c ∷ text)) (doctype_name_step rules.exact d c)
+  unfolding doctype_name doctype_name_step rest_of
+  follows-doctype_name d =
+      follows-run in_doctype_name (null_error rules.exact state.DoctypeName) (λ run later. behind_doctype_name rules.exact (with_doctype_name d run) later) (InDoctype InDoctypeName (with_doctype_name d (c ∷ []))) _
+      (rw (with_doctype_name-cons d c (run_of in_doctype_name text)) refl)
+      (rw (with_doctype_name-nil d) (follows-behind_doctype_name d))
+      (in_doctype_name c) refl
+
+  follows-wanted_name : (errors : List Told) (d : DoctypeOf) → follows (wanted_name rules.exact errors d c text) (wanted_name_step rules.exact errors d c)
+  unfolding wanted_name wanted_name_step here slice_at brought rest_of
+  follows-wanted_name errors d = follows-if (c == greater_than) _ _ _ _ (refl, refl) (refl, refl)
+
+  follows-before_doctype_name : (d : DoctypeOf) → follows (before_doctype_name rules.exact d (c ∷ text)) (space_step BeforeName d c (wanted_name_step rules.exact [] d c))
+  unfolding before_doctype_name behind_word_and_space rest_of
+  follows-before_doctype_name d = follows-space BeforeName (behind_word_and_space rules.exact d) d _ refl (follows-wanted_name [] d)
+
+  follows-doctype_word : (d : DoctypeOf) → follows (doctype rules.exact d (c ∷ text)) (space_step BeforeName d c (wanted_name_step rules.exact (word_error rules.exact c) d c))
+  unfolding doctype space_step here slice_at brought rest_of
+  follows-doctype_word d = follows-if (is_white_space c) _ _ _ _ (refl, refl) (follows-wanted_name (word_error rules.exact c) d)
+
+  follows-doctype : (place : DoctypePlace) (d : DoctypeOf) → follows (rest_of rules (InDoctype place d) (c ∷ text)) (step_at rules.exact (InDoctype place d) c)
+  unfolding rest_of step_at doctype_step here slice_at brought next_slice
+  follows-doctype AfterWord d = follows-doctype_word d
+  follows-doctype BeforeName d = follows-before_doctype_name d
+  follows-doctype InDoctypeName d = follows-doctype_name d
+  follows-doctype AfterName d = follows-behind_doctype_name_and_space d
+  follows-doctype (AfterKeyword kind) d = follows-behind_keyword kind d
+  follows-doctype (BeforeIdentifier kind) d = follows-identifier_behind_space kind d
+  follows-doctype (InIdentifier quotes kind) d = follows-identifier quotes kind d
+  follows-doctype (AfterIdentifier kind) d = (begins-behind_identifier kind d, refl)
+  follows-doctype BetweenIdentifiers d = follows-between_identifiers d
+  follows-doctype Skipped d = follows-skipped_rest d
+
   follows-behind_solidus : follows (behind_solidus rules.exact (c ∷ text)) (solidus_step rules.exact c)
   unfolding behind_solidus solidus_step here slice_at brought rest_of
   follows-behind_solidus =
-      follows-if (is_letter c) _ _ _ _ (follows-tag_name (begun EndTag)) (follows-if (c == greater_than) _ _ _ _ (refl, refl) (refl, refl))
+      follows-if (is_letter c) _ _ _ _ (follows-tag_name (begun EndTag)) (follows-if (c == greater_than) _ _ _ _ (refl, refl) (follows-bogus_comment_from [] (error_in rules.exact state.EndTagOpen c ∷ [])))
 
   follows-behind_less_than : follows (behind_less_than rules.exact (c ∷ text)) (less_than_step rules.exact c)
   unfolding behind_less_than less_than_step here slice_at brought rest_of next_slice
   follows-behind_less_than =
       follows-if (is_letter c) _ _ _ _ (follows-tag_name (begun StartTag))
       (follows-if (c == solidus) _ _ _ _ (refl, refl)
-      (follows-if ((c == exclamation_mark) || (c == question_mark)) _ _ _ _ (refl, refl)
-      (begins-data_text (error_in rules.exact state.TagOpen c ∷ Text (codes "<") ∷ []), refl)))
+      (follows-if (c == exclamation_mark) _ _ _ _ (refl, refl)
+      (follows-if (c == question_mark) _ _ _ _ (follows-bogus_comment_from [] (error_in rules.exact state.TagOpen c ∷ []))
+      (begins-data_text (error_in rules.exact state.TagOpen c ∷ Text (codes "<") ∷ []), refl))))
 
   -- raw text
 
@@ -401,6 +613,24 @@ module _ (rules : Rules) (c : ℕ) (text : List ℕ) where
   brings-reference stand held false h =
       ap (λ (s : Slice). brought rules s c text) (with_while-none (is_undecided rules.names) (behind_held rules stand) held c text h) ∙ rw h (brings-behind_held stand held)
 
+  -- behind `<!`
+
+  brings-declaration : (held : List ℕ) → brings (declaration rules.exact held (c ∷ text)) (declaration_step rules.exact held c)
+  unfolding declaration declaration_step here slice_at brought rest_of
+  brings-declaration held =
+      brings-if (bytes_eq (held ++ c ∷ []) (codes "--")) _ _ _ _ refl
+      (brings-if (bytes_eq (lower_case (held ++ c ∷ [])) (codes "doctype")) _ _ _ _ refl
+      (brings-if (begins_keyword (held ++ c ∷ [])) _ _ _ _ refl
+      (ap (λ h. record { settled = declaration_error rules.exact held; here = h }) (follows-bogus_comment held).0)))
+
+  brings-doctype_keyword : (held : List ℕ) (d : DoctypeOf) → brings (doctype_keyword rules.exact held d (c ∷ text)) (doctype_keyword_step rules.exact held d c)
+  unfolding doctype_keyword doctype_keyword_step here slice_at brought rest_of
+  brings-doctype_keyword held d =
+      brings-if (is_keyword Public (held ++ c ∷ [])) _ _ _ _ refl
+      (brings-if (is_keyword System (held ++ c ∷ [])) _ _ _ _ refl
+      (brings-if (begins_doctype_keyword (held ++ c ∷ [])) _ _ _ _ refl
+      (ap (λ h. record { settled = keyword_error rules.exact held; here = h }) (follows-skipped_rest (with_quirks d)).0)))
+
   pub rest_of-brought_at : (opened : Open) → brings (rest_of rules opened (c ∷ text)) (brought_at rules opened c)
   unfolding rest_of brought_at step_at here slice_at brought next_slice
   rest_of-brought_at (Between mode) = brings-from (rest_of rules (Between mode) (c ∷ text)) _ (follows-between mode)
@@ -408,5 +638,10 @@ module _ (rules : Rules) (c : ℕ) (text : List ℕ) where
   rest_of-brought_at LessThanSolidus = brings-from (rest_of rules LessThanSolidus (c ∷ text)) _ follows-behind_solidus
   rest_of-brought_at (InTag place tag) = brings-from (rest_of rules (InTag place tag) (c ∷ text)) _ (follows-tag place tag)
   rest_of-brought_at (InRaw place name) = brings-from (rest_of rules (InRaw place name) (c ∷ text)) _ (follows-raw_place place name)
+  rest_of-brought_at (InDeclaration held) = brings-declaration held
+  rest_of-brought_at (InComment before) = brings-from (rest_of rules (InComment before) (c ∷ text)) _ (follows-comment before)
+  rest_of-brought_at (InBogusComment before) = brings-from (rest_of rules (InBogusComment before) (c ∷ text)) _ (follows-bogus_comment before)
+  rest_of-brought_at (InDoctype place d) = brings-from (rest_of rules (InDoctype place d) (c ∷ text)) _ (follows-doctype place d)
+  rest_of-brought_at (InDoctypeKeyword held d) = brings-doctype_keyword held d
   rest_of-brought_at (InReference stand held) = brings-reference stand held (is_undecided rules.names (held ++ c ∷ [])) refl
   rest_of-brought_at NotBuilt = refl

@@ -17,15 +17,18 @@ use Rattle.html5grammar.specs.NormalisedText.{line_after}
 use Rattle.html5grammar.proofs.InputLemmas.{line_past, line_after-past}
 use Rattle.html5grammar.specs.Reading.Here.{Tells, TellsTag, Stops}
 use Rattle.html5grammar.specs.Slice.{Late, cut_off, run_of, behind_run, run_while, behind_while, tokens_of_late}
-use Rattle.html5grammar.specs.Start.{Start, Open, Rules, is_reference}
+use Rattle.html5grammar.specs.Start.{Start, Open, Rules, is_undecided_open}
 use Rattle.html5grammar.specs.Start.Place.{InName, BeforeAttribute, InAttributeName, AfterAttributeName, BeforeValue, InValue, AfterQuotedValue, AfterSolidus}
-use Rattle.html5grammar.specs.Start.Open.{Between, LessThan, LessThanSolidus, InTag, InRaw, InReference, NotBuilt}
+use Rattle.html5grammar.specs.Start.DoctypePlace.{AfterWord, BeforeName, InDoctypeName, AfterName, AfterKeyword, BeforeIdentifier, InIdentifier, AfterIdentifier, BetweenIdentifiers, Skipped}
+use Rattle.html5grammar.specs.Start.Open.{Between, LessThan, LessThanSolidus, InTag, InRaw, InDeclaration, InComment, InBogusComment, InDoctype, InDoctypeKeyword, InReference, NotBuilt}
 use Rattle.html5grammar.specs.Tag.{tag_name, behind_tag_name, attribute_behind_first, behind_attribute_name, behind_name_and_space, value_or_next, value_behind_space, value, quoted_value, behind_quoted, unquoted_value, behind_unquoted}
+use Rattle.html5grammar.specs.Comment.{declaration, comment, bogus_comment, behind_bogus_comment}
+use Rattle.html5grammar.specs.Doctype.{doctype, before_doctype_name, behind_word_and_space, doctype_name, behind_doctype_name, behind_doctype_name_and_space, keyword_or_end, doctype_keyword, behind_keyword, identifier_behind_space, behind_keyword_and_space, identifier, behind_in_identifier, between_identifiers, behind_space_between, skipped_rest, behind_skipped_rest}
 use Rattle.html5grammar.specs.RawText.{behind_raw_less_than, end_name, behind_end_name, behind_mark, behind_mark_and_dash, switch, behind_switch}
 use Rattle.html5grammar.specs.Start.RawPlace.{AfterLessThan, InEndName, AfterMark, AfterMarkAndDash, InSwitch}
 use Rattle.html5grammar.specs.Text.{behind_less_than, behind_solidus}
 use Rattle.html5grammar.proofs.Machine.{step_at, brought_at}
-use Rattle.html5grammar.proofs.Slices.{going, rest_of-brought_at, with_name-nil, with_last_name-nil, with_value-nil}
+use Rattle.html5grammar.proofs.Slices.{going, rest_of-brought_at, with_name-nil, with_last_name-nil, with_value-nil, with_doctype_name-nil, with_identifier-nil}
 
 -- the messages of a text, and what is open behind it, with the name of the last start tag
 pub record Trace : Type 0 where
@@ -60,9 +63,9 @@ module _ {S H : Type 0} (step : S → Told → ℕ → S) (reply : S → Told �
   trace s line last opened (c ∷ text) =
       trace_brought (λ t name later. trace t (line_past line c) name later text) s line last c (brought_at rules opened c)
 
--- a character decides nothing that stands before it where no reference is open
+-- a character decides nothing that stands before it where nothing is undecided
 
-pub brought-step : (rules : Rules) (opened : Open) (c : ℕ) → is_reference opened ≡ false
+pub brought-step : (rules : Rules) (opened : Open) (c : ℕ) → is_undecided_open opened ≡ false
     → brought_at rules opened c ≡ record { settled = []; here = step_at rules.exact opened c }
 unfolding brought_at step_at
 brought-step rules (Between mode) c h = refl
@@ -70,6 +73,11 @@ brought-step rules LessThan c h = refl
 brought-step rules LessThanSolidus c h = refl
 brought-step rules (InTag place tag) c h = refl
 brought-step rules (InRaw place name) c h = refl
+brought-step rules (InDeclaration held) c h = absurd (false≢true (sym h))
+brought-step rules (InComment before) c h = refl
+brought-step rules (InBogusComment before) c h = refl
+brought-step rules (InDoctype place d) c h = refl
+brought-step rules (InDoctypeKeyword held d) c h = absurd (false≢true (sym h))
 brought-step rules (InReference stand held) c h = absurd (false≢true (sym h))
 brought-step rules NotBuilt c h = refl
 
@@ -87,13 +95,18 @@ brought-tells rules LessThan c h goes e = brought-step rules LessThan c refl ∙
 brought-tells rules LessThanSolidus c h goes e = brought-step rules LessThanSolidus c refl ∙ rw e refl
 brought-tells rules (InTag place tag) c h goes e = brought-step rules (InTag place tag) c refl ∙ rw e refl
 brought-tells rules (InRaw place name) c h goes e = brought-step rules (InRaw place name) c refl ∙ rw e refl
+brought-tells rules (InDeclaration held) c h goes e = absurd (false≢true (sym goes ∙ sym (ap is_stop e)))
+brought-tells rules (InComment before) c h goes e = brought-step rules (InComment before) c refl ∙ rw e refl
+brought-tells rules (InBogusComment before) c h goes e = brought-step rules (InBogusComment before) c refl ∙ rw e refl
+brought-tells rules (InDoctype place d) c h goes e = brought-step rules (InDoctype place d) c refl ∙ rw e refl
+brought-tells rules (InDoctypeKeyword held d) c h goes e = absurd (false≢true (sym goes ∙ sym (ap is_stop e)))
 brought-tells rules (InReference stand held) c h goes e = absurd (false≢true (sym goes ∙ sym (ap is_stop e)))
 brought-tells rules NotBuilt c h goes e = brought-step rules NotBuilt c refl ∙ rw e refl
 
 -- what is open where a slice has no more
 
 rest_of-nil : (rules : Rules) (opened : Open) → open_behind (rest_of rules opened []).behind ≡ opened
-unfolding rest_of tag_name behind_tag_name attribute_behind_first behind_attribute_name behind_name_and_space value_or_next value_behind_space value quoted_value behind_quoted unquoted_value behind_unquoted behind_less_than behind_solidus behind_raw_less_than end_name behind_end_name behind_mark behind_mark_and_dash switch behind_switch reference_text behind_held run_while behind_while run_of behind_run
+unfolding rest_of tag_name behind_tag_name attribute_behind_first behind_attribute_name behind_name_and_space value_or_next value_behind_space value quoted_value behind_quoted unquoted_value behind_unquoted behind_less_than behind_solidus behind_raw_less_than end_name behind_end_name behind_mark behind_mark_and_dash switch behind_switch declaration comment bogus_comment behind_bogus_comment doctype before_doctype_name behind_word_and_space doctype_name behind_doctype_name behind_doctype_name_and_space keyword_or_end doctype_keyword behind_keyword identifier_behind_space behind_keyword_and_space identifier behind_in_identifier between_identifiers behind_space_between skipped_rest behind_skipped_rest reference_text behind_held run_while behind_while run_of behind_run
 rest_of-nil rules (Between mode) = refl
 rest_of-nil rules LessThan = refl
 rest_of-nil rules LessThanSolidus = refl
@@ -112,6 +125,20 @@ rest_of-nil rules (InRaw (InEndName kind letters) name) = ap (λ l. InRaw (InEnd
 rest_of-nil rules (InRaw AfterMark name) = refl
 rest_of-nil rules (InRaw AfterMarkAndDash name) = refl
 rest_of-nil rules (InRaw (InSwitch kind letters) name) = ap (λ l. InRaw (InSwitch kind l) name) (append-nil letters)
+rest_of-nil rules (InDeclaration held) = refl
+rest_of-nil rules (InComment before) = refl
+rest_of-nil rules (InBogusComment before) = ap InBogusComment (append-nil before)
+rest_of-nil rules (InDoctype AfterWord d) = refl
+rest_of-nil rules (InDoctype BeforeName d) = refl
+rest_of-nil rules (InDoctype InDoctypeName d) = ap (InDoctype InDoctypeName) (with_doctype_name-nil d)
+rest_of-nil rules (InDoctype AfterName d) = refl
+rest_of-nil rules (InDoctype (AfterKeyword kind) d) = refl
+rest_of-nil rules (InDoctype (BeforeIdentifier kind) d) = refl
+rest_of-nil rules (InDoctype (InIdentifier quotes kind) d) = ap (InDoctype (InIdentifier quotes kind)) (with_identifier-nil kind d)
+rest_of-nil rules (InDoctype (AfterIdentifier kind) d) = refl
+rest_of-nil rules (InDoctype BetweenIdentifiers d) = refl
+rest_of-nil rules (InDoctype Skipped d) = refl
+rest_of-nil rules (InDoctypeKeyword held d) = refl
 rest_of-nil rules (InReference stand held) = ap (InReference stand) (append-nil held)
 rest_of-nil rules NotBuilt = refl
 

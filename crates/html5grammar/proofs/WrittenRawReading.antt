@@ -9,7 +9,6 @@ use Rattle.std.proofs.lemmas.Str.{length-le-encodes}
 use Rattle.markup5ever.proofs.NameOrder.{bytes_eq-same}
 use Rattle.std.proofs.lemmas.Bool.{false≢true, and_parts, not-true, ne_eqb}
 use Rattle.std.proofs.lemmas.List.{append_assoc, append-nil}
-use Rattle.html5ever_interface.proofs.Steppings.{stepped-append}
 use Rattle.html5ever_interface.specs.Sink.{Message, stepped, on_line}
 use Rattle.html5ever_interface.specs.Token.{Told, Reply}
 use Rattle.html5ever_interface.specs.Token.Told.{Tag, End}
@@ -31,7 +30,7 @@ use Rattle.html5grammar.specs.RawText.{texts, lower, ends_name, kind_of, ends_ra
 use Rattle.html5grammar.specs.Reading.{reading, told, messages, after, last_behind}
 use Rattle.html5grammar.specs.Reading.Here.{Tells}
 use Rattle.html5grammar.specs.Slice.{silent}
-use Rattle.html5grammar.specs.Start.{Input, Raw, OpenTag, Open, Start, Rules, is_reference, begun}
+use Rattle.html5grammar.specs.Start.{Input, Raw, OpenTag, Open, Start, Rules, is_undecided_open, begun}
 use Rattle.html5grammar.specs.Start.Mode.{Data, RawText}
 use Rattle.html5grammar.specs.Start.Place.{InName}
 use Rattle.html5grammar.specs.Start.Open.{Between, InTag, InRaw, NotBuilt}
@@ -39,13 +38,13 @@ use Rattle.html5grammar.specs.Start.RawPlace.{AfterLessThan, InEndName, AfterMar
 use Rattle.html5grammar.specs.Tag.{with_name, null_error, in_tag_name}
 use Rattle.html5grammar.specs.WrittenRaw.{RawItem, WrittenRaw, raw_behind_item, raw_behind_items, switch_text, item_text, items_text, written, next_is, is_double_escaped, can_stand, can_follow, is_raw, carried, carried_to, spell_text, spell_item, spell_items, carried_behind, spell_raw, raw_at_end, told_at_end, raw_messages, IsRawText}
 use Rattle.html5grammar.specs.WrittenRaw.RawItem.{Character, LessThan, Letters, Mark, Switch}
-use Rattle.html5grammar.proofs.InputLemmas.{line_after-past}
+use Rattle.html5grammar.proofs.Leading.{trace-goes}
 use Rattle.html5grammar.proofs.Machine.{step_at, raw_place_step, end_name_step, tag_name_end_step, tag_step, tag_name_step}
 use Rattle.html5grammar.proofs.OneTagParts.{Holds-none, Led, goes-parts, can_end-parts}
 use Rattle.html5grammar.proofs.OneTagReading.{characters, characters-append, characters-spell, characters-two, characters-parts, body, characters-body, ends-tag, trace-tag}
 use Rattle.html5grammar.proofs.OneTagSteps.{Goes, Goes-append}
 use Rattle.html5grammar.proofs.ReadingLemmas.{told-trace, after-opened, reading-events, messages-at_end}
-use Rattle.html5grammar.proofs.Traces.{brought-step, brought-tells, trace_brought, Trace, trace, trace_here, with_messages, messages-append}
+use Rattle.html5grammar.proofs.Traces.{brought-step, Trace, trace, with_messages, messages-append}
 use Rattle.html5grammar.proofs.WrittenRawSteps.{Standing, opened_at, raw_at, carried_at, fits, end_from, letter-no_null, end-no_letter, reads_less_than, goes-end_letters, ReadsItem, reads_item}
 use Rattle.html5grammar.proofs.WrittenRawSteps.Standing.{Free, Within}
 
@@ -279,33 +278,8 @@ spelled_messages-append exact input before (here ∷ more) ys =
     ∙ sym (append_assoc M (spelled_messages exact input past more) (spelled_messages exact input (before ++ here.character ∷ characters more) ys))
 
 module _ {S H : Type 0} (step : S → Told → ℕ → S) (reply : S → Told → ℕ → Reply H) (rules : Rules) where
-  with-two : (s : S) (M N : List Message) (line : ℕ) (last : List ℕ) (opened : Open) (text : List ℕ)
-      → with_messages M (with_messages N (trace step reply rules (stepped step (stepped step s M) N) line last opened text))
-      ≡ with_messages (M ++ N) (trace step reply rules (stepped step s (M ++ N)) line last opened text)
-  with-two s M N line last opened text =
-      let rest : Trace = trace step reply rules (stepped step (stepped step s M) N) line last opened text in
-      rw (stepped-append step s M N)
-      (ap (λ l. record { messages = l; opened = rest.opened; last_start_tag = rest.last_start_tag }) (sym (append_assoc M N rest.messages)))
-
-  -- what is spelled is told, and the machine goes on behind it
-  trace-goes : (input : Input) (before : List ℕ) (s : S) (last : List ℕ) (opened behind : Open) (cells : List Spelled) (text : List ℕ)
-      → Goes rules.exact opened cells behind
-      → trace step reply rules s (line_after input before) last opened (characters cells ++ text)
-      ≡ with_messages (spelled_messages rules.exact input before cells)
-      (trace step reply rules (stepped step s (spelled_messages rules.exact input before cells)) (line_after input (before ++ characters cells)) last behind text)
-  unfolding Goes trace trace_brought trace_here spelled_messages stepped
-  trace-goes input before s last opened behind [] text goes = rw (goes, append-nil before) refl
-  trace-goes input before s last opened behind (here ∷ more) text goes =
-      let past : List ℕ = before ++ here.character ∷ [] in
-      let M : List Message = on_line (line_after input past) (bad_character_error rules.exact here.character ++ here.told) in
-      let N : List Message = spelled_messages rules.exact input past more in
-      rw (brought-tells rules opened here.character _ refl goes.1, ← line_after-past input before here.character)
-      (ap (with_messages M) (trace-goes input past (stepped step s M) last goes.0 behind more text goes.2)
-      ∙ with-two s M N (line_after input (past ++ characters more)) last behind text
-      ∙ ap (λ b. with_messages (M ++ N) (trace step reply rules (stepped step s (M ++ N)) (line_after input b) last behind text)) (append_assoc before (here.character ∷ []) (characters more)))
-
   -- where two places do the same at the next character, they tell the same
-  trace-same : (s : S) (line : ℕ) (last : List ℕ) (a b : Open) (is_kind : ℕ → Bool) (text : List ℕ) → is_reference a ≡ false → is_reference b ≡ false
+  trace-same : (s : S) (line : ℕ) (last : List ℕ) (a b : Open) (is_kind : ℕ → Bool) (text : List ℕ) → is_undecided_open a ≡ false → is_undecided_open b ≡ false
       → next_is is_kind text ≡ true → ((c : ℕ) → is_kind c ≡ true → step_at rules.exact a c ≡ step_at rules.exact b c)
       → trace step reply rules s line last a text ≡ trace step reply rules s line last b text
   unfolding trace
@@ -336,7 +310,7 @@ module _ {S H : Type 0} (step : S → Told → ℕ → S) (reply : S → Told �
         last = K.last_start_tag;
         trace_is =
             rw (one.starts, one.text, ← characters-items rules.exact raw [] items [], append-nil cells)
-            (trace-goes K.input [] s K.last_start_tag (Between (RawText raw name)) (opened_at name r.behind) cells [] r.goes
+            (trace-goes step reply rules K.input [] s K.last_start_tag (Between (RawText raw name)) (opened_at name r.behind) cells [] r.goes
             ∙ ap (λ l. record { messages = l; opened = opened_at name r.behind; last_start_tag = K.last_start_tag }) (append-nil (spelled_messages rules.exact K.input [] cells)));
         end_is =
             tokens-standing rules name r.behind
@@ -392,7 +366,7 @@ module _ {S H : Type 0} (step : S → Told → ℕ → S) (reply : S → Told �
         last = last_behind K.last_start_tag (tag_told tag);
         trace_is =
             rw (one.starts, text-end_tag K X raw name items first rest parts one, ← cells, spelled_messages-append rules.exact K.input [] before (tail ++ end_cell rules.exact tag ∷ []))
-            (trace-goes K.input [] s K.last_start_tag (Between (RawText raw name)) opened before (characters tail ++ greater_than ∷ []) r.goes
+            (trace-goes step reply rules K.input [] s K.last_start_tag (Between (RawText raw name)) opened before (characters tail ++ greater_than ∷ []) r.goes
             ∙ ap (with_messages M)
             (trace-same later line K.last_start_tag opened (InTag InName named) ends_name (characters tail ++ greater_than ∷ []) refl refl begins
             (λ c ends. step-end_name rules.exact name r.kind (first ∷ rest) c ends (name_ends name first rest c ended.name_is ends))

@@ -2,7 +2,6 @@
 use Rattle.std.proofs.Common.{◌≡◌, ℕ, Bool, true, false, List, [], ◌∷◌, ◌++◌, refl, ap, sym, ◌∙◌, subst}
 use Rattle.std.specs.Prelude.{◌==◌, ◌||◌, ◌&&◌, not, codes, length, nat_eq, if◌then◌else◌}
 use Rattle.std.specs.List.{list_all}
-use Rattle.std.specs.Str.{bytes_eq}
 use Rattle.std.proofs.Math.Bool.{and-false}
 use Rattle.std.proofs.lemmas.Bool.{eqb-true, false_from_ne_true, false≢true, and_parts, not-true}
 use Rattle.std.proofs.lemmas.List.{append_assoc, append-nil}
@@ -13,7 +12,7 @@ use Rattle.html5ever_interface.specs.declared.states.ScriptEscapeKind.{ScriptEsc
 use Rattle.html5ever_interface.specs.declared.states.ScriptEscapeKind.TheVariants as escape_kind
 use Rattle.html5grammar.specs.Characters.{null, exclamation_mark, ampersand, hyphen, solidus, less_than, greater_than, is_letter, is_white_space}
 use Rattle.html5grammar.specs.OneTag.{spell}
-use Rattle.html5grammar.specs.RawText.{texts, lower, ends_name, kind_of, is_rcdata, dashes_behind, raw_behind, raw_character, ends_raw_text, switched, told_at_less_than, told_behind_less_than, begins_mark, begins_switch}
+use Rattle.html5grammar.specs.RawText.{texts, ends_name, kind_of, is_rcdata, dashes_behind, raw_behind, raw_character, ends_raw_text, switched, told_at_less_than, told_behind_less_than, begins_mark, begins_switch}
 use Rattle.html5grammar.specs.Reading.Here.{Tells}
 use Rattle.html5grammar.specs.Slice.{behind_run}
 use Rattle.html5grammar.specs.Start.{Raw, RawPlace, Open, raw_of}

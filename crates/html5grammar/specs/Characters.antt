@@ -1,5 +1,5 @@
 -- The characters that have names, and the kinds of characters that the grammar speaks of.
-use Rattle.std.specs.Prelude.{ℕ, Bool, ◌==◌, ◌||◌, ◌&&◌, ◌%◌, nat_le, List, encode_utf8, if◌then◌else◌}
+use Rattle.std.specs.Prelude.{ℕ, Bool, ◌==◌, ◌||◌, ◌&&◌, ◌%◌, nat_le, List, map, encode_utf8, if◌then◌else◌}
 use Rattle.std.specs.Char.{to_ascii_lowercase}
 
 abbrev pub null : ℕ
@@ -102,3 +102,7 @@ value_bytes c = encode_utf8 (shown c)
 -- the bytes of a character of a name: a letter is shown in lower case
 unfoldable pub name_bytes : ℕ → List ℕ
 name_bytes c = encode_utf8 (to_ascii_lowercase (shown c))
+
+-- a text with its ASCII letters in lower case
+abbrev pub lower_case : List ℕ → List ℕ
+lower_case text = map to_ascii_lowercase text

@@ -9,7 +9,10 @@ use Rattle.html5grammar.specs.Start.{Open, Rules}
 use Rattle.html5grammar.specs.Start.Mode.{Data, Plain, RawText}
 use Rattle.html5grammar.specs.Start.RawPlace.{AfterLessThan, InEndName, AfterMark, AfterMarkAndDash, InSwitch}
 use Rattle.html5grammar.specs.Start.Place.{InName, BeforeAttribute, InAttributeName, AfterAttributeName, BeforeValue, InValue, AfterQuotedValue, AfterSolidus}
-use Rattle.html5grammar.specs.Start.Open.{Between, LessThan, LessThanSolidus, InTag, InRaw, InReference, NotBuilt}
+use Rattle.html5grammar.specs.Start.DoctypePlace.{AfterWord, BeforeName, InDoctypeName, AfterName, AfterKeyword, BeforeIdentifier, InIdentifier, AfterIdentifier, BetweenIdentifiers, Skipped}
+use Rattle.html5grammar.specs.Start.Open.{Between, LessThan, LessThanSolidus, InTag, InRaw, InDeclaration, InComment, InBogusComment, InDoctype, InDoctypeKeyword, InReference, NotBuilt}
+use Rattle.html5grammar.specs.Comment.{declaration, comment, bogus_comment, bogus_comment_from}
+use Rattle.html5grammar.specs.Doctype.{doctype, before_doctype_name, doctype_name, behind_doctype_name_and_space, doctype_keyword, behind_keyword, identifier_behind_space, identifier, behind_identifier, between_identifiers, skipped_rest}
 use Rattle.html5grammar.specs.RawText.{behind_raw_less_than, end_name, behind_mark, behind_mark_and_dash, switch, raw_text}
 use Rattle.html5grammar.specs.Tag.{part, tag_name, attribute_behind_first, behind_name_and_space, value_behind_space, quoted_value, unquoted_value}
 use Rattle.html5grammar.specs.Text.{plain_text, behind_solidus, behind_less_than, data_text}
@@ -33,6 +36,20 @@ rest_of rules (InRaw (InEndName kind letters) name) text = end_name kind name le
 rest_of rules (InRaw AfterMark name) text = behind_mark name text
 rest_of rules (InRaw AfterMarkAndDash name) text = behind_mark_and_dash name text
 rest_of rules (InRaw (InSwitch kind letters) name) text = switch kind name letters text
+rest_of rules (InDeclaration held) text = declaration rules.exact held text
+rest_of rules (InComment before) text = comment rules.exact before text
+rest_of rules (InBogusComment before) text = bogus_comment rules.exact before text
+rest_of rules (InDoctype AfterWord d) text = doctype rules.exact d text
+rest_of rules (InDoctype BeforeName d) text = before_doctype_name rules.exact d text
+rest_of rules (InDoctype InDoctypeName d) text = doctype_name rules.exact d text
+rest_of rules (InDoctype AfterName d) text = behind_doctype_name_and_space rules.exact d text
+rest_of rules (InDoctype (AfterKeyword kind) d) text = behind_keyword rules.exact kind d text
+rest_of rules (InDoctype (BeforeIdentifier kind) d) text = identifier_behind_space rules.exact kind d text
+rest_of rules (InDoctype (InIdentifier quotes kind) d) text = identifier rules.exact quotes kind d text
+rest_of rules (InDoctype (AfterIdentifier kind) d) text = cut_off (InDoctype (AfterIdentifier kind) d)
+rest_of rules (InDoctype BetweenIdentifiers d) text = between_identifiers rules.exact d text
+rest_of rules (InDoctype Skipped d) text = skipped_rest rules.exact d text
+rest_of rules (InDoctypeKeyword held d) text = doctype_keyword rules.exact held d text
 rest_of rules (Between mode) text = cut_off (Between mode)
 rest_of rules (InReference stand held) text = reference_text rules stand held text
 rest_of rules NotBuilt text = cut_off NotBuilt
@@ -46,6 +63,12 @@ next_slice rules (InTag place tag) before c text = part rules place tag c text
 next_slice rules LessThan before c text = no_character (StopsAt before)
 next_slice rules LessThanSolidus before c text = no_character (StopsAt before)
 next_slice rules (InRaw place name) before c text = no_character (StopsAt before)
+next_slice rules (InBogusComment told) before c text = bogus_comment_from rules.exact told before c text
+next_slice rules (InDeclaration held) before c text = no_character (StopsAt before)
+next_slice rules (InComment told) before c text = no_character (StopsAt before)
+next_slice rules (InDoctype (AfterIdentifier kind) d) before c text = behind_identifier rules.exact kind d c text
+next_slice rules (InDoctype place d) before c text = no_character (StopsAt before)
+next_slice rules (InDoctypeKeyword held d) before c text = no_character (StopsAt before)
 next_slice rules (InReference stand held) before c text = no_character (StopsAt before)
 next_slice rules NotBuilt before c text = no_character (StopsAt before)
 

@@ -1,22 +1,25 @@
 -- What the end of input tells, by what is open there.
 use Rattle.std.specs.Prelude.{Bool, List, [], ◌∷◌, ◌++◌, codes, None}
-use Rattle.html5ever_interface.specs.Token.{Told}
-use Rattle.html5ever_interface.specs.Token.Told.{Text, End}
+use Rattle.html5ever_interface.specs.Token.{Told, DoctypeOf}
+use Rattle.html5ever_interface.specs.Token.Told.{Text, Comment, Doctype, End}
 use Rattle.html5ever_interface.specs.declared.states.State.{State}
 use Rattle.html5ever_interface.specs.declared.states.AttrValueKind.TheVariants.{Unquoted}
 use Rattle.html5ever_interface.specs.declared.states.State.TheVariants as state
 use Rattle.html5grammar.specs.Characters.{solidus, less_than}
+use Rattle.html5grammar.specs.Comment.{comment_state, comment_content, declaration_error}
+use Rattle.html5grammar.specs.Doctype.{with_quirks, identifier_state, keyword_error}
 use Rattle.html5grammar.specs.ErrorText.{end_error_in}
 use Rattle.html5grammar.specs.Reference.{in_value, reference, late_tokens, opened_behind}
 use Rattle.html5grammar.specs.Slice.{Late, tokens_of_late}
 use Rattle.html5grammar.specs.RawText.{raw_state, texts, told_behind_less_than}
-use Rattle.html5grammar.specs.Start.{Raw, Place, RawPlace, Open, Rules, raw_of}
+use Rattle.html5grammar.specs.Start.{Raw, Place, RawPlace, DoctypePlace, Open, Rules, raw_of}
 use Rattle.html5grammar.specs.Start.Dashes.{NoDash}
 use Rattle.html5grammar.specs.Start.Raw.{Escaped, DoubleEscaped}
 use Rattle.html5grammar.specs.Start.Mode.{RawText}
 use Rattle.html5grammar.specs.Start.RawPlace.{AfterLessThan, InEndName, AfterMark, AfterMarkAndDash, InSwitch}
 use Rattle.html5grammar.specs.Start.Place.{InName, BeforeAttribute, InAttributeName, AfterAttributeName, BeforeValue, InValue, AfterQuotedValue, AfterSolidus}
-use Rattle.html5grammar.specs.Start.Open.{Between, LessThan, LessThanSolidus, InTag, InRaw, InReference, NotBuilt}
+use Rattle.html5grammar.specs.Start.DoctypePlace.{AfterWord, BeforeName, InDoctypeName, AfterName, AfterKeyword, BeforeIdentifier, InIdentifier, AfterIdentifier, BetweenIdentifiers, Skipped}
+use Rattle.html5grammar.specs.Start.Open.{Between, LessThan, LessThanSolidus, InTag, InRaw, InDeclaration, InComment, InBogusComment, InDoctype, InDoctypeKeyword, InReference, NotBuilt}
 
 -- the state that the error of a tag without its end names
 unfoldable pub state_at : Place → State
@@ -29,14 +32,31 @@ state_at (InValue kind) = state.AttributeValue kind
 state_at AfterQuotedValue = state.AfterAttributeValueQuoted
 state_at AfterSolidus = state.SelfClosingStartTag
 
--- what the end decides of a reference, which is told first
+-- the state that the error of a doctype without its end names
+unfoldable pub doctype_state_at : DoctypePlace → State
+doctype_state_at AfterWord = state.Doctype
+doctype_state_at BeforeName = state.BeforeDoctypeName
+doctype_state_at InDoctypeName = state.DoctypeName
+doctype_state_at AfterName = state.AfterDoctypeName
+doctype_state_at (AfterKeyword kind) = state.AfterDoctypeKeyword kind
+doctype_state_at (BeforeIdentifier kind) = state.BeforeDoctypeIdentifier kind
+doctype_state_at (InIdentifier quotes kind) = identifier_state quotes kind
+doctype_state_at (AfterIdentifier kind) = state.AfterDoctypeIdentifier kind
+doctype_state_at BetweenIdentifiers = state.BetweenDoctypePublicAndSystemIdentifiers
+doctype_state_at Skipped = state.BogusDoctype
+
+-- what the end decides of a reference, or of a keyword, which is told first
 unfoldable pub late_at_end_of : Rules → Open → List Late
 late_at_end_of rules (InReference stand held) = late_tokens stand (reference rules (in_value stand) held None) held
+late_at_end_of rules (InDeclaration held) = declaration_error rules.exact held
+late_at_end_of rules (InDoctypeKeyword held d) = keyword_error rules.exact held
 late_at_end_of rules opened = []
 
 -- what is open then
 unfoldable pub open_at_end_of : Rules → Open → Open
 open_at_end_of rules (InReference stand held) = opened_behind stand (reference rules (in_value stand) held None) held
+open_at_end_of rules (InDeclaration held) = InBogusComment held
+open_at_end_of rules (InDoctypeKeyword held d) = InDoctype Skipped (with_quirks d)
 open_at_end_of rules opened = opened
 
 -- what the end tells in raw text between items: in escaped script data it is an error
@@ -53,6 +73,11 @@ told_at_raw_end exact AfterMark = []
 told_at_raw_end exact AfterMarkAndDash = []
 told_at_raw_end exact (InSwitch kind letters) = raw_end_error exact (DoubleEscaped NoDash)
 
+-- a doctype without its end is told, and that is an error with quirks, but for one whose rest is skipped
+unfoldable pub told_at_doctype_end : Bool → DoctypePlace → DoctypeOf → List Told
+told_at_doctype_end exact Skipped d = Doctype d ∷ []
+told_at_doctype_end exact place d = end_error_in exact (doctype_state_at place) ∷ Doctype (with_quirks d) ∷ []
+
 -- what is told at the end: a tag without its end is an error, and is not told
 unfoldable pub told_at_end_of : Bool → Open → List Told
 told_at_end_of exact (Between (RawText raw name)) = raw_end_error exact raw ++ End ∷ []
@@ -61,9 +86,14 @@ told_at_end_of exact LessThan = end_error_in exact state.TagOpen ∷ Text (codes
 told_at_end_of exact LessThanSolidus = end_error_in exact state.EndTagOpen ∷ Text (codes "<") ∷ Text (codes "/") ∷ End ∷ []
 told_at_end_of exact (InTag place tag) = end_error_in exact (state_at place) ∷ End ∷ []
 told_at_end_of exact (InRaw place name) = told_at_raw_end exact place ++ End ∷ []
+told_at_end_of exact (InDeclaration held) = []
+told_at_end_of exact (InComment text) = end_error_in exact (comment_state state.CommentEnd text) ∷ Comment (comment_content text) ∷ End ∷ []
+told_at_end_of exact (InBogusComment text) = Comment text ∷ End ∷ []
+told_at_end_of exact (InDoctype place d) = told_at_doctype_end exact place d ++ End ∷ []
+told_at_end_of exact (InDoctypeKeyword held d) = []
 told_at_end_of exact (InReference stand held) = []
 told_at_end_of exact NotBuilt = []
 
--- all that the end tells: what it decides of a reference, and then what it tells of what is open behind that
+-- all that the end tells: what it decides, and then what it tells of what is open behind that
 abbrev pub tokens_at_end : Rules → Open → List Told
 tokens_at_end rules opened = tokens_of_late (late_at_end_of rules opened) ++ told_at_end_of rules.exact (open_at_end_of rules opened)

@@ -6,6 +6,8 @@ pub mod Slice
 pub mod Reference
 pub mod Tag
 pub mod Text
+pub mod Doctype
+pub mod Comment
 pub mod RawText
 pub mod EndOfInput
 pub mod Cutting
@@ -13,3 +15,5 @@ pub mod Reading
 pub mod OneTag
 pub mod OneReference
 pub mod WrittenRaw
+pub mod OneComment
+pub mod OneDoctype

@@ -16,7 +16,7 @@ use Rattle.html5grammar.specs.ErrorText.{error_in}
 use Rattle.html5grammar.specs.Reference.{reference_text}
 use Rattle.html5grammar.specs.Slice.{Slice, silent, no_character, cut_off, one_character, with_character, with_run, run_of, behind_run}
 use Rattle.html5grammar.specs.Slice.Behind.{Leaves}
-use Rattle.html5grammar.specs.Start.{Dashes, Raw, RawPlace, Open, Rules, begun, raw_of}
+use Rattle.html5grammar.specs.Start.{Dashes, Raw, Open, Rules, begun, raw_of}
 use Rattle.html5grammar.specs.Start.Dashes.{NoDash, OneDash, TwoDashes}
 use Rattle.html5grammar.specs.Start.Raw.{Rcdata, Rawtext, ScriptData, Escaped, DoubleEscaped}
 use Rattle.html5grammar.specs.Start.Mode.{RawText}

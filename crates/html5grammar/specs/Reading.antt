@@ -45,13 +45,14 @@ events_at input before c tokens =
     map event tokens
 
 -- the events of what `decided_by` decides, behind the text `before`: a reference's own tokens stand before the first character
--- that it doesn't take, and characters that were held stand at their places. There is no line break among them.
+-- that it doesn't take, characters that were held stand at their places, the error of a declaration stands at its `!`, and that
+-- of a keyword at its first character. There is no line break among them.
 abbrev pub late_event : Input → List ℕ → TextPlace → Late → Event
 late_event input before decided_by late =
     let k : ℕ = suc (length before) - late.back in
     record {
       message = record { token = late.token; line = line_after input before };
-      stands = if late.is_held then Character k else BeforeCharacter k;
+      stands = if late.is_at then Character k else BeforeCharacter k;
       decided_by = if late.is_held then Character k else decided_by;
     }
 

@@ -206,12 +206,12 @@ told_of stand found = found.errors ++ text_in stand (characters_in found)
 unfoldable pub held_text : Stand → List ℕ → List Late
 held_text stand [] = []
 held_text stand (c ∷ held) =
-    map (λ token. record { token = token; back = suc (suc (length held)); is_held = true }) (text_in stand (c ∷ [])) ++ held_text stand held
+    map (λ token. record { token = token; back = suc (suc (length held)); is_at = true; is_held = true }) (text_in stand (c ∷ [])) ++ held_text stand held
 
 -- a reference's own tokens stand before the first character that it doesn't take
 abbrev pub late_tokens : Stand → Found → List ℕ → List Late
 late_tokens stand found held =
-    map (λ token. record { token = token; back = suc (length held) - found.taken; is_held = false }) (told_of stand found)
+    map (λ token. record { token = token; back = suc (length held) - found.taken; is_at = false; is_held = false }) (told_of stand found)
     ++ held_text stand (drop found.taken held)
 
 abbrev pub opened_behind : Stand → Found → List ℕ → Open

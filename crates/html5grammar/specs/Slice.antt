@@ -8,7 +8,9 @@ pub record Late : Type 0 where
   pub token : Told
   -- how many characters before the place behind the deciding one the token stands
   pub back : ℕ
-  -- whether it is text of the character there, which is decided by itself
+  -- whether it stands at the character there, and not before it
+  pub is_at : Bool
+  -- whether it is text of that character, which is decided by itself
   pub is_held : Bool
 
 -- what is told at a character

@@ -2,7 +2,9 @@
 use Rattle.std.specs.Prelude.{ℕ, Bool, true, false, List, [], length, Option, None, Some}
 use Rattle.html5ever_interface.specs.Options.{OptionsOf}
 use Rattle.html5ever_interface.specs.declared.interface.token.TagKind.{TagKind}
+use Rattle.html5ever_interface.specs.Token.{DoctypeOf}
 use Rattle.html5ever_interface.specs.declared.states.AttrValueKind.{AttrValueKind}
+use Rattle.html5ever_interface.specs.declared.states.DoctypeIdKind.{DoctypeIdKind}
 use Rattle.html5ever_interface.specs.declared.states.RawKind.{RawKind}
 use Rattle.html5ever_interface.specs.declared.states.RawKind.TheVariants as raw_kind
 use Rattle.html5ever_interface.specs.declared.states.ScriptEscapeKind.{ScriptEscapeKind}
@@ -74,6 +76,32 @@ pub data RawPlace : Type 0 where
   -- behind `<` and letters in escaped script data, and behind `</` and letters in double-escaped script data
   InSwitch : ScriptEscapeKind → List ℕ → RawPlace
 
+-- the quotes of an identifier
+pub data Quotes : Type 0 where
+  DoubleQuotes : Quotes
+  SingleQuotes : Quotes
+
+-- a place in a doctype
+pub data DoctypePlace : Type 0 where
+  -- directly behind `doctype`
+  AfterWord : DoctypePlace
+  -- in white space before the name
+  BeforeName : DoctypePlace
+  InDoctypeName : DoctypePlace
+  -- in white space behind the name
+  AfterName : DoctypePlace
+  -- directly behind `public` or `system`
+  AfterKeyword : DoctypeIdKind → DoctypePlace
+  -- in white space behind that
+  BeforeIdentifier : DoctypeIdKind → DoctypePlace
+  InIdentifier : Quotes → DoctypeIdKind → DoctypePlace
+  -- directly behind an identifier, and behind that of the system also in white space
+  AfterIdentifier : DoctypeIdKind → DoctypePlace
+  -- in white space behind a public identifier
+  BetweenIdentifiers : DoctypePlace
+  -- in what is skipped up to `>`
+  Skipped : DoctypePlace
+
 -- where a character reference stands
 pub data Stand : Type 0 where
   InText : Mode → Stand
@@ -91,6 +119,15 @@ pub data Open : Type 0 where
   InTag : Place → OpenTag → Open
   -- in raw text, with the name whose end tag ends it
   InRaw : RawPlace → List ℕ → Open
+  -- behind `<!`, with the characters that may begin a keyword
+  InDeclaration : List ℕ → Open
+  -- in a comment, with its text in bytes, and in a bogus one
+  InComment : List ℕ → Open
+  InBogusComment : List ℕ → Open
+  -- in a doctype, with what it has so far
+  InDoctype : DoctypePlace → DoctypeOf → Open
+  -- behind a doctype's name and white space, with the characters, at least one, that may begin `public` or `system`
+  InDoctypeKeyword : List ℕ → DoctypeOf → Open
   -- a reference that is not decided, with the characters behind its `&`
   InReference : Stand → List ℕ → Open
   -- the text met what is not built yet: nothing more is told
@@ -101,14 +138,18 @@ abbrev pub is_clean : Open → Bool
 is_clean (Between mode) = true
 is_clean other = false
 
--- a reference is not decided
-abbrev pub is_reference : Open → Bool
-is_reference (InReference stand held) = true
-is_reference other = false
+-- a reference is not decided, or a keyword
+abbrev pub is_undecided_open : Open → Bool
+is_undecided_open (InReference stand held) = true
+is_undecided_open (InDeclaration held) = true
+is_undecided_open (InDoctypeKeyword held doctype) = true
+is_undecided_open other = false
 
--- how many characters are held of a reference
+-- how many characters are held of a reference, or of a keyword
 abbrev pub held_len : Open → ℕ
 held_len (InReference stand held) = length held
+held_len (InDeclaration held) = length held
+held_len (InDoctypeKeyword held doctype) = length held
 held_len other = 0
 
 -- what a reading goes by: whether errors are exact, and the table of named references

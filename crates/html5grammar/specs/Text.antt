@@ -1,18 +1,19 @@
 -- Text between tags: plain text, and the text of the mode Data with the choice that `<` opens there.
-use Rattle.std.specs.Prelude.{ℕ, Bool, List, [], ◌∷◌, ◌++◌, ◌==◌, ◌||◌, codes, encode_utf8, if◌then◌else◌}
+use Rattle.std.specs.Prelude.{ℕ, Bool, List, [], ◌∷◌, ◌++◌, ◌==◌, codes, encode_utf8, if◌then◌else◌}
 use Rattle.html5ever_interface.specs.Token.{Told}
 use Rattle.html5ever_interface.specs.Token.Told.{Text, Null}
 use Rattle.html5ever_interface.specs.declared.interface.token.TagKind.TheVariants.{StartTag, EndTag}
 use Rattle.html5ever_interface.specs.declared.states.State.TheVariants as state
 use Rattle.html5grammar.specs.Characters.{null, replacement_character, exclamation_mark, ampersand, solidus, less_than, greater_than, question_mark, is_letter}
+use Rattle.html5grammar.specs.Comment.{declaration}
 use Rattle.html5grammar.specs.ErrorText.{error_in}
 use Rattle.html5grammar.specs.Reference.{reference_text}
 use Rattle.html5grammar.specs.Slice.{Slice, no_character, cut_off, one_character, with_character}
-use Rattle.html5grammar.specs.Slice.Behind.{Leaves, StopsAt}
+use Rattle.html5grammar.specs.Slice.Behind.{Leaves}
 use Rattle.html5grammar.specs.Start.{Rules, begun}
 use Rattle.html5grammar.specs.Start.Stand.{InText}
 use Rattle.html5grammar.specs.Start.Mode.{Data}
-use Rattle.html5grammar.specs.Start.Open.{Between, LessThan, LessThanSolidus}
+use Rattle.html5grammar.specs.Start.Open.{Between, LessThan, LessThanSolidus, InBogusComment}
 use Rattle.html5grammar.specs.Tag.{tag_name}
 
 -- a character of plain text is text; NUL is an error and U+FFFD
@@ -21,21 +22,23 @@ plain_text exact c =
     if c == null then error_in exact state.Plaintext c ∷ Text (encode_utf8 replacement_character) ∷ []
     else Text (encode_utf8 c) ∷ []
 
--- behind `</`: a letter begins an end tag, and `>` leaves nothing
+-- behind `</`: a letter begins an end tag, `>` leaves nothing, and another character a bogus comment, with an error
 unfoldable pub behind_solidus : Bool → List ℕ → Slice
 behind_solidus exact [] = cut_off LessThanSolidus
 behind_solidus exact (c ∷ text) =
     if is_letter c then tag_name exact (begun EndTag) (c ∷ text)
     else if c == greater_than then one_character (error_in exact state.EndTagOpen c ∷ []) (Between Data)
-    else no_character (StopsAt [])
+    else no_character (Leaves (error_in exact state.EndTagOpen c ∷ []) (InBogusComment []))
 
--- behind `<`: a letter begins a start tag, and `/` leads on; before another character `<` is text, with an error
+-- behind `<`: a letter begins a start tag, `/` and `!` lead on, and `?` begins a bogus comment, with an error; before another
+-- character `<` is text, with an error
 unfoldable pub behind_less_than : Bool → List ℕ → Slice
 behind_less_than exact [] = cut_off LessThan
 behind_less_than exact (c ∷ text) =
     if is_letter c then tag_name exact (begun StartTag) (c ∷ text)
     else if c == solidus then with_character [] (behind_solidus exact text)
-    else if (c == exclamation_mark) || (c == question_mark) then no_character (StopsAt [])
+    else if c == exclamation_mark then with_character [] (declaration exact [] text)
+    else if c == question_mark then no_character (Leaves (error_in exact state.TagOpen c ∷ []) (InBogusComment []))
     else no_character (Leaves (error_in exact state.TagOpen c ∷ Text (codes "<") ∷ []) (Between Data))
 
 -- what begins with c in the mode Data, where `before` is told first

@@ -2,12 +2,16 @@
 //! stand the laws that readers of a text in pieces rest on.
 #![tactic(auto)]
 
-ghost use Rattle.std.specs.Prelude.{◌≡◌, ◌≢◌, ℕ, Bool, List, [], ◌++◌, None, Some, if◌then◌else◌};
+ghost use Rattle.std.specs.Prelude.{◌≡◌, ◌≢◌, ℕ, Bool, List, [], ◌++◌, true, codes, None, Some, if◌then◌else◌};
+ghost use Rattle.std.specs.List.{list_all};
+ghost use Rattle.std.specs.Str.{bytes_eq};
 ghost use Rattle.std.specs.Char.{is_ascii_alphanumeric};
 ghost use Rattle.std.specs.Option.{is_none};
 ghost use Rattle.html5ever_interface.specs.Sink.{Message, stepped};
 ghost use Rattle.html5grammar.specs.Reading.{told, messages, after};
-ghost use Rattle.html5grammar.specs.Characters.{number_sign};
+ghost use Rattle.html5grammar.specs.Characters.{lower_case, number_sign};
+ghost use Rattle.html5grammar.specs.Doctype.{in_skipped_rest};
+ghost use Rattle.html5grammar.specs.OneDoctype.{IsDoctypeText};
 ghost use Rattle.html5grammar.specs.Reference.{first_or, is_undecided, longest_name};
 ghost use Rattle.html5grammar.specs.Slice.{run_of, run_while};
 ghost use Rattle.html5grammar.specs.Start.{Start, Rules};
@@ -50,4 +54,11 @@ pub fn longest_name_of_text()
         run_while (is_undecided names) [] text
         ≡ (if is_none (longest_name names text) then run_of is_ascii_alphanumeric text
         else run_while (begins_name names) [] text) }
+{}
+
+/// Each text of `<!`, `doctype` in any case, characters other than `>`, and `>` is one doctype, written
+/// out. So what is said of one doctype is said of all.
+pub fn each_doctype()
+    ensures { (word text : List ℕ) → bytes_eq (lower_case word) (codes "doctype") ≡ true
+        → list_all in_skipped_rest text ≡ true → IsDoctypeText word text }
 {}

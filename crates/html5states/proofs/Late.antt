@@ -12,8 +12,8 @@ use Rattle.html5grammar.specs.Reference.{first_or, has_digits, number_reference,
 use Rattle.html5grammar.specs.Slice.{Late, tokens_of_late}
 use Rattle.html5grammar.specs.Start.{Stand}
 use Rattle.html5grammar.specs.Start.Stand.{InText, InAttribute}
-use Rattle.html5states.specs.CharRef.{IsFound, decided, found_at, more_of}
-use Rattle.html5states.specs.declared.char_ref.Found.{Found}
+use Rattle.html5parts.specs.CharRef.{IsFound, decided, found_at, more_of}
+use Rattle.html5parts.specs.declared.char_ref.Found.{Found}
 use Rattle.html5grammar.proofs.TableNames.{longest-nil}
 use Rattle.html5states.proofs.Resolving.{number-none, number-some}
 use Rattle.markup5ever.specs.NamedReferences.{NamedReference, IsTable}
@@ -52,9 +52,9 @@ ends-name (d ∷ held) c taken other within =
 
 -- ---- what is told
 
-told_late : (told : List Told) (back : ℕ) (is_held : Bool) → tokens_of_late (map (λ (token : Told). record { token = token; back = back; is_held = is_held }) told) ≡ told
-told_late [] back is_held = refl
-told_late (token ∷ told) back is_held = ap (λ l. token ∷ l) (told_late told back is_held)
+told_late : (told : List Told) (back : ℕ) (is_at is_held : Bool) → tokens_of_late (map (λ (token : Told). record { token = token; back = back; is_at = is_at; is_held = is_held }) told) ≡ told
+told_late [] back is_at is_held = refl
+told_late (token ∷ told) back is_at is_held = ap (λ l. token ∷ l) (told_late told back is_at is_held)
 
 told_held : (stand : Stand) (rest : List ℕ) → tokens_of_late (held_text stand rest) ≡ text_in stand rest
 unfolding held_text
@@ -71,8 +71,8 @@ late-told : (stand : Stand) (found : grammar.Found) (held : List ℕ) → tokens
 late-told stand found held =
     let rest = drop found.taken held in
     let back : ℕ = suc (length held) - found.taken in
-    map-append (λ (l : Late). l.token) (map (λ (token : Told). record { token = token; back = back; is_held = false }) (told_of stand found)) (held_text stand rest)
-    ∙ ap (λ told. told ++ tokens_of_late (held_text stand rest)) (told_late (told_of stand found) back false)
+    map-append (λ (l : Late). l.token) (map (λ (token : Told). record { token = token; back = back; is_at = false; is_held = false }) (told_of stand found)) (held_text stand rest)
+    ∙ ap (λ told. told ++ tokens_of_late (held_text stand rest)) (told_late (told_of stand found) back false false)
     ∙ ap (λ told. told_of stand found ++ told) (told_held stand rest)
     ∙ append_assoc found.errors (text_in stand (characters_in found)) (text_in stand rest)
     ∙ ap (λ told. found.errors ++ told) (sym (text_in-append stand (characters_in found) rest))

@@ -1,11 +1,6 @@
 pub mod Tellings
-pub mod RunSteps
-pub mod LongestName
-pub mod Numbers
-pub mod Held
 pub mod Messages
 pub mod Put
 pub mod Resolving
 pub mod Late
-pub mod HeldLetters
 pub mod RawEnds

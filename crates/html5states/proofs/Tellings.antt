@@ -11,18 +11,18 @@ use Rattle.std.specs.Char.{IsScalar}
 use Rattle.std.specs.Result.{IsErrAnd}
 use Rattle.html5ever_interface.proofs.Steppings.{stepped-append}
 use Rattle.html5ever_interface.specs.Sink.{Message, stepped, on_line}
-use Rattle.html5states.specs.CurrentTag.{last_name_of}
-use Rattle.html5states.specs.Steps.{Next, tokens_of, behind, Ends}
+use Rattle.html5parts.specs.CurrentTag.{last_name_of}
+use Rattle.html5parts.specs.Steps.{Next, tokens_of, behind, Ends}
 use Rattle.html5states.specs.Telling.{IsRefusal, tokens_in, IsToldAs, IsKept, Stops, Tells, Emits, Reads, faults_of}
 use Rattle.html5grammar.specs.ErrorText.{where_true}
 use Rattle.html5grammar.specs.Reading.{Here}
 use Rattle.html5grammar.specs.Start.{Open}
 use Rattle.html5grammar.proofs.Machine.{told_first}
-use Rattle.html5states.specs.declared.opened.Opened.{Opened}
-use Rattle.html5states.specs.declared.opened.Progress.{Progress}
+use Rattle.html5parts.specs.declared.opened.Opened.{Opened}
+use Rattle.html5parts.specs.declared.opened.Progress.{Progress}
 use Rattle.html5states.specs.declared.teller.Teller.{Teller}
-use Rattle.html5states.specs.declared.error.TokenizerError.{TokenizerError}
-use Rattle.html5states.specs.declared.error.TokenizerError.TheVariants.{Memory, Sink, Failed, NotYet}
+use Rattle.html5parts.specs.declared.error.TokenizerError.{TokenizerError}
+use Rattle.html5parts.specs.declared.error.TokenizerError.TheVariants.{Memory, Sink, Failed, NotYet}
 use Rattle.html5ever_interface.specs.declared.interface.token.Token.{Token}
 use Rattle.html5ever_interface.specs.declared.interface.token.Token.TheVariants.{DoctypeToken, TagToken, CommentToken, CharacterTokens, NullCharacterToken, EOFToken, ParseError}
 use Rattle.html5ever_interface.specs.Token.{Told, told_by}
@@ -239,9 +239,6 @@ pub tokens_in-char : (c : ℕ) → IsScalar c → tokens_in (Text (encode_utf8 c
 tokens_in-char c scalar =
     ap (map (λ (d : ℕ). Text (encode_utf8 d)))
     (chars_past_char (encode_utf8 c) [] c (IsUtf8-encode c scalar) (sym (append-nil (encode_utf8 c))) ∙ ap (λ cs. c ∷ cs) chars-nil)
-
-pub cons≢nil : {X : Type 0} → (x : X) (xs : List X) → x ∷ xs ≢ []
-cons≢nil x xs = λ h. cc
 
 -- an error that there is
 pub where_true-true : (holds : Bool) (error : Told) → holds ≡ true → where_true holds error ≡ error ∷ []

@@ -1,5 +1,1 @@
-pub mod CurrentTag
-pub mod Steps
 pub mod Telling
-pub mod Runs
-pub mod CharRef

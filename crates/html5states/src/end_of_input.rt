@@ -1,23 +1,29 @@
 //! The end of input, in the state that is open.
-#![tactic(auto, unfolding(html5grammar::specs::EndOfInput::told_at_end_of, html5grammar::specs::EndOfInput::told_at_raw_end, html5grammar::specs::EndOfInput::raw_end_error, html5grammar::specs::RawText::raw_state, html5grammar::specs::RawText::escaped_state, html5grammar::specs::EndOfInput::state_at))]
+#![tactic(auto, using(crate::proofs::Tellings::tells_from_memory), unfolding(html5grammar::specs::EndOfInput::told_at_end_of, html5grammar::specs::EndOfInput::told_at_raw_end, html5grammar::specs::EndOfInput::raw_end_error, html5grammar::specs::RawText::raw_state, html5grammar::specs::RawText::escaped_state, html5grammar::specs::EndOfInput::state_at, html5grammar::specs::EndOfInput::told_at_doctype_end, html5grammar::specs::EndOfInput::doctype_state_at))]
 
-ghost use Rattle.std.specs.Prelude.{◌∷◌, [], ◌++◌, codes, encode_utf8};
+ghost use Rattle.std.specs.Prelude.{◌≡◌, ◌∷◌, [], ◌++◌, false, codes, encode_utf8};
 ghost use Rattle.std.specs.Str.{chars};
-ghost use Rattle.html5ever_interface.specs.Token.Told.{Text, End};
+ghost use Rattle.html5ever_interface.specs.Token.{doctype_of};
+ghost use Rattle.html5ever_interface.specs.Token.Told.{Text, Comment, End};
+ghost use Rattle.html5ever_interface.specs.Token.{Told};
+ghost use Rattle.html5grammar.specs.Doctype.{with_quirks};
 ghost use Rattle.html5grammar.specs.Characters.{solidus, less_than};
 ghost use Rattle.html5grammar.specs.EndOfInput.{told_at_end_of, raw_end_error};
 ghost use Rattle.html5grammar.specs.ErrorText.{end_error_in};
 ghost use Rattle.html5grammar.specs.RawText.{texts, told_behind_less_than};
-ghost use Rattle.html5grammar.specs.Start.{raw_of};
-ghost use Rattle.html5states.specs.CurrentTag.{opened_of};
-ghost use Rattle.html5states.specs.Steps.{IsBuilt};
+ghost use Rattle.html5grammar.specs.Comment.{comment_state, comment_content};
+ghost use Rattle.html5grammar.specs.Start.{raw_of, is_undecided_open};
+ghost use Rattle.html5parts.specs.CurrentTag.{opened_of};
+ghost use Rattle.html5parts.specs.Steps.{IsBuilt};
 ghost use Rattle.html5states.specs.Telling.{Emits};
 
-use crate::error::TokenizerError;
-use crate::opened::Opened;
+use html5parts::comments::{content_len, state_in_comment};
+use html5parts::doctypes::is_doctype_state;
+use html5parts::error::TokenizerError;
+use html5parts::opened::Opened;
 use crate::teller::Teller;
 use html5ever_interface::interface::sink::TokenSink;
-use html5ever_interface::interface::token::Token;
+use html5ever_interface::interface::token::{Doctype, Token};
 use html5ever_interface::states::AttrValueKind::Unquoted;
 use html5ever_interface::states::{RawKind, ScriptEscapeKind, State};
 use std::alloc::Allocator;
@@ -103,9 +109,61 @@ impl<S: TokenSink<Token<A>>, A: Allocator + Copy> Teller<'_, S, A> {
         self.end_raw_text(kind)
     }
 
+    // Ends behind a comment with that text.
+    fn end_behind_comment(&mut self, text: &str) -> Result<(), TokenizerError>
+        ensures { Emits S.state S.faults S.step S.faulted result self.old self.new
+            (Comment text.now ∷ End ∷ []) }
+    {
+        self.emit_comment_text(text)?;
+        self.tell(Token::EOFToken)
+    }
+
+    // Tells a comment with that text.
+    fn emit_comment_text(&mut self, text: &str) -> Result<(), TokenizerError>
+        ensures { Emits S.state S.faults S.step S.faulted result self.old self.new
+            (Comment text.now ∷ []) }
+    {
+        self.emit_comment(String::from_str(self.alloc, text)?)
+    }
+
+    // Ends in a comment, which is told without the dashes at its end.
+    fn end_comment_text(&mut self, text: &str) -> Result<(), TokenizerError>
+        ensures { Emits S.state S.faults S.step S.faulted result self.old self.new
+            (end_error_in self.old.exact_errors (comment_state State.CommentEnd text.now)
+            ∷ Comment (comment_content text.now) ∷ End ∷ []) }
+    {
+        self.emit_end_error(state_in_comment(State::CommentEnd, text))?;
+        self.end_behind_comment(&text[..content_len(text)])
+    }
+
+    // Ends behind a DOCTYPE, with quirks or without.
+    fn end_behind_doctype(
+        &mut self,
+        doctype: &Doctype<A>,
+        force_quirks: bool,
+    ) -> Result<(), TokenizerError>
+        ensures { Emits S.state S.faults S.step S.faulted result self.old self.new
+            (Told.Doctype (record (doctype_of doctype.now) { force_quirks = force_quirks }) ∷ End ∷ []) }
+    {
+        let mut doctype = doctype.try_clone()?;
+        doctype.force_quirks = force_quirks;
+        self.tell(Token::DoctypeToken(doctype))?;
+        self.tell(Token::EOFToken)
+    }
+
+    // Ends in a state of DOCTYPEs that doesn't expect it.
+    fn end_in_doctype(&mut self, state: State, doctype: &Doctype<A>) -> Result<(), TokenizerError>
+        ensures { Emits S.state S.faults S.step S.faulted result self.old self.new
+            (end_error_in self.old.exact_errors state ∷ Told.Doctype (with_quirks (doctype_of doctype.now)) ∷ End ∷ []) }
+    {
+        self.emit_end_error(state)?;
+        self.end_behind_doctype(doctype, true)
+    }
+
     /// Tells what the end of input tells in the state. A tag without its end is not told.
     pub fn tell_end_of_input(&mut self, at: &Opened<A>) -> Result<(), TokenizerError>
         requires built { IsBuilt (opened_of at.now) }
+        requires decided { is_undecided_open (opened_of at.now) ≡ false }
         ensures { Emits S.state S.faults S.step S.faulted result self.old self.new
             (told_at_end_of self.old.exact_errors (opened_of at.now)) }
     {
@@ -123,11 +181,16 @@ impl<S: TokenSink<Token<A>>, A: Allocator + Copy> Teller<'_, S, A> {
             }
             State::ScriptDataEscapeStart(ScriptEscapeKind::Escaped)
             | State::ScriptDataEscapeStartDash => self.tell(Token::EOFToken),
+            State::Comment => self.end_comment_text(&at.comment),
+            State::BogusComment => self.end_behind_comment(&at.comment),
+            State::MarkupDeclarationOpen => unreachable!(),
             State::ScriptDataEscapeStart(ScriptEscapeKind::DoubleEscaped)
             | State::ScriptDataDoubleEscapeEnd => self.end_unexpected(DOUBLE_ESCAPED),
             State::TagOpen => self.end_in_tag_open(),
             State::EndTagOpen => self.end_in_end_tag_open(),
             State::BeforeAttributeValue => self.end_unexpected(State::AttributeValue(Unquoted)),
+            State::BogusDoctype => self.end_behind_doctype(&at.doctype, at.doctype.force_quirks),
+            state if is_doctype_state(state) => self.end_in_doctype(state, &at.doctype),
             state => self.end_unexpected(state),
         }
     }

@@ -1,17 +1,15 @@
-//! The states of the tokenizer: whom they tell, what is open, and what a character makes of it.
+//! The states of the tokenizer: whom they tell, and what a character makes of what is open.
 #![tactic(auto)]
 
-pub mod char_ref;
-pub mod characters;
-pub mod current_tag;
+mod attributes;
+mod comment_states;
+mod declaration;
+mod doctype_keyword;
+mod doctype_states;
 mod emit_tag;
 mod end_of_input;
-pub mod error;
-pub mod letters;
-pub mod message;
-pub mod opened;
 mod raw_states;
-pub mod runs;
+mod references;
 mod step;
 mod tag_states;
 pub mod teller;

@@ -1,12 +1,13 @@
 //! One character, in the state that is open.
-#![tactic(auto, unfolding(html5grammar::proofs::Machine::step_at, html5grammar::proofs::Machine::tag_step, html5grammar::proofs::Machine::raw_place_step, crate::specs::Steps::tokens_of, crate::specs::Steps::behind, html5ever_interface::specs::Sink::stepped))]
+#![tactic(auto, unfolding(html5grammar::proofs::Machine::step_at, html5grammar::proofs::Machine::tag_step, html5grammar::proofs::Machine::raw_place_step, html5parts::specs::Steps::tokens_of, html5parts::specs::Steps::behind, html5ever_interface::specs::Sink::stepped))]
 
 ghost use Rattle.html5grammar.proofs.Machine.{step_at};
-ghost use Rattle.html5states.specs.CurrentTag.{opened_of};
+ghost use Rattle.html5parts.specs.CurrentTag.{opened_of};
 ghost use Rattle.html5states.specs.Telling.{Reads};
 
-use crate::error::TokenizerError;
-use crate::opened::{Opened, Step};
+use html5parts::doctypes::is_doctype_state;
+use html5parts::error::TokenizerError;
+use html5parts::opened::{Opened, Step};
 use crate::teller::Teller;
 use html5ever_interface::interface::sink::TokenSink;
 use html5ever_interface::interface::token::Token;
@@ -46,6 +47,9 @@ impl<S: TokenSink<Token<A>>, A: Allocator + Copy> Teller<'_, S, A> {
                 at, kind, c,
             ),
             State::ScriptDataDoubleEscapeEnd => self.script_data_double_escape_end_state(at, c),
+            State::Comment => self.comment_state(at, c),
+            State::BogusComment => self.bogus_comment_state(at, c),
+            state if is_doctype_state(state) => self.step_in_doctype(at, c),
             _ => Err(TokenizerError::NotYet),
         }
     }

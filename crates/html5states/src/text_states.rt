@@ -1,5 +1,5 @@
 //! The states between tags, and those that a `<` opens, one function for each.
-#![tactic(auto, using(crate::proofs::Tellings::tells_from_memory), unfolding(html5grammar::proofs::Machine::step_at, html5grammar::proofs::Machine::data_step, html5grammar::proofs::Machine::less_than_step, html5grammar::proofs::Machine::solidus_step, html5grammar::specs::Text::plain_text, crate::specs::Steps::tokens_of, crate::specs::Steps::behind, html5ever_interface::specs::Sink::stepped))]
+#![tactic(auto, using(crate::proofs::Tellings::tells_from_memory), unfolding(html5grammar::proofs::Machine::step_at, html5grammar::proofs::Machine::data_step, html5grammar::proofs::Machine::less_than_step, html5grammar::proofs::Machine::solidus_step, html5grammar::specs::Text::plain_text, html5parts::specs::Steps::tokens_of, html5parts::specs::Steps::behind, html5ever_interface::specs::Sink::stepped))]
 
 ghost use Rattle.std.specs.Prelude.{◌≡◌, ◌∷◌, [], ◌==◌, codes, encode_utf8, if◌then◌else◌};
 ghost use Rattle.html5grammar.specs.Characters.{null, replacement_character};
@@ -11,10 +11,10 @@ ghost use Rattle.html5grammar.specs.Start.Mode.{Data, Plain};
 ghost use Rattle.html5grammar.specs.Start.Open.{Between, LessThan, LessThanSolidus};
 ghost use Rattle.html5states.specs.Telling.{Emits, Reads};
 
-use crate::characters::is_letter;
-use crate::current_tag::CurrentTag;
-use crate::error::TokenizerError;
-use crate::opened::{Opened, Progress, Step};
+use html5parts::characters::is_letter;
+use html5parts::current_tag::CurrentTag;
+use html5parts::error::TokenizerError;
+use html5parts::opened::{Opened, Progress, Step};
 use crate::teller::Teller;
 use html5ever_interface::interface::sink::TokenSink;
 use html5ever_interface::interface::token::{TagKind, Token};
@@ -119,7 +119,12 @@ impl<S: TokenSink<Token<A>>, A: Allocator + Copy> Teller<'_, S, A> {
                 at.state = State::EndTagOpen;
                 Ok(Progress::Continues)
             }
-            '!' | '?' => Err(TokenizerError::NotYet),
+            '!' => {
+                at.state = State::MarkupDeclarationOpen;
+                at.comment.clear();
+                Ok(Progress::Continues)
+            }
+            '?' => self.create_bogus_comment(at, c, State::TagOpen),
             _ => self.read_in_data(at, c),
         }
     }
@@ -134,7 +139,7 @@ impl<S: TokenSink<Token<A>>, A: Allocator + Copy> Teller<'_, S, A> {
             return self.create_tag(at, TagKind::EndTag, c);
         }
         if c != '>' {
-            return Err(TokenizerError::NotYet);
+            return self.create_bogus_comment(at, c, State::EndTagOpen);
         }
         at.state = State::Data;
         self.emit_unexpected(c, State::EndTagOpen)?;

@@ -1,5 +1,5 @@
 //! The states of an attribute's value, one function for each.
-#![tactic(auto, using(crate::proofs::Tellings::tells_from_memory), unfolding(html5grammar::proofs::Machine::before_value_step, html5grammar::proofs::Machine::quoted_step, html5grammar::proofs::Machine::unquoted_step, html5grammar::proofs::Machine::part_step, html5grammar::specs::Tag::in_quoted, html5grammar::specs::Tag::in_unquoted, html5grammar::specs::Tag::unquoted_error, html5grammar::specs::Tag::place_error, crate::specs::Steps::tokens_of, crate::specs::Steps::behind, html5ever_interface::specs::Sink::stepped))]
+#![tactic(auto, using(crate::proofs::Tellings::tells_from_memory), unfolding(html5grammar::proofs::Machine::before_value_step, html5grammar::proofs::Machine::quoted_step, html5grammar::proofs::Machine::unquoted_step, html5grammar::proofs::Machine::part_step, html5grammar::specs::Tag::in_quoted, html5grammar::specs::Tag::in_unquoted, html5grammar::specs::Tag::unquoted_error, html5grammar::specs::Tag::place_error, html5parts::specs::Steps::tokens_of, html5parts::specs::Steps::behind, html5ever_interface::specs::Sink::stepped))]
 
 ghost use Rattle.std.specs.Prelude.{◌≡◌, ◌∷◌, [], false};
 ghost use Rattle.html5grammar.proofs.Machine.{closing_step, before_value_step, quoted_step};
@@ -7,12 +7,12 @@ ghost use Rattle.html5grammar.proofs.Machine.{unquoted_step, part_step};
 ghost use Rattle.html5grammar.specs.Characters.{equals_sign};
 ghost use Rattle.html5grammar.specs.ErrorText.{error_in};
 ghost use Rattle.html5grammar.specs.Start.Place.{AfterQuotedValue};
-ghost use Rattle.html5states.specs.CurrentTag.{open_tag};
+ghost use Rattle.html5parts.specs.CurrentTag.{open_tag};
 ghost use Rattle.html5states.specs.Telling.{Reads};
 
-use crate::characters::{is_unquoted_error, is_white_space, quote_of};
-use crate::current_tag::push_value;
-use crate::opened::{Opened, Progress, Step};
+use html5parts::characters::{is_unquoted_error, is_white_space, quote_of};
+use html5parts::current_tag::push_value;
+use html5parts::opened::{Opened, Progress, Step};
 use crate::teller::Teller;
 use html5ever_interface::interface::sink::TokenSink;
 use html5ever_interface::interface::token::Token;

@@ -6,21 +6,24 @@ use Rattle.std.specs.Str.{chars}
 use Rattle.std.proofs.lemmas.List.{append-nil, append_assoc, map-append}
 use Rattle.html5ever_interface.specs.Sink.{Message, stepped, on_line}
 use Rattle.html5ever_interface.specs.Token.{Told, Reply}
-use Rattle.html5ever_interface.specs.Token.Told.{Text, End}
+use Rattle.html5ever_interface.specs.Token.Told.{Text, Comment, End}
 use Rattle.html5ever_interface.specs.declared.states.State.TheVariants as state
-use Rattle.html5grammar.specs.EndOfInput.{late_at_end_of, open_at_end_of, told_at_end_of, told_at_raw_end, raw_end_error, state_at}
+use Rattle.html5grammar.specs.Comment.{comment_content, comment_state}
+use Rattle.html5grammar.specs.Doctype.{with_quirks}
+use Rattle.html5grammar.specs.EndOfInput.{late_at_end_of, open_at_end_of, told_at_doctype_end, told_at_end_of, told_at_raw_end, raw_end_error, state_at}
 use Rattle.html5grammar.specs.ErrorText.{end_error_in}
 use Rattle.html5grammar.specs.NormalisedText.{normalised, line_after}
 use Rattle.html5grammar.specs.Reading.{Event, end_events, late_events, read, reading, told, messages, after}
 use Rattle.html5grammar.specs.Reading.TextPlace.{EndOfInput}
 use Rattle.html5grammar.specs.Start.{Start, Mode, Open, Rules, start_of}
 use Rattle.html5grammar.specs.Start.Mode.{Data, Plain, RawText}
-use Rattle.html5grammar.specs.Start.Open.{Between, LessThan, LessThanSolidus, InTag, InRaw, InReference, NotBuilt}
+use Rattle.html5grammar.specs.Start.DoctypePlace.{Skipped}
+use Rattle.html5grammar.specs.Start.Open.{Between, LessThan, LessThanSolidus, InTag, InRaw, InDeclaration, InComment, InBogusComment, InDoctype, InDoctypeKeyword, InReference, NotBuilt}
 use Rattle.html5grammar.specs.Start.Place.{InValue}
 use Rattle.html5grammar.specs.Start.Stand.{InText, InAttribute}
 use Rattle.html5grammar.proofs.ReadingLemmas.{reading-events}
 use Rattle.html5grammar.proofs.Traces.{messages-append, messages-map}
-use Rattle.html5states.specs.Steps.{IsBuilt}
+use Rattle.html5parts.specs.Steps.{IsBuilt}
 use Rattle.html5ever.specs.Tokenizer.{Tokenizing, StandsAt}
 use Rattle.html5print.specs.Page.{Page, Printer, page_step, page_reply, blank_page}
 use Rattle.html5print.proofs.Pages.{lines-stepped}
@@ -45,6 +48,11 @@ told_at_end_of-ends rules LessThan built = (end_error_in rules.exact state.TagOp
 told_at_end_of-ends rules LessThanSolidus built = (end_error_in rules.exact state.EndTagOpen ∷ Text (codes "<") ∷ Text (codes "/") ∷ [], refl)
 told_at_end_of-ends rules (InTag place tag) built = (end_error_in rules.exact (state_at place) ∷ [], refl)
 told_at_end_of-ends rules (InRaw place name) built = (told_at_raw_end rules.exact place, refl)
+told_at_end_of-ends rules (InDeclaration held) built = (Comment held ∷ [], refl)
+told_at_end_of-ends rules (InComment text) built = (end_error_in rules.exact (comment_state state.CommentEnd text) ∷ Comment (comment_content text) ∷ [], refl)
+told_at_end_of-ends rules (InBogusComment text) built = (Comment text ∷ [], refl)
+told_at_end_of-ends rules (InDoctype place doctype) built = (told_at_doctype_end rules.exact place doctype, refl)
+told_at_end_of-ends rules (InDoctypeKeyword held doctype) built = (told_at_doctype_end rules.exact Skipped (with_quirks doctype), refl)
 told_at_end_of-ends rules (InReference (InText mode) held) built = between-ends rules.exact mode
 told_at_end_of-ends rules (InReference (InAttribute kind tag) held) built = (end_error_in rules.exact (state_at (InValue kind)) ∷ [], refl)
 told_at_end_of-ends rules NotBuilt built = absurd built

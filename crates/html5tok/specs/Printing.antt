@@ -9,7 +9,7 @@ use Rattle.html5grammar.specs.Reading.{reading, messages, after}
 use Rattle.html5grammar.specs.Start.{Open, start_of}
 use Rattle.html5grammar.specs.Start.Open.{NotBuilt}
 use Rattle.html5tok.specs.Settings.{SettingsOf, rules_said}
-use Rattle.html5states.specs.Steps.{IsBuilt}
+use Rattle.html5parts.specs.Steps.{IsBuilt}
 
 -- the printed lines of the reading of a text, whose bytes are given: the cut is not in it
 unfoldable pub printed_reading : SettingsOf → List ℕ → List ℕ

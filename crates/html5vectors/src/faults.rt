@@ -14,7 +14,7 @@ use std::test::Fail;
 // and what the queue keeps.
 type Stop<'a> = (&'a str, bool, usize, bool, &'a str);
 
-const STOPS: [Stop<'static>; 11] = [
+const STOPS: [Stop<'static>; 19] = [
     ("a\0bc", true, 0, false, "\0bc"),
     ("a\0bc", true, 1, false, "bc"),
     ("a\0bc", true, 2, true, "bc"),
@@ -26,6 +26,14 @@ const STOPS: [Stop<'static>; 11] = [
     ("<a b=\"1\"c='2'c>x", false, 2, true, "x"),
     ("<a b=\"1\"c='2'c>x", false, 3, true, "x"),
     ("<a b=\"1\"c='2'c>x", false, 4, true, ""),
+    ("<!x>b", false, 0, false, ">b"),
+    ("<!x>b", false, 1, true, "b"),
+    ("<!--a-->b", false, 0, false, "b"),
+    ("<!doctypea>b", false, 0, false, ">b"),
+    ("<!doctypea>b", false, 1, true, "b"),
+    ("<!doctypea>b", false, 2, true, ""),
+    ("<!doctype a px>b", false, 0, false, ">b"),
+    ("<!doctype a px>b", false, 1, true, "b"),
 ];
 
 // Feeds a text to a sink that faults.
@@ -60,33 +68,55 @@ fn stops_where_the_sink_faults(rt: HostRuntime) -> Result<(), Fail> {
     Ok(())
 }
 
-// Feeds a text whole. At its end the sink faults, at a token or when it finishes.
-fn check_end(
-    rt: &impl Abort,
-    alloc: Global,
-    plain: bool,
-    taken: usize,
-    end_faults: bool,
-) -> Result<(), AllocError> {
+// A text and whether it is plain, how many of its tokens are taken, whether one of them is no text,
+// and whether the sink faults as it finishes, not at the next token.
+type EndStop<'a> = (&'a str, bool, usize, bool, bool);
+
+const END_STOPS: [EndStop<'static>; 10] = [
+    ("a", false, 1, false, false),
+    ("a", false, 2, true, true),
+    ("a", true, 1, false, false),
+    ("a", true, 2, true, true),
+    ("<!doctype", false, 0, false, false),
+    ("<!doctype", false, 1, true, false),
+    ("<!doctype", false, 2, true, false),
+    ("<!doctype", false, 3, true, true),
+    ("<!doctype a p", false, 0, false, false),
+    ("<!doctype a p", false, 1, true, false),
+];
+
+// Feeds a text whole. At its end the sink faults.
+fn check_end(rt: &impl Abort, alloc: Global, stop: EndStop) -> Result<(), AllocError> {
+    let (text, plain, taken, took_another, end_faults) = stop;
     let opts = options(false, plain);
     let names = profile(alloc)?;
     let mut tokenizer = Tokenizer::new(alloc, FaultySink::new(taken, end_faults), opts, &names);
     let mut queue = BufferQueue::new(alloc);
-    push_text(alloc, &mut queue, "a")?;
-    assert_eq!(rt; tokenizer.feed(&mut queue), Ok(TokenizerResult::Done));
-    assert!(rt; queue.is_empty());
-    assert_eq!(rt; tokenizer.end(), Err(TokenizerError::Sink));
-    check_refused(rt, &mut tokenizer, &mut queue, "the end");
-    assert_eq!(rt; tokenizer.sink.took_another, end_faults);
+    push_text(alloc, &mut queue, text)?;
+    assert_eq!(rt;
+        tokenizer.feed(&mut queue),
+        Ok(TokenizerResult::Done),
+        "{text} at {taken}"
+    );
+    assert!(rt; queue.is_empty(), "{text} at {taken}");
+    assert_eq!(rt;
+        tokenizer.end(),
+        Err(TokenizerError::Sink),
+        "{text} at {taken}"
+    );
+    check_refused(rt, &mut tokenizer, &mut queue, text);
+    assert_eq!(rt;
+        tokenizer.sink.took_another,
+        took_another,
+        "{text} at {taken}"
+    );
     Ok(())
 }
 
 #[test]
 fn stops_where_the_sink_faults_at_the_end(rt: HostRuntime) -> Result<(), Fail> {
-    for plain in [false, true] {
-        // The end of input is the second token.
-        check_end(&rt, rt.alloc(), plain, 1, false)?;
-        check_end(&rt, rt.alloc(), plain, 2, true)?;
+    for stop in END_STOPS {
+        check_end(&rt, rt.alloc(), stop)?;
     }
     Ok(())
 }

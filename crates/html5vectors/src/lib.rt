@@ -4,6 +4,10 @@
 #[cfg(test)]
 mod characters;
 #[cfg(test)]
+mod comment_cases;
+#[cfg(test)]
+mod doctype_cases;
+#[cfg(test)]
 mod end_cases;
 #[cfg(test)]
 mod errors;
@@ -12,13 +16,13 @@ mod examples;
 #[cfg(test)]
 mod faults;
 #[cfg(test)]
+mod kept_parts;
+#[cfg(test)]
 mod lines;
 #[cfg(test)]
 mod memory;
 #[cfg(test)]
 mod names;
-#[cfg(test)]
-mod not_built;
 #[cfg(test)]
 mod pause_cases;
 #[cfg(test)]

@@ -1,5 +1,5 @@
 //! Entries of a collector, written as lines.
-use html5ever_interface::interface::token::{Tag, TagKind, Token};
+use html5ever_interface::interface::token::{Doctype, Tag, TagKind, Token};
 use markup5ever::interface::Attribute;
 use std::alloc::{AllocError, Allocator, Global};
 
@@ -84,7 +84,37 @@ fn push_tag<A: Allocator>(
     Ok(())
 }
 
-// Appends a token. No DOCTYPE is told yet.
+// Appends a part of a DOCTYPE behind a space, or a dash where it has none.
+fn push_part<A: Allocator>(
+    alloc: Global,
+    out: &mut String,
+    part: &Option<String<A>>,
+) -> Result<(), AllocError> {
+    out.push(' ')?;
+    match part {
+        Some(text) => push_quoted(alloc, out, text.as_str()),
+        None => out.push('-'),
+    }
+}
+
+// Appends a DOCTYPE.
+fn push_doctype<A: Allocator>(
+    alloc: Global,
+    out: &mut String,
+    doctype: &Doctype<A>,
+    line: u64,
+) -> Result<(), AllocError> {
+    push_head(alloc, out, "doctype", line)?;
+    push_part(alloc, out, &doctype.name)?;
+    push_part(alloc, out, &doctype.public_id)?;
+    push_part(alloc, out, &doctype.system_id)?;
+    if doctype.force_quirks {
+        out.push_str(" quirks")?;
+    }
+    Ok(())
+}
+
+// Appends a token.
 fn push_token<A: Allocator>(
     alloc: Global,
     out: &mut String,
@@ -92,7 +122,7 @@ fn push_token<A: Allocator>(
     line: u64,
 ) -> Result<(), AllocError> {
     match token {
-        Token::DoctypeToken(_) => push_head(alloc, out, "doctype", line),
+        Token::DoctypeToken(doctype) => push_doctype(alloc, out, doctype, line),
         Token::TagToken(tag) => push_tag(alloc, out, tag, line),
         Token::CommentToken(text) => push_message(alloc, out, "comment", line, text.as_str()),
         Token::CharacterTokens(text) => {
@@ -116,6 +146,31 @@ pub fn lines_of<A: Allocator>(
             out.push('\n')?;
         }
         push_token(alloc, &mut out, token, *line)?;
+    }
+    Ok(out)
+}
+
+// Appends a line as it stands with exact errors, which name no state.
+fn push_exact(out: &mut String, line: &str) -> Result<(), AllocError> {
+    if let Some((head, _)) = line.split_once(" \"Saw EOF in state ") {
+        out.push_str(head)?;
+        return out.push_str(" \"Unexpected EOF\"");
+    }
+    if let Some((head, _)) = line.split_once(" \"Saw ") {
+        out.push_str(head)?;
+        return out.push_str(" \"Bad character\"");
+    }
+    out.push_str(line)
+}
+
+/// The same lines with exact errors, where no character is a bad one.
+pub fn exact_lines(alloc: Global, lines: &str) -> Result<String, AllocError> {
+    let mut out = String::new(alloc);
+    for line in lines.lines() {
+        if !out.is_empty() {
+            out.push('\n')?;
+        }
+        push_exact(&mut out, line)?;
     }
     Ok(out)
 }

@@ -65,42 +65,109 @@ pub fn is_beginning(alloc: Global, lines: &str, others: &str) -> Result<bool, Al
     Ok(whole.as_str().starts_with(ended.as_str()))
 }
 
-#[test]
-fn a_refused_request_leaves_a_beginning(rt: HostRuntime) -> Result<(), Fail> {
-    let lines = "error 1 \"Saw c in state AfterAttributeValueQuoted\"\n\
-                 error 1 \"Saw c in state AfterAttributeValueQuoted\"\n\
-                 error 1 \"Duplicate attribute\"\n\
-                 start 1 \"a\" \"b\"=\"1\" \"c\"=\"2\" duplicates\n\
-                 eof 1";
+// Refuses each request of a reading in turn, until none is left: some in the tokenizer, some in its
+// sink.
+fn check_refusals(
+    rt: &impl Abort,
+    alloc: Global,
+    text: &str,
+    lines: &str,
+) -> Result<(), AllocError> {
     let mut in_tokenizer = 0u64;
     let mut in_sink = 0u64;
     let mut is_whole = false;
     for admitted in 0..1000u64 {
-        let heap = Refusing::new(rt.alloc(), admitted);
-        let Some((told, refused)) = told_on(&rt, rt.alloc(), &heap, "<a b=\"1\"c='2'c>")? else {
+        let heap = Refusing::new(alloc, admitted);
+        let Some((told, refused)) = told_on(rt, alloc, &heap, text)? else {
             continue;
         };
-        assert_eq!(rt; refused.is_some(), heap.has_refused(), "after {admitted}");
+        assert_eq!(rt;
+            refused.is_some(),
+            heap.has_refused(),
+            "{text} after {admitted}"
+        );
         assert!(rt;
-            is_beginning(rt.alloc(), &told, lines)?,
-            "after {admitted}: {told}"
+            is_beginning(alloc, &told, lines)?,
+            "{text} after {admitted}: {told}"
         );
         match refused {
             Some(TokenizerError::Memory) => in_tokenizer = in_tokenizer.wrapping_add(1),
             Some(error) => {
-                assert_eq!(rt; error, TokenizerError::Sink, "after {admitted}");
+                assert_eq!(rt; error, TokenizerError::Sink, "{text} after {admitted}");
                 in_sink = in_sink.wrapping_add(1);
             }
             None => {
-                assert_eq!(rt; told.as_str(), lines);
+                assert_eq!(rt; told.as_str(), lines, "{text}");
                 is_whole = true;
                 break;
             }
         }
     }
-    assert!(rt; is_whole);
+    assert!(rt; is_whole, "{text}");
     // Each of the two makes more than one request.
-    assert!(rt; in_tokenizer > 1);
-    assert!(rt; in_sink > 1);
+    assert!(rt; in_tokenizer > 1, "{text}");
+    assert!(rt; in_sink > 1, "{text}");
+    Ok(())
+}
+
+// A text, and what it tells.
+const REFUSED: [(&str, &str); 5] = [
+    (
+        "<a b=\"1\"c='2'c>",
+        "error 1 \"Saw c in state AfterAttributeValueQuoted\"\n\
+         error 1 \"Saw c in state AfterAttributeValueQuoted\"\n\
+         error 1 \"Duplicate attribute\"\n\
+         start 1 \"a\" \"b\"=\"1\" \"c\"=\"2\" duplicates\n\
+         eof 1",
+    ),
+    (
+        "<!--a-\0--!></1><!d",
+        "error 1 \"Saw \\u{0} in state CommentEndDash\"\n\
+         error 1 \"Saw > in state CommentEndBang\"\n\
+         comment 1 \"a-\u{fffd}\"\n\
+         error 1 \"Saw 1 in state EndTagOpen\"\n\
+         comment 1 \"1\"\n\
+         error 1 \"Saw ! in state MarkupDeclarationOpen\"\n\
+         comment 1 \"d\"\n\
+         eof 1",
+    ),
+    (
+        "<!-x><!--a<!--b--",
+        "error 1 \"Saw ! in state MarkupDeclarationOpen\"\n\
+         comment 1 \"-x\"\n\
+         error 1 \"Saw b in state CommentLessThanSignBangDashDash\"\n\
+         error 1 \"Saw EOF in state CommentEnd\"\n\
+         comment 1 \"a<!--b\"\n\
+         eof 1",
+    ),
+    (
+        "<!doctypeA\0 pub><!DOCTYPE b PUBLIC\"x\"'\0y'><!doctype c syste",
+        "error 1 \"Saw A in state Doctype\"\n\
+         error 1 \"Saw \\u{0} in state DoctypeName\"\n\
+         error 1 \"Saw p in state AfterDoctypeName\"\n\
+         doctype 1 \"a\u{fffd}\" - - quirks\n\
+         error 1 \"Saw \\\" in state AfterDoctypeKeyword(Public)\"\n\
+         error 1 \"Saw ' in state AfterDoctypeIdentifier(Public)\"\n\
+         error 1 \"Saw \\u{0} in state DoctypeIdentifierSingleQuoted(System)\"\n\
+         doctype 1 \"b\" \"x\" \"\u{fffd}y\"\n\
+         error 1 \"Saw s in state AfterDoctypeName\"\n\
+         doctype 1 \"c\" - - quirks\n\
+         eof 1",
+    ),
+    (
+        "<!doctype a system 's' x><!doctype b public 'p' \"s",
+        "error 1 \"Saw x in state AfterDoctypeIdentifier(System)\"\n\
+         doctype 1 \"a\" - \"s\"\n\
+         error 1 \"Saw EOF in state DoctypeIdentifierDoubleQuoted(System)\"\n\
+         doctype 1 \"b\" \"p\" \"s\" quirks\n\
+         eof 1",
+    ),
+];
+
+#[test]
+fn a_refused_request_leaves_a_beginning(rt: HostRuntime) -> Result<(), Fail> {
+    for (text, lines) in REFUSED {
+        check_refusals(&rt, rt.alloc(), text, lines)?;
+    }
     Ok(())
 }

@@ -4,7 +4,7 @@ use crate::memory::is_beginning;
 use crate::names::profile;
 use crate::refused::drained;
 use crate::running::{cut, options, push_text};
-use crate::sinks::Steering;
+use crate::sinks::{FaultySink, Steering};
 use html5ever::TokenizerError;
 use html5ever::tokenizer::laws::closed;
 use html5ever::tokenizer::steps::{Step, feed_until_done, run_steps};
@@ -176,7 +176,7 @@ fn is_done_where_no_reply_pauses(rt: HostRuntime) -> Result<(), Fail> {
 type Run<'a> = (&'a [Piece<'a>], &'a str);
 
 // A CR and a LF are one line break, also where one of them was put in front of what waits.
-const RUNS: [Run<'static>; 5] = [
+const RUNS: [Run<'static>; 6] = [
     (
         &[Piece::Behind("<s>x"), Piece::InFront("<b>")],
         "start 1 \"s\"\nstart 1 \"b\"\ntext \"x\"\neof 1",
@@ -192,6 +192,10 @@ const RUNS: [Run<'static>; 5] = [
     (
         &[Piece::Behind("a\r"), Piece::InFront("\nb")],
         "text \"a\\nb\"\neof 2",
+    ),
+    (
+        &[Piece::Behind("<s>x-->y"), Piece::InFront("<!--")],
+        "start 1 \"s\"\ncomment 1 \"x\"\ntext \"y\"\neof 1",
     ),
     (&[], "eof 1"),
 ];
@@ -313,15 +317,11 @@ fn says_whether_nothing_is_pending(rt: HostRuntime) -> Result<(), Fail> {
 fn something_is_pending_behind_a_refusal(rt: HostRuntime) -> Result<(), Fail> {
     let alloc = rt.alloc();
     let names = profile(alloc)?;
-    let mut tokenizer = Tokenizer::new(
-        alloc,
-        Collector::new(alloc, false),
-        options(false, false),
-        &names,
-    );
+    let sink = FaultySink::new(1, false);
+    let mut tokenizer = Tokenizer::new(alloc, sink, options(false, false), &names);
     let mut queue = BufferQueue::new(alloc);
-    push_text(alloc, &mut queue, "a<!")?;
-    assert_eq!(rt; tokenizer.feed(&mut queue), Err(TokenizerError::NotYet));
+    push_text(alloc, &mut queue, "a<b>")?;
+    assert_eq!(rt; tokenizer.feed(&mut queue), Err(TokenizerError::Sink));
     assert!(rt; !tokenizer.nothing_pending());
     Ok(())
 }

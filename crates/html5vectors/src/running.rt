@@ -2,7 +2,7 @@
 ghost use Rattle.std.specs.Prelude.{◌≡◌, IfOk};
 ghost use Rattle.html5ever.specs.Tokenizer.{CanStart};
 
-use crate::lines::lines_of;
+use crate::lines::{exact_lines, lines_of};
 use crate::names::profile;
 use html5ever::tokenizer::{Tokenizer, TokenizerResult};
 use html5ever_interface::collect::Collector;
@@ -16,6 +16,12 @@ use std::process::Abort;
 /// The name of a case, the pieces that are fed, whether errors are exact, and the lines that a
 /// collector then holds.
 pub type Case<'a> = (&'a str, &'a [&'a str], bool, &'a str);
+
+/// A case whose errors are exact or not: its name, its pieces, and the lines where they are not.
+pub type AnyCase<'a> = (&'a str, &'a [&'a str], &'a str);
+
+/// A text, what is told of it before its end, and whether nothing is pending then.
+pub type Decided<'a> = (&'a str, &'a str, bool);
 
 /// The default options, but for the errors and the state.
 pub fn options<A: Allocator>(exact_errors: bool, plain: bool) -> TokenizerOpts<A>
@@ -207,5 +213,27 @@ pub fn check_case_from(
     let opts = options_from(alloc, exact, start)?;
     let told = lines_of_characters(rt, alloc, opts, names, &text)?;
     assert_eq!(rt; told.as_str(), lines, "{name}, in characters");
+    Ok(())
+}
+
+/// Runs a case with errors that name their state, and with exact ones.
+pub fn check_any_case(rt: &impl Abort, alloc: Global, case: AnyCase) -> Result<(), AllocError> {
+    let (name, pieces, lines) = case;
+    check_case(rt, alloc, false, (name, pieces, false, lines))?;
+    let exact = exact_lines(alloc, lines)?;
+    check_case(rt, alloc, false, (name, pieces, true, exact.as_str()))
+}
+
+/// Feeds a text that may go on.
+pub fn check_decided(rt: &impl Abort, alloc: Global, decided: Decided) -> Result<(), AllocError> {
+    let (text, lines, clean) = decided;
+    let names = profile(alloc)?;
+    let opts = options(false, false);
+    let mut tokenizer = Tokenizer::new(alloc, Collector::new(alloc, false), opts, &names);
+    let mut queue = BufferQueue::new(alloc);
+    feed_piece(rt, alloc, &mut tokenizer, &mut queue, text)?;
+    assert_eq!(rt; tokenizer.nothing_pending(), clean, "{text:?}");
+    let told = lines_of(alloc, tokenizer.sink.entries())?;
+    assert_eq!(rt; told.as_str(), lines, "{text:?}");
     Ok(())
 }

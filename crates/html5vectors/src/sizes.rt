@@ -53,6 +53,10 @@ fn tells_long_texts(rt: HostRuntime) -> Result<(), Fail> {
     let lines = format!(in alloc; "start 1 \"{long}\" \"{long}\"=\"{long}\"\neof 1")?;
     let pieces = [tag.as_str()];
     check_case(&rt, alloc, false, ("a tag", &pieces, false, &lines))?;
+    let comment = format!(in alloc; "<!--{long}-->")?;
+    let lines = format!(in alloc; "comment 1 \"{long}\"\neof 1")?;
+    let pieces = [comment.as_str()];
+    check_case(&rt, alloc, false, ("a comment", &pieces, false, &lines))?;
     Ok(())
 }
 
@@ -78,6 +82,24 @@ fn tells_a_million_ampersands(rt: HostRuntime) -> Result<(), Fail> {
     let names = profile(alloc)?;
     let text = repeated(alloc, "", "&&&&&&&&&&", 100_000, "")?;
     let lines = repeated(alloc, "text \"", "&&&&&&&&&&", 100_000, "\"\neof 1")?;
+    let told = lines_of_pieces(&rt, alloc, options(false, false), &names, &[&text])?;
+    assert!(rt; told == lines);
+    Ok(())
+}
+
+#[test]
+fn tells_a_comment_of_dashes(rt: HostRuntime) -> Result<(), Fail> {
+    let alloc = rt.alloc();
+    let names = profile(alloc)?;
+    let text = repeated(alloc, "<!--", "----------", 10_000, ">")?;
+    // Two of the dashes end the comment.
+    let lines = repeated(
+        alloc,
+        "comment 1 \"--------",
+        "----------",
+        9_999,
+        "\"\neof 1",
+    )?;
     let told = lines_of_pieces(&rt, alloc, options(false, false), &names, &[&text])?;
     assert!(rt; told == lines);
     Ok(())

@@ -2,33 +2,72 @@
 use crate::lines::lines_of;
 use crate::names::profile;
 use crate::running::options;
+use crate::sinks::FaultySink;
 use html5ever::TokenizerError;
-use html5ever::tokenizer::laws::{closed, reference, tag};
+use html5ever::tokenizer::laws::{closed, comment, doctype, reference, tag};
 use html5ever_interface::collect::Collector;
+use html5ever_interface::interface::token::Token;
+use std::alloc::{AllocError, Global};
+use std::process::Abort;
 use std::test::Fail;
+
+// Looks at what a collector holds, and at clones of it.
+fn check_collected(
+    rt: &impl Abort,
+    alloc: Global,
+    sink: &Collector,
+    lines: &str,
+) -> Result<(), AllocError> {
+    assert!(rt; sink.is_finished(), "{lines}");
+    assert_eq!(rt; lines_of(alloc, sink.entries())?.as_str(), lines);
+    for (token, _) in sink.entries() {
+        assert!(rt; token.try_clone()? == *token, "{lines}");
+        match token {
+            Token::TagToken(tag) => assert!(rt; tag.try_clone()? == *tag, "{lines}"),
+            Token::DoctypeToken(doctype) => assert!(rt;
+                doctype.try_clone()? == *doctype,
+                "{lines}"
+            ),
+            _ => {}
+        }
+    }
+    Ok(())
+}
 
 #[test]
 fn reads_a_whole_text(rt: HostRuntime) -> Result<(), Fail> {
     let alloc = rt.alloc();
     let cases = [
+        ("<a b=1>x", "start 1 \"a\" \"b\"=\"1\"\ntext \"x\"\neof 1"),
+        ("", "eof 1"),
         (
-            "<a b=1>x",
-            Ok(()),
-            true,
-            "start 1 \"a\" \"b\"=\"1\"\ntext \"x\"\neof 1",
+            "<b><!doctype",
+            "start 1 \"b\"\n\
+             error 1 \"Saw EOF in state Doctype\"\n\
+             doctype 1 - - - quirks\n\
+             eof 1",
         ),
-        ("", Ok(()), true, "eof 1"),
-        ("<b><!", Err(TokenizerError::NotYet), false, "start 1 \"b\""),
     ];
-    for (text, answer, finished, lines) in cases {
+    for (text, lines) in cases {
         let sink = Collector::new(alloc, false);
         let text = String::from_str(alloc, text)?;
         let names = profile(alloc)?;
         let (sink, read) = closed(alloc, sink, options(false, false), &names, text);
-        assert_eq!(rt; read, answer, "{lines}");
-        assert_eq!(rt; sink.is_finished(), finished, "{lines}");
-        assert_eq!(rt; lines_of(alloc, sink.entries())?.as_str(), lines);
+        assert_eq!(rt; read, Ok(()), "{lines}");
+        check_collected(&rt, alloc, &sink, lines)?;
     }
+    Ok(())
+}
+
+#[test]
+fn hands_the_sink_back_behind_a_refusal(rt: HostRuntime) -> Result<(), Fail> {
+    let alloc = rt.alloc();
+    let names = profile(alloc)?;
+    let text = String::from_str(alloc, "<b><c>")?;
+    let sink = FaultySink::new(1, false);
+    let (sink, read) = closed(alloc, sink, options(false, false), &names, text);
+    assert_eq!(rt; read, Err(TokenizerError::Sink));
+    assert!(rt; sink.took_another);
     Ok(())
 }
 
@@ -55,8 +94,94 @@ fn reads_one_tag(rt: HostRuntime) -> Result<(), Fail> {
         let text = String::from_str(alloc, text)?;
         let names = profile(alloc)?;
         let sink = tag(alloc, options(false, false), false, &names, text)?;
-        assert!(rt; sink.is_finished(), "{lines}");
-        assert_eq!(rt; lines_of(alloc, sink.entries())?.as_str(), lines);
+        check_collected(&rt, alloc, &sink, lines)?;
+    }
+    Ok(())
+}
+
+#[test]
+fn reads_one_comment(rt: HostRuntime) -> Result<(), Fail> {
+    let alloc = rt.alloc();
+    let cases = [
+        ("<!--a--!-->", "comment 1 \"a--!\"\neof 1"),
+        (
+            "<!--->",
+            "error 1 \"Saw > in state CommentStartDash\"\n\
+             comment 1 \"\"\n\
+             eof 1",
+        ),
+        (
+            "<!--a<!--\0--!>",
+            "error 1 \"Saw \\u{0} in state CommentLessThanSignBangDashDash\"\n\
+             error 1 \"Saw \\u{0} in state Comment\"\n\
+             error 1 \"Saw > in state CommentEndBang\"\n\
+             comment 1 \"a<!--\u{fffd}\"\n\
+             eof 1",
+        ),
+        (
+            "</1>",
+            "error 1 \"Saw 1 in state EndTagOpen\"\n\
+             comment 1 \"1\"\n\
+             eof 1",
+        ),
+        (
+            "<?x>",
+            "error 1 \"Saw ? in state TagOpen\"\n\
+             comment 1 \"?x\"\n\
+             eof 1",
+        ),
+        (
+            "<!doc\n>",
+            "error 1 \"Saw ! in state MarkupDeclarationOpen\"\n\
+             comment 2 \"doc\\n\"\n\
+             eof 2",
+        ),
+    ];
+    for (text, lines) in cases {
+        let text = String::from_str(alloc, text)?;
+        let names = profile(alloc)?;
+        let sink = comment(alloc, options(false, false), false, &names, text)?;
+        check_collected(&rt, alloc, &sink, lines)?;
+    }
+    Ok(())
+}
+
+#[test]
+fn reads_one_doctype(rt: HostRuntime) -> Result<(), Fail> {
+    let alloc = rt.alloc();
+    let cases = [
+        (
+            "<!doctypehtml>",
+            "error 1 \"Saw h in state Doctype\"\n\
+             doctype 1 \"html\" - -\n\
+             eof 1",
+        ),
+        (
+            "<!DOCTYPE A SYSTEM 'x>",
+            "error 1 \"Saw > in state DoctypeIdentifierSingleQuoted(System)\"\n\
+             doctype 1 \"a\" - \"x\" quirks\n\
+             eof 1",
+        ),
+        (
+            "<!doctype h public\"x\"'y'>",
+            "error 1 \"Saw \\\" in state AfterDoctypeKeyword(Public)\"\n\
+             error 1 \"Saw ' in state AfterDoctypeIdentifier(Public)\"\n\
+             doctype 1 \"h\" \"x\" \"y\"\n\
+             eof 1",
+        ),
+        (
+            "<!doctype\na PUB\0>",
+            "error 2 \"Saw P in state AfterDoctypeName\"\n\
+             error 2 \"Saw \\u{0} in state BogusDoctype\"\n\
+             doctype 2 \"a\" - - quirks\n\
+             eof 2",
+        ),
+    ];
+    for (text, lines) in cases {
+        let text = String::from_str(alloc, text)?;
+        let names = profile(alloc)?;
+        let sink = doctype(alloc, options(false, false), false, &names, text)?;
+        check_collected(&rt, alloc, &sink, lines)?;
     }
     Ok(())
 }
@@ -84,32 +209,22 @@ fn reads_one_reference(rt: HostRuntime) -> Result<(), Fail> {
         let text = String::from_str(alloc, text)?;
         let names = profile(alloc)?;
         let sink = reference(alloc, options(false, false), false, &names, text)?;
-        assert!(rt; sink.is_finished(), "{lines}");
-        assert_eq!(rt; lines_of(alloc, sink.entries())?.as_str(), lines);
+        check_collected(&rt, alloc, &sink, lines)?;
     }
     Ok(())
 }
 
 #[test]
-fn reads_a_text_that_is_no_tag_where_it_is_built(rt: HostRuntime) -> Result<(), Fail> {
+fn reads_a_text_that_is_no_tag(rt: HostRuntime) -> Result<(), Fail> {
     let alloc = rt.alloc();
     let text = String::from_str(alloc, "<b>x</b>")?;
     let names = profile(alloc)?;
     let sink = tag(alloc, options(false, false), true, &names, text)?;
-    assert!(rt; sink.is_finished());
-    assert_eq!(rt;
-        lines_of(alloc, sink.entries())?.as_str(),
-        "start 1 \"b\"\ntext \"x\"\nend 1 \"b\"\neof 1"
-    );
-    for text in ["<b><?", "<!b>"] {
-        let answer = tag(
-            alloc,
-            options(false, false),
-            false,
-            &names,
-            String::from_str(alloc, text)?,
-        );
-        assert_eq!(rt; answer.err(), Some(TokenizerError::NotYet), "{text}");
-    }
+    check_collected(
+        &rt,
+        alloc,
+        &sink,
+        "start 1 \"b\"\ntext \"x\"\nend 1 \"b\"\neof 1",
+    )?;
     Ok(())
 }

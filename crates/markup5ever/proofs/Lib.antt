@@ -1,4 +1,5 @@
 pub mod BufferQueueLemmas
+pub mod CaseLemmas
 pub mod NameOrder
 pub mod NamedReferencesLemmas
 pub mod Searches

@@ -1,4 +1,5 @@
 pub mod BufferQueue
+pub mod Case
 pub mod SetResult
 pub mod SmallCharSet
 pub mod Names

@@ -1,7 +1,7 @@
 //! The text that waits to be read.
-ghost use Rattle.std.specs.Prelude.{◌≡◌, ℕ, ◌<◌, ◌≤◌, ◌↔◌, List, [], ◌∷◌, length, take, drop, encode_utf8_all, IsTrue, IsNone, IsOk, IfOk, IfErr, IfSome, IfNone, OnOk, OnErr};
+ghost use Rattle.std.specs.Prelude.{◌≡◌, ◌≢◌, ℕ, true, false, ◌+◌, ◌<◌, ◌≤◌, ◌↔◌, List, [], ◌∷◌, length, take, drop, encode_utf8_all, IsTrue, IsNone, IsOk, IfOk, IfErr, IfSome, IfNone, OnOk, OnErr};
 ghost use Rattle.std.specs.Char.{IsScalar};
-ghost use Rattle.std.specs.Str.{IsUtf8, chars};
+ghost use Rattle.std.specs.Str.{IsAscii, IsUtf8, chars};
 ghost use Rattle.std.specs.String.{string_bytes};
 ghost use Rattle.markup5ever.specs.BufferQueue.{Gains, GainsFront, TakesBack, Takes};
 ghost use Rattle.markup5ever.specs.SmallCharSet.{IsMember};
@@ -23,6 +23,29 @@ pub enum SetResult<A: Allocator = Global> {
     FromSet(char),
     /// A run of characters that are not in the set.
     NotFromSet(String<A>),
+}
+
+/// How `BufferQueue::eat` compares letters.
+#[derive(Clone, Copy, Debug, PartialEq, Eq)]
+pub enum Case {
+    /// As they are.
+    Exact,
+    /// ASCII letters in any case, and all else as it is.
+    IgnoreAscii,
+}
+
+impl Case {
+    ghost use Rattle.markup5ever.specs.Case.{folded};
+
+    // Whether the two are equal, so compared.
+    fn equates(self, text: &[u8], pattern: &[u8]) -> bool
+        ensures { IsTrue result ↔ (folded self text.now ≡ folded self pattern.now) }
+    {
+        match self {
+            Case::Exact => text == pattern,
+            Case::IgnoreAscii => text.eq_ignore_ascii_case(pattern),
+        }
+    }
 }
 
 /// The text that waits to be read.
@@ -53,6 +76,8 @@ impl<A: Allocator> Model for BufferQueue<A> {
 }
 
 impl<A: Allocator> BufferQueue<A> {
+    ghost use Rattle.markup5ever.specs.Case.{BeginsLike, Differ, EndsWithin};
+
     /// A queue with no text, which takes no memory.
     pub fn new(alloc: A) -> BufferQueue<A>
         ensures text { result.text ≡ [] }
@@ -159,6 +184,32 @@ impl<A: Allocator> BufferQueue<A> {
         let c = self.front_text().chars().next()?;
         self.skip(c.len_utf8());
         Some(c)
+    }
+
+    /// Takes the pattern where what waits begins with it, and answers whether it does. `None` where
+    /// what waits ends before that is decided.
+    pub fn eat(&mut self, pat: &str, case: Case) -> Option<bool>
+        requires filled { pat.now ≢ [] }
+        requires ascii { IsAscii pat.now }
+        ensures begins { (result ≡ Some true) ↔ BeginsLike case self.old.text pat.now }
+        ensures differs { (result ≡ Some false) ↔ Differ case self.old.text pat.now }
+        ensures undecided { IsNone result ↔ EndsWithin case self.old.text pat.now }
+        ensures takes { result ≡ Some true →
+            Takes self.old self.new (take (length pat.now) self.old.text) }
+        ensures count { result ≡ Some true → self.new.taken ≡ self.old.taken + length pat.now }
+        ensures unchanged { result ≢ Some true → self.new ≡ self.old }
+    {
+        let front = self.front_text().as_bytes();
+        let pattern = pat.as_bytes();
+        let shared = front.len().min(pattern.len());
+        if !case.equates(&front[..shared], &pattern[..shared]) {
+            return Some(false);
+        }
+        if front.len() < pattern.len() {
+            return None;
+        }
+        self.skip(pattern.len());
+        Some(true)
     }
 
     /// All that waits, in one piece. It goes on waiting.

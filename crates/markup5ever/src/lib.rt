@@ -8,7 +8,7 @@ pub mod interface;
 pub mod small_char_set;
 pub mod tokenizer_result;
 
-pub use crate::buffer_queue::{BufferQueue, SetResult};
+pub use crate::buffer_queue::{BufferQueue, Case, SetResult};
 pub use crate::count::Count;
 pub use crate::data::{NamedReferences, TableError};
 pub use crate::interface::{Attribute, LocalName, Namespace, Prefix, QualName};

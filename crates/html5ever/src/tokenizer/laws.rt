@@ -5,6 +5,8 @@ ghost use Rattle.std.specs.Str.{chars};
 ghost use Rattle.html5ever_interface.specs.Collected.{none_collected, collected_step, collected_finish};
 ghost use Rattle.html5ever_interface.specs.Options.{options_of};
 ghost use Rattle.html5ever_interface.specs.Sink.{stepped};
+ghost use Rattle.html5grammar.specs.OneComment.{WrittenComment, IsComment, comment_messages};
+ghost use Rattle.html5grammar.specs.OneDoctype.{WrittenDoctype, IsDoctype, doctype_messages};
 ghost use Rattle.html5grammar.specs.OneReference.{WrittenReference, IsReference, reference_messages};
 ghost use Rattle.html5grammar.specs.OneTag.{WrittenTag, IsTag, tag_messages};
 ghost use Rattle.html5grammar.specs.WrittenRaw.{WrittenRaw, IsRawText, raw_messages};
@@ -14,7 +16,7 @@ ghost use Rattle.html5grammar.specs.Start.Open.{NotBuilt};
 ghost use Rattle.html5ever.specs.RunSteps.{run_text};
 ghost use Rattle.html5ever.specs.RunSteps.StepOf.{AtBack};
 ghost use Rattle.html5states.specs.Telling.{IsRefusal, IsNotFailed, faults_of};
-ghost use Rattle.html5states.specs.Steps.{IsBuilt};
+ghost use Rattle.html5parts.specs.Steps.{IsBuilt};
 ghost use Rattle.html5ever.specs.Tokenizer.{CanStart, rules_of, IsBuiltBehind, MeetsNotBuilt, ReadsWhole, StopsWhole, WholeStops, collected_of, opened_collecting};
 
 use crate::tokenizer::Tokenizer;
@@ -23,7 +25,7 @@ use html5ever_interface::collect::Collector;
 use html5ever_interface::interface::sink::TokenSink;
 use html5ever_interface::interface::token::Token;
 use html5ever_interface::options::TokenizerOpts;
-use html5states::error::TokenizerError;
+use html5parts::error::TokenizerError;
 use markup5ever::buffer_queue::BufferQueue;
 use markup5ever::data::NamedReferences;
 use std::alloc::Allocator;
@@ -187,6 +189,64 @@ pub fn raw<A: Allocator + Copy>(
     ensures not_failed { IfErr result IsNotFailed }
     ensures refusals { IfErr result (λ error. (raw : Raw) (name : List ℕ) (written : WrittenRaw) →
         IsRawText (start_of (options_of opts)) (chars (string_bytes text)) raw name written → IsRefusal error) }
+{
+    collect(alloc, opts, foreign, names, text)
+}
+
+/// Reads a whole text by a collector. Where the text is one comment, written out, also a bogus one,
+/// the collector then holds its errors, each at its character, the comment, and the end.
+pub fn comment<A: Allocator + Copy>(
+    alloc: A,
+    opts: TokenizerOpts<A>,
+    foreign: bool,
+    names: &NamedReferences<A>,
+    text: String<A>,
+) -> Result<Collector<A>, TokenizerError>
+    requires { CanStart opts.initial_state }
+    ensures reads { IfOk result (λ sink. sink.collected ≡ collected_of (options_of opts) names.now foreign (chars (string_bytes text))) }
+    ensures comment { IfOk result (λ sink. (comment : WrittenComment) →
+        IsComment (start_of (options_of opts)) (chars (string_bytes text)) comment →
+        sink.collected ≡ record {
+          messages = comment_messages opts.exact_errors (start_of (options_of opts)).input comment;
+          finished = true;
+          foreign = foreign;
+        }) }
+    ensures built { OnOk result (IsBuilt (opened_collecting (options_of opts) names.now foreign (chars (string_bytes text)))) }
+    ensures not_yet { result ≡ Err TokenizerError.NotYet
+        → opened_collecting (options_of opts) names.now foreign (chars (string_bytes text)) ≡ NotBuilt }
+    ensures no_fault { IfOk result (λ sink. sink.faults ≡ 0) }
+    ensures not_failed { IfErr result IsNotFailed }
+    ensures refusals { IfErr result (λ error. (comment : WrittenComment) →
+        IsComment (start_of (options_of opts)) (chars (string_bytes text)) comment → IsRefusal error) }
+{
+    collect(alloc, opts, foreign, names, text)
+}
+
+/// Reads a whole text by a collector. Where the text is one doctype, written out, the collector then
+/// holds its errors, each at its character, the doctype, and the end.
+pub fn doctype<A: Allocator + Copy>(
+    alloc: A,
+    opts: TokenizerOpts<A>,
+    foreign: bool,
+    names: &NamedReferences<A>,
+    text: String<A>,
+) -> Result<Collector<A>, TokenizerError>
+    requires { CanStart opts.initial_state }
+    ensures reads { IfOk result (λ sink. sink.collected ≡ collected_of (options_of opts) names.now foreign (chars (string_bytes text))) }
+    ensures doctype { IfOk result (λ sink. (doctype : WrittenDoctype) →
+        IsDoctype (start_of (options_of opts)) (chars (string_bytes text)) doctype →
+        sink.collected ≡ record {
+          messages = doctype_messages opts.exact_errors (start_of (options_of opts)).input doctype;
+          finished = true;
+          foreign = foreign;
+        }) }
+    ensures built { OnOk result (IsBuilt (opened_collecting (options_of opts) names.now foreign (chars (string_bytes text)))) }
+    ensures not_yet { result ≡ Err TokenizerError.NotYet
+        → opened_collecting (options_of opts) names.now foreign (chars (string_bytes text)) ≡ NotBuilt }
+    ensures no_fault { IfOk result (λ sink. sink.faults ≡ 0) }
+    ensures not_failed { IfErr result IsNotFailed }
+    ensures refusals { IfErr result (λ error. (doctype : WrittenDoctype) →
+        IsDoctype (start_of (options_of opts)) (chars (string_bytes text)) doctype → IsRefusal error) }
 {
     collect(alloc, opts, foreign, names, text)
 }

@@ -8,7 +8,7 @@ ghost use Rattle.html5grammar.specs.Start.Open.{NotBuilt};
 ghost use Rattle.html5ever.specs.Feed.{IsEndOf, IsLinear};
 ghost use Rattle.html5states.specs.Telling.{faults_of};
 ghost use Rattle.html5ever.specs.RunSteps.{step_of, waiting_with, run_text, FinishesRun, StopsRun, IsBuiltInRun, MeetsInRun};
-ghost use Rattle.html5states.specs.Steps.{IsBuilt};
+ghost use Rattle.html5parts.specs.Steps.{IsBuilt};
 ghost use Rattle.html5ever.specs.Tokenizer.{CanStart, rules_of, ReadsOn, MeetsNotBuilt, StopsReading, WholeStops};
 ghost use Rattle.html5ever.specs.Tokenizer.{FeedsOn, LeavesWaiting, FeedMeetsNotBuilt, StopsFeeding};
 
@@ -16,7 +16,7 @@ use crate::tokenizer::Tokenizer;
 use html5ever_interface::interface::sink::TokenSink;
 use html5ever_interface::interface::token::Token;
 use html5ever_interface::options::TokenizerOpts;
-use html5states::error::TokenizerError;
+use html5parts::error::TokenizerError;
 use markup5ever::buffer_queue::BufferQueue;
 use markup5ever::data::NamedReferences;
 use markup5ever::tokenizer_result::TokenizerResult;

@@ -52,11 +52,11 @@ pub struct Doctype<A: Allocator = Global> {
 #[derive(Drop)]
 #[derive_where(Debug, PartialEq, Eq)]
 pub enum Token<A: Allocator = Global> {
-    /// A DOCTYPE. None is told yet.
+    /// A DOCTYPE, at its `>` or at the end of input.
     DoctypeToken(Doctype<A>),
     /// A tag, at its `>`. One that has none is not told.
     TagToken(Tag<A>),
-    /// A comment's text, without `<!--` and `-->`. None is told yet.
+    /// A comment's text, without `<!--` and `-->`, or that of a bogus comment.
     CommentToken(String<A>),
     /// Text, never empty: line breaks are LF. A run of text may come in any number of these.
     CharacterTokens(String<A>),

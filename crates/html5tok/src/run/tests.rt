@@ -19,8 +19,13 @@ use std::env::FillError;
 use std::process::Abort;
 use std::test::Fail;
 
+mod comments;
+mod doctypes;
 mod raw_text;
 mod table;
+
+// The options, an input, and what is printed for it.
+type Row<'a> = (&'a [&'a str], &'a str, &'a str);
 
 const PLAIN: [&str; 2] = ["--state", "plaintext"];
 
@@ -250,21 +255,6 @@ fn prints_plain_text_behind_its_tag(rt: HostRuntime) -> Result<(), Fail> {
         "<plaintext><b>&",
         "start 1 \"plaintext\"\ntext \"<b>&\"\neof 1\n",
     )
-}
-
-#[test]
-fn tells_what_is_not_built_yet(rt: HostRuntime) -> Result<(), Fail> {
-    for input in ["<b>&amp;<!--", "<!", "<?x>", "</1", "<a b='&'><!"] {
-        let ran = run_over(rt.alloc(), &["--cut", "1"], input.as_bytes())?;
-        assert_eq!(rt; ran.status, 7, "{input:?}");
-        assert_eq!(rt; ran.output.len(), 0, "{input:?}");
-        assert_eq!(rt;
-            ran.errors.as_slice(),
-            b"not built yet\n".as_slice(),
-            "{input:?}"
-        );
-    }
-    Ok(())
 }
 
 #[test]

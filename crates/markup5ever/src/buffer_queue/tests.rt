@@ -1,3 +1,6 @@
+ghost use Rattle.std.specs.Prelude.{◌≡◌, ◌≢◌, ◌+◌, [], false, length, IsTrue};
+ghost use Rattle.std.specs.Str.{IsAscii};
+
 use super::*;
 use refusing::Refusing;
 use std::process::Abort;
@@ -287,5 +290,104 @@ fn a_refused_growth_leaves_the_queue(rt: HostRuntime) -> Result<(), Fail> {
     }
     // A push at each end, and a run.
     assert_eq!(rt; refused, 3);
+    Ok(())
+}
+
+// Eats a pattern from each text, and compares the answer and what waits then.
+fn expect_eaten(
+    rt: &impl Abort,
+    alloc: Global,
+    pat: &str,
+    case: Case,
+    wanted: &[(&str, Option<bool>, &str)],
+) -> Result<(), AllocError>
+    requires filled { pat.now ≢ [] }
+    requires ascii { IsAscii pat.now }
+{
+    for (text, answer, rest) in wanted {
+        let mut queue = BufferQueue::new(alloc);
+        assert!(rt; queue.push_back(String::from_str(alloc, text)?).is_ok());
+        assert_eq!(rt; queue.eat(pat, case), *answer, "{pat} from {text}");
+        assert_eq!(rt; queue.front_text(), *rest, "{pat} from {text}");
+    }
+    Ok(())
+}
+
+#[test]
+fn a_pattern_is_eaten_as_it_is(rt: HostRuntime) -> Result<(), Fail> {
+    let alloc = rt.alloc();
+    let dashes = [
+        ("", None, ""),
+        ("-", None, "-"),
+        ("-x", Some(false), "-x"),
+        ("x--", Some(false), "x--"),
+        ("--", Some(true), ""),
+        ("--x", Some(true), "x"),
+        ("---é", Some(true), "-é"),
+    ];
+    expect_eaten(&rt, alloc, "--", Case::Exact, &dashes)?;
+    let cdata = [
+        ("[CDATA", None, "[CDATA"),
+        ("[cdata[", Some(false), "[cdata["),
+        ("[c", Some(false), "[c"),
+        ("[CDATA[é", Some(true), "é"),
+    ];
+    expect_eaten(&rt, alloc, "[CDATA[", Case::Exact, &cdata)?;
+    Ok(())
+}
+
+#[test]
+fn a_pattern_is_eaten_in_any_case(rt: HostRuntime) -> Result<(), Fail> {
+    let alloc = rt.alloc();
+    let doctype = [
+        ("DocTYPE h", Some(true), " h"),
+        ("doctype", Some(true), ""),
+        ("DOC", None, "DOC"),
+        ("DOX", Some(false), "DOX"),
+        ("doé", Some(false), "doé"),
+    ];
+    expect_eaten(&rt, alloc, "doctype", Case::IgnoreAscii, &doctype)?;
+    // U+212A, which is a k in lower case but no letter of ASCII.
+    let letter = [("K", Some(true), ""), ("\u{212a}", Some(false), "\u{212a}")];
+    expect_eaten(&rt, alloc, "k", Case::IgnoreAscii, &letter)?;
+    // As far from one another as a letter's cases.
+    let bracket = [("{", Some(false), "{"), ("[", Some(true), "")];
+    expect_eaten(&rt, alloc, "[", Case::IgnoreAscii, &bracket)?;
+    Ok(())
+}
+
+#[test]
+fn a_pattern_is_eaten_once_all_of_it_waits(rt: HostRuntime) -> Result<(), Fail> {
+    let alloc = rt.alloc();
+    let mut queue = BufferQueue::new(alloc);
+    assert!(rt; queue.push_back(String::from_str(alloc, "éDo")?).is_ok());
+    assert_eq!(rt; queue.next(), Some('é'));
+    assert_eq!(rt; queue.eat("doctype", Case::IgnoreAscii), None);
+    assert!(rt; queue.push_back(String::from_str(alloc, "cType€")?).is_ok());
+    assert_eq!(rt; queue.eat("doctype", Case::Exact), Some(false));
+    assert_eq!(rt; queue.eat("doctype", Case::IgnoreAscii), Some(true));
+    assert_eq!(rt; queue.eat("doctype", Case::IgnoreAscii), Some(false));
+    assert_eq!(rt; queue.next(), Some('€'));
+    assert_eq!(rt; queue.eat("-", Case::Exact), None);
+    Ok(())
+}
+
+// Whether the pattern was eaten. Its characters count as taken only then.
+fn is_eaten(queue: &mut BufferQueue, pat: &str, case: Case) -> bool
+    requires filled { pat.now ≢ [] }
+    requires ascii { IsAscii pat.now }
+    ensures eaten { IsTrue result → queue.new.taken ≡ queue.old.taken + length pat.now }
+    ensures left { result ≡ false → queue.new.taken ≡ queue.old.taken }
+{
+    queue.eat(pat, case) == Some(true)
+}
+
+#[test]
+fn what_is_eaten_counts_as_taken(rt: HostRuntime) -> Result<(), Fail> {
+    let alloc = rt.alloc();
+    let mut queue = BufferQueue::new(alloc);
+    assert!(rt; queue.push_back(String::from_str(alloc, "--x")?).is_ok());
+    assert!(rt; is_eaten(&mut queue, "--", Case::Exact));
+    assert!(rt; !is_eaten(&mut queue, "--", Case::Exact));
     Ok(())
 }

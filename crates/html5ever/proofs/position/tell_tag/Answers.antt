@@ -1,5 +1,6 @@
 use Rattle.html5ever_interface.specs.declared.interface.token.Token.TheVariants.{TagToken}
-use Rattle.html5states.proofs.Tellings.{token-faults, cons≢nil}
+use Rattle.html5parts.proofs.Keywords.{cons≢nil}
+use Rattle.html5states.proofs.Tellings.{token-faults}
 use Rattle.html5ever.proofs.position.tell_tag.Goals as goal
 
 pub returns-in-Err-clause-tells : goal.returns-in-Err-clause-tells

@@ -1,6 +1,6 @@
 use Rattle.std.proofs.Common.{◌≡◌, ◌≤◌, ◌+◌, length}
 use Rattle.html5grammar.specs.Start.{held_len}
-use Rattle.html5states.specs.Steps.{IsBuilt}
+use Rattle.html5parts.specs.Steps.{IsBuilt}
 use Rattle.html5ever.proofs.QueueReading.{HasRead}
 use Rattle.html5ever.proofs.reading.read_queue.Given as goal
 

@@ -1,4 +1,4 @@
-use super::prints;
+use super::{Row, prints};
 use html5ever::tokenizer::steps::feed_until_done;
 use html5ever::tokenizer::{Tokenizer, TokenizerResult};
 use html5ever_interface::options::TokenizerOpts;
@@ -7,9 +7,6 @@ use markup5ever::buffer_queue::BufferQueue;
 use markup5ever::data::NamedReferences;
 use std::alloc::{AllocError, Global};
 use std::test::Fail;
-
-// The options, an input, and what is printed for it.
-type Row<'a> = (&'a [&'a str], &'a str, &'a str);
 
 const BY_WORDS: [Row<'static>; 13] = [
     (

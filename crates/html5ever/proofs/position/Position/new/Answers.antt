@@ -1,24 +1,17 @@
-use Rattle.std.proofs.Common.{◌≡◌, ◌∙◌, ap}
-use Rattle.std.specs.Prelude.{string_bytes}
-use Rattle.std.specs.Str.{chars}
-use Rattle.html5grammar.specs.Start.{Open, initial_mode}
+use Rattle.std.proofs.Common.{◌∙◌, ap}
+use Rattle.html5grammar.specs.Start.{initial_mode}
 use Rattle.html5grammar.specs.Start.Open.{Between}
-use Rattle.html5states.specs.CurrentTag.{open_of}
 use Rattle.html5ever.proofs.Standing.{starts-in, start-is}
 use Rattle.html5ever.proofs.position.Position.new.Goals as goal
 
 pub returns-clause-start : goal.returns-clause-start
 returns-clause-start g c =
-    let letters = chars (string_bytes c.new-2.result) in
-    let opened = c.standing.ensures.opened ∙ ap (λ s. open_of s c.new.result letters (string_bytes c.name_or_empty.result)) c.unwrap_or.ensures
-    ∙ starts-in c.args.opts.initial_state c.new.result letters (string_bytes c.name_or_empty.result) c.requires in
+    let opened = c.standing.ensures.opened ∙ starts-in c.args.opts.initial_state _ c.unwrap_or.ensures c.requires in
     start-is _ _
     (opened ∙ ap (λ name. Between (initial_mode c.args.opts.initial_state name)) c.name_or_empty.ensures)
     (c.standing.ensures.last ∙ c.name_or_empty.ensures)
-    (rw c.standing.ensures.input c.new-3.ensures.line) (rw c.standing.ensures.input c.new-3.ensures.no_carriage_return) (rw c.standing.ensures.input c.new-3.ensures.byte_order_mark)
+    (rw c.standing.ensures.input c.new-4.ensures.line) (rw c.standing.ensures.input c.new-4.ensures.no_carriage_return) (rw c.standing.ensures.input c.new-4.ensures.byte_order_mark)
 
 pub returns-clause-built : goal.returns-clause-built
 returns-clause-built g c =
-    let letters = chars (string_bytes c.new-2.result) in
-    rw (c.standing.ensures.opened ∙ ap (λ s. open_of s c.new.result letters (string_bytes c.name_or_empty.result)) c.unwrap_or.ensures
-    ∙ starts-in c.args.opts.initial_state c.new.result letters (string_bytes c.name_or_empty.result) c.requires) tt
+    rw (c.standing.ensures.opened ∙ starts-in c.args.opts.initial_state _ c.unwrap_or.ensures c.requires) tt

@@ -1,5 +1,5 @@
 use Rattle.std.proofs.Common.{◌∙◌, ap, sym, subst}
-use Rattle.html5states.specs.Steps.{IsBuilt}
+use Rattle.html5parts.specs.Steps.{IsBuilt}
 use Rattle.html5ever.specs.Tokenizer.{Tokenizing}
 use Rattle.html5ever.proofs.Standing.{StandsAt-anew}
 use Rattle.html5ever.proofs.tokenizer.Tokenizer.nothing_pending.Goals as goal

@@ -5,7 +5,7 @@ use Rattle.std.specs.String.{string_bytes}
 use Rattle.html5ever_interface.specs.Collected.{Collecting, none_collected, collected_step, collected_reply}
 use Rattle.html5ever_interface.specs.Options.{options_of}
 use Rattle.html5grammar.specs.Start.{start_of}
-use Rattle.html5states.specs.Steps.{IsBuilt}
+use Rattle.html5parts.specs.Steps.{IsBuilt}
 use Rattle.html5grammar.specs.OneReference.{IsReference, reference_messages}
 use Rattle.html5grammar.proofs.OneReferenceCollected.{collects-reference}
 use Rattle.html5grammar.proofs.OneReferenceReading.{after-reference}

@@ -5,7 +5,7 @@ use Rattle.html5ever_interface.specs.Sink.{stepped}
 use Rattle.html5grammar.specs.Reading.{reading, messages, after}
 use Rattle.html5grammar.specs.Start.{start_of}
 use Rattle.html5ever.specs.RunSteps.{step_of, run_text}
-use Rattle.html5states.specs.Steps.{IsBuilt}
+use Rattle.html5parts.specs.Steps.{IsBuilt}
 use Rattle.html5ever.specs.Tokenizer.{WholeStops}
 use Rattle.html5ever.proofs.tokenizer.steps.run_steps.Goals as goal
 

@@ -1,0 +1,148 @@
+-- A text that is one comment tells the comment's messages.
+use Rattle.std.proofs.Common.{◌≡◌, ℕ, Bool, true, List, [], ◌∷◌, ◌++◌, refl, ap, sym, ◌∙◌, subst}
+use Rattle.std.specs.Prelude.{not, codes}
+use Rattle.std.specs.List.{list_all}
+use Rattle.std.proofs.lemmas.Bool.{and_parts}
+use Rattle.std.proofs.lemmas.List.{append_assoc}
+use Rattle.html5ever_interface.specs.Sink.{Message, stepped, on_line}
+use Rattle.html5ever_interface.specs.Token.{Told, Reply}
+use Rattle.html5ever_interface.specs.declared.states.State.{State}
+use Rattle.html5ever_interface.specs.declared.states.State.TheVariants as state
+use Rattle.html5grammar.specs.Characters.{exclamation_mark, greater_than, is_letter}
+use Rattle.html5grammar.specs.Comment.{in_bogus_comment, begins_keyword}
+use Rattle.html5grammar.specs.ErrorText.{error_in}
+use Rattle.html5grammar.specs.NormalisedText.{line_after}
+use Rattle.html5grammar.specs.OneComment.{WrittenComment, before_greater_than, written, can_open, is_written, held_of, behind_held_of, spell_content, ending_errors, spell_end, spell_bogus, spell_odd, messages_of, comment_messages, IsComment}
+use Rattle.html5grammar.specs.OneComment.Opening.{Solidus, QuestionMark, ExclamationMark}
+use Rattle.html5grammar.specs.OneComment.WrittenComment.{Proper, Bogus}
+use Rattle.html5grammar.specs.OneTag.{Spelled, spell_silent, spelled_messages}
+use Rattle.html5grammar.specs.Reading.{reading, messages, after}
+use Rattle.html5grammar.specs.Slice.{silent}
+use Rattle.html5grammar.specs.Start.{Open, Start, Rules}
+use Rattle.html5grammar.specs.Start.Mode.{Data}
+use Rattle.html5grammar.specs.Start.Open.{Between, LessThan, InDeclaration, InComment, InBogusComment}
+use Rattle.html5grammar.specs.Tag.{null_error}
+use Rattle.html5grammar.specs.WrittenRaw.{next_is}
+use Rattle.html5grammar.proofs.Machine.{brought_at, step_at, data_step, less_than_step, declaration_step}
+use Rattle.html5grammar.proofs.Leading.{Leads, leads-goes, trace-leads, trace-ends, trace-text, IsRead, IsReadFrom, after-whole, reading-whole}
+use Rattle.html5grammar.proofs.OneCommentSteps.{goes-proper, goes-bogus_end, goes-solidus, goes-question_mark}
+use Rattle.html5grammar.proofs.OneCommentText.{bytes_of}
+use Rattle.html5grammar.proofs.OneCommentHeld.{held_of-plain, held-parts, leads-held, decides-held, line_after-held, trace-decides}
+use Rattle.html5grammar.proofs.OneTagReading.{characters, characters-spell, characters-two}
+use Rattle.html5grammar.proofs.OneTagSteps.{Goes}
+use Rattle.html5grammar.proofs.Traces.{trace, with_messages}
+
+-- ---- the characters that are spelled are the text
+
+characters-content : (exact : Bool) (before content : List ℕ) → characters (spell_content exact before content) ≡ content
+unfolding spell_content
+characters-content exact before [] = refl
+characters-content exact before (c ∷ content) = ap (λ l. c ∷ l) (characters-content exact (before ++ c ∷ []) content)
+
+characters-odd : (exact : Bool) (expecting : State) (content : List ℕ) → characters (spell_odd exact expecting content) ≡ content
+characters-odd exact expecting [] = refl
+characters-odd exact expecting (c ∷ content) = ap (λ l. c ∷ l) (characters-spell (null_error exact state.BogusComment) content)
+
+-- an opening, what follows it, and the `>`
+characters-three : (opening : List ℕ) (cells : List Spelled) (text : List ℕ) (errors : List Told) (content : List ℕ) → characters cells ≡ text
+    → characters (spell_silent opening ++ (cells ++ spell_end errors content)) ≡ opening ++ (text ++ greater_than ∷ [])
+characters-three opening cells text errors content e =
+    characters-two (spell_silent opening) (cells ++ spell_end errors content) opening (text ++ greater_than ∷ []) (characters-spell silent opening)
+    (characters-two cells (spell_end errors content) text (greater_than ∷ []) e refl)
+
+-- ---- the machine reads them
+
+module _ (rules : Rules) where
+  -- behind `<!--` a comment is open
+  leads-opening : (cells : List Spelled) (later : Open) → Leads rules (InComment []) cells later
+      → Leads rules (Between Data) (spell_silent (codes "<!--") ++ cells) later
+  unfolding Leads brought_at step_at data_step less_than_step declaration_step begins_keyword is_letter
+  leads-opening cells later leads = (LessThan, refl, (InDeclaration [], refl, (InDeclaration (codes "-"), refl, (InComment [], refl, leads))))
+
+  -- behind `<!` and what is held, a keyword is undecided
+  leads-declaration : (content : List ℕ) → can_open ExclamationMark content ≡ true
+      → Leads rules (Between Data) (spell_silent (codes "<!" ++ held_of content)) (InDeclaration (held_of content))
+  unfolding Leads brought_at step_at data_step less_than_step is_letter
+  leads-declaration content opens = (LessThan, refl, (InDeclaration [], refl, leads-held rules content [] content opens refl))
+
+all_behind : (text later : List ℕ) → list_all in_bogus_comment (text ++ later) ≡ true → list_all in_bogus_comment later ≡ true
+all_behind [] later h = h
+all_behind (c ∷ text) later h = all_behind text later (and_parts (in_bogus_comment c) (list_all in_bogus_comment (text ++ later)) h).1
+
+module _ {S H : Type 0} (step : S → Told → ℕ → S) (reply : S → Told → ℕ → Reply H) (rules : Rules) where
+  trace-whole : (K : Start) (s : S) (cells : List Spelled) (text : List ℕ) → characters cells ≡ text → Leads rules (Between Data) cells (Between Data)
+      → IsRead step reply rules K s text (spelled_messages rules.exact K.input [] cells)
+  trace-whole K s cells text e leads = trace-text step reply rules K.input [] s K.last_start_tag (Between Data) (Between Data) cells text e leads
+
+  -- behind `<!` a bogus comment is open once it is decided that no keyword comes
+  reads_declaration : (K : Start) (s : S) (content : List ℕ) → can_open ExclamationMark content ≡ true → list_all in_bogus_comment content ≡ true
+      → IsRead step reply rules K s (written (Bogus ExclamationMark content)) (messages_of rules.exact K.input (Bogus ExclamationMark content))
+  unfolding written messages_of
+  reads_declaration K s content opens within =
+      let held : List ℕ = held_of content in
+      let rest : List ℕ = behind_held_of content in
+      let past : List ℕ = codes "<!" ++ held in
+      let cells : List Spelled = spell_bogus rules.exact rest ++ spell_end [] content in
+      let line : ℕ = line_after K.input past in
+      let M : List Message = spelled_messages rules.exact K.input [] (spell_silent past) in
+      let E : List Message = on_line line (error_in rules.exact state.MarkupDeclarationOpen exclamation_mark ∷ []) in
+      let N : List Message = spelled_messages rules.exact K.input past cells in
+      let text : characters cells ≡ rest ++ greater_than ∷ [] =
+      characters-two (spell_bogus rules.exact rest) (spell_end [] content) rest (greater_than ∷ []) (characters-spell (null_error rules.exact state.BogusComment) rest) refl in
+      let whole : codes "<!" ++ (content ++ greater_than ∷ []) ≡ characters (spell_silent past) ++ characters cells =
+      ap (λ l. codes "<!" ++ (l ++ greater_than ∷ [])) (sym (held-parts content))
+      ∙ ap (λ l. codes "<!" ++ l) (append_assoc held rest (greater_than ∷ []))
+      ∙ ap (λ l. past ++ l) (sym text)
+      ∙ ap (λ l. l ++ characters cells) (sym (characters-spell silent past)) in
+      let goes : Goes rules.exact (InBogusComment held) cells (Between Data) =
+      subst (λ l. Goes rules.exact (InBogusComment l) cells (Between Data)) (held_of-plain content).bytes
+      (subst (λ l. Goes rules.exact (InBogusComment (bytes_of held)) (spell_bogus rules.exact rest ++ spell_end [] l) (Between Data)) (held-parts content)
+      (goes-bogus_end rules.exact held rest (all_behind held rest (ap (list_all in_bogus_comment) (held-parts content) ∙ within)))) in
+      ap (trace step reply rules s (line_after K.input []) K.last_start_tag (Between Data)) whole
+      ∙ trace-leads step reply rules K.input [] s K.last_start_tag (Between Data) (InDeclaration held) (spell_silent past) (characters cells) (leads-declaration rules content opens)
+      ∙ ap (λ l. with_messages M (trace step reply rules (stepped step s M) (line_after K.input l) K.last_start_tag (InDeclaration held) (characters cells))) (characters-spell silent past)
+      ∙ ap (with_messages M)
+      (trace-decides step reply rules (stepped step s M) line K.last_start_tag held (characters cells)
+      (ap (next_is (λ d. not (begins_keyword (held ++ d ∷ [])))) text ∙ decides-held content)
+      ∙ ap (with_messages E)
+      (trace-ends step reply rules K.input past (stepped step (stepped step s M) E) K.last_start_tag (InBogusComment held) (Between Data) cells
+      (leads-goes rules (InBogusComment held) (Between Data) cells goes)))
+      ∙ ap (λ n. record { messages = M ++ (on_line n (error_in rules.exact state.MarkupDeclarationOpen exclamation_mark ∷ []) ++ N); opened = Between Data; last_start_tag = K.last_start_tag }) (line_after-held K.input content)
+
+  reads : (K : Start) (s : S) (comment : WrittenComment) → is_written comment ≡ true → IsRead step reply rules K s (written comment) (messages_of rules.exact K.input comment)
+  unfolding is_written written messages_of
+  reads K s (Proper content ending) h =
+      let front : List ℕ = content ++ before_greater_than ending in
+      let cells : List Spelled = spell_content rules.exact [] front ++ spell_end (ending_errors rules.exact ending) content in
+      trace-whole K s (spell_silent (codes "<!--") ++ cells) (written (Proper content ending))
+      (characters-three (codes "<!--") (spell_content rules.exact [] front) front (ending_errors rules.exact ending) content (characters-content rules.exact [] front))
+      (leads-opening rules cells (Between Data) (leads-goes rules (InComment []) (Between Data) cells (goes-proper rules.exact content ending h)))
+  reads K s (Bogus Solidus content) h =
+      let cells : List Spelled = spell_odd rules.exact state.EndTagOpen content in
+      trace-whole K s (spell_silent (codes "</") ++ (cells ++ spell_end [] content)) (written (Bogus Solidus content))
+      (characters-three (codes "</") cells content [] content (characters-odd rules.exact state.EndTagOpen content))
+      (leads-goes rules (Between Data) (Between Data) (spell_silent (codes "</") ++ (cells ++ spell_end [] content)) (goes-solidus rules.exact content h))
+  reads K s (Bogus QuestionMark content) h =
+      let cells : List Spelled = spell_odd rules.exact state.TagOpen content in
+      trace-whole K s (spell_silent (codes "<") ++ (cells ++ spell_end [] content)) (written (Bogus QuestionMark content))
+      (characters-three (codes "<") cells content [] content (characters-odd rules.exact state.TagOpen content))
+      (leads-goes rules (Between Data) (Between Data) (spell_silent (codes "<") ++ (cells ++ spell_end [] content)) (goes-question_mark rules.exact content h))
+  reads K s (Bogus ExclamationMark content) h =
+      let p = and_parts (can_open ExclamationMark content) (list_all in_bogus_comment content) h in
+      reads_declaration K s content p.0 p.1
+
+  reads_comment : (K : Start) (s : S) (X : List ℕ) (comment : WrittenComment) → IsComment K X comment
+      → IsReadFrom step reply rules K s X (messages_of rules.exact K.input comment)
+  reads_comment K s X comment one = rw (one.starts, one.text) (reads K s comment one.is_comment)
+
+  pub after-comment : (K : Start) (s : S) (X : List ℕ) (comment : WrittenComment) → IsComment K X comment
+      → (after step reply rules K s X).opened ≡ Between Data
+  after-comment K s X comment one =
+      after-whole step reply rules K s X (messages_of rules.exact K.input comment) (reads_comment K s X comment one)
+
+  -- a text that is one comment
+  pub reading-comment : (K : Start) (s : S) (X : List ℕ) (comment : WrittenComment) → IsComment K X comment
+      → messages (reading step reply rules K s X) ≡ comment_messages rules.exact K.input comment
+  unfolding comment_messages
+  reading-comment K s X comment one =
+      reading-whole step reply rules K s X (messages_of rules.exact K.input comment) (reads_comment K s X comment one) ∙ rw one.text refl

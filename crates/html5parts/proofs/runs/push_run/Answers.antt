@@ -1,0 +1,40 @@
+use Rattle.std.proofs.Common.{◌≡◌, ◌≢◌, ◌++◌, refl, ap, sym, ◌∙◌, string_bytes}
+use Rattle.std.specs.Prelude.{Contains, flat_map}
+use Rattle.std.specs.Str.{chars}
+use Rattle.std.proofs.lemmas.List.Elements.{All-weaker}
+use Rattle.std.proofs.lemmas.Str.{encodes-chars}
+use Rattle.html5grammar.specs.Characters.{null, value_bytes}
+use Rattle.html5grammar.specs.Start.Open.{InTag, InComment, InBogusComment}
+use Rattle.html5grammar.specs.Start.Place.{InValue}
+use Rattle.html5parts.specs.CurrentTag.{open_tag}
+use Rattle.html5parts.specs.Runs.{run_ends}
+use Rattle.html5parts.proofs.RunSteps.{value_bytes-run, no_null}
+use Rattle.html5parts.proofs.runs.push_run.Goals as goal
+
+pub returns-in_ok-push_str-in-AttributeValue : goal.returns-in_ok-push_str-in-AttributeValue
+returns-in_ok-push_str-in-AttributeValue g c =
+    let run = chars c.args.run.now in
+    let ordinary = c.requires.is_run.ordinary in
+    let value : flat_map value_bytes run ≡ c.args.run.now =
+    value_bytes-run run (All-weaker (λ d. ¬ Contains (run_ends c.requires.is_run.others) d) (λ d. d ≢ null) (no_null c.requires.is_run.others) run ordinary) ∙ encodes-chars c.args.run.now c.utf8.run in
+    record {
+      run =
+          rw c.in-AttributeValue.is (ap (λ v. InTag (InValue c.in-AttributeValue.field-0) (record (open_tag c.args.at.now.tag) { last_value = v }))
+          (c.in_ok-push_str-in-AttributeValue.ensures.bytes ∙ ap (λ l. string_bytes c.args.at.now.tag.attr_value ++ l) (sym value)));
+      last = refl;
+      held = rw c.in-AttributeValue.is refl;
+    }
+
+pub returns-in_ok-push_str-in-Comment-clause-run : goal.returns-in_ok-push_str-in-Comment-clause-run
+returns-in_ok-push_str-in-Comment-clause-run g c =
+    let run = chars c.args.run.now in
+    let value : flat_map value_bytes run ≡ c.args.run.now =
+    value_bytes-run run (All-weaker (λ d. ¬ Contains (run_ends c.requires.is_run.others) d) (λ d. d ≢ null) (no_null c.requires.is_run.others) run c.requires.is_run.ordinary) ∙ encodes-chars c.args.run.now c.utf8.run in
+    rw c.in-Comment.is (ap InComment (c.in_ok-push_str-in-Comment.ensures.bytes ∙ ap (λ l. string_bytes c.args.at.now.comment ++ l) (sym value)))
+
+pub returns-in_ok-push_str-in-BogusComment-clause-run : goal.returns-in_ok-push_str-in-BogusComment-clause-run
+returns-in_ok-push_str-in-BogusComment-clause-run g c =
+    let run = chars c.args.run.now in
+    let value : flat_map value_bytes run ≡ c.args.run.now =
+    value_bytes-run run (All-weaker (λ d. ¬ Contains (run_ends c.requires.is_run.others) d) (λ d. d ≢ null) (no_null c.requires.is_run.others) run c.requires.is_run.ordinary) ∙ encodes-chars c.args.run.now c.utf8.run in
+    rw c.in-BogusComment.is (ap InBogusComment (c.in_ok-push_str-in-BogusComment.ensures.bytes ∙ ap (λ l. string_bytes c.args.at.now.comment ++ l) (sym value)))

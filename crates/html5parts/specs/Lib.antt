@@ -1,0 +1,5 @@
+pub mod CurrentTag
+pub mod Steps
+pub mod Runs
+pub mod CharRef
+pub mod Doctypes

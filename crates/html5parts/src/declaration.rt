@@ -1,0 +1,67 @@
+//! What stands behind `<!`: the keyword of a comment or a doctype, or else a bogus comment.
+#![tactic(auto, unfolding(html5grammar::proofs::Machine::declaration_step, html5grammar::specs::Comment::begins_keyword))]
+
+ghost use Rattle.std.specs.Prelude.{◌≡◌, ℕ, Bool, ◌∷◌, [], codes, nat_eq, ◌≤◌, ◌+◌, OnOk, Ok, true, false, string_bytes};
+ghost use Rattle.std.specs.List.{starts_with};
+ghost use Rattle.html5grammar.proofs.Machine.{declaration_step, bogus_comment_step};
+ghost use Rattle.html5grammar.specs.Characters.{lower_case};
+ghost use Rattle.html5grammar.specs.Comment.{begins_keyword, declaration_error};
+ghost use Rattle.html5grammar.specs.Reading.Here.{Tells};
+ghost use Rattle.html5grammar.specs.Slice.{tokens_of_late};
+ghost use Rattle.html5grammar.specs.Start.{held_len};
+ghost use Rattle.html5grammar.specs.Start.Open.{InBogusComment};
+ghost use Rattle.html5parts.specs.CurrentTag.{opened_of, last_name_of};
+ghost use Rattle.html5parts.specs.Steps.{IsBuilt};
+
+use crate::opened::Opened;
+use html5ever_interface::interface::token::Doctype;
+use html5ever_interface::states::State;
+use std::alloc::{AllocError, Allocator};
+
+// Whether the bytes begin the keyword of a doctype, in any case.
+fn begins_doctype(held: &[u8]) -> bool
+    ensures { result ≡ starts_with nat_eq (codes "doctype") (lower_case held.now) }
+{
+    held.len() <= 7 && b"doctype"[..held.len()].eq_ignore_ascii_case(held)
+}
+
+// Whether the bytes begin a keyword.
+fn begins_keyword(held: &[u8]) -> bool
+    ensures { result ≡ begins_keyword held.now }
+{
+    b"--".starts_with(held) || begins_doctype(held)
+}
+
+/// Holds a character behind `<!`, and answers whether it belongs to a keyword. That of a comment
+/// begins one. A character by which no keyword begins is still to be read.
+pub fn hold_declaration<A: Allocator>(at: &mut Opened<A>, c: char) -> Result<bool, AllocError>
+    requires { at.old.state ≡ State.MarkupDeclarationOpen }
+    ensures taken { result ≡ Ok true → (exact : Bool) → declaration_step exact (string_bytes at.old.comment) c
+        ≡ record { settled = []; here = Tells [] (opened_of at.new) } }
+    ensures decided { result ≡ Ok false → (exact : Bool) → declaration_step exact (string_bytes at.old.comment) c
+        ≡ record { settled = declaration_error exact (string_bytes at.old.comment); here = bogus_comment_step exact (string_bytes at.old.comment) [] c } }
+    ensures kept { result ≡ Ok false → opened_of at.new ≡ opened_of at.old }
+    ensures last { last_name_of at.new ≡ last_name_of at.old }
+    ensures built { OnOk result (IsBuilt (opened_of at.new)) }
+    ensures held { held_len (opened_of at.new) ≤ held_len (opened_of at.old) + 1 }
+{
+    if !c.is_ascii() {
+        return Ok(false);
+    }
+    at.comment.push(c)?;
+    if at.comment.as_str() == "--" {
+        at.state = State::Comment;
+        at.comment.clear();
+        return Ok(true);
+    }
+    if at.comment.eq_ignore_ascii_case("doctype") {
+        at.state = State::Doctype;
+        at.doctype = Doctype::default();
+        return Ok(true);
+    }
+    if begins_keyword(at.comment.as_bytes()) {
+        return Ok(true);
+    }
+    at.comment.pop();
+    Ok(false)
+}

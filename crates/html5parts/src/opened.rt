@@ -1,0 +1,39 @@
+//! What is open, and what a character brings.
+
+use crate::current_tag::CurrentTag;
+use crate::error::TokenizerError;
+use html5ever_interface::interface::token::Doctype;
+use html5ever_interface::states::State;
+use std::alloc::{Allocator, Global};
+
+/// What is open: the state, and the tag that was begun.
+#[derive(Drop)]
+pub struct Opened<A: Allocator = Global> {
+    pub state: State,
+    pub tag: CurrentTag<A>,
+    /// The comment that was begun, up to here, or the characters that may begin a keyword.
+    pub comment: String<A>,
+    /// The DOCTYPE that was begun, up to here.
+    pub doctype: Doctype<A>,
+    /// In raw text the letters behind `</`, or behind the `<` of escaped script data.
+    pub letters: String<A>,
+    /// The name whose end tag ends raw text, that of the last start tag. The empty name is none.
+    pub last_start_tag: String<A>,
+}
+
+/// What a character brings, beside what it tells.
+#[derive(Clone, Copy, Debug, PartialEq, Eq)]
+pub enum Progress {
+    /// Reading goes on in the state that is open.
+    Continues,
+    /// The character is an `&`: a reference begins, and stands where the state is.
+    BeginsReference,
+    /// The open tag ends: it is to be told, and the sink's reply may choose another state.
+    EndsTag {
+        /// Whether the tag closes itself.
+        self_closing: bool,
+    },
+}
+
+/// What reading a character answers.
+pub type Step = Result<Progress, TokenizerError>;

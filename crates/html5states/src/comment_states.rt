@@ -1,0 +1,118 @@
+//! The states of comments.
+#![tactic(auto, using(crate::proofs::Tellings::tells_from_memory), unfolding(html5grammar::proofs::Machine::comment_step, html5grammar::proofs::Machine::bogus_comment_step, html5grammar::specs::Comment::comment_errors, html5grammar::specs::Comment::mark_error, html5grammar::specs::Comment::comment_end_error, html5parts::specs::Steps::tokens_of, html5parts::specs::Steps::behind, html5ever_interface::specs::Sink::stepped))]
+
+ghost use Rattle.std.specs.Prelude.{◌≡◌, ◌∷◌, [], ◌++◌, true, string_bytes};
+ghost use Rattle.html5ever_interface.specs.Token.Told.{Comment};
+ghost use Rattle.html5grammar.proofs.Machine.{comment_step, bogus_comment_step};
+ghost use Rattle.html5grammar.specs.Comment.{ends_comment, comment_errors, comment_end_error, comment_content};
+ghost use Rattle.html5grammar.specs.Characters.{greater_than};
+ghost use Rattle.html5grammar.specs.ErrorText.{error_in, where_true};
+ghost use Rattle.html5grammar.specs.Reading.Here.{Tells};
+ghost use Rattle.html5grammar.specs.Start.Mode.{Data};
+ghost use Rattle.html5grammar.specs.Start.Open.{Between};
+ghost use Rattle.html5parts.specs.CurrentTag.{last_name_of};
+ghost use Rattle.html5states.specs.Telling.{Emits, Reads};
+
+use html5parts::comments::{content_len, ends_comment, ends_in, is_behind_mark, state_in_comment};
+use html5parts::current_tag::push_value;
+use html5parts::error::TokenizerError;
+use html5parts::opened::{Opened, Progress, Step};
+use crate::teller::Teller;
+use html5ever_interface::interface::sink::TokenSink;
+use html5ever_interface::interface::token::Token;
+use html5ever_interface::states::State;
+use std::alloc::Allocator;
+use std::mem;
+
+impl<S: TokenSink<Token<A>>, A: Allocator + Copy> Teller<'_, S, A> {
+    /// The standard's comment states, from its "comment start state" to its "comment end bang state".
+    pub fn comment_state(&mut self, at: &mut Opened<A>, c: char) -> Step
+        requires { at.old.state ≡ State.Comment }
+        ensures { Reads S.state S.faults S.step S.faulted result self.old self.new
+            (comment_step self.old.exact_errors (string_bytes at.old.comment) c) at.old at.new }
+    {
+        if c == '>' && ends_comment(&at.comment) {
+            return self.end_comment(at);
+        }
+        self.emit_comment_errors(&at.comment, c)?;
+        push_value(&mut at.comment, c)?;
+        Ok(Progress::Continues)
+    }
+
+    // Tells what is wrong with a character of a comment: one behind a mark, and NUL.
+    fn emit_comment_errors(&mut self, before: &str, c: char) -> Result<(), TokenizerError>
+        ensures { Emits S.state S.faults S.step S.faulted result self.old self.new
+            (comment_errors self.old.exact_errors before.now c) }
+    {
+        let mark = is_behind_mark(before, c);
+        self.emit_unexpected_where(mark, c, State::CommentLessThanSignBangDashDash)?;
+        let state = state_in_comment(State::Comment, before);
+        self.emit_unexpected_where(c == '\0', c, state)
+    }
+
+    // Ends a comment at its `>`.
+    fn end_comment(&mut self, at: &mut Opened<A>) -> Step
+        ensures { Reads S.state S.faults S.step S.faulted result self.old self.new
+            (Tells (comment_end_error self.old.exact_errors (string_bytes at.old.comment)
+            ++ Comment (comment_content (string_bytes at.old.comment)) ∷ []) (Between Data)) at.old at.new }
+    {
+        let wrong = !ends_in(&at.comment, b"--");
+        let state = state_in_comment(State::Comment, &at.comment);
+        at.state = State::Data;
+        let len = content_len(&at.comment);
+        let mut text = mem::replace(&mut at.comment, String::new(self.alloc));
+        text.truncate(len);
+        self.emit_ended_comment(wrong, state, text)?;
+        Ok(Progress::Continues)
+    }
+
+    // Tells a comment, where its end is wrong behind an error that names the state.
+    fn emit_ended_comment(
+        &mut self,
+        wrong: bool,
+        state: State,
+        text: String<A>,
+    ) -> Result<(), TokenizerError>
+        ensures { Emits S.state S.faults S.step S.faulted result self.old self.new
+            (where_true wrong (error_in self.old.exact_errors state greater_than) ++ Comment (string_bytes text) ∷ []) }
+    {
+        self.emit_unexpected_where(wrong, '>', state)?;
+        self.emit_comment(text)
+    }
+
+    /// Tells a comment.
+    pub fn emit_comment(&mut self, text: String<A>) -> Result<(), TokenizerError>
+        ensures { Emits S.state S.faults S.step S.faulted result self.old self.new
+            (Comment (string_bytes text) ∷ []) }
+    {
+        self.tell(Token::CommentToken(text))
+    }
+
+    /// The standard's "bogus comment state".
+    pub fn bogus_comment_state(&mut self, at: &mut Opened<A>, c: char) -> Step
+        requires { at.old.state ≡ State.BogusComment }
+        ensures { Reads S.state S.faults S.step S.faulted result self.old self.new
+            (bogus_comment_step self.old.exact_errors (string_bytes at.old.comment) [] c) at.old at.new }
+    {
+        if c == '>' {
+            let text = mem::replace(&mut at.comment, String::new(self.alloc));
+            at.state = State::Data;
+            self.emit_comment(text)?;
+            return Ok(Progress::Continues);
+        }
+        push_value(&mut at.comment, c)?;
+        self.emit_unexpected_where(c == '\0', c, State::BogusComment)?;
+        Ok(Progress::Continues)
+    }
+
+    /// Begins a bogus comment at a character that is not what was expected.
+    pub fn create_bogus_comment(&mut self, at: &mut Opened<A>, c: char, expected: State) -> Step
+        ensures { Reads S.state S.faults S.step S.faulted result self.old self.new
+            (bogus_comment_step self.old.exact_errors [] (error_in self.old.exact_errors expected c ∷ []) c) at.old at.new }
+    {
+        self.emit_unexpected(c, expected)?;
+        at.state = State::BogusComment;
+        at.comment.clear();
+        self.bogus_comment_state(at, c)
+    }
+}

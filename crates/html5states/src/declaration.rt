@@ -1,0 +1,36 @@
+//! What is told where no keyword stands behind `<!`.
+#![tactic(auto, using(crate::proofs::Tellings::tells_from_memory), unfolding(html5grammar::proofs::Machine::declaration_step, html5grammar::specs::Comment::begins_keyword))]
+
+ghost use Rattle.std.specs.Prelude.{◌≡◌, ℕ, Bool, ◌∷◌, [], codes, nat_eq, ◌≤◌, ◌+◌, OnOk, Ok, true, false, string_bytes};
+ghost use Rattle.std.specs.List.{starts_with};
+ghost use Rattle.html5grammar.proofs.Machine.{declaration_step, bogus_comment_step};
+ghost use Rattle.html5grammar.specs.Characters.{lower_case};
+ghost use Rattle.html5grammar.specs.Comment.{begins_keyword, declaration_error};
+ghost use Rattle.html5grammar.specs.Reading.Here.{Tells};
+ghost use Rattle.html5grammar.specs.Slice.{tokens_of_late};
+ghost use Rattle.html5grammar.specs.Start.{held_len};
+ghost use Rattle.html5grammar.specs.Start.Open.{InBogusComment};
+ghost use Rattle.html5parts.specs.CurrentTag.{opened_of, last_name_of};
+ghost use Rattle.html5parts.specs.Steps.{IsBuilt};
+ghost use Rattle.html5states.specs.Telling.{Emits};
+
+use crate::teller::Teller;
+use html5ever_interface::interface::sink::TokenSink;
+use html5ever_interface::interface::token::Token;
+use html5ever_interface::states::State;
+use html5parts::error::TokenizerError;
+use html5parts::opened::Opened;
+use std::alloc::Allocator;
+
+impl<S: TokenSink<Token<A>>, A: Allocator + Copy> Teller<'_, S, A> {
+    /// Tells that no keyword stands behind `<!`, and begins a bogus comment with what is held there.
+    pub fn finish_declaration(&mut self, at: &mut Opened<A>) -> Result<(), TokenizerError>
+        ensures emits { Emits S.state S.faults S.step S.faulted result self.old self.new
+            (tokens_of_late (declaration_error self.old.exact_errors (string_bytes at.old.comment))) }
+        ensures opened { opened_of at.new ≡ InBogusComment (string_bytes at.old.comment) }
+        ensures last { last_name_of at.new ≡ last_name_of at.old }
+    {
+        at.state = State::BogusComment;
+        self.emit_unexpected('!', State::MarkupDeclarationOpen)
+    }
+}

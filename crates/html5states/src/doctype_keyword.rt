@@ -1,0 +1,44 @@
+//! What is told where no keyword stands behind the name of a DOCTYPE.
+#![tactic(auto, using(crate::proofs::Tellings::tells_from_memory), unfolding(html5grammar::proofs::Machine::doctype_keyword_step, html5grammar::specs::Doctype::begins_doctype_keyword, html5grammar::specs::Doctype::keyword_error))]
+
+ghost use Rattle.std.specs.Prelude.{◌≡◌, ◌≢◌, ℕ, Bool, ◌∷◌, [], ◌||◌, codes, nat_eq, ◌<◌, ◌≤◌, ◌+◌, OnOk, Ok, true, false, string_bytes};
+ghost use Rattle.std.specs.List.{starts_with};
+ghost use Rattle.html5ever_interface.specs.Token.{doctype_of};
+ghost use Rattle.html5grammar.proofs.Machine.{doctype_keyword_step, skipped_step};
+ghost use Rattle.html5grammar.specs.Characters.{lower_case};
+ghost use Rattle.html5grammar.specs.Doctype.{begins_doctype_keyword, keyword_error, with_quirks};
+ghost use Rattle.html5grammar.specs.Reading.Here.{Tells};
+ghost use Rattle.html5grammar.specs.Slice.{tokens_of_late};
+ghost use Rattle.html5grammar.specs.Start.{held_len};
+ghost use Rattle.html5grammar.specs.Start.DoctypePlace.{Skipped};
+ghost use Rattle.html5grammar.specs.Start.Open.{InDoctype};
+ghost use Rattle.html5parts.specs.CurrentTag.{opened_of, last_name_of};
+ghost use Rattle.html5parts.specs.Doctypes.{keyword_in};
+ghost use Rattle.html5parts.specs.Steps.{IsBuilt};
+ghost use Rattle.html5states.specs.Telling.{Emits};
+
+use crate::teller::Teller;
+use html5ever_interface::interface::sink::TokenSink;
+use html5ever_interface::interface::token::Token;
+use html5ever_interface::states::State;
+use html5parts::error::TokenizerError;
+use html5parts::opened::Opened;
+use std::alloc::Allocator;
+
+impl<S: TokenSink<Token<A>>, A: Allocator + Copy> Teller<'_, S, A> {
+    /// Tells that no keyword stands behind the name, with the first character that is held, and
+    /// skips the rest.
+    pub fn finish_doctype_keyword(&mut self, at: &mut Opened<A>) -> Result<(), TokenizerError>
+        ensures emits { Emits S.state S.faults S.step S.faulted result self.old self.new
+            (tokens_of_late (keyword_error self.old.exact_errors (string_bytes at.old.comment))) }
+        ensures opened { opened_of at.new ≡ InDoctype Skipped (with_quirks (doctype_of at.old.doctype)) }
+        ensures last { last_name_of at.new ≡ last_name_of at.old }
+    {
+        at.state = State::BogusDoctype;
+        at.doctype.force_quirks = true;
+        match at.comment.as_bytes().first() {
+            Some(first) => self.emit_unexpected(char::from(*first), State::AfterDoctypeName),
+            None => Ok(()),
+        }
+    }
+}
