@@ -1,7 +1,7 @@
 //! What may begin a keyword: that behind `<!`, or one behind the name of a DOCTYPE.
 #![tactic(auto)]
 
-ghost use Rattle.std.specs.Prelude.{◌≡◌, ◌≤◌, ◌+◌, Ok, true, false, OnOk, IfErr, string_bytes};
+ghost use Rattle.std.specs.Prelude.{◌≡◌, ◌≤◌, ◌+◌, Ok, true, false, IfErr, string_bytes};
 ghost use Rattle.html5ever_interface.specs.Sink.{on_line};
 ghost use Rattle.html5ever_interface.specs.Token.{doctype_of};
 ghost use Rattle.html5grammar.specs.Comment.{declaration_error};
@@ -12,7 +12,6 @@ ghost use Rattle.html5grammar.specs.Start.{held_len};
 ghost use Rattle.html5grammar.specs.Start.DoctypePlace.{Skipped};
 ghost use Rattle.html5grammar.specs.Start.Open.{InBogusComment, InDoctype};
 ghost use Rattle.html5parts.specs.CurrentTag.{opened_of, last_name_of};
-ghost use Rattle.html5parts.specs.Steps.{IsBuilt};
 ghost use Rattle.html5states.specs.Telling.{Tells, IsRefusal, faults_of};
 ghost use Rattle.html5ever.specs.Undecided.{EndsKeyword, GoesOn, holds_keyword_in, is_keyword_open};
 

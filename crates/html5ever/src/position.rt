@@ -17,7 +17,7 @@ ghost use Rattle.html5grammar.specs.Start.{start_of, initial_name, raw_of, is_cl
 ghost use Rattle.html5parts.specs.CharRef.{HasStand, stand_of, found_at, begun_reference};
 ghost use Rattle.html5ever.specs.Undecided.{BelongsTo, Decides, is_reference, is_keyword_open};
 ghost use Rattle.html5grammar.specs.Start.Mode.{Data, Plain, RawText};
-ghost use Rattle.html5grammar.specs.Start.Open.{Between, InBogusComment};
+ghost use Rattle.html5grammar.specs.Start.Open.{Between};
 ghost use Rattle.html5parts.specs.CurrentTag.{is_between, stops_at_bad, opened_of, last_name_of};
 ghost use Rattle.html5ever.specs.Feed.{reply_in, first_pause};
 ghost use Rattle.html5ever.specs.Refused.{IsRun};

@@ -1,5 +1,5 @@
 //! Reading the queue.
-ghost use Rattle.std.specs.Prelude.{◌≡◌, ◌^◌, ◌+◌, ◌<◌, ◌≤◌, [], true, false, IsOk, IfOk, IfErr, OnOk, length, take, drop, encode_utf8_all, string_bytes};
+ghost use Rattle.std.specs.Prelude.{◌≡◌, ◌^◌, ◌+◌, ◌<◌, ◌≤◌, [], true, IsOk, IfOk, IfErr, OnOk, length, take, drop, encode_utf8_all, string_bytes};
 ghost use Rattle.std.specs.Str.{IsUtf8, chars};
 ghost use Rattle.html5grammar.specs.Reading.{told, messages, after};
 ghost use Rattle.html5grammar.specs.Start.{is_clean, held_len};

@@ -1,14 +1,13 @@
 //! What is held of a character reference until it is decided, its number and its longest name.
 #![tactic(auto)]
 
-ghost use Rattle.std.specs.Prelude.{◌≡◌, ◌≢◌, ◌≤◌, ◌||◌, ◌&&◌, ◌==◌, ℕ, ◌+◌, ◌%◌, ◌^◌, ◌∷◌, [], ◌++◌, Bool, true, false, not, min, All, Option, Some, None, IfOk, IfErr, OnOk, MatchOption, nat_lt, length, drop, flat_map, encode_utf8_all, string_bytes, if◌then◌else◌};
+ghost use Rattle.std.specs.Prelude.{◌≡◌, ◌≢◌, ◌≤◌, ◌||◌, ◌&&◌, ◌==◌, ℕ, ◌+◌, ◌%◌, ◌^◌, ◌∷◌, [], ◌++◌, true, false, not, min, All, Option, Some, None, IfOk, IfErr, OnOk, MatchOption, length, string_bytes, if◌then◌else◌};
 ghost use Rattle.std.specs.Char.{is_ascii_alphanumeric};
 ghost use Rattle.std.specs.Option.{is_none};
-ghost use Rattle.std.specs.Str.{chars, IsAscii};
-ghost use Rattle.html5grammar.specs.Characters.{number_sign, semicolon, value_bytes};
-ghost use Rattle.html5grammar.specs.ErrorText.{where_true};
-ghost use Rattle.html5grammar.specs.Reference.{number_reference, named_reference, no_name, is_undecided, is_number, is_x, base_of, behind_x, has_digits, number_value, character_of_number, is_invalid_number, invalid_number, unended_number, without_digits, semicolon_len, unknown_name, longest_name, is_ended, goes_on, first_or, ends_number, in_value, text_in, opened_in, late_tokens, opened_behind};
-ghost use Rattle.html5parts.specs.CharRef.{HasStand, stand_of, IsHeld, IsNumberHeld, IsFound, IsNamed, more_of, decided, found_at};
+ghost use Rattle.std.specs.Str.{IsAscii};
+ghost use Rattle.html5grammar.specs.Characters.{number_sign, semicolon};
+ghost use Rattle.html5grammar.specs.Reference.{is_undecided, is_number, is_x, base_of, behind_x, has_digits, number_value, character_of_number, is_invalid_number, longest_name, goes_on, first_or};
+ghost use Rattle.html5parts.specs.CharRef.{IsHeld, IsNumberHeld, IsNamed, decided};
 ghost use Rattle.markup5ever.specs.NamedReferences.{begins_name};
 
 use markup5ever::data::{NamedReferences, c1_replacement};

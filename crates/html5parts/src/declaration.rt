@@ -1,15 +1,13 @@
 //! What stands behind `<!`: the keyword of a comment or a doctype, or else a bogus comment.
 #![tactic(auto, unfolding(html5grammar::proofs::Machine::declaration_step, html5grammar::specs::Comment::begins_keyword))]
 
-ghost use Rattle.std.specs.Prelude.{◌≡◌, ℕ, Bool, ◌∷◌, [], codes, nat_eq, ◌≤◌, ◌+◌, OnOk, Ok, true, false, string_bytes};
+ghost use Rattle.std.specs.Prelude.{◌≡◌, Bool, [], codes, nat_eq, ◌≤◌, ◌+◌, OnOk, Ok, true, false, string_bytes};
 ghost use Rattle.std.specs.List.{starts_with};
 ghost use Rattle.html5grammar.proofs.Machine.{declaration_step, bogus_comment_step};
 ghost use Rattle.html5grammar.specs.Characters.{lower_case};
 ghost use Rattle.html5grammar.specs.Comment.{begins_keyword, declaration_error};
 ghost use Rattle.html5grammar.specs.Reading.Here.{Tells};
-ghost use Rattle.html5grammar.specs.Slice.{tokens_of_late};
 ghost use Rattle.html5grammar.specs.Start.{held_len};
-ghost use Rattle.html5grammar.specs.Start.Open.{InBogusComment};
 ghost use Rattle.html5parts.specs.CurrentTag.{opened_of, last_name_of};
 ghost use Rattle.html5parts.specs.Steps.{IsBuilt};
 

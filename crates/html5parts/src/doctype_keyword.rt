@@ -1,17 +1,14 @@
 //! What stands behind the name of a DOCTYPE: the keyword of an identifier, or else what is skipped.
 #![tactic(auto, unfolding(html5grammar::proofs::Machine::doctype_keyword_step, html5grammar::specs::Doctype::begins_doctype_keyword, html5grammar::specs::Doctype::keyword_error))]
 
-ghost use Rattle.std.specs.Prelude.{◌≡◌, ◌≢◌, ℕ, Bool, ◌∷◌, [], ◌||◌, codes, nat_eq, ◌<◌, ◌≤◌, ◌+◌, OnOk, Ok, true, false, string_bytes};
+ghost use Rattle.std.specs.Prelude.{◌≡◌, ◌≢◌, Bool, ◌∷◌, [], ◌||◌, nat_eq, ◌<◌, ◌≤◌, ◌+◌, OnOk, Ok, true, false, string_bytes};
 ghost use Rattle.std.specs.List.{starts_with};
 ghost use Rattle.html5ever_interface.specs.Token.{doctype_of};
 ghost use Rattle.html5grammar.proofs.Machine.{doctype_keyword_step, skipped_step};
 ghost use Rattle.html5grammar.specs.Characters.{lower_case};
 ghost use Rattle.html5grammar.specs.Doctype.{begins_doctype_keyword, keyword_error, with_quirks};
 ghost use Rattle.html5grammar.specs.Reading.Here.{Tells};
-ghost use Rattle.html5grammar.specs.Slice.{tokens_of_late};
 ghost use Rattle.html5grammar.specs.Start.{held_len};
-ghost use Rattle.html5grammar.specs.Start.DoctypePlace.{Skipped};
-ghost use Rattle.html5grammar.specs.Start.Open.{InDoctype};
 ghost use Rattle.html5parts.specs.CurrentTag.{opened_of, last_name_of};
 ghost use Rattle.html5parts.specs.Doctypes.{keyword_in};
 ghost use Rattle.html5parts.specs.Steps.{IsBuilt};

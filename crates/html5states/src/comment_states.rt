@@ -1,7 +1,7 @@
 //! The states of comments.
 #![tactic(auto, using(crate::proofs::Tellings::tells_from_memory), unfolding(html5grammar::proofs::Machine::comment_step, html5grammar::proofs::Machine::bogus_comment_step, html5grammar::specs::Comment::comment_errors, html5grammar::specs::Comment::mark_error, html5grammar::specs::Comment::comment_end_error, html5parts::specs::Steps::tokens_of, html5parts::specs::Steps::behind, html5ever_interface::specs::Sink::stepped))]
 
-ghost use Rattle.std.specs.Prelude.{◌≡◌, ◌∷◌, [], ◌++◌, true, string_bytes};
+ghost use Rattle.std.specs.Prelude.{◌≡◌, ◌∷◌, [], ◌++◌, string_bytes};
 ghost use Rattle.html5ever_interface.specs.Token.Told.{Comment};
 ghost use Rattle.html5grammar.proofs.Machine.{comment_step, bogus_comment_step};
 ghost use Rattle.html5grammar.specs.Comment.{ends_comment, comment_errors, comment_end_error, comment_content};
@@ -10,17 +10,16 @@ ghost use Rattle.html5grammar.specs.ErrorText.{error_in, where_true};
 ghost use Rattle.html5grammar.specs.Reading.Here.{Tells};
 ghost use Rattle.html5grammar.specs.Start.Mode.{Data};
 ghost use Rattle.html5grammar.specs.Start.Open.{Between};
-ghost use Rattle.html5parts.specs.CurrentTag.{last_name_of};
 ghost use Rattle.html5states.specs.Telling.{Emits, Reads};
 
-use html5parts::comments::{content_len, ends_comment, ends_in, is_behind_mark, state_in_comment};
-use html5parts::current_tag::push_value;
-use html5parts::error::TokenizerError;
-use html5parts::opened::{Opened, Progress, Step};
 use crate::teller::Teller;
 use html5ever_interface::interface::sink::TokenSink;
 use html5ever_interface::interface::token::Token;
 use html5ever_interface::states::State;
+use html5parts::comments::{content_len, ends_comment, ends_in, is_behind_mark, state_in_comment};
+use html5parts::current_tag::push_value;
+use html5parts::error::TokenizerError;
+use html5parts::opened::{Opened, Progress, Step};
 use std::alloc::Allocator;
 use std::mem;
 

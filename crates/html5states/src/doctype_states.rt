@@ -8,23 +8,25 @@ ghost use Rattle.html5grammar.proofs.Machine.{step_at, doctype_step, skipped_ste
 ghost use Rattle.html5grammar.specs.Doctype.{with_quirks, identifier_state};
 ghost use Rattle.html5grammar.specs.ErrorText.{error_in};
 ghost use Rattle.html5grammar.specs.Reading.Here.{Tells};
-ghost use Rattle.html5grammar.specs.Start.DoctypePlace.{AfterWord, BeforeName, InDoctypeName, AfterName, AfterKeyword, BeforeIdentifier, InIdentifier, AfterIdentifier, BetweenIdentifiers, Skipped};
+ghost use Rattle.html5grammar.specs.Start.DoctypePlace.{AfterWord, BeforeName, InDoctypeName, AfterName, AfterKeyword, BeforeIdentifier, InIdentifier, AfterIdentifier, BetweenIdentifiers};
 ghost use Rattle.html5grammar.specs.Start.Mode.{Data};
 ghost use Rattle.html5grammar.specs.Start.Open.{Between};
 ghost use Rattle.html5parts.specs.CurrentTag.{is_doctype_state, opened_of};
 ghost use Rattle.html5parts.specs.Doctypes.{quotes_of};
-ghost use Rattle.html5states.specs.Telling.{Emits, Reads};
+ghost use Rattle.html5states.specs.Telling.{Reads};
 
-use html5parts::characters::{is_quote, is_white_space};
-use html5parts::doctype_keyword::begins_doctype_keyword;
-use html5parts::doctypes::{Quotes, begin_identifier, begin_name, push_doctype_name, push_identifier};
-use html5parts::error::TokenizerError;
-use html5parts::opened::{Opened, Progress, Step};
 use crate::teller::Teller;
 use html5ever_interface::interface::sink::TokenSink;
 use html5ever_interface::interface::token::{Doctype, Token};
 use html5ever_interface::states::DoctypeIdKind::{Public, System};
 use html5ever_interface::states::{DoctypeIdKind, State};
+use html5parts::characters::{is_quote, is_white_space};
+use html5parts::doctype_keyword::begins_doctype_keyword;
+use html5parts::doctypes::{
+    Quotes, begin_identifier, begin_name, push_doctype_name, push_identifier,
+};
+use html5parts::error::TokenizerError;
+use html5parts::opened::{Opened, Progress, Step};
 use std::alloc::Allocator;
 use std::mem;
 

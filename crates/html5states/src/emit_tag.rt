@@ -8,13 +8,13 @@ ghost use Rattle.html5grammar.specs.Tag.{with_last_attribute};
 ghost use Rattle.html5parts.specs.CurrentTag.{open_tag};
 ghost use Rattle.html5states.specs.Telling.{Emits, Reads};
 
-use html5parts::current_tag::CurrentTag;
-use html5parts::error::TokenizerError;
-use html5parts::opened::{Opened, Progress, Step};
 use crate::teller::Teller;
 use html5ever_interface::interface::sink::TokenSink;
 use html5ever_interface::interface::token::{TagKind, Token};
 use html5ever_interface::states::State;
+use html5parts::current_tag::CurrentTag;
+use html5parts::error::TokenizerError;
+use html5parts::opened::{Opened, Progress, Step};
 use std::alloc::Allocator;
 
 // Whether the kind is that of an end tag.

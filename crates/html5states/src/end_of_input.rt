@@ -17,15 +17,15 @@ ghost use Rattle.html5parts.specs.CurrentTag.{opened_of};
 ghost use Rattle.html5parts.specs.Steps.{IsBuilt};
 ghost use Rattle.html5states.specs.Telling.{Emits};
 
-use html5parts::comments::{content_len, state_in_comment};
-use html5parts::doctypes::is_doctype_state;
-use html5parts::error::TokenizerError;
-use html5parts::opened::Opened;
 use crate::teller::Teller;
 use html5ever_interface::interface::sink::TokenSink;
 use html5ever_interface::interface::token::{Doctype, Token};
 use html5ever_interface::states::AttrValueKind::Unquoted;
 use html5ever_interface::states::{RawKind, ScriptEscapeKind, State};
+use html5parts::comments::{content_len, state_in_comment};
+use html5parts::doctypes::is_doctype_state;
+use html5parts::error::TokenizerError;
+use html5parts::opened::Opened;
 use std::alloc::Allocator;
 
 // The state that the error of the end names behind letters that may switch.

@@ -15,15 +15,15 @@ ghost use Rattle.html5grammar.specs.Start.RawPlace.{AfterMark, InSwitch};
 ghost use Rattle.html5parts.specs.CurrentTag.{last_name_of, opened_of};
 ghost use Rattle.html5states.specs.Telling.{Emits, Reads};
 
+use crate::teller::Teller;
+use html5ever_interface::interface::sink::TokenSink;
+use html5ever_interface::interface::token::{TagKind, Token};
+use html5ever_interface::states::{RawKind, ScriptEscapeKind, State};
 use html5parts::characters::{ends_name, is_letter};
 use html5parts::current_tag::CurrentTag;
 use html5parts::error::TokenizerError;
 use html5parts::letters::{clear_letters, end_tag_name, push_letter, switched};
 use html5parts::opened::{Opened, Progress, Step};
-use crate::teller::Teller;
-use html5ever_interface::interface::sink::TokenSink;
-use html5ever_interface::interface::token::{TagKind, Token};
-use html5ever_interface::states::{RawKind, ScriptEscapeKind, State};
 use std::alloc::Allocator;
 
 impl<S: TokenSink<Token<A>>, A: Allocator + Copy> Teller<'_, S, A> {

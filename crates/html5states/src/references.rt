@@ -1,28 +1,27 @@
 //! What a character reference comes to, and telling it.
 #![tactic(auto, using(crate::proofs::Tellings::tells_from_memory), unfolding(html5ever_interface::specs::Sink::stepped))]
 
-ghost use Rattle.std.specs.Prelude.{◌≡◌, ◌≢◌, ◌≤◌, ◌||◌, ◌&&◌, ◌==◌, ℕ, ◌+◌, ◌%◌, ◌^◌, ◌∷◌, [], ◌++◌, Bool, true, false, not, min, All, Option, Some, None, IfOk, IfErr, OnOk, MatchOption, nat_lt, length, drop, flat_map, encode_utf8_all, string_bytes, if◌then◌else◌};
+ghost use Rattle.std.specs.Prelude.{◌≡◌, ◌≤◌, ◌||◌, ◌&&◌, ◌==◌, ℕ, ◌+◌, ◌∷◌, ◌++◌, true, not, All, Option, Some, None, IfOk, OnOk, nat_lt, length, drop, flat_map, encode_utf8_all, string_bytes};
 ghost use Rattle.std.specs.Char.{is_ascii_alphanumeric};
 ghost use Rattle.std.specs.Option.{is_none};
 ghost use Rattle.std.specs.Str.{chars, IsAscii};
 ghost use Rattle.html5ever_interface.specs.Token.Told.{Error};
 ghost use Rattle.html5grammar.specs.Characters.{number_sign, semicolon, value_bytes};
 ghost use Rattle.html5grammar.specs.ErrorText.{where_true};
-ghost use Rattle.html5grammar.specs.Reference.{number_reference, named_reference, no_name, is_undecided, is_number, is_x, base_of, behind_x, has_digits, number_value, character_of_number, is_invalid_number, invalid_number, unended_number, without_digits, semicolon_len, unknown_name, longest_name, is_ended, goes_on, first_or, ends_number, in_value, text_in, opened_in, late_tokens, opened_behind};
+ghost use Rattle.html5grammar.specs.Reference.{number_reference, named_reference, no_name, is_number, has_digits, number_value, invalid_number, unended_number, without_digits, semicolon_len, unknown_name, longest_name, is_ended, goes_on, first_or, ends_number, in_value, text_in, opened_in, late_tokens, opened_behind};
 ghost use Rattle.html5grammar.specs.Slice.{tokens_of_late};
-ghost use Rattle.html5parts.specs.CharRef.{HasStand, stand_of, IsHeld, IsNumberHeld, IsFound, IsNamed, more_of, decided, found_at};
+ghost use Rattle.html5parts.specs.CharRef.{HasStand, stand_of, IsFound, more_of, decided, found_at};
 ghost use Rattle.html5parts.specs.CurrentTag.{opened_of, last_name_of};
 ghost use Rattle.html5states.specs.Telling.{Emits};
-ghost use Rattle.markup5ever.specs.NamedReferences.{begins_name};
 
 use crate::teller::Teller;
+use html5ever_interface::interface::sink::TokenSink;
+use html5ever_interface::interface::token::Token;
+use html5ever_interface::states::State;
 use html5parts::char_ref::{CharRef, Found, has_digits, longest_name, number_value};
 use html5parts::current_tag::push_value;
 use html5parts::error::TokenizerError;
 use html5parts::opened::Opened;
-use html5ever_interface::interface::sink::TokenSink;
-use html5ever_interface::interface::token::Token;
-use html5ever_interface::states::State;
 use markup5ever::data::NamedReferences;
 use std::alloc::{AllocError, Allocator};
 

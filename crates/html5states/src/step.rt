@@ -5,14 +5,14 @@ ghost use Rattle.html5grammar.proofs.Machine.{step_at};
 ghost use Rattle.html5parts.specs.CurrentTag.{opened_of};
 ghost use Rattle.html5states.specs.Telling.{Reads};
 
-use html5parts::doctypes::is_doctype_state;
-use html5parts::error::TokenizerError;
-use html5parts::opened::{Opened, Step};
 use crate::teller::Teller;
 use html5ever_interface::interface::sink::TokenSink;
 use html5ever_interface::interface::token::Token;
 use html5ever_interface::states::AttrValueKind::Unquoted;
 use html5ever_interface::states::State;
+use html5parts::doctypes::is_doctype_state;
+use html5parts::error::TokenizerError;
+use html5parts::opened::{Opened, Step};
 use std::alloc::Allocator;
 
 impl<S: TokenSink<Token<A>>, A: Allocator + Copy> Teller<'_, S, A> {

@@ -11,14 +11,14 @@ ghost use Rattle.html5grammar.specs.Tag.{with_last_attribute, with_last_name};
 ghost use Rattle.html5parts.specs.CurrentTag.{open_tag, last_name_of};
 ghost use Rattle.html5states.specs.Telling.{Emits, Reads};
 
-use html5parts::characters::{is_odd_at_name, is_odd_in_name, is_white_space};
-use html5parts::current_tag::{CurrentTag, push_name};
-use html5parts::error::TokenizerError;
-use html5parts::opened::{Opened, Progress, Step};
 use crate::teller::Teller;
 use html5ever_interface::interface::sink::TokenSink;
 use html5ever_interface::interface::token::Token;
 use html5ever_interface::states::State;
+use html5parts::characters::{is_odd_at_name, is_odd_in_name, is_white_space};
+use html5parts::current_tag::{CurrentTag, push_name};
+use html5parts::error::TokenizerError;
+use html5parts::opened::{Opened, Progress, Step};
 use std::alloc::Allocator;
 
 impl<S: TokenSink<Token<A>>, A: Allocator + Copy> Teller<'_, S, A> {

@@ -11,14 +11,14 @@ ghost use Rattle.html5grammar.specs.Start.Mode.{Data, Plain};
 ghost use Rattle.html5grammar.specs.Start.Open.{Between, LessThan, LessThanSolidus};
 ghost use Rattle.html5states.specs.Telling.{Emits, Reads};
 
-use html5parts::characters::is_letter;
-use html5parts::current_tag::CurrentTag;
-use html5parts::error::TokenizerError;
-use html5parts::opened::{Opened, Progress, Step};
 use crate::teller::Teller;
 use html5ever_interface::interface::sink::TokenSink;
 use html5ever_interface::interface::token::{TagKind, Token};
 use html5ever_interface::states::State;
+use html5parts::characters::is_letter;
+use html5parts::current_tag::CurrentTag;
+use html5parts::error::TokenizerError;
+use html5parts::opened::{Opened, Progress, Step};
 use std::alloc::Allocator;
 
 impl<S: TokenSink<Token<A>>, A: Allocator + Copy> Teller<'_, S, A> {

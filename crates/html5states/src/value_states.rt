@@ -10,13 +10,13 @@ ghost use Rattle.html5grammar.specs.Start.Place.{AfterQuotedValue};
 ghost use Rattle.html5parts.specs.CurrentTag.{open_tag};
 ghost use Rattle.html5states.specs.Telling.{Reads};
 
-use html5parts::characters::{is_unquoted_error, is_white_space, quote_of};
-use html5parts::current_tag::push_value;
-use html5parts::opened::{Opened, Progress, Step};
 use crate::teller::Teller;
 use html5ever_interface::interface::sink::TokenSink;
 use html5ever_interface::interface::token::Token;
 use html5ever_interface::states::{AttrValueKind as Kind, State};
+use html5parts::characters::{is_unquoted_error, is_white_space, quote_of};
+use html5parts::current_tag::push_value;
+use html5parts::opened::{Opened, Progress, Step};
 use std::alloc::Allocator;
 
 impl<S: TokenSink<Token<A>>, A: Allocator + Copy> Teller<'_, S, A> {
