@@ -10,7 +10,7 @@ use Rattle.html5grammar.specs.Start.{Open, is_undecided_open, held_len}
 use Rattle.html5grammar.specs.Start.Mode.{Data, Plain, RawText}
 use Rattle.html5grammar.specs.Start.Place.{InValue}
 use Rattle.html5grammar.specs.Start.Raw.{Rcdata}
-use Rattle.html5grammar.specs.Start.Open.{Between, LessThan, LessThanSolidus, InTag, InRaw, InDeclaration, InComment, InBogusComment, InDoctype, InDoctypeKeyword, InReference, NotBuilt}
+use Rattle.html5grammar.specs.Start.Open.{Between, LessThan, LessThanSolidus, InTag, InRaw, InDeclaration, InComment, InBogusComment, InDoctype, InDoctypeKeyword, InCdata, InReference, NotBuilt}
 use Rattle.html5parts.specs.CharRef.{HasStand, begun_reference, stand_of, with_reference}
 use Rattle.html5parts.specs.CurrentTag.{open_of, behind_doctype_name}
 use Rattle.html5parts.specs.Runs.{IsRunAt}
@@ -33,6 +33,7 @@ is_decided (InRaw place name) h = record { no_reference = refl; no_keyword = ref
 is_decided (InDeclaration held) h = absurd (false≢true (sym h))
 is_decided (InComment text) h = record { no_reference = refl; no_keyword = refl; nothing_held = refl }
 is_decided (InBogusComment text) h = record { no_reference = refl; no_keyword = refl; nothing_held = refl }
+is_decided (InCdata text) h = record { no_reference = refl; no_keyword = refl; nothing_held = refl }
 is_decided (InDoctype place doctype) h = record { no_reference = refl; no_keyword = refl; nothing_held = refl }
 is_decided (InDoctypeKeyword held doctype) h = absurd (false≢true (sym h))
 is_decided (InReference stand held) h = absurd (false≢true (sym h))
@@ -48,6 +49,7 @@ begun-decided (InRaw place name) built = refl
 begun-decided (InDeclaration held) built = absurd built
 begun-decided (InComment text) built = refl
 begun-decided (InBogusComment text) built = refl
+begun-decided (InCdata text) built = refl
 begun-decided (InDoctype place doctype) built = refl
 begun-decided (InDoctypeKeyword held doctype) built = absurd built
 begun-decided (InReference stand held) built = absurd built
@@ -120,6 +122,7 @@ keyword-undecided (InRaw place name) none = refl
 keyword-undecided (InDeclaration held) none = refl
 keyword-undecided (InComment text) none = refl
 keyword-undecided (InBogusComment text) none = refl
+keyword-undecided (InCdata text) none = refl
 keyword-undecided (InDoctype place doctype) none = refl
 keyword-undecided (InDoctypeKeyword held doctype) none = refl
 keyword-undecided (InReference stand held) none = absurd (false≢true (sym none))

@@ -7,11 +7,11 @@ use Rattle.html5ever_interface.specs.declared.states.State.{State}
 use Rattle.html5ever_interface.specs.declared.states.State.TheVariants as state
 use Rattle.html5grammar.specs.Start.{OpenTag, Open, escaped, raw_of}
 use Rattle.html5grammar.specs.Start.Dashes.{OneDash, TwoDashes}
-use Rattle.html5grammar.specs.Start.Mode.{Data, Plain, RawText}
+use Rattle.html5grammar.specs.Start.Mode.{Data, Plain, RawText, Cdata}
 use Rattle.html5grammar.specs.Start.RawPlace.{AfterLessThan, InEndName, AfterMark, AfterMarkAndDash, InSwitch}
 use Rattle.html5grammar.specs.Start.Place.{InName, BeforeAttribute, InAttributeName, AfterAttributeName, BeforeValue, InValue, AfterQuotedValue, AfterSolidus}
 use Rattle.html5grammar.specs.Start.DoctypePlace.{AfterWord, BeforeName, InDoctypeName, AfterName, AfterKeyword, BeforeIdentifier, InIdentifier, AfterIdentifier, BetweenIdentifiers, Skipped}
-use Rattle.html5grammar.specs.Start.Open.{Between, LessThan, LessThanSolidus, InTag, InRaw, InDeclaration, InComment, InBogusComment, InDoctype, InDoctypeKeyword, NotBuilt}
+use Rattle.html5grammar.specs.Start.Open.{Between, LessThan, LessThanSolidus, InTag, InRaw, InDeclaration, InComment, InBogusComment, InDoctype, InDoctypeKeyword, InCdata, NotBuilt}
 use Rattle.html5grammar.specs.Start.Quotes.{DoubleQuotes, SingleQuotes}
 use Rattle.html5parts.specs.declared.current_tag.CurrentTag.{CurrentTag}
 use Rattle.html5parts.specs.declared.opened.Opened.{Opened}
@@ -31,6 +31,11 @@ open_tag tag = record {
 abbrev pub behind_doctype_name : List ℕ → DoctypeOf → Open
 behind_doctype_name [] doctype = InDoctype AfterName doctype
 behind_doctype_name (c ∷ held) doctype = InDoctypeKeyword (c ∷ held) doctype
+
+-- in a CDATA section, with the text that is held of it
+abbrev pub open_cdata : List ℕ → Open
+open_cdata [] = Between Cdata
+open_cdata (c ∷ held) = InCdata (c ∷ held)
 
 -- the name of the last start tag
 abbrev pub last_name_of : {Z : Type 0} → Opened Z → List ℕ
@@ -78,19 +83,21 @@ open_of (state.DoctypeIdentifierSingleQuoted kind) at = InDoctype (InIdentifier 
 open_of (state.AfterDoctypeIdentifier kind) at = InDoctype (AfterIdentifier kind) (doctype_of at.doctype)
 open_of state.BetweenDoctypePublicAndSystemIdentifiers at = InDoctype BetweenIdentifiers (doctype_of at.doctype)
 open_of state.BogusDoctype at = InDoctype Skipped (doctype_of at.doctype)
+open_of state.CdataSection at = open_cdata (string_bytes at.comment)
 open_of other at = NotBuilt
 
 abbrev pub opened_of : {Z : Type 0} → Opened Z → Open
 opened_of at = open_of at.state at
 
--- whether nothing is open in the state
-abbrev pub is_between : State → Bool
-is_between state.Data = true
-is_between state.Plaintext = true
-is_between (state.RawData kind) = true
-is_between (state.ScriptDataEscapedDash kind) = true
-is_between (state.ScriptDataEscapedDashDash kind) = true
-is_between other = false
+-- whether nothing is open in the state, where this is held
+abbrev pub is_between : State → List ℕ → Bool
+is_between state.Data held = true
+is_between state.Plaintext held = true
+is_between (state.RawData kind) held = true
+is_between (state.ScriptDataEscapedDash kind) held = true
+is_between (state.ScriptDataEscapedDashDash kind) held = true
+is_between state.CdataSection [] = true
+is_between other held = false
 
 -- whether a DOCTYPE is open in the state
 abbrev pub is_doctype_state : State → Bool
@@ -144,4 +151,5 @@ stops_at_bad (state.DoctypeIdentifierSingleQuoted kind) = false
 stops_at_bad (state.AfterDoctypeIdentifier kind) = false
 stops_at_bad state.BetweenDoctypePublicAndSystemIdentifiers = false
 stops_at_bad state.BogusDoctype = false
+stops_at_bad state.CdataSection = false
 stops_at_bad other = true

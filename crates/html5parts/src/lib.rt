@@ -3,6 +3,7 @@
 #![tactic(auto)]
 
 pub mod char_ref;
+pub mod cdata;
 pub mod characters;
 pub mod comments;
 pub mod current_tag;

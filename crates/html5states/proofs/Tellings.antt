@@ -335,6 +335,35 @@ module _ {Q S Z : Type 0} {state : Q → S} {count : Q → ℕ} {step faulted : 
     kept = kept;
   }
 
+  -- the same, of the token as it is handed on
+  pub emits_one : {before after : Teller Q Z} (token : Token Z)
+      → state after.sink.now ≡ step (state before.sink.now) (told_by token) before.line
+      → count after.sink.now ≡ count before.sink.now → IsKept before after
+      → Emits state count step faulted {T = Unit {0}} (Ok tt) before after (told_by token ∷ [])
+  unfolding stepped
+  emits_one token steps count kept = record { tells = steps; refusal = tt; faults = count ∙ sym (add-zero _); kept = kept }
+
+  pub emits_fault-one : {T : Type 0} {before after : Teller Q Z} (token : Token Z)
+      → state after.sink.now ≡ faulted (state before.sink.now) (told_by token) before.line
+      → count after.sink.now ≡ count before.sink.now + 1 → IsKept before after
+      → Emits state count step faulted {T = T} (Err Sink) before after (told_by token ∷ [])
+  unfolding stepped
+  emits_fault-one {before = before} token fault count kept = record {
+    tells = record {
+      before = [];
+      token = told_by token;
+      line = before.line;
+      next = on_line before.line (told_by token ∷ []);
+      rest = [];
+      parts = refl;
+      says = inl refl;
+      state = fault;
+    };
+    refusal = tt;
+    faults = count;
+    kept = kept;
+  }
+
   pub emits_fault : {T : Type 0} {before after : Teller Q Z} (token : Token Z) → tokens_in (told_by token) ≢ []
       → state after.sink.now ≡ faulted (state before.sink.now) (told_by token) before.line
       → count after.sink.now ≡ count before.sink.now + 1 → IsKept before after

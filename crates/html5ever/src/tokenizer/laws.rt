@@ -38,13 +38,13 @@ fn read_whole<S: TokenSink<Token<A>>, A: Allocator + Copy>(
 ) -> Result<(), TokenizerError>
     requires going_on { tokenizer.old.ended ≡ false }
     requires not_failed { tokenizer.old.failed ≡ false }
-    ensures finishes { OnOk result (ReadsWhole S.state S.step S.reply S.finish tokenizer.old
+    ensures finishes { OnOk result (ReadsWhole S.state S.step S.reply S.foreign S.finish tokenizer.old
         (chars (string_bytes text)) (S.state tokenizer.new.sink)) }
-    ensures stops { IfErr result (λ error. StopsWhole S.state S.step S.reply S.faulted S.end_faulted
+    ensures stops { IfErr result (λ error. StopsWhole S.state S.step S.reply S.foreign S.faulted S.end_faulted
         error tokenizer.old (chars (string_bytes text)) (S.state tokenizer.new.sink)) }
-    ensures built { OnOk result (IsBuiltBehind S.state S.step S.reply tokenizer.old (chars (string_bytes text))) }
+    ensures built { OnOk result (IsBuiltBehind S.state S.step S.reply S.foreign tokenizer.old (chars (string_bytes text))) }
     ensures not_yet { result ≡ Err TokenizerError.NotYet
-        → MeetsNotBuilt S.state S.step S.reply tokenizer.old (chars (string_bytes text)) }
+        → MeetsNotBuilt S.state S.step S.reply S.foreign tokenizer.old (chars (string_bytes text)) }
     ensures faults { S.faults tokenizer.new.sink ≡ S.faults tokenizer.old.sink + faults_of result }
 {
     let mut queue = BufferQueue::new(alloc);
@@ -66,15 +66,15 @@ pub fn closed<S: TokenSink<Token<A>>, A: Allocator + Copy>(
 ) -> (S, Result<(), TokenizerError>)
     requires { CanStart opts.initial_state }
     ensures finishes { OnOk result.1 (S.state result.0 ≡ S.finish (stepped S.step (S.state sink)
-        (messages (reading S.step S.reply (rules_of (options_of opts) names.now) (start_of (options_of opts)) (S.state sink)
+        (messages (reading S.step S.reply S.foreign (rules_of (options_of opts) names.now) (start_of (options_of opts)) (S.state sink)
         (chars (string_bytes text)))))) }
     ensures stops { IfErr result.1 (λ error. WholeStops S.step S.faulted S.end_faulted error (S.state sink)
-        (messages (reading S.step S.reply (rules_of (options_of opts) names.now) (start_of (options_of opts)) (S.state sink)
+        (messages (reading S.step S.reply S.foreign (rules_of (options_of opts) names.now) (start_of (options_of opts)) (S.state sink)
         (chars (string_bytes text)))) (S.state result.0)) }
-    ensures built { OnOk result.1 (IsBuilt (after S.step S.reply (rules_of (options_of opts) names.now) (start_of (options_of opts))
+    ensures built { OnOk result.1 (IsBuilt (after S.step S.reply S.foreign (rules_of (options_of opts) names.now) (start_of (options_of opts))
         (S.state sink) (chars (string_bytes text))).opened) }
     ensures not_yet { result.1 ≡ Err TokenizerError.NotYet
-        → (after S.step S.reply (rules_of (options_of opts) names.now) (start_of (options_of opts)) (S.state sink)
+        → (after S.step S.reply S.foreign (rules_of (options_of opts) names.now) (start_of (options_of opts)) (S.state sink)
         (chars (string_bytes text))).opened ≡ NotBuilt }
     ensures faults { S.faults result.0 ≡ S.faults sink + faults_of result.1 }
 {
@@ -256,11 +256,11 @@ pub fn doctype<A: Allocator + Copy>(
 /// equal options and equal states and both answer `Ok`.
 pub fn cutting<S: TokenSink<Token<A>>, A: Allocator>()
     ensures text { (rules : Rules) (K : Start) (s : S.State) (pieces : List (List ℕ)) →
-        run_text S.step S.reply rules K s [] [] (map AtBack pieces) ≡ concat pieces }
+        run_text S.step S.reply S.foreign rules K s [] [] (map AtBack pieces) ≡ concat pieces }
     ensures states { (rules : Rules) (K : Start) (s : S.State) (pieces others : List (List ℕ)) →
         concat pieces ≡ concat others →
-        S.finish (stepped S.step s (messages (reading S.step S.reply rules K s
-        (run_text S.step S.reply rules K s [] [] (map AtBack pieces)))))
-        ≡ S.finish (stepped S.step s (messages (reading S.step S.reply rules K s
-        (run_text S.step S.reply rules K s [] [] (map AtBack others))))) }
+        S.finish (stepped S.step s (messages (reading S.step S.reply S.foreign rules K s
+        (run_text S.step S.reply S.foreign rules K s [] [] (map AtBack pieces)))))
+        ≡ S.finish (stepped S.step s (messages (reading S.step S.reply S.foreign rules K s
+        (run_text S.step S.reply S.foreign rules K s [] [] (map AtBack others))))) }
 {}
