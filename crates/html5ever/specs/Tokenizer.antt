@@ -1,6 +1,6 @@
 -- Where a tokenizer stands in a text, and what its calls make of that.
 use Rattle.std.specs.Prelude.{◌≡◌, ℕ, Bool, false, List, [], ◌++◌, ◌⊎◌, Option, None, Some}
-use Rattle.html5ever_interface.specs.Collected.{Collected, none_collected, collected_step, collected_reply, collected_finish}
+use Rattle.html5ever_interface.specs.Collected.{Collected, none_collected, collected_step, collected_reply, collected_foreign, collected_finish}
 use Rattle.html5ever_interface.specs.Options.{OptionsOf}
 use Rattle.markup5ever.specs.NamedReferences.{NamedReference}
 use Rattle.html5ever_interface.specs.Sink.{Message, stepped}
@@ -148,9 +148,9 @@ module _ {X S H : Type 0} (state : X → S) (step : S → Told → ℕ → S) (r
 abbrev pub collected_of : OptionsOf → List NamedReference → Bool → List ℕ → Collected
 collected_of opts names foreign text =
     collected_finish (stepped collected_step (none_collected foreign)
-    (messages (reading collected_step (collected_reply {H = Unit {0}}) (rules_of opts names) (start_of opts) (none_collected foreign) text)))
+    (messages (reading collected_step (collected_reply {H = Unit {0}}) collected_foreign (rules_of opts names) (start_of opts) (none_collected foreign) text)))
 
 -- what is open behind a text that a collector is told
 abbrev pub opened_collecting : OptionsOf → List NamedReference → Bool → List ℕ → Open
 opened_collecting opts names foreign text =
-    (after collected_step (collected_reply {H = Unit {0}}) (rules_of opts names) (start_of opts) (none_collected foreign) text).opened
+    (after collected_step (collected_reply {H = Unit {0}}) collected_foreign (rules_of opts names) (start_of opts) (none_collected foreign) text).opened

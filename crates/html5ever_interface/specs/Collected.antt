@@ -23,6 +23,10 @@ pub record Collecting : Type 0 where
 abbrev pub none_collected : Bool → Collected
 none_collected foreign = record { messages = []; finished = false; foreign = foreign }
 
+-- the answer about foreign content
+abbrev pub collected_foreign : Collected → Bool
+collected_foreign collected = collected.foreign
+
 -- what an entry tells
 abbrev pub message_of : {Z : Type 0} → Token Z × ℕ → Message
 message_of entry = record { token = told_by entry.0; line = entry.1 }
