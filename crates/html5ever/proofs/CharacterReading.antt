@@ -9,6 +9,7 @@ use Rattle.html5ever_interface.specs.Token.Told.{Tag}
 use Rattle.html5ever_interface.specs.declared.states.ScriptEscapeKind.TheVariants as escape_kind
 use Rattle.html5ever_interface.specs.declared.states.State.{State}
 use Rattle.html5ever_interface.specs.declared.states.State.TheVariants as state
+use Rattle.html5grammar.specs.Cdata.{open_cdata}
 use Rattle.html5grammar.specs.Characters.{is_bad_character}
 use Rattle.html5grammar.specs.ErrorText.{bad_character_error}
 use Rattle.html5grammar.specs.Reading.{Here, last_behind, open_after_reply}
@@ -27,7 +28,7 @@ use Rattle.html5ever_interface.specs.Token.{DoctypeOf, doctype_of}
 use Rattle.std.proofs.Common.{string_bytes, ◌≤◌, ◌≢◌, arith}
 use Rattle.html5grammar.specs.Start.DoctypePlace.{AfterWord, BeforeName, InDoctypeName, AfterName, AfterKeyword, BeforeIdentifier, InIdentifier, AfterIdentifier, BetweenIdentifiers, Skipped}
 use Rattle.html5grammar.specs.Start.Quotes.{DoubleQuotes, SingleQuotes}
-use Rattle.html5parts.specs.CurrentTag.{open_of, open_tag, behind_doctype_name, open_cdata, last_name_of, letters_of, stops_at_bad}
+use Rattle.html5parts.specs.CurrentTag.{open_of, open_tag, behind_doctype_name, last_name_of, letters_of, stops_at_bad}
 use Rattle.html5parts.specs.Steps.{tokens_of, Next, behind}
 use Rattle.html5parts.specs.Steps.Next.{Opens, Closes}
 use Rattle.html5parts.specs.declared.current_tag.CurrentTag.{CurrentTag}

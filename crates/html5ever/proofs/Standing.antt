@@ -4,6 +4,7 @@ use Rattle.std.proofs.Math.Seq.{drop-append_seam}
 use Rattle.std.proofs.lemmas.List.{length-map}
 use Rattle.html5ever_interface.specs.Sink.{Message, stepped, on_line}
 use Rattle.html5ever_interface.specs.Token.{Told, Reply}
+use Rattle.html5grammar.specs.Cdata.{open_cdata}
 use Rattle.html5grammar.specs.EndOfInput.{tokens_at_end}
 use Rattle.html5grammar.specs.NormalisedText.{with_line_feeds, without_dropped_first, normalised, line_after, input_after}
 use Rattle.html5grammar.specs.Reading.{Event, end_events, reading, told, messages, after, read}
@@ -25,7 +26,7 @@ use Rattle.std.specs.Prelude.{Option, None, Some}
 use Rattle.std.specs.Option.{unwrap_or}
 use Rattle.html5ever_interface.specs.declared.states.State.{State}
 use Rattle.html5ever_interface.specs.declared.states.State.TheVariants as state
-use Rattle.html5parts.specs.CurrentTag.{open_of, opened_of, open_cdata, last_name_of}
+use Rattle.html5parts.specs.CurrentTag.{open_of, opened_of, last_name_of}
 use Rattle.html5parts.specs.declared.opened.Opened.{Opened}
 use Rattle.html5ever.specs.Tokenizer.{CanStart, Tokenizing, StandsAt, FeedsOn, HandsOn, LeavesWaiting, FeedMeetsNotBuilt, StopsFeeding, LeavesRefused, EndStops}
 use Rattle.html5parts.specs.declared.error.TokenizerError.{TokenizerError}

@@ -5,13 +5,14 @@ use Rattle.html5ever_interface.specs.Token.{DoctypeOf, doctype_of}
 use Rattle.html5ever_interface.specs.declared.states.ScriptEscapeKind.TheVariants as escape_kind
 use Rattle.html5ever_interface.specs.declared.states.State.{State}
 use Rattle.html5ever_interface.specs.declared.states.State.TheVariants as state
+use Rattle.html5grammar.specs.Cdata.{open_cdata}
 use Rattle.html5grammar.specs.Start.{OpenTag, Open, escaped, raw_of}
 use Rattle.html5grammar.specs.Start.Dashes.{OneDash, TwoDashes}
-use Rattle.html5grammar.specs.Start.Mode.{Data, Plain, RawText, Cdata}
+use Rattle.html5grammar.specs.Start.Mode.{Data, Plain, RawText}
 use Rattle.html5grammar.specs.Start.RawPlace.{AfterLessThan, InEndName, AfterMark, AfterMarkAndDash, InSwitch}
 use Rattle.html5grammar.specs.Start.Place.{InName, BeforeAttribute, InAttributeName, AfterAttributeName, BeforeValue, InValue, AfterQuotedValue, AfterSolidus}
 use Rattle.html5grammar.specs.Start.DoctypePlace.{AfterWord, BeforeName, InDoctypeName, AfterName, AfterKeyword, BeforeIdentifier, InIdentifier, AfterIdentifier, BetweenIdentifiers, Skipped}
-use Rattle.html5grammar.specs.Start.Open.{Between, LessThan, LessThanSolidus, InTag, InRaw, InDeclaration, InComment, InBogusComment, InDoctype, InDoctypeKeyword, InCdata, NotBuilt}
+use Rattle.html5grammar.specs.Start.Open.{Between, LessThan, LessThanSolidus, InTag, InRaw, InDeclaration, InComment, InBogusComment, InDoctype, InDoctypeKeyword, NotBuilt}
 use Rattle.html5grammar.specs.Start.Quotes.{DoubleQuotes, SingleQuotes}
 use Rattle.html5parts.specs.declared.current_tag.CurrentTag.{CurrentTag}
 use Rattle.html5parts.specs.declared.opened.Opened.{Opened}
@@ -31,11 +32,6 @@ open_tag tag = record {
 abbrev pub behind_doctype_name : List ℕ → DoctypeOf → Open
 behind_doctype_name [] doctype = InDoctype AfterName doctype
 behind_doctype_name (c ∷ held) doctype = InDoctypeKeyword (c ∷ held) doctype
-
--- in a CDATA section, with the text that is held of it
-abbrev pub open_cdata : List ℕ → Open
-open_cdata [] = Between Cdata
-open_cdata (c ∷ held) = InCdata (c ∷ held)
 
 -- the name of the last start tag
 abbrev pub last_name_of : {Z : Type 0} → Opened Z → List ℕ

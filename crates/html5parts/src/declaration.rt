@@ -2,13 +2,16 @@
 //! section, or else a bogus comment.
 #![tactic(auto, unfolding(html5grammar::proofs::Machine::declaration_step, html5grammar::proofs::Machine::declaration_answer_step, html5grammar::specs::Comment::begins_keyword, html5grammar::specs::Comment::begins_cdata))]
 
-ghost use Rattle.std.specs.Prelude.{◌≡◌, Bool, [], ◌∷◌, ◌++◌, codes, nat_eq, ◌≤◌, ◌+◌, OnOk, Ok, true, false, string_bytes};
+ghost use Rattle.std.specs.Prelude.{◌≡◌, Bool, [], ◌∷◌, ◌++◌, codes, nat_eq, ◌≤◌, ◌+◌, OnOk, Ok, true, false, if◌then◌else◌, string_bytes};
 ghost use Rattle.std.specs.List.{starts_with};
+ghost use Rattle.std.specs.Str.{bytes_eq};
 ghost use Rattle.html5grammar.proofs.Machine.{declaration_step, bogus_comment_step};
 ghost use Rattle.html5grammar.specs.Characters.{lower_case};
-ghost use Rattle.html5grammar.specs.Comment.{begins_keyword, begins_cdata, declaration_error};
+ghost use Rattle.html5grammar.specs.Comment.{begins_keyword, begins_cdata, cdata_keyword, declaration_error};
 ghost use Rattle.html5grammar.specs.Reading.Here.{Tells};
 ghost use Rattle.html5grammar.specs.Start.{held_len};
+ghost use Rattle.html5grammar.specs.Start.Mode.{Cdata};
+ghost use Rattle.html5grammar.specs.Start.Open.{Between, InDeclaration};
 ghost use Rattle.html5parts.specs.CurrentTag.{opened_of, last_name_of};
 ghost use Rattle.html5parts.specs.Steps.{IsBuilt};
 
@@ -50,7 +53,12 @@ pub fn depends_on_sink<A: Allocator>(at: &Opened<A>, c: char) -> bool
 }
 
 // Begins a CDATA section, where the keyword is whole.
-fn open_cdata<A: Allocator>(at: &mut Opened<A>) {
+fn open_cdata<A: Allocator>(at: &mut Opened<A>)
+    requires { at.old.state ≡ State.MarkupDeclarationOpen }
+    ensures opened { opened_of at.new
+        ≡ (if bytes_eq (string_bytes at.old.comment) cdata_keyword then Between Cdata else InDeclaration (string_bytes at.old.comment)) }
+    ensures last { last_name_of at.new ≡ last_name_of at.old }
+{
     if at.comment.as_str() == "[CDATA[" {
         at.state = State::CdataSection;
         at.comment.clear();

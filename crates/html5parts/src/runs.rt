@@ -2,12 +2,13 @@
 //! end one, and where a run within a tag goes. A run between tags is told as one text.
 ghost use Rattle.std.specs.Prelude.{◌≡◌, ℕ, [], false, ◌↔◌, ◌++◌, Contains, OnOk, IfSome, is_some, string_bytes, flat_map};
 ghost use Rattle.std.specs.Str.{chars};
+ghost use Rattle.html5grammar.specs.Cdata.{open_cdata};
 ghost use Rattle.html5grammar.specs.Characters.{name_bytes};
 ghost use Rattle.html5grammar.specs.Start.{is_clean, held_len};
 ghost use Rattle.html5grammar.specs.Start.{raw_of};
 ghost use Rattle.html5grammar.specs.Start.Mode.{RawText};
 ghost use Rattle.html5grammar.specs.Start.Open.{Between};
-ghost use Rattle.html5parts.specs.CurrentTag.{open_cdata, opened_of, last_name_of};
+ghost use Rattle.html5parts.specs.CurrentTag.{opened_of, last_name_of};
 ghost use Rattle.html5parts.specs.Runs.{IsRunAt, other_value_ends, other_run_ends, run_ends, opened_after_run};
 ghost use Rattle.markup5ever.specs.SmallCharSet.{IsMember};
 

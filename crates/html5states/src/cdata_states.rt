@@ -1,12 +1,11 @@
 //! The states of CDATA sections, the standard's "CDATA section state", "CDATA section bracket state" and
 //! "CDATA section end state": which of them is open is told by the end of the text that is held.
-#![tactic(auto, using(crate::proofs::Tellings::tells_from_memory), unfolding(html5grammar::proofs::Machine::cdata_step, html5grammar::specs::Cdata::piece_text, html5parts::specs::Steps::tokens_of, html5parts::specs::Steps::behind, html5ever_interface::specs::Sink::stepped))]
+#![tactic(auto, using(crate::proofs::Tellings::tells_from_memory), unfolding(html5grammar::proofs::Machine::cdata_step, html5parts::specs::Steps::tokens_of, html5parts::specs::Steps::behind, html5ever_interface::specs::Sink::stepped))]
 
 ghost use Rattle.std.specs.Prelude.{◌≡◌, ◌∷◌, [], ◌++◌, true, string_bytes};
 ghost use Rattle.html5ever_interface.specs.Token.Told.{Null, End};
 ghost use Rattle.html5grammar.proofs.Machine.{cdata_step};
-ghost use Rattle.html5grammar.specs.Cdata.{ends_cdata, piece_text};
-ghost use Rattle.html5grammar.specs.Comment.{without_last};
+ghost use Rattle.html5grammar.specs.Cdata.{ends_cdata, piece_text, told_at_end_of_cdata};
 ghost use Rattle.html5grammar.specs.ErrorText.{end_error_in};
 ghost use Rattle.html5grammar.specs.Reading.Here.{Tells};
 ghost use Rattle.html5grammar.specs.Start.Mode.{Cdata, Data};
@@ -64,7 +63,7 @@ impl<S: TokenSink<Token<A>>, A: Allocator + Copy> Teller<'_, S, A> {
     fn end_section(&mut self, at: &mut Opened<A>) -> Step
         requires { ends_cdata (string_bytes at.old.comment) ≡ true }
         ensures { Reads S.state S.faults S.step S.faulted result self.old self.new
-            (Tells (piece_text (without_last 2 (string_bytes at.old.comment))) (Between Data)) at.old at.new }
+            (Tells (told_at_end_of_cdata (string_bytes at.old.comment)) (Between Data)) at.old at.new }
     {
         at.state = State::Data;
         let len = section_len(&at.comment);
