@@ -26,21 +26,21 @@ use std::alloc::Allocator;
 /// forget all but that start, wherever a text is cut.
 pub fn forgetting<S: TokenSink<Token<A>>, A: Allocator>()
     ensures told { (rules : Rules) (K : Start) (s : S.State) (text rest : List ℕ) →
-        messages (told S.step S.reply rules K s (text ++ rest))
-        ≡ messages (told S.step S.reply rules K s text)
-        ++ messages (told S.step S.reply rules (after S.step S.reply rules K s text)
-        (stepped S.step s (messages (told S.step S.reply rules K s text))) rest) }
+        messages (told S.step S.reply S.foreign rules K s (text ++ rest))
+        ≡ messages (told S.step S.reply S.foreign rules K s text)
+        ++ messages (told S.step S.reply S.foreign rules (after S.step S.reply S.foreign rules K s text)
+        (stepped S.step s (messages (told S.step S.reply S.foreign rules K s text))) rest) }
     ensures after { (rules : Rules) (K : Start) (s : S.State) (text rest : List ℕ) →
-        after S.step S.reply rules K s (text ++ rest)
-        ≡ after S.step S.reply rules (after S.step S.reply rules K s text)
-        (stepped S.step s (messages (told S.step S.reply rules K s text))) rest }
+        after S.step S.reply S.foreign rules K s (text ++ rest)
+        ≡ after S.step S.reply S.foreign rules (after S.step S.reply S.foreign rules K s text)
+        (stepped S.step s (messages (told S.step S.reply S.foreign rules K s text))) rest }
 {}
 
 /// What is told of a text is a beginning of what is told of it and more.
 pub fn beginning<S: TokenSink<Token<A>>, A: Allocator>()
     ensures { (rules : Rules) (K : Start) (s : S.State) (text rest : List ℕ) → (later : List Message)
-        × (messages (told S.step S.reply rules K s (text ++ rest))
-        ≡ messages (told S.step S.reply rules K s text) ++ later) }
+        × (messages (told S.step S.reply S.foreign rules K s (text ++ rest))
+        ≡ messages (told S.step S.reply S.foreign rules K s text) ++ later) }
 {}
 
 /// Names behind an `&` that no `#` follows: the longest name that begins what is held when a reference
