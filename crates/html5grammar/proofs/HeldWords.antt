@@ -146,7 +146,7 @@ decides-while begins none before (c ∷ text) =
 module _ (rules : Rules) (undecided : List ℕ → Open) where
   -- a character is held
   abbrev pub IsHeld : List ℕ → ℕ → Type 0
-  IsHeld held c = brought_at rules (undecided held) c ≡ record { settled = []; here = Tells [] (undecided (held ++ c ∷ [])) }
+  IsHeld held c = (foreign : Bool) → brought_at rules foreign (undecided held) c ≡ record { settled = []; here = Tells [] (undecided (held ++ c ∷ [])) }
 
   pub leads-while : (begins : List ℕ → Bool) (content : List ℕ)
       → ((held : List ℕ) (c : ℕ) (later : List ℕ) → content ≡ held ++ c ∷ later → begins (held ++ c ∷ []) ≡ true → IsHeld held c)
@@ -170,7 +170,7 @@ module _ (rules : Rules) (undecided : List ℕ → Open) where
   -- a whole word, in any case, at whose last character another place is reached
   pub leads-word : (word : List ℕ) (later : Open)
       → ((held : List ℕ) (c d : ℕ) (rest : List ℕ) → lower_case ((held ++ c ∷ []) ++ d ∷ rest) ≡ word → IsHeld held c)
-      → ((held : List ℕ) (c : ℕ) → lower_case (held ++ c ∷ []) ≡ word → brought_at rules (undecided held) c ≡ record { settled = []; here = Tells [] later })
+      → ((held : List ℕ) (c : ℕ) → lower_case (held ++ c ∷ []) ≡ word → (foreign : Bool) → brought_at rules foreign (undecided held) c ≡ record { settled = []; here = Tells [] later })
       → (held : List ℕ) (c : ℕ) (rest : List ℕ) → lower_case (held ++ c ∷ rest) ≡ word
       → Leads rules (undecided held) (spell_silent (c ∷ rest)) later
   unfolding Leads
@@ -181,11 +181,11 @@ module _ (rules : Rules) (undecided : List ℕ → Open) where
 
 -- what is told where a character decides: then it is read where something else is open
 
-module _ {S H : Type 0} (step : S → Told → ℕ → S) (reply : S → Told → ℕ → Reply H) (rules : Rules) where
+module _ {S H : Type 0} (step : S → Told → ℕ → S) (reply : S → Told → ℕ → Reply H) (foreign : S → Bool) (rules : Rules) where
   pub trace-settles : (s : S) (line : ℕ) (last : List ℕ) (undecided behind : Open) (late : List Late) (c : ℕ) (text : List ℕ)
-      → brought_at rules undecided c ≡ record { settled = late; here = step_at rules.exact behind c }
-      → brought_at rules behind c ≡ record { settled = []; here = step_at rules.exact behind c }
-      → trace step reply rules s line last undecided (c ∷ text)
-      ≡ with_messages (on_line line (tokens_of_late late)) (trace step reply rules (stepped step s (on_line line (tokens_of_late late))) line last behind (c ∷ text))
+      → brought_at rules (foreign s) undecided c ≡ record { settled = late; here = step_at rules.exact behind c }
+      → ((other : Bool) → brought_at rules other behind c ≡ record { settled = []; here = step_at rules.exact behind c })
+      → trace step reply foreign rules s line last undecided (c ∷ text)
+      ≡ with_messages (on_line line (tokens_of_late late)) (trace step reply foreign rules (stepped step s (on_line line (tokens_of_late late))) line last behind (c ∷ text))
   unfolding trace trace_brought stepped
-  trace-settles s line last undecided behind late c text e f = rw (e, f) refl
+  trace-settles s line last undecided behind late c text e f = rw (e, f (foreign (stepped step s (on_line line (tokens_of_late late))))) refl

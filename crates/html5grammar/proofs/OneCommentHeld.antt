@@ -94,7 +94,7 @@ line_after-held input content = line-plain input (codes "<!") (held_of content) 
 
 -- ---- what is told where it is decided
 
-module _ {S H : Type 0} (step : S → Told → ℕ → S) (reply : S → Told → ℕ → Reply H) (rules : Rules) where
+module _ {S H : Type 0} (step : S → Told → ℕ → S) (reply : S → Told → ℕ → Reply H) (foreign : S → Bool) (rules : Rules) where
   abbrev error_on : ℕ → List Message
   error_on line = on_line line (error_in rules.exact state.MarkupDeclarationOpen exclamation_mark ∷ [])
 
@@ -106,10 +106,10 @@ module _ {S H : Type 0} (step : S → Told → ℕ → S) (reply : S → Told �
       rw (no.0, no.1, none) refl
 
   pub trace-decides : (s : S) (line : ℕ) (last held text : List ℕ) → next_is (λ d. not (begins_keyword (held ++ d ∷ []))) text ≡ true
-      → trace step reply rules s line last (InDeclaration held) text
-      ≡ with_messages (error_on line) (trace step reply rules (stepped step s (error_on line)) line last (InBogusComment held) text)
+      → trace step reply foreign rules s line last (InDeclaration held) text
+      ≡ with_messages (error_on line) (trace step reply foreign rules (stepped step s (error_on line)) line last (InBogusComment held) text)
   unfolding trace trace_brought brought_at stepped
   trace-decides s line last held [] h = absurd (false≢true h)
   trace-decides s line last held (d ∷ text) h =
-      trace-settles step reply rules s line last (InDeclaration held) (InBogusComment held) (declaration_error rules.exact held) d text
+      trace-settles step reply foreign rules s line last (InDeclaration held) (InBogusComment held) (declaration_error rules.exact held) d text
       (step-decides held d (not-true (begins_keyword (held ++ d ∷ [])) h)) refl

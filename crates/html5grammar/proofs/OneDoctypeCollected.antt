@@ -146,9 +146,9 @@ module _ (exact : Bool) where
 
 -- what a collector holds behind a text that is one doctype
 pub collects-doctype : (H : Type 0) (rules : Rules) (K : Start) (foreign : Bool) (X : List ℕ) (doctype : WrittenDoctype) → IsDoctype K X doctype
-    → collected_finish (stepped collected_step (none_collected foreign) (messages (reading collected_step (collected_reply {H = H}) rules K (none_collected foreign) X)))
+    → collected_finish (stepped collected_step (none_collected foreign) (messages (reading collected_step (collected_reply {H = H}) (λ (c : Collected). c.foreign) rules K (none_collected foreign) X)))
     ≡ record { messages = doctype_messages rules.exact K.input doctype; finished = true; foreign = foreign }
 collects-doctype H rules K foreign X doctype one =
     ap (λ M. collected_finish (stepped collected_step (none_collected foreign) M))
-    (reading-doctype collected_step (collected_reply {H = H}) rules K (none_collected foreign) X doctype one)
+    (reading-doctype collected_step (collected_reply {H = H}) (λ (c : Collected). c.foreign) rules K (none_collected foreign) X doctype one)
     ∙ ap collected_finish (collected-doctype rules.exact K.input doctype (none_collected foreign))
