@@ -39,6 +39,18 @@ module _ (rules : Rules) where
   Leads-append a b c [] ys f g = subst (λ x. Leads x ys c) (sym f) g
   Leads-append a b c (x ∷ xs) ys f g = (f.0, f.1, Leads-append f.0 b c xs ys f.2 g)
 
+pub spelled_messages-append : (exact : Bool) (input : Input) (before : List ℕ) (xs ys : List Spelled)
+    → spelled_messages exact input before (xs ++ ys) ≡ spelled_messages exact input before xs ++ spelled_messages exact input (before ++ characters xs) ys
+unfolding spelled_messages
+spelled_messages-append exact input before [] ys = rw (append-nil before) refl
+spelled_messages-append exact input before (here ∷ more) ys =
+    let past : List ℕ = before ++ here.character ∷ [] in
+    let M : List Message = on_line (line_after input past) (bad_character_error exact here.character ++ here.told) in
+    ap (λ l. M ++ l)
+    (spelled_messages-append exact input past more ys
+    ∙ ap (λ b. spelled_messages exact input past more ++ spelled_messages exact input b ys) (append_assoc before (here.character ∷ []) (characters more)))
+    ∙ sym (append_assoc M (spelled_messages exact input past more) (spelled_messages exact input (before ++ here.character ∷ characters more) ys))
+
 module _ {S H : Type 0} (step : S → Told → ℕ → S) (reply : S → Told → ℕ → Reply H) (foreign : S → Bool) (rules : Rules) where
   with-two : (s : S) (M N : List Message) (line : ℕ) (last : List ℕ) (opened : Open) (text : List ℕ)
       → with_messages M (with_messages N (trace step reply foreign rules (stepped step (stepped step s M) N) line last opened text))

@@ -1,7 +1,7 @@
 -- A doctype tells no text, so a collector keeps its messages one by one.
 use Rattle.std.proofs.Common.{◌≡◌, ℕ, Bool, true, false, List, [], ◌∷◌, ◌++◌, refl, ◌∙◌, ap}
 use Rattle.std.specs.Prelude.{flat_map, if◌then◌else◌}
-use Rattle.html5ever_interface.specs.Collected.{none_collected, collected_step, collected_reply, collected_finish}
+use Rattle.html5ever_interface.specs.Collected.{none_collected, collected_step, collected_reply, collected_finish, Collected}
 use Rattle.html5ever_interface.specs.Sink.{Message, stepped, on_line}
 use Rattle.html5ever_interface.specs.Token.{Told, DoctypeOf, empty_doctype}
 use Rattle.html5ever_interface.specs.Token.Told.{Doctype, End}

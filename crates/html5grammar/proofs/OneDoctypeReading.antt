@@ -91,7 +91,7 @@ module _ {S H : Type 0} (step : S → Told → ℕ → S) (reply : S → Told �
 
   -- what is told where it is decided
   held-error : (line c : ℕ) (rest : List ℕ) → begins_doctype_keyword (c ∷ []) ≡ true
-      → first_error rules d step reply line (held_of (c ∷ rest)) ≡ on_line line (error_in rules.exact state.AfterDoctypeName c ∷ [])
+      → first_error rules d step reply foreign line (held_of (c ∷ rest)) ≡ on_line line (error_in rules.exact state.AfterDoctypeName c ∷ [])
   unfolding run_while keyword_error
   held-error line c rest begins = rw begins refl
 
@@ -108,7 +108,7 @@ module _ {S H : Type 0} (step : S → Told → ℕ → S) (reply : S → Told �
       let text : characters cells ≡ behind ++ greater_than ∷ [] = characters-skipped rules.exact (with_quirks d) behind in
       let line : ℕ = line_after input (before ++ held) in
       let M : List Message = spelled_messages rules.exact input before (spell_silent held) in
-      let E : List Message = first_error rules d step reply line held in
+      let E : List Message = first_error rules d step reply foreign line held in
       let N : List Message = spelled_messages rules.exact input (before ++ held) cells in
       let error : ℕ → List Message = λ n. on_line n (error_in rules.exact state.AfterDoctypeName c ∷ []) in
       let whole : (c ∷ rest) ++ greater_than ∷ [] ≡ characters (spell_silent held) ++ characters cells =
@@ -120,7 +120,7 @@ module _ {S H : Type 0} (step : S → Told → ℕ → S) (reply : S → Told �
       ∙ trace-leads step reply foreign rules input before s last (InDoctype AfterName d) (InDoctypeKeyword held d) (spell_silent held) (characters cells) (leads-held rules d c rest p.0 begins)
       ∙ ap (λ l. with_messages M (trace step reply foreign rules (stepped step s M) (line_after input (before ++ l)) last (InDoctypeKeyword held d) (characters cells))) (characters-spell silent held)
       ∙ ap (with_messages M)
-      (trace-decides rules d step reply (stepped step s M) line last held (characters cells)
+      (trace-decides rules d step reply foreign (stepped step s M) line last held (characters cells)
       (ap (next_is (λ b. not (begins_doctype_keyword (held ++ b ∷ [])))) text ∙ decides-held (c ∷ rest))
       ∙ ap (with_messages E)
       (trace-ends step reply foreign rules input (before ++ held) (stepped step (stepped step s M) E) last (InDoctype Skipped (with_quirks d)) (Between Data) cells

@@ -111,7 +111,7 @@ brought-tells rules foreign NotBuilt c h goes e = brought-step rules foreign Not
 
 -- the sink's answer decides nothing where no CDATA section can begin
 
-none_without_beginning : (text : List ℕ) → begins_cdata text ≡ false → bytes_eq text cdata_keyword ≡ false
+pub none_without_beginning : (text : List ℕ) → begins_cdata text ≡ false → bytes_eq text cdata_keyword ≡ false
 unfolding begins_cdata
 none_without_beginning text h = false_from_ne_true (bytes_eq text cdata_keyword) (λ e.
     false≢true (sym h ∙ ap begins_cdata (same_text text cdata_keyword (sym e))))

@@ -38,7 +38,7 @@ use Rattle.html5grammar.specs.Start.RawPlace.{AfterLessThan, InEndName, AfterMar
 use Rattle.html5grammar.specs.Tag.{with_name, null_error, in_tag_name}
 use Rattle.html5grammar.specs.WrittenRaw.{RawItem, WrittenRaw, raw_behind_item, raw_behind_items, switch_text, item_text, items_text, written, next_is, is_double_escaped, can_stand, can_follow, is_raw, carried, carried_to, spell_text, spell_item, spell_items, carried_behind, spell_raw, raw_at_end, told_at_end, raw_messages, IsRawText}
 use Rattle.html5grammar.specs.WrittenRaw.RawItem.{Character, LessThan, Letters, Mark, Switch}
-use Rattle.html5grammar.proofs.Leading.{trace-goes}
+use Rattle.html5grammar.proofs.Leading.{trace-goes, spelled_messages-append}
 use Rattle.html5grammar.proofs.Machine.{step_at, raw_place_step, end_name_step, tag_name_end_step, tag_step, tag_name_step}
 use Rattle.html5grammar.proofs.OneTagParts.{Holds-none, Led, goes-parts, can_end-parts}
 use Rattle.html5grammar.proofs.OneTagReading.{characters, characters-append, characters-spell, characters-two, characters-parts, body, characters-body, ends-tag, trace-tag}
@@ -264,18 +264,6 @@ module _ (exact : Bool) (name : List ℕ) where
   step-end_name kind letters c ends name_is = rw (end-no_letter exact name c ends, name_is, ends-no_name c ends) refl
 
 -- ---- the messages
-
-spelled_messages-append : (exact : Bool) (input : Input) (before : List ℕ) (xs ys : List Spelled)
-    → spelled_messages exact input before (xs ++ ys) ≡ spelled_messages exact input before xs ++ spelled_messages exact input (before ++ characters xs) ys
-unfolding spelled_messages
-spelled_messages-append exact input before [] ys = rw (append-nil before) refl
-spelled_messages-append exact input before (here ∷ more) ys =
-    let past : List ℕ = before ++ here.character ∷ [] in
-    let M : List Message = on_line (line_after input past) (bad_character_error exact here.character ++ here.told) in
-    ap (λ l. M ++ l)
-    (spelled_messages-append exact input past more ys
-    ∙ ap (λ b. spelled_messages exact input past more ++ spelled_messages exact input b ys) (append_assoc before (here.character ∷ []) (characters more)))
-    ∙ sym (append_assoc M (spelled_messages exact input past more) (spelled_messages exact input (before ++ here.character ∷ characters more) ys))
 
 module _ {S H : Type 0} (step : S → Told → ℕ → S) (reply : S → Told → ℕ → Reply H) (foreign : S → Bool) (rules : Rules) where
   -- where two places do the same at the next character, they tell the same
