@@ -1,5 +1,6 @@
 -- Behind a character that is read nothing is held but that character: what begins to be held begins empty, or with the first
 -- character of a keyword of a doctype.
+use Rattle.html5grammar.specs.Cdata.{ends_cdata}
 use Rattle.std.proofs.Common.{ℕ, ◌≤◌, Bool, true, false, List, [], ◌∷◌, arith}
 use Rattle.std.specs.Prelude.{◌&&◌, ◌==◌, if◌then◌else◌}
 use Rattle.html5ever_interface.specs.Token.{Told, DoctypeOf}
@@ -19,13 +20,13 @@ use Rattle.html5grammar.specs.RawText.{ends_name, is_rcdata, ends_raw_text, begi
 use Rattle.html5grammar.specs.Reading.{Here}
 use Rattle.html5grammar.specs.Reading.Here.{Tells, TellsTag, Stops}
 use Rattle.html5grammar.specs.Start.{Raw, OpenTag, Place, RawPlace, DoctypePlace, Open, held_len}
-use Rattle.html5grammar.specs.Start.Mode.{Data, Plain, RawText}
+use Rattle.html5grammar.specs.Start.Mode.{Data, Plain, RawText, Cdata}
 use Rattle.html5grammar.specs.Start.DoctypePlace.{AfterWord, BeforeName, InDoctypeName, AfterName, AfterKeyword, BeforeIdentifier, InIdentifier, AfterIdentifier, BetweenIdentifiers, Skipped}
-use Rattle.html5grammar.specs.Start.Open.{Between, LessThan, LessThanSolidus, InTag, InRaw, InDeclaration, InComment, InBogusComment, InDoctype, InDoctypeKeyword, InReference, NotBuilt}
+use Rattle.html5grammar.specs.Start.Open.{Between, LessThan, LessThanSolidus, InTag, InRaw, InDeclaration, InComment, InBogusComment, InDoctype, InDoctypeKeyword, InReference, NotBuilt, InCdata}
 use Rattle.html5grammar.specs.Start.Place.{InName, BeforeAttribute, InAttributeName, AfterAttributeName, BeforeValue, InValue, AfterQuotedValue, AfterSolidus}
 use Rattle.html5grammar.specs.Start.RawPlace.{AfterLessThan, InEndName, AfterMark, AfterMarkAndDash, InSwitch}
 use Rattle.html5grammar.specs.Tag.{in_quoted, in_unquoted, in_attribute_name, in_tag_name}
-use Rattle.html5grammar.proofs.Machine.{closing_step, tag_name_step, part_step, attribute_name_step, after_attribute_name_step, quoted_step, unquoted_step, before_value_step, tag_step, data_step, less_than_step, solidus_step, bogus_comment_step, comment_step, skipped_step, wanted_name_step, doctype_name_step, keyword_or_end_step, wanted_identifier_step, system_or_end_step, identifier_step, behind_identifier_step, space_step, doctype_step, raw_step, tag_name_end_step, end_name_step, switch_step, mark_step, mark_and_dash_step, raw_solidus_step, raw_less_than_step, raw_place_step, step_at}
+use Rattle.html5grammar.proofs.Machine.{closing_step, tag_name_step, part_step, attribute_name_step, after_attribute_name_step, quoted_step, unquoted_step, before_value_step, tag_step, data_step, less_than_step, solidus_step, bogus_comment_step, comment_step, skipped_step, wanted_name_step, doctype_name_step, keyword_or_end_step, wanted_identifier_step, system_or_end_step, identifier_step, behind_identifier_step, space_step, doctype_step, raw_step, tag_name_end_step, end_name_step, switch_step, mark_step, mark_and_dash_step, raw_solidus_step, raw_less_than_step, raw_place_step, step_at, cdata_step}
 
 abbrev pub HoldsAtMostOne : Here Open → Type 0
 HoldsAtMostOne (Tells told later) = held_len later ≤ 1
@@ -95,6 +96,10 @@ module _ (exact : Bool) (c : ℕ) where
   unfolding bogus_comment_step
   holds-bogus_comment before first = holds-if (c == greater_than) _ _ none none
 
+  holds-cdata : (held : List ℕ) → HoldsAtMostOne (cdata_step held c)
+  unfolding cdata_step
+  holds-cdata held = holds-if ((c == greater_than) && ends_cdata held) _ _ none (holds-if (c == null) _ _ none none)
+
   holds-raw_solidus : (kind : RawKind) (name : List ℕ) → HoldsAtMostOne (raw_solidus_step kind name)
   unfolding raw_solidus_step
   holds-raw_solidus raw_kind.Rcdata name = none
@@ -160,6 +165,7 @@ module _ (exact : Bool) (c : ℕ) where
   unfolding step_at less_than_step solidus_step comment_step
   holds_at_most_one (Between Data) = holds-data []
   holds_at_most_one (Between Plain) = none
+  holds_at_most_one (Between Cdata) = holds-cdata []
   holds_at_most_one (Between (RawText raw name)) = holds-raw raw name []
   holds_at_most_one LessThan =
       holds-if (is_letter c) _ _ (holds-tag_name _) (holds-if (c == solidus) _ _ none
@@ -173,5 +179,6 @@ module _ (exact : Bool) (c : ℕ) where
   holds_at_most_one (InBogusComment before) = holds-bogus_comment before []
   holds_at_most_one (InDoctype place d) = holds-doctype place d
   holds_at_most_one (InDoctypeKeyword held d) = tt
+  holds_at_most_one (InCdata held) = holds-cdata held
   holds_at_most_one (InReference stand held) = tt
   holds_at_most_one NotBuilt = tt

@@ -93,9 +93,9 @@ module _ (exact : Bool) where
 
 -- what a collector holds behind a text that is one comment
 pub collects-comment : (H : Type 0) (rules : Rules) (K : Start) (foreign : Bool) (X : List ℕ) (comment : WrittenComment) → IsComment K X comment
-    → collected_finish (stepped collected_step (none_collected foreign) (messages (reading collected_step (collected_reply {H = H}) rules K (none_collected foreign) X)))
+    → collected_finish (stepped collected_step (none_collected foreign) (messages (reading collected_step (collected_reply {H = H}) (λ (c : Collected). c.foreign) rules K (none_collected foreign) X)))
     ≡ record { messages = comment_messages rules.exact K.input comment; finished = true; foreign = foreign }
 collects-comment H rules K foreign X comment one =
     ap (λ M. collected_finish (stepped collected_step (none_collected foreign) M))
-    (reading-comment collected_step (collected_reply {H = H}) rules K (none_collected foreign) X comment one)
+    (reading-comment collected_step (collected_reply {H = H}) (λ (c : Collected). c.foreign) rules K (none_collected foreign) X comment one)
     ∙ ap collected_finish (collected-comment rules.exact K.input comment (none_collected foreign))

@@ -69,14 +69,14 @@ all_behind : (text later : List ℕ) → list_all in_bogus_comment (text ++ late
 all_behind [] later h = h
 all_behind (c ∷ text) later h = all_behind text later (and_parts (in_bogus_comment c) (list_all in_bogus_comment (text ++ later)) h).1
 
-module _ {S H : Type 0} (step : S → Told → ℕ → S) (reply : S → Told → ℕ → Reply H) (rules : Rules) where
+module _ {S H : Type 0} (step : S → Told → ℕ → S) (reply : S → Told → ℕ → Reply H) (foreign : S → Bool) (rules : Rules) where
   trace-whole : (K : Start) (s : S) (cells : List Spelled) (text : List ℕ) → characters cells ≡ text → Leads rules (Between Data) cells (Between Data)
-      → IsRead step reply rules K s text (spelled_messages rules.exact K.input [] cells)
-  trace-whole K s cells text e leads = trace-text step reply rules K.input [] s K.last_start_tag (Between Data) (Between Data) cells text e leads
+      → IsRead step reply foreign rules K s text (spelled_messages rules.exact K.input [] cells)
+  trace-whole K s cells text e leads = trace-text step reply foreign rules K.input [] s K.last_start_tag (Between Data) (Between Data) cells text e leads
 
   -- behind `<!` a bogus comment is open once it is decided that no keyword comes
   reads_declaration : (K : Start) (s : S) (content : List ℕ) → can_open ExclamationMark content ≡ true → list_all in_bogus_comment content ≡ true
-      → IsRead step reply rules K s (written (Bogus ExclamationMark content)) (messages_of rules.exact K.input (Bogus ExclamationMark content))
+      → IsRead step reply foreign rules K s (written (Bogus ExclamationMark content)) (messages_of rules.exact K.input (Bogus ExclamationMark content))
   unfolding written messages_of
   reads_declaration K s content opens within =
       let held : List ℕ = held_of content in
@@ -98,18 +98,18 @@ module _ {S H : Type 0} (step : S → Told → ℕ → S) (reply : S → Told �
       subst (λ l. Goes rules.exact (InBogusComment l) cells (Between Data)) (held_of-plain content).bytes
       (subst (λ l. Goes rules.exact (InBogusComment (bytes_of held)) (spell_bogus rules.exact rest ++ spell_end [] l) (Between Data)) (held-parts content)
       (goes-bogus_end rules.exact held rest (all_behind held rest (ap (list_all in_bogus_comment) (held-parts content) ∙ within)))) in
-      ap (trace step reply rules s (line_after K.input []) K.last_start_tag (Between Data)) whole
-      ∙ trace-leads step reply rules K.input [] s K.last_start_tag (Between Data) (InDeclaration held) (spell_silent past) (characters cells) (leads-declaration rules content opens)
-      ∙ ap (λ l. with_messages M (trace step reply rules (stepped step s M) (line_after K.input l) K.last_start_tag (InDeclaration held) (characters cells))) (characters-spell silent past)
+      ap (trace step reply foreign rules s (line_after K.input []) K.last_start_tag (Between Data)) whole
+      ∙ trace-leads step reply foreign rules K.input [] s K.last_start_tag (Between Data) (InDeclaration held) (spell_silent past) (characters cells) (leads-declaration rules content opens)
+      ∙ ap (λ l. with_messages M (trace step reply foreign rules (stepped step s M) (line_after K.input l) K.last_start_tag (InDeclaration held) (characters cells))) (characters-spell silent past)
       ∙ ap (with_messages M)
-      (trace-decides step reply rules (stepped step s M) line K.last_start_tag held (characters cells)
+      (trace-decides step reply foreign rules (stepped step s M) line K.last_start_tag held (characters cells)
       (ap (next_is (λ d. not (begins_keyword (held ++ d ∷ [])))) text ∙ decides-held content)
       ∙ ap (with_messages E)
-      (trace-ends step reply rules K.input past (stepped step (stepped step s M) E) K.last_start_tag (InBogusComment held) (Between Data) cells
+      (trace-ends step reply foreign rules K.input past (stepped step (stepped step s M) E) K.last_start_tag (InBogusComment held) (Between Data) cells
       (leads-goes rules (InBogusComment held) (Between Data) cells goes)))
       ∙ ap (λ n. record { messages = M ++ (on_line n (error_in rules.exact state.MarkupDeclarationOpen exclamation_mark ∷ []) ++ N); opened = Between Data; last_start_tag = K.last_start_tag }) (line_after-held K.input content)
 
-  reads : (K : Start) (s : S) (comment : WrittenComment) → is_written comment ≡ true → IsRead step reply rules K s (written comment) (messages_of rules.exact K.input comment)
+  reads : (K : Start) (s : S) (comment : WrittenComment) → is_written comment ≡ true → IsRead step reply foreign rules K s (written comment) (messages_of rules.exact K.input comment)
   unfolding is_written written messages_of
   reads K s (Proper content ending) h =
       let front : List ℕ = content ++ before_greater_than ending in
@@ -132,17 +132,17 @@ module _ {S H : Type 0} (step : S → Told → ℕ → S) (reply : S → Told �
       reads_declaration K s content p.0 p.1
 
   reads_comment : (K : Start) (s : S) (X : List ℕ) (comment : WrittenComment) → IsComment K X comment
-      → IsReadFrom step reply rules K s X (messages_of rules.exact K.input comment)
+      → IsReadFrom step reply foreign rules K s X (messages_of rules.exact K.input comment)
   reads_comment K s X comment one = rw (one.starts, one.text) (reads K s comment one.is_comment)
 
   pub after-comment : (K : Start) (s : S) (X : List ℕ) (comment : WrittenComment) → IsComment K X comment
-      → (after step reply rules K s X).opened ≡ Between Data
+      → (after step reply foreign rules K s X).opened ≡ Between Data
   after-comment K s X comment one =
-      after-whole step reply rules K s X (messages_of rules.exact K.input comment) (reads_comment K s X comment one)
+      after-whole step reply foreign rules K s X (messages_of rules.exact K.input comment) (reads_comment K s X comment one)
 
   -- a text that is one comment
   pub reading-comment : (K : Start) (s : S) (X : List ℕ) (comment : WrittenComment) → IsComment K X comment
-      → messages (reading step reply rules K s X) ≡ comment_messages rules.exact K.input comment
+      → messages (reading step reply foreign rules K s X) ≡ comment_messages rules.exact K.input comment
   unfolding comment_messages
   reading-comment K s X comment one =
-      reading-whole step reply rules K s X (messages_of rules.exact K.input comment) (reads_comment K s X comment one) ∙ rw one.text refl
+      reading-whole step reply foreign rules K s X (messages_of rules.exact K.input comment) (reads_comment K s X comment one) ∙ rw one.text refl
