@@ -1,5 +1,6 @@
 -- What is open in a CDATA section, with or without text that is held.
-use Rattle.std.proofs.Common.{◌≡◌, ◌≢◌, ℕ, false, List, [], ◌∷◌, ◌++◌, refl}
+use Rattle.std.proofs.Common.{◌≡◌, ◌≢◌, ℕ, false, List, [], ◌∷◌, ◌++◌, refl, sym}
+use Rattle.std.proofs.lemmas.Bool.{false≢true}
 use Rattle.std.specs.Prelude.{Some, flat_map, encode_utf8}
 use Rattle.html5grammar.specs.Cdata.{open_cdata}
 use Rattle.html5grammar.specs.Characters.{greater_than}
@@ -18,8 +19,8 @@ section-has_runs (c ∷ held) filled = refl
 
 -- behind a run, where some text was held
 pub section-run : (held run : List ℕ) → is_clean (open_cdata held) ≡ false → open_cdata (held ++ flat_map encode_utf8 run) ≡ opened_after_run (open_cdata held) run
-section-run [] run open = cc
-section-run (c ∷ held) run open = refl
+section-run [] run not_clean = absurd (false≢true (sym not_clean))
+section-run (c ∷ held) run not_clean = refl
 
 pub held_len-section : (held : List ℕ) → held_len (open_cdata held) ≡ 0
 held_len-section [] = refl

@@ -1,4 +1,5 @@
 //! The text of a CDATA section.
+#![tactic(auto, unfolding(html5grammar::specs::Cdata::ends_cdata))]
 
 ghost use Rattle.std.specs.Prelude.{◌≡◌, true, take};
 ghost use Rattle.std.specs.Str.{IsCharBoundary};

@@ -46,8 +46,9 @@ fn begins_cdata(held: &[u8]) -> bool
 pub fn depends_on_sink<A: Allocator>(at: &Opened<A>, c: char) -> bool
     ensures { result ≡ begins_cdata (string_bytes at.now.comment ++ c ∷ []) }
 {
-    match b"[CDATA[".get(at.comment.len()) {
-        Some(next) => char::from(*next) == c && begins_cdata(at.comment.as_bytes()),
+    let held = at.comment.as_bytes();
+    match b"[CDATA[".get(held.len()) {
+        Some(next) => c == char::from(*next) && begins_cdata(held),
         None => false,
     }
 }

@@ -104,7 +104,8 @@ pub fn push_run<A: Allocator>(at: &mut Opened<A>, run: &str) -> Result<(), Alloc
         State::AttributeName => push_names(&mut at.tag.attr_name, run)?,
         State::AttributeValue(_) => at.tag.attr_value.push_str(run)?,
         State::Comment => at.comment.push_str(run)?,
-        State::BogusComment | State::CdataSection => at.comment.push_str(run)?,
+        State::BogusComment => at.comment.push_str(run)?,
+        State::CdataSection => at.comment.push_str(run)?,
         _ => unreachable!(),
     }
     Ok(())
