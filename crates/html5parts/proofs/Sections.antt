@@ -1,5 +1,6 @@
 -- What is open in a CDATA section, with or without text that is held.
-use Rattle.std.proofs.Common.{◌≡◌, ◌≢◌, ℕ, false, List, [], ◌∷◌, ◌++◌, refl, sym}
+use Rattle.std.proofs.Common.{◌≡◌, ◌≢◌, ℕ, false, List, [], ◌∷◌, ◌++◌, refl, sym, ap, length, length-append, arith}
+use Rattle.std.proofs.lemmas.Str.{length-encode, len_utf8_bounds}
 use Rattle.std.proofs.lemmas.Bool.{false≢true}
 use Rattle.std.specs.Prelude.{Some, flat_map, encode_utf8}
 use Rattle.html5grammar.specs.Cdata.{open_cdata}
@@ -25,3 +26,8 @@ section-run (c ∷ held) run not_clean = refl
 pub held_len-section : (held : List ℕ) → held_len (open_cdata held) ≡ 0
 held_len-section [] = refl
 held_len-section (c ∷ held) = refl
+
+-- behind a character
+pub section-pushed : (held : List ℕ) (c : ℕ) → open_cdata (held ++ encode_utf8 c) ≡ InCdata (held ++ encode_utf8 c)
+section-pushed held c =
+    section-filled (held ++ encode_utf8 c) (λ none. omega (arith, length-append held (encode_utf8 c), length-encode c, (len_utf8_bounds c).0, ap length none))

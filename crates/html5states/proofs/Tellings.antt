@@ -42,6 +42,14 @@ encoded≢nil : (cs : List ℕ) → map (λ (c : ℕ). Text (encode_utf8 c)) cs 
 encoded≢nil [] filled = λ h. filled refl
 encoded≢nil (c ∷ cs) filled = λ h. cc
 
+texts≢nil : (cs : List ℕ) → cs ≢ [] → map (λ (c : ℕ). Text (encode_utf8 c)) cs ≢ []
+texts≢nil [] filled = λ e. filled refl
+texts≢nil (c ∷ cs) filled = λ e. cc
+
+-- a text that isn't empty has characters
+pub filled-text : (bytes : List ℕ) → IsUtf8 bytes → bytes ≢ [] → tokens_in (Text bytes) ≢ []
+filled-text bytes utf8 filled = texts≢nil (chars bytes) (λ none. filled (sym (encodes-chars bytes utf8) ∙ ap encode_utf8_all none))
+
 -- a token that is told says what the grammar has for it
 pub says-token : {Z : Type 0} → (token : Token Z) (line : ℕ) → tokens_in (told_by token) ≢ []
     → IsToldAs (told_by token) line (on_line line (tokens_in (told_by token)))

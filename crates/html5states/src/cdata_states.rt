@@ -16,7 +16,7 @@ use crate::teller::Teller;
 use html5ever_interface::interface::sink::TokenSink;
 use html5ever_interface::interface::token::Token;
 use html5ever_interface::states::State;
-use html5parts::cdata::{ends_section, section_len};
+use html5parts::cdata::{ends_section, push_text, section_len};
 use html5parts::error::TokenizerError;
 use html5parts::opened::{Opened, Progress, Step};
 use std::alloc::Allocator;
@@ -35,7 +35,7 @@ impl<S: TokenSink<Token<A>>, A: Allocator + Copy> Teller<'_, S, A> {
         if c == '\0' {
             return self.cut_section(at);
         }
-        at.comment.push(c)?;
+        push_text(at, c)?;
         Ok(Progress::Continues)
     }
 
