@@ -36,6 +36,7 @@ pub mod OneDoctypeName
 pub mod OneDoctypeReading
 pub mod OneDoctypeCollected
 pub mod OneDoctypeForms
+pub mod OneCdataSteps
 mod WrittenRawCases
 mod CommentCases
 mod DoctypeCases
