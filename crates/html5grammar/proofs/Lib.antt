@@ -37,6 +37,8 @@ pub mod OneDoctypeReading
 pub mod OneDoctypeCollected
 pub mod OneDoctypeForms
 pub mod OneCdataSteps
+pub mod OneCdataReading
+pub mod OneCdataCollected
 mod WrittenRawCases
 mod CommentCases
 mod DoctypeCases
