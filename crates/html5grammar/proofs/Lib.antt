@@ -39,6 +39,7 @@ pub mod OneDoctypeForms
 pub mod OneCdataSteps
 pub mod OneCdataReading
 pub mod OneCdataCollected
+pub mod OneCdataForms
 mod WrittenRawCases
 mod CommentCases
 mod DoctypeCases

@@ -84,7 +84,7 @@ no_keyword text h = (
       ∙ or_right (starts_with nat_eq (codes "--") text) (starts_with nat_eq (codes "doctype") (lower_case text)) (ap (starts_with nat_eq (codes "doctype")) (same_text (lower_case text) (codes "doctype") (sym e))))),
 )
 
-both-false : (a b : Bool) → (a || b) ≡ false → (a ≡ false) × (b ≡ false)
+pub both-false : (a b : Bool) → (a || b) ≡ false → (a ≡ false) × (b ≡ false)
 both-false true b h = absurd (false≢true (sym h))
 both-false false b h = (refl, h)
 
