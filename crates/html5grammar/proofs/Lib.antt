@@ -43,5 +43,6 @@ pub mod OneCdataForms
 mod WrittenRawCases
 mod CommentCases
 mod DoctypeCases
+mod CdataCases
 mod OneCommentCases
 mod OneDoctypeCases
