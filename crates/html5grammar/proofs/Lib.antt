@@ -46,3 +46,4 @@ mod DoctypeCases
 mod CdataCases
 mod OneCommentCases
 mod OneDoctypeCases
+mod OneCdataCases

@@ -1,10 +1,8 @@
 -- What a collector keeps of a CDATA section: each text that is told is kept as one.
-use Rattle.std.proofs.Common.{◌≡◌, ℕ, Bool, true, false, List, [], ◌∷◌, ◌++◌, refl, ap, sym, ◌∙◌}
-use Rattle.std.specs.Prelude.{◌&&◌, codes, encode_utf8_all, map, Option, Some, None, if◌then◌else◌}
+use Rattle.std.proofs.Common.{◌≡◌, ℕ, Bool, true, false, List, [], ◌∷◌, ◌++◌, refl, ap, ◌∙◌}
+use Rattle.std.specs.Prelude.{◌&&◌, encode_utf8_all, map, Option, Some, None}
 use Rattle.std.proofs.Math.Bool.{and-false}
-use Rattle.std.proofs.lemmas.Bool.{false≢true}
 use Rattle.std.proofs.lemmas.List.{append_assoc, append-nil}
-use Rattle.html5ever_interface.proofs.Steppings.{stepped-append}
 use Rattle.html5ever_interface.specs.Collected.{Collected, told_text, kept_text, from_first_with_text, with_text, with_message, none_collected, collected_step, collected_reply, collected_finish}
 use Rattle.html5ever_interface.specs.Sink.{Message, stepped, on_line}
 use Rattle.html5ever_interface.specs.Token.{Told}
@@ -14,7 +12,7 @@ use Rattle.html5grammar.specs.Cdata.{piece_text}
 use Rattle.html5grammar.specs.Characters.{null, greater_than, is_bad_character}
 use Rattle.html5grammar.specs.ErrorText.{where_true, end_error_in, bad_character, bad_character_error}
 use Rattle.html5grammar.specs.NormalisedText.{line_after}
-use Rattle.html5grammar.specs.OneCdata.{WrittenCdata, opening_text, written, spell_null, spell_pieces, spell_end, spell_cdata, told_at_end, cdata_messages, kept_as, kept_messages, IsCdata}
+use Rattle.html5grammar.specs.OneCdata.{WrittenCdata, opening_text, written, spell_null, spell_pieces, spell_end, told_at_end, cdata_messages, kept_as, kept_messages, IsCdata}
 use Rattle.html5grammar.specs.OneTag.{Spelled, spell_silent, spelled_messages}
 use Rattle.html5grammar.specs.Reading.{reading, messages}
 use Rattle.html5grammar.specs.Start.{Input, Start, Rules}

@@ -6,7 +6,7 @@ use Rattle.std.proofs.Math.Bool.{and-false}
 use Rattle.std.proofs.lemmas.Bool.{false≢true, eqb-true, and_parts, not-true, false_from_ne_true}
 use Rattle.std.proofs.lemmas.List.{append-nil}
 use Rattle.html5grammar.specs.Characters.{null}
-use Rattle.html5grammar.specs.OneCdata.{WrittenCdata, opening_text, end_text, pieces_text, written, is_piece, is_written, IsCdataText}
+use Rattle.html5grammar.specs.OneCdata.{opening_text, end_text, pieces_text, written, is_piece, is_written, IsCdataText}
 use Rattle.html5grammar.specs.OneComment.{begins_with, occurs}
 use Rattle.html5grammar.proofs.OneCommentHeld.{both-false}
 

@@ -10,9 +10,8 @@ use Rattle.html5grammar.specs.Cdata.{open_cdata, piece_text, ends_cdata}
 use Rattle.html5grammar.specs.Comment.{ends_in, without_last}
 use Rattle.html5grammar.specs.OneCdata.{WrittenCdata, is_piece, is_written, spell_null, spell_pieces, spell_end, spell_cdata, open_behind_cdata}
 use Rattle.html5grammar.specs.OneComment.{occurs}
-use Rattle.html5grammar.specs.OneTag.{Spelled, spell_silent}
+use Rattle.html5grammar.specs.OneTag.{spell_silent}
 use Rattle.html5grammar.specs.Reading.Here.{Tells}
-use Rattle.html5grammar.specs.Start.{Open}
 use Rattle.html5grammar.specs.Start.Mode.{Data, Cdata}
 use Rattle.html5grammar.specs.Start.Open.{Between, InCdata}
 use Rattle.html5grammar.proofs.Machine.{step_at, cdata_step}

@@ -13,19 +13,16 @@ use lib.Utf8.{encode}
 use Rattle.html5ever_interface.specs.Sink.{Message, stepped, on_line}
 use Rattle.html5ever_interface.specs.Token.{Told, Reply}
 use Rattle.html5ever_interface.specs.declared.states.State.TheVariants as state
-use Rattle.html5grammar.specs.Characters.{line_feed, hyphen, exclamation_mark, greater_than, shown, value_bytes, lower_case, is_between, is_bad_character}
+use Rattle.html5grammar.specs.Characters.{hyphen, exclamation_mark, greater_than, shown, value_bytes, lower_case, is_between, is_bad_character}
 use Rattle.html5grammar.specs.Comment.{begins_keyword, declaration_error, cdata_keyword, begins_cdata}
 use Rattle.html5grammar.specs.ErrorText.{error_in}
-use Rattle.html5grammar.specs.NormalisedText.{line_after}
 use Rattle.html5grammar.specs.OneComment.{begins_with, can_open}
 use Rattle.html5grammar.specs.OneComment.Opening.{ExclamationMark}
-use Rattle.html5grammar.specs.OneTag.{spell_silent}
 use Rattle.html5grammar.specs.Slice.{run_while, behind_while}
-use Rattle.html5grammar.specs.Start.{Input, Rules}
+use Rattle.html5grammar.specs.Start.{Rules}
 use Rattle.html5grammar.specs.Start.Open.{InDeclaration, InBogusComment}
 use Rattle.html5grammar.specs.WrittenRaw.{next_is}
-use Rattle.html5grammar.proofs.HeldWords.{IsPlain, plain-beginning, plain-word, line-plain, no_beginning, none_with, while-parts, begins-while, decides-while, leads-while, trace-settles, IsPlainCharacter, plain-between, IsHeldBy, AreHeld, held-while}
-use Rattle.html5grammar.proofs.Leading.{Leads}
+use Rattle.html5grammar.proofs.HeldWords.{IsPlain, plain-beginning, plain-word, no_beginning, none_with, while-parts, begins-while, decides-while, trace-settles, IsPlainCharacter, plain-between, IsHeldBy, AreHeld, held-while}
 use Rattle.html5grammar.proofs.Machine.{step_at, brought_at, declaration_step, declaration_answer_step}
 use Rattle.html5grammar.proofs.Traces.{trace_brought, trace, with_messages, none_without_beginning}
 

@@ -26,7 +26,7 @@ use Rattle.html5grammar.specs.Start.DoctypePlace.{AfterWord, BeforeName, InDocty
 use Rattle.html5grammar.specs.Start.Open.{Between, LessThan, LessThanSolidus, InTag, InRaw, InDeclaration, InComment, InBogusComment, InDoctype, InDoctypeKeyword, InCdata, InReference, NotBuilt}
 use Rattle.html5grammar.specs.Tag.{tag_name, behind_tag_name, attribute_behind_first, behind_attribute_name, behind_name_and_space, value_or_next, value_behind_space, value, quoted_value, behind_quoted, unquoted_value, behind_unquoted}
 use Rattle.html5grammar.specs.Cdata.{cdata}
-use Rattle.html5grammar.specs.Comment.{begins_keyword, begins_cdata, cdata_keyword, declaration, comment, bogus_comment, behind_bogus_comment}
+use Rattle.html5grammar.specs.Comment.{begins_cdata, cdata_keyword, declaration, comment, bogus_comment, behind_bogus_comment}
 use Rattle.html5grammar.specs.Doctype.{doctype, before_doctype_name, behind_word_and_space, doctype_name, behind_doctype_name, behind_doctype_name_and_space, keyword_or_end, doctype_keyword, behind_keyword, identifier_behind_space, behind_keyword_and_space, identifier, behind_in_identifier, between_identifiers, behind_space_between, skipped_rest, behind_skipped_rest}
 use Rattle.html5grammar.specs.RawText.{behind_raw_less_than, end_name, behind_end_name, behind_mark, behind_mark_and_dash, switch, behind_switch}
 use Rattle.html5grammar.specs.Start.RawPlace.{AfterLessThan, InEndName, AfterMark, AfterMarkAndDash, InSwitch}
