@@ -1,12 +1,11 @@
 -- What is held of a keyword behind `<!`, where none comes.
-use Rattle.html5grammar.specs.Reading.Here.{Tells}
-use Rattle.std.proofs.Math.Bool.{and-false}
 use Rattle.std.proofs.Common.{◌≡◌, ℕ, Bool, true, false, List, [], ◌∷◌, ◌++◌, take, length, refl, ap, sym, ◌∙◌, subst, arith}
 use Rattle.std.specs.Prelude.{◌==◌, ◌||◌, not, codes, nat_eq, ◌&&◌, nat_le, if◌then◌else◌}
 use Rattle.std.specs.Char.{to_ascii_lowercase}
 use Rattle.std.specs.Cmp.Lexicographic.{pointwise, same_text}
 use Rattle.std.specs.List.{starts_with}
 use Rattle.std.specs.Str.{bytes_eq}
+use Rattle.std.proofs.Math.Bool.{and-false}
 use Rattle.std.proofs.lemmas.Bool.{false≢true, eqb-true, and_parts, or_from, or_right, not-true, false_from_ne_true, leb-true}
 use Rattle.std.proofs.lemmas.List.{append_assoc, map-id, map-append, map_push}
 use lib.Utf8.{encode}
@@ -18,6 +17,7 @@ use Rattle.html5grammar.specs.Comment.{begins_keyword, declaration_error, cdata_
 use Rattle.html5grammar.specs.ErrorText.{error_in}
 use Rattle.html5grammar.specs.OneComment.{begins_with, can_open}
 use Rattle.html5grammar.specs.OneComment.Opening.{ExclamationMark}
+use Rattle.html5grammar.specs.Reading.Here.{Tells}
 use Rattle.html5grammar.specs.Slice.{run_while, behind_while}
 use Rattle.html5grammar.specs.Start.{Rules}
 use Rattle.html5grammar.specs.Start.Open.{InDeclaration, InBogusComment}

@@ -1,9 +1,8 @@
 -- A text that is one comment tells the comment's messages.
-use Rattle.std.proofs.Math.Bool.{and-false}
-use Rattle.html5grammar.proofs.HeldWords.{IsPlain, is_good, line-plain, trace-held}
 use Rattle.std.proofs.Common.{◌≡◌, ℕ, Bool, true, List, [], ◌∷◌, ◌++◌, refl, ap, sym, ◌∙◌, subst}
 use Rattle.std.specs.Prelude.{not, codes, ◌==◌}
 use Rattle.std.specs.List.{list_all}
+use Rattle.std.proofs.Math.Bool.{and-false}
 use Rattle.std.proofs.lemmas.Bool.{and_parts, not-true}
 use Rattle.std.proofs.lemmas.List.{append_assoc, map-append}
 use Rattle.html5ever_interface.specs.Sink.{Message, stepped}
@@ -23,6 +22,7 @@ use Rattle.html5grammar.specs.Start.{Open, Start, Rules, Input}
 use Rattle.html5grammar.specs.Start.Mode.{Data}
 use Rattle.html5grammar.specs.Start.Open.{Between, LessThan, InDeclaration, InComment, InBogusComment}
 use Rattle.html5grammar.specs.Tag.{null_error}
+use Rattle.html5grammar.proofs.HeldWords.{IsPlain, is_good, line-plain, trace-held}
 use Rattle.html5grammar.proofs.Machine.{brought_at, step_at, data_step, less_than_step, declaration_step}
 use Rattle.html5grammar.proofs.Leading.{Leads, leads-goes, trace-leads, trace-ends, trace-text, IsRead, IsReadFrom, after-whole, reading-whole, spelled_messages-append}
 use Rattle.html5grammar.proofs.OneCommentSteps.{goes-proper, goes-bogus_end, goes-solidus, goes-question_mark}
