@@ -1,5 +1,4 @@
 -- A bad character begins nothing that isn't built yet.
-use Rattle.html5grammar.specs.Cdata.{ends_cdata}
 use Rattle.std.proofs.Common.{◌≡◌, ◌⊎◌, inl, inr, ℕ, ◌<◌, ◌≤◌, ◌%◌, Bool, true, false, List, [], ◌∷◌, refl, ap, sym, ◌∙◌, arith}
 use Rattle.std.specs.Prelude.{◌==◌, ◌&&◌, leb, if◌then◌else◌}
 use Rattle.std.proofs.lemmas.Bool.{eqb-true, ne_eqb, false≢true, and_parts, lt-leb, leb-true}
@@ -15,6 +14,7 @@ use Rattle.html5ever_interface.specs.declared.states.ScriptEscapeKind.TheVariant
 use Rattle.html5ever_interface.specs.declared.states.State.{State}
 use Rattle.html5ever_interface.specs.declared.states.State.TheVariants as state
 use Rattle.html5ever_interface.specs.declared.states.AttrValueKind.TheVariants.{Unquoted, SingleQuoted, DoubleQuoted}
+use Rattle.html5grammar.specs.Cdata.{ends_cdata}
 use Rattle.html5grammar.specs.Characters.{null, exclamation_mark, quotation_mark, ampersand, apostrophe, hyphen, solidus, less_than, equals_sign, greater_than, question_mark, is_between, is_bad_character, is_letter, is_white_space}
 use Rattle.html5grammar.specs.Reading.{Here}
 use Rattle.html5grammar.specs.Reading.Here.{Tells, TellsTag, Stops}

@@ -1,6 +1,4 @@
 -- Characters that are held while they may begin a keyword: what is held of a word, and where none comes.
-use Rattle.html5grammar.proofs.InputLemmas.{line_after-past}
-use Rattle.html5grammar.proofs.Going.{good_between}
 use Rattle.std.proofs.Common.{◌≡◌, ℕ, ◌+◌, ◌≤◌, ◌<◌, zero, suc, Bool, true, false, List, [], ◌∷◌, ◌++◌, take, length, length-append, refl, ap, sym, ◌∙◌, arith, subst}
 use Rattle.std.specs.Prelude.{◌==◌, ◌&&◌, not, cond, map, nat_eq, nat_le, nat_lt, count_by, if◌then◌else◌}
 use Rattle.std.specs.Char.{to_ascii_lowercase}
@@ -22,6 +20,8 @@ use Rattle.html5grammar.specs.Reading.Here.{Tells}
 use Rattle.html5grammar.specs.Slice.{Late, run_while, behind_while, tokens_of_late}
 use Rattle.html5grammar.specs.Start.{Input, Open, Rules}
 use Rattle.html5grammar.specs.WrittenRaw.{next_is}
+use Rattle.html5grammar.proofs.Going.{good_between}
+use Rattle.html5grammar.proofs.InputLemmas.{line_after-past}
 use Rattle.html5grammar.proofs.Leading.{Leads}
 use Rattle.html5grammar.proofs.Machine.{step_at, brought_at}
 use Rattle.html5grammar.proofs.OneCommentText.{bytes_of}

@@ -1,6 +1,5 @@
 -- Behind a character that is read nothing is held but that character: what begins to be held begins empty, or with the first
 -- character of a keyword of a doctype.
-use Rattle.html5grammar.specs.Cdata.{ends_cdata}
 use Rattle.std.proofs.Common.{ℕ, ◌≤◌, Bool, true, false, List, [], ◌∷◌, arith}
 use Rattle.std.specs.Prelude.{◌&&◌, ◌==◌, if◌then◌else◌}
 use Rattle.html5ever_interface.specs.Token.{Told, DoctypeOf}
@@ -13,6 +12,7 @@ use Rattle.html5ever_interface.specs.declared.states.RawKind.TheVariants as raw_
 use Rattle.html5ever_interface.specs.declared.states.ScriptEscapeKind.TheVariants as escape_kind
 use Rattle.html5ever_interface.specs.declared.states.State.{State}
 use Rattle.html5ever_interface.specs.declared.states.State.TheVariants as state
+use Rattle.html5grammar.specs.Cdata.{ends_cdata}
 use Rattle.html5grammar.specs.Characters.{null, exclamation_mark, quotation_mark, ampersand, apostrophe, hyphen, solidus, less_than, equals_sign, greater_than, question_mark, is_letter, is_white_space}
 use Rattle.html5grammar.specs.Comment.{ends_comment}
 use Rattle.html5grammar.specs.Doctype.{in_identifier, begins_doctype_keyword, in_doctype_name}

@@ -15,8 +15,8 @@ use Rattle.html5ever_interface.specs.declared.states.ScriptEscapeKind.{ScriptEsc
 use Rattle.html5ever_interface.specs.declared.states.ScriptEscapeKind.TheVariants as escape_kind
 use Rattle.html5ever_interface.specs.declared.states.State.{State}
 use Rattle.html5ever_interface.specs.declared.states.State.TheVariants as state
-use Rattle.html5grammar.specs.Characters.{null, exclamation_mark, quotation_mark, ampersand, apostrophe, hyphen, solidus, less_than, equals_sign, greater_than, question_mark, is_letter, is_white_space, value_bytes, lower_case}
 use Rattle.html5grammar.specs.Cdata.{piece_text, ends_cdata, told_at_end_of_cdata}
+use Rattle.html5grammar.specs.Characters.{null, exclamation_mark, quotation_mark, ampersand, apostrophe, hyphen, solidus, less_than, equals_sign, greater_than, question_mark, is_letter, is_white_space, value_bytes, lower_case}
 use Rattle.html5grammar.specs.Comment.{comment_errors, ends_comment, comment_end_error, comment_content, begins_keyword, declaration_error, cdata_keyword, begins_cdata}
 use Rattle.html5grammar.specs.Doctype.{with_quirks, with_doctype_name, with_first_of_name, with_begun_identifier, with_identifier, identifier_state, in_identifier, is_keyword, begins_doctype_keyword, keyword_error, in_doctype_name, word_error}
 use Rattle.html5grammar.specs.ErrorText.{error_in, where_true, bad_character_error}

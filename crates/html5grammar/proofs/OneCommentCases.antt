@@ -167,3 +167,20 @@ begins_a_doctype = refl
 ends_within : NotWritten (Bogus ExclamationMark (codes "x>y"))
 unfolding is_written is_content occurs in_bogus_comment is_letter
 ends_within = refl
+
+-- in foreign content that is so of the keyword of a CDATA section
+
+abbrev ForeignWritten : Bool → WrittenComment → Type 0
+ForeignWritten is_one comment = is_written true comment ≡ is_one
+
+begins_a_section : ForeignWritten false (Bogus ExclamationMark (codes "[CDATA[x]]"))
+unfolding is_written is_content occurs in_bogus_comment is_letter
+begins_a_section = refl
+
+keyword_in_another_case : ForeignWritten true (Bogus ExclamationMark (codes "[cdata[x]]"))
+unfolding is_written is_content occurs in_bogus_comment is_letter
+keyword_in_another_case = refl
+
+no_whole_keyword : ForeignWritten true (Bogus ExclamationMark (codes "[CDATA"))
+unfolding is_written is_content occurs in_bogus_comment is_letter
+no_whole_keyword = refl

@@ -1,31 +1,28 @@
 -- What is held of a keyword behind `<!`, where none comes.
-use Rattle.html5grammar.specs.Reading.Here.{Tells}
-use Rattle.std.proofs.Math.Bool.{and-false}
 use Rattle.std.proofs.Common.{◌≡◌, ℕ, Bool, true, false, List, [], ◌∷◌, ◌++◌, take, length, refl, ap, sym, ◌∙◌, subst, arith}
 use Rattle.std.specs.Prelude.{◌==◌, ◌||◌, not, codes, nat_eq, ◌&&◌, nat_le, if◌then◌else◌}
 use Rattle.std.specs.Char.{to_ascii_lowercase}
 use Rattle.std.specs.Cmp.Lexicographic.{pointwise, same_text}
 use Rattle.std.specs.List.{starts_with}
 use Rattle.std.specs.Str.{bytes_eq}
+use Rattle.std.proofs.Math.Bool.{and-false}
 use Rattle.std.proofs.lemmas.Bool.{false≢true, eqb-true, and_parts, or_from, or_right, not-true, false_from_ne_true, leb-true}
 use Rattle.std.proofs.lemmas.List.{append_assoc, map-id, map-append, map_push}
 use lib.Utf8.{encode}
 use Rattle.html5ever_interface.specs.Sink.{Message, stepped, on_line}
 use Rattle.html5ever_interface.specs.Token.{Told, Reply}
 use Rattle.html5ever_interface.specs.declared.states.State.TheVariants as state
-use Rattle.html5grammar.specs.Characters.{line_feed, hyphen, exclamation_mark, greater_than, shown, value_bytes, lower_case, is_between, is_bad_character}
+use Rattle.html5grammar.specs.Characters.{hyphen, exclamation_mark, greater_than, shown, value_bytes, lower_case, is_between, is_bad_character}
 use Rattle.html5grammar.specs.Comment.{begins_keyword, declaration_error, cdata_keyword, begins_cdata}
 use Rattle.html5grammar.specs.ErrorText.{error_in}
-use Rattle.html5grammar.specs.NormalisedText.{line_after}
 use Rattle.html5grammar.specs.OneComment.{begins_with, can_open}
 use Rattle.html5grammar.specs.OneComment.Opening.{ExclamationMark}
-use Rattle.html5grammar.specs.OneTag.{spell_silent}
+use Rattle.html5grammar.specs.Reading.Here.{Tells}
 use Rattle.html5grammar.specs.Slice.{run_while, behind_while}
-use Rattle.html5grammar.specs.Start.{Input, Rules}
+use Rattle.html5grammar.specs.Start.{Rules}
 use Rattle.html5grammar.specs.Start.Open.{InDeclaration, InBogusComment}
 use Rattle.html5grammar.specs.WrittenRaw.{next_is}
-use Rattle.html5grammar.proofs.HeldWords.{IsPlain, plain-beginning, plain-word, line-plain, no_beginning, none_with, while-parts, begins-while, decides-while, leads-while, trace-settles, IsPlainCharacter, plain-between, IsHeldBy, AreHeld, held-while}
-use Rattle.html5grammar.proofs.Leading.{Leads}
+use Rattle.html5grammar.proofs.HeldWords.{IsPlain, plain-beginning, plain-word, no_beginning, none_with, while-parts, begins-while, decides-while, trace-settles, IsPlainCharacter, plain-between, IsHeldBy, AreHeld, held-while}
 use Rattle.html5grammar.proofs.Machine.{step_at, brought_at, declaration_step, declaration_answer_step}
 use Rattle.html5grammar.proofs.Traces.{trace_brought, trace, with_messages, none_without_beginning}
 
@@ -84,7 +81,7 @@ no_keyword text h = (
       ∙ or_right (starts_with nat_eq (codes "--") text) (starts_with nat_eq (codes "doctype") (lower_case text)) (ap (starts_with nat_eq (codes "doctype")) (same_text (lower_case text) (codes "doctype") (sym e))))),
 )
 
-both-false : (a b : Bool) → (a || b) ≡ false → (a ≡ false) × (b ≡ false)
+pub both-false : (a b : Bool) → (a || b) ≡ false → (a ≡ false) × (b ≡ false)
 both-false true b h = absurd (false≢true (sym h))
 both-false false b h = (refl, h)
 

@@ -1,18 +1,16 @@
 -- A text that is one comment tells the comment's messages.
-use Rattle.std.proofs.Math.Bool.{and-false}
-use Rattle.html5grammar.proofs.HeldWords.{IsPlain, is_good, line-plain, trace-held}
 use Rattle.std.proofs.Common.{◌≡◌, ℕ, Bool, true, List, [], ◌∷◌, ◌++◌, refl, ap, sym, ◌∙◌, subst}
-use Rattle.std.specs.Prelude.{not, codes, ◌==◌, ◌&&◌}
+use Rattle.std.specs.Prelude.{not, codes, ◌==◌}
 use Rattle.std.specs.List.{list_all}
+use Rattle.std.proofs.Math.Bool.{and-false}
 use Rattle.std.proofs.lemmas.Bool.{and_parts, not-true}
 use Rattle.std.proofs.lemmas.List.{append_assoc, map-append}
-use Rattle.html5ever_interface.specs.Sink.{Message, stepped, on_line}
+use Rattle.html5ever_interface.specs.Sink.{Message, stepped}
 use Rattle.html5ever_interface.specs.Token.{Told, Reply}
 use Rattle.html5ever_interface.specs.declared.states.State.{State}
 use Rattle.html5ever_interface.specs.declared.states.State.TheVariants as state
-use Rattle.html5grammar.specs.Characters.{exclamation_mark, greater_than, is_letter, null, is_bad_character}
+use Rattle.html5grammar.specs.Characters.{greater_than, is_letter, null, is_bad_character}
 use Rattle.html5grammar.specs.Comment.{in_bogus_comment, begins_keyword}
-use Rattle.html5grammar.specs.ErrorText.{error_in}
 use Rattle.html5grammar.specs.NormalisedText.{line_after}
 use Rattle.html5grammar.specs.OneComment.{WrittenComment, before_greater_than, written, can_open, is_written, spell_content, ending_errors, spell_end, spell_bogus, spell_odd, messages_of, comment_messages, IsComment}
 use Rattle.html5grammar.specs.OneComment.Opening.{Solidus, QuestionMark, ExclamationMark}
@@ -24,7 +22,7 @@ use Rattle.html5grammar.specs.Start.{Open, Start, Rules, Input}
 use Rattle.html5grammar.specs.Start.Mode.{Data}
 use Rattle.html5grammar.specs.Start.Open.{Between, LessThan, InDeclaration, InComment, InBogusComment}
 use Rattle.html5grammar.specs.Tag.{null_error}
-use Rattle.html5grammar.specs.WrittenRaw.{next_is}
+use Rattle.html5grammar.proofs.HeldWords.{IsPlain, is_good, line-plain, trace-held}
 use Rattle.html5grammar.proofs.Machine.{brought_at, step_at, data_step, less_than_step, declaration_step}
 use Rattle.html5grammar.proofs.Leading.{Leads, leads-goes, trace-leads, trace-ends, trace-text, IsRead, IsReadFrom, after-whole, reading-whole, spelled_messages-append}
 use Rattle.html5grammar.proofs.OneCommentSteps.{goes-proper, goes-bogus_end, goes-solidus, goes-question_mark}

@@ -28,7 +28,7 @@ use Rattle.html5grammar.proofs.OneTagSteps.{Goes, Goes-append, Goes-one}
 
 -- ---- no `>` of the content ends the comment
 
-occurs-append : (word front : List ℕ) (c : ℕ) (rest : List ℕ) → begins_with word (c ∷ rest) ≡ true → occurs word (front ++ c ∷ rest) ≡ true
+pub occurs-append : (word front : List ℕ) (c : ℕ) (rest : List ℕ) → begins_with word (c ∷ rest) ≡ true → occurs word (front ++ c ∷ rest) ≡ true
 unfolding occurs
 occurs-append word [] c rest h = or_left (begins_with word (c ∷ rest)) (occurs word rest) h
 occurs-append word (d ∷ front) c rest h = or_right (begins_with word (d ∷ front ++ c ∷ rest)) (occurs word (front ++ c ∷ rest)) (occurs-append word front c rest h)

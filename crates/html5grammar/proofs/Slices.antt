@@ -16,11 +16,11 @@ use Rattle.html5ever_interface.specs.declared.states.ScriptEscapeKind.{ScriptEsc
 use Rattle.html5ever_interface.specs.declared.states.ScriptEscapeKind.TheVariants as escape_kind
 use Rattle.html5ever_interface.specs.declared.states.State.{State}
 use Rattle.html5ever_interface.specs.declared.states.State.TheVariants as state
+use Rattle.html5grammar.specs.Cdata.{ends_cdata, cdata, cdata_from}
 use Rattle.html5grammar.specs.Characters.{null, exclamation_mark, quotation_mark, ampersand, apostrophe, hyphen, solidus, less_than, equals_sign, greater_than, question_mark, is_letter, is_white_space, name_bytes, value_bytes, lower_case}
 use Rattle.html5grammar.specs.Reference.{in_value, reference, is_undecided, ends_number, characters_in, opened_in, late_tokens, opened_behind, behind_held, reference_text, with_value}
 use Rattle.html5grammar.specs.Tag.{null_error, in_quoted, in_unquoted, unquoted_error, in_attribute_name, attribute_name_error, with_last_name, place_error, is_after_solidus, in_tag_name, with_name, closing, behind_tag_name, tag_name, behind_quoted, quoted_value, behind_unquoted, unquoted_value, value, value_behind_space, value_or_next, behind_name_and_space, behind_attribute_name, attribute_behind_first, part}
 use Rattle.std.specs.Str.{bytes_eq}
-use Rattle.html5grammar.specs.Cdata.{ends_cdata, cdata, cdata_from}
 use Rattle.html5grammar.specs.Comment.{ends_comment, comment, in_bogus_comment, behind_bogus_comment, bogus_comment, bogus_comment_from, begins_keyword, declaration_error, declaration, cdata_keyword, begins_cdata, declaration_by_answer}
 use Rattle.html5grammar.specs.Doctype.{with_quirks, with_more, with_doctype_name, with_identifier, in_skipped_rest, behind_skipped_rest, skipped_rest, skipped_from, identifier_state, in_identifier, behind_in_identifier, identifier, wanted_identifier, system_or_end, behind_space_between, between_identifiers, behind_identifier, behind_keyword_and_space, identifier_behind_space, behind_keyword, is_keyword, begins_doctype_keyword, keyword_error, doctype_keyword, keyword_or_end, behind_doctype_name_and_space, behind_doctype_name, in_doctype_name, doctype_name, wanted_name, behind_word_and_space, before_doctype_name, word_error, doctype}
 use Rattle.html5grammar.specs.RawText.{raw_text_of, texts, ends_name, is_rcdata, ends_raw_text, behind_end_name, end_name, behind_mark, behind_mark_and_dash, switched, behind_switch, switch, told_behind_less_than, behind_raw_solidus, begins_mark, begins_switch, behind_raw_less_than, raw_text}

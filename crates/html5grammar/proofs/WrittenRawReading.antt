@@ -9,7 +9,7 @@ use Rattle.std.proofs.lemmas.Str.{length-le-encodes}
 use Rattle.markup5ever.proofs.NameOrder.{bytes_eq-same}
 use Rattle.std.proofs.lemmas.Bool.{false≢true, and_parts, not-true, ne_eqb}
 use Rattle.std.proofs.lemmas.List.{append_assoc, append-nil}
-use Rattle.html5ever_interface.specs.Sink.{Message, stepped, on_line}
+use Rattle.html5ever_interface.specs.Sink.{Message, stepped}
 use Rattle.html5ever_interface.specs.Token.{Told, Reply}
 use Rattle.html5ever_interface.specs.Token.Told.{Tag, End}
 use Rattle.html5ever_interface.specs.Token.Reply.{KeepOn}
@@ -21,7 +21,6 @@ use Rattle.html5ever_interface.specs.declared.states.ScriptEscapeKind.TheVariant
 use Rattle.html5ever_interface.specs.declared.states.State.TheVariants as state
 use Rattle.html5grammar.specs.Characters.{solidus, less_than, greater_than, is_letter, is_white_space, shown, name_bytes}
 use Rattle.html5grammar.specs.EndOfInput.{raw_end_error, told_at_raw_end, late_at_end_of, open_at_end_of, told_at_end_of, tokens_at_end}
-use Rattle.html5grammar.specs.ErrorText.{bad_character_error}
 use Rattle.html5grammar.specs.NormalisedText.{normalised, line_after}
 use Rattle.html5grammar.specs.OneTag as one_tag
 use Rattle.html5grammar.specs.OneTag.{Part, WrittenTag, Spelled, spell, spell_silent, spell_parts, part_text, name_shown, all_attributes, end_place, tag_told, end_errors, spelled, spelled_messages}
@@ -30,7 +29,7 @@ use Rattle.html5grammar.specs.RawText.{texts, lower, ends_name, kind_of, ends_ra
 use Rattle.html5grammar.specs.Reading.{reading, told, messages, after, last_behind}
 use Rattle.html5grammar.specs.Reading.Here.{Tells}
 use Rattle.html5grammar.specs.Slice.{silent}
-use Rattle.html5grammar.specs.Start.{Input, Raw, OpenTag, Open, Start, Rules, is_undecided_open, begun}
+use Rattle.html5grammar.specs.Start.{Raw, OpenTag, Open, Start, Rules, is_undecided_open, begun}
 use Rattle.html5grammar.specs.Start.Mode.{Data, RawText}
 use Rattle.html5grammar.specs.Start.Place.{InName}
 use Rattle.html5grammar.specs.Start.Open.{Between, InTag, InRaw, NotBuilt}

@@ -2,6 +2,7 @@
 use Rattle.std.specs.Prelude.{ℕ, List, [], ◌∷◌, ◌++◌}
 use Rattle.html5ever_interface.specs.Token.{Told}
 use Rattle.html5ever_interface.specs.declared.states.AttrValueKind.TheVariants.{Unquoted, SingleQuoted, DoubleQuoted}
+use Rattle.html5grammar.specs.Cdata.{cdata, cdata_from}
 use Rattle.html5grammar.specs.Slice.{Slice, Cell, Behind, no_character, cut_off, one_character}
 use Rattle.html5grammar.specs.Slice.Behind.{Leaves, StopsAt, Settles, Asks}
 use Rattle.html5grammar.specs.Reference.{reference_text}
@@ -11,7 +12,6 @@ use Rattle.html5grammar.specs.Start.RawPlace.{AfterLessThan, InEndName, AfterMar
 use Rattle.html5grammar.specs.Start.Place.{InName, BeforeAttribute, InAttributeName, AfterAttributeName, BeforeValue, InValue, AfterQuotedValue, AfterSolidus}
 use Rattle.html5grammar.specs.Start.DoctypePlace.{AfterWord, BeforeName, InDoctypeName, AfterName, AfterKeyword, BeforeIdentifier, InIdentifier, AfterIdentifier, BetweenIdentifiers, Skipped}
 use Rattle.html5grammar.specs.Start.Open.{Between, LessThan, LessThanSolidus, InTag, InRaw, InDeclaration, InComment, InBogusComment, InDoctype, InDoctypeKeyword, InCdata, InReference, NotBuilt}
-use Rattle.html5grammar.specs.Cdata.{cdata, cdata_from}
 use Rattle.html5grammar.specs.Comment.{declaration, comment, bogus_comment, bogus_comment_from}
 use Rattle.html5grammar.specs.Doctype.{doctype, before_doctype_name, doctype_name, behind_doctype_name_and_space, doctype_keyword, behind_keyword, identifier_behind_space, identifier, behind_identifier, between_identifiers, skipped_rest}
 use Rattle.html5grammar.specs.RawText.{behind_raw_less_than, end_name, behind_mark, behind_mark_and_dash, switch, raw_text}

@@ -18,3 +18,4 @@ pub mod OneReference
 pub mod WrittenRaw
 pub mod OneComment
 pub mod OneDoctype
+pub mod OneCdata
