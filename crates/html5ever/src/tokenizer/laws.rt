@@ -5,6 +5,7 @@ ghost use Rattle.std.specs.Str.{chars};
 ghost use Rattle.html5ever_interface.specs.Collected.{none_collected, collected_step, collected_finish};
 ghost use Rattle.html5ever_interface.specs.Options.{options_of};
 ghost use Rattle.html5ever_interface.specs.Sink.{stepped};
+ghost use Rattle.html5grammar.specs.OneCdata.{WrittenCdata, IsCdata, kept_messages};
 ghost use Rattle.html5grammar.specs.OneComment.{WrittenComment, IsComment, comment_messages};
 ghost use Rattle.html5grammar.specs.OneDoctype.{WrittenDoctype, IsDoctype, doctype_messages};
 ghost use Rattle.html5grammar.specs.OneReference.{WrittenReference, IsReference, reference_messages};
@@ -205,7 +206,7 @@ pub fn comment<A: Allocator + Copy>(
     requires { CanStart opts.initial_state }
     ensures reads { IfOk result (λ sink. sink.collected ≡ collected_of (options_of opts) names.now foreign (chars (string_bytes text))) }
     ensures comment { IfOk result (λ sink. (comment : WrittenComment) →
-        IsComment (start_of (options_of opts)) (chars (string_bytes text)) comment →
+        IsComment (start_of (options_of opts)) foreign (chars (string_bytes text)) comment →
         sink.collected ≡ record {
           messages = comment_messages opts.exact_errors (start_of (options_of opts)).input comment;
           finished = true;
@@ -217,7 +218,7 @@ pub fn comment<A: Allocator + Copy>(
     ensures no_fault { IfOk result (λ sink. sink.faults ≡ 0) }
     ensures not_failed { IfErr result IsNotFailed }
     ensures refusals { IfErr result (λ error. (comment : WrittenComment) →
-        IsComment (start_of (options_of opts)) (chars (string_bytes text)) comment → IsRefusal error) }
+        IsComment (start_of (options_of opts)) foreign (chars (string_bytes text)) comment → IsRefusal error) }
 {
     collect(alloc, opts, foreign, names, text)
 }
@@ -247,6 +248,35 @@ pub fn doctype<A: Allocator + Copy>(
     ensures not_failed { IfErr result IsNotFailed }
     ensures refusals { IfErr result (λ error. (doctype : WrittenDoctype) →
         IsDoctype (start_of (options_of opts)) (chars (string_bytes text)) doctype → IsRefusal error) }
+{
+    collect(alloc, opts, foreign, names, text)
+}
+
+/// Reads a whole text by a collector. Where the text is one CDATA section, written out, the collector
+/// then holds the texts between its NULs, the NULs, and the end.
+pub fn cdata<A: Allocator + Copy>(
+    alloc: A,
+    opts: TokenizerOpts<A>,
+    foreign: bool,
+    names: &NamedReferences<A>,
+    text: String<A>,
+) -> Result<Collector<A>, TokenizerError>
+    requires { CanStart opts.initial_state }
+    ensures reads { IfOk result (λ sink. sink.collected ≡ collected_of (options_of opts) names.now foreign (chars (string_bytes text))) }
+    ensures cdata { IfOk result (λ sink. (cdata : WrittenCdata) →
+        IsCdata (start_of (options_of opts)) foreign (chars (string_bytes text)) cdata →
+        sink.collected ≡ record {
+          messages = kept_messages opts.exact_errors (start_of (options_of opts)).input cdata;
+          finished = true;
+          foreign = foreign;
+        }) }
+    ensures built { OnOk result (IsBuilt (opened_collecting (options_of opts) names.now foreign (chars (string_bytes text)))) }
+    ensures not_yet { result ≡ Err TokenizerError.NotYet
+        → opened_collecting (options_of opts) names.now foreign (chars (string_bytes text)) ≡ NotBuilt }
+    ensures no_fault { IfOk result (λ sink. sink.faults ≡ 0) }
+    ensures not_failed { IfErr result IsNotFailed }
+    ensures refusals { IfErr result (λ error. (cdata : WrittenCdata) →
+        IsCdata (start_of (options_of opts)) foreign (chars (string_bytes text)) cdata → IsRefusal error) }
 {
     collect(alloc, opts, foreign, names, text)
 }
