@@ -1,5 +1,5 @@
 -- A loop that reads the queue: what it has read so far, and what that gives when it goes on, ends or is refused.
-use Rattle.std.proofs.Common.{◌≡◌, ℕ, true, false, List, [], ◌∷◌, ◌++◌, refl, ap, sym, ◌∙◌, arith, length, ◌+◌, length-append, Option, None, Some, inl, inr, subst, ◌<◌, ◌^◌}
+use Rattle.std.proofs.Common.{Bool, ◌≡◌, ℕ, true, false, List, [], ◌∷◌, ◌++◌, refl, ap, sym, ◌∙◌, arith, length, ◌+◌, length-append, Option, None, Some, inl, inr, subst, ◌<◌, ◌^◌}
 use Rattle.std.specs.Prelude.{IfErr, map, encode_utf8}
 use Rattle.std.proofs.lemmas.List.{append_assoc, append-nil}
 use Rattle.markup5ever.specs.BufferQueue.{TextQueue, Takes}

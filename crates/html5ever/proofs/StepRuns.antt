@@ -1,5 +1,5 @@
 -- A run by steps: what was taken so far, and what that gives at the end or where it is refused.
-use Rattle.std.proofs.Common.{◌≡◌, ℕ, false, List, [], ◌∷◌, ◌++◌, refl, ap, sym, ◌∙◌, subst, length, arith}
+use Rattle.std.proofs.Common.{Bool, ◌≡◌, ℕ, false, List, [], ◌∷◌, ◌++◌, refl, ap, sym, ◌∙◌, subst, length, arith}
 use Rattle.std.specs.List.{concat}
 use Rattle.std.specs.Prelude.{map, Result, Err, IfErr}
 use Rattle.std.proofs.lemmas.List.{append-nil, append_assoc}

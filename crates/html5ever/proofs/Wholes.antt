@@ -1,5 +1,5 @@
 -- A whole text: what feeding it and ending leave.
-use Rattle.std.proofs.Common.{◌≡◌, inl, inr, ℕ, List, [], ◌++◌, refl, ap, sym, ◌∙◌, length, drop, subst}
+use Rattle.std.proofs.Common.{Bool, ◌≡◌, inl, inr, ℕ, List, [], ◌++◌, refl, ap, sym, ◌∙◌, length, drop, subst}
 use Rattle.std.proofs.lemmas.List.{append-nil, append_assoc}
 use Rattle.std.proofs.Common.{Result, Ok, Err, true, false}
 use Rattle.std.specs.Prelude.{IfOk, IfErr, ◌≢◌}

@@ -59,7 +59,7 @@ module _ {S H : Type 0} (step : S → Told → ℕ → S) (reply : S → Told �
   -- the reply that pauses at c, behind a text, where one does
   abbrev pub pause_at : Rules → Start → S → List ℕ → ℕ → Reply H
   pause_at rules K s text c =
-      first_pause (stepped step s (messages (told step reply foreign rules K s text))) (told_beyond step reply foreign rules K s text (c ∷ []))
+      first_pause step reply (stepped step s (messages (told step reply foreign rules K s text))) (told_beyond step reply foreign rules K s text (c ∷ []))
 
   -- what a feed of a queue's text does behind `text`: it ends behind the first tag whose reply pauses
   unfoldable pub feed : Rules → Start → S → List ℕ → List ℕ → Feed H

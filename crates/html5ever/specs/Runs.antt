@@ -1,5 +1,5 @@
 -- Runs that are read at once from the queue.
-use Rattle.std.specs.Prelude.{◌≡◌, ℕ, List, Result, OnOk}
+use Rattle.std.specs.Prelude.{Bool, ◌≡◌, ℕ, List, Result, OnOk}
 use Rattle.html5ever_interface.specs.Token.{Told, Reply}
 use Rattle.html5ever_interface.specs.Token.Reply.{KeepOn}
 use Rattle.html5grammar.specs.Reading.{told, messages, after}
