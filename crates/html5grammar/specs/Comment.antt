@@ -108,7 +108,7 @@ bogus_comment_from exact before first c text =
 
 -- ---- behind `<!`
 
--- the keywords, one in any case. What is held of them is ASCII, so its characters are its bytes.
+-- the first two keywords, one in any case. What is held of them is ASCII, so its characters are its bytes.
 unfoldable pub begins_keyword : List ℕ → Bool
 begins_keyword held = starts_with nat_eq (codes "--") held || starts_with nat_eq (codes "doctype") (lower_case held)
 
@@ -134,8 +134,8 @@ cdata_keyword = codes "[CDATA["
 unfoldable pub begins_cdata : List ℕ → Bool
 begins_cdata held = starts_with nat_eq cdata_keyword held
 
--- behind `<!` and what is held of no other keyword, by the sink's answer whether the text stands in foreign content: there a CDATA
--- section begins behind its keyword, and else a bogus comment
+-- where c goes on with neither of these two, by the sink's answer whether that is in foreign content: there a CDATA section begins
+-- behind its keyword, and else a bogus comment
 unfoldable pub declaration_by_answer : Bool → Bool → List ℕ → ℕ → List ℕ → Slice
 declaration_by_answer exact foreign held c text =
     if foreign && bytes_eq (held ++ c ∷ []) cdata_keyword then one_character [] (Between Cdata)

@@ -29,8 +29,8 @@ pub data Behind : Type 0 where
   StopsAt : List Told → Behind
   -- the next character, or the end, decides what is told before it, and then this is open
   Settles : List Late → Open → Behind
-  -- the next character shows that no keyword stands behind `<!` but that of a CDATA section, of which this is held: whether one
-  -- may begin is asked of the sink
+  -- behind `<!` and what is held the next character begins no comment and no doctype: whether a CDATA section may begin there is
+  -- asked of the sink
   Asks : List ℕ → Behind
 
 pub record Slice : Type 0 where
