@@ -300,6 +300,7 @@ module _ {S H : Type 0} (step : S → Told → ℕ → S) (reply : S → Told �
     stops_at-step (state.AfterDoctypeIdentifier kind) then_at stops bad = absurd (false≢true stops)
     stops_at-step state.BetweenDoctypePublicAndSystemIdentifiers then_at stops bad = absurd (false≢true stops)
     stops_at-step state.BogusDoctype then_at stops bad = absurd (false≢true stops)
+    stops_at-step state.CdataSection then_at stops bad = absurd (false≢true stops)
     stops_at-step other then_at stops bad = refl
 
     stopped-step : (rules.exact && is_bad_character d && stops_at_bad now) ≡ true → step_at rules.exact (open_of now at) d ≡ Stops []

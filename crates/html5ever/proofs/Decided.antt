@@ -6,6 +6,7 @@ use Rattle.html5ever_interface.specs.Token.{DoctypeOf, doctype_of}
 use Rattle.html5ever_interface.specs.declared.states.ScriptEscapeKind.TheVariants as escape_kind
 use Rattle.html5ever_interface.specs.declared.states.State.{State}
 use Rattle.html5ever_interface.specs.declared.states.State.TheVariants as state
+use Rattle.html5grammar.specs.Cdata.{open_cdata}
 use Rattle.html5grammar.specs.Start.{Open, is_undecided_open, held_len}
 use Rattle.html5grammar.specs.Start.Mode.{Data, Plain, RawText}
 use Rattle.html5grammar.specs.Start.Place.{InValue}
@@ -65,6 +66,10 @@ behind_name-holds : (held : List ℕ) (d : DoctypeOf)
 behind_name-holds [] d = (refl, refl)
 behind_name-holds (c ∷ held) d = (rw (cons-length c held) refl, refl)
 
+section-holds : (held : List ℕ) → (is_undecided_open (open_cdata held) ≡ false) × (is_reference (open_cdata held) ≡ false)
+section-holds [] = (refl, refl)
+section-holds (c ∷ held) = (refl, refl)
+
 -- a keyword is open where what is held may begin one, and no state is that of a reference
 state-holds : {Z : Type 0} → (q : State) (at : Opened Z)
     → (is_undecided_open (open_of q at) ≡ holds_keyword_in q (string_bytes at.comment)) × (is_reference (open_of q at) ≡ false)
@@ -104,6 +109,7 @@ state-holds (state.DoctypeIdentifierSingleQuoted kind) at = (refl, refl)
 state-holds (state.AfterDoctypeIdentifier kind) at = (refl, refl)
 state-holds state.BetweenDoctypePublicAndSystemIdentifiers at = (refl, refl)
 state-holds state.BogusDoctype at = (refl, refl)
+state-holds state.CdataSection at = section-holds (string_bytes at.comment)
 state-holds other at = (refl, refl)
 
 pub state-no_reference : {Z : Type 0} → (q : State) (at : Opened Z) → is_reference (open_of q at) ≡ false

@@ -172,7 +172,7 @@ module _ {S H : Type 0} (step : S → Told → ℕ → S) (reply : S → Told �
       let M : List Message = on_line line (run_tokens opened (c ∷ [])) in
       let later : Open = opened_after_run opened (c ∷ []) in
       let here : step_at rules.exact opened c ≡ Tells (run_tokens opened (c ∷ [])) later = ap (λ b. step_at b opened c) not_exact ∙ step-run opened others c has out in
-      rw (brought-tells rules opened c (Tells (run_tokens opened (c ∷ [])) later) refl here, line_past-ordinary line c (ordinary others c out) h, not_exact)
+      rw (brought-tells rules (foreign s) opened c (Tells (run_tokens opened (c ∷ [])) later) refl here, line_past-ordinary line c (ordinary others c out) h, not_exact)
       (ap (with_messages M) (trace-run rules not_exact (stepped step s M) line last later others run h (other_run_ends-after opened others c has out ∙ has) (All-tail (λ d. ¬ Contains (run_ends others) d) c run all))
       ∙ trace_is (sym (map-append (λ (token : Told). record { token = token; line = line }) (run_tokens opened (c ∷ [])) (run_tokens later run)) ∙ ap (on_line line) (sym (run_tokens-cons opened c run)))
       (sym (opened_after_run-cons opened c run)))

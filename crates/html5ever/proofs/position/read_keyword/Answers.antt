@@ -6,8 +6,8 @@ use Rattle.html5ever.proofs.Decided.{held_len-beside}
 use Rattle.html5ever.proofs.KeywordReading.{beside, goes_on-asked, ends-asked, keyword-opened, no_reference-keyword, end-holds}
 use Rattle.html5ever.proofs.position.read_keyword.Goals as goal
 
-pub asked_about_foreign-requires : goal.asked_about_foreign-requires
-asked_about_foreign-requires g c = keyword-opened c.position.inside.in_reference c.position.inside.held (opened_of c.position.inside.opened) (rw (← c.position.view_is) at c.requires)
+pub asked_about_foreign-foreign-requires : goal.asked_about_foreign-foreign-requires
+asked_about_foreign-foreign-requires g c = keyword-opened c.position.inside.in_reference c.position.inside.held (opened_of c.position.inside.opened) (rw (← c.position.view_is) at c.requires)
 
 pub hold_keyword-requires : goal.hold_keyword-requires
 hold_keyword-requires g c = keyword-opened c.position.inside.in_reference c.position.inside.held (opened_of c.position.inside.opened) (rw (← c.position.view_is) at c.requires)
@@ -30,7 +30,7 @@ returns-then-branch-clause-tells g c =
     let same = beside c.position.inside.in_reference c.position.inside.held (opened_of c.position.inside.opened) (rw (← c.position.view_is) at c.requires) in
     let goes =
     goes_on-asked (g.S.TokenSink.foreign (g.S.TokenSink.state c.args.sink.now)) (opened_of c.position.inside.opened) c.args.c (opened_of c.hold_keyword.new.opened)
-    (rw c.asked_about_foreign.ensures at c.in_ok-hold_keyword.ensures.taken (ap Ok c.if-branch.true)) in
+    (rw c.asked_about_foreign-foreign.ensures at c.in_ok-hold_keyword.ensures.taken (ap Ok c.if-branch.true)) in
     rw (← c.position.view_is, same (opened_of c.position.inside.opened), goes.settled c.args.rules.now) refl
 
 pub returns-then-branch-clause-taken : goal.returns-then-branch-clause-taken
@@ -38,7 +38,7 @@ returns-then-branch-clause-taken g c = λ yes.
     let same = beside c.position.inside.in_reference c.position.inside.held (opened_of c.position.inside.opened) (rw (← c.position.view_is) at c.requires) in
     let goes =
     goes_on-asked (g.S.TokenSink.foreign (g.S.TokenSink.state c.args.sink.now)) (opened_of c.position.inside.opened) c.args.c (opened_of c.hold_keyword.new.opened)
-    (rw c.asked_about_foreign.ensures at c.in_ok-hold_keyword.ensures.taken (ap Ok c.if-branch.true)) in
+    (rw c.asked_about_foreign-foreign.ensures at c.in_ok-hold_keyword.ensures.taken (ap Ok c.if-branch.true)) in
     rw (← c.position.view_is, same (opened_of c.position.inside.opened), same (opened_of c.hold_keyword.new.opened)) (goes.belongs c.args.rules.now)
 
 pub returns-then-branch-clause-held : goal.returns-then-branch-clause-held
@@ -58,7 +58,7 @@ returns-in_err-finish_keyword-clause-tells g c =
     let same = beside c.position.inside.in_reference c.position.inside.held (opened_of c.position.inside.opened) (rw (← c.position.view_is) at c.requires) in
     let ends =
     ends-asked (g.S.TokenSink.foreign (g.S.TokenSink.state c.args.sink.now)) (opened_of c.position.inside.opened) c.args.c
-    (rw c.asked_about_foreign.ensures at c.in_ok-hold_keyword.ensures.decided (ap Ok c.if-branch.false)) in
+    (rw c.asked_about_foreign-foreign.ensures at c.in_ok-hold_keyword.ensures.decided (ap Ok c.if-branch.false)) in
     rw (← c.position.view_is, same (opened_of c.position.inside.opened), ends.settled c.args.rules.now)
     (tells_stop _ _ _ _ _ _ _ c.from_residual-in_err-finish_keyword.ensures.1
     (rw (c.in_ok-hold_keyword.ensures.kept (ap Ok c.if-branch.false)) at c.in_err-finish_keyword.ensures.tells))
@@ -78,7 +78,7 @@ returns-clause-tells g c =
     let same = beside c.position.inside.in_reference c.position.inside.held (opened_of c.position.inside.opened) (rw (← c.position.view_is) at c.requires) in
     let ends =
     ends-asked (g.S.TokenSink.foreign (g.S.TokenSink.state c.args.sink.now)) (opened_of c.position.inside.opened) c.args.c
-    (rw c.asked_about_foreign.ensures at c.in_ok-hold_keyword.ensures.decided (ap Ok c.if-branch.false)) in
+    (rw c.asked_about_foreign-foreign.ensures at c.in_ok-hold_keyword.ensures.decided (ap Ok c.if-branch.false)) in
     rw (← c.position.view_is, same (opened_of c.position.inside.opened), ends.settled c.args.rules.now)
     (rw (c.in_ok-hold_keyword.ensures.kept (ap Ok c.if-branch.false)) at c.in_ok-finish_keyword.ensures.tells)
 
@@ -87,7 +87,7 @@ returns-clause-decided g c = λ no.
     let same = beside c.position.inside.in_reference c.position.inside.held (opened_of c.position.inside.opened) (rw (← c.position.view_is) at c.requires) in
     let ends =
     ends-asked (g.S.TokenSink.foreign (g.S.TokenSink.state c.args.sink.now)) (opened_of c.position.inside.opened) c.args.c
-    (rw c.asked_about_foreign.ensures at c.in_ok-hold_keyword.ensures.decided (ap Ok c.if-branch.false)) in
+    (rw c.asked_about_foreign-foreign.ensures at c.in_ok-hold_keyword.ensures.decided (ap Ok c.if-branch.false)) in
     rw (← c.position.view_is, same (opened_of c.position.inside.opened), same (opened_of c.finish_keyword.new.opened), (rw (c.in_ok-hold_keyword.ensures.kept (ap Ok c.if-branch.false)) at c.in_ok-finish_keyword.ensures.opened))
     (ends.decides c.args.rules.now)
 
