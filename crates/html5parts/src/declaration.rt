@@ -69,7 +69,11 @@ fn open_cdata<A: Allocator>(at: &mut Opened<A>)
 /// Holds a character behind `<!`, and answers whether it belongs to a keyword. A whole keyword begins
 /// what it stands for; that of a CDATA section is one where the content is foreign. A character by
 /// which no keyword begins is still to be read.
-pub fn hold_declaration<A: Allocator>(at: &mut Opened<A>, c: char, foreign: bool) -> Result<bool, AllocError>
+pub fn hold_declaration<A: Allocator>(
+    at: &mut Opened<A>,
+    c: char,
+    foreign: bool,
+) -> Result<bool, AllocError>
     requires { at.old.state ≡ State.MarkupDeclarationOpen }
     ensures taken { result ≡ Ok true → (exact : Bool) → declaration_step exact foreign (string_bytes at.old.comment) c
         ≡ record { settled = []; here = Tells [] (opened_of at.new) } }

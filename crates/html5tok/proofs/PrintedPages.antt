@@ -66,25 +66,25 @@ module _ (rules : Rules) (K : Start) (p : Page) (X : List ℕ) where
 
   -- what the end decides of a reference
   abbrev late-events : List Event
-  late-events = late_events K.input (normalised K.input X) EndOfInput (late_at_end_of rules (read page_step reply rules K p X).opened)
+  late-events = late_events K.input (normalised K.input X) EndOfInput (late_at_end_of rules (read page_step reply page_foreign rules K p X).opened)
 
   front-messages : List Told → List Message
-  front-messages tokens = messages (told page_step reply rules K p X) ++ (messages late-events ++ on_line (line_after K.input (normalised K.input X)) tokens)
+  front-messages tokens = messages (told page_step reply page_foreign rules K p X) ++ (messages late-events ++ on_line (line_after K.input (normalised K.input X)) tokens)
 
-  reading-ends : (tokens : List Told) → told_at_end_of rules.exact (open_at_end_of rules (read page_step reply rules K p X).opened) ≡ tokens ++ End ∷ []
-      → messages (reading page_step reply rules K p X)
+  reading-ends : (tokens : List Told) → told_at_end_of rules.exact (open_at_end_of rules (read page_step reply page_foreign rules K p X).opened) ≡ tokens ++ End ∷ []
+      → messages (reading page_step reply page_foreign rules K p X)
       ≡ front-messages tokens ++ record { token = End; line = line_after K.input (normalised K.input X) } ∷ []
   unfolding end_events front-messages
   reading-ends tokens ends =
       let line : ℕ = line_after K.input (normalised K.input X) in
-      let front : List Message = messages (told page_step reply rules K p X) in
+      let front : List Message = messages (told page_step reply page_foreign rules K p X) in
       let end : List Message = record { token = End; line = line } ∷ [] in
-      ap (λ E. messages E) (reading-events page_step reply rules K p X)
-      ∙ messages-append (told page_step reply rules K p X) (end_events page_step reply rules K (read page_step reply rules K p X).opened (normalised K.input X))
+      ap (λ E. messages E) (reading-events page_step reply page_foreign rules K p X)
+      ∙ messages-append (told page_step reply page_foreign rules K p X) (end_events page_step reply page_foreign rules K (read page_step reply page_foreign rules K p X).opened (normalised K.input X))
       ∙ ap (λ M. front ++ M)
       (messages-append late-events _
       ∙ ap (λ M. messages late-events ++ M)
-      (messages-map _ _ (λ t. refl) (told_at_end_of rules.exact (open_at_end_of rules (read page_step reply rules K p X).opened))
+      (messages-map _ _ (λ t. refl) (told_at_end_of rules.exact (open_at_end_of rules (read page_step reply page_foreign rules K p X).opened))
       ∙ ap (on_line line) ends
       ∙ map-append (λ (token : Told). record { token = token; line = line }) tokens (End ∷ []))
       ∙ sym (append_assoc (messages late-events) (on_line line tokens) end))

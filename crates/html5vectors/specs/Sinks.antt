@@ -1,5 +1,6 @@
 -- The sinks of the tests: what they reply to what they are told.
-use Rattle.std.specs.Prelude.{◌≡◌, ℕ, Bool, true, false, List, [], ◌++◌, refl, ap, ◌&&◌, not, if◌then◌else◌, codes, bytes_eq}
+use Rattle.std.specs.Prelude.{◌≡◌, ℕ, Bool, true, false, List, [], ◌++◌, refl, ◌&&◌, not, if◌then◌else◌, codes, bytes_eq}
+use Rattle.std.proofs.Common.{ap}
 use Rattle.html5ever_interface.specs.Collected.{Collected, collected_step, collected_faulted, collected_finish}
 use Rattle.html5ever_interface.specs.CollectorLaws.{collected_joins, collected_empty, collected_any_line}
 use Rattle.html5ever_interface.specs.Token.{Told, Reply, is_tag}

@@ -47,7 +47,7 @@ const SECTIONS: [Case<'static>; 19] = [
         &["<![CDATA[a\u{1}]]>"],
         true,
         "error 1 \"Bad character \\u{1}\"\n\
-         text \"a\u{1}\"\n\
+         text \"a\\u{1}\"\n\
          eof 1",
     ),
     (

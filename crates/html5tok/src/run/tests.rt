@@ -577,7 +577,7 @@ fn a_line_that_fails_changes_nothing(rt: HostRuntime) -> Result<(), Fail> {
     for refusal in [Refusal::Error, Refusal::Nothing] {
         for (words, input, status, taken) in [
             (PLAIN, b"\xff".as_slice(), 3, "inp"),
-            (["--state", "cdata"], b"a", 2, "usa"),
+            (["--state", "cdatas"], b"a", 2, "usa"),
             (PLAIN, b"a", 0, ""),
         ] {
             let mut reader = ReadSource::new(input);
