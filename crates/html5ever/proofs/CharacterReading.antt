@@ -31,7 +31,6 @@ use Rattle.html5grammar.specs.Start.Quotes.{DoubleQuotes, SingleQuotes}
 use Rattle.html5parts.specs.CurrentTag.{open_of, open_tag, behind_doctype_name, last_name_of, letters_of, stops_at_bad}
 use Rattle.html5parts.specs.Steps.{tokens_of, Next, behind}
 use Rattle.html5parts.specs.Steps.Next.{Opens, Closes}
-use Rattle.html5parts.specs.declared.current_tag.CurrentTag.{CurrentTag}
 use Rattle.html5parts.specs.declared.opened.Opened.{Opened}
 use Rattle.html5parts.specs.declared.error.TokenizerError.{TokenizerError}
 use Rattle.html5parts.specs.declared.error.TokenizerError.TheVariants.{Memory, Sink, Failed, NotYet}

@@ -7,7 +7,6 @@ use Rattle.html5grammar.specs.Characters.{is_bad_character}
 use Rattle.html5grammar.specs.Comment.{begins_cdata}
 use Rattle.html5grammar.specs.EndOfInput.{late_at_end_of, open_at_end_of}
 use Rattle.html5grammar.specs.Reading.Here.{Tells}
-use Rattle.html5grammar.specs.Slice.{Late}
 use Rattle.html5grammar.specs.Start.{Open, Rules, is_undecided_open}
 use Rattle.html5grammar.specs.Start.Open.{InDeclaration, InDoctypeKeyword, InReference}
 use Rattle.html5parts.specs.Steps.{IsBuilt}

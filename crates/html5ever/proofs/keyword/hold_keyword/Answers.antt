@@ -1,6 +1,5 @@
 use Rattle.std.proofs.Common.{string_bytes}
 use Rattle.html5ever_interface.specs.Token.{doctype_of}
-use Rattle.html5parts.specs.CurrentTag.{opened_of}
 use Rattle.html5ever.proofs.Decided.{doctype_keyword-open}
 use Rattle.html5ever.proofs.KeywordReading.{declaration-goes_on, declaration-ends, doctype_keyword-goes_on, doctype_keyword-ends}
 use Rattle.html5ever.proofs.keyword.hold_keyword.Goals as goal
