@@ -5,7 +5,7 @@ pub mod Traces
 pub mod Cases
 pub mod ReadingLemmas
 pub mod Steps
-pub mod Going
+pub mod GoodCharacters
 pub mod NoTags
 pub mod Holding
 pub mod OneTagSteps

@@ -25,7 +25,7 @@ use Rattle.html5grammar.specs.Start.{Start, Open, Rules}
 use Rattle.html5grammar.specs.Start.Mode.{Data}
 use Rattle.html5grammar.specs.Start.Open.{Between, InReference}
 use Rattle.html5grammar.specs.Start.Stand.{InText}
-use Rattle.html5grammar.proofs.Going.{good_between}
+use Rattle.html5grammar.proofs.GoodCharacters.{good_between}
 use Rattle.html5grammar.proofs.InputLemmas.{line_past, lines_past, line_after-past, line_after-last, line_after-lines_past}
 use Rattle.html5grammar.proofs.Machine.{step_at, data_step, brought_at, reference_step}
 use Rattle.html5grammar.proofs.OneTagSteps.{is_not}

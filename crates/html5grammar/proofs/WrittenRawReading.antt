@@ -1,5 +1,5 @@
 -- A text that is raw text tells the messages of how it is written.
-use Rattle.std.proofs.Common.{◌≡◌, ◌≢◌, ℕ, Bool, true, false, List, [], ◌∷◌, ◌++◌, Option, None, Some, refl, ap, sym, ◌∙◌, subst, length, length-append, ◌≤◌, arith}
+use Rattle.std.proofs.Common.{◌≡◌, ℕ, Bool, true, false, List, [], ◌∷◌, ◌++◌, Option, None, Some, refl, ap, sym, ◌∙◌, subst, length, length-append, ◌≤◌, arith}
 use Rattle.std.specs.Prelude.{not, flat_map}
 use Rattle.std.specs.List.{list_all}
 use Rattle.std.specs.Bool.{nat_eq}
@@ -32,7 +32,7 @@ use Rattle.html5grammar.specs.Slice.{silent}
 use Rattle.html5grammar.specs.Start.{Raw, OpenTag, Open, Start, Rules, is_undecided_open, begun}
 use Rattle.html5grammar.specs.Start.Mode.{Data, RawText}
 use Rattle.html5grammar.specs.Start.Place.{InName}
-use Rattle.html5grammar.specs.Start.Open.{Between, InTag, InRaw, NotBuilt}
+use Rattle.html5grammar.specs.Start.Open.{Between, InTag, InRaw}
 use Rattle.html5grammar.specs.Start.RawPlace.{AfterLessThan, InEndName, AfterMark, AfterMarkAndDash, InSwitch}
 use Rattle.html5grammar.specs.Tag.{with_name, null_error, in_tag_name}
 use Rattle.html5grammar.specs.WrittenRaw.{RawItem, WrittenRaw, raw_behind_item, raw_behind_items, switch_text, item_text, items_text, written, next_is, is_double_escaped, can_stand, can_follow, is_raw, carried, carried_to, spell_text, spell_item, spell_items, carried_behind, spell_raw, raw_at_end, told_at_end, raw_messages, IsRawText}
@@ -131,22 +131,14 @@ tokens-standing rules name (Within AfterMarkAndDash) = refl
 tokens-standing rules name (Within (InSwitch escape_kind.Escaped letters)) = refl
 tokens-standing rules name (Within (InSwitch escape_kind.DoubleEscaped letters)) = refl
 
-abbrev is_built : Open → Bool
-is_built NotBuilt = false
-is_built opened = true
-
-built-standing : (name : List ℕ) (standing : Standing) → is_built (opened_at name standing) ≡ true
-built-standing name (Free raw) = refl
-built-standing name (Within place) = refl
+decided-standing : (name : List ℕ) (standing : Standing) → is_undecided_open (opened_at name standing) ≡ false
+decided-standing name (Free raw) = refl
+decided-standing name (Within place) = refl
 
 -- what can be open behind raw text
 abbrev IsBehind : Option WrittenTag → Open → Type 0
-IsBehind None opened = is_built opened ≡ true
+IsBehind None opened = Unit {0}
 IsBehind (Some tag) opened = opened ≡ Between Data
-
-built-behind : (end_tag : Option WrittenTag) (opened : Open) → IsBehind end_tag opened → is_built opened ≡ true
-built-behind None opened h = h
-built-behind (Some tag) opened h = ap is_built h
 
 -- ---- the machine reads the end tag
 
@@ -297,13 +289,13 @@ module _ {S H : Type 0} (step : S → Told → ℕ → S) (reply : S → Told �
         last = K.last_start_tag;
         trace_is =
             rw (one.starts, one.text, ← characters-items rules.exact raw [] items [], append-nil cells)
-            (trace-goes step reply foreign rules K.input [] s K.last_start_tag (Between (RawText raw name)) (opened_at name r.behind) cells [] r.goes
+            (trace-goes step reply foreign rules K.input [] s K.last_start_tag (Between (RawText raw name)) (opened_at name r.behind) cells [] (decided-standing name r.behind) r.goes
             ∙ ap (λ l. record { messages = l; opened = opened_at name r.behind; last_start_tag = K.last_start_tag }) (append-nil (spelled_messages rules.exact K.input [] cells)));
         end_is =
             tokens-standing rules name r.behind
             ∙ ap (λ told. (told ++ raw_end_error rules.exact (end_from r.behind [] (raw_at r.behind))) ++ End ∷ []) r.carried_is
             ∙ ap (λ end. (carried_behind raw [] items ++ raw_end_error rules.exact end) ++ End ∷ []) (sym r.end_is);
-        opened_is = built-standing name r.behind;
+        opened_is = tt;
       }
 
   -- the end tag behind items
@@ -353,7 +345,7 @@ module _ {S H : Type 0} (step : S → Told → ℕ → S) (reply : S → Told �
         last = last_behind K.last_start_tag (tag_told tag);
         trace_is =
             rw (one.starts, text-end_tag K X raw name items first rest parts one, ← cells, spelled_messages-append rules.exact K.input [] before (tail ++ end_cell rules.exact tag ∷ []))
-            (trace-goes step reply foreign rules K.input [] s K.last_start_tag (Between (RawText raw name)) opened before (characters tail ++ greater_than ∷ []) r.goes
+            (trace-goes step reply foreign rules K.input [] s K.last_start_tag (Between (RawText raw name)) opened before (characters tail ++ greater_than ∷ []) refl r.goes
             ∙ ap (with_messages M)
             (trace-same later line K.last_start_tag opened (InTag InName named) ends_name (characters tail ++ greater_than ∷ []) refl refl begins
             (λ c ends. step-end_name rules.exact name r.kind (first ∷ rest) c ends (name_ends name first rest c ended.name_is ends))
@@ -396,13 +388,6 @@ module _ {S H : Type 0} (step : S → Told → ℕ → S) (reply : S → Told �
       → Reads K s X raw items end_tag → IsBehind end_tag (after step reply foreign rules K s X).opened
   after-reads K s X raw items end_tag r =
       subst (IsBehind end_tag) (sym (after-opened step reply foreign rules K s X ∙ ap (λ (t : Trace). t.opened) r.trace_is)) r.opened_is
-
-  pub after-raw : (K : Start) (s : S) (X : List ℕ) (raw : Raw) (name : List ℕ) (written_as : WrittenRaw)
-      → KeepsOn written_as.end_tag → IsRawText K X raw name written_as
-      → (after step reply foreign rules K s X).opened ≢ NotBuilt
-  after-raw K s X raw name written_as keeps one e =
-      let r : Reads K s X raw written_as.items written_as.end_tag = reads_raw K s X raw name written_as.items written_as.end_tag keeps one in
-      false≢true (sym (ap is_built e) ∙ built-behind written_as.end_tag (after step reply foreign rules K s X).opened (after-reads K s X raw written_as.items written_as.end_tag r))
 
   -- nothing is open behind an end tag
   pub after-raw_end_tag : (K : Start) (s : S) (X : List ℕ) (raw : Raw) (name : List ℕ) (items : List RawItem) (tag : WrittenTag)
