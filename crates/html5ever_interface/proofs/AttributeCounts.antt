@@ -1,5 +1,5 @@
 -- Attributes counted by `==`.
-use Rattle.std.proofs.Common.{◌≡◌, ℕ, ◌≤◌, Bool, ◌&&◌, List, [], ◌∷◌, Option, Some, None, map, option_map, length, count_by, cond, All, IsPermutation, string_bytes, refl, sym, ap, ◌∙◌}
+use Rattle.std.proofs.Common.{◌≡◌, ℕ, Bool, ◌&&◌, List, [], ◌∷◌, Option, Some, None, map, option_map, length, cond, All, IsPermutation, refl, sym, ap, ◌∙◌}
 use Rattle.std.specs.Bool.{Decides}
 use Rattle.std.specs.Option.{option_eq}
 use Rattle.std.specs.Str.{bytes_eq}
@@ -10,7 +10,7 @@ use Rattle.std.proofs.lemmas.List.{length-map}
 use Rattle.std.proofs.lemmas.List.Elements.{All-map, All-weaker}
 use Rattle.std.proofs.lemmas.List.Sorted.{length_permutation}
 use Rattle.std.proofs.lemmas.List.Sums.{sum_by-cons}
-use Rattle.markup5ever.specs.Names.{AttributeOf, QualifiedName, attribute_of, prefix_bytes}
+use Rattle.markup5ever.specs.Names.{AttributeOf, attribute_of, prefix_bytes}
 use Rattle.markup5ever.specs.declared.interface.Attribute.{Attribute}
 use Rattle.markup5ever.specs.declared.interface.Prefix.{Prefix}
 use Rattle.html5ever_interface.proofs.Counts.{count_equal, count_equal-permutation, permutation_from_counts}
@@ -58,7 +58,8 @@ unfolding same_of
 same_of-Decides a b =
     Decides-like _ (λ e i. record {
       name = record { prefix = e.0.0 i; ns = e.0.1.0 i; local = e.0.1.1 i };
-      value = e.1 i })
+      value = e.1 i;
+    })
     (λ e. ((ap (λ x. x.name.prefix) e, (ap (λ x. x.name.ns) e, ap (λ x. x.name.local) e)), ap (λ x. x.value) e))
     (Decides-and _ _
     (Decides-and _ _ (option_eq-Decides a.name.prefix b.name.prefix)
@@ -69,8 +70,12 @@ count_equal-map : {Z : Type 0} (attrs : List (Attribute Z)) (a : Attribute Z)
     → count_equal same attrs a ≡ count_equal same_of (map attribute_of attrs) (attribute_of a)
 count_equal-map [] a = refl
 count_equal-map (b ∷ attrs) a =
-    rw (sum_by-cons (λ x. cond (same x a) 1 0) b attrs, sum_by-cons (λ x. cond (same_of x (attribute_of a)) 1 0) (attribute_of b) (map attribute_of attrs),
-    same-attribute_of b a, count_equal-map attrs a) refl
+    rw (
+      sum_by-cons (λ x. cond (same x a) 1 0) b attrs,
+      sum_by-cons (λ x. cond (same_of x (attribute_of a)) 1 0) (attribute_of b) (map attribute_of attrs),
+      same-attribute_of b a,
+      count_equal-map attrs a,
+    ) refl
 
 -- a permutation has each as often
 pub counts_from_permutation : {Z : Type 0} (attrs others : List (Attribute Z)) (a : Attribute Z)

@@ -1,5 +1,5 @@
 -- Lists in which each element occurs as often are permutations of each other. The test decides equality.
-use Rattle.std.proofs.Common.{◌≡◌, ℕ, ◌+◌, ◌<◌, ◌≤◌, Bool, true, false, cond, List, [], ◌∷◌, ◌++◌, map, length, count_by, sum_by, All, IsPermutation, refl, sym, ap, subst, ◌∙◌, arith, length-append}
+use Rattle.std.proofs.Common.{◌≡◌, ℕ, ◌+◌, ◌<◌, ◌≤◌, Bool, true, false, cond, List, [], ◌∷◌, ◌++◌, length, count_by, All, IsPermutation, refl, sym, ap, subst, ◌∙◌, arith, length-append}
 use Rattle.std.specs.Bool.{Decides}
 use Rattle.std.proofs.lemmas.List.{nil_from_length, append-nil}
 use Rattle.std.proofs.lemmas.List.Elements.{All-head, All-tail, All-weaker}
@@ -60,15 +60,15 @@ module _ {X : Type 0} (test : X → X → Bool) (decides : (x y : X) → Decides
       let place : Occurs x whole = occurs x whole (omega (arith, count_equal-same x part)) in
       let others : List X = place.front ++ place.back in
       let moved : IsPermutation whole (x ∷ others) =
-          subst (λ zs. IsPermutation zs (x ∷ others)) (sym place.parts) (IsPermutation-middle place.front x place.back) in
+      subst (λ zs. IsPermutation zs (x ∷ others)) (sym place.parts) (IsPermutation-middle place.front x place.back) in
       let later : Exceeds part others = exceeds part (place.front ++ place.back)
-          (counted_without part whole others x moved (All-tail (λ y. count_equal test (x ∷ part) y ≤ count_equal test whole y) x part counted)) in
+      (counted_without part whole others x moved (All-tail (λ y. count_equal test (x ∷ part) y ≤ count_equal test whole y) x part counted)) in
       record { rest = later.rest; is = IsPermutation-trans whole (x ∷ others) (x ∷ (part ++ later.rest)) moved (IsPermutation-cons x (place.front ++ place.back) (part ++ later.rest) later.is) }
 
   pub permutation_from_counts : (xs ys : List X) → length xs ≡ length ys
       → All (λ x. count_equal test xs x ≡ count_equal test ys x) xs → IsPermutation xs ys
   permutation_from_counts xs ys long counted =
       let more : Exceeds xs ys = exceeds xs ys (All-weaker (λ x. count_equal test xs x ≡ count_equal test ys x)
-          (λ x. count_equal test xs x ≤ count_equal test ys x) (λ x same. omega arith) xs counted) in
+      (λ x. count_equal test xs x ≤ count_equal test ys x) (λ x same. omega arith) xs counted) in
       let none : length more.rest ≡ 0 = omega (arith, length_permutation ys (xs ++ more.rest) more.is, length-append xs more.rest) in
       IsPermutation-sym ys xs (subst (λ zs. IsPermutation ys zs) (ap (λ zs. xs ++ zs) (nil_from_length more.rest none) ∙ append-nil xs) more.is)

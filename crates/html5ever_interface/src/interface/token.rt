@@ -188,7 +188,7 @@ fn count_of<A: Allocator>(attrs: &[Attribute<A>], attribute: &Attribute<A>) -> u
     attrs.iter().filter(|other| **other == *attribute).count()
 }
 
-/// Tags equivalent but for the order of their attributes: this is an equivalence.
+/// That tags are equivalent is an equivalence: a law of the definition, which no code needs.
 pub fn equivalence_of_tags()
     ensures reflexive { (tag : TagOf) → IsEquivalent tag tag }
     ensures symmetric { (tag other : TagOf) → IsEquivalent tag other → IsEquivalent other tag }

@@ -1,4 +1,4 @@
-use Rattle.std.proofs.Common.{◌≡◌, ◌↔◌, Bool, false, IsTrue, All, refl, sym, subst, ◌∙◌, arith}
+use Rattle.std.proofs.Common.{◌↔◌, false, IsTrue, All, refl, sym, subst, ◌∙◌}
 use Rattle.std.proofs.lemmas.Bool.{false≢true}
 use Rattle.std.proofs.lemmas.List.{take_all}
 use Rattle.std.proofs.lemmas.List.Elements.{All-more}
@@ -22,7 +22,9 @@ loop-attribute-preserved g c =
     (sym c.count_of.ensures ∙ c.if-count_of.false ∙ c.count_of-in-loop-attribute.ensures))
 
 pub returns : goal.returns
-returns g c =
-    (λ done. permuted_from_counts c.args.attrs.now c.args.others.now c.if-attrs-others.false
-    (subst (All (IsAsOften c.args.attrs.now c.args.others.now))
-    (take_all _ c.args.attrs.now c.loop-attribute-test.false) c.loop-attribute.invariant), λ permuted. refl)
+returns g c = (
+  λ done. permuted_from_counts c.args.attrs.now c.args.others.now c.if-attrs-others.false
+      (subst (All (IsAsOften c.args.attrs.now c.args.others.now))
+      (take_all _ c.args.attrs.now c.loop-attribute-test.false) c.loop-attribute.invariant),
+  λ permuted. refl,
+)
