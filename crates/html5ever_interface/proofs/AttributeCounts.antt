@@ -1,4 +1,4 @@
--- Attributes counted by `==`.
+-- Attributes counted by `==`, which is equality of what contracts see of them.
 use Rattle.std.proofs.Common.{◌≡◌, ℕ, Bool, ◌&&◌, List, [], ◌∷◌, Option, Some, None, map, option_map, length, cond, All, IsPermutation, refl, sym, ap, ◌∙◌}
 use Rattle.std.specs.Bool.{Decides}
 use Rattle.std.specs.Option.{option_eq}
@@ -26,7 +26,7 @@ same a b =
 abbrev pub IsAsOften : {Z : Type 0} → List (Attribute Z) → List (Attribute Z) → Attribute Z → Type 0
 IsAsOften attrs others a = count_equal same attrs a ≡ count_equal same others a
 
--- the same test of what they mean
+-- the same test of what contracts see of them
 same_of : AttributeOf → AttributeOf → Bool
 same_of a b =
     (option_eq bytes_eq a.name.prefix b.name.prefix
@@ -41,6 +41,7 @@ option_eq-prefix None (Some q) = refl
 option_eq-prefix (Some p) None = refl
 option_eq-prefix (Some p) (Some q) = refl
 
+-- `==` tests what contracts see
 same-attribute_of : {Z : Type 0} (a b : Attribute Z) → same a b ≡ same_of (attribute_of a) (attribute_of b)
 unfolding same_of
 same-attribute_of a b =
@@ -53,6 +54,7 @@ option_eq-Decides None (Some q) = (λ e. cc, λ e. cc)
 option_eq-Decides (Some p) None = (λ e. cc, λ e. cc)
 option_eq-Decides (Some p) (Some q) = (λ e. ap (λ bs. Some bs) ((bytes_eq-Decides p q).0 e), λ e. (bytes_eq-Decides p q).1 cc)
 
+-- and decides whether that is equal
 same_of-Decides : (a b : AttributeOf) → Decides (same_of a b) (a ≡ b)
 unfolding same_of
 same_of-Decides a b =

@@ -41,7 +41,7 @@ tag_of tag = record {
   had_duplicate_attributes = tag.had_duplicate_attributes;
 }
 
--- one kind, one name and the same attributes, each as often, in any order
+-- one kind, one name and the same attributes, each as often, in any order: the flags may differ
 pub record IsEquivalent (tag other : TagOf) : Type 0 where
   pub kind : tag.kind ≡ other.kind
   pub name : tag.name ≡ other.name

@@ -154,9 +154,9 @@ impl<A: Allocator + Copy> Tag<A> {
 impl<A: Allocator> Tag<A> {
     ghost use Rattle.html5ever_interface.specs.Token.{tag_of};
 
-    /// Whether the tags have one kind, one name and the same attributes, each as often, in any order.
-    /// The two flags are neglected. It allocates nothing, and takes time as the square of the number
-    /// of attributes.
+    /// Whether the tags have one kind, one name and the same attributes, each as often, in any
+    /// order. The two flags are neglected. Nothing is allocated, and the time grows with the square
+    /// of the number of attributes.
     pub fn equiv_modulo_attr_order(&self, other: &Tag<A>) -> bool
         ensures { IsTrue result ↔ IsEquivalent (tag_of self.now) (tag_of other.now) }
     {
@@ -166,9 +166,10 @@ impl<A: Allocator> Tag<A> {
     }
 }
 
-// Whether both have the same attributes, each as often.
+// Whether both have the same attributes, each as often, in any order.
 fn is_permutation<A: Allocator>(attrs: &[Attribute<A>], others: &[Attribute<A>]) -> bool
-    ensures { IsTrue result ↔ IsPermutation (map attribute_of attrs.now) (map attribute_of others.now) }
+    ensures { IsTrue result
+        ↔ IsPermutation (map attribute_of attrs.now) (map attribute_of others.now) }
 {
     if attrs.len() != others.len() {
         return false;
@@ -183,17 +184,18 @@ fn is_permutation<A: Allocator>(attrs: &[Attribute<A>], others: &[Attribute<A>])
 
 // How many attributes equal this one.
 fn count_of<A: Allocator>(attrs: &[Attribute<A>], attribute: &Attribute<A>) -> usize
-    ensures { result ≡ count_by (λ other. ⟦<Attribute<A> as PartialEq>⟧.eq other attribute.now) attrs.now }
+    ensures { result
+        ≡ count_by (λ other. ⟦<Attribute<A> as PartialEq>⟧.eq other attribute.now) attrs.now }
 {
     attrs.iter().filter(|other| **other == *attribute).count()
 }
 
-/// That tags are equivalent is an equivalence: a law of the definition, which no code needs.
+/// To be equal but for the order of attributes and the flags is an equivalence of tags.
 pub fn equivalence_of_tags()
     ensures reflexive { (tag : TagOf) → IsEquivalent tag tag }
     ensures symmetric { (tag other : TagOf) → IsEquivalent tag other → IsEquivalent other tag }
-    ensures transitive { (tag other third : TagOf) → IsEquivalent tag other → IsEquivalent other third
-        → IsEquivalent tag third }
+    ensures transitive { (tag other third : TagOf) → IsEquivalent tag other
+        → IsEquivalent other third → IsEquivalent tag third }
 {}
 
 // Attributes equal to these, with the same allocator.
