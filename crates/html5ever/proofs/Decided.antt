@@ -11,7 +11,7 @@ use Rattle.html5grammar.specs.Start.{Open, is_undecided_open, held_len}
 use Rattle.html5grammar.specs.Start.Mode.{Data, Plain, RawText}
 use Rattle.html5grammar.specs.Start.Place.{InValue}
 use Rattle.html5grammar.specs.Start.Raw.{Rcdata}
-use Rattle.html5grammar.specs.Start.Open.{Between, LessThan, LessThanSolidus, InTag, InRaw, InDeclaration, InComment, InBogusComment, InDoctype, InDoctypeKeyword, InCdata, InReference, NotBuilt}
+use Rattle.html5grammar.specs.Start.Open.{Between, LessThan, LessThanSolidus, InTag, InRaw, InDeclaration, InComment, InBogusComment, InDoctype, InDoctypeKeyword, InCdata, InReference}
 use Rattle.html5parts.specs.CharRef.{HasStand, begun_reference, stand_of, with_reference}
 use Rattle.html5parts.specs.CurrentTag.{open_of, behind_doctype_name}
 use Rattle.html5parts.specs.Runs.{IsRunAt}
@@ -38,23 +38,13 @@ is_decided (InCdata text) h = record { no_reference = refl; no_keyword = refl; n
 is_decided (InDoctype place doctype) h = record { no_reference = refl; no_keyword = refl; nothing_held = refl }
 is_decided (InDoctypeKeyword held doctype) h = absurd (false≢true (sym h))
 is_decided (InReference stand held) h = absurd (false≢true (sym h))
-is_decided NotBuilt h = record { no_reference = refl; no_keyword = refl; nothing_held = refl }
 
--- a reference begins where nothing is undecided
-pub begun-decided : (opened : Open) → IsBuilt (begun_reference opened) → is_undecided_open opened ≡ false
-begun-decided (Between mode) built = refl
-begun-decided LessThan built = refl
-begun-decided LessThanSolidus built = refl
-begun-decided (InTag place tag) built = refl
-begun-decided (InRaw place name) built = refl
-begun-decided (InDeclaration held) built = absurd built
-begun-decided (InComment text) built = refl
-begun-decided (InBogusComment text) built = refl
-begun-decided (InCdata text) built = refl
-begun-decided (InDoctype place doctype) built = refl
-begun-decided (InDoctypeKeyword held doctype) built = absurd built
-begun-decided (InReference stand held) built = absurd built
-begun-decided NotBuilt built = refl
+-- nothing is undecided where a reference can stand
+pub begun-decided : (opened : Open) → HasStand opened → is_undecided_open opened ≡ false
+begun-decided (InDeclaration held) stand = absurd stand
+begun-decided (InDoctypeKeyword held doctype) stand = absurd stand
+begun-decided (InReference stand_there held) stand = absurd stand
+begun-decided opened stand = refl
 
 -- ---- by states
 
@@ -132,7 +122,6 @@ keyword-undecided (InCdata text) none = refl
 keyword-undecided (InDoctype place doctype) none = refl
 keyword-undecided (InDoctypeKeyword held doctype) none = refl
 keyword-undecided (InReference stand held) none = absurd (false≢true (sym none))
-keyword-undecided NotBuilt none = refl
 
 pub state-keyword : {Z : Type 0} → (q : State) (at : Opened Z) → is_keyword_open (open_of q at) ≡ holds_keyword_in q (string_bytes at.comment)
 state-keyword q at = keyword-undecided (open_of q at) (state-no_reference q at) ∙ state-undecided q at
@@ -195,20 +184,12 @@ unfolding with_reference
 beside-data true held opened e = cc
 beside-data false held opened e = e
 
--- where a reference can begin it can stand
-can-stand : (opened : Open) → IsBuilt (begun_reference opened) → HasStand opened × (InReference (stand_of opened) [] ≡ begun_reference opened)
-can-stand (Between Data) built = (tt, refl)
-can-stand (Between Plain) built = absurd built
-can-stand (Between (RawText Rcdata name)) built = (tt, refl)
-can-stand (InTag (InValue kind) tag) built = (tt, refl)
-can-stand other built = absurd built
-
 pub begun-stands : (is_in : Bool) (held : List ℕ) (opened : Open) → is_undecided_open (with_reference is_in held opened) ≡ false
-    → IsBuilt (begun_reference (with_reference is_in held opened))
+    → HasStand (with_reference is_in held opened)
     → HasStand opened × (with_reference true [] opened ≡ begun_reference (with_reference is_in held opened))
 unfolding with_reference
-begun-stands true held opened none built = absurd (false≢true (sym none))
-begun-stands false held opened none built = can-stand opened built
+begun-stands true held opened none stand = absurd (false≢true (sym none))
+begun-stands false held opened none stand = (stand, refl)
 
 -- where something is undecided and no reference, a keyword is open
 pub undecided-keyword : {Z : Type 0} → (is_in : Bool) (held : List ℕ) (q : State) (at : Opened Z) → is_in ≡ false

@@ -12,7 +12,7 @@ use Rattle.html5ever.specs.Feed.{Feed, feed, told_beyond, IsEndOf, IsLinear}
 use Rattle.html5states.specs.Telling.{Stops}
 use Rattle.html5ever.specs.Tokenizer.{Tokenizing, StandsAt, ReadsOn, FeedsOn, LeavesWaiting, MeetsNotBuilt, FeedMeetsNotBuilt, StopsReading, StopsFeeding}
 use Rattle.html5parts.specs.declared.error.TokenizerError.{TokenizerError}
-use Rattle.html5parts.specs.declared.error.TokenizerError.TheVariants.{Memory, Sink, Failed, NotYet}
+use Rattle.html5parts.specs.declared.error.TokenizerError.TheVariants.{Memory, Sink, Failed}
 use Rattle.html5ever.proofs.Pauses.{told_beyond-behind, state_behind-append, feed-parts}
 use Rattle.html5ever.proofs.QueueReading.{no_error}
 use Rattle.html5states.proofs.Tellings.{stops_after, stops_before}

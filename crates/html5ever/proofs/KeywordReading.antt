@@ -10,7 +10,7 @@ use Rattle.html5grammar.specs.EndOfInput.{late_at_end_of, open_at_end_of}
 use Rattle.html5grammar.specs.Reading.{Brought}
 use Rattle.html5grammar.specs.Reading.Here.{Tells}
 use Rattle.html5grammar.specs.Start.{Open, Rules, is_undecided_open, held_len}
-use Rattle.html5grammar.specs.Start.Open.{Between, LessThan, LessThanSolidus, InTag, InRaw, InDeclaration, InComment, InBogusComment, InDoctype, InDoctypeKeyword, InCdata, InReference, NotBuilt}
+use Rattle.html5grammar.specs.Start.Open.{Between, LessThan, LessThanSolidus, InTag, InRaw, InDeclaration, InComment, InBogusComment, InDoctype, InDoctypeKeyword, InCdata, InReference}
 use Rattle.html5parts.proofs.Keywords.{keyword-good, doctype_keyword-good}
 use Rattle.html5parts.specs.CharRef.{with_reference}
 use Rattle.html5parts.specs.Steps.{IsBuilt}
@@ -94,7 +94,6 @@ brought-asked rules foreign (InDoctype place doctype) c = refl
 brought-asked rules foreign (InDoctypeKeyword held doctype) c = refl
 brought-asked rules foreign (InCdata text) c = refl
 brought-asked rules foreign (InReference stand held) c = refl
-brought-asked rules foreign NotBuilt c = refl
 
 pub goes_on-asked : (foreign : Bool) (opened : Open) (c : ℕ) (later : Open) → GoesOn (asks opened c && foreign) opened c later → GoesOn foreign opened c later
 goes_on-asked foreign opened c later goes = record {

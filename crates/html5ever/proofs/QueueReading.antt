@@ -7,7 +7,7 @@ use Rattle.html5grammar.specs.Reading.{told, messages, after}
 use Rattle.html5ever.specs.Runs.{ReadsRun}
 use Rattle.html5ever_interface.specs.Sink.{Message, stepped}
 use Rattle.html5grammar.specs.Start.{Start, Open, is_clean, Rules}
-use Rattle.html5grammar.specs.Start.Open.{Between, LessThan, LessThanSolidus, InTag, InRaw, InDeclaration, InComment, InBogusComment, InDoctype, InDoctypeKeyword, InCdata, InReference, NotBuilt}
+use Rattle.html5grammar.specs.Start.Open.{Between, LessThan, LessThanSolidus, InTag, InRaw, InDeclaration, InComment, InBogusComment, InDoctype, InDoctypeKeyword, InCdata, InReference}
 use Rattle.html5parts.specs.Steps.{Leads}
 use Rattle.html5states.specs.Telling.{Stops, IsRefusal}
 use Rattle.html5grammar.specs.NormalisedText.{input_after}
@@ -26,7 +26,7 @@ use Rattle.html5states.specs.Telling.{Tells}
 use Rattle.std.specs.Prelude.{OnOk, IsNone}
 use Rattle.html5ever.proofs.Pauses.{told_beyond-behind, state_behind-append, pause_here, feed-goes_on, feed-takes, feed-pauses}
 use Rattle.html5parts.specs.declared.error.TokenizerError.{TokenizerError}
-use Rattle.html5parts.specs.declared.error.TokenizerError.TheVariants.{Memory, Sink, Failed, NotYet}
+use Rattle.html5parts.specs.declared.error.TokenizerError.TheVariants.{Memory, Sink, Failed}
 use Rattle.html5grammar.proofs.ReadingLemmas.{state_behind, told-nil, told-append, after-nil, after-append, told-not_built, after-not_built}
 use Rattle.html5ever_interface.proofs.Steppings.{stepped-append}
 use Rattle.html5parts.proofs.Keywords.{cons≢nil}
@@ -46,7 +46,6 @@ opened_after_run-clean (InCdata text) run clean = absurd (false≢true clean)
 opened_after_run-clean (InDoctype place doctype) run clean = absurd (false≢true clean)
 opened_after_run-clean (InDoctypeKeyword held doctype) run clean = absurd (false≢true clean)
 opened_after_run-clean (InReference stand held) run clean = absurd (false≢true clean)
-opened_after_run-clean NotBuilt run clean = absurd (false≢true clean)
 
 run_tokens-clean : (opened : Open) (run : List ℕ) → is_clean opened ≡ true → run_tokens opened run ≡ map (λ (c : ℕ). Text (encode_utf8 c)) run
 run_tokens-clean (Between mode) run clean = refl
@@ -61,7 +60,6 @@ run_tokens-clean (InCdata text) run clean = absurd (false≢true clean)
 run_tokens-clean (InDoctype place doctype) run clean = absurd (false≢true clean)
 run_tokens-clean (InDoctypeKeyword held doctype) run clean = absurd (false≢true clean)
 run_tokens-clean (InReference stand held) run clean = absurd (false≢true clean)
-run_tokens-clean NotBuilt run clean = absurd (false≢true clean)
 
 -- within a tag or a comment it tells nothing
 run_tokens-open : (opened : Open) (run : List ℕ) → is_clean opened ≡ false → run_tokens opened run ≡ []
@@ -77,7 +75,6 @@ run_tokens-open (InCdata text) run not_clean = refl
 run_tokens-open (InDoctype place doctype) run not_clean = refl
 run_tokens-open (InDoctypeKeyword held doctype) run not_clean = refl
 run_tokens-open (InReference stand held) run not_clean = refl
-run_tokens-open NotBuilt run not_clean = refl
 
 pub on_ok : {T E : Type 0} {P : Type 0} (r : Result T E) → P → OnOk r P
 on_ok (Ok x) p = p

@@ -10,7 +10,7 @@ use Rattle.html5grammar.specs.NormalisedText.{with_line_feeds, without_dropped_f
 use Rattle.html5grammar.specs.Reading.{Event, end_events, reading, told, messages, after, read}
 use Rattle.html5grammar.specs.Start.{Start, Input, Rules, initial_mode}
 use Rattle.html5grammar.specs.Start.Mode.{Plain}
-use Rattle.html5grammar.specs.Start.Open.{Between, NotBuilt}
+use Rattle.html5grammar.specs.Start.Open.{Between}
 use Rattle.html5grammar.proofs.ReadingLemmas.{told-nil, told-append, after-nil, after-append, reading-events, messages-at_end}
 use Rattle.html5ever_interface.proofs.Steppings.{stepped-append}
 use Rattle.html5grammar.proofs.Traces.{messages-append}

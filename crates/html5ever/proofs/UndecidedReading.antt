@@ -26,11 +26,11 @@ use Rattle.html5grammar.specs.Reading.{Brought, told, messages, after}
 use Rattle.html5grammar.specs.Reading.Here.{Tells}
 use Rattle.html5grammar.specs.Reference.{in_value, reference, is_undecided, ends_number, has_digits, late_tokens, opened_in, opened_behind}
 use Rattle.html5grammar.specs.Start.{Stand, Start, Open, Rules, is_undecided_open, held_len}
-use Rattle.html5grammar.specs.Start.Open.{Between, LessThan, LessThanSolidus, InTag, InRaw, InDeclaration, InComment, InBogusComment, InDoctype, InDoctypeKeyword, InCdata, InReference, NotBuilt}
+use Rattle.html5grammar.specs.Start.Open.{Between, LessThan, LessThanSolidus, InTag, InRaw, InDeclaration, InComment, InBogusComment, InDoctype, InDoctypeKeyword, InCdata, InReference}
 use Rattle.html5grammar.specs.Start.Stand.{InText, InAttribute}
 use Rattle.html5parts.specs.CharRef.{stand_of, with_reference}
 use Rattle.html5parts.specs.Steps.{IsBuilt, Leads}
-use Rattle.html5parts.specs.declared.error.TokenizerError.TheVariants.{Memory, Sink, Failed, NotYet}
+use Rattle.html5parts.specs.declared.error.TokenizerError.TheVariants.{Memory, Sink, Failed}
 use Rattle.std.proofs.lemmas.Result.{err_from_is_err_and}
 use Rattle.html5ever.specs.Undecided.{BelongsTo, Decides}
 
@@ -139,7 +139,6 @@ end-none rules (InDoctype place doctype) none = (refl, refl)
 end-none rules (InDoctypeKeyword held doctype) none = absurd (false≢true (sym none))
 end-none rules (InCdata text) none = (refl, refl)
 end-none rules (InReference place held) none = absurd (false≢true (sym none))
-end-none rules NotBuilt none = (refl, refl)
 
 pub late-reference : (rules : Rules) (is_in : Bool) (held : List ℕ) (opened : Open) → is_in ≡ true
     → late_at_end_of rules (with_reference is_in held opened) ≡ late_tokens (stand_of opened) (reference rules (in_value (stand_of opened)) held None) held

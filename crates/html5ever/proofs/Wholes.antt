@@ -21,13 +21,13 @@ use Rattle.html5parts.specs.Steps.{IsBuilt}
 use Rattle.html5states.specs.Telling.{Stops, StopsWithin, IsNotFailed, IsRefusal}
 use Rattle.html5ever.specs.Tokenizer.{Tokenizing, StandsAt, EndStops, WholeStops}
 use Rattle.html5parts.specs.declared.error.TokenizerError.{TokenizerError}
-use Rattle.html5parts.specs.declared.error.TokenizerError.TheVariants.{Memory, Sink, Failed, NotYet}
+use Rattle.html5parts.specs.declared.error.TokenizerError.TheVariants.{Memory, Sink, Failed}
 use Rattle.markup5ever.specs.BufferQueue.{TextQueue, Gains}
 use Rattle.html5states.proofs.Tellings.{stops_before, stops_after}
 use Rattle.std.proofs.Math.Seq.{drop-append_seam}
 use Rattle.std.proofs.lemmas.List.{length-map}
 use Rattle.html5grammar.specs.EndOfInput.{told_at_end_of, late_at_end_of, open_at_end_of}
-use Rattle.html5grammar.specs.Start.Open.{Between, LessThan, LessThanSolidus, InTag, InRaw, InDeclaration, InComment, InBogusComment, InDoctype, InDoctypeKeyword, InCdata, InReference, NotBuilt}
+use Rattle.html5grammar.specs.Start.Open.{Between, LessThan, LessThanSolidus, InTag, InRaw, InDeclaration, InComment, InBogusComment, InDoctype, InDoctypeKeyword, InCdata, InReference}
 
 module _ {X S H : Type 0} (state : X → S) (step : S → Told → ℕ → S) (reply : S → Told → ℕ → Reply H) (foreign : S → Bool) (faulted : S → Told → ℕ → S) where
   -- the reading is what is told, and then what the end tells
@@ -166,7 +166,6 @@ built-unless (InCdata text) h = tt
 built-unless (InDoctype place doctype) h = tt
 built-unless (InDoctypeKeyword held doctype) h = tt
 built-unless (InReference stand held) h = tt
-built-unless NotBuilt h = h refl
 
 -- what is open behind a reference
 pub built-reference : (written_as : WrittenReference) → IsBuilt (open_behind_reference written_as)

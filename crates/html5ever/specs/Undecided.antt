@@ -9,7 +9,6 @@ use Rattle.html5grammar.specs.EndOfInput.{late_at_end_of, open_at_end_of}
 use Rattle.html5grammar.specs.Reading.Here.{Tells}
 use Rattle.html5grammar.specs.Start.{Open, Rules, is_undecided_open}
 use Rattle.html5grammar.specs.Start.Open.{InDeclaration, InDoctypeKeyword, InReference}
-use Rattle.html5parts.specs.Steps.{IsBuilt}
 
 -- a reference is not decided
 abbrev pub is_reference : Open → Bool
@@ -37,13 +36,11 @@ holds_keyword_in other held = false
 pub record BelongsTo (rules : Rules) (foreign : Bool) (opened : Open) (c : ℕ) (later : Open) : Type 0 where
   pub here : (brought_at rules foreign opened c).here ≡ Tells [] later
   pub good : is_bad_character c ≡ false
-  pub built : IsBuilt later
 
 -- it decides, and is then read as what is open behind that says
 pub record Decides (rules : Rules) (foreign : Bool) (opened : Open) (c : ℕ) (later : Open) : Type 0 where
   pub here : (brought_at rules foreign opened c).here ≡ step_at rules.exact later c
   pub decided : is_undecided_open later ≡ false
-  pub built : IsBuilt later
 
 -- it belongs to a keyword, and settles nothing
 pub record GoesOn (foreign : Bool) (opened : Open) (c : ℕ) (later : Open) : Type 0 where

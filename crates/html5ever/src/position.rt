@@ -18,13 +18,13 @@ ghost use Rattle.html5parts.specs.CharRef.{HasStand, stand_of, found_at, begun_r
 ghost use Rattle.html5ever.specs.Undecided.{BelongsTo, Decides, is_reference, is_keyword_open};
 ghost use Rattle.html5grammar.specs.Start.Mode.{Data, Plain, RawText};
 ghost use Rattle.html5grammar.specs.Start.Open.{Between};
-ghost use Rattle.html5parts.specs.CurrentTag.{is_between, stops_at_bad, opened_of, last_name_of};
+ghost use Rattle.html5parts.specs.CurrentTag.{is_between, opened_of, last_name_of};
 ghost use Rattle.html5ever.specs.Feed.{reply_in, first_pause};
 ghost use Rattle.html5ever.specs.Refused.{IsRun};
 ghost use Rattle.html5parts.specs.Runs.{IsRunAt, other_run_ends, run_ends, opened_after_run};
 ghost use Rattle.std.specs.Str.{IsUtf8, chars};
 ghost use Rattle.html5grammar.proofs.Machine.{step_at, brought_at, messages_here, opened_here, last_here};
-ghost use Rattle.html5parts.specs.Steps.{IsBuilt, Leads, Ends, tokens_of, behind};
+ghost use Rattle.html5parts.specs.Steps.{Leads, Ends, tokens_of, behind};
 ghost use Rattle.html5states.specs.Telling.{Tells, IsRefusal, tokens_in, faults_of};
 ghost use Rattle.html5ever.specs.Tokenizer.{CanStart};
 
@@ -80,7 +80,6 @@ impl<A: Allocator + Copy> Position<A> {
     pub fn new(alloc: A, opts: TokenizerOpts<A>) -> Position<A>
         requires { CanStart opts.initial_state }
         ensures start { result ≡ start_of (options_of opts) }
-        ensures built { IsBuilt result.opened }
     {
         let opened = Opened {
             state: opts.initial_state.unwrap_or(State::Data),
@@ -122,10 +121,8 @@ impl<A: Allocator + Copy> Position<A> {
         sink: &mut S,
         rules: &Rules<'_, A>,
     ) -> Result<(), TokenizerError>
-        requires { IsBuilt self.old.opened }
         ensures tells { Tells S.step S.faulted result (S.state sink.old)
             (on_line self.old.input.line (tokens_at_end rules.now self.old.opened)) (S.state sink.new) }
-        ensures built { IsBuilt self.new.opened }
         ensures faults { S.faults sink.new ≡ S.faults sink.old + faults_of result }
         ensures refusal { IfErr result IsRefusal }
         ensures fits { self.old.input.line < 2 ^ 64 }
@@ -143,12 +140,10 @@ impl<A: Allocator + Copy> Position<A> {
         rules: &Rules<'_, A>,
         line: u64,
     ) -> Result<(), TokenizerError>
-        requires { IsBuilt self.old.opened }
         ensures tells { Tells S.step S.faulted result (S.state sink.old)
             (on_line line (tokens_of_late (late_at_end_of rules.now self.old.opened))) (S.state sink.new) }
         ensures opened { OnOk result (self.new.opened ≡ open_at_end_of rules.now self.old.opened) }
         ensures decided { OnOk result (is_undecided_open self.new.opened ≡ false) }
-        ensures built { IsBuilt self.new.opened }
         ensures faults { S.faults sink.new ≡ S.faults sink.old + faults_of result }
         ensures refusal { IfErr result IsRefusal }
     {
@@ -215,7 +210,7 @@ impl<A: Allocator + Copy> Position<A> {
     // Begins a reference where the state is.
     fn begin_reference(&mut self)
         requires decided { is_undecided_open self.old.opened ≡ false }
-        requires can_stand { IsBuilt (begun_reference self.old.opened) }
+        requires can_stand { HasStand self.old.opened }
         ensures opened { self.new.opened ≡ begun_reference self.old.opened }
         ensures last { self.new.last_start_tag ≡ self.old.last_start_tag }
         ensures input { self.new.input ≡ self.old.input }
@@ -320,38 +315,6 @@ fn keep_name<A: Allocator>(last_name: &mut String<A>, tag: &Tag<A>) -> Result<()
             last_name.push_str(&tag.name.0)
         }
     }
-}
-
-// Whether a bad character begins in the state what is not built yet.
-fn stops_at_bad(state: State) -> bool
-    ensures { result ≡ stops_at_bad state }
-{
-    match state {
-        State::Data | State::Plaintext | State::TagOpen | State::EndTagOpen => false,
-        State::TagName | State::BeforeAttributeName | State::AttributeName => false,
-        State::AfterAttributeName | State::BeforeAttributeValue => false,
-        State::AttributeValue(_) => false,
-        State::AfterAttributeValueQuoted | State::SelfClosingStartTag => false,
-        State::RawData(_) | State::RawLessThanSign(_) => false,
-        State::RawEndTagOpen(_) | State::RawEndTagName(_) => false,
-        State::ScriptDataEscapeStart(_) | State::ScriptDataEscapeStartDash => false,
-        State::ScriptDataEscapedDash(_) | State::ScriptDataEscapedDashDash(_) => false,
-        State::ScriptDataDoubleEscapeEnd | State::Comment | State::BogusComment => false,
-        State::MarkupDeclarationOpen | State::Doctype | State::BeforeDoctypeName => false,
-        State::DoctypeName | State::AfterDoctypeName | State::AfterDoctypeKeyword(_) => false,
-        State::BeforeDoctypeIdentifier(_) | State::DoctypeIdentifierDoubleQuoted(_) => false,
-        State::DoctypeIdentifierSingleQuoted(_) | State::AfterDoctypeIdentifier(_) => false,
-        State::BetweenDoctypePublicAndSystemIdentifiers | State::BogusDoctype => false,
-        State::CdataSection => false,
-        _ => true,
-    }
-}
-
-// Whether the character is a bad one that begins what is not built yet: then it is not reported.
-fn stops_at(exact_errors: bool, state: State, c: char) -> bool
-    ensures { result ≡ (exact_errors && is_bad_character c && stops_at_bad state) }
-{
-    exact_errors && is_bad(c) && stops_at_bad(state)
 }
 
 // Reports a bad character, with exact errors.
@@ -460,7 +423,7 @@ fn read_opened<S: TokenSink<Token<A>>, A: Allocator + Copy>(
     requires { is_undecided_open position.old.opened ≡ false }
     ensures tells { Tells S.step S.faulted result (S.state sink.old)
         (messages_here S.step S.reply rules.now position.old.input.line c (step_at rules.now.exact position.old.opened c)) (S.state sink.new) }
-    ensures leads { IsBuilt position.old.opened → Leads result position.new.opened
+    ensures leads { Leads result position.new.opened
         (opened_here S.step S.reply rules.now (S.state sink.old) position.old.input.line position.old.last_start_tag c (step_at rules.now.exact position.old.opened c)) }
     ensures last { OnOk result (position.new.last_start_tag
         ≡ last_here position.old.last_start_tag (step_at rules.now.exact position.old.opened c)) }
@@ -472,9 +435,6 @@ fn read_opened<S: TokenSink<Token<A>>, A: Allocator + Copy>(
     ensures faults { S.faults sink.new ≡ S.faults sink.old + faults_of result }
 {
     let line = position.input.line();
-    if stops_at(rules.exact_errors, position.opened.state, c) {
-        return Err(TokenizerError::NotYet);
-    }
     report_bad_character(alloc, sink, rules.exact_errors, c, line)?;
     match step(
         alloc,
@@ -504,7 +464,6 @@ fn tell_end<S: TokenSink<Token<A>>, A: Allocator + Copy>(
     opened: &Opened<A>,
     line: u64,
 ) -> Result<(), TokenizerError>
-    requires built { IsBuilt (opened_of opened.now) }
     requires decided { is_undecided_open (opened_of opened.now) ≡ false }
     ensures tells { Tells S.step S.faulted result (S.state sink.old)
         (on_line line (told_at_end_of rules.now.exact (opened_of opened.now))) (S.state sink.new) }
@@ -649,7 +608,7 @@ pub fn read_character<S: TokenSink<Token<A>>, A: Allocator + Copy>(
 ) -> Result<TokenizerResult<S::Handle, String<A>>, TokenizerError>
     ensures tells { Tells S.step S.faulted result (S.state sink.old)
         (messages (told S.step S.reply S.foreign rules.now position.old (S.state sink.old) (c ∷ []))) (S.state sink.new) }
-    ensures leads { IsBuilt position.old.opened → Leads result position.new.opened
+    ensures leads { Leads result position.new.opened
         (after S.step S.reply S.foreign rules.now position.old (S.state sink.old) (c ∷ [])).opened }
     ensures last { OnOk result (position.new.last_start_tag
         ≡ (after S.step S.reply S.foreign rules.now position.old (S.state sink.old) (c ∷ [])).last_start_tag) }

@@ -3,12 +3,10 @@ ghost use Rattle.std.specs.Prelude.{◌≡◌, ◌^◌, ◌+◌, ◌<◌, ◌≤
 ghost use Rattle.std.specs.Str.{IsUtf8, chars};
 ghost use Rattle.html5grammar.specs.Reading.{told, messages, after};
 ghost use Rattle.html5grammar.specs.Start.{is_clean, held_len};
-ghost use Rattle.html5grammar.specs.Start.Open.{NotBuilt};
 ghost use Rattle.html5ever.specs.Feed.{IsEndOf, reply_in, feed};
 ghost use Rattle.html5ever.specs.Refused.{IsRun, RefusedBehind};
 ghost use Rattle.html5ever.specs.Runs.{ReadsRun};
-ghost use Rattle.html5parts.specs.Steps.{IsBuilt};
-ghost use Rattle.html5states.specs.Telling.{Tells, IsNotFailed, IsRefusal, faults_of};
+ghost use Rattle.html5states.specs.Telling.{Tells, IsRefusal, faults_of};
 
 use crate::position::{Position, read_character};
 use crate::rules::Rules;
@@ -57,12 +55,10 @@ fn read_waiting_run<S: TokenSink<Token<A>>, A: Allocator + Copy>(
     position: &mut Position<A>,
     queue: &mut BufferQueue<A>,
 ) -> Result<(), TokenizerError>
-    requires { IsBuilt position.old.opened }
     ensures reads { ReadsRun S.step S.reply S.foreign S.faulted rules.now result position.old position.new
         queue.old queue.new (S.state sink.old) (S.state sink.new) }
     ensures refusal { IfErr result IsRefusal }
     ensures faults { S.faults sink.new ≡ S.faults sink.old + faults_of result }
-    ensures built { OnOk result (IsBuilt position.new.opened) }
     ensures held { held_len position.new.opened + length queue.new.text
         ≤ held_len position.old.opened + length queue.old.text }
     ensures empty { queue.old.text ≡ [] → IsOk result }
@@ -87,22 +83,17 @@ pub fn read_queue<S: TokenSink<Token<A>>, A: Allocator + Copy>(
     position: &mut Position<A>,
     queue: &mut BufferQueue<A>,
 ) -> Result<TokenizerResult<S::Handle, String<A>>, TokenizerError>
-    requires { IsBuilt position.old.opened }
     ensures tells { Tells S.step S.faulted result (S.state sink.old)
         (messages (told S.step S.reply S.foreign rules.now position.old (S.state sink.old)
         (feed S.step S.reply S.foreign rules.now position.old (S.state sink.old) [] queue.old.text).taken)) (S.state sink.new) }
     ensures moves { OnOk result
         (position.new ≡ after S.step S.reply S.foreign rules.now position.old (S.state sink.old)
         (feed S.step S.reply S.foreign rules.now position.old (S.state sink.old) [] queue.old.text).taken) }
-    ensures built { OnOk result (IsBuilt position.new.opened) }
     ensures answer { IfOk result (λ answer. reply_in string_bytes answer
         ≡ (feed S.step S.reply S.foreign rules.now position.old (S.state sink.old) [] queue.old.text).answer) }
     ensures left { OnOk result
         (queue.new.text ≡ (feed S.step S.reply S.foreign rules.now position.old (S.state sink.old) [] queue.old.text).left) }
-    ensures not_yet { result ≡ Err TokenizerError.NotYet
-        → (after S.step S.reply S.foreign rules.now position.old (S.state sink.old)
-        (feed S.step S.reply S.foreign rules.now position.old (S.state sink.old) [] queue.old.text).taken).opened ≡ NotBuilt }
-    ensures not_failed { IfErr result IsNotFailed }
+    ensures refusal { IfErr result IsRefusal }
     ensures refused { IfErr result (λ error. RefusedBehind S.step S.reply S.foreign S.faulted rules.now error
         position.old (S.state sink.old) [] queue.old.text queue.new.text (S.state sink.new)) }
     ensures end_of_queue { IsEndOf queue.new.text queue.old.text }
