@@ -15,7 +15,7 @@ use Rattle.html5grammar.specs.Start.Open.{Between, LessThan, LessThanSolidus, In
 use Rattle.html5parts.specs.CharRef.{HasStand, begun_reference, stand_of, with_reference}
 use Rattle.html5parts.specs.CurrentTag.{open_of, behind_doctype_name}
 use Rattle.html5parts.specs.Runs.{IsRunAt}
-use Rattle.html5parts.specs.Steps.{IsBuilt}
+
 use Rattle.html5parts.specs.declared.opened.Opened.{Opened}
 use Rattle.html5ever.specs.Undecided.{is_reference, is_keyword_open, holds_keyword_in}
 

@@ -13,7 +13,6 @@ use Rattle.html5grammar.specs.Start.{Open, Rules, is_undecided_open, held_len}
 use Rattle.html5grammar.specs.Start.Open.{Between, LessThan, LessThanSolidus, InTag, InRaw, InDeclaration, InComment, InBogusComment, InDoctype, InDoctypeKeyword, InCdata, InReference}
 use Rattle.html5parts.proofs.Keywords.{keyword-good, doctype_keyword-good}
 use Rattle.html5parts.specs.CharRef.{with_reference}
-use Rattle.html5parts.specs.Steps.{IsBuilt}
 use Rattle.html5ever.specs.Undecided.{GoesOn, EndsKeyword, asks, is_keyword_open}
 use Rattle.html5ever.proofs.Decided.{is_decided, keyword-out, with_reference-false}
 
@@ -21,14 +20,13 @@ use Rattle.html5ever.proofs.Decided.{is_decided, keyword-out, with_reference-fal
 
 pub declaration-goes_on : (foreign : Bool) (held : List ℕ) (c : ℕ) (later : Open)
     → ((exact : Bool) → declaration_step exact foreign held c ≡ record { settled = []; here = Tells [] later })
-    → IsBuilt later → GoesOn foreign (InDeclaration held) c later
+    → GoesOn foreign (InDeclaration held) c later
 unfolding brought_at
-declaration-goes_on foreign held c later step built = record {
+declaration-goes_on foreign held c later step = record {
   settled = λ rules. ap (λ (b : Brought Open). b.settled) (step rules.exact);
   belongs = λ rules. record {
     here = ap (λ (b : Brought Open). b.here) (step rules.exact);
     good = keyword-good rules.exact foreign held c later (step rules.exact);
-    built = built;
   };
 }
 
@@ -41,7 +39,6 @@ declaration-ends foreign held c step = record {
   decides = λ rules. record {
     here = ap (λ (b : Brought Open). b.here) (step rules.exact);
     decided = refl;
-    built = tt;
   };
 }
 
@@ -49,15 +46,14 @@ declaration-ends foreign held c step = record {
 
 pub doctype_keyword-goes_on : (foreign : Bool) (held : List ℕ) (d : DoctypeOf) (c : ℕ) (later : Open) → held ≢ []
     → ((exact : Bool) → doctype_keyword_step exact held d c ≡ record { settled = []; here = Tells [] later })
-    → IsBuilt later → GoesOn foreign (InDoctypeKeyword held d) c later
+    → GoesOn foreign (InDoctypeKeyword held d) c later
 unfolding brought_at
-doctype_keyword-goes_on foreign [] d c later holds step built = absurd (holds refl)
-doctype_keyword-goes_on foreign (first ∷ held) d c later holds step built = record {
+doctype_keyword-goes_on foreign [] d c later holds step = absurd (holds refl)
+doctype_keyword-goes_on foreign (first ∷ held) d c later holds step = record {
   settled = λ rules. ap (λ (b : Brought Open). b.settled) (step rules.exact);
   belongs = λ rules. record {
     here = ap (λ (b : Brought Open). b.here) (step rules.exact);
     good = doctype_keyword-good rules.exact first held d c later (step rules.exact);
-    built = built;
   };
 }
 
@@ -70,7 +66,6 @@ doctype_keyword-ends foreign held d c step = record {
   decides = λ rules. record {
     here = ap (λ (b : Brought Open). b.here) (step rules.exact);
     decided = refl;
-    built = tt;
   };
 }
 
@@ -101,7 +96,6 @@ goes_on-asked foreign opened c later goes = record {
   belongs = λ rules. record {
     here = ap (λ (b : Brought Open). b.here) (sym (brought-asked rules foreign opened c)) ∙ (goes.belongs rules).here;
     good = (goes.belongs rules).good;
-    built = (goes.belongs rules).built;
   };
 }
 
@@ -111,26 +105,22 @@ ends-asked foreign opened c ends = record {
   decides = λ rules. record {
     here = ap (λ (b : Brought Open). b.here) (sym (brought-asked rules foreign opened c)) ∙ (ends.decides rules).here;
     decided = (ends.decides rules).decided;
-    built = (ends.decides rules).built;
   };
 }
 
 -- ---- the end of input
 
 keyword-end : (rules : Rules) (opened : Open) → is_keyword_open opened ≡ true
-    → (is_undecided_open (open_at_end_of rules opened) ≡ false) × IsBuilt (open_at_end_of rules opened)
+    → is_undecided_open (open_at_end_of rules opened) ≡ false
 unfolding open_at_end_of
-keyword-end rules (InDeclaration held) keyword = (refl, tt)
-keyword-end rules (InDoctypeKeyword held d) keyword = (refl, tt)
+keyword-end rules (InDeclaration held) keyword = refl
+keyword-end rules (InDoctypeKeyword held d) keyword = refl
 keyword-end rules other keyword = absurd (false≢true keyword)
 
 -- where the later is what is open behind no keyword
 module _ (rules : Rules) (opened later : Open) (keyword : is_keyword_open opened ≡ true) (is : later ≡ open_at_end_of rules opened) where
   pub end-decided : is_undecided_open later ≡ false
-  end-decided = ap is_undecided_open is ∙ (keyword-end rules opened keyword).0
-
-  pub end-built : IsBuilt later
-  end-built = subst IsBuilt (sym is) (keyword-end rules opened keyword).1
+  end-decided = ap is_undecided_open is ∙ keyword-end rules opened keyword
 
   pub end-holds : held_len later ≡ 0
   end-holds = (is_decided later end-decided).nothing_held

@@ -27,7 +27,7 @@ use Rattle.std.specs.Prelude.{OnOk, IsNone}
 use Rattle.html5ever.proofs.Pauses.{told_beyond-behind, state_behind-append, pause_here, feed-goes_on, feed-takes, feed-pauses}
 use Rattle.html5parts.specs.declared.error.TokenizerError.{TokenizerError}
 use Rattle.html5parts.specs.declared.error.TokenizerError.TheVariants.{Memory, Sink, Failed}
-use Rattle.html5grammar.proofs.ReadingLemmas.{state_behind, told-nil, told-append, after-nil, after-append, told-not_built, after-not_built}
+use Rattle.html5grammar.proofs.ReadingLemmas.{state_behind, told-nil, told-append, after-nil, after-append}
 use Rattle.html5ever_interface.proofs.Steppings.{stepped-append}
 use Rattle.html5parts.proofs.Keywords.{cons≢nil}
 use Rattle.html5states.proofs.Tellings.{Memory-at_once, stops_before, stops_after}
@@ -79,12 +79,6 @@ run_tokens-open (InReference stand held) run not_clean = refl
 pub on_ok : {T E : Type 0} {P : Type 0} (r : Result T E) → P → OnOk r P
 on_ok (Ok x) p = p
 on_ok (Err e) p = tt
-
-pub memory≢not_yet : Memory ≡ NotYet → ⊥
-memory≢not_yet e = cc
-
-sink≢not_yet : Sink ≡ NotYet → ⊥
-sink≢not_yet e = cc
 
 -- two texts that are empty together are empty apart
 pub nil-from_append : {X : Type 0} → (xs ys : List X) → xs ++ ys ≡ [] → (xs ≡ []) × (ys ≡ [])
@@ -297,30 +291,14 @@ module _ {S H : Type 0} (step : S → Told → ℕ → S) (reply : S → Told �
         (stops_after step faulted e s t u (told_of K s read.front) _ read.state
         (stops_before step faulted e t u (told_of L t item) _ refusal stops))
 
-    -- nothing is told behind what isn't built yet, so all that the feed tells was told
-    HasRead-not_built : (K L : Start) (old mid new : TextQueue) (s t u : S) (item : List ℕ)
-        → HasRead K L old mid s t → Takes mid new item → IsTaken L t item new.text
-        → u ≡ stepped step t (told_of L t item) → (after step reply foreign rules L t item).opened ≡ NotBuilt
-        → Stops step faulted NotYet s (told_of K s (fed K s old.text).taken) u
-    HasRead-not_built K L old mid new s t u item read taken is_taken told_now stopped =
-        let whole : told_of K s (fed K s old.text).taken ≡ told_of K s read.front ++ told_of L t item =
-        told-parts K L old mid new s t item read taken is_taken
-        ∙ ap (λ M. told_of K s read.front ++ (told_of L t item ++ M)) (told-not_built step reply foreign rules (after step reply foreign rules L t item) (state_behind step reply foreign rules L t item) is_taken.more stopped)
-        ∙ ap (λ M. told_of K s read.front ++ M) (append-nil (told_of L t item)) in
-        told_now ∙ ap (λ v. stepped step v (told_of L t item)) read.state
-        ∙ sym (stepped-append step s (told_of K s read.front) (told_of L t item))
-        ∙ ap (stepped step s) (sym whole)
-
     -- a refusal at an item is one within all that the feed tells
-    pub HasRead-refused : (e : TokenizerError) (K L : Start) (now : Open) (old mid new : TextQueue) (s t u : S) (item : List ℕ)
+    pub HasRead-refused : (e : TokenizerError) (K L : Start) (old mid new : TextQueue) (s t u : S) (item : List ℕ)
         → HasRead K L old mid s t → Takes mid new item → IsTaken L t item new.text
         → Stops step faulted e t (messages (told step reply foreign rules L t item)) u
-        → Leads {T = Unit {0}} (Err e) now (after step reply foreign rules L t item).opened
         → Stops step faulted e s (messages (told step reply foreign rules K s (feed step reply foreign rules K s [] old.text).taken)) u
-    HasRead-refused Memory K L now old mid new s t u item read taken is_taken stops leads = HasRead-stops Memory K L old mid new s t u item read taken is_taken tt stops
-    HasRead-refused Sink K L now old mid new s t u item read taken is_taken stops leads = HasRead-stops Sink K L old mid new s t u item read taken is_taken tt stops
-    HasRead-refused Failed K L now old mid new s t u item read taken is_taken stops leads = stops
-    HasRead-refused NotYet K L now old mid new s t u item read taken is_taken stops leads = HasRead-not_built K L old mid new s t u item read taken is_taken stops leads
+    HasRead-refused Memory K L old mid new s t u item read taken is_taken stops = HasRead-stops Memory K L old mid new s t u item read taken is_taken tt stops
+    HasRead-refused Sink K L old mid new s t u item read taken is_taken stops = HasRead-stops Sink K L old mid new s t u item read taken is_taken tt stops
+    HasRead-refused Failed K L old mid new s t u item read taken is_taken stops = stops
 
     -- what is left where an item was refused
     pub HasRead-leaves : (e : TokenizerError) (K L : Start) (old mid new : TextQueue) (s t u : S) (item : List ℕ)
@@ -334,22 +312,6 @@ module _ {S H : Type 0} (step : S → Told → ℕ → S) (reply : S → Told �
       is_item = subst (λ P. IsItem rules P item) read.position is_item;
       stopped = rw (told_beyond-behind step reply foreign rules K s read.front item, ← read.state, ← read.position) stops;
     }
-
-  not_built-rest : (K L : Start) (old mid new : TextQueue) (s t : S) (item : List ℕ)
-      → HasRead K L old mid s t → Takes mid new item → IsTaken L t item new.text → (after step reply foreign rules L t item).opened ≡ NotBuilt
-      → (after step reply foreign rules K s (fed K s old.text).taken).opened ≡ NotBuilt
-  not_built-rest K L old mid new s t item read taken is_taken stopped =
-      ap (λ (P : Start). P.opened) (after-parts K L old mid new s t item read taken is_taken)
-      ∙ after-not_built step reply foreign rules (after step reply foreign rules L t item) (state_behind step reply foreign rules L t item) is_taken.more stopped
-
-  pub HasRead-met : (e : TokenizerError) (K L : Start) (now : Open) (old mid new : TextQueue) (s t : S) (item : List ℕ)
-      → e ≡ NotYet → HasRead K L old mid s t → Takes mid new item → IsTaken L t item new.text
-      → Leads {T = Unit {0}} (Err e) now (after step reply foreign rules L t item).opened
-      → (after step reply foreign rules K s (feed step reply foreign rules K s [] old.text).taken).opened ≡ NotBuilt
-  HasRead-met Memory K L now old mid new s t item same read taken is_taken leads = absurd (memory≢not_yet same)
-  HasRead-met Sink K L now old mid new s t item same read taken is_taken leads = absurd (sink≢not_yet same)
-  HasRead-met Failed K L now old mid new s t item same read taken is_taken leads = absurd leads
-  HasRead-met NotYet K L now old mid new s t item same read taken is_taken leads = not_built-rest K L old mid new s t item read taken is_taken leads
 
   -- what is left behind an item is an end of the text
   pub end-behind : (K L : Start) (old mid new : TextQueue) (s t : S) (item : List ℕ) → HasRead K L old mid s t → Takes mid new item → IsEndOf new.text old.text

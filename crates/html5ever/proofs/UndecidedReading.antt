@@ -29,7 +29,7 @@ use Rattle.html5grammar.specs.Start.{Stand, Start, Open, Rules, is_undecided_ope
 use Rattle.html5grammar.specs.Start.Open.{Between, LessThan, LessThanSolidus, InTag, InRaw, InDeclaration, InComment, InBogusComment, InDoctype, InDoctypeKeyword, InCdata, InReference}
 use Rattle.html5grammar.specs.Start.Stand.{InText, InAttribute}
 use Rattle.html5parts.specs.CharRef.{stand_of, with_reference}
-use Rattle.html5parts.specs.Steps.{IsBuilt, Leads}
+use Rattle.html5parts.specs.Steps.{Leads}
 use Rattle.html5parts.specs.declared.error.TokenizerError.TheVariants.{Memory, Sink, Failed}
 use Rattle.std.proofs.lemmas.Result.{err_from_is_err_and}
 use Rattle.html5ever.specs.Undecided.{BelongsTo, Decides}
@@ -40,10 +40,6 @@ answer-is b d e = cc
 opened_in-decided : (stand : Stand) (characters : List ℕ) → is_undecided_open (opened_in stand characters) ≡ false
 opened_in-decided (InText mode) characters = refl
 opened_in-decided (InAttribute kind tag) characters = refl
-
-pub opened_in-built : (stand : Stand) (characters : List ℕ) → IsBuilt (opened_in stand characters)
-opened_in-built (InText mode) characters = tt
-opened_in-built (InAttribute kind tag) characters = tt
 
 -- the semicolon of a number is no bad character
 ends-good : (held : List ℕ) (c : ℕ) → ends_number held c ≡ true → is_bad_character c ≡ false
@@ -91,7 +87,6 @@ module _ (rules : Rules) (foreign is_in : Bool) (held : List ℕ) (opened : Open
   belongs-held h good = record {
     here = ap (λ (b : Brought Open). b.here) (brought-held h) ∙ rw inside refl;
     good = good;
-    built = rw inside tt;
   }
 
   -- the character decides, and is the semicolon of a number or is read on
@@ -100,7 +95,6 @@ module _ (rules : Rules) (foreign is_in : Bool) (held : List ℕ) (opened : Open
   belongs-end later h ends is = record {
     here = ap (λ (b : Brought Open). b.here) (brought-decided h) ∙ rw (ends, is) refl;
     good = ends-good held c ends;
-    built = subst IsBuilt (sym is) (opened_in-built stand _);
   }
 
   pub decides : (later : Open) → is_undecided rules.names (held ++ c ∷ []) ≡ false → ends_number held c ≡ false → later ≡ behind
@@ -108,7 +102,6 @@ module _ (rules : Rules) (foreign is_in : Bool) (held : List ℕ) (opened : Open
   decides later h ends is = record {
     here = ap (λ (b : Brought Open). b.here) (brought-decided h) ∙ rw (ends, is) refl;
     decided = ap is_undecided_open is ∙ opened_in-decided stand _;
-    built = subst IsBuilt (sym is) (opened_in-built stand _);
   }
 
   -- how much is held
@@ -239,7 +232,6 @@ module _ {S H : Type 0} (step : S → Told → ℕ → S) (reply : S → Told �
   leads-late r Memory later h refusal = let p = err_from_is_err_and r h in rw (p.1, p.2) tt
   leads-late r Sink later h refusal = let p = err_from_is_err_and r h in rw (p.1, p.2) tt
   leads-late r Failed later h refusal = absurd refusal
-  leads-late r NotYet later h refusal = absurd refusal
 
   pub tells-decides : {T : Type 0} (faulted : S → Told → ℕ → S) (r : Result T TokenizerError) (t u : S) (later : Open) → Decides rules (foreign s) K.opened d later
       → t ≡ stepped step s (on_line K.input.line settled)

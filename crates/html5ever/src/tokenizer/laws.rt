@@ -115,8 +115,6 @@ pub fn tag<A: Allocator + Copy>(
         }) }
     ensures no_fault { IfOk result (λ sink. sink.faults ≡ 0) }
     ensures refusal { IfErr result IsRefusal }
-    ensures refusals { IfErr result (λ error. (tag : WrittenTag) →
-        IsTag (start_of (options_of opts)) (chars (string_bytes text)) tag → IsRefusal error) }
 {
     collect(alloc, opts, foreign, names, text)
 }
@@ -141,8 +139,6 @@ pub fn reference<A: Allocator + Copy>(
         }) }
     ensures no_fault { IfOk result (λ sink. sink.faults ≡ 0) }
     ensures refusal { IfErr result IsRefusal }
-    ensures refusals { IfErr result (λ error. (reference : WrittenReference) →
-        IsReference names.now (start_of (options_of opts)) (chars (string_bytes text)) reference → IsRefusal error) }
 {
     names.is_checked();
     collect(alloc, opts, foreign, names, text)
@@ -166,8 +162,6 @@ pub fn raw<A: Allocator + Copy>(
         (raw_messages opts.exact_errors (start_of (options_of opts)).input raw written))) }
     ensures no_fault { IfOk result (λ sink. sink.faults ≡ 0) }
     ensures refusal { IfErr result IsRefusal }
-    ensures refusals { IfErr result (λ error. (raw : Raw) (name : List ℕ) (written : WrittenRaw) →
-        IsRawText (start_of (options_of opts)) (chars (string_bytes text)) raw name written → IsRefusal error) }
 {
     collect(alloc, opts, foreign, names, text)
 }
@@ -192,8 +186,6 @@ pub fn comment<A: Allocator + Copy>(
         }) }
     ensures no_fault { IfOk result (λ sink. sink.faults ≡ 0) }
     ensures refusal { IfErr result IsRefusal }
-    ensures refusals { IfErr result (λ error. (comment : WrittenComment) →
-        IsComment (start_of (options_of opts)) foreign (chars (string_bytes text)) comment → IsRefusal error) }
 {
     collect(alloc, opts, foreign, names, text)
 }
@@ -218,8 +210,6 @@ pub fn doctype<A: Allocator + Copy>(
         }) }
     ensures no_fault { IfOk result (λ sink. sink.faults ≡ 0) }
     ensures refusal { IfErr result IsRefusal }
-    ensures refusals { IfErr result (λ error. (doctype : WrittenDoctype) →
-        IsDoctype (start_of (options_of opts)) (chars (string_bytes text)) doctype → IsRefusal error) }
 {
     collect(alloc, opts, foreign, names, text)
 }
@@ -244,8 +234,6 @@ pub fn cdata<A: Allocator + Copy>(
         }) }
     ensures no_fault { IfOk result (λ sink. sink.faults ≡ 0) }
     ensures refusal { IfErr result IsRefusal }
-    ensures refusals { IfErr result (λ error. (cdata : WrittenCdata) →
-        IsCdata (start_of (options_of opts)) foreign (chars (string_bytes text)) cdata → IsRefusal error) }
 {
     collect(alloc, opts, foreign, names, text)
 }

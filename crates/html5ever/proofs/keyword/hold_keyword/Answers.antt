@@ -7,7 +7,7 @@ use Rattle.html5ever.proofs.keyword.hold_keyword.Goals as goal
 pub returns-in-MarkupDeclarationOpen-clause-taken : goal.returns-in-MarkupDeclarationOpen-clause-taken
 returns-in-MarkupDeclarationOpen-clause-taken g c = λ yes.
     rw c.in-MarkupDeclarationOpen.is
-    (declaration-goes_on c.args.foreign (string_bytes c.args.opened.now.comment) c.args.c _ (c.hold_declaration.ensures.taken yes) (rw yes at c.hold_declaration.ensures.built))
+    (declaration-goes_on c.args.foreign (string_bytes c.args.opened.now.comment) c.args.c _ (c.hold_declaration.ensures.taken yes))
 
 pub returns-in-MarkupDeclarationOpen-clause-decided : goal.returns-in-MarkupDeclarationOpen-clause-decided
 returns-in-MarkupDeclarationOpen-clause-decided g c = λ no.
@@ -24,7 +24,7 @@ returns-in_default-clause-taken g c = λ yes.
     let holds = doctype_keyword-open c.args.opened.now.state c.args.opened.now c.requires c.in_default.not-MarkupDeclarationOpen in
     rw holds.opened
     (doctype_keyword-goes_on c.args.foreign (string_bytes c.args.opened.now.comment) (doctype_of c.args.opened.now.doctype) c.args.c _ holds.holds
-    (c.hold_doctype_keyword.ensures.taken yes) (rw yes at c.hold_doctype_keyword.ensures.built))
+    (c.hold_doctype_keyword.ensures.taken yes))
 
 pub returns-in_default-clause-decided : goal.returns-in_default-clause-decided
 returns-in_default-clause-decided g c = λ no.

@@ -18,7 +18,7 @@ returns-in_default-clause-tells g c =
 pub returns-in_default-clause-leads : goal.returns-in_default-clause-leads
 returns-in_default-clause-leads g c =
     let K : Start = record { opened = with_reference c.position.inside.in_reference c.position.inside.held (opened_of c.position.inside.opened); last_start_tag = last_name_of c.position.inside.opened; input = c.position.inside.input } in
-    rw (← c.position.view_is) (λ built. rw (ap (λ (P : Start). P.opened) (after-none g.S.TokenSink.step g.S.TokenSink.reply g.S.TokenSink.foreign c.args.rules.now K (g.S.TokenSink.state c.args.sink.now) c.args.c c.in_default.ensures.reads)) (refl, built))
+    rw (← c.position.view_is) (rw (ap (λ (P : Start). P.opened) (after-none g.S.TokenSink.step g.S.TokenSink.reply g.S.TokenSink.foreign c.args.rules.now K (g.S.TokenSink.state c.args.sink.now) c.args.c c.in_default.ensures.reads)) refl)
 
 pub returns-in_default-clause-answer : goal.returns-in_default-clause-answer
 returns-in_default-clause-answer g c =
@@ -37,7 +37,7 @@ pub returns-then-not-is_undecided-clause-leads : goal.returns-then-not-is_undeci
 returns-then-not-is_undecided-clause-leads g c =
     let K : Start = record { opened = with_reference c.position.inside.in_reference c.position.inside.held (opened_of c.position.inside.opened); last_start_tag = last_name_of c.position.inside.opened; input = c.position.inside.input } in
     let none = sym c.is_undecided.ensures ∙ c.if-not-is_undecided.true in
-    rw (← c.position.view_is) (λ built. rw (after-plain g.S.TokenSink.step g.S.TokenSink.reply g.S.TokenSink.foreign c.args.rules.now K (g.S.TokenSink.state c.args.sink.now) c.args.c c.in-Some.c c.in-Some.ensures.reads c.line-before.ensures.fits none) (rw c.in-Some.ensures.moves at c.read_opened.ensures.leads built))
+    rw (← c.position.view_is) (rw (after-plain g.S.TokenSink.step g.S.TokenSink.reply g.S.TokenSink.foreign c.args.rules.now K (g.S.TokenSink.state c.args.sink.now) c.args.c c.in-Some.c c.in-Some.ensures.reads c.line-before.ensures.fits none) (rw c.in-Some.ensures.moves at c.read_opened.ensures.leads))
 
 pub returns-then-not-is_undecided-clause-answer : goal.returns-then-not-is_undecided-clause-answer
 returns-then-not-is_undecided-clause-answer g c =
@@ -56,7 +56,7 @@ returns-in_err-read_undecided-clause-tells g c =
 pub returns-in_err-read_undecided-clause-leads : goal.returns-in_err-read_undecided-clause-leads
 returns-in_err-read_undecided-clause-leads g c =
     let K : Start = record { opened = with_reference c.position.inside.in_reference c.position.inside.held (opened_of c.position.inside.opened); last_start_tag = last_name_of c.position.inside.opened; input = c.position.inside.input } in
-    rw (← c.position.view_is) (λ built. leads-late g.S.TokenSink.step g.S.TokenSink.reply g.S.TokenSink.foreign c.args.rules.now K (g.S.TokenSink.state c.args.sink.now) c.args.c c.in-Some.c c.in-Some.ensures.reads c.line-before.ensures.fits _ _ _ c.from_residual.ensures.1 c.in_err-read_undecided.ensures.refusal)
+    rw (← c.position.view_is) (leads-late g.S.TokenSink.step g.S.TokenSink.reply g.S.TokenSink.foreign c.args.rules.now K (g.S.TokenSink.state c.args.sink.now) c.args.c c.in-Some.c c.in-Some.ensures.reads c.line-before.ensures.fits _ _ _ c.from_residual.ensures.1 c.in_err-read_undecided.ensures.refusal)
 
 pub returns-then-branch-clause-tells : goal.returns-then-branch-clause-tells
 returns-then-branch-clause-tells g c =
@@ -67,7 +67,7 @@ pub returns-then-branch-clause-leads : goal.returns-then-branch-clause-leads
 returns-then-branch-clause-leads g c =
     let K : Start = record { opened = with_reference c.position.inside.in_reference c.position.inside.held (opened_of c.position.inside.opened); last_start_tag = last_name_of c.position.inside.opened; input = c.position.inside.input } in
     let belongs = (c.in_ok-read_undecided.ensures.taken (ap Ok c.if-branch.true)) in
-    rw (← c.position.view_is) (λ built. rw (after-belongs g.S.TokenSink.step g.S.TokenSink.reply g.S.TokenSink.foreign c.args.rules.now K (g.S.TokenSink.state c.args.sink.now) c.args.c c.in-Some.c c.in-Some.ensures.reads c.line-before.ensures.fits _ belongs) (refl, belongs.built))
+    rw (← c.position.view_is) (rw (after-belongs g.S.TokenSink.step g.S.TokenSink.reply g.S.TokenSink.foreign c.args.rules.now K (g.S.TokenSink.state c.args.sink.now) c.args.c c.in-Some.c c.in-Some.ensures.reads c.line-before.ensures.fits _ belongs) refl)
 
 pub returns-then-branch-clause-answer : goal.returns-then-branch-clause-answer
 returns-then-branch-clause-answer g c =
@@ -86,7 +86,7 @@ pub returns-clause-leads : goal.returns-clause-leads
 returns-clause-leads g c =
     let K : Start = record { opened = with_reference c.position.inside.in_reference c.position.inside.held (opened_of c.position.inside.opened); last_start_tag = last_name_of c.position.inside.opened; input = c.position.inside.input } in
     let decides = (c.in_ok-read_undecided.ensures.decided (ap Ok c.if-branch.false)) in
-    rw (← c.position.view_is) (λ built. rw (after-decides g.S.TokenSink.step g.S.TokenSink.reply g.S.TokenSink.foreign c.args.rules.now K (g.S.TokenSink.state c.args.sink.now) c.args.c c.in-Some.c c.in-Some.ensures.reads c.line-before.ensures.fits _ decides, ← (rw c.line-before.ensures.line at c.in_ok-read_undecided.ensures.tells)) (rw (c.in_ok-read_undecided.ensures.input, c.in_ok-read_undecided.ensures.last, c.in-Some.ensures.moves) at c.read_opened-2.ensures.leads decides.built))
+    rw (← c.position.view_is) (rw (after-decides g.S.TokenSink.step g.S.TokenSink.reply g.S.TokenSink.foreign c.args.rules.now K (g.S.TokenSink.state c.args.sink.now) c.args.c c.in-Some.c c.in-Some.ensures.reads c.line-before.ensures.fits _ decides, ← (rw c.line-before.ensures.line at c.in_ok-read_undecided.ensures.tells)) (rw (c.in_ok-read_undecided.ensures.input, c.in_ok-read_undecided.ensures.last, c.in-Some.ensures.moves) at c.read_opened-2.ensures.leads))
 
 pub returns-clause-answer : goal.returns-clause-answer
 returns-clause-answer g c =

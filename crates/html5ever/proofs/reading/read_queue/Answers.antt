@@ -4,7 +4,7 @@ use Rattle.std.proofs.lemmas.Result.{err_from_is_err_and}
 use Rattle.std.specs.String.{string_bytes}
 use Rattle.html5ever.specs.Feed.{pauses}
 use Rattle.html5ever.proofs.Pauses.{reply_in-pauses}
-use Rattle.html5ever.proofs.QueueReading.{nil-from_append, none_other, HasRead-none, HasRead-run, HasRead-more, HasRead-stops, HasRead-refused, HasRead-met, HasRead-leaves, HasFed-all, HasFed-pause, character-taken, quiet-taken, end-behind, count-behind, not-empty, moved-behind, error_of, no_error}
+use Rattle.html5ever.proofs.QueueReading.{nil-from_append, none_other, HasRead-none, HasRead-run, HasRead-more, HasRead-stops, HasRead-refused, HasRead-leaves, HasFed-all, HasFed-pause, character-taken, quiet-taken, end-behind, count-behind, not-empty, moved-behind, error_of, no_error}
 use Rattle.markup5ever.specs.BufferQueue.{TextQueue}
 use Rattle.html5ever.proofs.reading.read_queue.Goals as goal
 
@@ -66,14 +66,8 @@ returns-in_default-clause-end_of_queue g c =
 pub returns-in_err-pause-clause-tells : goal.returns-in_err-pause-clause-tells
 returns-in_err-pause-clause-tells g c =
     let p = err_from_is_err_and c.from_residual-in_err-pause.result c.from_residual-in_err-pause.ensures.1 in
-    rw (p.1, p.2) (HasRead-refused g.S.TokenSink.step g.S.TokenSink.reply g.S.TokenSink.foreign c.args.rules.now g.S.TokenSink.faulted _ _ _ _ _ _ _ _ _ _ (c.in-Some.c ∷ []) (HasRead-run g.S.TokenSink.step g.S.TokenSink.reply g.S.TokenSink.foreign c.args.rules.now g.S.TokenSink.faulted _ _ _ _ _ _ _ _ _ c.loop-queue.invariant.0 c.in_ok-read_waiting_run.ensures.reads) c.in-Some.ensures.some
-    (character-taken g.S.TokenSink.step g.S.TokenSink.reply g.S.TokenSink.foreign c.args.rules.now _ _ c.in-Some.c _) c.in_err-pause.ensures.tells (c.in_err-pause.ensures.leads c.in_ok-read_waiting_run.ensures.built))
-
-pub returns-in_err-pause-clause-not_yet : goal.returns-in_err-pause-clause-not_yet
-returns-in_err-pause-clause-not_yet g c = λ same.
-    HasRead-met g.S.TokenSink.step g.S.TokenSink.reply g.S.TokenSink.foreign c.args.rules.now _ _ _ _ _ _ _ _ _ (c.in-Some.c ∷ [])
-    (error_of c.from_residual-in_err-pause.result _ _ c.from_residual-in_err-pause.ensures.1 same)
-    (HasRead-run g.S.TokenSink.step g.S.TokenSink.reply g.S.TokenSink.foreign c.args.rules.now g.S.TokenSink.faulted _ _ _ _ _ _ _ _ _ c.loop-queue.invariant.0 c.in_ok-read_waiting_run.ensures.reads) c.in-Some.ensures.some (character-taken g.S.TokenSink.step g.S.TokenSink.reply g.S.TokenSink.foreign c.args.rules.now _ _ c.in-Some.c _) (c.in_err-pause.ensures.leads c.in_ok-read_waiting_run.ensures.built)
+    rw (p.1, p.2) (HasRead-refused g.S.TokenSink.step g.S.TokenSink.reply g.S.TokenSink.foreign c.args.rules.now g.S.TokenSink.faulted _ _ _ _ _ _ _ _ _ (c.in-Some.c ∷ []) (HasRead-run g.S.TokenSink.step g.S.TokenSink.reply g.S.TokenSink.foreign c.args.rules.now g.S.TokenSink.faulted _ _ _ _ _ _ _ _ _ c.loop-queue.invariant.0 c.in_ok-read_waiting_run.ensures.reads) c.in-Some.ensures.some
+    (character-taken g.S.TokenSink.step g.S.TokenSink.reply g.S.TokenSink.foreign c.args.rules.now _ _ c.in-Some.c _) c.in_err-pause.ensures.tells)
 
 pub returns-in_err-pause-clause-refused : goal.returns-in_err-pause-clause-refused
 returns-in_err-pause-clause-refused g c =
@@ -90,34 +84,31 @@ returns-in_err-pause-clause-empty g c = λ nothing. absurd (not-empty g.S.TokenS
 
 pub loop-queue-preserved : goal.loop-queue-preserved
 loop-queue-preserved g c =
-    let leads = c.in_ok-pause.ensures.leads c.in_ok-read_waiting_run.ensures.built in
+    let leads = c.in_ok-pause.ensures.leads in
     let quiet = rw c.in-Done.is at c.in_ok-pause.ensures.answer in (
       HasRead-more g.S.TokenSink.step g.S.TokenSink.reply g.S.TokenSink.foreign c.args.rules.now _ _ _ _ _ _ _ _ _ (c.in-Some.c ∷ []) (HasRead-run g.S.TokenSink.step g.S.TokenSink.reply g.S.TokenSink.foreign c.args.rules.now g.S.TokenSink.faulted _ _ _ _ _ _ _ _ _ c.loop-queue.invariant.0 c.in_ok-read_waiting_run.ensures.reads) c.in-Some.ensures.some c.in_ok-pause.ensures.tells
-          (moved-behind g.S.TokenSink.step g.S.TokenSink.reply g.S.TokenSink.foreign c.args.rules.now _ _ _ (c.in-Some.c ∷ []) leads.0 c.in_ok-pause.ensures.last c.read_character.ensures.input) (ap pauses (sym quiet)),
+          (moved-behind g.S.TokenSink.step g.S.TokenSink.reply g.S.TokenSink.foreign c.args.rules.now _ _ _ (c.in-Some.c ∷ []) leads c.in_ok-pause.ensures.last c.read_character.ensures.input) (ap pauses (sym quiet)),
       omega (arith, c.in_ok-pause.ensures.faults, c.in_ok-read_waiting_run.ensures.faults, c.loop-queue.invariant.1),
-      rw leads.0 leads.1,
-      omega (arith, ap length c.in-Some.ensures.some.text, c.read_character.ensures.held, c.in_ok-read_waiting_run.ensures.held, c.loop-queue.invariant.3),
+      omega (arith, ap length c.in-Some.ensures.some.text, c.read_character.ensures.held, c.in_ok-read_waiting_run.ensures.held, c.loop-queue.invariant.2),
     )
 
 pub returns-in_default-2 : goal.returns-in_default-2
 returns-in_default-2 g c =
-    let leads = c.in_ok-pause.ensures.leads c.in_ok-read_waiting_run.ensures.built in
+    let leads = c.in_ok-pause.ensures.leads in
     let read = HasRead-run g.S.TokenSink.step g.S.TokenSink.reply g.S.TokenSink.foreign c.args.rules.now g.S.TokenSink.faulted _ _ _ _ _ _ _ _ _ c.loop-queue.invariant.0 c.in_ok-read_waiting_run.ensures.reads in
     let fed = HasFed-pause g.S.TokenSink.step g.S.TokenSink.reply g.S.TokenSink.foreign c.args.rules.now _ _ _ _ _ _ _ _ _ c.in-Some.c _ read c.in-Some.ensures.some c.in_ok-pause.ensures.tells
-    (moved-behind g.S.TokenSink.step g.S.TokenSink.reply g.S.TokenSink.foreign c.args.rules.now _ _ _ (c.in-Some.c ∷ []) leads.0 c.in_ok-pause.ensures.last c.read_character.ensures.input) c.in_ok-pause.ensures.answer (reply_in-pauses string_bytes _ c.in_default-2.not-Done) in
+    (moved-behind g.S.TokenSink.step g.S.TokenSink.reply g.S.TokenSink.foreign c.args.rules.now _ _ _ (c.in-Some.c ∷ []) leads c.in_ok-pause.ensures.last c.read_character.ensures.input) c.in_ok-pause.ensures.answer (reply_in-pauses string_bytes _ c.in_default-2.not-Done) in
     record {
       tells = fed.told_all;
       moves = fed.position;
-      built = rw leads.0 leads.1;
       answer = fed.answers;
       left = fed.left;
-      not_yet = λ same. absurd (no_error _ _ refl same);
-      not_failed = tt;
+      refusal = tt;
       refused = tt;
       end_of_queue = end-behind g.S.TokenSink.step g.S.TokenSink.reply g.S.TokenSink.foreign c.args.rules.now _ _ _ _ _ _ _ (c.in-Some.c ∷ []) read c.in-Some.ensures.some;
       taken = count-behind g.S.TokenSink.step g.S.TokenSink.reply g.S.TokenSink.foreign c.args.rules.now _ _ _ _ _ _ _ (c.in-Some.c ∷ []) read c.in-Some.ensures.some;
       handed_in = c.in-Some.ensures.some.handed_in ∙ read.takes.handed_in;
-      held = omega (arith, ap length c.in-Some.ensures.some.text, c.read_character.ensures.held, c.in_ok-read_waiting_run.ensures.held, c.loop-queue.invariant.3);
+      held = omega (arith, ap length c.in-Some.ensures.some.text, c.read_character.ensures.held, c.in_ok-read_waiting_run.ensures.held, c.loop-queue.invariant.2);
       faults = omega (arith, c.in_ok-pause.ensures.faults, c.in_ok-read_waiting_run.ensures.faults, c.loop-queue.invariant.1);
       empty = λ nothing. refl;
     }

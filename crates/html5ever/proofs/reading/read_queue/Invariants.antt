@@ -1,6 +1,5 @@
 use Rattle.std.proofs.Common.{◌≡◌, ◌≤◌, ◌+◌, length}
 use Rattle.html5grammar.specs.Start.{held_len}
-use Rattle.html5parts.specs.Steps.{IsBuilt}
 use Rattle.html5ever.proofs.QueueReading.{HasRead}
 use Rattle.html5ever.proofs.reading.read_queue.Given as goal
 
@@ -9,7 +8,6 @@ invariant-loop-queue g l =
     HasRead g.S.TokenSink.step g.S.TokenSink.reply g.S.TokenSink.foreign l.rules l.initial.position l.position l.initial.queue l.queue
     (g.S.TokenSink.state l.initial.sink) (g.S.TokenSink.state l.sink)
     × (g.S.TokenSink.faults l.sink ≡ g.S.TokenSink.faults l.initial.sink)
-    × IsBuilt l.position.opened
     × (held_len l.position.opened + length l.queue.text ≤ held_len l.initial.position.opened + length l.initial.queue.text)
 
 abbrev pub decreases-loop-queue : goal.decreases-loop-queue

@@ -5,7 +5,7 @@ use Rattle.html5ever.specs.Undecided.{is_keyword_open}
 use Rattle.html5states.proofs.Tellings.{tells_stop}
 use Rattle.html5parts.specs.CurrentTag.{opened_of}
 use Rattle.html5ever.proofs.Decided.{with_reference-false, with_reference-out, state-keyword, state-undecided}
-use Rattle.html5ever.proofs.KeywordReading.{end-decided, end-built}
+use Rattle.html5ever.proofs.KeywordReading.{end-decided}
 use Rattle.html5ever.proofs.QueueReading.{on_ok}
 use Rattle.html5ever.proofs.UndecidedReading.{end-none, late-reference, end-reference}
 use Rattle.html5ever.proofs.position.Position.decide_at_end.Goals as goal
@@ -63,9 +63,3 @@ returns-clause-decided g c =
     let keyword : is_keyword_open (opened_of c.self.inside.opened) ≡ true = state-keyword c.self.inside.opened.state c.self.inside.opened ∙ sym c.holds_keyword.ensures ∙ c.if-not-holds_keyword.false in
     rw (with_reference-false c.self.inside.in_reference c.self.inside.held (opened_of c.finish_keyword.new.opened) c.if-self.false)
     (on_ok c.finish_keyword.result (end-decided c.args.rules.now (opened_of c.self.inside.opened) _ keyword c.finish_keyword.ensures.opened))
-
-pub returns-clause-built : goal.returns-clause-built
-returns-clause-built g c =
-    let keyword : is_keyword_open (opened_of c.self.inside.opened) ≡ true = state-keyword c.self.inside.opened.state c.self.inside.opened ∙ sym c.holds_keyword.ensures ∙ c.if-not-holds_keyword.false in
-    rw (with_reference-false c.self.inside.in_reference c.self.inside.held (opened_of c.finish_keyword.new.opened) c.if-self.false)
-    (end-built c.args.rules.now (opened_of c.self.inside.opened) _ keyword c.finish_keyword.ensures.opened)

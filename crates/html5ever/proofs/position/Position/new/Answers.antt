@@ -11,7 +11,3 @@ returns-clause-start g c =
     (opened ∙ ap (λ name. Between (initial_mode c.args.opts.initial_state name)) c.name_or_empty.ensures)
     (c.standing.ensures.last ∙ c.name_or_empty.ensures)
     (rw c.standing.ensures.input c.new-4.ensures.line) (rw c.standing.ensures.input c.new-4.ensures.no_carriage_return) (rw c.standing.ensures.input c.new-4.ensures.byte_order_mark)
-
-pub returns-clause-built : goal.returns-clause-built
-returns-clause-built g c =
-    rw (c.standing.ensures.opened ∙ starts-in c.args.opts.initial_state _ c.unwrap_or.ensures c.new-2.ensures.bytes c.requires) tt
