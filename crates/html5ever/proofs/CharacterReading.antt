@@ -1,7 +1,5 @@
 -- Reading one character: what the machine tells of it, with the error of a bad character in front.
-use Rattle.std.proofs.Common.{◌≡◌, ℕ, Bool, true, false, List, [], ◌∷◌, ◌++◌, refl, ap, sym, ◌∙◌, Result, Err}
-use Rattle.std.specs.Prelude.{◌&&◌}
-use Rattle.std.proofs.lemmas.Bool.{and_parts, false≢true}
+use Rattle.std.proofs.Common.{◌≡◌, ℕ, false, List, [], ◌∷◌, ◌++◌, refl, ap, sym, ◌∙◌, Result, Err}
 use Rattle.std.proofs.lemmas.List.{append-nil, append_assoc, map-append}
 use Rattle.html5ever_interface.specs.Sink.{Message, stepped, on_line}
 use Rattle.html5ever_interface.specs.Token.{Told, TagOf, Reply}
@@ -10,24 +8,18 @@ use Rattle.html5ever_interface.specs.declared.states.ScriptEscapeKind.TheVariant
 use Rattle.html5ever_interface.specs.declared.states.State.{State}
 use Rattle.html5ever_interface.specs.declared.states.State.TheVariants as state
 use Rattle.html5grammar.specs.Cdata.{open_cdata}
-use Rattle.html5grammar.specs.Characters.{is_bad_character}
 use Rattle.html5grammar.specs.ErrorText.{bad_character_error}
 use Rattle.html5grammar.specs.Reading.{Here, last_behind, open_after_reply}
 use Rattle.html5grammar.specs.Reading.Here.{Tells, TellsTag}
-use Rattle.html5grammar.specs.Start.{Open, Rules, held_len, is_undecided_open, escaped, raw_of}
-use Rattle.html5grammar.specs.Start.Dashes.{OneDash, TwoDashes}
+use Rattle.html5grammar.specs.Start.{Open, Rules, held_len}
 use Rattle.html5grammar.specs.Start.Mode.{Data}
-use Rattle.html5grammar.specs.Start.RawPlace.{AfterLessThan, InEndName, AfterMark, AfterMarkAndDash, InSwitch}
 use Rattle.html5grammar.specs.Start.Open.{Between}
-use Rattle.html5grammar.specs.Start.Place.{InName, BeforeAttribute, InAttributeName, AfterAttributeName, BeforeValue, InValue, AfterQuotedValue, AfterSolidus}
 use Rattle.html5grammar.proofs.Holding.{HoldsAtMostOne}
 use Rattle.html5grammar.proofs.Machine.{step_at, messages_here, opened_here, last_here}
 use Rattle.html5ever_interface.proofs.Steppings.{stepped-append}
-use Rattle.html5ever_interface.specs.Token.{DoctypeOf, doctype_of}
-use Rattle.std.proofs.Common.{string_bytes, ◌≤◌, ◌≢◌, arith}
-use Rattle.html5grammar.specs.Start.DoctypePlace.{AfterWord, BeforeName, InDoctypeName, AfterName, AfterKeyword, BeforeIdentifier, InIdentifier, AfterIdentifier, BetweenIdentifiers, Skipped}
-use Rattle.html5grammar.specs.Start.Quotes.{DoubleQuotes, SingleQuotes}
-use Rattle.html5parts.specs.CurrentTag.{open_of, open_tag, behind_doctype_name, last_name_of, letters_of}
+use Rattle.html5ever_interface.specs.Token.{DoctypeOf}
+use Rattle.std.proofs.Common.{◌≤◌, ◌≢◌}
+use Rattle.html5parts.specs.CurrentTag.{open_of, behind_doctype_name, last_name_of}
 use Rattle.html5parts.specs.Steps.{tokens_of, Next, behind}
 use Rattle.html5parts.specs.Steps.Next.{Opens, Closes}
 use Rattle.html5parts.specs.declared.opened.Opened.{Opened}
@@ -37,7 +29,7 @@ use Rattle.html5ever.specs.Feed.{first_pause}
 use Rattle.html5parts.specs.Steps.{Leads, Ends}
 use Rattle.html5states.specs.Telling as telling
 use Rattle.html5ever.proofs.Pauses.{first_pause-none, first_pause-append, first_pause-no_tags, no_tag_messages}
-use Rattle.html5states.proofs.Tellings.{told_then, told_stop, tells_stop}
+use Rattle.html5states.proofs.Tellings.{told_then, told_stop}
 use Rattle.html5grammar.proofs.NoTags.{NoTags, NoTagsHere, no_tags-append, no_tags-bad, no_tags-step_at}
 use Rattle.html5ever_interface.specs.Token.{is_tag}
 use Rattle.html5ever_interface.specs.Token.Reply.{KeepOn}

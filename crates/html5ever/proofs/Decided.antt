@@ -8,14 +8,11 @@ use Rattle.html5ever_interface.specs.declared.states.State.{State}
 use Rattle.html5ever_interface.specs.declared.states.State.TheVariants as state
 use Rattle.html5grammar.specs.Cdata.{open_cdata}
 use Rattle.html5grammar.specs.Start.{Open, is_undecided_open, held_len}
-use Rattle.html5grammar.specs.Start.Mode.{Data, Plain, RawText}
-use Rattle.html5grammar.specs.Start.Place.{InValue}
-use Rattle.html5grammar.specs.Start.Raw.{Rcdata}
+use Rattle.html5grammar.specs.Start.Mode.{Data}
 use Rattle.html5grammar.specs.Start.Open.{Between, LessThan, LessThanSolidus, InTag, InRaw, InDeclaration, InComment, InBogusComment, InDoctype, InDoctypeKeyword, InCdata, InReference}
-use Rattle.html5parts.specs.CharRef.{HasStand, begun_reference, stand_of, with_reference}
+use Rattle.html5parts.specs.CharRef.{HasStand, begun_reference, with_reference}
 use Rattle.html5parts.specs.CurrentTag.{open_of, behind_doctype_name}
 use Rattle.html5parts.specs.Runs.{IsRunAt}
-
 use Rattle.html5parts.specs.declared.opened.Opened.{Opened}
 use Rattle.html5ever.specs.Undecided.{is_reference, is_keyword_open, holds_keyword_in}
 

@@ -1,5 +1,5 @@
 -- A character behind what may begin a keyword.
-use Rattle.std.proofs.Common.{◌≡◌, ◌≢◌, ℕ, Bool, true, false, ◌&&◌, List, [], ◌∷◌, ◌++◌, refl, ap, sym, ◌∙◌, subst}
+use Rattle.std.proofs.Common.{◌≡◌, ◌≢◌, ℕ, Bool, true, false, ◌&&◌, List, [], ◌∷◌, ◌++◌, refl, ap, sym, ◌∙◌}
 use Rattle.std.proofs.lemmas.Bool.{false≢true}
 use Rattle.html5ever_interface.specs.Token.{DoctypeOf}
 use Rattle.html5grammar.proofs.Machine.{step_at, brought_at, declaration_step, bogus_comment_step, doctype_step, doctype_keyword_step, skipped_step}

@@ -8,7 +8,6 @@ use Rattle.html5ever.specs.Runs.{ReadsRun}
 use Rattle.html5ever_interface.specs.Sink.{Message, stepped}
 use Rattle.html5grammar.specs.Start.{Start, Open, is_clean, Rules}
 use Rattle.html5grammar.specs.Start.Open.{Between, LessThan, LessThanSolidus, InTag, InRaw, InDeclaration, InComment, InBogusComment, InDoctype, InDoctypeKeyword, InCdata, InReference}
-use Rattle.html5parts.specs.Steps.{Leads}
 use Rattle.html5states.specs.Telling.{Stops, IsRefusal}
 use Rattle.html5grammar.specs.NormalisedText.{input_after}
 use Rattle.std.specs.Result.{IsErrAnd}
@@ -28,7 +27,6 @@ use Rattle.html5ever.proofs.Pauses.{told_beyond-behind, state_behind-append, pau
 use Rattle.html5parts.specs.declared.error.TokenizerError.{TokenizerError}
 use Rattle.html5parts.specs.declared.error.TokenizerError.TheVariants.{Memory, Sink, Failed}
 use Rattle.html5grammar.proofs.ReadingLemmas.{state_behind, told-nil, told-append, after-nil, after-append}
-use Rattle.html5ever_interface.proofs.Steppings.{stepped-append}
 use Rattle.html5parts.proofs.Keywords.{cons≢nil}
 use Rattle.html5states.proofs.Tellings.{Memory-at_once, stops_before, stops_after}
 

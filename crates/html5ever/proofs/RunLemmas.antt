@@ -18,7 +18,7 @@ use Rattle.html5ever_interface.specs.Token.Told.{Text}
 use Rattle.html5grammar.specs.Characters.{null, line_feed, carriage_return}
 use Rattle.html5grammar.specs.NormalisedText.{with_line_feeds, without_dropped_first, normalised, line_after, input_after, ends_with_carriage_return}
 use Rattle.html5grammar.specs.Reading.{told, messages, after}
-use Rattle.html5grammar.specs.Start.{Input, Start, Open, Rules}
+use Rattle.html5grammar.specs.Start.{Input, Start, Open, Rules, is_undecided_open}
 use Rattle.html5grammar.specs.Start.Open.{Between, LessThan, LessThanSolidus, InTag, InRaw, InDeclaration, InComment, InBogusComment, InDoctype, InDoctypeKeyword, InCdata, InReference}
 use Rattle.html5grammar.proofs.InputLemmas.{line_past, line_after-none}
 use Rattle.html5grammar.proofs.NoTags.{NoTags}
@@ -160,6 +160,13 @@ trace_is : {M N : List Message} {o p : Open} {last : List ℕ} → M ≡ N → o
     → ◌≡◌ {A = Trace} (record { messages = M; opened = o; last_start_tag = last }) (record { messages = N; opened = p; last_start_tag = last })
 trace_is e f = rw (e, f) refl
 
+-- nothing is undecided where runs are read
+run-decided : (opened : Open) (others : List ℕ) → other_run_ends opened ≡ Some others → is_undecided_open opened ≡ false
+run-decided (InReference stand held) others has = cc
+run-decided (InDeclaration held) others has = cc
+run-decided (InDoctypeKeyword held d) others has = cc
+run-decided opened others has = refl
+
 module _ {S H : Type 0} (step : S → Told → ℕ → S) (reply : S → Told → ℕ → Reply H) (foreign : S → Bool) where
   trace-run : (rules : Rules) → rules.exact ≡ false → (s : S) (line : ℕ) (last : List ℕ) (opened : Open) (others run : List ℕ) → line < 2 ^ 64 → other_run_ends opened ≡ Some others
       → All (λ c. ¬ Contains (run_ends others) c) run
@@ -171,7 +178,7 @@ module _ {S H : Type 0} (step : S → Told → ℕ → S) (reply : S → Told �
       let M : List Message = on_line line (run_tokens opened (c ∷ [])) in
       let later : Open = opened_after_run opened (c ∷ []) in
       let here : step_at rules.exact opened c ≡ Tells (run_tokens opened (c ∷ [])) later = ap (λ b. step_at b opened c) not_exact ∙ step-run opened others c has out in
-      rw (brought-tells rules (foreign s) opened c (Tells (run_tokens opened (c ∷ [])) later) refl here, line_past-ordinary line c (ordinary others c out) h, not_exact)
+      rw (brought-tells rules (foreign s) opened c (Tells (run_tokens opened (c ∷ [])) later) (run-decided opened others has) here, line_past-ordinary line c (ordinary others c out) h, not_exact)
       (ap (with_messages M) (trace-run rules not_exact (stepped step s M) line last later others run h (other_run_ends-after opened others c has out ∙ has) (All-tail (λ d. ¬ Contains (run_ends others) d) c run all))
       ∙ trace_is (sym (map-append (λ (token : Told). record { token = token; line = line }) (run_tokens opened (c ∷ [])) (run_tokens later run)) ∙ ap (on_line line) (sym (run_tokens-cons opened c run)))
       (sym (opened_after_run-cons opened c run)))

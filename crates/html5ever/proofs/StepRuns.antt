@@ -1,12 +1,11 @@
 -- A run by steps: what was taken so far, and what that gives at the end or where it is refused.
 use Rattle.std.proofs.Common.{Bool, ◌≡◌, ℕ, false, List, [], ◌∷◌, ◌++◌, refl, ap, sym, ◌∙◌, subst, length, arith}
 use Rattle.std.specs.List.{concat}
-use Rattle.std.specs.Prelude.{map, Result, Err, IfErr}
+use Rattle.std.specs.Prelude.{map}
 use Rattle.std.proofs.lemmas.List.{append-nil, append_assoc}
 use Rattle.html5ever_interface.specs.Sink.{stepped}
 use Rattle.html5ever_interface.specs.Token.{Told, Reply}
-use Rattle.html5grammar.proofs.ReadingLemmas.{after-append}
-use Rattle.html5grammar.specs.Reading.{reading, messages, after}
+use Rattle.html5grammar.specs.Reading.{reading, messages}
 use Rattle.html5grammar.specs.Start.{Start, Rules}
 use Rattle.html5ever.specs.Feed.{Feed, feed, told_beyond, IsEndOf}
 use Rattle.html5ever.specs.RunSteps.StepOf.{AtBack}

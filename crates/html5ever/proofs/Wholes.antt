@@ -1,19 +1,16 @@
 -- A whole text: what feeding it and ending leave.
-use Rattle.std.proofs.Common.{Bool, ◌≡◌, inl, inr, ℕ, List, [], ◌++◌, refl, ap, sym, ◌∙◌, length, drop, subst}
+use Rattle.std.proofs.Common.{Bool, ◌≡◌, inl, inr, ℕ, List, [], ◌++◌, refl, ap, sym, ◌∙◌, length, drop}
 use Rattle.std.proofs.lemmas.List.{append-nil, append_assoc}
-use Rattle.std.proofs.Common.{Result, Ok, Err, true, false}
-use Rattle.std.specs.Prelude.{IfOk, IfErr, ◌≢◌}
+use Rattle.std.proofs.Common.{Result, Ok, Err}
+use Rattle.std.specs.Prelude.{IfOk}
 use Rattle.html5ever_interface.proofs.Steppings.{stepped-append}
 use Rattle.html5ever_interface.specs.Collected.{Collected}
 use Rattle.html5ever_interface.specs.Sink.{Message, stepped}
 use Rattle.html5ever_interface.specs.Token.{Told, Reply}
-use Rattle.html5grammar.specs.Reading.{Event, end_events, read, reading, told, messages, after, late_events}
+use Rattle.html5grammar.specs.Reading.{Event, end_events, read, reading, told, messages}
 use Rattle.html5grammar.specs.NormalisedText.{normalised}
-use Rattle.html5grammar.specs.OneReference.{WrittenReference}
-use Rattle.html5grammar.specs.OneReference.WrittenReference.{Ampersand, Number, Named}
-use Rattle.html5grammar.specs.Start.{Start, Open, Rules}
-use Rattle.html5grammar.proofs.OneReferenceReading.{open_behind_reference}
-use Rattle.html5grammar.proofs.ReadingLemmas.{told-nil, told-append, after-append, reading-events}
+use Rattle.html5grammar.specs.Start.{Start, Rules}
+use Rattle.html5grammar.proofs.ReadingLemmas.{told-nil, reading-events}
 use Rattle.html5ever.proofs.Draining.{told-beyond}
 use Rattle.html5grammar.proofs.Traces.{messages-append}
 use Rattle.html5ever.specs.Feed.{told_beyond, told_at_end}
@@ -25,8 +22,6 @@ use Rattle.markup5ever.specs.BufferQueue.{TextQueue, Gains}
 use Rattle.html5states.proofs.Tellings.{stops_before, stops_after}
 use Rattle.std.proofs.Math.Seq.{drop-append_seam}
 use Rattle.std.proofs.lemmas.List.{length-map}
-use Rattle.html5grammar.specs.EndOfInput.{told_at_end_of, late_at_end_of, open_at_end_of}
-use Rattle.html5grammar.specs.Start.Open.{Between, LessThan, LessThanSolidus, InTag, InRaw, InDeclaration, InComment, InBogusComment, InDoctype, InDoctypeKeyword, InCdata, InReference}
 
 module _ {X S H : Type 0} (state : X → S) (step : S → Told → ℕ → S) (reply : S → Told → ℕ → Reply H) (foreign : S → Bool) (faulted : S → Told → ℕ → S) where
   -- the reading is what is told, and then what the end tells

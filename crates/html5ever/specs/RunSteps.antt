@@ -4,7 +4,7 @@ use Rattle.std.specs.Str.{chars}
 use Rattle.std.specs.String.{string_bytes}
 use Rattle.html5ever_interface.specs.Sink.{stepped}
 use Rattle.html5ever_interface.specs.Token.{Told, Reply}
-use Rattle.html5grammar.specs.Reading.{reading, messages, after}
+use Rattle.html5grammar.specs.Reading.{reading, messages}
 use Rattle.html5grammar.specs.Start.{Start, Rules}
 use Rattle.html5ever.specs.Feed.{Feed, feed}
 use Rattle.html5ever.specs.Tokenizer.{Tokenizing, StandsAt, EndStops}

@@ -8,7 +8,7 @@ use Rattle.html5ever_interface.specs.Token.{Told, Reply}
 use Rattle.html5ever_interface.specs.declared.states.State.{State}
 use Rattle.html5ever_interface.specs.declared.states.State.TheVariants.{Data, Plaintext, RawData, CdataSection}
 use Rattle.html5grammar.specs.Reading.{reading, told, messages, after}
-use Rattle.html5grammar.specs.Start.{Start, Open, Rules, start_of}
+use Rattle.html5grammar.specs.Start.{Start, Rules, start_of}
 use Rattle.html5ever.specs.Feed.{told_beyond, told_at_end, feed}
 use Rattle.html5ever.specs.Refused.{RefusedBehind}
 use Rattle.html5states.specs.Telling.{Stops, StopsWithin, FaultsWithin}

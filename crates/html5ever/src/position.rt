@@ -350,6 +350,7 @@ fn step<S: TokenSink<Token<A>>, A: Allocator + Copy>(
     c: char,
     line: u64,
 ) -> Step
+    requires { is_undecided_open (opened_of opened.old) ≡ false }
     ensures tells { Tells S.step S.faulted result (S.state sink.old)
         (on_line line (tokens_of (step_at exact_errors (opened_of opened.old) c))) (S.state sink.new) }
     ensures leads { Ends result opened.new (behind (step_at exact_errors (opened_of opened.old) c)) }

@@ -64,7 +64,6 @@ impl<'t, Sink, A: Allocator> Model for Tokenizer<'t, Sink, A> {
       failed = t.failed;
       ended = t.ended;
     } };
-
 }
 
 impl<'t, Sink: TokenSink<Token<A>>, A: Allocator + Copy> Tokenizer<'t, Sink, A> {

@@ -1,6 +1,5 @@
-use Rattle.std.proofs.Common.{◌∙◌, refl, ap, sym, subst, arith}
+use Rattle.std.proofs.Common.{◌∙◌, ap, subst, arith}
 use Rattle.std.proofs.lemmas.Result.{IfOk-weaker, on_ok_weaker}
-use Rattle.html5ever_interface.specs.Sink.{stepped}
 use Rattle.html5parts.specs.CharRef.{begun_reference}
 use Rattle.html5parts.specs.Steps.{Leads}
 use Rattle.html5ever.proofs.CharacterReading.{held_len-behind, closes-open, data-any_tag, tells-ended, opened-ended, pause-ended, tells-going, opened-going, pause-going, tells-refused, leads-refused, tells-bad, last-ended, last-going}
@@ -23,7 +22,7 @@ returns-in_err-step-clause-tells g c =
 
 pub returns-in_err-step-clause-leads : goal.returns-in_err-step-clause-leads
 returns-in_err-step-clause-leads g c =
-    rw (← c.rules.view_is, ← c.position.view_is, with_reference-none _ _ _ (rw (← c.position.view_is) at c.requires) _, ← c.line-line.ensures.line)
+    rw (← c.rules.view_is, ← c.position.view_is, with_reference-none c.position.inside.in_reference c.position.inside.held (opened_of c.position.inside.opened) (rw (← c.position.view_is) at c.requires) (opened_of c.position.inside.opened), ← c.line-line.ensures.line)
     (leads-refused g.S.TokenSink.step g.S.TokenSink.reply (record { exact = c.rules.inside.exact_errors; names = c.rules.inside.names.now }) c.position.inside.opened.state c.position.inside.opened (g.S.TokenSink.state c.args.sink.now) c.line-line.result c.args.c g.row.A.Denot c.from_residual-in_err-step.result _ _ _
     c.from_residual-in_err-step.ensures.1 c.in_err-step.ensures.leads)
 
@@ -37,7 +36,7 @@ returns-in-EndsTag-clause-tells g c =
 
 pub returns-in-EndsTag-clause-leads : goal.returns-in-EndsTag-clause-leads
 returns-in-EndsTag-clause-leads g c =
-    rw (← c.rules.view_is, ← c.position.view_is, with_reference-none _ _ _ (rw (← c.position.view_is) at c.requires) _, ← c.line-line.ensures.line)
+    rw (← c.rules.view_is, ← c.position.view_is, with_reference-none c.position.inside.in_reference c.position.inside.held (opened_of c.position.inside.opened) (rw (← c.position.view_is) at c.requires) (opened_of c.position.inside.opened), ← c.line-line.ensures.line)
     (subst (λ o. Leads c.tell_tag.result c.tell_tag.new.position.opened o)
     (opened-ended g.S.TokenSink.step g.S.TokenSink.reply (record { exact = c.rules.inside.exact_errors; names = c.rules.inside.names.now }) c.position.inside.opened.state c.position.inside.opened (g.S.TokenSink.state c.args.sink.now) c.line-line.result c.args.c _ _ c.in_ok-report_bad_character.ensures.tells _ _ c.in_ok-step.ensures.tells (rw c.in-EndsTag.is at c.in_ok-step.ensures.leads.0))
     (rw (c.end-tag.ensures, c.in_ok-step.ensures.last) at c.tell_tag.ensures.leads))
@@ -56,7 +55,7 @@ returns-in-Continues-clause-tells g c =
 
 pub returns-in-Continues-clause-leads : goal.returns-in-Continues-clause-leads
 returns-in-Continues-clause-leads g c =
-    rw (← c.rules.view_is, ← c.position.view_is, with_reference-none _ _ _ (rw (← c.position.view_is) at c.requires) _, ← c.line-line.ensures.line)
+    rw (← c.rules.view_is, ← c.position.view_is, with_reference-none c.position.inside.in_reference c.position.inside.held (opened_of c.position.inside.opened) (rw (← c.position.view_is) at c.requires) (opened_of c.position.inside.opened), ← c.line-line.ensures.line)
     (let leads = rw c.in-Continues.is at c.in_ok-step.ensures.leads in
     let opened = opened-going g.S.TokenSink.step g.S.TokenSink.reply (record { exact = c.rules.inside.exact_errors; names = c.rules.inside.names.now }) c.position.inside.opened.state c.position.inside.opened (g.S.TokenSink.state c.args.sink.now) c.line-line.result c.args.c _ _ c.in_ok-report_bad_character.ensures.tells _ c.in_ok-step.ensures.tells leads.0 in
     with_reference-none _ _ _ (rw (← c.position.view_is) at c.requires) _ ∙ opened)
@@ -73,7 +72,7 @@ returns-in-BeginsReference-clause-tells g c =
 
 pub returns-in-BeginsReference-clause-leads : goal.returns-in-BeginsReference-clause-leads
 returns-in-BeginsReference-clause-leads g c =
-    rw (← c.rules.view_is, ← c.position.view_is, with_reference-none _ _ _ (rw (← c.position.view_is) at c.requires) _, ← c.line-line.ensures.line)
+    rw (← c.rules.view_is, ← c.position.view_is, with_reference-none c.position.inside.in_reference c.position.inside.held (opened_of c.position.inside.opened) (rw (← c.position.view_is) at c.requires) (opened_of c.position.inside.opened), ← c.line-line.ensures.line)
     (let leads = rw c.in-BeginsReference.is at c.in_ok-step.ensures.leads in
     let opened = opened-going g.S.TokenSink.step g.S.TokenSink.reply (record { exact = c.rules.inside.exact_errors; names = c.rules.inside.names.now }) c.position.inside.opened.state c.position.inside.opened (g.S.TokenSink.state c.args.sink.now) c.line-line.result c.args.c _ _ c.in_ok-report_bad_character.ensures.tells _ c.in_ok-step.ensures.tells leads.0 in
     c.begin_reference.ensures.opened ∙ ap begun_reference (with_reference-none _ _ _ (rw (← c.position.view_is) at c.requires) _) ∙ opened)
@@ -118,3 +117,6 @@ pub returns-in-BeginsReference-clause-last : goal.returns-in-BeginsReference-cla
 returns-in-BeginsReference-clause-last g c =
     rw (← c.rules.view_is, ← c.position.view_is, with_reference-none _ _ _ (rw (← c.position.view_is) at c.requires) _)
     (c.begin_reference.ensures.last ∙ c.in_ok-step.ensures.last ∙ last-going g.S.TokenSink.step g.S.TokenSink.reply (record { exact = c.rules.inside.exact_errors; names = c.rules.inside.names.now }) c.position.inside.opened.state c.position.inside.opened (g.S.TokenSink.state c.args.sink.now) c.line-line.result c.args.c _ (g.S.TokenSink.state c.step.new.sink) c.in_ok-report_bad_character.ensures.tells _ (rw c.in-BeginsReference.is at c.in_ok-step.ensures.leads.0))
+
+pub step-requires : goal.step-requires
+step-requires g c = beside-decided _ _ _ (rw (← c.position.view_is) at c.requires)

@@ -1,6 +1,6 @@
 use Rattle.std.proofs.Common.{◌≡◌, ◌≤◌, [], ◌∷◌, ◌++◌, ◌+◌, ◌∙◌, refl, ap, sym, subst, Ok}
 use Rattle.html5ever_interface.specs.Sink.{stepped}
-use Rattle.html5grammar.proofs.Going.{good_between}
+use Rattle.html5grammar.proofs.GoodCharacters.{good_between}
 use Rattle.html5states.proofs.Tellings.{tells_from_memory, tells_stop}
 use Rattle.html5parts.specs.CharRef.{with_reference}
 use Rattle.html5grammar.specs.Start.{held_len}

@@ -4,12 +4,12 @@ use Rattle.std.proofs.lemmas.Result.{err_from_is_err_and}
 use Rattle.std.specs.String.{string_bytes}
 use Rattle.html5ever.specs.Feed.{pauses}
 use Rattle.html5ever.proofs.Pauses.{reply_in-pauses}
-use Rattle.html5ever.proofs.QueueReading.{nil-from_append, none_other, HasRead-none, HasRead-run, HasRead-more, HasRead-stops, HasRead-refused, HasRead-leaves, HasFed-all, HasFed-pause, character-taken, quiet-taken, end-behind, count-behind, not-empty, moved-behind, error_of, no_error}
+use Rattle.html5ever.proofs.QueueReading.{nil-from_append, none_other, HasRead-none, HasRead-run, HasRead-more, HasRead-stops, HasRead-refused, HasRead-leaves, HasFed-all, HasFed-pause, character-taken, quiet-taken, end-behind, count-behind, not-empty, moved-behind}
 use Rattle.markup5ever.specs.BufferQueue.{TextQueue}
 use Rattle.html5ever.proofs.reading.read_queue.Goals as goal
 
 pub loop-queue-init : goal.loop-queue-init
-loop-queue-init g c = (HasRead-none g.S.TokenSink.step g.S.TokenSink.reply g.S.TokenSink.foreign c.args.rules.now c.args.position.now c.args.queue.now (g.S.TokenSink.state c.args.sink.now), refl, c.requires, omega arith)
+loop-queue-init g c = (HasRead-none g.S.TokenSink.step g.S.TokenSink.reply g.S.TokenSink.foreign c.args.rules.now c.args.position.now c.args.queue.now (g.S.TokenSink.state c.args.sink.now), refl, omega arith)
 
 -- a run that is refused
 

@@ -4,10 +4,12 @@ use Rattle.html5grammar.specs.Start.Open.{Between}
 use Rattle.html5ever.proofs.Standing.{starts-in, start-is}
 use Rattle.html5ever.proofs.position.Position.new.Goals as goal
 
-pub returns-clause-start : goal.returns-clause-start
-returns-clause-start g c =
+pub returns : goal.returns
+returns g c =
     let opened = c.standing.ensures.opened ∙ starts-in c.args.opts.initial_state _ c.unwrap_or.ensures c.new-2.ensures.bytes c.requires in
-    start-is _ _
-    (opened ∙ ap (λ name. Between (initial_mode c.args.opts.initial_state name)) c.name_or_empty.ensures)
-    (c.standing.ensures.last ∙ c.name_or_empty.ensures)
-    (rw c.standing.ensures.input c.new-4.ensures.line) (rw c.standing.ensures.input c.new-4.ensures.no_carriage_return) (rw c.standing.ensures.input c.new-4.ensures.byte_order_mark)
+    record {
+      start = start-is _ _
+          (opened ∙ ap (λ name. Between (initial_mode c.args.opts.initial_state name)) c.name_or_empty.ensures)
+          (c.standing.ensures.last ∙ c.name_or_empty.ensures)
+          (rw c.standing.ensures.input c.new-4.ensures.line) (rw c.standing.ensures.input c.new-4.ensures.no_carriage_return) (rw c.standing.ensures.input c.new-4.ensures.byte_order_mark);
+    }

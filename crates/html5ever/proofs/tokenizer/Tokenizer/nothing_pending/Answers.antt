@@ -1,4 +1,4 @@
-use Rattle.std.proofs.Common.{◌∙◌, ap, sym, subst}
+use Rattle.std.proofs.Common.{◌∙◌, ap, sym}
 use Rattle.html5ever.specs.Tokenizer.{Tokenizing}
 use Rattle.html5ever.proofs.Standing.{StandsAt-anew}
 use Rattle.html5ever.proofs.tokenizer.Tokenizer.nothing_pending.Goals as goal

@@ -1,12 +1,10 @@
 use Rattle.html5ever.specs.Tokenizer.{rules_of}
-use Rattle.std.proofs.Common.{◌∙◌, ap, refl, Err}
 use Rattle.std.specs.Str.{chars}
 use Rattle.std.specs.String.{string_bytes}
 use Rattle.html5ever_interface.specs.Collected.{collected_step, collected_reply, collected_foreign, collected_faulted}
 use Rattle.html5ever_interface.specs.Options.{options_of}
 use Rattle.html5grammar.specs.Reading.{reading, messages}
 use Rattle.html5grammar.specs.Start.{start_of}
-use Rattle.html5ever.proofs.QueueReading.{error_is}
 use Rattle.html5ever.proofs.Wholes.{whole-refusal}
 use Rattle.html5ever.proofs.tokenizer.laws.collect.Goals as goal
 

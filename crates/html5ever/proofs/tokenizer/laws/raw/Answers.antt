@@ -1,12 +1,11 @@
-use Rattle.std.proofs.Common.{ℕ, List, ap, ◌∙◌, refl}
+use Rattle.std.proofs.Common.{List, ap, ◌∙◌, refl}
 use Rattle.std.specs.Str.{chars}
 use Rattle.std.specs.String.{string_bytes}
-use Rattle.std.proofs.lemmas.Result.{IfOk-weaker, IfErr-weaker}
+use Rattle.std.proofs.lemmas.Result.{IfOk-weaker}
 use Rattle.html5ever_interface.specs.Collected.{Collecting, none_collected, collected_step, collected_reply, collected_foreign, collected_finish}
 use Rattle.html5ever_interface.specs.Options.{options_of}
 use Rattle.html5ever_interface.specs.Sink.{Message, stepped}
-use Rattle.html5grammar.specs.Start.{Raw, start_of}
-use Rattle.html5grammar.specs.WrittenRaw.{WrittenRaw, IsRawText}
+use Rattle.html5grammar.specs.Start.{start_of}
 use Rattle.html5grammar.proofs.WrittenRawReading.{reading-raw}
 use Rattle.html5ever.specs.Tokenizer.{rules_of}
 use Rattle.html5ever.proofs.tokenizer.laws.raw.Goals as goal

@@ -1,4 +1,4 @@
-use Rattle.std.proofs.Common.{ℕ, List, [], ap, sym, ◌∙◌, subst, Err}
+use Rattle.std.proofs.Common.{ℕ, List, [], sym, subst}
 use Rattle.html5grammar.specs.Reading.{reading, messages}
 use Rattle.html5ever.specs.Tokenizer.{StandsAt, EndStops}
 use Rattle.std.specs.Str.{chars}

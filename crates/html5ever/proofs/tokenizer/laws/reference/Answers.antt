@@ -1,8 +1,8 @@
 use Rattle.html5ever.specs.Tokenizer.{rules_of, collected_of}
-use Rattle.std.proofs.Common.{sym, subst, true}
+use Rattle.std.proofs.Common.{true}
 use Rattle.std.specs.Str.{chars}
 use Rattle.std.specs.String.{string_bytes}
-use Rattle.html5ever_interface.specs.Collected.{Collecting, none_collected, collected_step, collected_reply, collected_foreign}
+use Rattle.html5ever_interface.specs.Collected.{Collecting}
 use Rattle.html5ever_interface.specs.Options.{options_of}
 use Rattle.html5grammar.specs.Start.{start_of}
 use Rattle.html5grammar.specs.OneReference.{IsReference, reference_messages}

@@ -1,7 +1,6 @@
-use Rattle.std.proofs.Common.{refl, ◌∙◌, ap, sym, Ok, Err, arith}
+use Rattle.std.proofs.Common.{refl, ◌∙◌, ap, sym, Ok, arith}
 use Rattle.std.proofs.lemmas.Result.{err_from_is_err_and}
 use Rattle.html5ever.proofs.Draining.{HasDrained-none, HasDrained-more, HasDrained-all, HasDrained-end, HasDrained-stops, ok-not_failed}
-use Rattle.html5ever.proofs.QueueReading.{error_of}
 use Rattle.html5ever.proofs.tokenizer.steps.feed_until_done.Goals as goal
 
 pub loop-init : goal.loop-init

@@ -2,7 +2,7 @@ use Rattle.std.proofs.Common.{◌≡◌, [], subst, map}
 use Rattle.std.proofs.lemmas.Result.{on_ok_weaker, IfErr-weaker}
 use Rattle.html5ever_interface.specs.Options.{options_of}
 use Rattle.html5ever_interface.specs.Sink.{stepped}
-use Rattle.html5grammar.specs.Reading.{reading, messages, after}
+use Rattle.html5grammar.specs.Reading.{reading, messages}
 use Rattle.html5grammar.specs.Start.{start_of}
 use Rattle.html5ever.specs.RunSteps.{step_of, run_text}
 use Rattle.html5ever.specs.Tokenizer.{EndStops}

@@ -1,8 +1,7 @@
-use Rattle.std.proofs.Common.{refl, ◌∙◌, ap, sym, Err, arith, length}
+use Rattle.std.proofs.Common.{refl, ◌∙◌, ap, sym, arith, length}
 use Rattle.std.proofs.lemmas.Result.{err_from_is_err_and, on_ok_weaker, IfErr-weaker}
 use Rattle.html5ever.specs.RunSteps.{step_of}
 use Rattle.html5ever.proofs.StepRuns.{HasTaken-none, HasTaken-more, HasTaken-finishes, HasTaken-memory, HasTaken-stops, HasTaken-drain_stops, HasTaken-end_stops, nothing_left}
-use Rattle.html5ever.proofs.QueueReading.{error_of}
 use Rattle.html5ever.proofs.tokenizer.steps.take_steps.Goals as goal
 
 pub loop-step-init : goal.loop-step-init
