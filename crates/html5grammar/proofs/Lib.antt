@@ -4,6 +4,7 @@ pub mod InputLemmas
 pub mod Traces
 pub mod Cases
 pub mod ReadingLemmas
+pub mod Splitting
 pub mod Steps
 pub mod GoodCharacters
 pub mod NoTags

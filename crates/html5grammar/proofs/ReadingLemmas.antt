@@ -26,10 +26,10 @@ use Rattle.html5grammar.proofs.Machine.{brought_at, messages_here, opened_here, 
 use Rattle.html5grammar.proofs.InputLemmas.{line_past, lines_past, normalised-append, input_after-line_none, input_after-append, input_after-line_one}
 use Rattle.html5grammar.proofs.Traces.{Trace, Traces, with_messages, trace, trace_here, trace_brought, traces, messages-append, messages-map, messages-late}
 
-take_while-cons : {X : Type 0} → (p : X → Bool) (x : X) (xs : List X) → p x ≡ true → take_while p (x ∷ xs) ≡ x ∷ take_while p xs
+pub take_while-cons : {X : Type 0} → (p : X → Bool) (x : X) (xs : List X) → p x ≡ true → take_while p (x ∷ xs) ≡ x ∷ take_while p xs
 take_while-cons p x xs h = rw (h, one-add) refl
 
-take_while-map : {X E : Type 0} → (p : E → Bool) (f : X → E) → ((x : X) → p (f x) ≡ true) → (xs : List X) (ys : List E)
+pub take_while-map : {X E : Type 0} → (p : E → Bool) (f : X → E) → ((x : X) → p (f x) ≡ true) → (xs : List X) (ys : List E)
     → take_while p (map f xs ++ ys) ≡ map f xs ++ take_while p ys
 take_while-map p f h [] ys = refl
 take_while-map p f h (x ∷ xs) ys =
@@ -97,7 +97,7 @@ late_first : (I : Input) (Y : List ℕ) (back : ℕ) (tokens : List Told) (later
 unfolding late_events
 late_first I Y back tokens later E t ts e = rw e refl
 
-held_text-in_value : (kind : AttrValueKind) (tag : OpenTag) (held : List ℕ) → held_text (InAttribute kind tag) held ≡ []
+pub held_text-in_value : (kind : AttrValueKind) (tag : OpenTag) (held : List ℕ) → held_text (InAttribute kind tag) held ≡ []
 unfolding held_text
 held_text-in_value kind tag [] = refl
 held_text-in_value kind tag (c ∷ held) = held_text-in_value kind tag held

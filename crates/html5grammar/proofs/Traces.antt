@@ -103,7 +103,7 @@ brought-unasked rules foreign other held c h =
 
 -- what is open where a slice has no more
 
-rest_of-nil : (rules : Rules) (opened : Open) → open_behind (rest_of rules opened []).behind ≡ opened
+pub rest_of-nil : (rules : Rules) (opened : Open) → open_behind (rest_of rules opened []).behind ≡ opened
 unfolding rest_of tag_name behind_tag_name attribute_behind_first behind_attribute_name behind_name_and_space value_or_next value_behind_space value quoted_value behind_quoted unquoted_value behind_unquoted behind_less_than behind_solidus behind_raw_less_than end_name behind_end_name behind_mark behind_mark_and_dash switch behind_switch declaration cdata comment bogus_comment behind_bogus_comment doctype before_doctype_name behind_word_and_space doctype_name behind_doctype_name behind_doctype_name_and_space keyword_or_end doctype_keyword behind_keyword identifier_behind_space behind_keyword_and_space identifier behind_in_identifier between_identifiers behind_space_between skipped_rest behind_skipped_rest reference_text behind_held run_while behind_while run_of behind_run
 rest_of-nil rules (Between mode) = refl
 rest_of-nil rules LessThan = refl
@@ -141,7 +141,7 @@ rest_of-nil rules (InCdata held) = refl
 rest_of-nil rules (InReference stand held) = ap (InReference stand) (append-nil held)
 
 -- behind a tag a new slice begins
-rest_of-reply : {H : Type 0} → (rules : Rules) (last : List ℕ) (r : Reply H) (text : List ℕ) → cut_off (open_after_reply last r) ≡ rest_of rules (open_after_reply last r) text
+pub rest_of-reply : {H : Type 0} → (rules : Rules) (last : List ℕ) (r : Reply H) (text : List ℕ) → cut_off (open_after_reply last r) ≡ rest_of rules (open_after_reply last r) text
 unfolding rest_of
 rest_of-reply rules last KeepOn text = refl
 rest_of-reply rules last ReadPlainText text = refl

@@ -1,5 +1,5 @@
 -- The reading of a text: its events, which of them its characters decide, and the start behind it.
-use Rattle.std.specs.Prelude.{ℕ, suc, ◌-◌, Bool, true, false, List, [], ◌∷◌, ◌++◌, length, map, take_while, if◌then◌else◌}
+use Rattle.std.specs.Prelude.{ℕ, suc, leb, ◌-◌, Bool, true, false, List, [], ◌∷◌, ◌++◌, length, map, take_while, if◌then◌else◌}
 use Rattle.html5ever_interface.specs.Sink.{Message, stepped, on_line}
 use Rattle.html5ever_interface.specs.Token.{Told, TagOf, Reply}
 use Rattle.html5ever_interface.specs.Token.Told.{Tag}
@@ -27,6 +27,12 @@ abbrev pub is_character : TextPlace → Bool
 is_character (Character k) = true
 is_character (BeforeCharacter k) = true
 is_character EndOfInput = false
+
+-- one of the first n characters
+abbrev pub is_among : ℕ → TextPlace → Bool
+is_among n (Character k) = leb (suc k) n
+is_among n (BeforeCharacter k) = leb (suc k) n
+is_among n EndOfInput = false
 
 -- a message, the place where it stands, and the place that decides it
 pub record Event : Type 0 where

@@ -2,15 +2,16 @@
 //! stand the laws that readers of a text in pieces rest on.
 #![tactic(auto)]
 
-ghost use Rattle.std.specs.Prelude.{◌≡◌, ◌≢◌, ℕ, Bool, List, [], ◌++◌, true, false, codes, None, Some, if◌then◌else◌};
+ghost use Rattle.std.specs.Prelude.{◌≡◌, ◌≢◌, ℕ, Bool, List, [], ◌++◌, length, take_while, true, false, codes, None, Some, if◌then◌else◌};
 ghost use Rattle.std.specs.List.{list_all};
 ghost use Rattle.std.specs.Str.{bytes_eq};
 ghost use Rattle.std.specs.Char.{is_ascii_alphanumeric};
 ghost use Rattle.std.specs.Option.{is_none};
 ghost use Rattle.html5ever_interface.specs.Sink.{Message, stepped};
-ghost use Rattle.html5grammar.specs.Reading.{told, messages, after};
+ghost use Rattle.html5grammar.specs.Reading.{reading, told, messages, after, is_among};
 ghost use Rattle.html5grammar.specs.Characters.{lower_case, number_sign};
 ghost use Rattle.html5grammar.specs.Doctype.{in_skipped_rest};
+ghost use Rattle.html5grammar.specs.NormalisedText.{normalised};
 ghost use Rattle.html5grammar.specs.OneCdata.{IsCdataText};
 ghost use Rattle.html5grammar.specs.OneComment.{occurs};
 ghost use Rattle.html5grammar.specs.OneDoctype.{IsDoctypeText};
@@ -43,6 +44,15 @@ pub fn beginning<S: TokenSink<Token<A>>, A: Allocator>()
     ensures { (rules : Rules) (K : Start) (s : S.State) (text rest : List ℕ) → (later : List Message)
         × (messages (told S.step S.reply S.foreign rules K s (text ++ rest))
         ≡ messages (told S.step S.reply S.foreign rules K s text) ++ later) }
+{}
+
+/// What is told of a text, however it goes on: the events of the reading of the whole before the first
+/// that a character behind the text decides, or the end.
+pub fn told_of_a_split<S: TokenSink<Token<A>>, A: Allocator>()
+    ensures { (rules : Rules) (K : Start) (s : S.State) (text more : List ℕ) →
+        told S.step S.reply S.foreign rules K s text
+        ≡ take_while (λ e. is_among (length (normalised K.input text)) e.decided_by)
+        (reading S.step S.reply S.foreign rules K s (text ++ more)) }
 {}
 
 /// Names behind an `&` that no `#` follows: the longest name that begins what is held when a reference
