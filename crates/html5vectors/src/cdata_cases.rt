@@ -169,7 +169,7 @@ const SECTIONS: [Case<'static>; 19] = [
         true,
         "error 1 \"Bad character\"\n\
          error 1 \"Bad character \\u{1}\"\n\
-         comment 1 \"[C\u{1}\"\n\
+         comment 1 \"[C\\u{1}\"\n\
          eof 1",
     ),
 ];
