@@ -7,6 +7,8 @@ pub mod ReadingLemmas
 pub mod Steps
 pub mod GoodCharacters
 pub mod NoTags
+pub mod NoTagsAtEnd
+pub mod LawfulBytes
 pub mod Holding
 pub mod OneTagSteps
 pub mod OneTagParts

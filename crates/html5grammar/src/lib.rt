@@ -8,7 +8,8 @@ ghost use Rattle.std.specs.Str.{bytes_eq};
 ghost use Rattle.std.specs.Char.{is_ascii_alphanumeric};
 ghost use Rattle.std.specs.Option.{is_none};
 ghost use Rattle.html5ever_interface.specs.Sink.{Message, stepped};
-ghost use Rattle.html5grammar.specs.Reading.{told, messages, after};
+ghost use Rattle.html5grammar.specs.Reading.{reading, told, messages, after};
+ghost use Rattle.html5grammar.specs.Lawful.{TellsNoTagBehind};
 ghost use Rattle.html5grammar.specs.Characters.{lower_case, number_sign};
 ghost use Rattle.html5grammar.specs.Doctype.{in_skipped_rest};
 ghost use Rattle.html5grammar.specs.OneCdata.{IsCdataText};
@@ -71,4 +72,10 @@ pub fn each_doctype()
 pub fn each_cdata()
     ensures { (has_opening is_ended : Bool) (text : List ℕ) → occurs (codes "]]>") text ≡ false
         → IsCdataText has_opening is_ended text }
+{}
+
+/// A tag that the end of input cuts off is never told: what the end decides and tells has no tag.
+pub fn tags_cut_off<S: TokenSink<Token<A>>, A: Allocator>()
+    ensures { (rules : Rules) (K : Start) (s : S.State) (text : List ℕ) →
+        TellsNoTagBehind (messages (told S.step S.reply S.foreign rules K s text)) (messages (reading S.step S.reply S.foreign rules K s text)) }
 {}
