@@ -9,6 +9,8 @@ pub mod GoodCharacters
 pub mod NoTags
 pub mod NoTagsAtEnd
 pub mod LawfulBytes
+pub mod LawfulReferences
+pub mod LawfulTags
 pub mod Holding
 pub mod OneTagSteps
 pub mod OneTagParts

@@ -38,7 +38,7 @@ abbrev pub IsLawfulDoctype : DoctypeOf → Type 0
 IsLawfulDoctype d = IfSome d.name (λ name. has_no_capital name ≡ true)
 
 -- the law of each kind of token
-unfoldable pub IsLawful : Told → Type 0
+abbrev pub IsLawful : Told → Type 0
 IsLawful (Text text) = has_no_null text ≡ true
 IsLawful (Tag tag) = IsLawfulTag tag
 IsLawful (Doctype d) = IsLawfulDoctype d
