@@ -11,6 +11,7 @@ pub mod NoTagsAtEnd
 pub mod LawfulBytes
 pub mod LawfulReferences
 pub mod LawfulTags
+pub mod LawfulSteps
 pub mod Holding
 pub mod OneTagSteps
 pub mod OneTagParts
