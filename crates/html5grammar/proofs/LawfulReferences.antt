@@ -1,21 +1,20 @@
 -- What a reference tells is lawful: by a table its characters are not NUL, and nor are those that are held.
-use Rattle.std.proofs.Common.{◌≡◌, ℕ, zero, suc, ◌-◌, Bool, true, false, not, ◌||◌, ◌&&◌, List, [], ◌∷◌, ◌++◌, refl, sym, ap, ◌∙◌, map, drop, length, Option, None, Some, arith}
-use Rattle.std.specs.Prelude.{◌==◌, encode_utf8, nat_eq,  All, IsTrue, IfSome, if◌then◌else◌}
+use Rattle.std.proofs.Common.{◌≡◌, ℕ, zero, suc, Bool, true, false, not, ◌||◌, ◌&&◌, List, [], ◌∷◌, ◌++◌, refl, sym, ◌∙◌, map, drop, length, Option, None, Some, arith}
+use Rattle.std.specs.Prelude.{◌==◌, nat_eq, All, IsTrue, IfSome, if◌then◌else◌}
 use Rattle.std.specs.Bool.{nat_lt}
 use Rattle.std.specs.Char.{is_ascii_alphanumeric, is_ascii_digit, is_ascii_hexdigit}
 use Rattle.std.specs.List.{list_all, starts_with}
 use Rattle.std.specs.Map.{lookup}
 use Rattle.std.specs.Option.{is_none, unwrap_or, option_map_or}
-use Rattle.std.proofs.lemmas.Bool.{and_parts, false≢true, false_from_ne_true}
+use Rattle.std.proofs.lemmas.Bool.{and_parts, false≢true}
 use Rattle.std.proofs.lemmas.Bool.Decides.{nat_tests}
 use Rattle.std.proofs.lemmas.List.Elements.{All-head, All-tail}
 use Rattle.html5ever_interface.specs.Token.{Told}
-use Rattle.html5ever_interface.specs.Token.Told.{Text}
 use Rattle.html5grammar.specs.Characters.{null, number_sign, ampersand, replacement_character, is_no_character}
 use Rattle.html5grammar.specs.ErrorText.{where_true}
 use Rattle.html5grammar.specs.Lawful.{has_no_null, IsLawful}
 use Rattle.html5grammar.specs.RawText.{texts}
-use Rattle.html5grammar.specs.Reference.{Found, in_value, reference, number_reference, named_reference, no_name, unended_number, has_digits, character_of_number, longest_name, longer, is_ended, goes_on, first_or, second_of, is_undecided, is_number, number_value, is_digit_of, is_x, text_in, told_of, characters_in, held_text, late_tokens, opened_behind}
+use Rattle.html5grammar.specs.Reference.{Found, in_value, reference, number_reference, named_reference, no_name, unended_number, has_digits, character_of_number, longest_name, longer, is_ended, goes_on, first_or, second_of, is_undecided, is_number, number_value, is_x, text_in, told_of, characters_in, held_text, late_tokens}
 use Rattle.html5grammar.specs.Slice.{Late, tokens_of_late}
 use Rattle.html5grammar.specs.Start.{Stand, Rules}
 use Rattle.html5grammar.specs.Start.Stand.{InText, InAttribute}

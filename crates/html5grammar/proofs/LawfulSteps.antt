@@ -1,7 +1,7 @@
 -- Each character tells lawful tokens where what is open is fit for them, and leaves such.
 use Rattle.std.proofs.Common.{◌≡◌, ℕ, Bool, true, false, List, [], ◌∷◌, ◌++◌, refl}
-use Rattle.std.specs.Prelude.{◌&&◌, ◌==◌, codes, encode_utf8, map, drop, length, Option, None, Some, if◌then◌else◌}
-use Rattle.html5ever_interface.specs.Token.{Told, DoctypeOf, is_tag}
+use Rattle.std.specs.Prelude.{◌&&◌, ◌==◌, encode_utf8, length, if◌then◌else◌}
+use Rattle.html5ever_interface.specs.Token.{Told, DoctypeOf}
 use Rattle.html5ever_interface.specs.Token.Told.{Text, Comment, Doctype}
 use Rattle.html5ever_interface.specs.declared.states.State.{State}
 use Rattle.html5ever_interface.specs.declared.states.State.TheVariants as state
@@ -13,15 +13,12 @@ use Rattle.html5ever_interface.specs.declared.states.ScriptEscapeKind.TheVariant
 use Rattle.html5ever_interface.specs.declared.states.AttrValueKind.{AttrValueKind}
 use Rattle.html5ever_interface.specs.declared.states.AttrValueKind.TheVariants.{Unquoted, SingleQuoted, DoubleQuoted}
 use Rattle.html5grammar.specs.Cdata.{piece_text, ends_cdata, told_at_end_of_cdata}
-use Rattle.html5grammar.specs.Characters.{null, number_sign, replacement_character, exclamation_mark, quotation_mark, ampersand, apostrophe, hyphen, solidus, less_than, equals_sign, greater_than, question_mark, is_letter, is_white_space, is_bad_character, lower_case}
-use Rattle.html5grammar.specs.ErrorText.{error_in, where_true, bad_character_error}
-use Rattle.html5grammar.specs.Reading.{Here, Brought}
-use Rattle.html5grammar.specs.Reference.{Found, in_value, reference, number_reference, named_reference, no_name, unended_number, has_digits, longest_name, is_ended, goes_on, first_or, is_undecided, ends_number, text_in, told_of, characters_in, held_text, late_tokens}
-use Rattle.html5grammar.specs.Slice.{Late, tokens_of_late}
+use Rattle.html5grammar.specs.Characters.{null, replacement_character, exclamation_mark, quotation_mark, ampersand, apostrophe, hyphen, solidus, less_than, equals_sign, greater_than, question_mark, is_letter, is_white_space, is_bad_character}
+use Rattle.html5grammar.specs.ErrorText.{error_in, bad_character_error}
+use Rattle.html5grammar.specs.Reading.{Here}
 use Rattle.html5grammar.specs.Start.Stand.{InText, InAttribute}
-use Rattle.markup5ever.specs.NamedReferences.{NamedReference}
 use Rattle.html5grammar.specs.Reading.Here.{Tells, TellsTag}
-use Rattle.html5grammar.specs.Start.{Raw, OpenTag, Place, RawPlace, DoctypePlace, Stand, Open, Rules, raw_of}
+use Rattle.html5grammar.specs.Start.{Raw, OpenTag, Place, RawPlace, DoctypePlace, Stand, Open, raw_of}
 use Rattle.html5grammar.specs.Start.Raw.{ScriptData}
 use Rattle.html5grammar.specs.Start.Mode.{Data, Plain, RawText, Cdata}
 use Rattle.html5grammar.specs.Start.RawPlace.{AfterLessThan, InEndName, AfterMark, AfterMarkAndDash, InSwitch}
@@ -29,12 +26,11 @@ use Rattle.html5grammar.specs.Start.Place.{InName, BeforeAttribute, InAttributeN
 use Rattle.html5grammar.specs.Start.DoctypePlace.{AfterWord, BeforeName, InDoctypeName, AfterName, AfterKeyword, BeforeIdentifier, InIdentifier, AfterIdentifier, BetweenIdentifiers, Skipped}
 use Rattle.html5grammar.specs.Start.Open.{Between, LessThan, LessThanSolidus, InTag, InRaw, InDeclaration, InComment, InBogusComment, InDoctype, InDoctypeKeyword, InReference, InCdata}
 use Rattle.html5grammar.specs.Tag.{null_error, duplicate_error, end_tag_errors, with_last_attribute, in_quoted, in_unquoted, unquoted_error, in_attribute_name, place_error, first_error, in_tag_name}
-use Rattle.std.specs.Str.{bytes_eq}
-use Rattle.html5grammar.specs.Comment.{comment_state, ends_comment, comment_content, comment_end_error, comment_errors, mark_error, begins_keyword, without_last, cdata_keyword, begins_cdata}
-use Rattle.html5grammar.specs.Doctype.{with_quirks, in_identifier, is_keyword, begins_doctype_keyword, keyword_error, in_doctype_name, word_error}
+use Rattle.html5grammar.specs.Comment.{comment_state, ends_comment, comment_content, comment_end_error, comment_errors, mark_error, without_last}
+use Rattle.html5grammar.specs.Doctype.{with_quirks, in_identifier, begins_doctype_keyword, in_doctype_name, word_error}
 use Rattle.html5grammar.specs.RawText.{ends_name, raw_state, kind_of, is_rcdata, raw_character, ends_raw_text, told_at_less_than, told_behind_less_than, begins_mark, begins_switch}
 use Rattle.html5grammar.specs.Text.{plain_text}
-use Rattle.html5grammar.proofs.Machine.{closing_step, tag_name_step, part_step, attribute_name_step, after_attribute_name_step, quoted_step, unquoted_step, before_value_step, tag_step, data_step, less_than_step, solidus_step, bogus_comment_step, comment_step, skipped_step, wanted_name_step, doctype_name_step, keyword_or_end_step, wanted_identifier_step, system_or_end_step, identifier_step, behind_identifier_step, space_step, doctype_step, declaration_step, doctype_keyword_step, raw_step, tag_name_end_step, end_name_step, switch_step, mark_step, mark_and_dash_step, raw_solidus_step, raw_less_than_step, raw_place_step, step_at, reference_step, brought_at, cdata_step, declaration_answer_step}
+use Rattle.html5grammar.proofs.Machine.{closing_step, tag_name_step, part_step, attribute_name_step, after_attribute_name_step, quoted_step, unquoted_step, before_value_step, tag_step, data_step, less_than_step, solidus_step, bogus_comment_step, comment_step, skipped_step, wanted_name_step, doctype_name_step, keyword_or_end_step, wanted_identifier_step, system_or_end_step, identifier_step, behind_identifier_step, space_step, doctype_step, raw_step, tag_name_end_step, end_name_step, switch_step, mark_step, mark_and_dash_step, raw_solidus_step, raw_less_than_step, raw_place_step, step_at, cdata_step}
 use Rattle.std.specs.List.{list_all}
 use Rattle.std.proofs.Common.{zero, suc, take, not, arith}
 use Rattle.std.specs.Bool.{nat_eq}
@@ -50,11 +46,11 @@ use Rattle.html5grammar.proofs.OneTagSteps.{letter-in_tag_name}
 use Rattle.html5grammar.proofs.WrittenRawSteps.{letter-no_null}
 use Rattle.html5grammar.specs.Lawful.{has_no_null, IsLawfulTag, IsLawfulDoctype}
 use Rattle.html5grammar.proofs.LawfulBytes.{no_null-append, no_null-encode, letters-no_null, all-append}
-use Rattle.html5grammar.proofs.LawfulReferences.{AllLawful, lawful-append, lawful-where, lawful-texts, no_null-parts, no_null-cons, no_null-nil, no_null-undecided, lawful-late_tokens}
-use Rattle.html5grammar.proofs.LawfulTags.{IsFitTag, fit-name, fit-begun, fit-value, fit-last_name, fit-last_attribute, lawful-told, lawful-empty, lawful-quirks, lawful-name, lawful-first, lawful-begun_identifier, lawful-identifier}
+use Rattle.html5grammar.proofs.LawfulReferences.{AllLawful, lawful-append, lawful-where, lawful-texts, no_null-parts, no_null-cons, no_null-nil}
+use Rattle.html5grammar.proofs.LawfulTags.{IsFitTag, fit-name, fit-begun, fit-value, fit-last_name, fit-last_attribute, lawful-told, lawful-quirks, lawful-name, lawful-first, lawful-begun_identifier, lawful-identifier}
 
 -- a value in which a reference stands
-abbrev IsFitStand : Stand → Type 0
+abbrev pub IsFitStand : Stand → Type 0
 IsFitStand (InText mode) = Unit {0}
 IsFitStand (InAttribute kind tag) = IsFitTag tag
 
@@ -87,7 +83,7 @@ lawful-end_tag : (tag : OpenTag) (self_closing : Bool) → AllLawful (end_tag_er
 unfolding end_tag_errors
 lawful-end_tag tag self_closing = lawful-append _ _ (lawful-where _ _ tt) (lawful-where _ _ tt)
 
-lawful-nil : AllLawful []
+pub lawful-nil : AllLawful []
 unfolding AllLawful
 lawful-nil = tt
 
@@ -117,6 +113,11 @@ lawful-raw_solidus raw_kind.ScriptData name = (lawful-nil, refl)
 lawful-raw_solidus (raw_kind.ScriptDataEscaped escape_kind.Escaped) name = (lawful-nil, refl)
 lawful-raw_solidus (raw_kind.ScriptDataEscaped escape_kind.DoubleEscaped) name = (lawful-texts (solidus ∷ []) (no_null-cons solidus [] refl no_null-nil), tt)
 
+pub lawful-letters : (letters : List ℕ) → list_all is_letter letters ≡ true → AllLawful (texts (less_than ∷ solidus ∷ letters))
+lawful-letters letters all =
+    lawful-texts (less_than ∷ solidus ∷ letters)
+    (no_null-cons less_than (solidus ∷ letters) refl (no_null-cons solidus letters refl (letters-no_null letters all)))
+
 module _ (exact : Bool) (c : ℕ) where
   lawful-place : (place : Place) → AllLawful (place_error exact place c)
   unfolding place_error
@@ -136,11 +137,10 @@ module _ (exact : Bool) (c : ℕ) where
 
   lawful-closing : (errors : List Told) (tag : OpenTag) (self_closing : Bool) → IsFitTag tag → AllLawful errors → LawfulHere (closing_step errors tag self_closing)
   unfolding closing_step LawfulHere
-  lawful-closing errors tag self_closing fit f =
-      (
-        lawful-append errors _ f (lawful-append _ _ (lawful-duplicate tag) (lawful-end_tag (with_last_attribute tag) self_closing)),
-        lawful-told (with_last_attribute tag) self_closing (fit-last_attribute tag fit),
-      )
+  lawful-closing errors tag self_closing fit f = (
+    lawful-append errors _ f (lawful-append _ _ (lawful-duplicate tag) (lawful-end_tag (with_last_attribute tag) self_closing)),
+    lawful-told (with_last_attribute tag) self_closing (fit-last_attribute tag fit),
+  )
 
   -- behind a tag's name
   lawful-tag_name_end : (tag : OpenTag) → IsFitTag tag → LawfulHere (tag_name_end_step tag c)
@@ -309,11 +309,6 @@ module _ (exact : Bool) (c : ℕ) where
   fit-end_tag (b ∷ name) [] all h = absurd (false≢true (and_parts (ends_name c) false (and_parts (not (nat_eq (length (b ∷ name)) 0)) (ends_name c && false) h).1).1)
   fit-end_tag (b ∷ name) (d ∷ letters) all h = fit-begun EndTag d letters (and_parts (is_letter d) (list_all is_letter letters) all).0
 
-  pub lawful-letters : (letters : List ℕ) → list_all is_letter letters ≡ true → AllLawful (texts (less_than ∷ solidus ∷ letters))
-  lawful-letters letters all =
-      lawful-texts (less_than ∷ solidus ∷ letters)
-      (no_null-cons less_than (solidus ∷ letters) refl (no_null-cons solidus letters refl (letters-no_null letters all)))
-
   lawful-raw_place : (place : RawPlace) (name : List ℕ) → IsFit (InRaw place name) → LawfulHere (raw_place_step exact place name c)
   unfolding raw_place_step end_name_step switch_step mark_step mark_and_dash_step LawfulHere IsFit
   lawful-raw_place (AfterLessThan kind) name fit = lawful-behind_less_than kind name
@@ -332,7 +327,7 @@ module _ (exact : Bool) (c : ℕ) where
 
   -- ---- comments and CDATA sections
 
-  lawful-bogus_comment : (before : List ℕ) (first : List Told) → AllLawful first → LawfulHere (bogus_comment_step exact before first c)
+  pub lawful-bogus_comment : (before : List ℕ) (first : List Told) → AllLawful first → LawfulHere (bogus_comment_step exact before first c)
   unfolding bogus_comment_step LawfulHere IsFit AllLawful
   lawful-bogus_comment before first f =
       lawful-if (c == greater_than) _ _ (λ e. (lawful-append first _ f (tt, tt), tt)) (λ e. (lawful-append first _ f (lawful-where _ _ tt), tt))
@@ -364,7 +359,7 @@ module _ (exact : Bool) (c : ℕ) where
 
   -- ---- doctypes
 
-  lawful-skipped : (errors : List Told) (d : DoctypeOf) → IsLawfulDoctype d → AllLawful errors → LawfulHere (skipped_step exact errors d c)
+  pub lawful-skipped : (errors : List Told) (d : DoctypeOf) → IsLawfulDoctype d → AllLawful errors → LawfulHere (skipped_step exact errors d c)
   unfolding skipped_step LawfulHere IsFit
   lawful-skipped errors d lawful f =
       lawful-if (c == greater_than) _ _ (λ e. (lawful-append errors (Doctype d ∷ []) f (lawful-doctype_told d lawful), tt))

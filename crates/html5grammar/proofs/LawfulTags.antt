@@ -1,14 +1,13 @@
 -- Tags that are open, so that they will be lawful when they are told, and doctypes.
-use Rattle.std.proofs.Common.{◌≡◌, ℕ, Bool, true, false, not, ◌||◌, ◌&&◌, List, [], ◌∷◌, ◌++◌, refl, sym, ap, ◌∙◌, map, subst}
-use Rattle.std.specs.Prelude.{flat_map, IfSome, option_map, Option, None, Some, if◌then◌else◌}
+use Rattle.std.proofs.Common.{◌≡◌, ℕ, Bool, true, false, not, List, [], ◌∷◌, ◌++◌, refl, sym, ap, ◌∙◌, subst}
+use Rattle.std.specs.Prelude.{flat_map, IfSome, option_map, None, Some, if◌then◌else◌}
 use Rattle.std.specs.List.{list_all, list_any, IsDistinct}
 use Rattle.std.specs.Str.{bytes_eq}
-use Rattle.std.proofs.lemmas.Bool.{false≢true}
 use Rattle.std.proofs.lemmas.Cmp.{nat_list_eq_equiv}
 use Rattle.std.proofs.lemmas.List.{map-append}
 use Rattle.std.proofs.lemmas.List.Folds.{list_all-append}
 use Rattle.std.proofs.lemmas.Map.Keys.{IsDistinct-push}
-use Rattle.html5ever_interface.specs.Token.{TagOf, DoctypeOf, empty_doctype}
+use Rattle.html5ever_interface.specs.Token.{DoctypeOf, empty_doctype}
 use Rattle.html5ever_interface.specs.declared.interface.token.TagKind.{TagKind}
 use Rattle.html5ever_interface.specs.declared.states.DoctypeIdKind.{DoctypeIdKind}
 use Rattle.html5ever_interface.specs.declared.states.DoctypeIdKind.TheVariants.{Public, System}
@@ -88,7 +87,7 @@ fit-pushed tag new fit =
           ∙ list_all-append has_no_capital (names_of tag.attributes) (tag.last_name ∷ [])
           ∙ rw (fit.attributes, fit.last) refl;
       distinct = subst (IsDistinct bytes_eq) (sym names)
-      (IsDistinct-push nat_list_eq_equiv (names_of tag.attributes) tag.last_name fit.distinct (sym (has_attribute-any tag.attributes tag.last_name) ∙ new));
+          (IsDistinct-push nat_list_eq_equiv (names_of tag.attributes) tag.last_name fit.distinct (sym (has_attribute-any tag.attributes tag.last_name) ∙ new));
       last = refl;
     }
 

@@ -12,6 +12,7 @@ pub mod LawfulBytes
 pub mod LawfulReferences
 pub mod LawfulTags
 pub mod LawfulSteps
+pub mod LawfulReading
 pub mod Holding
 pub mod OneTagSteps
 pub mod OneTagParts

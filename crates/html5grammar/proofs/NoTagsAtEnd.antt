@@ -1,11 +1,10 @@
 -- The end of input tells no tag, also where it cuts one off.
 use Rattle.std.proofs.Common.{◌≡◌, Bool, List, [], ◌∷◌, ◌++◌, refl, ap, ◌∙◌, ℕ, false}
-use Rattle.std.specs.Prelude.{map, codes, None, All}
+use Rattle.std.specs.Prelude.{None, All}
 use Rattle.std.proofs.lemmas.List.Elements.{All-nil, All-cons}
 use Rattle.html5ever_interface.specs.Sink.{Message, on_line}
 use Rattle.html5ever_interface.specs.Token.{Told, Reply, is_tag}
-use Rattle.html5ever_interface.specs.Token.Told.{Text, Comment, Doctype, End}
-use Rattle.html5ever_interface.specs.declared.states.State.TheVariants as state
+use Rattle.html5ever_interface.specs.Token.Told.{End}
 use Rattle.html5grammar.specs.Characters.{solidus, less_than}
 use Rattle.html5grammar.specs.EndOfInput.{late_at_end_of, open_at_end_of, told_at_end_of, told_at_raw_end, told_at_doctype_end, raw_end_error, tokens_at_end}
 use Rattle.html5grammar.specs.Lawful.{TellsNoTagBehind}
@@ -13,7 +12,7 @@ use Rattle.html5grammar.specs.NormalisedText.{normalised, line_after}
 use Rattle.html5grammar.specs.RawText.{texts}
 use Rattle.html5grammar.specs.Reading.{reading, told, messages, after}
 use Rattle.html5grammar.specs.Slice.{tokens_of_late}
-use Rattle.html5grammar.specs.Start.{Raw, RawPlace, DoctypePlace, Open, Rules, Start, raw_of}
+use Rattle.html5grammar.specs.Start.{Raw, RawPlace, Open, Rules, Start, raw_of}
 use Rattle.html5grammar.specs.Start.Raw.{Rcdata, Rawtext, ScriptData, Escaped, DoubleEscaped}
 use Rattle.html5grammar.specs.Start.Mode.{Data, Plain, RawText, Cdata}
 use Rattle.html5grammar.specs.Start.RawPlace.{AfterLessThan, InEndName, AfterMark, AfterMarkAndDash, InSwitch}
@@ -85,11 +84,10 @@ module _ {S H : Type 0} (step : S → Told → ℕ → S) (reply : S → Told �
       → TellsNoTagBehind (messages (told step reply foreign rules K s X)) (messages (reading step reply foreign rules K s X))
   cut_off_tags K s X =
       let opened : Open = (after step reply foreign rules K s X).opened in
-      let line : ℕ = line_after K.input (normalised K.input X) in
-      (
+      let line : ℕ = line_after K.input (normalised K.input X) in (
         on_line line (tokens_at_end rules opened),
         ap messages (reading-events step reply foreign rules K s X)
-        ∙ messages-append (told step reply foreign rules K s X) _
-        ∙ ap (λ N. messages (told step reply foreign rules K s X) ++ N) (messages-at_end step reply foreign rules K s X),
+            ∙ messages-append (told step reply foreign rules K s X) _
+            ∙ ap (λ N. messages (told step reply foreign rules K s X) ++ N) (messages-at_end step reply foreign rules K s X),
         no_tags-on_line line _ (no_tags-at_end rules opened),
       )
