@@ -1,8 +1,12 @@
 -- Each character tells lawful tokens where what is open is fit for them, and leaves such.
-use Rattle.std.proofs.Common.{◌≡◌, ℕ, Bool, true, false, List, [], ◌∷◌, ◌++◌, refl}
+use Rattle.std.proofs.Common.{◌≡◌, ℕ, Bool, true, false, List, [], ◌∷◌, ◌++◌, refl, zero, suc, take, not, arith}
 use Rattle.std.specs.Prelude.{◌&&◌, ◌==◌, encode_utf8, length, if◌then◌else◌}
+use Rattle.std.specs.List.{list_all}
+use Rattle.std.specs.Bool.{nat_eq}
+use Rattle.std.proofs.lemmas.Bool.{and_parts, false≢true}
+use Rattle.std.proofs.lemmas.Bool.Decides.{nat_tests}
 use Rattle.html5ever_interface.specs.Token.{Told, DoctypeOf}
-use Rattle.html5ever_interface.specs.Token.Told.{Text, Comment, Doctype}
+use Rattle.html5ever_interface.specs.Token.Told.{Text, Comment, Doctype, Error}
 use Rattle.html5ever_interface.specs.declared.states.State.{State}
 use Rattle.html5ever_interface.specs.declared.states.State.TheVariants as state
 use Rattle.html5ever_interface.specs.declared.states.DoctypeIdKind.{DoctypeIdKind}
@@ -12,39 +16,30 @@ use Rattle.html5ever_interface.specs.declared.states.RawKind.TheVariants as raw_
 use Rattle.html5ever_interface.specs.declared.states.ScriptEscapeKind.TheVariants as escape_kind
 use Rattle.html5ever_interface.specs.declared.states.AttrValueKind.{AttrValueKind}
 use Rattle.html5ever_interface.specs.declared.states.AttrValueKind.TheVariants.{Unquoted, SingleQuoted, DoubleQuoted}
+use Rattle.html5ever_interface.specs.declared.interface.token.TagKind.{TagKind}
+use Rattle.html5ever_interface.specs.declared.interface.token.TagKind.TheVariants.{StartTag, EndTag}
 use Rattle.html5grammar.specs.Cdata.{piece_text, ends_cdata, told_at_end_of_cdata}
 use Rattle.html5grammar.specs.Characters.{null, replacement_character, exclamation_mark, quotation_mark, ampersand, apostrophe, hyphen, solidus, less_than, equals_sign, greater_than, question_mark, is_letter, is_white_space, is_bad_character}
 use Rattle.html5grammar.specs.ErrorText.{error_in, bad_character_error}
 use Rattle.html5grammar.specs.Reading.{Here}
 use Rattle.html5grammar.specs.Start.Stand.{InText, InAttribute}
 use Rattle.html5grammar.specs.Reading.Here.{Tells, TellsTag}
-use Rattle.html5grammar.specs.Start.{Raw, OpenTag, Place, RawPlace, DoctypePlace, Stand, Open, raw_of}
+use Rattle.html5grammar.specs.Start.{Raw, OpenTag, Place, RawPlace, DoctypePlace, Stand, Open, raw_of, begun}
 use Rattle.html5grammar.specs.Start.Raw.{ScriptData}
 use Rattle.html5grammar.specs.Start.Mode.{Data, Plain, RawText, Cdata}
 use Rattle.html5grammar.specs.Start.RawPlace.{AfterLessThan, InEndName, AfterMark, AfterMarkAndDash, InSwitch}
 use Rattle.html5grammar.specs.Start.Place.{InName, BeforeAttribute, InAttributeName, AfterAttributeName, BeforeValue, InValue, AfterQuotedValue, AfterSolidus}
 use Rattle.html5grammar.specs.Start.DoctypePlace.{AfterWord, BeforeName, InDoctypeName, AfterName, AfterKeyword, BeforeIdentifier, InIdentifier, AfterIdentifier, BetweenIdentifiers, Skipped}
 use Rattle.html5grammar.specs.Start.Open.{Between, LessThan, LessThanSolidus, InTag, InRaw, InDeclaration, InComment, InBogusComment, InDoctype, InDoctypeKeyword, InReference, InCdata}
-use Rattle.html5grammar.specs.Tag.{null_error, duplicate_error, end_tag_errors, with_last_attribute, in_quoted, in_unquoted, unquoted_error, in_attribute_name, place_error, first_error, in_tag_name}
+use Rattle.html5grammar.specs.Tag.{null_error, duplicate_error, end_tag_errors, with_last_attribute, in_quoted, in_unquoted, unquoted_error, in_attribute_name, place_error, first_error, in_tag_name, with_name}
 use Rattle.html5grammar.specs.Comment.{comment_state, ends_comment, comment_content, comment_end_error, comment_errors, mark_error, without_last}
 use Rattle.html5grammar.specs.Doctype.{with_quirks, in_identifier, begins_doctype_keyword, in_doctype_name, word_error}
-use Rattle.html5grammar.specs.RawText.{ends_name, raw_state, kind_of, is_rcdata, raw_character, ends_raw_text, told_at_less_than, told_behind_less_than, begins_mark, begins_switch}
+use Rattle.html5grammar.specs.RawText.{ends_name, raw_state, kind_of, is_rcdata, raw_character, ends_raw_text, told_at_less_than, told_behind_less_than, begins_mark, begins_switch, texts}
 use Rattle.html5grammar.specs.Text.{plain_text}
+use Rattle.html5grammar.specs.Lawful.{has_no_null, IsLawfulTag, IsLawfulDoctype}
 use Rattle.html5grammar.proofs.Machine.{closing_step, tag_name_step, part_step, attribute_name_step, after_attribute_name_step, quoted_step, unquoted_step, before_value_step, tag_step, data_step, less_than_step, solidus_step, bogus_comment_step, comment_step, skipped_step, wanted_name_step, doctype_name_step, keyword_or_end_step, wanted_identifier_step, system_or_end_step, identifier_step, behind_identifier_step, space_step, doctype_step, raw_step, tag_name_end_step, end_name_step, switch_step, mark_step, mark_and_dash_step, raw_solidus_step, raw_less_than_step, raw_place_step, step_at, cdata_step}
-use Rattle.std.specs.List.{list_all}
-use Rattle.std.proofs.Common.{zero, suc, take, not, arith}
-use Rattle.std.specs.Bool.{nat_eq}
-use Rattle.std.proofs.lemmas.Bool.{and_parts, false≢true}
-use Rattle.std.proofs.lemmas.Bool.Decides.{nat_tests}
-use Rattle.html5ever_interface.specs.Token.Told.{Error}
-use Rattle.html5ever_interface.specs.declared.interface.token.TagKind.{TagKind}
-use Rattle.html5ever_interface.specs.declared.interface.token.TagKind.TheVariants.{StartTag, EndTag}
-use Rattle.html5grammar.specs.RawText.{texts}
-use Rattle.html5grammar.specs.Start.{begun}
-use Rattle.html5grammar.specs.Tag.{with_name}
 use Rattle.html5grammar.proofs.OneTagSteps.{letter-in_tag_name}
 use Rattle.html5grammar.proofs.WrittenRawSteps.{letter-no_null}
-use Rattle.html5grammar.specs.Lawful.{has_no_null, IsLawfulTag, IsLawfulDoctype}
 use Rattle.html5grammar.proofs.LawfulBytes.{no_null-append, no_null-encode, letters-no_null, all-append}
 use Rattle.html5grammar.proofs.LawfulReferences.{AllLawful, lawful-append, lawful-where, lawful-texts, no_null-parts, no_null-cons, no_null-nil}
 use Rattle.html5grammar.proofs.LawfulTags.{IsFitTag, fit-name, fit-begun, fit-value, fit-last_name, fit-last_attribute, lawful-told, lawful-quirks, lawful-name, lawful-first, lawful-begun_identifier, lawful-identifier}
