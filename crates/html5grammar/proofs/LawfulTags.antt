@@ -13,7 +13,7 @@ use Rattle.html5ever_interface.specs.declared.states.DoctypeIdKind.{DoctypeIdKin
 use Rattle.html5ever_interface.specs.declared.states.DoctypeIdKind.TheVariants.{Public, System}
 use Rattle.html5grammar.specs.Characters.{is_letter, name_bytes}
 use Rattle.html5grammar.specs.Doctype.{with_quirks, with_doctype_name, with_first_of_name, with_begun_identifier, with_identifier}
-use Rattle.html5grammar.specs.Lawful.{has_no_capital, begins_with_letter, names_of, IsLawfulTag, IsLawfulDoctype}
+use Rattle.html5grammar.specs.Lawful.{has_no_capital, begins_with_letter, attribute_names, IsLawfulTag, IsLawfulDoctype}
 use Rattle.html5grammar.specs.Reference.{with_value}
 use Rattle.html5grammar.specs.Start.{OpenTag, begun}
 use Rattle.html5grammar.specs.Tag.{attribute, has_last, has_attribute, repeats_attribute, with_last_attribute, told_tag, with_last_name, with_name}
@@ -24,8 +24,8 @@ use Rattle.markup5ever.specs.Names.{AttributeOf}
 pub record IsFitTag (tag : OpenTag) : Type 0 where
   pub begins : begins_with_letter tag.name ≡ true
   pub name : has_no_capital tag.name ≡ true
-  pub attributes : list_all has_no_capital (names_of tag.attributes) ≡ true
-  pub distinct : IsDistinct bytes_eq (names_of tag.attributes)
+  pub attributes : list_all has_no_capital (attribute_names tag.attributes) ≡ true
+  pub distinct : IsDistinct bytes_eq (attribute_names tag.attributes)
   pub last : has_no_capital tag.last_name ≡ true
 
 -- ---- the name
@@ -65,12 +65,12 @@ fit-last_name tag run fit = record {
 }
 
 -- whether an attribute has the name is whether the name is among theirs
-has_attribute-any : (attributes : List AttributeOf) (name : List ℕ) → has_attribute attributes name ≡ list_any (bytes_eq name) (names_of attributes)
+has_attribute-any : (attributes : List AttributeOf) (name : List ℕ) → has_attribute attributes name ≡ list_any (bytes_eq name) (attribute_names attributes)
 unfolding has_attribute
 has_attribute-any [] name = refl
 has_attribute-any (a ∷ attributes) name = rw (nat_list_eq_equiv.symm a.name.local name, has_attribute-any attributes name) refl
 
-names-push : (attributes : List AttributeOf) (name value : List ℕ) → names_of (attributes ++ attribute name value ∷ []) ≡ names_of attributes ++ name ∷ []
+names-push : (attributes : List AttributeOf) (name value : List ℕ) → attribute_names (attributes ++ attribute name value ∷ []) ≡ attribute_names attributes ++ name ∷ []
 names-push attributes name value = map-append (λ (a : AttributeOf). a.name.local) attributes (attribute name value ∷ [])
 
 -- the tag with the last attribute among the others, where its name is not among theirs
@@ -78,16 +78,16 @@ fit-pushed : (tag : OpenTag) → repeats_attribute tag ≡ false → IsFitTag ta
     → IsFitTag (record tag { attributes = tag.attributes ++ attribute tag.last_name tag.last_value ∷ []; last_name = []; last_value = [] })
 unfolding repeats_attribute has_no_capital
 fit-pushed tag new fit =
-    let names : names_of (tag.attributes ++ attribute tag.last_name tag.last_value ∷ []) ≡ names_of tag.attributes ++ tag.last_name ∷ [] = names-push tag.attributes tag.last_name tag.last_value in
+    let names : attribute_names (tag.attributes ++ attribute tag.last_name tag.last_value ∷ []) ≡ attribute_names tag.attributes ++ tag.last_name ∷ [] = names-push tag.attributes tag.last_name tag.last_value in
     record {
       begins = fit.begins;
       name = fit.name;
       attributes =
           ap (list_all has_no_capital) names
-          ∙ list_all-append has_no_capital (names_of tag.attributes) (tag.last_name ∷ [])
+          ∙ list_all-append has_no_capital (attribute_names tag.attributes) (tag.last_name ∷ [])
           ∙ rw (fit.attributes, fit.last) refl;
       distinct = subst (IsDistinct bytes_eq) (sym names)
-          (IsDistinct-push nat_list_eq_equiv (names_of tag.attributes) tag.last_name fit.distinct (sym (has_attribute-any tag.attributes tag.last_name) ∙ new));
+          (IsDistinct-push nat_list_eq_equiv (attribute_names tag.attributes) tag.last_name fit.distinct (sym (has_attribute-any tag.attributes tag.last_name) ∙ new));
       last = refl;
     }
 

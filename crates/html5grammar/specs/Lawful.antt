@@ -23,15 +23,15 @@ begins_with_letter [] = false
 begins_with_letter (b ∷ name) = is_ascii_lowercase b
 
 -- the names of attributes, in order
-abbrev pub names_of : List AttributeOf → List (List ℕ)
-names_of attributes = map (λ a. a.name.local) attributes
+abbrev pub attribute_names : List AttributeOf → List (List ℕ)
+attribute_names attributes = map (λ a. a.name.local) attributes
 
 -- a tag's name begins with a letter, no name in it has a capital, and no name of an attribute stands in it twice
 pub record IsLawfulTag (tag : TagOf) : Type 0 where
   pub begins : begins_with_letter tag.name ≡ true
   pub name : has_no_capital tag.name ≡ true
-  pub attributes : list_all has_no_capital (names_of tag.attributes) ≡ true
-  pub distinct : IsDistinct bytes_eq (names_of tag.attributes)
+  pub attributes : list_all has_no_capital (attribute_names tag.attributes) ≡ true
+  pub distinct : IsDistinct bytes_eq (attribute_names tag.attributes)
 
 -- a doctype's name, where it has one, has no capital
 abbrev pub IsLawfulDoctype : DoctypeOf → Type 0
