@@ -9,6 +9,7 @@ use Rattle.html5ever_interface.specs.Token.Told.{Tag}
 use Rattle.html5ever_interface.specs.declared.states.ScriptEscapeKind.TheVariants as escape_kind
 use Rattle.html5ever_interface.specs.declared.states.State.{State}
 use Rattle.html5ever_interface.specs.declared.states.State.TheVariants as state
+use Rattle.html5grammar.specs.Cdata.{open_cdata}
 use Rattle.html5grammar.specs.Characters.{is_bad_character}
 use Rattle.html5grammar.specs.ErrorText.{bad_character_error}
 use Rattle.html5grammar.specs.Reading.{Here, last_behind, open_after_reply}
@@ -19,7 +20,7 @@ use Rattle.html5grammar.specs.Start.Mode.{Data}
 use Rattle.html5grammar.specs.Start.RawPlace.{AfterLessThan, InEndName, AfterMark, AfterMarkAndDash, InSwitch}
 use Rattle.html5grammar.specs.Start.Open.{Between, NotBuilt}
 use Rattle.html5grammar.specs.Start.Place.{InName, BeforeAttribute, InAttributeName, AfterAttributeName, BeforeValue, InValue, AfterQuotedValue, AfterSolidus}
-use Rattle.html5grammar.proofs.Going.{Goes, bad_goes_tag, bad_goes_data, bad_goes_plain, bad_goes_raw, bad_goes_in_raw, bad_goes_less_than, bad_goes_solidus, bad_goes_comment, bad_goes_bogus_comment, bad_goes_doctype}
+use Rattle.html5grammar.proofs.Going.{Goes, bad_goes_tag, bad_goes_data, bad_goes_plain, bad_goes_raw, bad_goes_in_raw, bad_goes_less_than, bad_goes_solidus, bad_goes_comment, bad_goes_bogus_comment, bad_goes_cdata, bad_goes_between_cdata, bad_goes_doctype}
 use Rattle.html5grammar.proofs.Holding.{HoldsAtMostOne}
 use Rattle.html5grammar.proofs.Machine.{step_at, messages_here, opened_here, last_here}
 use Rattle.html5ever_interface.proofs.Steppings.{stepped-append}
@@ -30,7 +31,6 @@ use Rattle.html5grammar.specs.Start.Quotes.{DoubleQuotes, SingleQuotes}
 use Rattle.html5parts.specs.CurrentTag.{open_of, open_tag, behind_doctype_name, last_name_of, letters_of, stops_at_bad}
 use Rattle.html5parts.specs.Steps.{tokens_of, Next, behind}
 use Rattle.html5parts.specs.Steps.Next.{Opens, Closes}
-use Rattle.html5parts.specs.declared.current_tag.CurrentTag.{CurrentTag}
 use Rattle.html5parts.specs.declared.opened.Opened.{Opened}
 use Rattle.html5parts.specs.declared.error.TokenizerError.{TokenizerError}
 use Rattle.html5parts.specs.declared.error.TokenizerError.TheVariants.{Memory, Sink, Failed, NotYet}
@@ -49,6 +49,10 @@ goes-behind_name : (exact : Bool) (held : List ℕ) (d : DoctypeOf) (c : ℕ) �
     → Goes (step_at exact (behind_doctype_name held d) c)
 goes-behind_name exact [] d c bad decided = bad_goes_doctype exact c bad AfterName d
 goes-behind_name exact (h ∷ held) d c bad decided = absurd (false≢true (sym decided))
+
+goes-section : (exact : Bool) (held : List ℕ) (c : ℕ) → is_bad_character c ≡ true → Goes (step_at exact (open_cdata held) c)
+goes-section exact [] c bad = bad_goes_between_cdata exact c bad
+goes-section exact (h ∷ held) c bad = bad_goes_cdata exact c bad (h ∷ held)
 
 pub goes_at_bad : {Z : Type 0} → (exact : Bool) (s : State) (at : Opened Z) (c : ℕ) → is_bad_character c ≡ true → is_undecided_open (open_of s at) ≡ false → stops_at_bad s ≡ false
     → Goes (step_at exact (open_of s at) c)
@@ -88,6 +92,7 @@ goes_at_bad exact (state.DoctypeIdentifierSingleQuoted kind) at c bad decided go
 goes_at_bad exact (state.AfterDoctypeIdentifier kind) at c bad decided goes = bad_goes_doctype exact c bad (AfterIdentifier kind) (doctype_of at.doctype)
 goes_at_bad exact state.BetweenDoctypePublicAndSystemIdentifiers at c bad decided goes = bad_goes_doctype exact c bad BetweenIdentifiers (doctype_of at.doctype)
 goes_at_bad exact state.BogusDoctype at c bad decided goes = bad_goes_doctype exact c bad Skipped (doctype_of at.doctype)
+goes_at_bad exact state.CdataSection at c bad decided goes = goes-section exact (string_bytes at.comment) c bad
 goes_at_bad exact other at c bad decided goes = absurd (false≢true (sym goes))
 
 -- behind a character that was read at most that one is held
@@ -130,6 +135,10 @@ behind_name≢data : (held : List ℕ) (d : DoctypeOf) → behind_doctype_name h
 behind_name≢data [] d = λ e. cc
 behind_name≢data (c ∷ held) d = λ e. cc
 
+section≢data : (held : List ℕ) → open_cdata held ≢ Between Data
+section≢data [] = λ e. cc
+section≢data (c ∷ held) = λ e. cc
+
 pub data-any_tag : {Z : Type 0} (q : State) (at later : Opened Z) → open_of q at ≡ Between Data → open_of q later ≡ Between Data
 data-any_tag state.Data at later e = e
 data-any_tag state.Plaintext at later e = cc
@@ -167,6 +176,7 @@ data-any_tag (state.DoctypeIdentifierSingleQuoted kind) at later e = cc
 data-any_tag (state.AfterDoctypeIdentifier kind) at later e = cc
 data-any_tag state.BetweenDoctypePublicAndSystemIdentifiers at later e = cc
 data-any_tag state.BogusDoctype at later e = cc
+data-any_tag state.CdataSection at later e = absurd (section≢data _ e)
 data-any_tag other at later e = cc
 
 -- a refusal within what a state tells, where a tag may follow
@@ -289,6 +299,7 @@ module _ {S H : Type 0} (step : S → Told → ℕ → S) (reply : S → Told �
     stops_at-step (state.AfterDoctypeIdentifier kind) then_at stops bad = absurd (false≢true stops)
     stops_at-step state.BetweenDoctypePublicAndSystemIdentifiers then_at stops bad = absurd (false≢true stops)
     stops_at-step state.BogusDoctype then_at stops bad = absurd (false≢true stops)
+    stops_at-step state.CdataSection then_at stops bad = absurd (false≢true stops)
     stops_at-step other then_at stops bad = refl
 
     stopped-step : (rules.exact && is_bad_character d && stops_at_bad now) ≡ true → step_at rules.exact (open_of now at) d ≡ Stops []

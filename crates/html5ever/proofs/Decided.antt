@@ -6,11 +6,12 @@ use Rattle.html5ever_interface.specs.Token.{DoctypeOf, doctype_of}
 use Rattle.html5ever_interface.specs.declared.states.ScriptEscapeKind.TheVariants as escape_kind
 use Rattle.html5ever_interface.specs.declared.states.State.{State}
 use Rattle.html5ever_interface.specs.declared.states.State.TheVariants as state
+use Rattle.html5grammar.specs.Cdata.{open_cdata}
 use Rattle.html5grammar.specs.Start.{Open, is_undecided_open, held_len}
 use Rattle.html5grammar.specs.Start.Mode.{Data, Plain, RawText}
 use Rattle.html5grammar.specs.Start.Place.{InValue}
 use Rattle.html5grammar.specs.Start.Raw.{Rcdata}
-use Rattle.html5grammar.specs.Start.Open.{Between, LessThan, LessThanSolidus, InTag, InRaw, InDeclaration, InComment, InBogusComment, InDoctype, InDoctypeKeyword, InReference, NotBuilt}
+use Rattle.html5grammar.specs.Start.Open.{Between, LessThan, LessThanSolidus, InTag, InRaw, InDeclaration, InComment, InBogusComment, InDoctype, InDoctypeKeyword, InCdata, InReference, NotBuilt}
 use Rattle.html5parts.specs.CharRef.{HasStand, begun_reference, stand_of, with_reference}
 use Rattle.html5parts.specs.CurrentTag.{open_of, behind_doctype_name}
 use Rattle.html5parts.specs.Runs.{IsRunAt}
@@ -33,6 +34,7 @@ is_decided (InRaw place name) h = record { no_reference = refl; no_keyword = ref
 is_decided (InDeclaration held) h = absurd (false≢true (sym h))
 is_decided (InComment text) h = record { no_reference = refl; no_keyword = refl; nothing_held = refl }
 is_decided (InBogusComment text) h = record { no_reference = refl; no_keyword = refl; nothing_held = refl }
+is_decided (InCdata text) h = record { no_reference = refl; no_keyword = refl; nothing_held = refl }
 is_decided (InDoctype place doctype) h = record { no_reference = refl; no_keyword = refl; nothing_held = refl }
 is_decided (InDoctypeKeyword held doctype) h = absurd (false≢true (sym h))
 is_decided (InReference stand held) h = absurd (false≢true (sym h))
@@ -48,6 +50,7 @@ begun-decided (InRaw place name) built = refl
 begun-decided (InDeclaration held) built = absurd built
 begun-decided (InComment text) built = refl
 begun-decided (InBogusComment text) built = refl
+begun-decided (InCdata text) built = refl
 begun-decided (InDoctype place doctype) built = refl
 begun-decided (InDoctypeKeyword held doctype) built = absurd built
 begun-decided (InReference stand held) built = absurd built
@@ -62,6 +65,10 @@ behind_name-holds : (held : List ℕ) (d : DoctypeOf)
     → (is_undecided_open (behind_doctype_name held d) ≡ not (length held == 0)) × (is_reference (behind_doctype_name held d) ≡ false)
 behind_name-holds [] d = (refl, refl)
 behind_name-holds (c ∷ held) d = (rw (cons-length c held) refl, refl)
+
+section-holds : (held : List ℕ) → (is_undecided_open (open_cdata held) ≡ false) × (is_reference (open_cdata held) ≡ false)
+section-holds [] = (refl, refl)
+section-holds (c ∷ held) = (refl, refl)
 
 -- a keyword is open where what is held may begin one, and no state is that of a reference
 state-holds : {Z : Type 0} → (q : State) (at : Opened Z)
@@ -102,6 +109,7 @@ state-holds (state.DoctypeIdentifierSingleQuoted kind) at = (refl, refl)
 state-holds (state.AfterDoctypeIdentifier kind) at = (refl, refl)
 state-holds state.BetweenDoctypePublicAndSystemIdentifiers at = (refl, refl)
 state-holds state.BogusDoctype at = (refl, refl)
+state-holds state.CdataSection at = section-holds (string_bytes at.comment)
 state-holds other at = (refl, refl)
 
 pub state-no_reference : {Z : Type 0} → (q : State) (at : Opened Z) → is_reference (open_of q at) ≡ false
@@ -120,6 +128,7 @@ keyword-undecided (InRaw place name) none = refl
 keyword-undecided (InDeclaration held) none = refl
 keyword-undecided (InComment text) none = refl
 keyword-undecided (InBogusComment text) none = refl
+keyword-undecided (InCdata text) none = refl
 keyword-undecided (InDoctype place doctype) none = refl
 keyword-undecided (InDoctypeKeyword held doctype) none = refl
 keyword-undecided (InReference stand held) none = absurd (false≢true (sym none))

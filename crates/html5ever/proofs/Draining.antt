@@ -18,38 +18,38 @@ use Rattle.html5ever.proofs.QueueReading.{no_error}
 use Rattle.html5states.proofs.Tellings.{stops_after, stops_before}
 use Rattle.std.proofs.Common.{Result, Ok, Err, true, ◌↔◌}
 
-module _ {S H : Type 0} (step : S → Told → ℕ → S) (reply : S → Told → ℕ → Reply H) (rules : Rules) where
+module _ {S H : Type 0} (step : S → Told → ℕ → S) (reply : S → Told → ℕ → Reply H) (foreign : S → Bool) (rules : Rules) where
   -- what two texts tell beyond another
   pub told_beyond-append : (K : Start) (s : S) (X A B : List ℕ)
-      → told_beyond step reply rules K s X (A ++ B) ≡ told_beyond step reply rules K s X A ++ told_beyond step reply rules K s (X ++ A) B
+      → told_beyond step reply foreign rules K s X (A ++ B) ≡ told_beyond step reply foreign rules K s X A ++ told_beyond step reply foreign rules K s (X ++ A) B
   told_beyond-append K s X A B =
-      told_beyond-behind step reply rules K s X (A ++ B)
-      ∙ told-append step reply rules (after step reply rules K s X) (state_behind step reply rules K s X) A B
-      ∙ ap (λ M. M ++ messages (told step reply rules (after step reply rules (after step reply rules K s X) (state_behind step reply rules K s X) A) (state_behind step reply rules (after step reply rules K s X) (state_behind step reply rules K s X) A) B)) (sym (told_beyond-behind step reply rules K s X A))
-      ∙ ap (λ M. told_beyond step reply rules K s X A ++ M)
-      (ap (λ P. messages (told step reply rules P (state_behind step reply rules (after step reply rules K s X) (state_behind step reply rules K s X) A) B)) (sym (after-append step reply rules K s X A))
-      ∙ ap (λ v. messages (told step reply rules (after step reply rules K s (X ++ A)) v B)) (sym (state_behind-append step reply rules K s X A))
-      ∙ sym (told_beyond-behind step reply rules K s (X ++ A) B))
+      told_beyond-behind step reply foreign rules K s X (A ++ B)
+      ∙ told-append step reply foreign rules (after step reply foreign rules K s X) (state_behind step reply foreign rules K s X) A B
+      ∙ ap (λ M. M ++ messages (told step reply foreign rules (after step reply foreign rules (after step reply foreign rules K s X) (state_behind step reply foreign rules K s X) A) (state_behind step reply foreign rules (after step reply foreign rules K s X) (state_behind step reply foreign rules K s X) A) B)) (sym (told_beyond-behind step reply foreign rules K s X A))
+      ∙ ap (λ M. told_beyond step reply foreign rules K s X A ++ M)
+      (ap (λ P. messages (told step reply foreign rules P (state_behind step reply foreign rules (after step reply foreign rules K s X) (state_behind step reply foreign rules K s X) A) B)) (sym (after-append step reply foreign rules K s X A))
+      ∙ ap (λ v. messages (told step reply foreign rules (after step reply foreign rules K s (X ++ A)) v B)) (sym (state_behind-append step reply foreign rules K s X A))
+      ∙ sym (told_beyond-behind step reply foreign rules K s (X ++ A) B))
 
   -- what is told of two texts is what is told of the first, and what the second tells beyond it
   pub told-beyond : (K : Start) (s : S) (X A : List ℕ)
-      → messages (told step reply rules K s (X ++ A)) ≡ messages (told step reply rules K s X) ++ told_beyond step reply rules K s X A
+      → messages (told step reply foreign rules K s (X ++ A)) ≡ messages (told step reply foreign rules K s X) ++ told_beyond step reply foreign rules K s X A
   told-beyond K s X A =
-      told-append step reply rules K s X A ∙ ap (λ M. messages (told step reply rules K s X) ++ M) (sym (told_beyond-behind step reply rules K s X A))
+      told-append step reply foreign rules K s X A ∙ ap (λ M. messages (told step reply foreign rules K s X) ++ M) (sym (told_beyond-behind step reply foreign rules K s X A))
 
   -- the state behind more text
   pub state-beyond : (K : Start) (s : S) (X A : List ℕ)
-      → stepped step s (messages (told step reply rules K s (X ++ A))) ≡ stepped step (stepped step s (messages (told step reply rules K s X))) (told_beyond step reply rules K s X A)
+      → stepped step s (messages (told step reply foreign rules K s (X ++ A))) ≡ stepped step (stepped step s (messages (told step reply foreign rules K s X))) (told_beyond step reply foreign rules K s X A)
   state-beyond K s X A =
-      state_behind-append step reply rules K s X A
-      ∙ ap (stepped step (state_behind step reply rules K s X)) (sym (told_beyond-behind step reply rules K s X A))
+      state_behind-append step reply foreign rules K s X A
+      ∙ ap (stepped step (state_behind step reply foreign rules K s X)) (sym (told_beyond-behind step reply foreign rules K s X A))
 
-module _ {X S H : Type 0} (state : X → S) (step : S → Told → ℕ → S) (reply : S → Told → ℕ → Reply H) where
+module _ {X S H : Type 0} (state : X → S) (step : S → Told → ℕ → S) (reply : S → Told → ℕ → Reply H) (foreign : S → Bool) where
   -- the tokenizer read on over a front of the queue's text
   pub record HasDrained (first now : Tokenizing X) (old queue : TextQueue) : Type 0 where
     pub front : List ℕ
     pub parts : old.text ≡ front ++ queue.text
-    pub reads : ReadsOn state step reply first now front
+    pub reads : ReadsOn state step reply foreign first now front
     pub rules : now.rules ≡ first.rules
     pub going_on : now.ended ≡ false
     pub failed : now.failed ≡ first.failed
@@ -69,22 +69,22 @@ module _ {X S H : Type 0} (state : X → S) (step : S → Told → ℕ → S) (r
   }
 
   -- what a feed leaves is what its definition leaves, so it took what its definition takes
-  pub taken-is : (rules : Rules) (K : Start) (s : S) (text front left queue : List ℕ) → queue ≡ front ++ left → left ≡ (feed step reply rules K s text queue).left
-      → (feed step reply rules K s text queue).taken ≡ front
+  pub taken-is : (rules : Rules) (K : Start) (s : S) (text front left queue : List ℕ) → queue ≡ front ++ left → left ≡ (feed step reply foreign rules K s text queue).left
+      → (feed step reply foreign rules K s text queue).taken ≡ front
   taken-is rules K s text front left queue parts leaves =
-      append_cancel_right (feed step reply rules K s text queue).taken front left
-      (ap (λ l. (feed step reply rules K s text queue).taken ++ l) leaves ∙ feed-parts step reply rules K s text queue ∙ parts)
+      append_cancel_right (feed step reply foreign rules K s text queue).taken front left
+      (ap (λ l. (feed step reply foreign rules K s text queue).taken ++ l) leaves ∙ feed-parts step reply foreign rules K s text queue ∙ parts)
 
   pub HasDrained-more : (first now next : Tokenizing X) (old mid new : TextQueue) → HasDrained first now old mid
-      → FeedsOn state step reply now next mid.text → LeavesWaiting state step reply now mid.text new.text → IsEndOf new.text mid.text
+      → FeedsOn state step reply foreign now next mid.text → LeavesWaiting state step reply foreign now mid.text new.text → IsEndOf new.text mid.text
       → next.rules ≡ now.rules → next.ended ≡ false → next.failed ≡ now.failed → IsLinear (held_len now.position.opened) mid (held_len next.position.opened) new → new.handed_in ≡ mid.handed_in
       → HasDrained first next old new
   HasDrained-more first now next old mid new drained feeds leaves is_end rules going_on failed linear handed_in = record {
     front = drained.front ++ is_end.front;
     parts = drained.parts ∙ ap (λ l. drained.front ++ l) is_end.parts ∙ sym (append_assoc drained.front is_end.front new.text);
     reads = λ K s text stands.
-        let mid_stands : StandsAt state step reply now K s (text ++ drained.front) = drained.reads K s text stands in
-        subst (λ l. StandsAt state step reply next K s l)
+        let mid_stands : StandsAt state step reply foreign now K s (text ++ drained.front) = drained.reads K s text stands in
+        subst (λ l. StandsAt state step reply foreign next K s l)
         (ap (λ l. (text ++ drained.front) ++ l) (taken-is now.rules K s (text ++ drained.front) is_end.front new.text mid.text is_end.parts (leaves K s (text ++ drained.front) mid_stands))
         ∙ append_assoc text drained.front is_end.front)
         (feeds K s (text ++ drained.front) mid_stands);
@@ -103,25 +103,25 @@ module _ {X S H : Type 0} (state : X → S) (step : S → Told → ℕ → S) (r
   }
 
   -- the queue is empty, so all was read
-  pub HasDrained-all : (first now : Tokenizing X) (old new : TextQueue) → HasDrained first now old new → new.text ≡ [] → ReadsOn state step reply first now old.text
+  pub HasDrained-all : (first now : Tokenizing X) (old new : TextQueue) → HasDrained first now old new → new.text ≡ [] → ReadsOn state step reply foreign first now old.text
   HasDrained-all first now old new drained none K s text stands =
-      subst (λ l. StandsAt state step reply now K s (text ++ l)) (sym (drained.parts ∙ ap (λ l. drained.front ++ l) none ∙ append-nil drained.front)) (drained.reads K s text stands)
+      subst (λ l. StandsAt state step reply foreign now K s (text ++ l)) (sym (drained.parts ∙ ap (λ l. drained.front ++ l) none ∙ append-nil drained.front)) (drained.reads K s text stands)
 
   -- a feed that meets what isn't built yet
   pub HasDrained-met : (first now : Tokenizing X) (old queue : TextQueue) → HasDrained first now old queue
-      → FeedMeetsNotBuilt state step reply now queue.text → MeetsNotBuilt state step reply first old.text
+      → FeedMeetsNotBuilt state step reply foreign now queue.text → MeetsNotBuilt state step reply foreign first old.text
   HasDrained-met first now old queue drained met K s text stands =
       let x : Rules = first.rules in
-      let f : Feed H = feed step reply x K s (text ++ drained.front) queue.text in
-      let here : (after step reply x K s ((text ++ drained.front) ++ f.taken)).opened ≡ NotBuilt =
-      subst (λ b. (after step reply b K s ((text ++ drained.front) ++ (feed step reply b K s (text ++ drained.front) queue.text).taken)).opened ≡ NotBuilt) drained.rules
+      let f : Feed H = feed step reply foreign x K s (text ++ drained.front) queue.text in
+      let here : (after step reply foreign x K s ((text ++ drained.front) ++ f.taken)).opened ≡ NotBuilt =
+      subst (λ b. (after step reply foreign b K s ((text ++ drained.front) ++ (feed step reply foreign b K s (text ++ drained.front) queue.text).taken)).opened ≡ NotBuilt) drained.rules
       (met K s (text ++ drained.front) (drained.reads K s text stands)) in
       let whole : text ++ old.text ≡ ((text ++ drained.front) ++ f.taken) ++ f.left =
-      ap (λ l. text ++ l) (drained.parts ∙ ap (λ l. drained.front ++ l) (sym (feed-parts step reply x K s (text ++ drained.front) queue.text)))
+      ap (λ l. text ++ l) (drained.parts ∙ ap (λ l. drained.front ++ l) (sym (feed-parts step reply foreign x K s (text ++ drained.front) queue.text)))
       ∙ sym (append_assoc text drained.front (f.taken ++ f.left)) ∙ sym (append_assoc (text ++ drained.front) f.taken f.left) in
-      ap (λ l. (after step reply x K s l).opened) whole
-      ∙ ap (λ (P : Start). P.opened) (after-append step reply x K s ((text ++ drained.front) ++ f.taken) f.left)
-      ∙ after-not_built step reply x (after step reply x K s ((text ++ drained.front) ++ f.taken)) _ f.left here
+      ap (λ l. (after step reply foreign x K s l).opened) whole
+      ∙ ap (λ (P : Start). P.opened) (after-append step reply foreign x K s ((text ++ drained.front) ++ f.taken) f.left)
+      ∙ after-not_built step reply foreign x (after step reply foreign x K s ((text ++ drained.front) ++ f.taken)) _ f.left here
 
   module _ (faulted : S → Told → ℕ → S) where
     -- a refused feed stops within all that the queue tells
@@ -134,29 +134,29 @@ module _ {X S H : Type 0} (state : X → S) (step : S → Told → ℕ → S) (r
         rw (none refl, append-nil T) (stops_after step faulted NotYet s t v F T e stop)
 
     pub HasDrained-stops : (e : TokenizerError) (first now : Tokenizing X) (old queue : TextQueue) (v : S) → HasDrained first now old queue
-        → (e ≡ NotYet → FeedMeetsNotBuilt state step reply now queue.text)
-        → StopsFeeding state step reply faulted e now queue.text v → StopsReading state step reply faulted e first old.text v
+        → (e ≡ NotYet → FeedMeetsNotBuilt state step reply foreign now queue.text)
+        → StopsFeeding state step reply foreign faulted e now queue.text v → StopsReading state step reply foreign faulted e first old.text v
     HasDrained-stops e first now old queue v drained met stops K s text stands =
         let x : Rules = first.rules in
-        let f : Feed H = feed step reply x K s (text ++ drained.front) queue.text in
-        let mid : StandsAt state step reply now K s (text ++ drained.front) = drained.reads K s text stands in
-        let whole : told_beyond step reply x K s text old.text
-        ≡ told_beyond step reply x K s text drained.front ++ (told_beyond step reply x K s (text ++ drained.front) f.taken ++ told_beyond step reply x K s ((text ++ drained.front) ++ f.taken) f.left) =
-        ap (told_beyond step reply x K s text) (drained.parts ∙ ap (λ l. drained.front ++ l) (sym (feed-parts step reply x K s (text ++ drained.front) queue.text)))
-        ∙ told_beyond-append step reply x K s text drained.front (f.taken ++ f.left)
-        ∙ ap (λ M. told_beyond step reply x K s text drained.front ++ M) (told_beyond-append step reply x K s (text ++ drained.front) f.taken f.left) in
-        let state_now : state now.sink ≡ stepped step (state first.sink) (told_beyond step reply x K s text drained.front) =
+        let f : Feed H = feed step reply foreign x K s (text ++ drained.front) queue.text in
+        let mid : StandsAt state step reply foreign now K s (text ++ drained.front) = drained.reads K s text stands in
+        let whole : told_beyond step reply foreign x K s text old.text
+        ≡ told_beyond step reply foreign x K s text drained.front ++ (told_beyond step reply foreign x K s (text ++ drained.front) f.taken ++ told_beyond step reply foreign x K s ((text ++ drained.front) ++ f.taken) f.left) =
+        ap (told_beyond step reply foreign x K s text) (drained.parts ∙ ap (λ l. drained.front ++ l) (sym (feed-parts step reply foreign x K s (text ++ drained.front) queue.text)))
+        ∙ told_beyond-append step reply foreign x K s text drained.front (f.taken ++ f.left)
+        ∙ ap (λ M. told_beyond step reply foreign x K s text drained.front ++ M) (told_beyond-append step reply foreign x K s (text ++ drained.front) f.taken f.left) in
+        let state_now : state now.sink ≡ stepped step (state first.sink) (told_beyond step reply foreign x K s text drained.front) =
         mid.told
-        ∙ ap (λ b. stepped step s (messages (told step reply b K s (text ++ drained.front)))) drained.rules
-        ∙ state-beyond step reply x K s text drained.front
-        ∙ ap (λ u. stepped step u (told_beyond step reply x K s text drained.front)) (sym stands.told) in
-        let none : e ≡ NotYet → told_beyond step reply x K s ((text ++ drained.front) ++ f.taken) f.left ≡ [] = λ same.
-        told_beyond-behind step reply x K s ((text ++ drained.front) ++ f.taken) f.left
-        ∙ told-not_built step reply x (after step reply x K s ((text ++ drained.front) ++ f.taken)) _ f.left
-        (subst (λ b. (after step reply b K s ((text ++ drained.front) ++ (feed step reply b K s (text ++ drained.front) queue.text).taken)).opened ≡ NotBuilt) drained.rules
+        ∙ ap (λ b. stepped step s (messages (told step reply foreign b K s (text ++ drained.front)))) drained.rules
+        ∙ state-beyond step reply foreign x K s text drained.front
+        ∙ ap (λ u. stepped step u (told_beyond step reply foreign x K s text drained.front)) (sym stands.told) in
+        let none : e ≡ NotYet → told_beyond step reply foreign x K s ((text ++ drained.front) ++ f.taken) f.left ≡ [] = λ same.
+        told_beyond-behind step reply foreign x K s ((text ++ drained.front) ++ f.taken) f.left
+        ∙ told-not_built step reply foreign x (after step reply foreign x K s ((text ++ drained.front) ++ f.taken)) _ f.left
+        (subst (λ b. (after step reply foreign b K s ((text ++ drained.front) ++ (feed step reply foreign b K s (text ++ drained.front) queue.text).taken)).opened ≡ NotBuilt) drained.rules
         (met same K s (text ++ drained.front) mid)) in
         rw whole (drained-stops e (state first.sink) (state now.sink) v _ _ _ state_now none
-        (subst (λ b. Stops step faulted e (state now.sink) (told_beyond step reply b K s (text ++ drained.front) (feed step reply b K s (text ++ drained.front) queue.text).taken) v) drained.rules
+        (subst (λ b. Stops step faulted e (state now.sink) (told_beyond step reply foreign b K s (text ++ drained.front) (feed step reply foreign b K s (text ++ drained.front) queue.text).taken) v) drained.rules
         (stops K s (text ++ drained.front) mid)))
 
 -- a tokenizer whose call answers Ok had not failed

@@ -99,106 +99,106 @@ up_to_pause-shorter : {H : Type 0} → (p : Bool) (r : Reply H) (c : ℕ) (text 
 up_to_pause-shorter true r c text rest h e = rw (up_to_pause-pauses r c text rest h) (λ pausing. omega arith)
 up_to_pause-shorter false r c text rest h e = rw (up_to_pause-goes_on r c text rest h) (λ pausing. omega (arith, e pausing))
 
-module _ {S H : Type 0} (step : S → Told → ℕ → S) (reply : S → Told → ℕ → Reply H) (rules : Rules) where
+module _ {S H : Type 0} (step : S → Told → ℕ → S) (reply : S → Told → ℕ → Reply H) (foreign : S → Bool) (rules : Rules) where
   -- what is told beyond X is what the rest tells from the start behind X
   pub told_beyond-behind : (K : Start) (s : S) (X Z : List ℕ)
-      → told_beyond step reply rules K s X Z ≡ messages (told step reply rules (start_behind step reply rules K s X) (state_behind step reply rules K s X) Z)
+      → told_beyond step reply foreign rules K s X Z ≡ messages (told step reply foreign rules (start_behind step reply foreign rules K s X) (state_behind step reply foreign rules K s X) Z)
   told_beyond-behind K s X Z =
-      let E : List Event = told step reply rules K s X in
-      let M : List Message = messages (told step reply rules (start_behind step reply rules K s X) (state_behind step reply rules K s X) Z) in
-      ap (λ l. drop (length E) l) (told-append step reply rules K s X Z)
+      let E : List Event = told step reply foreign rules K s X in
+      let M : List Message = messages (told step reply foreign rules (start_behind step reply foreign rules K s X) (state_behind step reply foreign rules K s X) Z) in
+      ap (λ l. drop (length E) l) (told-append step reply foreign rules K s X Z)
       ∙ ap (λ n. drop n (messages E ++ M)) (sym (length-map E (λ (e : Event). e.message)))
       ∙ drop-append_seam (messages E) M
 
   -- the reply that pauses at a character, from the start at it
   unfoldable pub pause_here : Start → S → ℕ → Reply H
-  pause_here K s c = first_pause step reply s (messages (told step reply rules K s (c ∷ [])))
+  pause_here K s c = first_pause step reply s (messages (told step reply foreign rules K s (c ∷ [])))
 
   pub pause_at-behind : (K : Start) (s : S) (X : List ℕ) (c : ℕ)
-      → pause_at step reply rules K s X c ≡ pause_here (start_behind step reply rules K s X) (state_behind step reply rules K s X) c
+      → pause_at step reply foreign rules K s X c ≡ pause_here (start_behind step reply foreign rules K s X) (state_behind step reply foreign rules K s X) c
   unfolding pause_here
-  pause_at-behind K s X c = ap (first_pause step reply (state_behind step reply rules K s X)) (told_beyond-behind K s X (c ∷ []))
+  pause_at-behind K s X c = ap (first_pause step reply (state_behind step reply foreign rules K s X)) (told_beyond-behind K s X (c ∷ []))
 
   -- the state behind two texts
   pub state_behind-append : (K : Start) (s : S) (X Y : List ℕ)
-      → state_behind step reply rules K s (X ++ Y)
-      ≡ state_behind step reply rules (start_behind step reply rules K s X) (state_behind step reply rules K s X) Y
+      → state_behind step reply foreign rules K s (X ++ Y)
+      ≡ state_behind step reply foreign rules (start_behind step reply foreign rules K s X) (state_behind step reply foreign rules K s X) Y
   state_behind-append K s X Y =
-      ap (stepped step s) (told-append step reply rules K s X Y) ∙ stepped-append step s _ _
+      ap (stepped step s) (told-append step reply foreign rules K s X Y) ∙ stepped-append step s _ _
 
   -- a feed behind two texts is one behind the second, from the start behind the first
   pub feed-behind : (K : Start) (s : S) (X Y Q : List ℕ)
-      → feed step reply rules K s (X ++ Y) Q
-      ≡ feed step reply rules (start_behind step reply rules K s X) (state_behind step reply rules K s X) Y Q
+      → feed step reply foreign rules K s (X ++ Y) Q
+      ≡ feed step reply foreign rules (start_behind step reply foreign rules K s X) (state_behind step reply foreign rules K s X) Y Q
   unfolding feed
   feed-behind K s X Y [] = refl
   feed-behind K s X Y (c ∷ Q) =
-      let here : pause_at step reply rules K s (X ++ Y) c ≡ pause_at step reply rules (start_behind step reply rules K s X) (state_behind step reply rules K s X) Y c =
+      let here : pause_at step reply foreign rules K s (X ++ Y) c ≡ pause_at step reply foreign rules (start_behind step reply foreign rules K s X) (state_behind step reply foreign rules K s X) Y c =
       pause_at-behind K s (X ++ Y) c
-      ∙ ap (λ P. pause_here P (state_behind step reply rules K s (X ++ Y)) c) (after-append step reply rules K s X Y)
-      ∙ ap (λ t. pause_here (start_behind step reply rules (start_behind step reply rules K s X) (state_behind step reply rules K s X) Y) t c) (state_behind-append K s X Y)
-      ∙ sym (pause_at-behind (start_behind step reply rules K s X) (state_behind step reply rules K s X) Y c) in
-      ap (λ r. up_to_pause r c Q (feed step reply rules K s ((X ++ Y) ++ c ∷ []) Q)) here
-      ∙ ap (λ l. up_to_pause (pause_at step reply rules (start_behind step reply rules K s X) (state_behind step reply rules K s X) Y c) c Q (feed step reply rules K s l Q)) (append_assoc X Y (c ∷ []))
-      ∙ ap (up_to_pause (pause_at step reply rules (start_behind step reply rules K s X) (state_behind step reply rules K s X) Y c) c Q) (feed-behind K s X (Y ++ c ∷ []) Q)
+      ∙ ap (λ P. pause_here P (state_behind step reply foreign rules K s (X ++ Y)) c) (after-append step reply foreign rules K s X Y)
+      ∙ ap (λ t. pause_here (start_behind step reply foreign rules (start_behind step reply foreign rules K s X) (state_behind step reply foreign rules K s X) Y) t c) (state_behind-append K s X Y)
+      ∙ sym (pause_at-behind (start_behind step reply foreign rules K s X) (state_behind step reply foreign rules K s X) Y c) in
+      ap (λ r. up_to_pause r c Q (feed step reply foreign rules K s ((X ++ Y) ++ c ∷ []) Q)) here
+      ∙ ap (λ l. up_to_pause (pause_at step reply foreign rules (start_behind step reply foreign rules K s X) (state_behind step reply foreign rules K s X) Y c) c Q (feed step reply foreign rules K s l Q)) (append_assoc X Y (c ∷ []))
+      ∙ ap (up_to_pause (pause_at step reply foreign rules (start_behind step reply foreign rules K s X) (state_behind step reply foreign rules K s X) Y c) c Q) (feed-behind K s X (Y ++ c ∷ []) Q)
 
   -- a feed behind X is one from the start behind X
   pub feed-anew : (K : Start) (s : S) (X Q : List ℕ)
-      → feed step reply rules K s X Q
-      ≡ feed step reply rules (start_behind step reply rules K s X) (state_behind step reply rules K s X) [] Q
-  feed-anew K s X Q = ap (λ l. feed step reply rules K s l Q) (sym (append-nil X)) ∙ feed-behind K s X [] Q
+      → feed step reply foreign rules K s X Q
+      ≡ feed step reply foreign rules (start_behind step reply foreign rules K s X) (state_behind step reply foreign rules K s X) [] Q
+  feed-anew K s X Q = ap (λ l. feed step reply foreign rules K s l Q) (sym (append-nil X)) ∙ feed-behind K s X [] Q
 
   -- a feed whose first character is c
   pub feed-cons : (K : Start) (s : S) (c : ℕ) (Q : List ℕ)
-      → feed step reply rules K s [] (c ∷ Q)
-      ≡ up_to_pause (pause_here K s c) c Q (feed step reply rules (start_behind step reply rules K s (c ∷ [])) (state_behind step reply rules K s (c ∷ [])) [] Q)
+      → feed step reply foreign rules K s [] (c ∷ Q)
+      ≡ up_to_pause (pause_here K s c) c Q (feed step reply foreign rules (start_behind step reply foreign rules K s (c ∷ [])) (state_behind step reply foreign rules K s (c ∷ [])) [] Q)
   unfolding feed stepped
   feed-cons K s c Q =
-      let state : state_behind step reply rules K s [] ≡ s = ap (stepped step s) (told-nil step reply rules K s) in
-      ap (λ r. up_to_pause r c Q (feed step reply rules K s (c ∷ []) Q))
-      (pause_at-behind K s [] c ∙ ap (λ P. pause_here P (state_behind step reply rules K s []) c) (after-nil step reply rules K s) ∙ ap (λ t. pause_here K t c) state)
+      let state : state_behind step reply foreign rules K s [] ≡ s = ap (stepped step s) (told-nil step reply foreign rules K s) in
+      ap (λ r. up_to_pause r c Q (feed step reply foreign rules K s (c ∷ []) Q))
+      (pause_at-behind K s [] c ∙ ap (λ P. pause_here P (state_behind step reply foreign rules K s []) c) (after-nil step reply foreign rules K s) ∙ ap (λ t. pause_here K t c) state)
       ∙ ap (up_to_pause (pause_here K s c) c Q) (feed-anew K s (c ∷ []) Q)
 
   pub feed-pauses : (K : Start) (s : S) (c : ℕ) (Q : List ℕ) → pauses (pause_here K s c) ≡ true
-      → feed step reply rules K s [] (c ∷ Q) ≡ record { taken = c ∷ []; left = Q; answer = pause_here K s c }
+      → feed step reply foreign rules K s [] (c ∷ Q) ≡ record { taken = c ∷ []; left = Q; answer = pause_here K s c }
   feed-pauses K s c Q h = feed-cons K s c Q ∙ up_to_pause-pauses _ c Q _ h
 
-  pub feed-takes : (K : Start) (s : S) (c : ℕ) (Q : List ℕ) → (more : List ℕ) × ((feed step reply rules K s [] (c ∷ Q)).taken ≡ c ∷ more)
+  pub feed-takes : (K : Start) (s : S) (c : ℕ) (Q : List ℕ) → (more : List ℕ) × ((feed step reply foreign rules K s [] (c ∷ Q)).taken ≡ c ∷ more)
   feed-takes K s c Q = rw (feed-cons K s c Q) (up_to_pause-takes (pauses (pause_here K s c)) _ c Q _ refl)
 
   -- a feed takes what nothing pauses in, and goes on behind it
-  pub feed-goes_on : (K : Start) (s : S) (Y Q : List ℕ) → pauses (first_pause step reply s (messages (told step reply rules K s Y))) ≡ false
-      → feed step reply rules K s [] (Y ++ Q)
-      ≡ takes_before Y (feed step reply rules (start_behind step reply rules K s Y) (state_behind step reply rules K s Y) [] Q)
+  pub feed-goes_on : (K : Start) (s : S) (Y Q : List ℕ) → pauses (first_pause step reply s (messages (told step reply foreign rules K s Y))) ≡ false
+      → feed step reply foreign rules K s [] (Y ++ Q)
+      ≡ takes_before Y (feed step reply foreign rules (start_behind step reply foreign rules K s Y) (state_behind step reply foreign rules K s Y) [] Q)
   unfolding stepped pause_here first_pause
   feed-goes_on K s [] Q h =
-      sym (ap (λ P. takes_before [] (feed step reply rules P (state_behind step reply rules K s []) [] Q)) (after-nil step reply rules K s)
-      ∙ ap (λ t. takes_before [] (feed step reply rules K t [] Q)) (ap (stepped step s) (told-nil step reply rules K s)))
+      sym (ap (λ P. takes_before [] (feed step reply foreign rules P (state_behind step reply foreign rules K s []) [] Q)) (after-nil step reply foreign rules K s)
+      ∙ ap (λ t. takes_before [] (feed step reply foreign rules K t [] Q)) (ap (stepped step s) (told-nil step reply foreign rules K s)))
   feed-goes_on K s (c ∷ Y) Q h =
-      let P : Start = start_behind step reply rules K s (c ∷ []) in
-      let t : S = state_behind step reply rules K s (c ∷ []) in
-      let both = pauses-parts (pauses (pause_here K s c)) (pause_here K s c) (first_pause step reply t (messages (told step reply rules P t Y))) refl
-      (sym (ap pauses (ap (first_pause step reply s) (told-append step reply rules K s (c ∷ []) Y) ∙ first_pause-append step reply s _ _)) ∙ h) in
+      let P : Start = start_behind step reply foreign rules K s (c ∷ []) in
+      let t : S = state_behind step reply foreign rules K s (c ∷ []) in
+      let both = pauses-parts (pauses (pause_here K s c)) (pause_here K s c) (first_pause step reply t (messages (told step reply foreign rules P t Y))) refl
+      (sym (ap pauses (ap (first_pause step reply s) (told-append step reply foreign rules K s (c ∷ []) Y) ∙ first_pause-append step reply s _ _)) ∙ h) in
       feed-cons K s c (Y ++ Q)
       ∙ up_to_pause-goes_on _ c (Y ++ Q) _ both.0
       ∙ ap (takes_before (c ∷ [])) (feed-goes_on P t Y Q both.1)
-      ∙ ap (λ N. takes_before (c ∷ Y) (feed step reply rules N (state_behind step reply rules P t Y) [] Q)) (sym (after-append step reply rules K s (c ∷ []) Y))
-      ∙ ap (λ v. takes_before (c ∷ Y) (feed step reply rules (start_behind step reply rules K s (c ∷ Y)) v [] Q)) (sym (state_behind-append K s (c ∷ []) Y))
+      ∙ ap (λ N. takes_before (c ∷ Y) (feed step reply foreign rules N (state_behind step reply foreign rules P t Y) [] Q)) (sym (after-append step reply foreign rules K s (c ∷ []) Y))
+      ∙ ap (λ v. takes_before (c ∷ Y) (feed step reply foreign rules (start_behind step reply foreign rules K s (c ∷ Y)) v [] Q)) (sym (state_behind-append K s (c ∷ []) Y))
 
   -- a feed takes a beginning of the queue's text
-  pub feed-parts : (K : Start) (s : S) (X Q : List ℕ) → (feed step reply rules K s X Q).taken ++ (feed step reply rules K s X Q).left ≡ Q
+  pub feed-parts : (K : Start) (s : S) (X Q : List ℕ) → (feed step reply foreign rules K s X Q).taken ++ (feed step reply foreign rules K s X Q).left ≡ Q
   unfolding feed
   feed-parts K s X [] = refl
-  feed-parts K s X (c ∷ Q) = up_to_pause-parts (pauses (pause_at step reply rules K s X c)) _ c Q _ refl (feed-parts K s (X ++ c ∷ []) Q)
+  feed-parts K s X (c ∷ Q) = up_to_pause-parts (pauses (pause_at step reply foreign rules K s X c)) _ c Q _ refl (feed-parts K s (X ++ c ∷ []) Q)
 
-  pub feed-done : (K : Start) (s : S) (X Q : List ℕ) → pauses (feed step reply rules K s X Q).answer ≡ false → (feed step reply rules K s X Q).left ≡ []
+  pub feed-done : (K : Start) (s : S) (X Q : List ℕ) → pauses (feed step reply foreign rules K s X Q).answer ≡ false → (feed step reply foreign rules K s X Q).left ≡ []
   unfolding feed
   feed-done K s X [] done = refl
-  feed-done K s X (c ∷ Q) done = up_to_pause-done (pauses (pause_at step reply rules K s X c)) _ c Q _ refl (feed-done K s (X ++ c ∷ []) Q) done
+  feed-done K s X (c ∷ Q) done = up_to_pause-done (pauses (pause_at step reply foreign rules K s X c)) _ c Q _ refl (feed-done K s (X ++ c ∷ []) Q) done
 
-  pub feed-shorter : (K : Start) (s : S) (X Q : List ℕ) → pauses (feed step reply rules K s X Q).answer ≡ true
-      → length (feed step reply rules K s X Q).left < length Q
+  pub feed-shorter : (K : Start) (s : S) (X Q : List ℕ) → pauses (feed step reply foreign rules K s X Q).answer ≡ true
+      → length (feed step reply foreign rules K s X Q).left < length Q
   unfolding feed
   feed-shorter K s X [] pausing = absurd (false≢true pausing)
   feed-shorter K s X (c ∷ Q) pausing =
-      up_to_pause-shorter (pauses (pause_at step reply rules K s X c)) _ c Q _ refl (feed-shorter K s (X ++ c ∷ []) Q) pausing
+      up_to_pause-shorter (pauses (pause_at step reply foreign rules K s X c)) _ c Q _ refl (feed-shorter K s (X ++ c ∷ []) Q) pausing

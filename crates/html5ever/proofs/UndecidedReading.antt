@@ -26,7 +26,7 @@ use Rattle.html5grammar.specs.Reading.{Brought, told, messages, after}
 use Rattle.html5grammar.specs.Reading.Here.{Tells}
 use Rattle.html5grammar.specs.Reference.{in_value, reference, is_undecided, ends_number, has_digits, late_tokens, opened_in, opened_behind}
 use Rattle.html5grammar.specs.Start.{Stand, Start, Open, Rules, is_undecided_open, held_len}
-use Rattle.html5grammar.specs.Start.Open.{Between, LessThan, LessThanSolidus, InTag, InRaw, InDeclaration, InComment, InBogusComment, InDoctype, InDoctypeKeyword, InReference, NotBuilt}
+use Rattle.html5grammar.specs.Start.Open.{Between, LessThan, LessThanSolidus, InTag, InRaw, InDeclaration, InComment, InBogusComment, InDoctype, InDoctypeKeyword, InCdata, InReference, NotBuilt}
 use Rattle.html5grammar.specs.Start.Stand.{InText, InAttribute}
 use Rattle.html5parts.specs.CharRef.{stand_of, with_reference}
 use Rattle.html5parts.specs.Steps.{IsBuilt, Leads}
@@ -53,7 +53,7 @@ ends-good (d ∷ held) c ends =
     let last = and_parts (has_digits held) (c == semicolon) (and_parts (d == number_sign) _ ends).1 in
     rw (eqb-true c semicolon last.1) refl
 
-module _ (rules : Rules) (is_in : Bool) (held : List ℕ) (opened : Open) (c : ℕ) (inside : is_in ≡ true) where
+module _ (rules : Rules) (foreign is_in : Bool) (held : List ℕ) (opened : Open) (c : ℕ) (inside : is_in ≡ true) where
   abbrev stand : Stand
   stand = stand_of opened
 
@@ -71,12 +71,12 @@ module _ (rules : Rules) (is_in : Bool) (held : List ℕ) (opened : Open) (c : �
   if-record false = refl
 
   pub brought-held : is_undecided rules.names (held ++ c ∷ []) ≡ true
-      → brought_at rules (with_reference is_in held opened) c ≡ record { settled = []; here = Tells [] (InReference stand (held ++ c ∷ [])) }
+      → brought_at rules foreign (with_reference is_in held opened) c ≡ record { settled = []; here = Tells [] (InReference stand (held ++ c ∷ [])) }
   unfolding with_reference brought_at reference_step
   brought-held h = rw (inside, h) refl
 
   pub brought-decided : is_undecided rules.names (held ++ c ∷ []) ≡ false
-      → brought_at rules (with_reference is_in held opened) c
+      → brought_at rules foreign (with_reference is_in held opened) c
       ≡ record {
         settled = late_tokens stand (reference rules (in_value stand) held (Some c)) held;
         here = if ends_number held c then Tells [] behind else step_at rules.exact behind c;
@@ -86,7 +86,7 @@ module _ (rules : Rules) (is_in : Bool) (held : List ℕ) (opened : Open) (c : �
 
   -- the character is held too
   pub belongs-held : is_undecided rules.names (held ++ c ∷ []) ≡ true → is_bad_character c ≡ false
-      → BelongsTo rules (with_reference is_in held opened) c (with_reference is_in (held ++ c ∷ []) opened)
+      → BelongsTo rules foreign (with_reference is_in held opened) c (with_reference is_in (held ++ c ∷ []) opened)
   unfolding with_reference
   belongs-held h good = record {
     here = ap (λ (b : Brought Open). b.here) (brought-held h) ∙ rw inside refl;
@@ -96,7 +96,7 @@ module _ (rules : Rules) (is_in : Bool) (held : List ℕ) (opened : Open) (c : �
 
   -- the character decides, and is the semicolon of a number or is read on
   pub belongs-end : (later : Open) → is_undecided rules.names (held ++ c ∷ []) ≡ false → ends_number held c ≡ true → later ≡ behind
-      → BelongsTo rules (with_reference is_in held opened) c later
+      → BelongsTo rules foreign (with_reference is_in held opened) c later
   belongs-end later h ends is = record {
     here = ap (λ (b : Brought Open). b.here) (brought-decided h) ∙ rw (ends, is) refl;
     good = ends-good held c ends;
@@ -104,7 +104,7 @@ module _ (rules : Rules) (is_in : Bool) (held : List ℕ) (opened : Open) (c : �
   }
 
   pub decides : (later : Open) → is_undecided rules.names (held ++ c ∷ []) ≡ false → ends_number held c ≡ false → later ≡ behind
-      → Decides rules (with_reference is_in held opened) c later
+      → Decides rules foreign (with_reference is_in held opened) c later
   decides later h ends is = record {
     here = ap (λ (b : Brought Open). b.here) (brought-decided h) ∙ rw (ends, is) refl;
     decided = ap is_undecided_open is ∙ opened_in-decided stand _;
@@ -137,6 +137,7 @@ end-none rules (InComment text) none = (refl, refl)
 end-none rules (InBogusComment text) none = (refl, refl)
 end-none rules (InDoctype place doctype) none = (refl, refl)
 end-none rules (InDoctypeKeyword held doctype) none = absurd (false≢true (sym none))
+end-none rules (InCdata text) none = (refl, refl)
 end-none rules (InReference place held) none = absurd (false≢true (sym none))
 end-none rules NotBuilt none = (refl, refl)
 
@@ -152,76 +153,76 @@ end-reference rules is_in held opened inside = rw inside refl
 
 -- one character of the stream, for which d is read
 
-module _ {S H : Type 0} (step : S → Told → ℕ → S) (reply : S → Told → ℕ → Reply H) (rules : Rules) (K : Start) (s : S) (c d : ℕ)
+module _ {S H : Type 0} (step : S → Told → ℕ → S) (reply : S → Told → ℕ → Reply H) (foreign : S → Bool) (rules : Rules) (K : Start) (s : S) (c d : ℕ)
     (one : normalised K.input (c ∷ []) ≡ d ∷ []) (fits : K.input.line < 2 ^ 64) where
   abbrev line : ℕ
   line = (input_after K.input (c ∷ [])).line
 
   abbrev settled : List Told
-  settled = tokens_of_late (brought_at rules K.opened d).settled
+  settled = tokens_of_late (brought_at rules (foreign s) K.opened d).settled
 
-  told-parts : messages (told step reply rules K s (c ∷ []))
-      ≡ on_line K.input.line settled ++ messages_here step reply rules line d (brought_at rules K.opened d).here
-  told-parts = told-one step reply rules K s c d one ∙ rw (line_after-none K.input fits) refl
+  told-parts : messages (told step reply foreign rules K s (c ∷ []))
+      ≡ on_line K.input.line settled ++ messages_here step reply rules line d (brought_at rules (foreign s) K.opened d).here
+  told-parts = told-one step reply foreign rules K s c d one ∙ rw (line_after-none K.input fits) refl
 
-  after-parts : (after step reply rules K s (c ∷ [])).opened
-      ≡ opened_here step reply rules (stepped step s (on_line K.input.line settled)) line K.last_start_tag d (brought_at rules K.opened d).here
-  after-parts = ap (λ (P : Start). P.opened) (after-one step reply rules K s c d one) ∙ rw (line_after-none K.input fits) refl
+  after-parts : (after step reply foreign rules K s (c ∷ [])).opened
+      ≡ opened_here step reply rules (stepped step s (on_line K.input.line settled)) line K.last_start_tag d (brought_at rules (foreign s) K.opened d).here
+  after-parts = ap (λ (P : Start). P.opened) (after-one step reply foreign rules K s c d one) ∙ rw (line_after-none K.input fits) refl
 
-  last-parts : (after step reply rules K s (c ∷ [])).last_start_tag ≡ last_here K.last_start_tag (brought_at rules K.opened d).here
-  last-parts = ap (λ (P : Start). P.last_start_tag) (after-one step reply rules K s c d one)
+  last-parts : (after step reply foreign rules K s (c ∷ [])).last_start_tag ≡ last_here K.last_start_tag (brought_at rules (foreign s) K.opened d).here
+  last-parts = ap (λ (P : Start). P.last_start_tag) (after-one step reply foreign rules K s c d one)
 
   pub last-plain : is_undecided_open K.opened ≡ false
-      → (after step reply rules K s (c ∷ [])).last_start_tag ≡ last_here K.last_start_tag (step_at rules.exact K.opened d)
-  last-plain none = last-parts ∙ rw (brought-step rules K.opened d none) refl
+      → (after step reply foreign rules K s (c ∷ [])).last_start_tag ≡ last_here K.last_start_tag (step_at rules.exact K.opened d)
+  last-plain none = last-parts ∙ rw (brought-step rules (foreign s) K.opened d none) refl
 
-  pub last-belongs : (later : Open) → BelongsTo rules K.opened d later → (after step reply rules K s (c ∷ [])).last_start_tag ≡ K.last_start_tag
+  pub last-belongs : (later : Open) → BelongsTo rules (foreign s) K.opened d later → (after step reply foreign rules K s (c ∷ [])).last_start_tag ≡ K.last_start_tag
   unfolding last_here
   last-belongs later b = last-parts ∙ rw b.here refl
 
-  pub last-decides : (later : Open) → Decides rules K.opened d later
-      → (after step reply rules K s (c ∷ [])).last_start_tag ≡ last_here K.last_start_tag (step_at rules.exact later d)
+  pub last-decides : (later : Open) → Decides rules (foreign s) K.opened d later
+      → (after step reply foreign rules K s (c ∷ [])).last_start_tag ≡ last_here K.last_start_tag (step_at rules.exact later d)
   last-decides later b = last-parts ∙ rw b.here refl
 
   -- nothing is undecided
   pub told-plain : is_undecided_open K.opened ≡ false
-      → messages (told step reply rules K s (c ∷ [])) ≡ messages_here step reply rules line d (step_at rules.exact K.opened d)
-  told-plain none = told-parts ∙ rw (brought-step rules K.opened d none) refl
+      → messages (told step reply foreign rules K s (c ∷ [])) ≡ messages_here step reply rules line d (step_at rules.exact K.opened d)
+  told-plain none = told-parts ∙ rw (brought-step rules (foreign s) K.opened d none) refl
 
   pub after-plain : is_undecided_open K.opened ≡ false
-      → (after step reply rules K s (c ∷ [])).opened ≡ opened_here step reply rules s line K.last_start_tag d (step_at rules.exact K.opened d)
+      → (after step reply foreign rules K s (c ∷ [])).opened ≡ opened_here step reply rules s line K.last_start_tag d (step_at rules.exact K.opened d)
   unfolding stepped
-  after-plain none = after-parts ∙ rw (brought-step rules K.opened d none) refl
+  after-plain none = after-parts ∙ rw (brought-step rules (foreign s) K.opened d none) refl
 
   -- it belongs to what is undecided
-  pub told-belongs : (later : Open) → BelongsTo rules K.opened d later → messages (told step reply rules K s (c ∷ [])) ≡ on_line K.input.line settled
+  pub told-belongs : (later : Open) → BelongsTo rules (foreign s) K.opened d later → messages (told step reply foreign rules K s (c ∷ [])) ≡ on_line K.input.line settled
   unfolding messages_here
   told-belongs later b = told-parts ∙ rw (b.here, b.good, and-false rules.exact) (append-nil (on_line K.input.line settled))
 
-  pub after-belongs : (later : Open) → BelongsTo rules K.opened d later → (after step reply rules K s (c ∷ [])).opened ≡ later
+  pub after-belongs : (later : Open) → BelongsTo rules (foreign s) K.opened d later → (after step reply foreign rules K s (c ∷ [])).opened ≡ later
   unfolding opened_here
   after-belongs later b = after-parts ∙ rw b.here refl
 
   -- it decides, and is then read
-  pub told-decides : (later : Open) → Decides rules K.opened d later
-      → messages (told step reply rules K s (c ∷ [])) ≡ on_line K.input.line settled ++ messages_here step reply rules line d (step_at rules.exact later d)
+  pub told-decides : (later : Open) → Decides rules (foreign s) K.opened d later
+      → messages (told step reply foreign rules K s (c ∷ [])) ≡ on_line K.input.line settled ++ messages_here step reply rules line d (step_at rules.exact later d)
   told-decides later b = told-parts ∙ rw b.here refl
 
-  pub after-decides : (later : Open) → Decides rules K.opened d later
-      → (after step reply rules K s (c ∷ [])).opened ≡ opened_here step reply rules (stepped step s (on_line K.input.line settled)) line K.last_start_tag d (step_at rules.exact later d)
+  pub after-decides : (later : Open) → Decides rules (foreign s) K.opened d later
+      → (after step reply foreign rules K s (c ∷ [])).opened ≡ opened_here step reply rules (stepped step s (on_line K.input.line settled)) line K.last_start_tag d (step_at rules.exact later d)
   after-decides later b = after-parts ∙ rw b.here refl
 
   module _ (keeps_on : (s : S) (told : Told) (line : ℕ) → is_tag told ≡ false → reply s told line ≡ KeepOn) where
     -- nothing that is decided late pauses
     pub quiet : first_pause step reply s (on_line K.input.line settled) ≡ KeepOn
-    quiet = first_pause-no_tags step reply keeps_on s _ (no_tag_messages K.input.line settled (no_tags-settled rules K.opened d))
+    quiet = first_pause-no_tags step reply keeps_on s _ (no_tag_messages K.input.line settled (no_tags-settled rules (foreign s) K.opened d))
 
-    pub pause-belongs : (later : Open) → BelongsTo rules K.opened d later → KeepOn ≡ first_pause step reply s (messages (told step reply rules K s (c ∷ [])))
+    pub pause-belongs : (later : Open) → BelongsTo rules (foreign s) K.opened d later → KeepOn ≡ first_pause step reply s (messages (told step reply foreign rules K s (c ∷ [])))
     pause-belongs later b = sym (ap (first_pause step reply s) (told-belongs later b) ∙ quiet)
 
-    pub pause-decides : (later : Open) → Decides rules K.opened d later
+    pub pause-decides : (later : Open) → Decides rules (foreign s) K.opened d later
         → first_pause step reply (stepped step s (on_line K.input.line settled)) (messages_here step reply rules line d (step_at rules.exact later d))
-        ≡ first_pause step reply s (messages (told step reply rules K s (c ∷ [])))
+        ≡ first_pause step reply s (messages (told step reply foreign rules K s (c ∷ [])))
     pause-decides later b =
         sym (ap (first_pause step reply s) (told-decides later b)
         ∙ first_pause-append step reply s (on_line K.input.line settled) _
@@ -230,20 +231,20 @@ module _ {S H : Type 0} (step : S → Told → ℕ → S) (reply : S → Told �
   -- a refusal within what is decided late
   pub tells-late : {T : Type 0} (faulted : S → Told → ℕ → S) (r : Result T TokenizerError) (e : TokenizerError) (t : S)
       → IsErrAnd r (λ x. x ≡ e) → telling.IsRefusal e → telling.Stops step faulted e s (on_line K.input.line settled) t
-      → telling.Tells step faulted r s (messages (told step reply rules K s (c ∷ []))) t
+      → telling.Tells step faulted r s (messages (told step reply foreign rules K s (c ∷ []))) t
   tells-late faulted r e t h refusal stop =
       rw told-parts (tells_stop step faulted r e s t _ h (stops_before step faulted e s t (on_line K.input.line settled) _ refusal stop))
 
   pub leads-late : {T : Type 0} (r : Result T TokenizerError) (e : TokenizerError) (later : Open)
-      → IsErrAnd r (λ x. x ≡ e) → telling.IsRefusal e → Leads r later (after step reply rules K s (c ∷ [])).opened
+      → IsErrAnd r (λ x. x ≡ e) → telling.IsRefusal e → Leads r later (after step reply foreign rules K s (c ∷ [])).opened
   leads-late r Memory later h refusal = let p = err_from_is_err_and r h in rw (p.1, p.2) tt
   leads-late r Sink later h refusal = let p = err_from_is_err_and r h in rw (p.1, p.2) tt
   leads-late r Failed later h refusal = absurd refusal
   leads-late r NotYet later h refusal = absurd refusal
 
-  pub tells-decides : {T : Type 0} (faulted : S → Told → ℕ → S) (r : Result T TokenizerError) (t u : S) (later : Open) → Decides rules K.opened d later
+  pub tells-decides : {T : Type 0} (faulted : S → Told → ℕ → S) (r : Result T TokenizerError) (t u : S) (later : Open) → Decides rules (foreign s) K.opened d later
       → t ≡ stepped step s (on_line K.input.line settled)
       → telling.Tells step faulted r t (messages_here step reply rules line d (step_at rules.exact later d)) u
-      → telling.Tells step faulted r s (messages (told step reply rules K s (c ∷ []))) u
+      → telling.Tells step faulted r s (messages (told step reply foreign rules K s (c ∷ []))) u
   tells-decides faulted r t u later b told_late tells =
       rw (told-decides later b) (tells_after step faulted r s t u (on_line K.input.line settled) _ told_late tells)

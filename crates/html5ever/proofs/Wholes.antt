@@ -1,5 +1,5 @@
 -- A whole text: what feeding it and ending leave.
-use Rattle.std.proofs.Common.{◌≡◌, inl, inr, ℕ, List, [], ◌++◌, refl, ap, sym, ◌∙◌, length, drop, subst}
+use Rattle.std.proofs.Common.{Bool, ◌≡◌, inl, inr, ℕ, List, [], ◌++◌, refl, ap, sym, ◌∙◌, length, drop, subst}
 use Rattle.std.proofs.lemmas.List.{append-nil, append_assoc}
 use Rattle.std.proofs.Common.{Result, Ok, Err, true, false}
 use Rattle.std.specs.Prelude.{IfOk, IfErr, ◌≢◌}
@@ -27,108 +27,108 @@ use Rattle.html5states.proofs.Tellings.{stops_before, stops_after}
 use Rattle.std.proofs.Math.Seq.{drop-append_seam}
 use Rattle.std.proofs.lemmas.List.{length-map}
 use Rattle.html5grammar.specs.EndOfInput.{told_at_end_of, late_at_end_of, open_at_end_of}
-use Rattle.html5grammar.specs.Start.Open.{Between, LessThan, LessThanSolidus, InTag, InRaw, InDeclaration, InComment, InBogusComment, InDoctype, InDoctypeKeyword, InReference, NotBuilt}
+use Rattle.html5grammar.specs.Start.Open.{Between, LessThan, LessThanSolidus, InTag, InRaw, InDeclaration, InComment, InBogusComment, InDoctype, InDoctypeKeyword, InCdata, InReference, NotBuilt}
 
-module _ {X S H : Type 0} (state : X → S) (step : S → Told → ℕ → S) (reply : S → Told → ℕ → Reply H) (faulted : S → Told → ℕ → S) where
+module _ {X S H : Type 0} (state : X → S) (step : S → Told → ℕ → S) (reply : S → Told → ℕ → Reply H) (foreign : S → Bool) (faulted : S → Told → ℕ → S) where
   -- the reading is what is told, and then what the end tells
   reading-parts : (rules : Rules) (K : Start) (s : S) (text : List ℕ)
-      → messages (reading step reply rules K s text) ≡ messages (told step reply rules K s text) ++ told_at_end step reply rules K s text
+      → messages (reading step reply foreign rules K s text) ≡ messages (told step reply foreign rules K s text) ++ told_at_end step reply foreign rules K s text
   reading-parts rules K s text =
-      let E : List Event = told step reply rules K s text in
-      let N : List Message = messages (end_events step reply rules K (read step reply rules K s text).opened (normalised K.input text)) in
-      let whole : messages (reading step reply rules K s text) ≡ messages E ++ N =
-      ap (λ F. messages F) (reading-events step reply rules K s text)
-      ∙ messages-append E (end_events step reply rules K (read step reply rules K s text).opened (normalised K.input text)) in
+      let E : List Event = told step reply foreign rules K s text in
+      let N : List Message = messages (end_events step reply foreign rules K (read step reply foreign rules K s text).opened (normalised K.input text)) in
+      let whole : messages (reading step reply foreign rules K s text) ≡ messages E ++ N =
+      ap (λ F. messages F) (reading-events step reply foreign rules K s text)
+      ∙ messages-append E (end_events step reply foreign rules K (read step reply foreign rules K s text).opened (normalised K.input text)) in
       whole
       ∙ ap (λ l. messages E ++ l)
       (sym (ap (λ l. drop (length E) l) whole
       ∙ ap (λ n. drop n (messages E ++ N)) (sym (length-map E (λ (e : Event). e.message)))
       ∙ drop-append_seam (messages E) N))
 
-  state-start : (t : Tokenizing X) (K : Start) (s : S) → StandsAt state step reply t K s [] → state t.sink ≡ s
+  state-start : (t : Tokenizing X) (K : Start) (s : S) → StandsAt state step reply foreign t K s [] → state t.sink ≡ s
   unfolding stepped
-  state-start t K s stands = stands.told ∙ ap (stepped step s) (told-nil step reply t.rules K s)
+  state-start t K s stands = stands.told ∙ ap (stepped step s) (told-nil step reply foreign t.rules K s)
 
   -- where what isn't built yet was met, the end tells nothing
-  end-not_built : (rules : Rules) (K : Start) (s : S) (text : List ℕ) → (after step reply rules K s text).opened ≡ NotBuilt
-      → messages (reading step reply rules K s text) ≡ messages (told step reply rules K s text)
+  end-not_built : (rules : Rules) (K : Start) (s : S) (text : List ℕ) → (after step reply foreign rules K s text).opened ≡ NotBuilt
+      → messages (reading step reply foreign rules K s text) ≡ messages (told step reply foreign rules K s text)
   unfolding end_events late_at_end_of open_at_end_of late_events told_at_end_of
   end-not_built rules K s text met =
-      ap (λ F. messages F) (reading-events step reply rules K s text)
-      ∙ messages-append (told step reply rules K s text) (end_events step reply rules K (read step reply rules K s text).opened (normalised K.input text))
-      ∙ rw met (append-nil (messages (told step reply rules K s text)))
+      ap (λ F. messages F) (reading-events step reply foreign rules K s text)
+      ∙ messages-append (told step reply foreign rules K s text) (end_events step reply foreign rules K (read step reply foreign rules K s text).opened (normalised K.input text))
+      ∙ rw met (append-nil (messages (told step reply foreign rules K s text)))
 
   -- the reading of a text in three parts
   reading-within : (rules : Rules) (K : Start) (s : S) (text taken more : List ℕ)
-      → messages (reading step reply rules K s ((text ++ taken) ++ more))
-      ≡ messages (told step reply rules K s text)
-      ++ (told_beyond step reply rules K s text taken ++ (told_beyond step reply rules K s (text ++ taken) more ++ told_at_end step reply rules K s ((text ++ taken) ++ more)))
+      → messages (reading step reply foreign rules K s ((text ++ taken) ++ more))
+      ≡ messages (told step reply foreign rules K s text)
+      ++ (told_beyond step reply foreign rules K s text taken ++ (told_beyond step reply foreign rules K s (text ++ taken) more ++ told_at_end step reply foreign rules K s ((text ++ taken) ++ more)))
   reading-within rules K s text taken more =
-      let T : List Message = messages (told step reply rules K s text) in
-      let B : List Message = told_beyond step reply rules K s text taken in
-      let C : List Message = told_beyond step reply rules K s (text ++ taken) more in
-      let E : List Message = told_at_end step reply rules K s ((text ++ taken) ++ more) in
+      let T : List Message = messages (told step reply foreign rules K s text) in
+      let B : List Message = told_beyond step reply foreign rules K s text taken in
+      let C : List Message = told_beyond step reply foreign rules K s (text ++ taken) more in
+      let E : List Message = told_at_end step reply foreign rules K s ((text ++ taken) ++ more) in
       reading-parts rules K s ((text ++ taken) ++ more)
-      ∙ ap (λ l. l ++ E) (told-beyond step reply rules K s (text ++ taken) more ∙ ap (λ l. l ++ C) (told-beyond step reply rules K s text taken))
+      ∙ ap (λ l. l ++ E) (told-beyond step reply foreign rules K s (text ++ taken) more ∙ ap (λ l. l ++ C) (told-beyond step reply foreign rules K s text taken))
       ∙ append_assoc (T ++ B) C E
       ∙ append_assoc T B (C ++ E)
 
   -- a feed that is refused within a run
   pub whole-within_stops : (end_faulted : S → S) (e : TokenizerError) (t : Tokenizing X) (K : Start) (s u : S) (text taken more : List ℕ)
-      → StandsAt state step reply t K s text
-      → (e ≡ NotYet → (after step reply t.rules K s (text ++ taken)).opened ≡ NotBuilt)
-      → Stops step faulted e (state t.sink) (told_beyond step reply t.rules K s text taken) u
-      → WholeStops step faulted end_faulted e s (messages (reading step reply t.rules K s ((text ++ taken) ++ more))) u
+      → StandsAt state step reply foreign t K s text
+      → (e ≡ NotYet → (after step reply foreign t.rules K s (text ++ taken)).opened ≡ NotBuilt)
+      → Stops step faulted e (state t.sink) (told_beyond step reply foreign t.rules K s text taken) u
+      → WholeStops step faulted end_faulted e s (messages (reading step reply foreign t.rules K s ((text ++ taken) ++ more))) u
   whole-within_stops end_faulted Memory t K s u text taken more stands met stops =
       rw (reading-within t.rules K s text taken more)
-      (stops_after step faulted Memory s (state t.sink) u (messages (told step reply t.rules K s text)) _ stands.told
-      (stops_before step faulted Memory (state t.sink) u (told_beyond step reply t.rules K s text taken) _ tt stops))
+      (stops_after step faulted Memory s (state t.sink) u (messages (told step reply foreign t.rules K s text)) _ stands.told
+      (stops_before step faulted Memory (state t.sink) u (told_beyond step reply foreign t.rules K s text taken) _ tt stops))
   whole-within_stops end_faulted Sink t K s u text taken more stands met stops =
       rw (reading-within t.rules K s text taken more)
-      (inl (stops_after step faulted Sink s (state t.sink) u (messages (told step reply t.rules K s text)) _ stands.told
-      (stops_before step faulted Sink (state t.sink) u (told_beyond step reply t.rules K s text taken) _ tt stops)))
+      (inl (stops_after step faulted Sink s (state t.sink) u (messages (told step reply foreign t.rules K s text)) _ stands.told
+      (stops_before step faulted Sink (state t.sink) u (told_beyond step reply foreign t.rules K s text taken) _ tt stops)))
   whole-within_stops end_faulted Failed t K s u text taken more stands met stops = stops
   whole-within_stops end_faulted NotYet t K s u text taken more stands met stops =
-      let behind : (after step reply t.rules K s ((text ++ taken) ++ more)).opened ≡ NotBuilt =
-      ap (λ (P : Start). P.opened) (after-append step reply t.rules K s (text ++ taken) more)
-      ∙ after-not_built step reply t.rules (after step reply t.rules K s (text ++ taken)) _ more (met refl) in
-      let whole : messages (reading step reply t.rules K s ((text ++ taken) ++ more))
-      ≡ messages (told step reply t.rules K s text) ++ told_beyond step reply t.rules K s text taken =
+      let behind : (after step reply foreign t.rules K s ((text ++ taken) ++ more)).opened ≡ NotBuilt =
+      ap (λ (P : Start). P.opened) (after-append step reply foreign t.rules K s (text ++ taken) more)
+      ∙ after-not_built step reply foreign t.rules (after step reply foreign t.rules K s (text ++ taken)) _ more (met refl) in
+      let whole : messages (reading step reply foreign t.rules K s ((text ++ taken) ++ more))
+      ≡ messages (told step reply foreign t.rules K s text) ++ told_beyond step reply foreign t.rules K s text taken =
       end-not_built t.rules K s ((text ++ taken) ++ more) behind
-      ∙ told-append step reply t.rules K s (text ++ taken) more
-      ∙ ap (λ l. messages (told step reply t.rules K s (text ++ taken)) ++ l) (told-not_built step reply t.rules (after step reply t.rules K s (text ++ taken)) _ more (met refl))
-      ∙ append-nil (messages (told step reply t.rules K s (text ++ taken)))
-      ∙ told-beyond step reply t.rules K s text taken in
+      ∙ told-append step reply foreign t.rules K s (text ++ taken) more
+      ∙ ap (λ l. messages (told step reply foreign t.rules K s (text ++ taken)) ++ l) (told-not_built step reply foreign t.rules (after step reply foreign t.rules K s (text ++ taken)) _ more (met refl))
+      ∙ append-nil (messages (told step reply foreign t.rules K s (text ++ taken)))
+      ∙ told-beyond step reply foreign t.rules K s text taken in
       stops
-      ∙ ap (λ v. stepped step v (told_beyond step reply t.rules K s text taken)) stands.told
-      ∙ sym (stepped-append step s (messages (told step reply t.rules K s text)) (told_beyond step reply t.rules K s text taken))
+      ∙ ap (λ v. stepped step v (told_beyond step reply foreign t.rules K s text taken)) stands.told
+      ∙ sym (stepped-append step s (messages (told step reply foreign t.rules K s text)) (told_beyond step reply foreign t.rules K s text taken))
       ∙ ap (stepped step s) (sym whole)
 
   pub whole-feed_stops : (end_faulted : S → S) (e : TokenizerError) (t : Tokenizing X) (K : Start) (s u : S) (text : List ℕ)
-      → StandsAt state step reply t K s []
-      → (e ≡ NotYet → (after step reply t.rules K s text).opened ≡ NotBuilt)
-      → Stops step faulted e (state t.sink) (told_beyond step reply t.rules K s [] text) u
-      → WholeStops step faulted end_faulted e s (messages (reading step reply t.rules K s text)) u
+      → StandsAt state step reply foreign t K s []
+      → (e ≡ NotYet → (after step reply foreign t.rules K s text).opened ≡ NotBuilt)
+      → Stops step faulted e (state t.sink) (told_beyond step reply foreign t.rules K s [] text) u
+      → WholeStops step faulted end_faulted e s (messages (reading step reply foreign t.rules K s text)) u
   whole-feed_stops end_faulted e t K s u text stands met stops =
       rw (← append-nil text) (whole-within_stops end_faulted e t K s u [] text [] stands met stops)
 
   pub whole-end_stops : (end_faulted : S → S) (e : TokenizerError) (t : Tokenizing X) (K : Start) (s u : S) (text : List ℕ)
-      → StandsAt state step reply t K s text
-      → EndStops step faulted end_faulted e (state t.sink) (told_at_end step reply t.rules K s text) u
-      → WholeStops step faulted end_faulted e s (messages (reading step reply t.rules K s text)) u
+      → StandsAt state step reply foreign t K s text
+      → EndStops step faulted end_faulted e (state t.sink) (told_at_end step reply foreign t.rules K s text) u
+      → WholeStops step faulted end_faulted e s (messages (reading step reply foreign t.rules K s text)) u
   whole-end_stops end_faulted Memory t K s u text stands stops =
       rw (reading-parts t.rules K s text)
-      (stops_after step faulted Memory s (state t.sink) u (messages (told step reply t.rules K s text)) (told_at_end step reply t.rules K s text) stands.told stops)
+      (stops_after step faulted Memory s (state t.sink) u (messages (told step reply foreign t.rules K s text)) (told_at_end step reply foreign t.rules K s text) stands.told stops)
   whole-end_stops end_faulted Sink t K s u text stands (inl stops) =
       rw (reading-parts t.rules K s text)
-      (inl (stops_after step faulted Sink s (state t.sink) u (messages (told step reply t.rules K s text)) (told_at_end step reply t.rules K s text) stands.told stops))
+      (inl (stops_after step faulted Sink s (state t.sink) u (messages (told step reply foreign t.rules K s text)) (told_at_end step reply foreign t.rules K s text) stands.told stops))
   whole-end_stops end_faulted Sink t K s u text stands (inr ended) =
       rw (reading-parts t.rules K s text)
-      (inr (ended ∙ ap end_faulted (rw (stands.told) (sym (stepped-append step s (messages (told step reply t.rules K s text)) (told_at_end step reply t.rules K s text))))))
+      (inr (ended ∙ ap end_faulted (rw (stands.told) (sym (stepped-append step s (messages (told step reply foreign t.rules K s text)) (told_at_end step reply foreign t.rules K s text))))))
   whole-end_stops end_faulted Failed t K s u text stands stops = stops
   whole-end_stops end_faulted NotYet t K s u text stands stops = absurd stops
 
-  pub whole-memory : (t : Tokenizing X) (K : Start) (s : S) (M : List Message) → StandsAt state step reply t K s []
+  pub whole-memory : (t : Tokenizing X) (K : Start) (s : S) (M : List Message) → StandsAt state step reply foreign t K s []
       → StopsWithin step faulted s M (state t.sink)
   unfolding stepped
   whole-memory t K s M stands = record { before = []; rest = M; parts = refl; state = state-start t K s stands }
@@ -162,6 +162,7 @@ built-unless (InRaw place name) h = tt
 built-unless (InDeclaration held) h = tt
 built-unless (InComment text) h = tt
 built-unless (InBogusComment text) h = tt
+built-unless (InCdata text) h = tt
 built-unless (InDoctype place doctype) h = tt
 built-unless (InDoctypeKeyword held doctype) h = tt
 built-unless (InReference stand held) h = tt

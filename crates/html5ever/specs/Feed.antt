@@ -38,15 +38,15 @@ up_to_pause reply c text rest =
     if pauses reply then record { taken = c ∷ []; left = text; answer = reply }
     else takes_before (c ∷ []) rest
 
-module _ {S H : Type 0} (step : S → Told → ℕ → S) (reply : S → Told → ℕ → Reply H) (rules : Rules) where
+module _ {S H : Type 0} (step : S → Told → ℕ → S) (reply : S → Told → ℕ → Reply H) (foreign : S → Bool) (rules : Rules) where
   -- what is told of a text that goes on, beyond what was told of it before
   abbrev pub told_beyond : Start → S → List ℕ → List ℕ → List Message
   told_beyond K s text more =
-      drop (length (told step reply rules K s text)) (messages (told step reply rules K s (text ++ more)))
+      drop (length (told step reply foreign rules K s text)) (messages (told step reply foreign rules K s (text ++ more)))
 
   -- what is told at the end of a text, beyond what was told of it before
   abbrev pub told_at_end : Start → S → List ℕ → List Message
-  told_at_end K s text = drop (length (told step reply rules K s text)) (messages (reading step reply rules K s text))
+  told_at_end K s text = drop (length (told step reply foreign rules K s text)) (messages (reading step reply foreign rules K s text))
 
 module _ {S H : Type 0} (step : S → Told → ℕ → S) (reply : S → Told → ℕ → Reply H) where
   -- the first reply to some messages that pauses, and to keep on where none does
@@ -55,10 +55,11 @@ module _ {S H : Type 0} (step : S → Told → ℕ → S) (reply : S → Told �
   first_pause s (m ∷ M) =
       if pauses (reply s m.token m.line) then reply s m.token m.line else first_pause (step s m.token m.line) M
 
+module _ {S H : Type 0} (step : S → Told → ℕ → S) (reply : S → Told → ℕ → Reply H) (foreign : S → Bool) where
   -- the reply that pauses at c, behind a text, where one does
   abbrev pub pause_at : Rules → Start → S → List ℕ → ℕ → Reply H
   pause_at rules K s text c =
-      first_pause (stepped step s (messages (told step reply rules K s text))) (told_beyond step reply rules K s text (c ∷ []))
+      first_pause step reply (stepped step s (messages (told step reply foreign rules K s text))) (told_beyond step reply foreign rules K s text (c ∷ []))
 
   -- what a feed of a queue's text does behind `text`: it ends behind the first tag whose reply pauses
   unfoldable pub feed : Rules → Start → S → List ℕ → List ℕ → Feed H

@@ -1,5 +1,5 @@
 -- The text that a run takes, which hands in texts at the back or at the front of what waits, and feeds once behind each.
-use Rattle.std.specs.Prelude.{◌≡◌, ℕ, List, [], ◌∷◌, ◌++◌}
+use Rattle.std.specs.Prelude.{Bool, ◌≡◌, ℕ, List, [], ◌∷◌, ◌++◌}
 use Rattle.std.specs.Str.{chars}
 use Rattle.std.specs.String.{string_bytes}
 use Rattle.html5ever_interface.specs.Sink.{stepped}
@@ -28,36 +28,36 @@ abbrev pub waiting_with : StepOf → List ℕ → List ℕ
 waiting_with (AtBack text) queue = queue ++ text
 waiting_with (AtFront text) queue = text ++ queue
 
-module _ {S H : Type 0} (step : S → Told → ℕ → S) (reply : S → Told → ℕ → Reply H) (rules : Rules) where
+module _ {S H : Type 0} (step : S → Told → ℕ → S) (reply : S → Told → ℕ → Reply H) (foreign : S → Bool) (rules : Rules) where
   -- the text taken in all, where `text` was taken and `queue` waits: a feed behind each step takes a beginning of what
   -- waits, and behind the last step all is taken
   unfoldable pub run_text : Start → S → List ℕ → List ℕ → List StepOf → List ℕ
   run_text K s text queue [] = text ++ queue
   run_text K s text queue (t ∷ ts) =
-      let fed : Feed H = feed step reply rules K s text (waiting_with t queue) in
+      let fed : Feed H = feed step reply foreign rules K s text (waiting_with t queue) in
       run_text K s (text ++ fed.taken) fed.left ts
 
-module _ {X S H : Type 0} (state : X → S) (step : S → Told → ℕ → S) (reply : S → Told → ℕ → Reply H) where
+module _ {X S H : Type 0} (state : X → S) (step : S → Told → ℕ → S) (reply : S → Told → ℕ → Reply H) (foreign : S → Bool) where
   -- from the start of a text, the reading of what the steps make the tokenizer take was told, and then the sink finished
   abbrev pub FinishesRun : (S → S) → Tokenizing X → List StepOf → S → Type 0
   FinishesRun finish old steps t =
-      (K : Start) (s : S) → StandsAt state step reply old K s []
-      → t ≡ finish (stepped step s (messages (reading step reply old.rules K s (run_text step reply old.rules K s [] [] steps))))
+      (K : Start) (s : S) → StandsAt state step reply foreign old K s []
+      → t ≡ finish (stepped step s (messages (reading step reply foreign old.rules K s (run_text step reply foreign old.rules K s [] [] steps))))
 
   -- from the start of a text, the tokenizer stopped within that reading
   abbrev pub StopsRun : (S → Told → ℕ → S) → (S → S) → TokenizerError → Tokenizing X → List StepOf → S → Type 0
   StopsRun faulted end_faulted e old steps t =
-      (K : Start) (s : S) → StandsAt state step reply old K s []
-      → WholeStops step faulted end_faulted e s (messages (reading step reply old.rules K s (run_text step reply old.rules K s [] [] steps))) t
+      (K : Start) (s : S) → StandsAt state step reply foreign old K s []
+      → WholeStops step faulted end_faulted e s (messages (reading step reply foreign old.rules K s (run_text step reply foreign old.rules K s [] [] steps))) t
 
   -- from the start of a text, what the steps make the tokenizer take meets what isn't built yet
   abbrev pub MeetsInRun : Tokenizing X → List StepOf → Type 0
   MeetsInRun old steps =
-      (K : Start) (s : S) → StandsAt state step reply old K s []
-      → (after step reply old.rules K s (run_text step reply old.rules K s [] [] steps)).opened ≡ NotBuilt
+      (K : Start) (s : S) → StandsAt state step reply foreign old K s []
+      → (after step reply foreign old.rules K s (run_text step reply foreign old.rules K s [] [] steps)).opened ≡ NotBuilt
 
   -- from the start of a text, what the steps make the tokenizer take meets nothing that isn't built yet
   abbrev pub IsBuiltInRun : Tokenizing X → List StepOf → Type 0
   IsBuiltInRun old steps =
-      (K : Start) (s : S) → StandsAt state step reply old K s []
-      → IsBuilt (after step reply old.rules K s (run_text step reply old.rules K s [] [] steps)).opened
+      (K : Start) (s : S) → StandsAt state step reply foreign old K s []
+      → IsBuilt (after step reply foreign old.rules K s (run_text step reply foreign old.rules K s [] [] steps)).opened

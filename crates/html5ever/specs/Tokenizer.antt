@@ -1,12 +1,12 @@
 -- Where a tokenizer stands in a text, and what its calls make of that.
 use Rattle.std.specs.Prelude.{◌≡◌, ℕ, Bool, false, List, [], ◌++◌, ◌⊎◌, Option, None, Some}
-use Rattle.html5ever_interface.specs.Collected.{Collected, none_collected, collected_step, collected_reply, collected_finish}
+use Rattle.html5ever_interface.specs.Collected.{Collected, none_collected, collected_step, collected_reply, collected_foreign, collected_finish}
 use Rattle.html5ever_interface.specs.Options.{OptionsOf}
 use Rattle.markup5ever.specs.NamedReferences.{NamedReference}
 use Rattle.html5ever_interface.specs.Sink.{Message, stepped}
 use Rattle.html5ever_interface.specs.Token.{Told, Reply}
 use Rattle.html5ever_interface.specs.declared.states.State.{State}
-use Rattle.html5ever_interface.specs.declared.states.State.TheVariants.{Data, Plaintext, RawData}
+use Rattle.html5ever_interface.specs.declared.states.State.TheVariants.{Data, Plaintext, RawData, CdataSection}
 use Rattle.html5grammar.specs.Reading.{reading, told, messages, after}
 use Rattle.html5grammar.specs.Start.{Start, Open, Rules, start_of}
 use Rattle.html5grammar.specs.Start.Open.{NotBuilt}
@@ -33,21 +33,22 @@ pub record Tokenizing (X : Type 0) : Type 0 where
 abbrev pub rules_of : OptionsOf → List NamedReference → Rules
 rules_of opts names = record { exact = opts.exact_errors; names = names }
 
--- a stream can start in this state: none is chosen, or a text state that is built
+-- a stream can start in this state: none is chosen, or a text state
 abbrev pub CanStart : Option State → Type 0
 CanStart None = Unit {0}
 CanStart (Some Data) = Unit {0}
 CanStart (Some Plaintext) = Unit {0}
 CanStart (Some (RawData kind)) = Unit {0}
+CanStart (Some CdataSection) = Unit {0}
 CanStart (Some other) = ⊥
 
-module _ {X S H : Type 0} (state : X → S) (step : S → Told → ℕ → S) (reply : S → Told → ℕ → Reply H) where
+module _ {X S H : Type 0} (state : X → S) (step : S → Told → ℕ → S) (reply : S → Told → ℕ → Reply H) (foreign : S → Bool) where
   -- the tokenizer stands where the text taken, from the start K and the sink's state s, leaves it
   pub record StandsAt (t : Tokenizing X) (K : Start) (s : S) (text : List ℕ) : Type 0 where
     -- exactly the decided beginning was told
-    pub told : state t.sink ≡ stepped step s (messages (told step reply t.rules K s text))
+    pub told : state t.sink ≡ stepped step s (messages (told step reply foreign t.rules K s text))
     -- what follows is read from the start behind the text
-    pub position : t.position ≡ after step reply t.rules K s text
+    pub position : t.position ≡ after step reply foreign t.rules K s text
     -- the text met nothing that isn't built yet
     pub built : IsBuilt t.position.opened
     pub not_failed : t.failed ≡ false
@@ -60,38 +61,38 @@ module _ {X S H : Type 0} (state : X → S) (step : S → Told → ℕ → S) (r
   -- from wherever it stood, the tokenizer was taken further by what a feed of the queue's text takes
   abbrev pub FeedsOn : Tokenizing X → Tokenizing X → List ℕ → Type 0
   FeedsOn old new queue =
-      (K : Start) (s : S) (text : List ℕ) → StandsAt old K s text → StandsAt new K s (text ++ (feed step reply old.rules K s text queue).taken)
+      (K : Start) (s : S) (text : List ℕ) → StandsAt old K s text → StandsAt new K s (text ++ (feed step reply foreign old.rules K s text queue).taken)
 
   -- from wherever the tokenizer stood, a feed of the queue's text hands on that reply
   abbrev pub HandsOn : Tokenizing X → List ℕ → Reply H → Type 0
   HandsOn old queue answer =
-      (K : Start) (s : S) (text : List ℕ) → StandsAt old K s text → answer ≡ (feed step reply old.rules K s text queue).answer
+      (K : Start) (s : S) (text : List ℕ) → StandsAt old K s text → answer ≡ (feed step reply foreign old.rules K s text queue).answer
 
   -- from wherever the tokenizer stood, a feed of the queue's text leaves that much of it
   abbrev pub LeavesWaiting : Tokenizing X → List ℕ → List ℕ → Type 0
   LeavesWaiting old queue left =
-      (K : Start) (s : S) (text : List ℕ) → StandsAt old K s text → left ≡ (feed step reply old.rules K s text queue).left
+      (K : Start) (s : S) (text : List ℕ) → StandsAt old K s text → left ≡ (feed step reply foreign old.rules K s text queue).left
 
   -- from wherever the tokenizer stood, a feed of the queue's text meets what isn't built yet
   abbrev pub FeedMeetsNotBuilt : Tokenizing X → List ℕ → Type 0
   FeedMeetsNotBuilt old queue =
       (K : Start) (s : S) (text : List ℕ) → StandsAt old K s text
-      → (after step reply old.rules K s (text ++ (feed step reply old.rules K s text queue).taken)).opened ≡ NotBuilt
+      → (after step reply foreign old.rules K s (text ++ (feed step reply foreign old.rules K s text queue).taken)).opened ≡ NotBuilt
 
   -- from wherever the tokenizer stood, the whole reading was told, and then the sink finished
   abbrev pub Finishes : (S → S) → Tokenizing X → S → Type 0
   Finishes finish old t =
-      (K : Start) (s : S) (text : List ℕ) → StandsAt old K s text → t ≡ finish (stepped step s (messages (reading step reply old.rules K s text)))
+      (K : Start) (s : S) (text : List ℕ) → StandsAt old K s text → t ≡ finish (stepped step s (messages (reading step reply foreign old.rules K s text)))
 
   -- from wherever the tokenizer stood, the text meets in `more` what isn't built yet
   abbrev pub MeetsNotBuilt : Tokenizing X → List ℕ → Type 0
   MeetsNotBuilt old more =
-      (K : Start) (s : S) (text : List ℕ) → StandsAt old K s text → (after step reply old.rules K s (text ++ more)).opened ≡ NotBuilt
+      (K : Start) (s : S) (text : List ℕ) → StandsAt old K s text → (after step reply foreign old.rules K s (text ++ more)).opened ≡ NotBuilt
 
   -- from wherever the tokenizer stood, the text meets in `more` nothing that isn't built yet
   abbrev pub IsBuiltBehind : Tokenizing X → List ℕ → Type 0
   IsBuiltBehind old more =
-      (K : Start) (s : S) (text : List ℕ) → StandsAt old K s text → IsBuilt (after step reply old.rules K s (text ++ more)).opened
+      (K : Start) (s : S) (text : List ℕ) → StandsAt old K s text → IsBuilt (after step reply foreign old.rules K s (text ++ more)).opened
 
 -- what a refused end leaves of the messages that it tells: the sink may also fault at its own end
 abbrev pub EndStops : {S : Type 0} → (S → Told → ℕ → S) → (S → Told → ℕ → S) → (S → S) → TokenizerError → S → List Message → S → Type 0
@@ -100,56 +101,56 @@ EndStops step faulted end_faulted Sink s M t = FaultsWithin step faulted s M t �
 EndStops step faulted end_faulted Failed s M t = ⊥
 EndStops step faulted end_faulted NotYet s M t = ⊥
 
-module _ {X S H : Type 0} (state : X → S) (step : S → Told → ℕ → S) (reply : S → Told → ℕ → Reply H) (faulted : S → Told → ℕ → S) where
+module _ {X S H : Type 0} (state : X → S) (step : S → Told → ℕ → S) (reply : S → Told → ℕ → Reply H) (foreign : S → Bool) (faulted : S → Told → ℕ → S) where
   -- from wherever it stood, the tokenizer stopped within what `more` would have told
   abbrev pub StopsReading : TokenizerError → Tokenizing X → List ℕ → S → Type 0
   StopsReading e old more t =
-      (K : Start) (s : S) (text : List ℕ) → StandsAt state step reply old K s text
-      → Stops step faulted e (state old.sink) (told_beyond step reply old.rules K s text more) t
+      (K : Start) (s : S) (text : List ℕ) → StandsAt state step reply foreign old K s text
+      → Stops step faulted e (state old.sink) (told_beyond step reply foreign old.rules K s text more) t
 
   -- from wherever it stood, the tokenizer stopped within what a feed of the queue's text would have told
   abbrev pub StopsFeeding : TokenizerError → Tokenizing X → List ℕ → S → Type 0
   StopsFeeding e old queue t =
-      (K : Start) (s : S) (text : List ℕ) → StandsAt state step reply old K s text
-      → Stops step faulted e (state old.sink) (told_beyond step reply old.rules K s text (feed step reply old.rules K s text queue).taken) t
+      (K : Start) (s : S) (text : List ℕ) → StandsAt state step reply foreign old K s text
+      → Stops step faulted e (state old.sink) (told_beyond step reply foreign old.rules K s text (feed step reply foreign old.rules K s text queue).taken) t
 
   -- from wherever it stood, a refused feed of the queue's text left that much of it
   abbrev pub LeavesRefused : TokenizerError → Tokenizing X → List ℕ → List ℕ → S → Type 0
   LeavesRefused e old queue left t =
-      (K : Start) (s : S) (text : List ℕ) → StandsAt state step reply old K s text
-      → RefusedBehind step reply faulted old.rules e K s text queue left t
+      (K : Start) (s : S) (text : List ℕ) → StandsAt state step reply foreign old K s text
+      → RefusedBehind step reply foreign faulted old.rules e K s text queue left t
 
   -- from wherever it stood, the tokenizer stopped within what the end would have told
   abbrev pub StopsEnding : (S → S) → TokenizerError → Tokenizing X → S → Type 0
   StopsEnding end_faulted e old t =
-      (K : Start) (s : S) (text : List ℕ) → StandsAt state step reply old K s text
-      → EndStops step faulted end_faulted e (state old.sink) (told_at_end step reply old.rules K s text) t
+      (K : Start) (s : S) (text : List ℕ) → StandsAt state step reply foreign old K s text
+      → EndStops step faulted end_faulted e (state old.sink) (told_at_end step reply foreign old.rules K s text) t
 
 -- what a refusal within the reading of a whole text leaves of its messages: all was told where it is what isn't built yet
 abbrev pub WholeStops : {S : Type 0} → (S → Told → ℕ → S) → (S → Told → ℕ → S) → (S → S) → TokenizerError → S → List Message → S → Type 0
 WholeStops step faulted end_faulted NotYet s M t = t ≡ stepped step s M
 WholeStops step faulted end_faulted other s M t = EndStops step faulted end_faulted other s M t
 
-module _ {X S H : Type 0} (state : X → S) (step : S → Told → ℕ → S) (reply : S → Told → ℕ → Reply H) where
+module _ {X S H : Type 0} (state : X → S) (step : S → Told → ℕ → S) (reply : S → Told → ℕ → Reply H) (foreign : S → Bool) where
   -- from wherever the tokenizer stood, the reading of what was taken and `more` was told, and then the sink finished
   abbrev pub ReadsWhole : (S → S) → Tokenizing X → List ℕ → S → Type 0
   ReadsWhole finish old more t =
-      (K : Start) (s : S) (text : List ℕ) → StandsAt state step reply old K s text
-      → t ≡ finish (stepped step s (messages (reading step reply old.rules K s (text ++ more))))
+      (K : Start) (s : S) (text : List ℕ) → StandsAt state step reply foreign old K s text
+      → t ≡ finish (stepped step s (messages (reading step reply foreign old.rules K s (text ++ more))))
 
   -- from the start of a text, the tokenizer stopped within the reading of `more`
   abbrev pub StopsWhole : (S → Told → ℕ → S) → (S → S) → TokenizerError → Tokenizing X → List ℕ → S → Type 0
   StopsWhole faulted end_faulted e old more t =
-      (K : Start) (s : S) → StandsAt state step reply old K s []
-      → WholeStops step faulted end_faulted e s (messages (reading step reply old.rules K s more)) t
+      (K : Start) (s : S) → StandsAt state step reply foreign old K s []
+      → WholeStops step faulted end_faulted e s (messages (reading step reply foreign old.rules K s more)) t
 
 -- what a collector holds behind a whole text
 abbrev pub collected_of : OptionsOf → List NamedReference → Bool → List ℕ → Collected
 collected_of opts names foreign text =
     collected_finish (stepped collected_step (none_collected foreign)
-    (messages (reading collected_step (collected_reply {H = Unit {0}}) (rules_of opts names) (start_of opts) (none_collected foreign) text)))
+    (messages (reading collected_step (collected_reply {H = Unit {0}}) collected_foreign (rules_of opts names) (start_of opts) (none_collected foreign) text)))
 
 -- what is open behind a text that a collector is told
 abbrev pub opened_collecting : OptionsOf → List NamedReference → Bool → List ℕ → Open
 opened_collecting opts names foreign text =
-    (after collected_step (collected_reply {H = Unit {0}}) (rules_of opts names) (start_of opts) (none_collected foreign) text).opened
+    (after collected_step (collected_reply {H = Unit {0}}) collected_foreign (rules_of opts names) (start_of opts) (none_collected foreign) text).opened

@@ -1,7 +1,7 @@
 //! What may begin a keyword: that behind `<!`, or one behind the name of a DOCTYPE.
 #![tactic(auto)]
 
-ghost use Rattle.std.specs.Prelude.{◌≡◌, ◌≤◌, ◌+◌, Ok, true, false, IfErr, string_bytes};
+ghost use Rattle.std.specs.Prelude.{◌≡◌, ◌≤◌, ◌+◌, ◌&&◌, Ok, true, false, IfErr, string_bytes};
 ghost use Rattle.html5ever_interface.specs.Sink.{on_line};
 ghost use Rattle.html5ever_interface.specs.Token.{doctype_of};
 ghost use Rattle.html5grammar.specs.Comment.{declaration_error};
@@ -13,13 +13,13 @@ ghost use Rattle.html5grammar.specs.Start.DoctypePlace.{Skipped};
 ghost use Rattle.html5grammar.specs.Start.Open.{InBogusComment, InDoctype};
 ghost use Rattle.html5parts.specs.CurrentTag.{opened_of, last_name_of};
 ghost use Rattle.html5states.specs.Telling.{Tells, IsRefusal, faults_of};
-ghost use Rattle.html5ever.specs.Undecided.{EndsKeyword, GoesOn, holds_keyword_in, is_keyword_open};
+ghost use Rattle.html5ever.specs.Undecided.{EndsKeyword, GoesOn, asks, holds_keyword_in, is_keyword_open};
 
 use crate::rules::Rules;
 use html5ever_interface::interface::sink::TokenSink;
 use html5ever_interface::interface::token::Token;
 use html5ever_interface::states::State;
-use html5parts::declaration::hold_declaration;
+use html5parts::declaration::{depends_on_sink, hold_declaration};
 use html5parts::doctype_keyword::hold_doctype_keyword;
 use html5parts::error::TokenizerError;
 use html5parts::opened::Opened;
@@ -38,18 +38,41 @@ pub fn holds_keyword<A: Allocator>(opened: &Opened<A>) -> bool
     }
 }
 
+/// Whether the sink says that the content is foreign. It is asked only where the character may belong
+/// to the keyword of a CDATA section, and so to no other.
+pub fn asked_about_foreign<S: TokenSink<Token<A>>, A: Allocator>(
+    sink: &S,
+    opened: &Opened<A>,
+    c: char,
+) -> bool
+    requires { is_keyword_open (opened_of opened.now) ≡ true }
+    ensures { result ≡ (asks (opened_of opened.now) c && S.foreign (S.state sink.now)) }
+{
+    match opened.state {
+        State::MarkupDeclarationOpen => {
+            depends_on_sink(opened, c)
+                && sink.adjusted_current_node_present_but_not_in_html_namespace()
+        }
+        _ => false,
+    }
+}
+
 /// Holds a character behind those that may begin a keyword, and answers whether it belongs to one.
-/// Else it is still to be read.
-pub fn hold_keyword<A: Allocator>(opened: &mut Opened<A>, c: char) -> Result<bool, AllocError>
+/// Else it is still to be read. `foreign` is whether that of a CDATA section is one here.
+pub fn hold_keyword<A: Allocator>(
+    opened: &mut Opened<A>,
+    c: char,
+    foreign: bool,
+) -> Result<bool, AllocError>
     requires { is_keyword_open (opened_of opened.old) ≡ true }
-    ensures taken { result ≡ Ok true → GoesOn (opened_of opened.old) c (opened_of opened.new) }
-    ensures decided { result ≡ Ok false → EndsKeyword (opened_of opened.old) c }
+    ensures taken { result ≡ Ok true → GoesOn foreign (opened_of opened.old) c (opened_of opened.new) }
+    ensures decided { result ≡ Ok false → EndsKeyword foreign (opened_of opened.old) c }
     ensures kept { result ≡ Ok false → opened_of opened.new ≡ opened_of opened.old }
     ensures last { last_name_of opened.new ≡ last_name_of opened.old }
     ensures held { held_len (opened_of opened.new) ≤ held_len (opened_of opened.old) + 1 }
 {
     match opened.state {
-        State::MarkupDeclarationOpen => hold_declaration(opened, c),
+        State::MarkupDeclarationOpen => hold_declaration(opened, c, foreign),
         _ => hold_doctype_keyword(opened, c),
     }
 }

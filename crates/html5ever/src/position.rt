@@ -29,7 +29,7 @@ ghost use Rattle.html5states.specs.Telling.{Tells, IsRefusal, tokens_in, faults_
 ghost use Rattle.html5ever.specs.Tokenizer.{CanStart};
 
 use crate::input::Input;
-use crate::keyword::{finish_keyword, hold_keyword, holds_keyword};
+use crate::keyword::{asked_about_foreign, finish_keyword, hold_keyword, holds_keyword};
 use crate::rules::Rules;
 use html5ever_interface::interface::sink::TokenSink;
 use html5ever_interface::interface::token::{
@@ -176,7 +176,7 @@ impl<A: Allocator + Copy> Position<A> {
     pub fn is_clean(&self) -> bool
         ensures { result ≡ is_clean self.now.opened }
     {
-        !self.in_reference && is_between(self.opened.state)
+        !self.in_reference && is_between(self.opened.state, &self.opened.comment)
     }
 
     /// Reads plain text from here on.
@@ -295,14 +295,15 @@ fn name_or_empty<A: Allocator>(alloc: A, name: Option<String<A>>) -> String<A>
     }
 }
 
-// Whether nothing is open in the state, where no reference is.
+// Whether nothing is open in the state, where no reference is and this is held of a CDATA section.
 #[inline(always)]
-fn is_between(state: State) -> bool
-    ensures { result ≡ is_between state }
+fn is_between(state: State, held: &str) -> bool
+    ensures { result ≡ is_between state held.now }
 {
     match state {
         State::Data | State::Plaintext | State::RawData(_) => true,
         State::ScriptDataEscapedDash(_) | State::ScriptDataEscapedDashDash(_) => true,
+        State::CdataSection => held.is_empty(),
         _ => false,
     }
 }
@@ -341,6 +342,7 @@ fn stops_at_bad(state: State) -> bool
         State::BeforeDoctypeIdentifier(_) | State::DoctypeIdentifierDoubleQuoted(_) => false,
         State::DoctypeIdentifierSingleQuoted(_) | State::AfterDoctypeIdentifier(_) => false,
         State::BetweenDoctypePublicAndSystemIdentifiers | State::BogusDoctype => false,
+        State::CdataSection => false,
         _ => true,
     }
 }
@@ -562,9 +564,9 @@ fn read_reference<S: TokenSink<Token<A>>, A: Allocator + Copy>(
 ) -> Result<bool, TokenizerError>
     requires { is_reference position.old.opened ≡ true }
     ensures tells { Tells S.step S.faulted result (S.state sink.old)
-        (on_line line (tokens_of_late (brought_at rules.now position.old.opened c).settled)) (S.state sink.new) }
-    ensures taken { result ≡ Ok true → BelongsTo rules.now position.old.opened c position.new.opened }
-    ensures decided { result ≡ Ok false → Decides rules.now position.old.opened c position.new.opened }
+        (on_line line (tokens_of_late (brought_at rules.now (S.foreign (S.state sink.old)) position.old.opened c).settled)) (S.state sink.new) }
+    ensures taken { result ≡ Ok true → BelongsTo rules.now (S.foreign (S.state sink.old)) position.old.opened c position.new.opened }
+    ensures decided { result ≡ Ok false → Decides rules.now (S.foreign (S.state sink.old)) position.old.opened c position.new.opened }
     ensures last { position.new.last_start_tag ≡ position.old.last_start_tag }
     ensures refusal { IfErr result IsRefusal }
     ensures input { position.new.input ≡ position.old.input }
@@ -580,7 +582,8 @@ fn read_reference<S: TokenSink<Token<A>>, A: Allocator + Copy>(
     Ok(ends)
 }
 
-// Reads a character behind what may begin a keyword, in the same way.
+// Reads a character behind what may begin a keyword, in the same way. The sink is asked where that
+// may be the keyword of a CDATA section.
 fn read_keyword<S: TokenSink<Token<A>>, A: Allocator + Copy>(
     alloc: A,
     sink: &mut S,
@@ -591,16 +594,17 @@ fn read_keyword<S: TokenSink<Token<A>>, A: Allocator + Copy>(
 ) -> Result<bool, TokenizerError>
     requires { is_keyword_open position.old.opened ≡ true }
     ensures tells { Tells S.step S.faulted result (S.state sink.old)
-        (on_line line (tokens_of_late (brought_at rules.now position.old.opened c).settled)) (S.state sink.new) }
-    ensures taken { result ≡ Ok true → BelongsTo rules.now position.old.opened c position.new.opened }
-    ensures decided { result ≡ Ok false → Decides rules.now position.old.opened c position.new.opened }
+        (on_line line (tokens_of_late (brought_at rules.now (S.foreign (S.state sink.old)) position.old.opened c).settled)) (S.state sink.new) }
+    ensures taken { result ≡ Ok true → BelongsTo rules.now (S.foreign (S.state sink.old)) position.old.opened c position.new.opened }
+    ensures decided { result ≡ Ok false → Decides rules.now (S.foreign (S.state sink.old)) position.old.opened c position.new.opened }
     ensures last { position.new.last_start_tag ≡ position.old.last_start_tag }
     ensures refusal { IfErr result IsRefusal }
     ensures input { position.new.input ≡ position.old.input }
     ensures held { held_len position.new.opened ≤ held_len position.old.opened + 1 }
     ensures faults { S.faults sink.new ≡ S.faults sink.old + faults_of result }
 {
-    if hold_keyword(&mut position.opened, c)? {
+    let foreign = asked_about_foreign(sink, &position.opened, c);
+    if hold_keyword(&mut position.opened, c, foreign)? {
         return Ok(true);
     }
     finish_keyword(alloc, sink, rules, &mut position.opened, line)?;
@@ -619,9 +623,9 @@ fn read_undecided<S: TokenSink<Token<A>>, A: Allocator + Copy>(
 ) -> Result<bool, TokenizerError>
     requires { is_undecided_open position.old.opened ≡ true }
     ensures tells { Tells S.step S.faulted result (S.state sink.old)
-        (on_line line (tokens_of_late (brought_at rules.now position.old.opened c).settled)) (S.state sink.new) }
-    ensures taken { result ≡ Ok true → BelongsTo rules.now position.old.opened c position.new.opened }
-    ensures decided { result ≡ Ok false → Decides rules.now position.old.opened c position.new.opened }
+        (on_line line (tokens_of_late (brought_at rules.now (S.foreign (S.state sink.old)) position.old.opened c).settled)) (S.state sink.new) }
+    ensures taken { result ≡ Ok true → BelongsTo rules.now (S.foreign (S.state sink.old)) position.old.opened c position.new.opened }
+    ensures decided { result ≡ Ok false → Decides rules.now (S.foreign (S.state sink.old)) position.old.opened c position.new.opened }
     ensures last { position.new.last_start_tag ≡ position.old.last_start_tag }
     ensures refusal { IfErr result IsRefusal }
     ensures input { position.new.input ≡ position.old.input }
@@ -644,14 +648,14 @@ pub fn read_character<S: TokenSink<Token<A>>, A: Allocator + Copy>(
     c: char,
 ) -> Result<TokenizerResult<S::Handle, String<A>>, TokenizerError>
     ensures tells { Tells S.step S.faulted result (S.state sink.old)
-        (messages (told S.step S.reply rules.now position.old (S.state sink.old) (c ∷ []))) (S.state sink.new) }
+        (messages (told S.step S.reply S.foreign rules.now position.old (S.state sink.old) (c ∷ []))) (S.state sink.new) }
     ensures leads { IsBuilt position.old.opened → Leads result position.new.opened
-        (after S.step S.reply rules.now position.old (S.state sink.old) (c ∷ [])).opened }
+        (after S.step S.reply S.foreign rules.now position.old (S.state sink.old) (c ∷ [])).opened }
     ensures last { OnOk result (position.new.last_start_tag
-        ≡ (after S.step S.reply rules.now position.old (S.state sink.old) (c ∷ [])).last_start_tag) }
+        ≡ (after S.step S.reply S.foreign rules.now position.old (S.state sink.old) (c ∷ [])).last_start_tag) }
     ensures answer { IfOk result (λ answer. reply_in string_bytes answer
         ≡ first_pause S.step S.reply (S.state sink.old)
-        (messages (told S.step S.reply rules.now position.old (S.state sink.old) (c ∷ [])))) }
+        (messages (told S.step S.reply S.foreign rules.now position.old (S.state sink.old) (c ∷ [])))) }
     ensures input { position.new.input ≡ input_after position.old.input (c ∷ []) }
     ensures held { held_len position.new.opened ≤ held_len position.old.opened + 1 }
     ensures faults { S.faults sink.new ≡ S.faults sink.old + faults_of result }

@@ -35,7 +35,7 @@ fn tell_waiting_run<S: TokenSink<Token<A>>, A: Allocator + Copy>(
     requires rest_utf8 { IsUtf8 (drop bytes (encode_utf8_all queue.old.text)) }
     requires is_run { IsRun rules.now position.now (chars (take bytes (encode_utf8_all queue.old.text))) }
     requires fits { position.now.input.line < 2 ^ 64 }
-    ensures reads { ReadsRun S.step S.reply S.faulted rules.now result position.now position.now
+    ensures reads { ReadsRun S.step S.reply S.foreign S.faulted rules.now result position.now position.now
         queue.old queue.new (S.state sink.old) (S.state sink.new) }
     ensures refusal { IfErr result IsRefusal }
     ensures faults { S.faults sink.new ≡ S.faults sink.old + faults_of result }
@@ -58,7 +58,7 @@ fn read_waiting_run<S: TokenSink<Token<A>>, A: Allocator + Copy>(
     queue: &mut BufferQueue<A>,
 ) -> Result<(), TokenizerError>
     requires { IsBuilt position.old.opened }
-    ensures reads { ReadsRun S.step S.reply S.faulted rules.now result position.old position.new
+    ensures reads { ReadsRun S.step S.reply S.foreign S.faulted rules.now result position.old position.new
         queue.old queue.new (S.state sink.old) (S.state sink.new) }
     ensures refusal { IfErr result IsRefusal }
     ensures faults { S.faults sink.new ≡ S.faults sink.old + faults_of result }
@@ -89,21 +89,21 @@ pub fn read_queue<S: TokenSink<Token<A>>, A: Allocator + Copy>(
 ) -> Result<TokenizerResult<S::Handle, String<A>>, TokenizerError>
     requires { IsBuilt position.old.opened }
     ensures tells { Tells S.step S.faulted result (S.state sink.old)
-        (messages (told S.step S.reply rules.now position.old (S.state sink.old)
-        (feed S.step S.reply rules.now position.old (S.state sink.old) [] queue.old.text).taken)) (S.state sink.new) }
+        (messages (told S.step S.reply S.foreign rules.now position.old (S.state sink.old)
+        (feed S.step S.reply S.foreign rules.now position.old (S.state sink.old) [] queue.old.text).taken)) (S.state sink.new) }
     ensures moves { OnOk result
-        (position.new ≡ after S.step S.reply rules.now position.old (S.state sink.old)
-        (feed S.step S.reply rules.now position.old (S.state sink.old) [] queue.old.text).taken) }
+        (position.new ≡ after S.step S.reply S.foreign rules.now position.old (S.state sink.old)
+        (feed S.step S.reply S.foreign rules.now position.old (S.state sink.old) [] queue.old.text).taken) }
     ensures built { OnOk result (IsBuilt position.new.opened) }
     ensures answer { IfOk result (λ answer. reply_in string_bytes answer
-        ≡ (feed S.step S.reply rules.now position.old (S.state sink.old) [] queue.old.text).answer) }
+        ≡ (feed S.step S.reply S.foreign rules.now position.old (S.state sink.old) [] queue.old.text).answer) }
     ensures left { OnOk result
-        (queue.new.text ≡ (feed S.step S.reply rules.now position.old (S.state sink.old) [] queue.old.text).left) }
+        (queue.new.text ≡ (feed S.step S.reply S.foreign rules.now position.old (S.state sink.old) [] queue.old.text).left) }
     ensures not_yet { result ≡ Err TokenizerError.NotYet
-        → (after S.step S.reply rules.now position.old (S.state sink.old)
-        (feed S.step S.reply rules.now position.old (S.state sink.old) [] queue.old.text).taken).opened ≡ NotBuilt }
+        → (after S.step S.reply S.foreign rules.now position.old (S.state sink.old)
+        (feed S.step S.reply S.foreign rules.now position.old (S.state sink.old) [] queue.old.text).taken).opened ≡ NotBuilt }
     ensures not_failed { IfErr result IsNotFailed }
-    ensures refused { IfErr result (λ error. RefusedBehind S.step S.reply S.faulted rules.now error
+    ensures refused { IfErr result (λ error. RefusedBehind S.step S.reply S.foreign S.faulted rules.now error
         position.old (S.state sink.old) [] queue.old.text queue.new.text (S.state sink.new)) }
     ensures end_of_queue { IsEndOf queue.new.text queue.old.text }
     ensures taken { queue.new.taken + length queue.new.text ≡ queue.old.taken + length queue.old.text }

@@ -79,7 +79,7 @@ impl<'t, Sink: TokenSink<Token<A>>, A: Allocator + Copy> Tokenizer<'t, Sink, A> 
         names: &'t NamedReferences<A>,
     ) -> Tokenizer<'t, Sink, A>
         requires { CanStart opts.initial_state }
-        ensures stands { StandsAt Sink.state Sink.step Sink.reply result (start_of (options_of opts)) (Sink.state sink) [] }
+        ensures stands { StandsAt Sink.state Sink.step Sink.reply Sink.foreign result (start_of (options_of opts)) (Sink.state sink) [] }
         ensures rules { result.rules ≡ rules_of (options_of opts) names.now }
         ensures sink { result.sink ≡ sink }
     {
@@ -109,11 +109,11 @@ impl<'t, Sink: TokenSink<Token<A>>, A: Allocator + Copy> Tokenizer<'t, Sink, A> 
         // What an `Ok` says: a beginning of the queue's text was taken, and exactly what it decides
         // was told; the rest waits, and the answer is the reply that pauses.
         ensures reads { OnOk result
-            (FeedsOn Sink.state Sink.step Sink.reply self.old self.new queue.old.text) }
-        ensures answer { IfOk result (λ answer. HandsOn Sink.state Sink.step Sink.reply self.old queue.old.text
+            (FeedsOn Sink.state Sink.step Sink.reply Sink.foreign self.old self.new queue.old.text) }
+        ensures answer { IfOk result (λ answer. HandsOn Sink.state Sink.step Sink.reply Sink.foreign self.old queue.old.text
             (reply_in string_bytes answer)) }
         ensures left { OnOk result
-            (LeavesWaiting Sink.state Sink.step Sink.reply self.old queue.old.text queue.new.text) }
+            (LeavesWaiting Sink.state Sink.step Sink.reply Sink.foreign self.old queue.old.text queue.new.text) }
         ensures done { result ≡ Ok TokenizerResult.Done → queue.new.text ≡ [] }
         ensures shorter { IfOk result (λ answer. answer ≢ TokenizerResult.Done
             → length queue.new.text < length queue.old.text) }
@@ -123,10 +123,10 @@ impl<'t, Sink: TokenSink<Token<A>>, A: Allocator + Copy> Tokenizer<'t, Sink, A> 
         ensures unchanged { self.old.failed ≡ true
             → (self.new ≡ self.old) × (queue.new ≡ queue.old) }
         ensures not_yet { result ≡ Err TokenizerError.NotYet
-            → FeedMeetsNotBuilt Sink.state Sink.step Sink.reply self.old queue.old.text }
-        ensures stops { IfErr result (λ error. StopsFeeding Sink.state Sink.step Sink.reply Sink.faulted
+            → FeedMeetsNotBuilt Sink.state Sink.step Sink.reply Sink.foreign self.old queue.old.text }
+        ensures stops { IfErr result (λ error. StopsFeeding Sink.state Sink.step Sink.reply Sink.foreign Sink.faulted
             error self.old queue.old.text (Sink.state self.new.sink)) }
-        ensures refused { IfErr result (λ error. error ≢ TokenizerError.Failed → LeavesRefused Sink.state Sink.step Sink.reply
+        ensures refused { IfErr result (λ error. error ≢ TokenizerError.Failed → LeavesRefused Sink.state Sink.step Sink.reply Sink.foreign
             Sink.faulted error self.old queue.old.text queue.new.text (Sink.state self.new.sink)) }
         ensures faults { Sink.faults self.new.sink ≡ Sink.faults self.old.sink + faults_of result }
         ensures failed { self.new.failed ≡ is_err result }
@@ -160,12 +160,12 @@ impl<'t, Sink: TokenSink<Token<A>>, A: Allocator + Copy> Tokenizer<'t, Sink, A> 
 
         // What an `Ok` says: the whole reading was told, and the sink has finished.
         ensures finishes { OnOk result
-            (Finishes Sink.state Sink.step Sink.reply Sink.finish self.old (Sink.state self.new.sink)) }
+            (Finishes Sink.state Sink.step Sink.reply Sink.foreign Sink.finish self.old (Sink.state self.new.sink)) }
 
         // When each error comes, and what it leaves.
         ensures failed_before { (result ≡ Err TokenizerError.Failed) ↔ (self.old.failed ≡ true) }
         ensures unchanged { self.old.failed ≡ true → self.new ≡ self.old }
-        ensures stops { IfErr result (λ error. StopsEnding Sink.state Sink.step Sink.reply Sink.faulted
+        ensures stops { IfErr result (λ error. StopsEnding Sink.state Sink.step Sink.reply Sink.foreign Sink.faulted
             Sink.end_faulted error self.old (Sink.state self.new.sink)) }
         ensures faults { Sink.faults self.new.sink ≡ Sink.faults self.old.sink + faults_of result }
         ensures failed { self.new.failed ≡ is_err result }
@@ -186,10 +186,10 @@ impl<'t, Sink: TokenSink<Token<A>>, A: Allocator + Copy> Tokenizer<'t, Sink, A> 
     pub fn nothing_pending(&self) -> bool
         ensures exact { result ≡ (is_clean self.now.position.opened && not self.now.failed && not self.now.ended) }
         ensures clean { (K : Start) (s : Sink.State) (text : List ℕ)
-            → StandsAt Sink.state Sink.step Sink.reply self.now K s text
-            → result ≡ is_clean (after Sink.step Sink.reply self.now.rules K s text).opened }
+            → StandsAt Sink.state Sink.step Sink.reply Sink.foreign self.now K s text
+            → result ≡ is_clean (after Sink.step Sink.reply Sink.foreign self.now.rules K s text).opened }
         ensures anew { result ≡ true → (x : Sink)
-            → StandsAt Sink.state Sink.step Sink.reply (record self.now { sink = x }) self.now.position (Sink.state x) [] }
+            → StandsAt Sink.state Sink.step Sink.reply Sink.foreign (record self.now { sink = x }) self.now.position (Sink.state x) [] }
     {
         if self.failed || self.ended {
             return false;
@@ -202,7 +202,7 @@ impl<'t, Sink: TokenSink<Token<A>>, A: Allocator + Copy> Tokenizer<'t, Sink, A> 
         requires clean { is_clean self.old.position.opened ≡ true }
         requires not_failed { self.old.failed ≡ false }
         requires going_on { self.old.ended ≡ false }
-        ensures anew { (x : Sink) → StandsAt Sink.state Sink.step Sink.reply (record self.new { sink = x })
+        ensures anew { (x : Sink) → StandsAt Sink.state Sink.step Sink.reply Sink.foreign (record self.new { sink = x })
             (record self.old.position { opened = Between Plain }) (Sink.state x) [] }
         ensures sink { self.new.sink ≡ self.old.sink }
         ensures rules { self.new.rules ≡ self.old.rules }

@@ -2,7 +2,7 @@
 use Rattle.std.specs.Prelude.{ℕ, Bool, true, false, List, [], ◌∷◌, ◌++◌, Option, Some, None}
 use Rattle.html5ever_interface.specs.Sink.{Message}
 use Rattle.html5ever_interface.specs.Token.{Told, Reply, told_by}
-use Rattle.html5ever_interface.specs.Token.Told.{Text, Null, Error, Tag, Comment, Doctype, End}
+use Rattle.html5ever_interface.specs.Token.Told.{Text}
 use Rattle.html5ever_interface.specs.Token.Reply.{KeepOn}
 use Rattle.html5ever_interface.specs.declared.interface.token.Token.{Token}
 
@@ -22,6 +22,10 @@ pub record Collecting : Type 0 where
 -- nothing collected
 abbrev pub none_collected : Bool → Collected
 none_collected foreign = record { messages = []; finished = false; foreign = foreign }
+
+-- the answer about foreign content
+abbrev pub collected_foreign : Collected → Bool
+collected_foreign collected = collected.foreign
 
 -- what an entry tells
 abbrev pub message_of : {Z : Type 0} → Token Z × ℕ → Message

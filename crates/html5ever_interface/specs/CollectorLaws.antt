@@ -4,7 +4,7 @@ use Rattle.std.proofs.Common.{ap, ◌∙◌}
 use Rattle.std.proofs.lemmas.List.{append-nil, append_assoc}
 use Rattle.html5ever_interface.specs.Collected.{Collected, told_text, last_with_text, from_first_with_text, with_text, with_message, collected_step, collected_reply}
 use Rattle.html5ever_interface.specs.Sink.{Message}
-use Rattle.html5ever_interface.specs.Token.{Told, Reply, is_tag}
+use Rattle.html5ever_interface.specs.Token.{Told, is_tag}
 use Rattle.html5ever_interface.specs.Token.Told.{Text}
 use Rattle.html5ever_interface.specs.Token.Reply.{KeepOn}
 

@@ -127,7 +127,7 @@ impl<A: Allocator> Collector<A> {
 }
 
 impl<A: Allocator + Copy> TokenSink<Token<A>> for Collector<A> {
-    ghost use Rattle.html5ever_interface.specs.Collected.{Collected, collected_step, collected_reply, collected_faulted, collected_finish};
+    ghost use Rattle.html5ever_interface.specs.Collected.{Collected, collected_step, collected_reply, collected_foreign, collected_faulted, collected_finish};
     ghost use Rattle.html5ever_interface.specs.CollectorLaws.{collected_joins, collected_empty, collected_any_line, collected_keeps_on};
 
     type Handle = ();
@@ -142,7 +142,7 @@ impl<A: Allocator + Copy> TokenSink<Token<A>> for Collector<A> {
 
     ghost reply = { collected_reply };
 
-    ghost foreign = { λ c. c.foreign };
+    ghost foreign = { collected_foreign };
 
     ghost finish = { collected_finish };
 

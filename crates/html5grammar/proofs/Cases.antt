@@ -31,13 +31,13 @@ abbrev rules : Bool → Rules
 rules exact = record { exact = exact; names = [] }
 
 abbrev told : List ℕ → List Told
-told text = map (λ (m : Message). m.token) (messages (reading {S = ℕ} {H = ℕ} (λ s t l. s) (λ s t l. KeepOn) (rules false) start 0 text))
+told text = map (λ (m : Message). m.token) (messages (reading {S = ℕ} {H = ℕ} (λ s t l. s) (λ s t l. KeepOn) (λ s. false) (rules false) start 0 text))
 
 abbrev exact : List ℕ → List Told
-exact text = map (λ (m : Message). m.token) (messages (reading {S = ℕ} {H = ℕ} (λ s t l. s) (λ s t l. KeepOn) (rules true) start 0 text))
+exact text = map (λ (m : Message). m.token) (messages (reading {S = ℕ} {H = ℕ} (λ s t l. s) (λ s t l. KeepOn) (λ s. false) (rules true) start 0 text))
 
 abbrev lines : List ℕ → List ℕ
-lines text = map (λ (m : Message). m.line) (messages (reading {S = ℕ} {H = ℕ} (λ s t l. s) (λ s t l. KeepOn) (rules false) start 0 text))
+lines text = map (λ (m : Message). m.line) (messages (reading {S = ℕ} {H = ℕ} (λ s t l. s) (λ s t l. KeepOn) (λ s. false) (rules false) start 0 text))
 
 abbrev tag : TagKind → List ℕ → List AttributeOf → Bool → Bool → Told
 tag kind name attributes self_closing duplicates = Tag (record { kind = kind; name = name; self_closing = self_closing; attributes = attributes; had_duplicate_attributes = duplicates })

@@ -14,21 +14,22 @@ use Rattle.html5ever_interface.specs.declared.states.ScriptEscapeKind.TheVariant
 use Rattle.html5ever_interface.specs.declared.states.State.{State}
 use Rattle.html5ever_interface.specs.declared.states.State.TheVariants as state
 use Rattle.html5ever_interface.specs.declared.states.AttrValueKind.TheVariants.{Unquoted, SingleQuoted, DoubleQuoted}
+use Rattle.html5grammar.specs.Cdata.{ends_cdata}
 use Rattle.html5grammar.specs.Characters.{null, exclamation_mark, quotation_mark, ampersand, apostrophe, hyphen, solidus, less_than, equals_sign, greater_than, question_mark, is_between, is_bad_character, is_letter, is_white_space}
 use Rattle.html5grammar.specs.Reading.{Here}
 use Rattle.html5grammar.specs.Reading.Here.{Tells, TellsTag, Stops}
 use Rattle.html5grammar.specs.Start.{Raw, OpenTag, Place, RawPlace, DoctypePlace, Open, begun, raw_of}
 use Rattle.html5grammar.specs.Start.Raw.{ScriptData}
-use Rattle.html5grammar.specs.Start.Mode.{Data, Plain, RawText}
+use Rattle.html5grammar.specs.Start.Mode.{Data, Plain, RawText, Cdata}
 use Rattle.html5grammar.specs.Start.RawPlace.{AfterLessThan, InEndName, AfterMark, AfterMarkAndDash, InSwitch}
 use Rattle.html5grammar.specs.Start.Place.{InName, BeforeAttribute, InAttributeName, AfterAttributeName, BeforeValue, InValue, AfterQuotedValue, AfterSolidus}
 use Rattle.html5grammar.specs.Start.DoctypePlace.{AfterWord, BeforeName, InDoctypeName, AfterName, AfterKeyword, BeforeIdentifier, InIdentifier, AfterIdentifier, BetweenIdentifiers, Skipped}
-use Rattle.html5grammar.specs.Start.Open.{Between, LessThan, LessThanSolidus, InTag, InRaw, InComment, InBogusComment, InDoctype}
+use Rattle.html5grammar.specs.Start.Open.{Between, LessThan, LessThanSolidus, InTag, InRaw, InComment, InBogusComment, InDoctype, InCdata}
 use Rattle.html5grammar.specs.Comment.{ends_comment}
 use Rattle.html5grammar.specs.Doctype.{in_identifier, begins_doctype_keyword, in_doctype_name}
 use Rattle.html5grammar.specs.RawText.{ends_name, is_rcdata, ends_raw_text, begins_mark, begins_switch}
 use Rattle.html5grammar.specs.Tag.{in_tag_name, in_attribute_name, in_quoted, in_unquoted, with_name}
-use Rattle.html5grammar.proofs.Machine.{step_at, tag_step, closing_step, tag_name_step, part_step, attribute_name_step, after_attribute_name_step, quoted_step, unquoted_step, before_value_step, data_step, less_than_step, solidus_step, bogus_comment_step, comment_step, skipped_step, wanted_name_step, doctype_name_step, keyword_or_end_step, wanted_identifier_step, system_or_end_step, identifier_step, behind_identifier_step, space_step, doctype_step, raw_step, tag_name_end_step, end_name_step, switch_step, mark_step, mark_and_dash_step, raw_solidus_step, raw_less_than_step, raw_place_step}
+use Rattle.html5grammar.proofs.Machine.{step_at, tag_step, closing_step, tag_name_step, part_step, attribute_name_step, after_attribute_name_step, quoted_step, unquoted_step, before_value_step, data_step, less_than_step, solidus_step, bogus_comment_step, comment_step, skipped_step, wanted_name_step, doctype_name_step, keyword_or_end_step, wanted_identifier_step, system_or_end_step, identifier_step, behind_identifier_step, space_step, doctype_step, raw_step, tag_name_end_step, end_name_step, switch_step, mark_step, mark_and_dash_step, raw_solidus_step, raw_less_than_step, raw_place_step, cdata_step}
 
 -- the step goes on
 abbrev pub Goes : Here Open → Type 0
@@ -197,6 +198,18 @@ module _ (exact : Bool) (c : ℕ) (bad : is_bad_character c ≡ true) where
   pub bad_goes_comment : (before : List ℕ) → Goes (step_at exact (InComment before) c)
   unfolding step_at comment_step
   bad_goes_comment before = Goes-if ((c == greater_than) && ends_comment before) _ _ tt tt
+
+  Goes-cdata : (held : List ℕ) → Goes (cdata_step held c)
+  unfolding cdata_step
+  Goes-cdata held = Goes-if ((c == greater_than) && ends_cdata held) _ _ tt (Goes-if (c == null) _ _ tt tt)
+
+  pub bad_goes_cdata : (held : List ℕ) → Goes (step_at exact (InCdata held) c)
+  unfolding step_at
+  bad_goes_cdata held = Goes-cdata held
+
+  pub bad_goes_between_cdata : Goes (step_at exact (Between Cdata) c)
+  unfolding step_at
+  bad_goes_between_cdata = Goes-cdata []
 
   pub bad_goes_bogus_comment : (before : List ℕ) → Goes (step_at exact (InBogusComment before) c)
   unfolding step_at

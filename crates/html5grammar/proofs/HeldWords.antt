@@ -12,7 +12,7 @@ use Rattle.std.proofs.lemmas.List.Sums.{sum_by-append}
 use lib.Utf8.{encode}
 use Rattle.html5ever_interface.specs.Sink.{stepped, on_line}
 use Rattle.html5ever_interface.specs.Token.{Told, Reply}
-use Rattle.html5grammar.specs.Characters.{null, line_feed, greater_than, is_between, shown, value_bytes, lower_case}
+use Rattle.html5grammar.specs.Characters.{null, line_feed, greater_than, is_between, shown, value_bytes, lower_case, is_bad_character}
 use Rattle.html5grammar.specs.NormalisedText.{line_after}
 use Rattle.html5grammar.specs.OneComment.{begins_with}
 use Rattle.html5grammar.specs.OneTag.{spell_silent}
@@ -20,25 +20,35 @@ use Rattle.html5grammar.specs.Reading.Here.{Tells}
 use Rattle.html5grammar.specs.Slice.{Late, run_while, behind_while, tokens_of_late}
 use Rattle.html5grammar.specs.Start.{Input, Open, Rules}
 use Rattle.html5grammar.specs.WrittenRaw.{next_is}
+use Rattle.html5grammar.proofs.Going.{good_between}
+use Rattle.html5grammar.proofs.InputLemmas.{line_after-past}
 use Rattle.html5grammar.proofs.Leading.{Leads}
 use Rattle.html5grammar.proofs.Machine.{step_at, brought_at}
 use Rattle.html5grammar.proofs.OneCommentText.{bytes_of}
-use Rattle.html5grammar.proofs.Traces.{trace_brought, trace, with_messages}
+use Rattle.html5grammar.proofs.Traces.{trace_brought, trace, with_messages, trace_here}
 
--- ---- held characters are their own bytes, and no line breaks
+-- ---- held characters are their own bytes, no line breaks and no errors
+
+abbrev pub is_good : ℕ → Bool
+is_good c = not (is_bad_character c) && not (c == null)
 
 pub record IsPlain (text : List ℕ) : Type 0 where
   pub bytes : bytes_of text ≡ text
   pub lines : count_by (λ c. c == line_feed) text ≡ 0
+  -- none is an error by itself
+  pub good : list_all is_good text ≡ true
+
+abbrev pub IsPlainCharacter : ℕ → Type 0
+IsPlainCharacter c = (value_bytes c ≡ c ∷ []) × ((c == line_feed) ≡ false) × (is_good c ≡ true)
 
 plain-byte : (c : ℕ) → c < 128 → (c == null) ≡ false → value_bytes c ≡ c ∷ []
 unfolding value_bytes shown encode
 plain-byte c small other = rw (other, lt-ltb c 128 small) refl
 
 -- texts that are a beginning of a word, by what is compared of each character
-module _ (compared : ℕ → ℕ) (is_kind : ℕ → Bool) (plain : (c : ℕ) → is_kind (compared c) ≡ true → (value_bytes c ≡ c ∷ []) × ((c == line_feed) ≡ false)) where
+module _ (compared : ℕ → ℕ) (is_kind : ℕ → Bool) (plain : (c : ℕ) → is_kind (compared c) ≡ true → IsPlainCharacter c) where
   pub plain-beginning : (text word : List ℕ) (n : ℕ) → list_all is_kind word ≡ true → pointwise nat_eq (map compared text) (take n word) ≡ true → IsPlain text
-  plain-beginning [] word n kind h = record { bytes = refl; lines = refl }
+  plain-beginning [] word n kind h = record { bytes = refl; lines = refl; good = refl }
   plain-beginning (c ∷ text) word zero kind h = absurd (false≢true h)
   plain-beginning (c ∷ text) [] (suc n) kind h = absurd (false≢true h)
   plain-beginning (c ∷ text) (y ∷ word) (suc n) kind h =
@@ -46,7 +56,7 @@ module _ (compared : ℕ → ℕ) (is_kind : ℕ → Bool) (plain : (c : ℕ) �
       let q = and_parts (is_kind y) (list_all is_kind word) kind in
       let here = plain c (ap is_kind (eqb-true (compared c) y p.0) ∙ q.0) in
       let rest : IsPlain text = plain-beginning text word n q.1 p.1 in
-      record { bytes = rw (here.0, rest.bytes) refl; lines = rw (here.1, rest.lines) refl }
+      record { bytes = rw (here.0, rest.bytes) refl; lines = rw (here.1, rest.lines) refl; good = rw (here.2, rest.good) refl }
 
 lower-range : (c : ℕ) (small capital : Bool) → is_between 97 122 (cond small c (cond capital (c + 32) c)) ≡ true → (65 ≤ c) × (c ≤ 122)
 lower-range c true capital h =
@@ -59,10 +69,18 @@ lower-range c false false h =
     let p = and_parts (nat_le 97 c) (nat_le c 122) h in
     (omega (arith, leb-true 97 c p.0), leb-true c 122 p.1)
 
-plain-letter : (c : ℕ) → is_between 97 122 (to_ascii_lowercase c) ≡ true → (value_bytes c ≡ c ∷ []) × ((c == line_feed) ≡ false)
+pub plain-between : (c : ℕ) → 65 ≤ c → c ≤ 122 → IsPlainCharacter c
+plain-between c low high =
+    let other : (c == null) ≡ false = ne_eqb c null (λ e. omega (arith, e, low)) in (
+      plain-byte c (omega (arith, high)) other,
+      ne_eqb c line_feed (λ e. omega (arith, e, low)),
+      rw (good_between c (omega (arith, low)) (omega (arith, high)), other) refl,
+    )
+
+plain-letter : (c : ℕ) → is_between 97 122 (to_ascii_lowercase c) ≡ true → IsPlainCharacter c
 plain-letter c h =
     let range = lower-range c (nat_lt c 65) (nat_lt c 91) h in
-    (plain-byte c (omega (arith, range.1)) (ne_eqb c null (λ e. omega (arith, e, range.0))), ne_eqb c line_feed (λ e. omega (arith, e, range.0)))
+    plain-between c range.0 range.1
 
 -- a beginning of a word of letters, in any case
 pub plain-word : (text word : List ℕ) → list_all (is_between 97 122) word ≡ true → begins_with (lower_case text) word ≡ true → IsPlain text
@@ -146,7 +164,7 @@ decides-while begins none before (c ∷ text) =
 module _ (rules : Rules) (undecided : List ℕ → Open) where
   -- a character is held
   abbrev pub IsHeld : List ℕ → ℕ → Type 0
-  IsHeld held c = brought_at rules (undecided held) c ≡ record { settled = []; here = Tells [] (undecided (held ++ c ∷ [])) }
+  IsHeld held c = (foreign : Bool) → brought_at rules foreign (undecided held) c ≡ record { settled = []; here = Tells [] (undecided (held ++ c ∷ [])) }
 
   pub leads-while : (begins : List ℕ → Bool) (content : List ℕ)
       → ((held : List ℕ) (c : ℕ) (later : List ℕ) → content ≡ held ++ c ∷ later → begins (held ++ c ∷ []) ≡ true → IsHeld held c)
@@ -170,7 +188,7 @@ module _ (rules : Rules) (undecided : List ℕ → Open) where
   -- a whole word, in any case, at whose last character another place is reached
   pub leads-word : (word : List ℕ) (later : Open)
       → ((held : List ℕ) (c d : ℕ) (rest : List ℕ) → lower_case ((held ++ c ∷ []) ++ d ∷ rest) ≡ word → IsHeld held c)
-      → ((held : List ℕ) (c : ℕ) → lower_case (held ++ c ∷ []) ≡ word → brought_at rules (undecided held) c ≡ record { settled = []; here = Tells [] later })
+      → ((held : List ℕ) (c : ℕ) → lower_case (held ++ c ∷ []) ≡ word → (foreign : Bool) → brought_at rules foreign (undecided held) c ≡ record { settled = []; here = Tells [] later })
       → (held : List ℕ) (c : ℕ) (rest : List ℕ) → lower_case (held ++ c ∷ rest) ≡ word
       → Leads rules (undecided held) (spell_silent (c ∷ rest)) later
   unfolding Leads
@@ -179,13 +197,49 @@ module _ (rules : Rules) (undecided : List ℕ → Open) where
       let past : lower_case ((held ++ c ∷ []) ++ d ∷ rest) ≡ word = ap lower_case (append_assoc held (c ∷ []) (d ∷ rest)) ∙ e in
       (undecided (held ++ c ∷ []), holds held c d rest past, leads-word word later holds ends (held ++ c ∷ []) d rest past)
 
+-- all of these are held, by the sink's answer
+module _ (rules : Rules) (undecided : List ℕ → Open) (foreign : Bool) where
+  abbrev pub IsHeldBy : List ℕ → ℕ → Type 0
+  IsHeldBy held c = brought_at rules foreign (undecided held) c ≡ record { settled = []; here = Tells [] (undecided (held ++ c ∷ [])) }
+
+  unfoldable pub AreHeld : List ℕ → List ℕ → Type 0
+  AreHeld held [] = Unit {0}
+  AreHeld held (c ∷ run) = IsHeldBy held c × AreHeld (held ++ c ∷ []) run
+
+  pub held-while : (begins : List ℕ → Bool) (content : List ℕ)
+      → ((held : List ℕ) (c : ℕ) (later : List ℕ) → content ≡ held ++ c ∷ later → begins (held ++ c ∷ []) ≡ true → IsHeldBy held c)
+      → (before text : List ℕ) → content ≡ before ++ text → AreHeld before (run_while begins before text)
+  unfolding AreHeld run_while
+  held-while begins content holds before [] split = tt
+  held-while begins content holds before (c ∷ text) split =
+      let past : List ℕ = before ++ c ∷ [] in
+      elim (begins past) as (λ b. begins past ≡ b → AreHeld before (if b then c ∷ run_while begins past text else [])) [
+        | true ↦ λ e. (holds before c text split e, held-while begins content holds past text (split ∙ sym (append_assoc before (c ∷ []) text)))
+        | false ↦ λ e. tt
+      ] refl
+
 -- what is told where a character decides: then it is read where something else is open
 
-module _ {S H : Type 0} (step : S → Told → ℕ → S) (reply : S → Told → ℕ → Reply H) (rules : Rules) where
+module _ {S H : Type 0} (step : S → Told → ℕ → S) (reply : S → Told → ℕ → Reply H) (foreign : S → Bool) (rules : Rules) where
   pub trace-settles : (s : S) (line : ℕ) (last : List ℕ) (undecided behind : Open) (late : List Late) (c : ℕ) (text : List ℕ)
-      → brought_at rules undecided c ≡ record { settled = late; here = step_at rules.exact behind c }
-      → brought_at rules behind c ≡ record { settled = []; here = step_at rules.exact behind c }
-      → trace step reply rules s line last undecided (c ∷ text)
-      ≡ with_messages (on_line line (tokens_of_late late)) (trace step reply rules (stepped step s (on_line line (tokens_of_late late))) line last behind (c ∷ text))
+      → brought_at rules (foreign s) undecided c ≡ record { settled = late; here = step_at rules.exact behind c }
+      → ((other : Bool) → brought_at rules other behind c ≡ record { settled = []; here = step_at rules.exact behind c })
+      → trace step reply foreign rules s line last undecided (c ∷ text)
+      ≡ with_messages (on_line line (tokens_of_late late)) (trace step reply foreign rules (stepped step s (on_line line (tokens_of_late late))) line last behind (c ∷ text))
   unfolding trace trace_brought stepped
-  trace-settles s line last undecided behind late c text e f = rw (e, f) refl
+  trace-settles s line last undecided behind late c text e f = rw (e, f (foreign (stepped step s (on_line line (tokens_of_late late))))) refl
+
+  -- held characters tell nothing
+  pub trace-held : (undecided : List ℕ → Open) (input : Input) (before : List ℕ) (s : S) (last held run text : List ℕ)
+      → AreHeld rules undecided (foreign s) held run → list_all is_good run ≡ true
+      → trace step reply foreign rules s (line_after input before) last (undecided held) (run ++ text)
+      ≡ trace step reply foreign rules s (line_after input (before ++ run)) last (undecided (held ++ run)) text
+  unfolding AreHeld trace trace_brought trace_here stepped
+  trace-held undecided input before s last held [] text holds good = rw (append-nil before, append-nil held) refl
+  trace-held undecided input before s last held (c ∷ run) text holds good =
+      let p = and_parts (is_good c) (list_all is_good run) good in
+      let q = and_parts (not (is_bad_character c)) (not (c == null)) p.0 in
+      rw (holds.0, ← line_after-past input before c, not-true (is_bad_character c) q.0, and-false rules.exact)
+      (trace-held undecided input (before ++ c ∷ []) s last (held ++ c ∷ []) run text holds.1 p.1
+      ∙ ap (λ b. trace step reply foreign rules s (line_after input b) last (undecided ((held ++ c ∷ []) ++ run)) text) (append_assoc before (c ∷ []) run)
+      ∙ ap (λ b. trace step reply foreign rules s (line_after input (before ++ c ∷ run)) last (undecided b) text) (append_assoc held (c ∷ []) run))

@@ -12,6 +12,7 @@ use Rattle.html5ever_interface.specs.declared.states.RawKind.TheVariants as raw_
 use Rattle.html5ever_interface.specs.declared.states.ScriptEscapeKind.TheVariants as escape_kind
 use Rattle.html5ever_interface.specs.declared.states.State.{State}
 use Rattle.html5ever_interface.specs.declared.states.State.TheVariants as state
+use Rattle.html5grammar.specs.Cdata.{ends_cdata}
 use Rattle.html5grammar.specs.Characters.{null, exclamation_mark, quotation_mark, ampersand, apostrophe, hyphen, solidus, less_than, equals_sign, greater_than, question_mark, is_letter, is_white_space}
 use Rattle.html5grammar.specs.Comment.{ends_comment}
 use Rattle.html5grammar.specs.Doctype.{in_identifier, begins_doctype_keyword, in_doctype_name}
@@ -19,13 +20,13 @@ use Rattle.html5grammar.specs.RawText.{ends_name, is_rcdata, ends_raw_text, begi
 use Rattle.html5grammar.specs.Reading.{Here}
 use Rattle.html5grammar.specs.Reading.Here.{Tells, TellsTag, Stops}
 use Rattle.html5grammar.specs.Start.{Raw, OpenTag, Place, RawPlace, DoctypePlace, Open, held_len}
-use Rattle.html5grammar.specs.Start.Mode.{Data, Plain, RawText}
+use Rattle.html5grammar.specs.Start.Mode.{Data, Plain, RawText, Cdata}
 use Rattle.html5grammar.specs.Start.DoctypePlace.{AfterWord, BeforeName, InDoctypeName, AfterName, AfterKeyword, BeforeIdentifier, InIdentifier, AfterIdentifier, BetweenIdentifiers, Skipped}
-use Rattle.html5grammar.specs.Start.Open.{Between, LessThan, LessThanSolidus, InTag, InRaw, InDeclaration, InComment, InBogusComment, InDoctype, InDoctypeKeyword, InReference, NotBuilt}
+use Rattle.html5grammar.specs.Start.Open.{Between, LessThan, LessThanSolidus, InTag, InRaw, InDeclaration, InComment, InBogusComment, InDoctype, InDoctypeKeyword, InReference, NotBuilt, InCdata}
 use Rattle.html5grammar.specs.Start.Place.{InName, BeforeAttribute, InAttributeName, AfterAttributeName, BeforeValue, InValue, AfterQuotedValue, AfterSolidus}
 use Rattle.html5grammar.specs.Start.RawPlace.{AfterLessThan, InEndName, AfterMark, AfterMarkAndDash, InSwitch}
 use Rattle.html5grammar.specs.Tag.{in_quoted, in_unquoted, in_attribute_name, in_tag_name}
-use Rattle.html5grammar.proofs.Machine.{closing_step, tag_name_step, part_step, attribute_name_step, after_attribute_name_step, quoted_step, unquoted_step, before_value_step, tag_step, data_step, less_than_step, solidus_step, bogus_comment_step, comment_step, skipped_step, wanted_name_step, doctype_name_step, keyword_or_end_step, wanted_identifier_step, system_or_end_step, identifier_step, behind_identifier_step, space_step, doctype_step, raw_step, tag_name_end_step, end_name_step, switch_step, mark_step, mark_and_dash_step, raw_solidus_step, raw_less_than_step, raw_place_step, step_at}
+use Rattle.html5grammar.proofs.Machine.{closing_step, tag_name_step, part_step, attribute_name_step, after_attribute_name_step, quoted_step, unquoted_step, before_value_step, tag_step, data_step, less_than_step, solidus_step, bogus_comment_step, comment_step, skipped_step, wanted_name_step, doctype_name_step, keyword_or_end_step, wanted_identifier_step, system_or_end_step, identifier_step, behind_identifier_step, space_step, doctype_step, raw_step, tag_name_end_step, end_name_step, switch_step, mark_step, mark_and_dash_step, raw_solidus_step, raw_less_than_step, raw_place_step, step_at, cdata_step}
 
 abbrev pub HoldsAtMostOne : Here Open → Type 0
 HoldsAtMostOne (Tells told later) = held_len later ≤ 1
@@ -95,6 +96,10 @@ module _ (exact : Bool) (c : ℕ) where
   unfolding bogus_comment_step
   holds-bogus_comment before first = holds-if (c == greater_than) _ _ none none
 
+  holds-cdata : (held : List ℕ) → HoldsAtMostOne (cdata_step held c)
+  unfolding cdata_step
+  holds-cdata held = holds-if ((c == greater_than) && ends_cdata held) _ _ none (holds-if (c == null) _ _ none none)
+
   holds-raw_solidus : (kind : RawKind) (name : List ℕ) → HoldsAtMostOne (raw_solidus_step kind name)
   unfolding raw_solidus_step
   holds-raw_solidus raw_kind.Rcdata name = none
@@ -160,6 +165,7 @@ module _ (exact : Bool) (c : ℕ) where
   unfolding step_at less_than_step solidus_step comment_step
   holds_at_most_one (Between Data) = holds-data []
   holds_at_most_one (Between Plain) = none
+  holds_at_most_one (Between Cdata) = holds-cdata []
   holds_at_most_one (Between (RawText raw name)) = holds-raw raw name []
   holds_at_most_one LessThan =
       holds-if (is_letter c) _ _ (holds-tag_name _) (holds-if (c == solidus) _ _ none
@@ -173,5 +179,6 @@ module _ (exact : Bool) (c : ℕ) where
   holds_at_most_one (InBogusComment before) = holds-bogus_comment before []
   holds_at_most_one (InDoctype place d) = holds-doctype place d
   holds_at_most_one (InDoctypeKeyword held d) = tt
+  holds_at_most_one (InCdata held) = holds-cdata held
   holds_at_most_one (InReference stand held) = tt
   holds_at_most_one NotBuilt = tt

@@ -36,8 +36,14 @@ pub mod OneDoctypeName
 pub mod OneDoctypeReading
 pub mod OneDoctypeCollected
 pub mod OneDoctypeForms
+pub mod OneCdataSteps
+pub mod OneCdataReading
+pub mod OneCdataCollected
+pub mod OneCdataForms
 mod WrittenRawCases
 mod CommentCases
 mod DoctypeCases
+mod CdataCases
 mod OneCommentCases
 mod OneDoctypeCases
+mod OneCdataCases

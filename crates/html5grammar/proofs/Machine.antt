@@ -15,8 +15,9 @@ use Rattle.html5ever_interface.specs.declared.states.ScriptEscapeKind.{ScriptEsc
 use Rattle.html5ever_interface.specs.declared.states.ScriptEscapeKind.TheVariants as escape_kind
 use Rattle.html5ever_interface.specs.declared.states.State.{State}
 use Rattle.html5ever_interface.specs.declared.states.State.TheVariants as state
+use Rattle.html5grammar.specs.Cdata.{piece_text, ends_cdata, told_at_end_of_cdata}
 use Rattle.html5grammar.specs.Characters.{null, exclamation_mark, quotation_mark, ampersand, apostrophe, hyphen, solidus, less_than, equals_sign, greater_than, question_mark, is_letter, is_white_space, value_bytes, lower_case}
-use Rattle.html5grammar.specs.Comment.{comment_errors, ends_comment, comment_end_error, comment_content, begins_keyword, declaration_error}
+use Rattle.html5grammar.specs.Comment.{comment_errors, ends_comment, comment_end_error, comment_content, begins_keyword, declaration_error, cdata_keyword, begins_cdata}
 use Rattle.html5grammar.specs.Doctype.{with_quirks, with_doctype_name, with_first_of_name, with_begun_identifier, with_identifier, identifier_state, in_identifier, is_keyword, begins_doctype_keyword, keyword_error, in_doctype_name, word_error}
 use Rattle.html5grammar.specs.ErrorText.{error_in, where_true, bad_character_error}
 use Rattle.html5grammar.specs.Reading.{Here, Brought, last_behind, open_after_reply}
@@ -25,12 +26,12 @@ use Rattle.html5grammar.specs.Start.{Raw, OpenTag, Place, RawPlace, Quotes, Doct
 use Rattle.html5grammar.specs.Start.Stand.{InText, InAttribute}
 use Rattle.html5grammar.specs.Start.Dashes.{TwoDashes}
 use Rattle.html5grammar.specs.Start.Raw.{ScriptData, Escaped}
-use Rattle.html5grammar.specs.Start.Mode.{Data, Plain, RawText}
+use Rattle.html5grammar.specs.Start.Mode.{Data, Plain, RawText, Cdata}
 use Rattle.html5grammar.specs.Start.RawPlace.{AfterLessThan, InEndName, AfterMark, AfterMarkAndDash, InSwitch}
 use Rattle.html5grammar.specs.Start.Place.{InName, BeforeAttribute, InAttributeName, AfterAttributeName, BeforeValue, InValue, AfterQuotedValue, AfterSolidus}
 use Rattle.html5grammar.specs.Start.DoctypePlace.{AfterWord, BeforeName, InDoctypeName, AfterName, AfterKeyword, BeforeIdentifier, InIdentifier, AfterIdentifier, BetweenIdentifiers, Skipped}
 use Rattle.html5grammar.specs.Start.Quotes.{DoubleQuotes, SingleQuotes}
-use Rattle.html5grammar.specs.Start.Open.{Between, LessThan, LessThanSolidus, InTag, InRaw, InDeclaration, InComment, InBogusComment, InDoctype, InDoctypeKeyword, InReference, NotBuilt}
+use Rattle.html5grammar.specs.Start.Open.{Between, LessThan, LessThanSolidus, InTag, InRaw, InDeclaration, InComment, InBogusComment, InDoctype, InDoctypeKeyword, InCdata, InReference, NotBuilt}
 use Rattle.html5grammar.specs.Reference.{Found, in_value, reference, is_undecided, ends_number, late_tokens, opened_behind, with_value}
 use Rattle.html5grammar.specs.Tag.{with_last_attribute, duplicate_error, end_tag_errors, told_tag, null_error, in_quoted, in_unquoted, unquoted_error, in_attribute_name, attribute_name_error, with_last_name, place_error, first_error, is_after_solidus, in_tag_name, with_name}
 use Rattle.html5grammar.specs.RawText.{raw_text_of, texts, ends_name, kind_of, is_rcdata, raw_behind, raw_character, ends_raw_text, switched, told_at_less_than, told_behind_less_than, begins_mark, begins_switch}
@@ -127,6 +128,14 @@ unfoldable pub comment_step : Bool → List ℕ → ℕ → Here Open
 comment_step exact before c =
     if (c == greater_than) && ends_comment before then Tells (comment_end_error exact before ++ Comment (comment_content before) ∷ []) (Between Data)
     else Tells (comment_errors exact before c) (InComment (before ++ value_bytes c))
+
+-- CDATA sections, with the text that is held
+
+unfoldable pub cdata_step : List ℕ → ℕ → Here Open
+cdata_step held c =
+    if (c == greater_than) && ends_cdata held then Tells (told_at_end_of_cdata held) (Between Data)
+    else if c == null then Tells (piece_text held ++ Null ∷ []) (Between Cdata)
+    else Tells [] (InCdata (held ++ encode_utf8 c))
 
 -- doctypes
 
@@ -266,6 +275,7 @@ unfoldable pub step_at : Bool → Open → ℕ → Here Open
 step_at exact (Between Data) c = data_step exact [] c
 step_at exact (Between Plain) c = Tells (plain_text exact c) (Between Plain)
 step_at exact (Between (RawText raw name)) c = raw_step exact raw name [] c
+step_at exact (Between Cdata) c = cdata_step [] c
 step_at exact (InRaw place name) c = raw_place_step exact place name c
 step_at exact LessThan c = less_than_step exact c
 step_at exact LessThanSolidus c = solidus_step exact c
@@ -273,6 +283,7 @@ step_at exact (InTag place tag) c = tag_step exact place tag c
 step_at exact (InComment before) c = comment_step exact before c
 step_at exact (InBogusComment before) c = bogus_comment_step exact before [] c
 step_at exact (InDoctype place d) c = doctype_step exact place d c
+step_at exact (InCdata held) c = cdata_step held c
 step_at exact (InDeclaration held) c = Stops []
 step_at exact (InDoctypeKeyword held d) c = Stops []
 step_at exact (InReference stand held) c = Stops []
@@ -286,13 +297,20 @@ reference_step rules stand held c =
     else if ends_number held c then record { settled = late_tokens stand found held; here = Tells [] (opened_behind stand found held) }
     else record { settled = late_tokens stand found held; here = step_at rules.exact (opened_behind stand found held) c }
 
+-- a character behind `<!` and what is held there, where the first two keywords stand no more, by the sink's answer
+unfoldable pub declaration_answer_step : Bool → Bool → List ℕ → ℕ → Brought Open
+declaration_answer_step exact foreign held c =
+    if foreign && bytes_eq (held ++ c ∷ []) cdata_keyword then record { settled = []; here = Tells [] (Between Cdata) }
+    else if foreign && begins_cdata (held ++ c ∷ []) then record { settled = []; here = Tells [] (InDeclaration (held ++ c ∷ [])) }
+    else record { settled = declaration_error exact held; here = bogus_comment_step exact held [] c }
+
 -- a character behind `<!` and what is held there
-unfoldable pub declaration_step : Bool → List ℕ → ℕ → Brought Open
-declaration_step exact held c =
+unfoldable pub declaration_step : Bool → Bool → List ℕ → ℕ → Brought Open
+declaration_step exact foreign held c =
     if bytes_eq (held ++ c ∷ []) (codes "--") then record { settled = []; here = Tells [] (InComment []) }
     else if bytes_eq (lower_case (held ++ c ∷ [])) (codes "doctype") then record { settled = []; here = Tells [] (InDoctype AfterWord empty_doctype) }
     else if begins_keyword (held ++ c ∷ []) then record { settled = []; here = Tells [] (InDeclaration (held ++ c ∷ [])) }
-    else record { settled = declaration_error exact held; here = bogus_comment_step exact held [] c }
+    else declaration_answer_step exact foreign held c
 
 -- a character behind what may begin a keyword of a doctype
 unfoldable pub doctype_keyword_step : Bool → List ℕ → DoctypeOf → ℕ → Brought Open
@@ -302,20 +320,22 @@ doctype_keyword_step exact held d c =
     else if begins_doctype_keyword (held ++ c ∷ []) then record { settled = []; here = Tells [] (InDoctypeKeyword (held ++ c ∷ []) d) }
     else record { settled = keyword_error exact held; here = skipped_step exact [] (with_quirks d) c }
 
--- what a character brings: where nothing is undecided it decides nothing that stands before it
-unfoldable pub brought_at : Rules → Open → ℕ → Brought Open
-brought_at rules (InReference stand held) c = reference_step rules stand held c
-brought_at rules (InDeclaration held) c = declaration_step rules.exact held c
-brought_at rules (InDoctypeKeyword held d) c = doctype_keyword_step rules.exact held d c
-brought_at rules (InDoctype place d) c = record { settled = []; here = step_at rules.exact (InDoctype place d) c }
-brought_at rules (InComment before) c = record { settled = []; here = step_at rules.exact (InComment before) c }
-brought_at rules (InBogusComment before) c = record { settled = []; here = step_at rules.exact (InBogusComment before) c }
-brought_at rules (Between mode) c = record { settled = []; here = step_at rules.exact (Between mode) c }
-brought_at rules LessThan c = record { settled = []; here = step_at rules.exact LessThan c }
-brought_at rules LessThanSolidus c = record { settled = []; here = step_at rules.exact LessThanSolidus c }
-brought_at rules (InTag place tag) c = record { settled = []; here = step_at rules.exact (InTag place tag) c }
-brought_at rules (InRaw place name) c = record { settled = []; here = step_at rules.exact (InRaw place name) c }
-brought_at rules NotBuilt c = record { settled = []; here = Stops [] }
+-- what a character brings, by the sink's answer about foreign content in the state before it: where nothing is undecided it
+-- decides nothing that stands before it
+unfoldable pub brought_at : Rules → Bool → Open → ℕ → Brought Open
+brought_at rules foreign (InReference stand held) c = reference_step rules stand held c
+brought_at rules foreign (InDeclaration held) c = declaration_step rules.exact foreign held c
+brought_at rules foreign (InDoctypeKeyword held d) c = doctype_keyword_step rules.exact held d c
+brought_at rules foreign (InDoctype place d) c = record { settled = []; here = step_at rules.exact (InDoctype place d) c }
+brought_at rules foreign (InComment before) c = record { settled = []; here = step_at rules.exact (InComment before) c }
+brought_at rules foreign (InBogusComment before) c = record { settled = []; here = step_at rules.exact (InBogusComment before) c }
+brought_at rules foreign (Between mode) c = record { settled = []; here = step_at rules.exact (Between mode) c }
+brought_at rules foreign LessThan c = record { settled = []; here = step_at rules.exact LessThan c }
+brought_at rules foreign LessThanSolidus c = record { settled = []; here = step_at rules.exact LessThanSolidus c }
+brought_at rules foreign (InTag place tag) c = record { settled = []; here = step_at rules.exact (InTag place tag) c }
+brought_at rules foreign (InRaw place name) c = record { settled = []; here = step_at rules.exact (InRaw place name) c }
+brought_at rules foreign (InCdata held) c = record { settled = []; here = step_at rules.exact (InCdata held) c }
+brought_at rules foreign NotBuilt c = record { settled = []; here = Stops [] }
 
 module _ {S H : Type 0} (step : S → Told → ℕ → S) (reply : S → Told → ℕ → Reply H) (rules : Rules) where
   -- the messages at c, and what is open behind it

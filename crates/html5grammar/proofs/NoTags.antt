@@ -12,6 +12,7 @@ use Rattle.html5ever_interface.specs.declared.states.RawKind.TheVariants as raw_
 use Rattle.html5ever_interface.specs.declared.states.ScriptEscapeKind.TheVariants as escape_kind
 use Rattle.html5ever_interface.specs.declared.states.AttrValueKind.{AttrValueKind}
 use Rattle.html5ever_interface.specs.declared.states.AttrValueKind.TheVariants.{Unquoted, SingleQuoted, DoubleQuoted}
+use Rattle.html5grammar.specs.Cdata.{piece_text, ends_cdata, told_at_end_of_cdata}
 use Rattle.html5grammar.specs.Characters.{null, number_sign, replacement_character, exclamation_mark, quotation_mark, ampersand, apostrophe, hyphen, solidus, less_than, equals_sign, greater_than, question_mark, is_letter, is_white_space, is_bad_character, lower_case}
 use Rattle.html5grammar.specs.ErrorText.{error_in, where_true, bad_character_error}
 use Rattle.html5grammar.specs.Reading.{Here, Brought}
@@ -22,18 +23,18 @@ use Rattle.markup5ever.specs.NamedReferences.{NamedReference}
 use Rattle.html5grammar.specs.Reading.Here.{Tells, TellsTag, Stops}
 use Rattle.html5grammar.specs.Start.{Raw, OpenTag, Place, RawPlace, DoctypePlace, Stand, Open, Rules, raw_of}
 use Rattle.html5grammar.specs.Start.Raw.{ScriptData}
-use Rattle.html5grammar.specs.Start.Mode.{Data, Plain, RawText}
+use Rattle.html5grammar.specs.Start.Mode.{Data, Plain, RawText, Cdata}
 use Rattle.html5grammar.specs.Start.RawPlace.{AfterLessThan, InEndName, AfterMark, AfterMarkAndDash, InSwitch}
 use Rattle.html5grammar.specs.Start.Place.{InName, BeforeAttribute, InAttributeName, AfterAttributeName, BeforeValue, InValue, AfterQuotedValue, AfterSolidus}
 use Rattle.html5grammar.specs.Start.DoctypePlace.{AfterWord, BeforeName, InDoctypeName, AfterName, AfterKeyword, BeforeIdentifier, InIdentifier, AfterIdentifier, BetweenIdentifiers, Skipped}
-use Rattle.html5grammar.specs.Start.Open.{Between, LessThan, LessThanSolidus, InTag, InRaw, InDeclaration, InComment, InBogusComment, InDoctype, InDoctypeKeyword, InReference, NotBuilt}
+use Rattle.html5grammar.specs.Start.Open.{Between, LessThan, LessThanSolidus, InTag, InRaw, InDeclaration, InComment, InBogusComment, InDoctype, InDoctypeKeyword, InReference, NotBuilt, InCdata}
 use Rattle.html5grammar.specs.Tag.{null_error, duplicate_error, end_tag_errors, with_last_attribute, in_quoted, in_unquoted, unquoted_error, in_attribute_name, place_error, first_error, in_tag_name}
 use Rattle.std.specs.Str.{bytes_eq}
-use Rattle.html5grammar.specs.Comment.{comment_state, ends_comment, comment_content, comment_end_error, comment_errors, mark_error, begins_keyword}
+use Rattle.html5grammar.specs.Comment.{comment_state, ends_comment, comment_content, comment_end_error, comment_errors, mark_error, begins_keyword, without_last, cdata_keyword, begins_cdata}
 use Rattle.html5grammar.specs.Doctype.{with_quirks, in_identifier, is_keyword, begins_doctype_keyword, keyword_error, in_doctype_name, word_error}
 use Rattle.html5grammar.specs.RawText.{ends_name, raw_state, kind_of, is_rcdata, raw_character, ends_raw_text, told_at_less_than, told_behind_less_than, begins_mark, begins_switch}
 use Rattle.html5grammar.specs.Text.{plain_text}
-use Rattle.html5grammar.proofs.Machine.{closing_step, tag_name_step, part_step, attribute_name_step, after_attribute_name_step, quoted_step, unquoted_step, before_value_step, tag_step, data_step, less_than_step, solidus_step, bogus_comment_step, comment_step, skipped_step, wanted_name_step, doctype_name_step, keyword_or_end_step, wanted_identifier_step, system_or_end_step, identifier_step, behind_identifier_step, space_step, doctype_step, declaration_step, doctype_keyword_step, raw_step, tag_name_end_step, end_name_step, switch_step, mark_step, mark_and_dash_step, raw_solidus_step, raw_less_than_step, raw_place_step, step_at, reference_step, brought_at}
+use Rattle.html5grammar.proofs.Machine.{closing_step, tag_name_step, part_step, attribute_name_step, after_attribute_name_step, quoted_step, unquoted_step, before_value_step, tag_step, data_step, less_than_step, solidus_step, bogus_comment_step, comment_step, skipped_step, wanted_name_step, doctype_name_step, keyword_or_end_step, wanted_identifier_step, system_or_end_step, identifier_step, behind_identifier_step, space_step, doctype_step, declaration_step, doctype_keyword_step, raw_step, tag_name_end_step, end_name_step, switch_step, mark_step, mark_and_dash_step, raw_solidus_step, raw_less_than_step, raw_place_step, step_at, reference_step, brought_at, cdata_step, declaration_answer_step}
 
 unfoldable pub NoTags : List Told → Type 0
 NoTags [] = Unit {0}
@@ -194,6 +195,17 @@ module _ (exact : Bool) (c : ℕ) where
   no_tags-bogus_comment before first f =
       no_tags-if (c == greater_than) _ _ (no_tags-append first _ f (refl, tt)) (no_tags-append first _ f (no_tags-where _ _ refl))
 
+  no_tags-piece : (held : List ℕ) → NoTags (piece_text held)
+  unfolding NoTags
+  no_tags-piece [] = tt
+  no_tags-piece (b ∷ held) = (refl, tt)
+
+  no_tags-cdata : (held : List ℕ) → NoTagsHere (cdata_step held c)
+  unfolding cdata_step NoTagsHere NoTags
+  no_tags-cdata held =
+      no_tags-if ((c == greater_than) && ends_cdata held) (Tells (told_at_end_of_cdata held) (Between Data)) _ (no_tags-piece (without_last 2 held))
+      (no_tags-if (c == null) _ _ (no_tags-append (piece_text held) _ (no_tags-piece held) (refl, tt)) tt)
+
   no_tags-comment : (before : List ℕ) → NoTagsHere (comment_step exact before c)
   unfolding comment_step comment_end_error comment_errors mark_error NoTagsHere NoTags
   no_tags-comment before =
@@ -273,6 +285,7 @@ module _ (exact : Bool) (c : ℕ) where
   unfolding step_at less_than_step solidus_step NoTagsHere NoTags
   no_tags-step_at (Between Data) = no_tags-data [] tt
   no_tags-step_at (Between Plain) = no_tags-plain_text
+  no_tags-step_at (Between Cdata) = no_tags-cdata []
   no_tags-step_at (Between (RawText raw name)) = no_tags-raw raw name [] tt
   no_tags-step_at LessThan =
       no_tags-if (is_letter c) _ _ (no_tags-tag_name _) (no_tags-if (c == solidus) _ _ tt
@@ -286,6 +299,7 @@ module _ (exact : Bool) (c : ℕ) where
   no_tags-step_at (InBogusComment before) = no_tags-bogus_comment before [] tt
   no_tags-step_at (InDoctype place d) = no_tags-doctype place d
   no_tags-step_at (InDoctypeKeyword held d) = tt
+  no_tags-step_at (InCdata held) = no_tags-cdata held
   no_tags-step_at (InReference stand held) = tt
   no_tags-step_at NotBuilt = tt
 
@@ -359,12 +373,18 @@ no_tags-brought : (test : Bool) (p q : Brought Open) → NoTags (tokens_of_late 
 no_tags-brought true p q f g = f
 no_tags-brought false p q f g = g
 
-no_tags-declaration : (exact : Bool) (held : List ℕ) (c : ℕ) → NoTags (tokens_of_late (declaration_step exact held c).settled)
+no_tags-answer : (exact foreign : Bool) (held : List ℕ) (c : ℕ) → NoTags (tokens_of_late (declaration_answer_step exact foreign held c).settled)
+unfolding declaration_answer_step NoTags
+no_tags-answer exact foreign held c =
+    no_tags-brought (foreign && bytes_eq (held ++ c ∷ []) cdata_keyword) _ _ tt
+    (no_tags-brought (foreign && begins_cdata (held ++ c ∷ [])) _ _ tt (refl, tt))
+
+no_tags-declaration : (exact foreign : Bool) (held : List ℕ) (c : ℕ) → NoTags (tokens_of_late (declaration_step exact foreign held c).settled)
 unfolding declaration_step NoTags
-no_tags-declaration exact held c =
+no_tags-declaration exact foreign held c =
     no_tags-brought (bytes_eq (held ++ c ∷ []) (codes "--")) _ _ tt
     (no_tags-brought (bytes_eq (lower_case (held ++ c ∷ [])) (codes "doctype")) _ _ tt
-    (no_tags-brought (begins_keyword (held ++ c ∷ [])) _ _ tt (refl, tt)))
+    (no_tags-brought (begins_keyword (held ++ c ∷ [])) _ _ tt (no_tags-answer exact foreign held c)))
 
 no_tags-keyword_error : (exact : Bool) (held : List ℕ) → NoTags (tokens_of_late (keyword_error exact held))
 unfolding keyword_error NoTags
@@ -378,19 +398,20 @@ no_tags-doctype_keyword exact held d c =
     (no_tags-brought (is_keyword System (held ++ c ∷ [])) _ _ tt
     (no_tags-brought (begins_doctype_keyword (held ++ c ∷ [])) _ _ tt (no_tags-keyword_error exact held)))
 
-pub no_tags-settled : (rules : Rules) (opened : Open) (c : ℕ) → NoTags (tokens_of_late (brought_at rules opened c).settled)
+pub no_tags-settled : (rules : Rules) (foreign : Bool) (opened : Open) (c : ℕ) → NoTags (tokens_of_late (brought_at rules foreign opened c).settled)
 unfolding brought_at reference_step NoTags
-no_tags-settled rules (Between mode) c = tt
-no_tags-settled rules LessThan c = tt
-no_tags-settled rules LessThanSolidus c = tt
-no_tags-settled rules (InTag place tag) c = tt
-no_tags-settled rules (InRaw place name) c = tt
-no_tags-settled rules (InDeclaration held) c = no_tags-declaration rules.exact held c
-no_tags-settled rules (InComment before) c = tt
-no_tags-settled rules (InBogusComment before) c = tt
-no_tags-settled rules (InDoctype place d) c = tt
-no_tags-settled rules (InDoctypeKeyword held d) c = no_tags-doctype_keyword rules.exact held d c
-no_tags-settled rules (InReference stand held) c =
+no_tags-settled rules foreign (Between mode) c = tt
+no_tags-settled rules foreign LessThan c = tt
+no_tags-settled rules foreign LessThanSolidus c = tt
+no_tags-settled rules foreign (InTag place tag) c = tt
+no_tags-settled rules foreign (InRaw place name) c = tt
+no_tags-settled rules foreign (InDeclaration held) c = no_tags-declaration rules.exact foreign held c
+no_tags-settled rules foreign (InComment before) c = tt
+no_tags-settled rules foreign (InBogusComment before) c = tt
+no_tags-settled rules foreign (InDoctype place d) c = tt
+no_tags-settled rules foreign (InDoctypeKeyword held d) c = no_tags-doctype_keyword rules.exact held d c
+no_tags-settled rules foreign (InCdata held) c = tt
+no_tags-settled rules foreign (InReference stand held) c =
     no_tags-brought (is_undecided rules.names (held ++ c ∷ [])) _ _ tt
     (no_tags-brought (ends_number held c) _ _ (no_tags-late_tokens rules stand held (Some c)) (no_tags-late_tokens rules stand held (Some c)))
-no_tags-settled rules NotBuilt c = tt
+no_tags-settled rules foreign NotBuilt c = tt

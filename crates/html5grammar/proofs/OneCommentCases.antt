@@ -21,7 +21,7 @@ input = record { line = 1; after_carriage_return = false; drops_byte_order_mark 
 -- a text, how it is written, and its messages
 record Case (exact : Bool) (comment : WrittenComment) (X : List ℕ) (M : List Message) : Type 0 where
   text : normalised input X ≡ written comment
-  is_comment : is_written comment ≡ true
+  is_comment : is_written false comment ≡ true
   messages : comment_messages exact input comment ≡ M
 
 content_has_greater_than : Case false (Proper (codes "a>b") Dashes) (codes "<!--a>b-->")
@@ -122,7 +122,7 @@ no_cdata = record { text = refl; is_comment = refl; messages = refl }
 -- an end, a keyword or the beginning of a tag stands first
 
 abbrev NotWritten : WrittenComment → Type 0
-NotWritten comment = is_written comment ≡ false
+NotWritten comment = is_written false comment ≡ false
 
 dashes_end_it : NotWritten (Proper (codes "a-->b") Dashes)
 unfolding is_written is_content occurs in_bogus_comment is_letter
@@ -167,3 +167,20 @@ begins_a_doctype = refl
 ends_within : NotWritten (Bogus ExclamationMark (codes "x>y"))
 unfolding is_written is_content occurs in_bogus_comment is_letter
 ends_within = refl
+
+-- in foreign content that is so of the keyword of a CDATA section
+
+abbrev ForeignWritten : Bool → WrittenComment → Type 0
+ForeignWritten is_one comment = is_written true comment ≡ is_one
+
+begins_a_section : ForeignWritten false (Bogus ExclamationMark (codes "[CDATA[x]]"))
+unfolding is_written is_content occurs in_bogus_comment is_letter
+begins_a_section = refl
+
+keyword_in_another_case : ForeignWritten true (Bogus ExclamationMark (codes "[cdata[x]]"))
+unfolding is_written is_content occurs in_bogus_comment is_letter
+keyword_in_another_case = refl
+
+no_whole_keyword : ForeignWritten true (Bogus ExclamationMark (codes "[CDATA"))
+unfolding is_written is_content occurs in_bogus_comment is_letter
+no_whole_keyword = refl

@@ -12,7 +12,7 @@ use Rattle.html5ever_interface.specs.declared.states.State.TheVariants as state
 use Rattle.html5grammar.specs.Characters.{exclamation_mark, value_bytes}
 use Rattle.html5grammar.specs.ErrorText.{error_in}
 use Rattle.html5grammar.specs.NormalisedText.{line_after}
-use Rattle.html5grammar.specs.OneComment.{Ending, WrittenComment, before_greater_than, written, held_of, behind_held_of, behind_mark_error, spell_content, ending_errors, spell_end, spell_bogus, spell_odd, messages_of, comment_messages, IsComment}
+use Rattle.html5grammar.specs.OneComment.{Ending, WrittenComment, before_greater_than, written, behind_mark_error, spell_content, ending_errors, spell_end, spell_bogus, spell_odd, messages_of, comment_messages, IsComment}
 use Rattle.html5grammar.specs.OneComment.Ending.{Dashes, Bang, AtOnce, AfterDash}
 use Rattle.html5grammar.specs.OneComment.Opening.{Solidus, QuestionMark, ExclamationMark}
 use Rattle.html5grammar.specs.OneComment.WrittenComment.{Proper, Bogus}
@@ -73,16 +73,13 @@ module _ (exact : Bool) where
   keeps-comment input (Bogus QuestionMark content) =
       keeps-spelled input (codes "<") (spell_odd exact state.TagOpen content) [] content (TellNoText-odd state.TagOpen content) tt
   keeps-comment input (Bogus ExclamationMark content) =
-      let past : List ℕ = codes "<!" ++ held_of content in
-      let cells : List Spelled = spell_bogus exact (behind_held_of content) in
+      let cells : List Spelled = spell_bogus exact content in
       let line : ℕ = line_after input (codes "<!") in
       let error : Told = error_in exact state.MarkupDeclarationOpen exclamation_mark in
-      keeps-append (spelled_messages exact input [] (spell_silent past)) (on_line line (error ∷ []) ++ spelled_messages exact input past (cells ++ spell_end [] content))
-      (λ c. collected-spelled_messages exact input [] c (spell_silent past) (TellNoText-silent past))
-      (keeps-append (on_line line (error ∷ [])) (spelled_messages exact input past (cells ++ spell_end [] content))
+      keeps-append (on_line line (error ∷ [])) (spelled_messages exact input (codes "<!") (cells ++ spell_end [] content))
       (λ c. collected-on_line c line (error ∷ []) (refl, tt))
-      (λ c. collected-spelled_messages exact input past c (cells ++ spell_end [] content)
-      (TellNoText-append cells (spell_end [] content) (TellNoText-bogus (behind_held_of content)) (TellNoText-end [] content tt))))
+      (λ c. collected-spelled_messages exact input (codes "<!") c (cells ++ spell_end [] content)
+      (TellNoText-append cells (spell_end [] content) (TellNoText-bogus content) (TellNoText-end [] content tt)))
 
   -- a collector that is told one comment holds its messages
   pub collected-comment : (input : Input) (comment : WrittenComment) → KeepsAll (comment_messages exact input comment)
@@ -92,10 +89,10 @@ module _ (exact : Bool) where
       keeps-append (messages_of exact input comment) (on_line line (End ∷ [])) (keeps-comment input comment) (λ c. collected-on_line c line (End ∷ []) (refl, tt))
 
 -- what a collector holds behind a text that is one comment
-pub collects-comment : (H : Type 0) (rules : Rules) (K : Start) (foreign : Bool) (X : List ℕ) (comment : WrittenComment) → IsComment K X comment
-    → collected_finish (stepped collected_step (none_collected foreign) (messages (reading collected_step (collected_reply {H = H}) rules K (none_collected foreign) X)))
+pub collects-comment : (H : Type 0) (rules : Rules) (K : Start) (foreign : Bool) (X : List ℕ) (comment : WrittenComment) → IsComment K foreign X comment
+    → collected_finish (stepped collected_step (none_collected foreign) (messages (reading collected_step (collected_reply {H = H}) (λ (c : Collected). c.foreign) rules K (none_collected foreign) X)))
     ≡ record { messages = comment_messages rules.exact K.input comment; finished = true; foreign = foreign }
 collects-comment H rules K foreign X comment one =
     ap (λ M. collected_finish (stepped collected_step (none_collected foreign) M))
-    (reading-comment collected_step (collected_reply {H = H}) rules K (none_collected foreign) X comment one)
+    (reading-comment collected_step (collected_reply {H = H}) (λ (c : Collected). c.foreign) rules K (none_collected foreign) X comment one)
     ∙ ap collected_finish (collected-comment rules.exact K.input comment (none_collected foreign))

@@ -28,7 +28,7 @@ use Rattle.html5grammar.proofs.OneTagSteps.{Goes, Goes-append, Goes-one}
 
 -- ---- no `>` of the content ends the comment
 
-occurs-append : (word front : List ℕ) (c : ℕ) (rest : List ℕ) → begins_with word (c ∷ rest) ≡ true → occurs word (front ++ c ∷ rest) ≡ true
+pub occurs-append : (word front : List ℕ) (c : ℕ) (rest : List ℕ) → begins_with word (c ∷ rest) ≡ true → occurs word (front ++ c ∷ rest) ≡ true
 unfolding occurs
 occurs-append word [] c rest h = or_left (begins_with word (c ∷ rest)) (occurs word rest) h
 occurs-append word (d ∷ front) c rest h = or_right (begins_with word (d ∷ front ++ c ∷ rest)) (occurs word (front ++ c ∷ rest)) (occurs-append word front c rest h)
@@ -252,11 +252,11 @@ module _ (exact : Bool) where
         goes-bogus_end (c ∷ []) content p.1,
       )
 
-  pub goes-solidus : (content : List ℕ) → is_written (Bogus Solidus content) ≡ true
+  pub goes-solidus : (foreign : Bool) (content : List ℕ) → is_written foreign (Bogus Solidus content) ≡ true
       → Goes exact (Between Data) (spell_silent (codes "</") ++ (spell_odd exact state.EndTagOpen content ++ spell_end [] content)) (Between Data)
   unfolding is_written Goes step_at data_step less_than_step solidus_step is_letter in_bogus_comment
-  goes-solidus [] h = absurd (false≢true h)
-  goes-solidus (c ∷ content) h =
+  goes-solidus foreign [] h = absurd (false≢true h)
+  goes-solidus foreign (c ∷ content) h =
       let p = and_parts (not (is_letter c)) (list_all in_bogus_comment (c ∷ content)) h in
       let q = and_parts (not (c == greater_than)) (list_all in_bogus_comment content) p.1 in (
         LessThan,
@@ -264,11 +264,11 @@ module _ (exact : Bool) where
         (LessThanSolidus, refl, goes-odd state.EndTagOpen LessThanSolidus c content p.1 (rw (not-true (is_letter c) p.0, not-true (c == greater_than) q.0) refl)),
       )
 
-  pub goes-question_mark : (content : List ℕ) → is_written (Bogus QuestionMark content) ≡ true
+  pub goes-question_mark : (foreign : Bool) (content : List ℕ) → is_written foreign (Bogus QuestionMark content) ≡ true
       → Goes exact (Between Data) (spell_silent (codes "<") ++ (spell_odd exact state.TagOpen content ++ spell_end [] content)) (Between Data)
   unfolding is_written Goes step_at data_step less_than_step is_letter in_bogus_comment
-  goes-question_mark [] h = absurd (false≢true h)
-  goes-question_mark (c ∷ content) h =
+  goes-question_mark foreign [] h = absurd (false≢true h)
+  goes-question_mark foreign (c ∷ content) h =
       let p = and_parts (c == question_mark) (list_all in_bogus_comment (c ∷ content)) h in
       let begins : step_at exact LessThan c ≡ bogus_comment_step exact [] (error_in exact state.TagOpen c ∷ []) c =
       subst (λ d. step_at exact LessThan d ≡ bogus_comment_step exact [] (error_in exact state.TagOpen d ∷ []) d) (sym (eqb-true c question_mark p.0)) refl in

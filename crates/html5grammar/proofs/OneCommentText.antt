@@ -77,16 +77,16 @@ ends_in-other text word b x other =
 -- ---- the last byte of a character
 
 -- that of an ASCII character is the character
-record LastByte (c : ℕ) (bytes : List ℕ) : Type 0 where
-  front : List ℕ
-  last : ℕ
-  parts : bytes ≡ front ++ last ∷ []
-  kind : (last ≡ c) ⊎ (128 ≤ last)
+pub record LastByte (c : ℕ) (bytes : List ℕ) : Type 0 where
+  pub front : List ℕ
+  pub last : ℕ
+  pub parts : bytes ≡ front ++ last ∷ []
+  pub kind : (last ≡ c) ⊎ (128 ≤ last)
 
 following : (k : ℕ) → 128 ≤ 128 + k
 following k = omega arith
 
-encode-last : (d : ℕ) → LastByte d (encode d)
+pub encode-last : (d : ℕ) → LastByte d (encode d)
 unfolding encode
 encode-last d =
     elim (ltb d 128) as (λ a. LastByte d (mathlib.Core.Bool.cond a (d ∷ []) (mathlib.Core.Bool.cond (ltb d 2048) ((192 + d / 64) ∷ (128 + d % 64) ∷ []) (mathlib.Core.Bool.cond (ltb d 65536) ((224 + d / 4096) ∷ (128 + (d / 64) % 64) ∷ (128 + d % 64) ∷ []) ((240 + d / 262144) ∷ (128 + (d / 4096) % 64) ∷ (128 + (d / 64) % 64) ∷ (128 + d % 64) ∷ []))))) [
@@ -123,10 +123,10 @@ pushed (c ∷ text) = behind (pushed text)
     behind (Push front d e) = Push (c ∷ front) d (ap (λ l. c ∷ l) e)
 
 -- the bytes of texts end in this word as the texts do
-abbrev Carries : List ℕ → Type 0
+abbrev pub Carries : List ℕ → Type 0
 Carries word = (text : List ℕ) → ends_in (bytes_of text) word ≡ ends_in text word
 
-carries-none : Carries []
+pub carries-none : Carries []
 carries-none text = ends_in-none (bytes_of text) ∙ sym (ends_in-none text)
 
 carries-same : (word front : List ℕ) (x : ℕ) → value_bytes x ≡ x ∷ [] → Carries word
@@ -149,7 +149,7 @@ carries-other word front c x small other =
     by_kind (inl e) f = other (sym e ∙ f)
     by_kind (inr far) f = omega (arith, far, small, f)
 
-carries-push : (word : List ℕ) (x : ℕ) → x < 128 → value_bytes x ≡ x ∷ [] → Carries word → Carries (word ++ x ∷ [])
+pub carries-push : (word : List ℕ) (x : ℕ) → x < 128 → value_bytes x ≡ x ∷ [] → Carries word → Carries (word ++ x ∷ [])
 carries-push word x small plain carries text = by (pushed text)
   where
     at : (front : List ℕ) (c : ℕ) → (t : Bool) → nat_eq c x ≡ t

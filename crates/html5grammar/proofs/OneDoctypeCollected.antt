@@ -1,7 +1,7 @@
 -- A doctype tells no text, so a collector keeps its messages one by one.
 use Rattle.std.proofs.Common.{◌≡◌, ℕ, Bool, true, false, List, [], ◌∷◌, ◌++◌, refl, ◌∙◌, ap}
 use Rattle.std.specs.Prelude.{flat_map, if◌then◌else◌}
-use Rattle.html5ever_interface.specs.Collected.{none_collected, collected_step, collected_reply, collected_finish}
+use Rattle.html5ever_interface.specs.Collected.{none_collected, collected_step, collected_reply, collected_finish, Collected}
 use Rattle.html5ever_interface.specs.Sink.{Message, stepped, on_line}
 use Rattle.html5ever_interface.specs.Token.{Told, DoctypeOf, empty_doctype}
 use Rattle.html5ever_interface.specs.Token.Told.{Doctype, End}
@@ -146,9 +146,9 @@ module _ (exact : Bool) where
 
 -- what a collector holds behind a text that is one doctype
 pub collects-doctype : (H : Type 0) (rules : Rules) (K : Start) (foreign : Bool) (X : List ℕ) (doctype : WrittenDoctype) → IsDoctype K X doctype
-    → collected_finish (stepped collected_step (none_collected foreign) (messages (reading collected_step (collected_reply {H = H}) rules K (none_collected foreign) X)))
+    → collected_finish (stepped collected_step (none_collected foreign) (messages (reading collected_step (collected_reply {H = H}) (λ (c : Collected). c.foreign) rules K (none_collected foreign) X)))
     ≡ record { messages = doctype_messages rules.exact K.input doctype; finished = true; foreign = foreign }
 collects-doctype H rules K foreign X doctype one =
     ap (λ M. collected_finish (stepped collected_step (none_collected foreign) M))
-    (reading-doctype collected_step (collected_reply {H = H}) rules K (none_collected foreign) X doctype one)
+    (reading-doctype collected_step (collected_reply {H = H}) (λ (c : Collected). c.foreign) rules K (none_collected foreign) X doctype one)
     ∙ ap collected_finish (collected-doctype rules.exact K.input doctype (none_collected foreign))

@@ -55,13 +55,13 @@ unfolding brought_at declaration_step begins_keyword
 leads-doctype_word rules [] h = absurd (false≢true h)
 leads-doctype_word rules (c ∷ word) h =
     leads-word rules InDeclaration (codes "doctype") (InDoctype AfterWord empty_doctype)
-    (λ held d e rest past.
+    (λ held d e rest past foreign.
     rw (
       no_dashes (held ++ d ∷ []) (e ∷ rest) past,
       not_yet (held ++ d ∷ []) e rest (codes "doctype") past,
       or_right (starts_with nat_eq (codes "--") (held ++ d ∷ [])) _ (begun (held ++ d ∷ []) e rest (codes "doctype") past),
     ) refl)
-    (λ held d past.
+    (λ held d past foreign.
     rw (no_dashes (held ++ d ∷ []) [] (ap lower_case (append-nil (held ++ d ∷ [])) ∙ past), past) refl)
     [] c word (same_text (lower_case (c ∷ word)) (codes "doctype") (sym h))
 
@@ -79,14 +79,14 @@ module _ (rules : Rules) (d : DoctypeOf) where
 
   holds : (kind : DoctypeIdKind) (held : List ℕ) (c b : ℕ) (rest : List ℕ) → lower_case ((held ++ c ∷ []) ++ b ∷ rest) ≡ keyword_of kind → IsHeld rules undecided held c
   unfolding brought_at doctype_keyword_step begins_doctype_keyword
-  holds Public held c b rest e =
+  holds Public held c b rest e foreign =
       let past : List ℕ = held ++ c ∷ [] in
       rw (
         not_yet past b rest (keyword_of Public) e,
         no_other Public System past (b ∷ rest) refl e,
         or_left (starts_with nat_eq (keyword_of Public) (lower_case past)) (starts_with nat_eq (keyword_of System) (lower_case past)) (begun past b rest (keyword_of Public) e),
       ) refl
-  holds System held c b rest e =
+  holds System held c b rest e foreign =
       let past : List ℕ = held ++ c ∷ [] in
       rw (
         not_yet past b rest (keyword_of System) e,
@@ -94,11 +94,11 @@ module _ (rules : Rules) (d : DoctypeOf) where
         or_right (starts_with nat_eq (keyword_of Public) (lower_case past)) (starts_with nat_eq (keyword_of System) (lower_case past)) (begun past b rest (keyword_of System) e),
       ) refl
 
-  ends : (kind : DoctypeIdKind) (held : List ℕ) (c : ℕ) → lower_case (held ++ c ∷ []) ≡ keyword_of kind
-      → brought_at rules (undecided held) c ≡ record { settled = []; here = Tells [] (InDoctype (AfterKeyword kind) d) }
+  ends : (kind : DoctypeIdKind) (held : List ℕ) (c : ℕ) → lower_case (held ++ c ∷ []) ≡ keyword_of kind → (foreign : Bool)
+      → brought_at rules foreign (undecided held) c ≡ record { settled = []; here = Tells [] (InDoctype (AfterKeyword kind) d) }
   unfolding brought_at doctype_keyword_step
-  ends Public held c e = rw e refl
-  ends System held c e = rw e refl
+  ends Public held c e foreign = rw e refl
+  ends System held c e foreign = rw e refl
 
 -- what begins a keyword is neither white space nor `>`
 begins-neither : (c : ℕ) → begins_doctype_keyword (c ∷ []) ≡ true → IsNeither c
@@ -112,10 +112,10 @@ begins-neither c h =
 
 module _ (rules : Rules) (d : DoctypeOf) where
   -- the first character of what may be a keyword
-  pub first-held : (c : ℕ) → begins_doctype_keyword (c ∷ []) ≡ true
-      → brought_at rules (InDoctype AfterName d) c ≡ record { settled = []; here = Tells [] (InDoctypeKeyword (c ∷ []) d) }
+  pub first-held : (c : ℕ) → begins_doctype_keyword (c ∷ []) ≡ true → (foreign : Bool)
+      → brought_at rules foreign (InDoctype AfterName d) c ≡ record { settled = []; here = Tells [] (InDoctypeKeyword (c ∷ []) d) }
   unfolding brought_at step_at doctype_step space_step keyword_or_end_step
-  first-held c h =
+  first-held c h foreign =
       let letter : IsNeither c = begins-neither c h in
       rw (letter.no_white, letter.no_end, h) refl
 
@@ -207,7 +207,7 @@ module _ (rules : Rules) (d : DoctypeOf) where
         InDoctypeKeyword (c ∷ []) d,
         first-held rules d c begins,
         leads-while rules (undecided rules d) begins_doctype_keyword (c ∷ rest)
-            (λ held b later split e.
+            (λ held b later split e foreign.
             rw (
               no_keyword Public (c ∷ rest) held b later (not-true (begins_with (keyword_of Public) (lower_case (c ∷ rest))) p.0) split,
               no_keyword System (c ∷ rest) held b later (not-true (begins_with (keyword_of System) (lower_case (c ∷ rest))) p.1) split,
@@ -216,23 +216,23 @@ module _ (rules : Rules) (d : DoctypeOf) where
             (c ∷ []) rest refl,
       )
 
-  step-decides : (held : List ℕ) (c : ℕ) → begins_doctype_keyword (held ++ c ∷ []) ≡ false
-      → brought_at rules (InDoctypeKeyword held d) c ≡ record { settled = keyword_error rules.exact held; here = step_at rules.exact (InDoctype Skipped (with_quirks d)) c }
+  step-decides : (held : List ℕ) (c : ℕ) → begins_doctype_keyword (held ++ c ∷ []) ≡ false → (foreign : Bool)
+      → brought_at rules foreign (InDoctypeKeyword held d) c ≡ record { settled = keyword_error rules.exact held; here = step_at rules.exact (InDoctype Skipped (with_quirks d)) c }
   unfolding brought_at doctype_keyword_step step_at doctype_step
-  step-decides held c none =
+  step-decides held c none foreign =
       let no = none_begins (held ++ c ∷ []) none in
       rw (no.0, no.1, none) refl
 
-  module _ {S H : Type 0} (step : S → Told → ℕ → S) (reply : S → Told → ℕ → Reply H) where
+  module _ {S H : Type 0} (step : S → Told → ℕ → S) (reply : S → Told → ℕ → Reply H) (foreign : S → Bool) where
     -- the error of the first character that is held
     abbrev pub first_error : ℕ → List ℕ → List Message
     first_error line held = on_line line (tokens_of_late (keyword_error rules.exact held))
 
     pub trace-decides : (s : S) (line : ℕ) (last held text : List ℕ) → next_is (λ c. not (begins_doctype_keyword (held ++ c ∷ []))) text ≡ true
-        → trace step reply rules s line last (InDoctypeKeyword held d) text
-        ≡ with_messages (first_error line held) (trace step reply rules (stepped step s (first_error line held)) line last (InDoctype Skipped (with_quirks d)) text)
+        → trace step reply foreign rules s line last (InDoctypeKeyword held d) text
+        ≡ with_messages (first_error line held) (trace step reply foreign rules (stepped step s (first_error line held)) line last (InDoctype Skipped (with_quirks d)) text)
     unfolding brought_at
     trace-decides s line last held [] h = absurd (false≢true h)
     trace-decides s line last held (c ∷ text) h =
-        trace-settles step reply rules s line last (InDoctypeKeyword held d) (InDoctype Skipped (with_quirks d)) (keyword_error rules.exact held) c text
-        (step-decides held c (not-true (begins_doctype_keyword (held ++ c ∷ [])) h)) refl
+        trace-settles step reply foreign rules s line last (InDoctypeKeyword held d) (InDoctype Skipped (with_quirks d)) (keyword_error rules.exact held) c text
+        (step-decides held c (not-true (begins_doctype_keyword (held ++ c ∷ [])) h) (foreign s)) (λ other. refl)

@@ -51,7 +51,7 @@ module _ (rules : Rules) where
       let leads : Leads rules (InDeclaration []) (spell_silent word ++ spell_silent space) (behind_word space) =
       Leads-append rules (InDeclaration []) (InDoctype AfterWord empty_doctype) (behind_word space) (spell_silent word) (spell_silent space) (leads-doctype_word rules word is_word)
       (leads-goes rules (InDoctype AfterWord empty_doctype) (behind_word space) (spell_silent space) (goes-space_behind_word space all)) in
-      (LessThan, refl, (InDeclaration [], refl, subst (λ cells. Leads rules (InDeclaration []) cells (behind_word space)) (sym (silent-append word space)) leads))
+      (LessThan, λ foreign. refl, (InDeclaration [], λ foreign. refl, subst (λ cells. Leads rules (InDeclaration []) cells (behind_word space)) (sym (silent-append word space)) leads))
 
   pub step-no_name : (space : List ℕ)
       → step_at rules.exact (behind_word space) greater_than

@@ -41,22 +41,22 @@ use Rattle.html5grammar.proofs.Traces.{trace, with_messages}
 
 -- ---- behind the name
 
-module _ {S H : Type 0} (step : S → Told → ℕ → S) (reply : S → Told → ℕ → Reply H) (rules : Rules) (input : Input) (before : List ℕ) (last name : List ℕ) where
+module _ {S H : Type 0} (step : S → Told → ℕ → S) (reply : S → Told → ℕ → Reply H) (foreign : S → Bool) (rules : Rules) (input : Input) (before : List ℕ) (last name : List ℕ) where
   abbrev d : DoctypeOf
   d = named_doctype name None None false
 
   -- what stands behind the name is read, and tells its messages
   abbrev IsReadBehind : S → Open → BehindName → Type 0
   IsReadBehind s opened behind =
-      trace step reply rules s (line_after input before) last opened (behind_name_text behind ++ greater_than ∷ [])
+      trace step reply foreign rules s (line_after input before) last opened (behind_name_text behind ++ greater_than ∷ [])
       ≡ record { messages = messages_behind_name rules.exact input before (told_behind_name name behind) behind; opened = Between Data; last_start_tag = last }
 
   reads-cells : (s : S) (opened : Open) (behind : BehindName)
       → Leads rules opened (spell_behind_name rules.exact (told_behind_name name behind) behind) (Between Data)
-      → trace step reply rules s (line_after input before) last opened (behind_name_text behind ++ greater_than ∷ [])
+      → trace step reply foreign rules s (line_after input before) last opened (behind_name_text behind ++ greater_than ∷ [])
       ≡ record { messages = spelled_messages rules.exact input before (spell_behind_name rules.exact (told_behind_name name behind) behind); opened = Between Data; last_start_tag = last }
   reads-cells s opened behind leads =
-      trace-text step reply rules input before s last opened (Between Data) (spell_behind_name rules.exact (told_behind_name name behind) behind) (behind_name_text behind ++ greater_than ∷ [])
+      trace-text step reply foreign rules input before s last opened (Between Data) (spell_behind_name rules.exact (told_behind_name name behind) behind) (behind_name_text behind ++ greater_than ∷ [])
       (characters-behind_name rules.exact (told_behind_name name behind) behind) leads
 
   -- nothing stands there
@@ -91,12 +91,12 @@ module _ {S H : Type 0} (step : S → Told → ℕ → S) (reply : S → Told �
 
   -- what is told where it is decided
   held-error : (line c : ℕ) (rest : List ℕ) → begins_doctype_keyword (c ∷ []) ≡ true
-      → first_error rules d step reply line (held_of (c ∷ rest)) ≡ on_line line (error_in rules.exact state.AfterDoctypeName c ∷ [])
+      → first_error rules d step reply foreign line (held_of (c ∷ rest)) ≡ on_line line (error_in rules.exact state.AfterDoctypeName c ∷ [])
   unfolding run_while keyword_error
   held-error line c rest begins = rw begins refl
 
   reads-held : (s : S) (c : ℕ) (rest : List ℕ) → begins_doctype_keyword (c ∷ []) ≡ true → is_behind_name (NoKeyword (c ∷ rest)) ≡ true
-      → trace step reply rules s (line_after input before) last (InDoctype AfterName d) ((c ∷ rest) ++ greater_than ∷ [])
+      → trace step reply foreign rules s (line_after input before) last (InDoctype AfterName d) ((c ∷ rest) ++ greater_than ∷ [])
       ≡ record { messages = held_messages c rest; opened = Between Data; last_start_tag = last }
   reads-held s c rest begins h =
       let p = and_parts (begins_no_keyword (c ∷ rest)) (is_rest is_white_space (c ∷ rest)) h in
@@ -108,7 +108,7 @@ module _ {S H : Type 0} (step : S → Told → ℕ → S) (reply : S → Told �
       let text : characters cells ≡ behind ++ greater_than ∷ [] = characters-skipped rules.exact (with_quirks d) behind in
       let line : ℕ = line_after input (before ++ held) in
       let M : List Message = spelled_messages rules.exact input before (spell_silent held) in
-      let E : List Message = first_error rules d step reply line held in
+      let E : List Message = first_error rules d step reply foreign line held in
       let N : List Message = spelled_messages rules.exact input (before ++ held) cells in
       let error : ℕ → List Message = λ n. on_line n (error_in rules.exact state.AfterDoctypeName c ∷ []) in
       let whole : (c ∷ rest) ++ greater_than ∷ [] ≡ characters (spell_silent held) ++ characters cells =
@@ -116,14 +116,14 @@ module _ {S H : Type 0} (step : S → Told → ℕ → S) (reply : S → Told �
       ∙ ap (λ l. l ++ characters cells) (sym (characters-spell silent held)) in
       let within : list_all in_skipped_rest behind ≡ true =
       (and_parts (list_all in_skipped_rest held) (list_all in_skipped_rest behind) (sym (list_all-append in_skipped_rest held behind) ∙ ap (list_all in_skipped_rest) parts ∙ q.1)).1 in
-      ap (trace step reply rules s (line_after input before) last (InDoctype AfterName d)) whole
-      ∙ trace-leads step reply rules input before s last (InDoctype AfterName d) (InDoctypeKeyword held d) (spell_silent held) (characters cells) (leads-held rules d c rest p.0 begins)
-      ∙ ap (λ l. with_messages M (trace step reply rules (stepped step s M) (line_after input (before ++ l)) last (InDoctypeKeyword held d) (characters cells))) (characters-spell silent held)
+      ap (trace step reply foreign rules s (line_after input before) last (InDoctype AfterName d)) whole
+      ∙ trace-leads step reply foreign rules input before s last (InDoctype AfterName d) (InDoctypeKeyword held d) (spell_silent held) (characters cells) (leads-held rules d c rest p.0 begins)
+      ∙ ap (λ l. with_messages M (trace step reply foreign rules (stepped step s M) (line_after input (before ++ l)) last (InDoctypeKeyword held d) (characters cells))) (characters-spell silent held)
       ∙ ap (with_messages M)
-      (trace-decides rules d step reply (stepped step s M) line last held (characters cells)
+      (trace-decides rules d step reply foreign (stepped step s M) line last held (characters cells)
       (ap (next_is (λ b. not (begins_doctype_keyword (held ++ b ∷ [])))) text ∙ decides-held (c ∷ rest))
       ∙ ap (with_messages E)
-      (trace-ends step reply rules input (before ++ held) (stepped step (stepped step s M) E) last (InDoctype Skipped (with_quirks d)) (Between Data) cells
+      (trace-ends step reply foreign rules input (before ++ held) (stepped step (stepped step s M) E) last (InDoctype Skipped (with_quirks d)) (Between Data) cells
       (leads-goes rules (InDoctype Skipped (with_quirks d)) (Between Data) cells (goes-skipped rules.exact (with_quirks d) behind within))))
       ∙ ap (λ l. record { messages = M ++ (l ++ N); opened = Between Data; last_start_tag = last }) (held-error line c rest begins ∙ ap error (line-first c rest begins))
 
@@ -134,7 +134,7 @@ module _ {S H : Type 0} (step : S → Told → ℕ → S) (reply : S → Told �
   reads-behind_name s (NoKeyword (c ∷ rest)) h = by (begins_doctype_keyword (c ∷ [])) refl
     where
       by : (t : Bool) → begins_doctype_keyword (c ∷ []) ≡ t
-          → trace step reply rules s (line_after input before) last (InDoctype AfterName d) ((c ∷ rest) ++ greater_than ∷ [])
+          → trace step reply foreign rules s (line_after input before) last (InDoctype AfterName d) ((c ∷ rest) ++ greater_than ∷ [])
           ≡ record { messages = if t then held_messages c rest else spelled_messages rules.exact input before (spell_odd rules.exact state.AfterDoctypeName (with_quirks d) (c ∷ rest)); opened = Between Data; last_start_tag = last }
       by true e = reads-held s c rest e h
       by false e = reads-cells s (InDoctype AfterName d) (NoKeyword (c ∷ rest)) (leads-odd c rest e (and_parts (begins_no_keyword (c ∷ rest)) (is_rest is_white_space (c ∷ rest)) h).1)
@@ -157,17 +157,17 @@ module _ {S H : Type 0} (step : S → Told → ℕ → S) (reply : S → Told �
 
 -- ---- the whole doctype
 
-module _ {S H : Type 0} (step : S → Told → ℕ → S) (reply : S → Told → ℕ → Reply H) (rules : Rules) where
+module _ {S H : Type 0} (step : S → Told → ℕ → S) (reply : S → Told → ℕ → Reply H) (foreign : S → Bool) (rules : Rules) where
   -- behind a name and this white space
   reads-behind : (input : Input) (before : List ℕ) (last name : List ℕ) (s : S) (space : List ℕ) (behind : BehindName) → can_stand_behind space behind ≡ true
-      → IsReadBehind step reply rules input before last name s (behind_name rules (named_doctype name None None false) space) behind
+      → IsReadBehind step reply foreign rules input before last name s (behind_name rules (named_doctype name None None false) space) behind
   unfolding step_at doctype_step doctype_name_step in_doctype_name is_white_space
-  reads-behind input before last name s [] (NoKeyword []) h = reads-nothing step reply rules input before last name s (InDoctype InDoctypeName (named_doctype name None None false)) refl
+  reads-behind input before last name s [] (NoKeyword []) h = reads-nothing step reply foreign rules input before last name s (InDoctype InDoctypeName (named_doctype name None None false)) refl
   reads-behind input before last name s [] (NoKeyword (c ∷ rest)) h = absurd (false≢true h)
   reads-behind input before last name s [] (PublicKeyword keyword space identifier) h = absurd (false≢true h)
   reads-behind input before last name s [] (SystemKeyword keyword space identifier) h = absurd (false≢true h)
   reads-behind input before last name s (b ∷ space) behind h =
-      reads-behind_name step reply rules input before last name s behind (and_parts (list_all is_white_space (b ∷ space)) (is_behind_name behind) h).1
+      reads-behind_name step reply foreign rules input before last name s behind (and_parts (list_all is_white_space (b ∷ space)) (is_behind_name behind) h).1
 
   white-behind : (space : List ℕ) (behind : BehindName) → can_stand_behind space behind ≡ true → list_all is_white_space space ≡ true
   white-behind [] behind h = refl
@@ -175,11 +175,11 @@ module _ {S H : Type 0} (step : S → Told → ℕ → S) (reply : S → Told �
 
   reads-content : (K : Start) (s : S) (word space : List ℕ) (content : Content)
       → bytes_eq (lower_case word) (codes "doctype") ≡ true → list_all is_white_space space ≡ true → is_content content ≡ true
-      → IsRead step reply rules K s (opening word space ++ (content_text content ++ greater_than ∷ [])) (messages_of rules.exact K.input word space content)
+      → IsRead step reply foreign rules K s (opening word space ++ (content_text content ++ greater_than ∷ [])) (messages_of rules.exact K.input word space content)
   unfolding messages_of
   reads-content K s word space NoName is_word all h =
       let ends : List Spelled = spell_end (error_in rules.exact state.BeforeDoctypeName greater_than ∷ []) (with_quirks empty_doctype) in
-      trace-text step reply rules K.input [] s K.last_start_tag (Between Data) (Between Data) (spell_silent (opening word space) ++ ends) (opening word space ++ greater_than ∷ [])
+      trace-text step reply foreign rules K.input [] s K.last_start_tag (Between Data) (Between Data) (spell_silent (opening word space) ++ ends) (opening word space ++ greater_than ∷ [])
       (characters-two (spell_silent (opening word space)) ends (opening word space) (greater_than ∷ []) (characters-spell silent (opening word space)) refl)
       (Leads-append rules (Between Data) (behind_word rules space) (Between Data) (spell_silent (opening word space)) ends (leads-opening rules word space is_word all)
       (leads-goes rules (behind_word rules space) (Between Data) ends
@@ -196,13 +196,13 @@ module _ {S H : Type 0} (step : S → Told → ℕ → S) (reply : S → Told �
       ap (λ l. opening word space ++ l) (append_assoc (first ∷ rest ++ later) (behind_name_text behind) (greater_than ∷ []))
       ∙ sym (append_assoc (opening word space) (first ∷ rest ++ later) text)
       ∙ ap (λ l. l ++ text) (sym (characters-name rules.exact word space first rest later)) in
-      ap (trace step reply rules s (line_after K.input []) K.last_start_tag (Between Data)) whole
-      ∙ trace-leads step reply rules K.input [] s K.last_start_tag (Between Data) opened cells text (leads-name rules word space first rest later is_word all p.0 (white-behind later behind p.1))
-      ∙ ap (λ l. with_messages M (trace step reply rules (stepped step s M) (line_after K.input l) K.last_start_tag opened text)) (characters-name rules.exact word space first rest later)
+      ap (trace step reply foreign rules s (line_after K.input []) K.last_start_tag (Between Data)) whole
+      ∙ trace-leads step reply foreign rules K.input [] s K.last_start_tag (Between Data) opened cells text (leads-name rules word space first rest later is_word all p.0 (white-behind later behind p.1))
+      ∙ ap (λ l. with_messages M (trace step reply foreign rules (stepped step s M) (line_after K.input l) K.last_start_tag opened text)) (characters-name rules.exact word space first rest later)
       ∙ ap (with_messages M) (reads-behind K.input before K.last_start_tag name (stepped step s M) later behind p.1)
 
   reads_doctype : (K : Start) (s : S) (X : List ℕ) (doctype : WrittenDoctype) → IsDoctype K X doctype
-      → IsReadFrom step reply rules K s X (messages_of rules.exact K.input doctype.word doctype.space doctype.content)
+      → IsReadFrom step reply foreign rules K s X (messages_of rules.exact K.input doctype.word doctype.space doctype.content)
   unfolding written is_written
   reads_doctype K s X doctype one =
       let p = and_parts (bytes_eq (lower_case doctype.word) (codes "doctype")) (list_all is_white_space doctype.space && is_content doctype.content) one.is_doctype in
@@ -210,13 +210,13 @@ module _ {S H : Type 0} (step : S → Told → ℕ → S) (reply : S → Told �
       rw (one.starts, one.text) (reads-content K s doctype.word doctype.space doctype.content p.0 q.0 q.1)
 
   pub after-doctype : (K : Start) (s : S) (X : List ℕ) (doctype : WrittenDoctype) → IsDoctype K X doctype
-      → (after step reply rules K s X).opened ≡ Between Data
+      → (after step reply foreign rules K s X).opened ≡ Between Data
   after-doctype K s X doctype one =
-      after-whole step reply rules K s X (messages_of rules.exact K.input doctype.word doctype.space doctype.content) (reads_doctype K s X doctype one)
+      after-whole step reply foreign rules K s X (messages_of rules.exact K.input doctype.word doctype.space doctype.content) (reads_doctype K s X doctype one)
 
   -- a text that is one doctype
   pub reading-doctype : (K : Start) (s : S) (X : List ℕ) (doctype : WrittenDoctype) → IsDoctype K X doctype
-      → messages (reading step reply rules K s X) ≡ doctype_messages rules.exact K.input doctype
+      → messages (reading step reply foreign rules K s X) ≡ doctype_messages rules.exact K.input doctype
   unfolding doctype_messages
   reading-doctype K s X doctype one =
-      reading-whole step reply rules K s X (messages_of rules.exact K.input doctype.word doctype.space doctype.content) (reads_doctype K s X doctype one) ∙ rw one.text refl
+      reading-whole step reply foreign rules K s X (messages_of rules.exact K.input doctype.word doctype.space doctype.content) (reads_doctype K s X doctype one) ∙ rw one.text refl

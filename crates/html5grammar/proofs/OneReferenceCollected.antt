@@ -128,9 +128,9 @@ collected-reference exact foreign input (Named entry) =
 
 -- what a collector holds behind a text that is one reference
 pub collects-reference : (H : Type 0) (rules : Rules) (K : Start) (foreign : Bool) (X : List ℕ) (written_as : WrittenReference) → IsTable rules.names → IsReference rules.names K X written_as
-    → collected_finish (stepped collected_step (none_collected foreign) (messages (reading collected_step (collected_reply {H = H}) rules K (none_collected foreign) X)))
+    → collected_finish (stepped collected_step (none_collected foreign) (messages (reading collected_step (collected_reply {H = H}) (λ (c : Collected). c.foreign) rules K (none_collected foreign) X)))
     ≡ record { messages = reference_messages rules.exact K.input written_as; finished = true; foreign = foreign }
 collects-reference H rules K foreign X written_as table one =
     ap (λ M. collected_finish (stepped collected_step (none_collected foreign) M))
-    (reading-reference collected_step (collected_reply {H = H}) rules K (none_collected foreign) X written_as table one)
+    (reading-reference collected_step (collected_reply {H = H}) (λ (c : Collected). c.foreign) rules K (none_collected foreign) X written_as table one)
     ∙ ap collected_finish (collected-reference rules.exact foreign K.input written_as)

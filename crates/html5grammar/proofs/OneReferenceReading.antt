@@ -213,19 +213,19 @@ open_behind_reference (Number x digits false) = InReference (InText Data) (numbe
 open_behind_reference (Number x digits true) = Between Data
 open_behind_reference (Named entry) = InReference (InText Data) entry.name
 
-module _ {S H : Type 0} (step : S → Told → ℕ → S) (reply : S → Told → ℕ → Reply H) (rules : Rules) where
+module _ {S H : Type 0} (step : S → Told → ℕ → S) (reply : S → Told → ℕ → Reply H) (foreign : S → Bool) (rules : Rules) where
   trace-held : (s : S) (line : ℕ) (last held run more : List ℕ) → Holds rules.names held run
-      → trace step reply rules s line last (InReference (InText Data) held) (run ++ more)
-      ≡ trace step reply rules s (lines_past line run) last (InReference (InText Data) (held ++ run)) more
+      → trace step reply foreign rules s line last (InReference (InText Data) held) (run ++ more)
+      ≡ trace step reply foreign rules s (lines_past line run) last (InReference (InText Data) (held ++ run)) more
   unfolding trace trace_brought trace_here brought_at reference_step lines_past stepped Holds
   trace-held s line last held [] more h = rw (append-nil held) refl
   trace-held s line last held (c ∷ run) more h =
       rw (h.1, h.0, and-false rules.exact)
       (trace-held s (line_past line c) last (held ++ c ∷ []) run more h.2
-      ∙ ap (λ l. trace step reply rules s (lines_past (line_past line c) run) last (InReference (InText Data) l) more) (append_assoc held (c ∷ []) run))
+      ∙ ap (λ l. trace step reply foreign rules s (lines_past (line_past line c) run) last (InReference (InText Data) l) more) (append_assoc held (c ∷ []) run))
 
   trace-ampersand : (s : S) (line : ℕ) (last text : List ℕ)
-      → trace step reply rules s line last (Between Data) (ampersand ∷ text) ≡ trace step reply rules s (line_past line ampersand) last (InReference (InText Data) []) text
+      → trace step reply foreign rules s line last (Between Data) (ampersand ∷ text) ≡ trace step reply foreign rules s (line_past line ampersand) last (InReference (InText Data) []) text
   unfolding trace trace_brought trace_here brought_at step_at data_step stepped
   trace-ampersand s line last text = rw (good-ampersand, and-false rules.exact) refl
 
@@ -233,7 +233,7 @@ module _ {S H : Type 0} (step : S → Told → ℕ → S) (reply : S → Told �
   trace-ended : (s : S) (line : ℕ) (last held : List ℕ) (found : Found)
       → is_undecided rules.names (held ++ semicolon ∷ []) ≡ false → ends_number held semicolon ≡ true
       → reference rules false held (Some semicolon) ≡ found → drop found.taken held ≡ []
-      → trace step reply rules s line last (InReference (InText Data) held) (semicolon ∷ [])
+      → trace step reply foreign rules s line last (InReference (InText Data) held) (semicolon ∷ [])
       ≡ record { messages = on_line line (tokens_in found); opened = Between Data; last_start_tag = last }
   unfolding trace trace_brought trace_here brought_at reference_step stepped
   trace-ended s line last held found decides ends is taken =
@@ -242,31 +242,31 @@ module _ {S H : Type 0} (step : S → Told → ℕ → S) (reply : S → Told �
 
   -- what was held is open behind it, on the line that it reached
   trace-run : (K : Start) (s : S) (X run more : List ℕ) → K.opened ≡ Between Data → normalised K.input X ≡ (ampersand ∷ run) ++ more → Holds rules.names [] run
-      → trace step reply rules s (line_after K.input []) K.last_start_tag K.opened (normalised K.input X)
-      ≡ trace step reply rules s (line_after K.input (ampersand ∷ run)) K.last_start_tag (InReference (InText Data) run) more
+      → trace step reply foreign rules s (line_after K.input []) K.last_start_tag K.opened (normalised K.input X)
+      ≡ trace step reply foreign rules s (line_after K.input (ampersand ∷ run)) K.last_start_tag (InReference (InText Data) run) more
   unfolding lines_past
   trace-run K s X run more starts text holds =
       rw (starts, text)
       (trace-ampersand s (line_after K.input []) K.last_start_tag (run ++ more)
       ∙ trace-held s (line_past (line_after K.input []) ampersand) K.last_start_tag [] run more holds
-      ∙ ap (λ line. trace step reply rules s line K.last_start_tag (InReference (InText Data) run) more) (sym (line_after-lines_past K.input [] (ampersand ∷ run))))
+      ∙ ap (λ line. trace step reply foreign rules s line K.last_start_tag (InReference (InText Data) run) more) (sym (line_after-lines_past K.input [] (ampersand ∷ run))))
 
   -- what a text tells that ends so, and what it leaves open
   record Reads (K : Start) (s : S) (X : List ℕ) (tokens : List Told) (opened : Open) : Type 0 where
-    pub told : messages (reading step reply rules K s X) ≡ on_line (line_after K.input (normalised K.input X)) tokens
-    pub leaves : (after step reply rules K s X).opened ≡ opened
+    pub told : messages (reading step reply foreign rules K s X) ≡ on_line (line_after K.input (normalised K.input X)) tokens
+    pub leaves : (after step reply foreign rules K s X).opened ≡ opened
 
-  reads-trace : (K : Start) (s : S) (X : List ℕ) (t : Trace) (tokens : List Told) → trace step reply rules s (line_after K.input []) K.last_start_tag K.opened (normalised K.input X) ≡ t
+  reads-trace : (K : Start) (s : S) (X : List ℕ) (t : Trace) (tokens : List Told) → trace step reply foreign rules s (line_after K.input []) K.last_start_tag K.opened (normalised K.input X) ≡ t
       → t.messages ++ on_line (line_after K.input (normalised K.input X)) (tokens_at_end rules t.opened) ≡ on_line (line_after K.input (normalised K.input X)) tokens
       → Reads K s X tokens t.opened
   reads-trace K s X t tokens e same =
-      let leaves : (after step reply rules K s X).opened ≡ t.opened = after-opened step reply rules K s X ∙ ap (λ (u : Trace). u.opened) e in
+      let leaves : (after step reply foreign rules K s X).opened ≡ t.opened = after-opened step reply foreign rules K s X ∙ ap (λ (u : Trace). u.opened) e in
       record {
         told =
-            ap messages (reading-events step reply rules K s X)
-            ∙ messages-append (told step reply rules K s X) _
-            ∙ ap (λ M. messages (told step reply rules K s X) ++ M) (messages-at_end step reply rules K s X)
-            ∙ rw (told-trace step reply rules K s X, leaves, e) same;
+            ap messages (reading-events step reply foreign rules K s X)
+            ∙ messages-append (told step reply foreign rules K s X) _
+            ∙ ap (λ M. messages (told step reply foreign rules K s X) ++ M) (messages-at_end step reply foreign rules K s X)
+            ∙ rw (told-trace step reply foreign rules K s X, leaves, e) same;
         leaves = leaves;
       }
 
@@ -319,11 +319,11 @@ module _ {S H : Type 0} (step : S → Told → ℕ → S) (reply : S → Told �
       (name-found rules entry.name entry refl plain one.is_reference) (drop_of_length-le entry.name (omega arith))
 
   pub reading-reference : (K : Start) (s : S) (X : List ℕ) (written_as : WrittenReference) → IsTable rules.names → IsReference rules.names K X written_as
-      → messages (reading step reply rules K s X) ≡ on_line (line_after K.input (written written_as)) (reference_tokens rules.exact written_as)
+      → messages (reading step reply foreign rules K s X) ≡ on_line (line_after K.input (written written_as)) (reference_tokens rules.exact written_as)
   reading-reference K s X written_as table one =
       (reads-reference K s X written_as table one).told
       ∙ ap (λ text. on_line (line_after K.input text) (reference_tokens rules.exact written_as)) one.text
 
   pub after-reference : (K : Start) (s : S) (X : List ℕ) (written_as : WrittenReference) → IsTable rules.names → IsReference rules.names K X written_as
-      → (after step reply rules K s X).opened ≡ open_behind_reference written_as
+      → (after step reply foreign rules K s X).opened ≡ open_behind_reference written_as
   after-reference K s X written_as table one = (reads-reference K s X written_as table one).leaves

@@ -179,9 +179,9 @@ collected-tag exact input c tag =
 
 -- what a collector holds behind a text that is one tag
 pub collects-tag : (H : Type 0) (rules : Rules) (K : Start) (foreign : Bool) (X : List ℕ) (tag : WrittenTag) → IsTag K X tag
-    → collected_finish (stepped collected_step (none_collected foreign) (messages (reading collected_step (collected_reply {H = H}) rules K (none_collected foreign) X)))
+    → collected_finish (stepped collected_step (none_collected foreign) (messages (reading collected_step (collected_reply {H = H}) (λ (c : Collected). c.foreign) rules K (none_collected foreign) X)))
     ≡ record { messages = tag_messages rules.exact K.input tag; finished = true; foreign = foreign }
 collects-tag H rules K foreign X tag one =
     ap (λ M. collected_finish (stepped collected_step (none_collected foreign) M))
-    (reading-tag collected_step (collected_reply {H = H}) rules K (none_collected foreign) X tag (λ t line. refl) one)
+    (reading-tag collected_step (collected_reply {H = H}) (λ (c : Collected). c.foreign) rules K (none_collected foreign) X tag (λ t line. refl) one)
     ∙ ap collected_finish (collected-tag rules.exact K.input (none_collected foreign) tag)

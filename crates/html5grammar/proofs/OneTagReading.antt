@@ -151,28 +151,28 @@ module _ (exact : Bool) where
         ends = ends-tag tag led.behind (can_end-parts InName tag.parts refl) led.holds;
       }
 
-module _ {S H : Type 0} (step : S → Told → ℕ → S) (reply : S → Told → ℕ → Reply H) (rules : Rules) where
+module _ {S H : Type 0} (step : S → Told → ℕ → S) (reply : S → Told → ℕ → Reply H) (foreign : S → Bool) (rules : Rules) where
   trace-last : (input : Input) (before : List ℕ) (s : S) (last : List ℕ) (opened : Open) (c : ℕ) (errors : List Told) (tag : TagOf)
       → ((t : S) (line : ℕ) → reply t (Tag tag) line ≡ KeepOn)
       → step_at rules.exact opened c ≡ TellsTag errors tag
-      → trace step reply rules s (line_after input before) last opened (c ∷ [])
+      → trace step reply foreign rules s (line_after input before) last opened (c ∷ [])
       ≡ record { messages = spelled_messages rules.exact input before (record { character = c; told = errors ++ Tag tag ∷ [] } ∷ []); opened = Between Data; last_start_tag = last_behind last tag }
   unfolding trace trace_brought trace_here spelled_messages
   trace-last input before s last opened c errors tag keeps ends =
-      rw (brought-tells rules opened c _ refl ends, line_after-past input before c, keeps, append_assoc (bad_character_error rules.exact c) errors (Tag tag ∷ [])) refl
+      rw (brought-tells rules (foreign s) opened c _ refl ends, line_after-past input before c, keeps, append_assoc (bad_character_error rules.exact c) errors (Tag tag ∷ [])) refl
 
   pub trace-tag : (input : Input) (before : List ℕ) (s : S) (last : List ℕ) (opened behind : Open) (cells : List Spelled) (c : ℕ) (errors : List Told) (tag : TagOf)
       → ((t : S) (line : ℕ) → reply t (Tag tag) line ≡ KeepOn)
       → Goes rules.exact opened cells behind
       → step_at rules.exact behind c ≡ TellsTag errors tag
-      → trace step reply rules s (line_after input before) last opened (characters cells ++ c ∷ [])
+      → trace step reply foreign rules s (line_after input before) last opened (characters cells ++ c ∷ [])
       ≡ record { messages = spelled_messages rules.exact input before (cells ++ record { character = c; told = errors ++ Tag tag ∷ [] } ∷ []); opened = Between Data; last_start_tag = last_behind last tag }
   unfolding Goes trace trace_brought trace_here spelled_messages stepped
   trace-tag input before s last opened behind [] c errors tag keeps goes ends =
       rw goes (trace-last input before s last behind c errors tag keeps ends)
   trace-tag input before s last opened behind (here ∷ more) c errors tag keeps goes ends =
       let M : List Message = on_line (line_after input (before ++ here.character ∷ [])) (bad_character_error rules.exact here.character ++ here.told) in
-      rw (brought-tells rules opened here.character _ refl goes.1, ← line_after-past input before here.character)
+      rw (brought-tells rules (foreign s) opened here.character _ refl goes.1, ← line_after-past input before here.character)
       (ap (with_messages M) (trace-tag input (before ++ here.character ∷ []) (stepped step s M) last goes.0 behind more c errors tag keeps goes.2 ends))
 
   -- a text that is one tag, behind which the sink keeps on
@@ -180,7 +180,7 @@ module _ {S H : Type 0} (step : S → Told → ℕ → S) (reply : S → Told �
   reads-one_tag : (K : Start) (s : S) (X : List ℕ) (tag : WrittenTag)
       → ((t : S) (line : ℕ) → reply t (Tag (tag_told tag)) line ≡ KeepOn)
       → IsTag K X tag
-      → trace step reply rules s (line_after K.input []) K.last_start_tag K.opened (normalised K.input X)
+      → trace step reply foreign rules s (line_after K.input []) K.last_start_tag K.opened (normalised K.input X)
       ≡ record { messages = spelled_messages rules.exact K.input [] (spelled rules.exact tag); opened = Between Data; last_start_tag = last_behind K.last_start_tag (tag_told tag) }
   unfolding spelled
   reads-one_tag K s X tag keeps one =
@@ -190,16 +190,16 @@ module _ {S H : Type 0} (step : S → Told → ℕ → S) (reply : S → Told �
 
   pub after-tag : (K : Start) (s : S) (X : List ℕ) (tag : WrittenTag)
       → ((t : S) (line : ℕ) → reply t (Tag (tag_told tag)) line ≡ KeepOn)
-      → IsTag K X tag → (after step reply rules K s X).opened ≡ Between Data
-  after-tag K s X tag keeps one = after-opened step reply rules K s X ∙ ap (λ (t : Trace). t.opened) (reads-one_tag K s X tag keeps one)
+      → IsTag K X tag → (after step reply foreign rules K s X).opened ≡ Between Data
+  after-tag K s X tag keeps one = after-opened step reply foreign rules K s X ∙ ap (λ (t : Trace). t.opened) (reads-one_tag K s X tag keeps one)
 
   pub reading-tag : (K : Start) (s : S) (X : List ℕ) (tag : WrittenTag)
       → ((t : S) (line : ℕ) → reply t (Tag (tag_told tag)) line ≡ KeepOn)
-      → IsTag K X tag → messages (reading step reply rules K s X) ≡ tag_messages rules.exact K.input tag
+      → IsTag K X tag → messages (reading step reply foreign rules K s X) ≡ tag_messages rules.exact K.input tag
   unfolding end_events late_at_end_of open_at_end_of late_events told_at_end_of tag_messages
   reading-tag K s X tag keeps one =
-      let tells : messages (told step reply rules K s X) ≡ spelled_messages rules.exact K.input [] (spelled rules.exact tag) =
-      told-trace step reply rules K s X ∙ ap (λ (t : Trace). t.messages) (reads-one_tag K s X tag keeps one) in
-      ap messages (reading-events step reply rules K s X)
-      ∙ messages-append (told step reply rules K s X) (end_events step reply rules K (read step reply rules K s X).opened (normalised K.input X))
+      let tells : messages (told step reply foreign rules K s X) ≡ spelled_messages rules.exact K.input [] (spelled rules.exact tag) =
+      told-trace step reply foreign rules K s X ∙ ap (λ (t : Trace). t.messages) (reads-one_tag K s X tag keeps one) in
+      ap messages (reading-events step reply foreign rules K s X)
+      ∙ messages-append (told step reply foreign rules K s X) (end_events step reply foreign rules K (read step reply foreign rules K s X).opened (normalised K.input X))
       ∙ rw (tells, after-tag K s X tag keeps one, one.text) refl

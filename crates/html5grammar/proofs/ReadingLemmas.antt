@@ -19,9 +19,9 @@ use Rattle.html5ever_interface.specs.declared.states.AttrValueKind.{AttrValueKin
 use Rattle.html5grammar.specs.Reading.Here.{Tells, TellsTag, Stops}
 use Rattle.html5grammar.specs.Slice.{Slice, Late, cut_off, tokens_of_late}
 use Rattle.html5grammar.specs.Start.{Input, OpenTag, Stand, Start, Open, Rules}
-use Rattle.html5grammar.specs.Start.Mode.{Data, Plain, RawText}
+use Rattle.html5grammar.specs.Start.Mode.{Data, Plain, RawText, Cdata}
 use Rattle.html5grammar.specs.Start.Stand.{InText, InAttribute}
-use Rattle.html5grammar.specs.Start.Open.{Between, LessThan, LessThanSolidus, InTag, InRaw, InDeclaration, InComment, InBogusComment, InDoctype, InDoctypeKeyword, InReference, NotBuilt}
+use Rattle.html5grammar.specs.Start.Open.{Between, LessThan, LessThanSolidus, InTag, InRaw, InDeclaration, InComment, InBogusComment, InDoctype, InDoctypeKeyword, InReference, NotBuilt, InCdata}
 use Rattle.html5grammar.proofs.Machine.{brought_at, messages_here, opened_here, last_here}
 use Rattle.html5grammar.proofs.InputLemmas.{line_past, lines_past, normalised-append, input_after-line_none, input_after-append, input_after-line_one}
 use Rattle.html5grammar.proofs.Traces.{Trace, Traces, with_messages, trace, trace_here, trace_brought, traces, messages-append, messages-map, messages-late}
@@ -56,6 +56,7 @@ decided-told_at_end : (exact : Bool) (opened : Open) (f : Told → Event) → ((
 unfolding told_at_end_of
 decided-told_at_end exact (Between Data) f h = rw (h _) refl
 decided-told_at_end exact (Between Plain) f h = rw (h _) refl
+decided-told_at_end exact (Between Cdata) f h = rw (h _) refl
 decided-told_at_end exact (Between (RawText raw name)) f h = none_decided f h _
 decided-told_at_end exact LessThan f h = rw (h _) refl
 decided-told_at_end exact LessThanSolidus f h = rw (h _) refl
@@ -66,6 +67,7 @@ decided-told_at_end exact (InComment before) f h = none_decided f h (told_at_end
 decided-told_at_end exact (InBogusComment before) f h = rw (h _) refl
 decided-told_at_end exact (InDoctype place d) f h = none_decided f h (told_at_end_of exact (InDoctype place d))
 decided-told_at_end exact (InDoctypeKeyword held d) f h = refl
+decided-told_at_end exact (InCdata held) f h = none_decided f h (told_at_end_of exact (InCdata held))
 decided-told_at_end exact (InReference stand held) f h = refl
 decided-told_at_end exact NotBuilt f h = refl
 
@@ -135,89 +137,90 @@ module _ (I : Input) (Y : List ℕ) (E : List Event) (none : take_while (λ (e :
   decided-late_at_end rules (InDoctype place d) = none
   decided-late_at_end rules (InDoctypeKeyword [] d) = none
   decided-late_at_end rules (InDoctypeKeyword (c ∷ held) d) = refl
+  decided-late_at_end rules (InCdata held) = none
   decided-late_at_end rules (InReference stand held) = decided-late_tokens stand (reference rules (in_value stand) held None) held
   decided-late_at_end rules NotBuilt = none
 
-module _ {S H : Type 0} (step : S → Told → ℕ → S) (reply : S → Told → ℕ → Reply H) (rules : Rules) where
+module _ {S H : Type 0} (step : S → Told → ℕ → S) (reply : S → Told → ℕ → Reply H) (foreign : S → Bool) (rules : Rules) where
   abbrev pub start_behind : Start → S → List ℕ → Start
-  start_behind K s X = after step reply rules K s X
+  start_behind K s X = after step reply foreign rules K s X
 
   -- the events of a reading are decided by characters, but for those of the end
 
   decided-end : (K : Start) (opened : Open) (Y : List ℕ)
-      → take_while (λ (e : Event). is_character e.decided_by) (end_events step reply rules K opened Y) ≡ []
+      → take_while (λ (e : Event). is_character e.decided_by) (end_events step reply foreign rules K opened Y) ≡ []
   unfolding end_events
   decided-end K opened Y =
       decided-late_at_end K.input Y _ (decided-told_at_end rules.exact (open_at_end_of rules opened) _ (λ x. refl)) rules opened
 
   decided-here : (K : Start) (s : S) (last : List ℕ) (before : List ℕ) (c : ℕ) (h : Here Slice) (rest : S → List ℕ → Slice → Read) (E : List Event)
       → ((t : S) (name : List ℕ) (slice : Slice) → take_while (λ e. is_character e.decided_by) ((rest t name slice).events ++ E) ≡ (rest t name slice).events ++ take_while (λ e. is_character e.decided_by) E)
-      → take_while (λ e. is_character e.decided_by) ((read_here step reply rules K rest cut_off s last before c h).events ++ E)
-      ≡ (read_here step reply rules K rest cut_off s last before c h).events ++ take_while (λ e. is_character e.decided_by) E
+      → take_while (λ e. is_character e.decided_by) ((read_here step reply foreign rules K rest cut_off s last before c h).events ++ E)
+      ≡ (read_here step reply foreign rules K rest cut_off s last before c h).events ++ take_while (λ e. is_character e.decided_by) E
   decided-here K s last before c (Tells told goes_on) rest E ih = decided-events_at K.input before c _ (rest _ last goes_on).events E (ih _ last goes_on)
   decided-here K s last before c (TellsTag told tag) rest E ih = decided-events_at K.input before c _ (rest _ _ _).events E (ih _ _ _)
   decided-here K s last before c (Stops told) rest E ih =
       rw (← append-nil (events_at K.input before c told)) (decided-events_at K.input before c told [] E refl)
 
   decided-read_from : (K : Start) (s : S) (last : List ℕ) (before : List ℕ) (slice : Slice) (Y : List ℕ) (E : List Event)
-      → take_while (λ e. is_character e.decided_by) ((read_from step reply rules K s last before slice Y).events ++ E)
-      ≡ (read_from step reply rules K s last before slice Y).events ++ take_while (λ e. is_character e.decided_by) E
+      → take_while (λ e. is_character e.decided_by) ((read_from step reply foreign rules K s last before slice Y).events ++ E)
+      ≡ (read_from step reply foreign rules K s last before slice Y).events ++ take_while (λ e. is_character e.decided_by) E
   unfolding read_from
   decided-read_from K s last before slice [] E = refl
   decided-read_from K s last before slice (c ∷ Y) E =
-      decided-late K.input before (length before) (brought rules slice c Y).settled _ E
-      (decided-here K _ last before c (brought rules slice c Y).here (λ t name rest. read_from step reply rules K t name (before ++ c ∷ []) rest Y) E
+      decided-late K.input before (length before) (brought rules (foreign s) slice c Y).settled _ E
+      (decided-here K _ last before c (brought rules (foreign s) slice c Y).here (λ t name rest. read_from step reply foreign rules K t name (before ++ c ∷ []) rest Y) E
       (λ t name rest. decided-read_from K t name (before ++ c ∷ []) rest Y E))
 
-  pub told-events : (K : Start) (s : S) (X : List ℕ) → told step reply rules K s X ≡ (read step reply rules K s X).events
+  pub told-events : (K : Start) (s : S) (X : List ℕ) → told step reply foreign rules K s X ≡ (read step reply foreign rules K s X).events
   unfolding told reading read
   told-events K s X =
       decided-read_from K s K.last_start_tag [] (rest_of rules K.opened (normalised K.input X)) (normalised K.input X) _
-      ∙ rw (decided-end K (read step reply rules K s X).opened (normalised K.input X)) (append-nil (read step reply rules K s X).events)
+      ∙ rw (decided-end K (read step reply foreign rules K s X).opened (normalised K.input X)) (append-nil (read step reply foreign rules K s X).events)
 
   pub reading-events : (K : Start) (s : S) (X : List ℕ)
-      → reading step reply rules K s X ≡ told step reply rules K s X ++ end_events step reply rules K (read step reply rules K s X).opened (normalised K.input X)
+      → reading step reply foreign rules K s X ≡ told step reply foreign rules K s X ++ end_events step reply foreign rules K (read step reply foreign rules K s X).opened (normalised K.input X)
   unfolding reading
   reading-events K s X = rw (told-events K s X) refl
 
   -- the messages of the end
   pub messages-at_end : (K : Start) (s : S) (X : List ℕ)
-      → messages (end_events step reply rules K (read step reply rules K s X).opened (normalised K.input X))
+      → messages (end_events step reply foreign rules K (read step reply foreign rules K s X).opened (normalised K.input X))
       ≡ on_line (line_after K.input (normalised K.input X)) (tokens_at_end rules (start_behind K s X).opened)
   unfolding end_events
   messages-at_end K s X =
       let Y : List ℕ = normalised K.input X in
-      let opened : Open = (read step reply rules K s X).opened in
+      let opened : Open = (read step reply foreign rules K s X).opened in
       let tokens : List Told = told_at_end_of rules.exact (open_at_end_of rules opened) in
       let message : Told → Message = λ token. record { token = token; line = line_after K.input Y } in
       messages-append (late_events K.input Y EndOfInput (late_at_end_of rules opened)) _
-      ∙ rw (messages-late step reply rules K Y EndOfInput (late_at_end_of rules opened), messages-map (λ token. record { message = message token; stands = EndOfInput; decided_by = EndOfInput }) message (λ t. refl) tokens)
+      ∙ rw (messages-late step reply foreign rules K Y EndOfInput (late_at_end_of rules opened), messages-map (λ token. record { message = message token; stands = EndOfInput; decided_by = EndOfInput }) message (λ t. refl) tokens)
       (sym (map-append message (tokens_of_late (late_at_end_of rules opened)) tokens))
 
   -- the trace of a text
 
   pub read-traces : (K : Start) (s : S) (X : List ℕ)
-      → Traces (read step reply rules K s X) (trace step reply rules s (line_after K.input []) K.last_start_tag K.opened (normalised K.input X))
+      → Traces (read step reply foreign rules K s X) (trace step reply foreign rules s (line_after K.input []) K.last_start_tag K.opened (normalised K.input X))
   unfolding read
-  read-traces K s X = traces step reply rules K s K.last_start_tag [] K.opened (normalised K.input X)
+  read-traces K s X = traces step reply foreign rules K s K.last_start_tag [] K.opened (normalised K.input X)
 
   pub told-trace : (K : Start) (s : S) (X : List ℕ)
-      → messages (told step reply rules K s X) ≡ (trace step reply rules s (line_after K.input []) K.last_start_tag K.opened (normalised K.input X)).messages
+      → messages (told step reply foreign rules K s X) ≡ (trace step reply foreign rules s (line_after K.input []) K.last_start_tag K.opened (normalised K.input X)).messages
   told-trace K s X = ap messages (told-events K s X) ∙ (read-traces K s X).messages
 
   -- nothing is told where what isn't built yet was met
-  trace-not_built : (s : S) (line : ℕ) (last W : List ℕ) → trace step reply rules s line last NotBuilt W ≡ record { messages = []; opened = NotBuilt; last_start_tag = last }
+  trace-not_built : (s : S) (line : ℕ) (last W : List ℕ) → trace step reply foreign rules s line last NotBuilt W ≡ record { messages = []; opened = NotBuilt; last_start_tag = last }
   unfolding trace trace_brought trace_here brought_at
   trace-not_built s line last [] = refl
   trace-not_built s line last (c ∷ W) = refl
 
   abbrev going_on : S → ℕ → Trace → List ℕ → Trace
-  going_on s line t W = with_messages t.messages (trace step reply rules (stepped step s t.messages) line t.last_start_tag t.opened W)
+  going_on s line t W = with_messages t.messages (trace step reply foreign rules (stepped step s t.messages) line t.last_start_tag t.opened W)
 
   going_on-with : (s : S) (line : ℕ) (M : List Message) (t : Trace) (W : List ℕ)
       → with_messages M (going_on (stepped step s M) line t W) ≡ going_on s line (with_messages M t) W
   going_on-with s line M t W =
-      let rest : Trace = trace step reply rules (stepped step (stepped step s M) t.messages) line t.last_start_tag t.opened W in
+      let rest : Trace = trace step reply foreign rules (stepped step (stepped step s M) t.messages) line t.last_start_tag t.opened W in
       rw (stepped-append step s M t.messages) (ap (λ l. record { messages = l; opened = rest.opened; last_start_tag = rest.last_start_tag })
       (sym (append_assoc M t.messages rest.messages)))
 
@@ -228,14 +231,14 @@ module _ {S H : Type 0} (step : S → Told → ℕ → S) (reply : S → Told �
   stepped-last s line (x ∷ tokens) token = stepped-last (step s x line) line tokens token
 
   trace-append-here : (s : S) (line : ℕ) (last : List ℕ) (c : ℕ) (Y W : List ℕ) (h : Here Open)
-      → ((t : S) (name : List ℕ) (later : Open) → trace step reply rules t line name later (Y ++ W) ≡ going_on t (lines_past line Y) (trace step reply rules t line name later Y) W)
-      → trace_here step reply rules (λ t name later. trace step reply rules t line name later (Y ++ W)) s line last c h
-      ≡ going_on s (lines_past line Y) (trace_here step reply rules (λ t name later. trace step reply rules t line name later Y) s line last c h) W
+      → ((t : S) (name : List ℕ) (later : Open) → trace step reply foreign rules t line name later (Y ++ W) ≡ going_on t (lines_past line Y) (trace step reply foreign rules t line name later Y) W)
+      → trace_here step reply foreign rules (λ t name later. trace step reply foreign rules t line name later (Y ++ W)) s line last c h
+      ≡ going_on s (lines_past line Y) (trace_here step reply foreign rules (λ t name later. trace step reply foreign rules t line name later Y) s line last c h) W
   unfolding trace_here
   trace-append-here s line last c Y W (Tells told later) ih =
       let M : List Message = on_line line (bad_character_error rules.exact c ++ told) in
       ap (with_messages M) (ih (stepped step s M) last later)
-      ∙ going_on-with s (lines_past line Y) M (trace step reply rules (stepped step s M) line last later Y) W
+      ∙ going_on-with s (lines_past line Y) M (trace step reply foreign rules (stepped step s M) line last later Y) W
   trace-append-here s line last c Y W (TellsTag told tag) ih =
       let tokens : List Told = bad_character_error rules.exact c ++ told in
       let M : List Message = on_line line (tokens ++ Tag tag ∷ []) in
@@ -243,55 +246,55 @@ module _ {S H : Type 0} (step : S → Told → ℕ → S) (reply : S → Told �
       let later : Open = open_after_reply name (reply (stepped step s (on_line line tokens)) (Tag tag) line) in
       rw (stepped-last s line tokens (Tag tag))
       (ap (with_messages M) (ih (stepped step s M) name later)
-      ∙ going_on-with s (lines_past line Y) M (trace step reply rules (stepped step s M) line name later Y) W)
+      ∙ going_on-with s (lines_past line Y) M (trace step reply foreign rules (stepped step s M) line name later Y) W)
   trace-append-here s line last c Y W (Stops told) ih =
       rw (trace-not_built (stepped step s (on_line line told)) (lines_past line Y) last W, append-nil (on_line line told)) refl
 
   trace-append-brought : (s : S) (line : ℕ) (last : List ℕ) (c : ℕ) (Y W : List ℕ) (next : Brought Open)
-      → ((t : S) (name : List ℕ) (later : Open) → trace step reply rules t (line_past line c) name later (Y ++ W) ≡ going_on t (lines_past (line_past line c) Y) (trace step reply rules t (line_past line c) name later Y) W)
-      → trace_brought step reply rules (λ t name later. trace step reply rules t (line_past line c) name later (Y ++ W)) s line last c next
-      ≡ going_on s (lines_past (line_past line c) Y) (trace_brought step reply rules (λ t name later. trace step reply rules t (line_past line c) name later Y) s line last c next) W
+      → ((t : S) (name : List ℕ) (later : Open) → trace step reply foreign rules t (line_past line c) name later (Y ++ W) ≡ going_on t (lines_past (line_past line c) Y) (trace step reply foreign rules t (line_past line c) name later Y) W)
+      → trace_brought step reply foreign rules (λ t name later. trace step reply foreign rules t (line_past line c) name later (Y ++ W)) s line last c next
+      ≡ going_on s (lines_past (line_past line c) Y) (trace_brought step reply foreign rules (λ t name later. trace step reply foreign rules t (line_past line c) name later Y) s line last c next) W
   unfolding trace_brought
   trace-append-brought s line last c Y W next ih =
       let M : List Message = on_line line (tokens_of_late next.settled) in
       ap (with_messages M) (trace-append-here (stepped step s M) (line_past line c) last c Y W next.here ih)
       ∙ going_on-with s (lines_past (line_past line c) Y) M
-      (trace_here step reply rules (λ t name later. trace step reply rules t (line_past line c) name later Y) (stepped step s M) (line_past line c) last c next.here) W
+      (trace_here step reply foreign rules (λ t name later. trace step reply foreign rules t (line_past line c) name later Y) (stepped step s M) (line_past line c) last c next.here) W
 
   trace-append : (s : S) (line : ℕ) (last : List ℕ) (opened : Open) (Y W : List ℕ)
-      → trace step reply rules s line last opened (Y ++ W) ≡ going_on s (lines_past line Y) (trace step reply rules s line last opened Y) W
+      → trace step reply foreign rules s line last opened (Y ++ W) ≡ going_on s (lines_past line Y) (trace step reply foreign rules s line last opened Y) W
   unfolding trace lines_past stepped
   trace-append s line last opened [] W = refl
   trace-append s line last opened (c ∷ Y) W =
-      trace-append-brought s line last c Y W (brought_at rules opened c) (λ t name later. trace-append t (line_past line c) name later Y W)
+      trace-append-brought s line last c Y W (brought_at rules (foreign s) opened c) (λ t name later. trace-append t (line_past line c) name later Y W)
 
   pub after-opened : (K : Start) (s : S) (X : List ℕ)
-      → (start_behind K s X).opened ≡ (trace step reply rules s (line_after K.input []) K.last_start_tag K.opened (normalised K.input X)).opened
+      → (start_behind K s X).opened ≡ (trace step reply foreign rules s (line_after K.input []) K.last_start_tag K.opened (normalised K.input X)).opened
   after-opened K s X = (read-traces K s X).opened
 
   pub after-last : (K : Start) (s : S) (X : List ℕ)
-      → (start_behind K s X).last_start_tag ≡ (trace step reply rules s (line_after K.input []) K.last_start_tag K.opened (normalised K.input X)).last_start_tag
+      → (start_behind K s X).last_start_tag ≡ (trace step reply foreign rules s (line_after K.input []) K.last_start_tag K.opened (normalised K.input X)).last_start_tag
   after-last K s X = (read-traces K s X).last_start_tag
 
   -- forgetting: what a text tells is what its first part tells, then what the rest tells from the start behind that
 
   abbrev pub state_behind : Start → S → List ℕ → S
-  state_behind K s X = stepped step s (messages (told step reply rules K s X))
+  state_behind K s X = stepped step s (messages (told step reply foreign rules K s X))
 
   trace-behind : (K : Start) (s : S) (X Z : List ℕ)
-      → trace step reply rules s (line_after K.input []) K.last_start_tag K.opened (normalised K.input (X ++ Z))
-      ≡ with_messages (messages (told step reply rules K s X))
-      (trace step reply rules (state_behind K s X) (line_after (input_after K.input X) []) (start_behind K s X).last_start_tag (start_behind K s X).opened (normalised (input_after K.input X) Z))
+      → trace step reply foreign rules s (line_after K.input []) K.last_start_tag K.opened (normalised K.input (X ++ Z))
+      ≡ with_messages (messages (told step reply foreign rules K s X))
+      (trace step reply foreign rules (state_behind K s X) (line_after (input_after K.input X) []) (start_behind K s X).last_start_tag (start_behind K s X).opened (normalised (input_after K.input X) Z))
   trace-behind K s X Z =
       rw (normalised-append K.input X Z, trace-append s (line_after K.input []) K.last_start_tag K.opened (normalised K.input X) (normalised (input_after K.input X) Z), told-trace K s X, input_after-line_none K.input X, after-opened K s X, after-last K s X) refl
 
   pub told-append : (K : Start) (s : S) (X Z : List ℕ)
-      → messages (told step reply rules K s (X ++ Z))
-      ≡ messages (told step reply rules K s X) ++ messages (told step reply rules (start_behind K s X) (state_behind K s X) Z)
+      → messages (told step reply foreign rules K s (X ++ Z))
+      ≡ messages (told step reply foreign rules K s X) ++ messages (told step reply foreign rules (start_behind K s X) (state_behind K s X) Z)
   told-append K s X Z =
       told-trace K s (X ++ Z)
       ∙ ap (λ (t : Trace). t.messages) (trace-behind K s X Z)
-      ∙ ap (λ M. messages (told step reply rules K s X) ++ M) (sym (told-trace (start_behind K s X) (state_behind K s X) Z))
+      ∙ ap (λ M. messages (told step reply foreign rules K s X) ++ M) (sym (told-trace (start_behind K s X) (state_behind K s X) Z))
 
   opened-append : (K : Start) (s : S) (X Z : List ℕ)
       → (start_behind K s (X ++ Z)).opened ≡ (start_behind (start_behind K s X) (state_behind K s X) Z).opened
@@ -314,7 +317,7 @@ module _ {S H : Type 0} (step : S → Told → ℕ → S) (reply : S → Told �
 
   -- no character
 
-  pub told-nil : (K : Start) (s : S) → messages (told step reply rules K s []) ≡ []
+  pub told-nil : (K : Start) (s : S) → messages (told step reply foreign rules K s []) ≡ []
   unfolding normalised without_dropped_first with_line_feeds trace
   told-nil K s = rw (told-trace K s []) refl
 
@@ -324,7 +327,7 @@ module _ {S H : Type 0} (step : S → Told → ℕ → S) (reply : S → Told �
 
   -- one character further: one that is dropped tells nothing
 
-  pub told-none : (K : Start) (s : S) (c : ℕ) → normalised K.input (c ∷ []) ≡ [] → messages (told step reply rules K s (c ∷ [])) ≡ []
+  pub told-none : (K : Start) (s : S) (c : ℕ) → normalised K.input (c ∷ []) ≡ [] → messages (told step reply foreign rules K s (c ∷ [])) ≡ []
   unfolding trace
   told-none K s c e = rw (told-trace K s (c ∷ []), e) refl
 
@@ -336,7 +339,7 @@ module _ {S H : Type 0} (step : S → Told → ℕ → S) (reply : S → Told �
   -- what is told at the character that is read for c
 
   trace_here-one : (s : S) (line : ℕ) (last : List ℕ) (d : ℕ) (h : Here Open)
-      → trace_here step reply rules (λ t name later. record { messages = []; opened = later; last_start_tag = name }) s line last d h
+      → trace_here step reply foreign rules (λ t name later. record { messages = []; opened = later; last_start_tag = name }) s line last d h
       ≡ record { messages = messages_here step reply rules line d h; opened = opened_here step reply rules s line last d h; last_start_tag = last_here last h }
   unfolding trace_here messages_here opened_here last_here
   trace_here-one s line last d (Tells told later) = rw (append-nil (on_line line (bad_character_error rules.exact d ++ told))) refl
@@ -345,36 +348,36 @@ module _ {S H : Type 0} (step : S → Told → ℕ → S) (reply : S → Told �
 
   -- the state of the sink in which the character is told
   abbrev pub state_here : Start → S → ℕ → S
-  state_here K s d = stepped step s (on_line (line_after K.input []) (tokens_of_late (brought_at rules K.opened d).settled))
+  state_here K s d = stepped step s (on_line (line_after K.input []) (tokens_of_late (brought_at rules (foreign s) K.opened d).settled))
 
   trace-one : (K : Start) (s : S) (c d : ℕ) → normalised K.input (c ∷ []) ≡ d ∷ []
-      → trace step reply rules s (line_after K.input []) K.last_start_tag K.opened (normalised K.input (c ∷ []))
+      → trace step reply foreign rules s (line_after K.input []) K.last_start_tag K.opened (normalised K.input (c ∷ []))
       ≡ record {
-        messages = on_line (line_after K.input []) (tokens_of_late (brought_at rules K.opened d).settled) ++ messages_here step reply rules (input_after K.input (c ∷ [])).line d (brought_at rules K.opened d).here;
-        opened = opened_here step reply rules (state_here K s d) (input_after K.input (c ∷ [])).line K.last_start_tag d (brought_at rules K.opened d).here;
-        last_start_tag = last_here K.last_start_tag (brought_at rules K.opened d).here;
+        messages = on_line (line_after K.input []) (tokens_of_late (brought_at rules (foreign s) K.opened d).settled) ++ messages_here step reply rules (input_after K.input (c ∷ [])).line d (brought_at rules (foreign s) K.opened d).here;
+        opened = opened_here step reply rules (state_here K s d) (input_after K.input (c ∷ [])).line K.last_start_tag d (brought_at rules (foreign s) K.opened d).here;
+        last_start_tag = last_here K.last_start_tag (brought_at rules (foreign s) K.opened d).here;
       }
   unfolding trace trace_brought
   trace-one K s c d e =
       let line : line_past (line_after K.input []) d ≡ (input_after K.input (c ∷ [])).line = input_after-line_one K.input c d e in
-      rw (e, line) (ap (with_messages (on_line (line_after K.input []) (tokens_of_late (brought_at rules K.opened d).settled)))
-      (trace_here-one (state_here K s d) (input_after K.input (c ∷ [])).line K.last_start_tag d (brought_at rules K.opened d).here))
+      rw (e, line) (ap (with_messages (on_line (line_after K.input []) (tokens_of_late (brought_at rules (foreign s) K.opened d).settled)))
+      (trace_here-one (state_here K s d) (input_after K.input (c ∷ [])).line K.last_start_tag d (brought_at rules (foreign s) K.opened d).here))
 
   pub told-one : (K : Start) (s : S) (c d : ℕ) → normalised K.input (c ∷ []) ≡ d ∷ []
-      → messages (told step reply rules K s (c ∷ []))
-      ≡ on_line (line_after K.input []) (tokens_of_late (brought_at rules K.opened d).settled) ++ messages_here step reply rules (input_after K.input (c ∷ [])).line d (brought_at rules K.opened d).here
+      → messages (told step reply foreign rules K s (c ∷ []))
+      ≡ on_line (line_after K.input []) (tokens_of_late (brought_at rules (foreign s) K.opened d).settled) ++ messages_here step reply rules (input_after K.input (c ∷ [])).line d (brought_at rules (foreign s) K.opened d).here
   told-one K s c d e = told-trace K s (c ∷ []) ∙ ap (λ (t : Trace). t.messages) (trace-one K s c d e)
 
   pub after-one : (K : Start) (s : S) (c d : ℕ) → normalised K.input (c ∷ []) ≡ d ∷ []
       → start_behind K s (c ∷ []) ≡ record {
-        opened = opened_here step reply rules (state_here K s d) (input_after K.input (c ∷ [])).line K.last_start_tag d (brought_at rules K.opened d).here;
-        last_start_tag = last_here K.last_start_tag (brought_at rules K.opened d).here;
+        opened = opened_here step reply rules (state_here K s d) (input_after K.input (c ∷ [])).line K.last_start_tag d (brought_at rules (foreign s) K.opened d).here;
+        last_start_tag = last_here K.last_start_tag (brought_at rules (foreign s) K.opened d).here;
         input = input_after K.input (c ∷ []);
       }
   after-one K s c d e = rw (after-opened K s (c ∷ []), after-last K s (c ∷ []), trace-one K s c d e) refl
 
   -- where what isn't built yet was met, nothing more is told
-  pub told-not_built : (K : Start) (s : S) (X : List ℕ) → K.opened ≡ NotBuilt → messages (told step reply rules K s X) ≡ []
+  pub told-not_built : (K : Start) (s : S) (X : List ℕ) → K.opened ≡ NotBuilt → messages (told step reply foreign rules K s X) ≡ []
   told-not_built K s X e = told-trace K s X ∙ rw (e, trace-not_built s (line_after K.input []) K.last_start_tag (normalised K.input X)) refl
 
   pub after-not_built : (K : Start) (s : S) (X : List ℕ) → K.opened ≡ NotBuilt → (start_behind K s X).opened ≡ NotBuilt

@@ -43,7 +43,7 @@ names =
     ∷ entry (codes "quot") 0x22 ∷ entry (codes "quot;") 0x22 ∷ []
 
 abbrev events : Bool → List ℕ → List Event
-events exact text = reading {S = ℕ} {H = ℕ} (λ s t l. s) (λ s t l. KeepOn) (record { exact = exact; names = names }) start 0 text
+events exact text = reading {S = ℕ} {H = ℕ} (λ s t l. s) (λ s t l. KeepOn) (λ s. false) (record { exact = exact; names = names }) start 0 text
 
 abbrev event : Told → TextPlace → TextPlace → ℕ → Event
 event token stands decided_by line = record { message = record { token = token; line = line }; stands = stands; decided_by = decided_by }

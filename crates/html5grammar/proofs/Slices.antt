@@ -1,6 +1,7 @@
 -- The slices do at each character what the machine does.
 use Rattle.std.proofs.Common.{◌≡◌, ℕ, Bool, true, false, List, [], ◌∷◌, ◌++◌, refl, ap, sym, subst, ◌∙◌}
 use Rattle.std.specs.Prelude.{◌==◌, ◌&&◌, not, flat_map, drop, codes, Option, None, Some, if◌then◌else◌}
+use Rattle.std.proofs.Math.Bool.{and-false}
 use Rattle.std.proofs.lemmas.List.{append_assoc, append-nil}
 use Rattle.html5ever_interface.specs.Token.{Told, DoctypeOf}
 use Rattle.html5ever_interface.specs.Token.Told.{Text, Comment, Doctype}
@@ -15,17 +16,18 @@ use Rattle.html5ever_interface.specs.declared.states.ScriptEscapeKind.{ScriptEsc
 use Rattle.html5ever_interface.specs.declared.states.ScriptEscapeKind.TheVariants as escape_kind
 use Rattle.html5ever_interface.specs.declared.states.State.{State}
 use Rattle.html5ever_interface.specs.declared.states.State.TheVariants as state
+use Rattle.html5grammar.specs.Cdata.{ends_cdata, cdata, cdata_from}
 use Rattle.html5grammar.specs.Characters.{null, exclamation_mark, quotation_mark, ampersand, apostrophe, hyphen, solidus, less_than, equals_sign, greater_than, question_mark, is_letter, is_white_space, name_bytes, value_bytes, lower_case}
 use Rattle.html5grammar.specs.Reference.{in_value, reference, is_undecided, ends_number, characters_in, opened_in, late_tokens, opened_behind, behind_held, reference_text, with_value}
 use Rattle.html5grammar.specs.Tag.{null_error, in_quoted, in_unquoted, unquoted_error, in_attribute_name, attribute_name_error, with_last_name, place_error, is_after_solidus, in_tag_name, with_name, closing, behind_tag_name, tag_name, behind_quoted, quoted_value, behind_unquoted, unquoted_value, value, value_behind_space, value_or_next, behind_name_and_space, behind_attribute_name, attribute_behind_first, part}
 use Rattle.std.specs.Str.{bytes_eq}
-use Rattle.html5grammar.specs.Comment.{ends_comment, comment, in_bogus_comment, behind_bogus_comment, bogus_comment, bogus_comment_from, begins_keyword, declaration_error, declaration}
+use Rattle.html5grammar.specs.Comment.{ends_comment, comment, in_bogus_comment, behind_bogus_comment, bogus_comment, bogus_comment_from, begins_keyword, declaration_error, declaration, cdata_keyword, begins_cdata, declaration_by_answer}
 use Rattle.html5grammar.specs.Doctype.{with_quirks, with_more, with_doctype_name, with_identifier, in_skipped_rest, behind_skipped_rest, skipped_rest, skipped_from, identifier_state, in_identifier, behind_in_identifier, identifier, wanted_identifier, system_or_end, behind_space_between, between_identifiers, behind_identifier, behind_keyword_and_space, identifier_behind_space, behind_keyword, is_keyword, begins_doctype_keyword, keyword_error, doctype_keyword, keyword_or_end, behind_doctype_name_and_space, behind_doctype_name, in_doctype_name, doctype_name, wanted_name, behind_word_and_space, before_doctype_name, word_error, doctype}
 use Rattle.html5grammar.specs.RawText.{raw_text_of, texts, ends_name, is_rcdata, ends_raw_text, behind_end_name, end_name, behind_mark, behind_mark_and_dash, switched, behind_switch, switch, told_behind_less_than, behind_raw_solidus, begins_mark, begins_switch, behind_raw_less_than, raw_text}
 use Rattle.html5grammar.specs.Text.{behind_solidus, behind_less_than, data_text}
 use Rattle.html5grammar.specs.ErrorText.{error_in}
 use Rattle.html5grammar.specs.Cutting.{rest_of, next_slice, slice_at}
-use Rattle.html5grammar.specs.Reading.{Here, Brought, at_first, here, brought}
+use Rattle.html5grammar.specs.Reading.{Here, Brought, at_first, here, brought_without_answer, brought}
 use Rattle.html5grammar.specs.Reading.Here.{Tells, TellsTag, Stops}
 use Rattle.html5grammar.specs.Slice.{Slice, with_run, run_of, behind_run, silent, run_while, behind_while, no_character, with_character}
 use Rattle.html5grammar.specs.Slice.Cell.{Says}
@@ -33,12 +35,12 @@ use Rattle.html5grammar.specs.Slice.Behind.{Leaves}
 use Rattle.html5grammar.specs.Start.{Mode, Raw, OpenTag, Place, RawPlace, Quotes, DoctypePlace, Stand, Open, Rules, begun, raw_of}
 use Rattle.html5grammar.specs.Start.Stand.{InText, InAttribute}
 use Rattle.html5grammar.specs.Start.Raw.{ScriptData}
-use Rattle.html5grammar.specs.Start.Mode.{Data, Plain, RawText}
+use Rattle.html5grammar.specs.Start.Mode.{Data, Plain, RawText, Cdata}
 use Rattle.html5grammar.specs.Start.RawPlace.{AfterLessThan, InEndName, AfterMark, AfterMarkAndDash, InSwitch}
 use Rattle.html5grammar.specs.Start.Place.{InName, BeforeAttribute, InAttributeName, AfterAttributeName, BeforeValue, InValue, AfterQuotedValue, AfterSolidus}
 use Rattle.html5grammar.specs.Start.DoctypePlace.{AfterWord, BeforeName, InDoctypeName, AfterName, AfterKeyword, BeforeIdentifier, InIdentifier, AfterIdentifier, BetweenIdentifiers, Skipped}
-use Rattle.html5grammar.specs.Start.Open.{Between, LessThan, LessThanSolidus, InTag, InRaw, InDeclaration, InComment, InBogusComment, InDoctype, InDoctypeKeyword, InReference, NotBuilt}
-use Rattle.html5grammar.proofs.Machine.{step_at, brought_at, reference_step, closing_step, tag_name_step, part_step, attribute_name_step, after_attribute_name_step, quoted_step, unquoted_step, before_value_step, tag_step, data_step, less_than_step, solidus_step, bogus_comment_step, comment_step, skipped_step, wanted_name_step, doctype_name_step, keyword_or_end_step, wanted_identifier_step, system_or_end_step, identifier_step, behind_identifier_step, space_step, doctype_step, declaration_step, doctype_keyword_step, raw_step, tag_name_end_step, end_name_step, switch_step, mark_step, mark_and_dash_step, raw_solidus_step, raw_less_than_step, raw_place_step}
+use Rattle.html5grammar.specs.Start.Open.{Between, LessThan, LessThanSolidus, InTag, InRaw, InDeclaration, InComment, InBogusComment, InDoctype, InDoctypeKeyword, InCdata, InReference, NotBuilt}
+use Rattle.html5grammar.proofs.Machine.{step_at, brought_at, reference_step, closing_step, tag_name_step, part_step, attribute_name_step, after_attribute_name_step, quoted_step, unquoted_step, before_value_step, tag_step, data_step, less_than_step, solidus_step, bogus_comment_step, comment_step, cdata_step, skipped_step, wanted_name_step, doctype_name_step, keyword_or_end_step, wanted_identifier_step, system_or_end_step, identifier_step, behind_identifier_step, space_step, doctype_step, declaration_answer_step, declaration_step, doctype_keyword_step, raw_step, tag_name_end_step, end_name_step, switch_step, mark_step, mark_and_dash_step, raw_solidus_step, raw_less_than_step, raw_place_step}
 
 abbrev pub going : {F G : Type 0} → (F → G) → Here F → Here G
 going f (Tells told goes_on) = Tells told (f goes_on)
@@ -135,12 +137,12 @@ flipped : {X : Type 0} → (test : Bool) (p q : X) → (if test then p else q) �
 flipped true p q = refl
 flipped false p q = refl
 
-module _ (rules : Rules) (c : ℕ) (text : List ℕ) where
+module _ (rules : Rules) (foreign : Bool) (c : ℕ) (text : List ℕ) where
   abbrev rest : Open → Slice
   rest opened = rest_of rules opened text
 
   abbrev decides_nothing : Slice → Type 0
-  decides_nothing slice = brought rules slice c text ≡ record { settled = []; here = here rules slice c text }
+  decides_nothing slice = brought rules foreign slice c text ≡ record { settled = []; here = here rules slice c text }
 
   -- the slice decides nothing that stands before c, and tells at c what the step does
   abbrev pub follows : Slice → Here Open → Type 0
@@ -323,6 +325,17 @@ module _ (rules : Rules) (c : ℕ) (text : List ℕ) where
   follows-comment : (before : List ℕ) → follows (comment rules.exact before (c ∷ text)) (comment_step rules.exact before c)
   unfolding comment comment_step here slice_at brought rest_of
   follows-comment before = follows-if ((c == greater_than) && ends_comment before) _ _ _ _ (refl, refl) (refl, refl)
+
+  -- CDATA sections
+
+  follows-cdata : (held : List ℕ) → follows (cdata held (c ∷ text)) (cdata_step held c)
+  unfolding cdata cdata_step here slice_at brought rest_of
+  follows-cdata held =
+      follows-if ((c == greater_than) && ends_cdata held) _ _ _ _ (refl, refl) (follows-if (c == null) _ _ _ _ (refl, refl) (refl, refl))
+
+  begins-cdata_from : begins (cdata_from [] c text) (cdata_step [] c)
+  unfolding cdata_from cdata_step ends_cdata rest_of
+  begins-cdata_from = rw (and-false (c == greater_than)) (begins-if (c == null) _ _ _ _ refl refl)
 
   -- doctypes
 
@@ -570,12 +583,13 @@ module _ (rules : Rules) (c : ℕ) (text : List ℕ) where
   follows-between Data = (begins-data_text [], refl)
   follows-between Plain = (refl, refl)
   follows-between (RawText raw name) = follows-raw raw name []
+  follows-between Cdata = (begins-cdata_from, refl)
 
   -- references
 
   -- the slice brings at c what the machine does
   abbrev pub brings : Slice → Brought Open → Type 0
-  brings slice next = brought rules slice c text ≡ record { settled = next.settled; here = going rest next.here }
+  brings slice next = brought rules foreign slice c text ≡ record { settled = next.settled; here = going rest next.here }
 
   brings-if : (test : Bool) (a b : Slice) (p q : Brought Open) → brings a p → brings b q → brings (if test then a else b) (if test then p else q)
   brings-if true a b p q f g = f
@@ -609,19 +623,33 @@ module _ (rules : Rules) (c : ℕ) (text : List ℕ) where
       → brings (reference_text rules stand held (c ∷ text)) (reference_step rules stand held c)
   unfolding reference_text reference_step rest_of here slice_at brought
   brings-reference stand held true h =
-      ap (λ (s : Slice). brought rules s c text) (with_while-member (is_undecided rules.names) (behind_held rules stand) held c text h) ∙ rw h refl
+      ap (λ (s : Slice). brought rules foreign s c text) (with_while-member (is_undecided rules.names) (behind_held rules stand) held c text h) ∙ rw h refl
   brings-reference stand held false h =
-      ap (λ (s : Slice). brought rules s c text) (with_while-none (is_undecided rules.names) (behind_held rules stand) held c text h) ∙ rw h (brings-behind_held stand held)
+      ap (λ (s : Slice). brought rules foreign s c text) (with_while-none (is_undecided rules.names) (behind_held rules stand) held c text h) ∙ rw h (brings-behind_held stand held)
 
   -- behind `<!`
 
-  brings-declaration : (held : List ℕ) → brings (declaration rules.exact held (c ∷ text)) (declaration_step rules.exact held c)
+  -- the slice brings that by itself
+  abbrev brings_unasked : Slice → Brought Open → Type 0
+  brings_unasked slice next = brought_without_answer rules slice.cells slice.behind c text ≡ record { settled = next.settled; here = going rest next.here }
+
+  brings_unasked-if : (test : Bool) (a b : Slice) (p q : Brought Open) → brings_unasked a p → brings_unasked b q → brings_unasked (if test then a else b) (if test then p else q)
+  brings_unasked-if true a b p q f g = f
+  brings_unasked-if false a b p q f g = g
+
+  brings-declaration_by_answer : (held : List ℕ) → brings_unasked (declaration_by_answer rules.exact foreign held c text) (declaration_answer_step rules.exact foreign held c)
+  unfolding declaration_by_answer declaration_answer_step here slice_at rest_of
+  brings-declaration_by_answer held =
+      brings_unasked-if (foreign && bytes_eq (held ++ c ∷ []) cdata_keyword) _ _ _ _ refl
+      (brings_unasked-if (foreign && begins_cdata (held ++ c ∷ [])) _ _ _ _ refl
+      (ap (λ h. record { settled = declaration_error rules.exact held; here = h }) (follows-bogus_comment held).0))
+
+  brings-declaration : (held : List ℕ) → brings (declaration rules.exact held (c ∷ text)) (declaration_step rules.exact foreign held c)
   unfolding declaration declaration_step here slice_at brought rest_of
   brings-declaration held =
       brings-if (bytes_eq (held ++ c ∷ []) (codes "--")) _ _ _ _ refl
       (brings-if (bytes_eq (lower_case (held ++ c ∷ [])) (codes "doctype")) _ _ _ _ refl
-      (brings-if (begins_keyword (held ++ c ∷ [])) _ _ _ _ refl
-      (ap (λ h. record { settled = declaration_error rules.exact held; here = h }) (follows-bogus_comment held).0)))
+      (brings-if (begins_keyword (held ++ c ∷ [])) _ _ _ _ refl (brings-declaration_by_answer held)))
 
   brings-doctype_keyword : (held : List ℕ) (d : DoctypeOf) → brings (doctype_keyword rules.exact held d (c ∷ text)) (doctype_keyword_step rules.exact held d c)
   unfolding doctype_keyword doctype_keyword_step here slice_at brought rest_of
@@ -631,7 +659,7 @@ module _ (rules : Rules) (c : ℕ) (text : List ℕ) where
       (brings-if (begins_doctype_keyword (held ++ c ∷ [])) _ _ _ _ refl
       (ap (λ h. record { settled = keyword_error rules.exact held; here = h }) (follows-skipped_rest (with_quirks d)).0)))
 
-  pub rest_of-brought_at : (opened : Open) → brings (rest_of rules opened (c ∷ text)) (brought_at rules opened c)
+  pub rest_of-brought_at : (opened : Open) → brings (rest_of rules opened (c ∷ text)) (brought_at rules foreign opened c)
   unfolding rest_of brought_at step_at here slice_at brought next_slice
   rest_of-brought_at (Between mode) = brings-from (rest_of rules (Between mode) (c ∷ text)) _ (follows-between mode)
   rest_of-brought_at LessThan = brings-from (rest_of rules LessThan (c ∷ text)) _ follows-behind_less_than
@@ -643,5 +671,6 @@ module _ (rules : Rules) (c : ℕ) (text : List ℕ) where
   rest_of-brought_at (InBogusComment before) = brings-from (rest_of rules (InBogusComment before) (c ∷ text)) _ (follows-bogus_comment before)
   rest_of-brought_at (InDoctype place d) = brings-from (rest_of rules (InDoctype place d) (c ∷ text)) _ (follows-doctype place d)
   rest_of-brought_at (InDoctypeKeyword held d) = brings-doctype_keyword held d
+  rest_of-brought_at (InCdata held) = brings-from (rest_of rules (InCdata held) (c ∷ text)) _ (follows-cdata held)
   rest_of-brought_at (InReference stand held) = brings-reference stand held (is_undecided rules.names (held ++ c ∷ [])) refl
   rest_of-brought_at NotBuilt = refl

@@ -1,13 +1,17 @@
 -- What the machine tells of a text, with the lines that it counts.
 use Rattle.std.proofs.Common.{◌≡◌, ℕ, Bool, true, false, List, [], ◌∷◌, ◌++◌, refl, ap, sym, ◌∙◌}
-use Rattle.std.proofs.lemmas.Bool.{false≢true}
+use Rattle.std.proofs.Math.Bool.{and-false}
+use Rattle.std.proofs.lemmas.Bool.{false≢true, false_from_ne_true}
+use Rattle.std.specs.Cmp.Lexicographic.{same_text}
 use Rattle.std.specs.Prelude.{length, map}
+use Rattle.std.specs.Str.{bytes_eq}
 use Rattle.std.proofs.lemmas.List.{append-nil, map-append}
 use Rattle.html5ever_interface.specs.Sink.{Message, stepped, on_line}
 use Rattle.html5ever_interface.specs.Token.{Told, Reply}
 use Rattle.html5ever_interface.specs.Token.Told.{Tag}
 use Rattle.html5ever_interface.specs.Token.Reply.{KeepOn, ReadPlainText, ReadRawData, RunScript, SwitchEncoding}
 use Rattle.html5ever_interface.specs.declared.states.AttrValueKind.TheVariants.{Unquoted, SingleQuoted, DoubleQuoted}
+use Rattle.html5grammar.specs.Cdata.{cdata}
 use Rattle.html5grammar.specs.Cutting.{rest_of}
 use Rattle.html5grammar.specs.ErrorText.{bad_character_error}
 use Rattle.html5grammar.specs.Reading.{TextPlace, Event, Here, Brought, Read, events_at, late_events, messages, open_behind, last_behind, open_after_reply, with_events, read_here, read_from}
@@ -20,14 +24,14 @@ use Rattle.html5grammar.specs.Slice.{Late, cut_off, run_of, behind_run, run_whil
 use Rattle.html5grammar.specs.Start.{Start, Open, Rules, is_undecided_open}
 use Rattle.html5grammar.specs.Start.Place.{InName, BeforeAttribute, InAttributeName, AfterAttributeName, BeforeValue, InValue, AfterQuotedValue, AfterSolidus}
 use Rattle.html5grammar.specs.Start.DoctypePlace.{AfterWord, BeforeName, InDoctypeName, AfterName, AfterKeyword, BeforeIdentifier, InIdentifier, AfterIdentifier, BetweenIdentifiers, Skipped}
-use Rattle.html5grammar.specs.Start.Open.{Between, LessThan, LessThanSolidus, InTag, InRaw, InDeclaration, InComment, InBogusComment, InDoctype, InDoctypeKeyword, InReference, NotBuilt}
+use Rattle.html5grammar.specs.Start.Open.{Between, LessThan, LessThanSolidus, InTag, InRaw, InDeclaration, InComment, InBogusComment, InDoctype, InDoctypeKeyword, InCdata, InReference, NotBuilt}
 use Rattle.html5grammar.specs.Tag.{tag_name, behind_tag_name, attribute_behind_first, behind_attribute_name, behind_name_and_space, value_or_next, value_behind_space, value, quoted_value, behind_quoted, unquoted_value, behind_unquoted}
-use Rattle.html5grammar.specs.Comment.{declaration, comment, bogus_comment, behind_bogus_comment}
+use Rattle.html5grammar.specs.Comment.{begins_cdata, cdata_keyword, declaration, comment, bogus_comment, behind_bogus_comment}
 use Rattle.html5grammar.specs.Doctype.{doctype, before_doctype_name, behind_word_and_space, doctype_name, behind_doctype_name, behind_doctype_name_and_space, keyword_or_end, doctype_keyword, behind_keyword, identifier_behind_space, behind_keyword_and_space, identifier, behind_in_identifier, between_identifiers, behind_space_between, skipped_rest, behind_skipped_rest}
 use Rattle.html5grammar.specs.RawText.{behind_raw_less_than, end_name, behind_end_name, behind_mark, behind_mark_and_dash, switch, behind_switch}
 use Rattle.html5grammar.specs.Start.RawPlace.{AfterLessThan, InEndName, AfterMark, AfterMarkAndDash, InSwitch}
 use Rattle.html5grammar.specs.Text.{behind_less_than, behind_solidus}
-use Rattle.html5grammar.proofs.Machine.{step_at, brought_at}
+use Rattle.html5grammar.proofs.Machine.{step_at, declaration_answer_step, declaration_step, brought_at}
 use Rattle.html5grammar.proofs.Slices.{going, rest_of-brought_at, with_name-nil, with_last_name-nil, with_value-nil, with_doctype_name-nil, with_identifier-nil}
 
 -- the messages of a text, and what is open behind it, with the name of the last start tag
@@ -39,7 +43,7 @@ pub record Trace : Type 0 where
 abbrev pub with_messages : List Message → Trace → Trace
 with_messages M trace = record { messages = M ++ trace.messages; opened = trace.opened; last_start_tag = trace.last_start_tag }
 
-module _ {S H : Type 0} (step : S → Told → ℕ → S) (reply : S → Told → ℕ → Reply H) (rules : Rules) where
+module _ {S H : Type 0} (step : S → Told → ℕ → S) (reply : S → Told → ℕ → Reply H) (foreign : S → Bool) (rules : Rules) where
   -- what is told at a character, on its line, and then by what goes on
   unfoldable pub trace_here : (S → List ℕ → Open → Trace) → S → ℕ → List ℕ → ℕ → Here Open → Trace
   trace_here rest s line last c (Tells told opened) =
@@ -61,25 +65,26 @@ module _ {S H : Type 0} (step : S → Told → ℕ → S) (reply : S → Told �
   unfoldable pub trace : S → ℕ → List ℕ → Open → List ℕ → Trace
   trace s line last opened [] = record { messages = []; opened = opened; last_start_tag = last }
   trace s line last opened (c ∷ text) =
-      trace_brought (λ t name later. trace t (line_past line c) name later text) s line last c (brought_at rules opened c)
+      trace_brought (λ t name later. trace t (line_past line c) name later text) s line last c (brought_at rules (foreign s) opened c)
 
 -- a character decides nothing that stands before it where nothing is undecided
 
-pub brought-step : (rules : Rules) (opened : Open) (c : ℕ) → is_undecided_open opened ≡ false
-    → brought_at rules opened c ≡ record { settled = []; here = step_at rules.exact opened c }
+pub brought-step : (rules : Rules) (foreign : Bool) (opened : Open) (c : ℕ) → is_undecided_open opened ≡ false
+    → brought_at rules foreign opened c ≡ record { settled = []; here = step_at rules.exact opened c }
 unfolding brought_at step_at
-brought-step rules (Between mode) c h = refl
-brought-step rules LessThan c h = refl
-brought-step rules LessThanSolidus c h = refl
-brought-step rules (InTag place tag) c h = refl
-brought-step rules (InRaw place name) c h = refl
-brought-step rules (InDeclaration held) c h = absurd (false≢true (sym h))
-brought-step rules (InComment before) c h = refl
-brought-step rules (InBogusComment before) c h = refl
-brought-step rules (InDoctype place d) c h = refl
-brought-step rules (InDoctypeKeyword held d) c h = absurd (false≢true (sym h))
-brought-step rules (InReference stand held) c h = absurd (false≢true (sym h))
-brought-step rules NotBuilt c h = refl
+brought-step rules foreign (Between mode) c h = refl
+brought-step rules foreign LessThan c h = refl
+brought-step rules foreign LessThanSolidus c h = refl
+brought-step rules foreign (InTag place tag) c h = refl
+brought-step rules foreign (InRaw place name) c h = refl
+brought-step rules foreign (InDeclaration held) c h = absurd (false≢true (sym h))
+brought-step rules foreign (InComment before) c h = refl
+brought-step rules foreign (InBogusComment before) c h = refl
+brought-step rules foreign (InDoctype place d) c h = refl
+brought-step rules foreign (InDoctypeKeyword held d) c h = absurd (false≢true (sym h))
+brought-step rules foreign (InCdata held) c h = refl
+brought-step rules foreign (InReference stand held) c h = absurd (false≢true (sym h))
+brought-step rules foreign NotBuilt c h = refl
 
 abbrev is_stop : Here Open → Bool
 is_stop (Tells told opened) = false
@@ -87,26 +92,40 @@ is_stop (TellsTag told tag) = false
 is_stop (Stops told) = true
 
 -- nor where the machine goes on
-pub brought-tells : (rules : Rules) (opened : Open) (c : ℕ) (h : Here Open) → is_stop h ≡ false → step_at rules.exact opened c ≡ h
-    → brought_at rules opened c ≡ record { settled = []; here = h }
+pub brought-tells : (rules : Rules) (foreign : Bool) (opened : Open) (c : ℕ) (h : Here Open) → is_stop h ≡ false → step_at rules.exact opened c ≡ h
+    → brought_at rules foreign opened c ≡ record { settled = []; here = h }
 unfolding step_at
-brought-tells rules (Between mode) c h goes e = brought-step rules (Between mode) c refl ∙ rw e refl
-brought-tells rules LessThan c h goes e = brought-step rules LessThan c refl ∙ rw e refl
-brought-tells rules LessThanSolidus c h goes e = brought-step rules LessThanSolidus c refl ∙ rw e refl
-brought-tells rules (InTag place tag) c h goes e = brought-step rules (InTag place tag) c refl ∙ rw e refl
-brought-tells rules (InRaw place name) c h goes e = brought-step rules (InRaw place name) c refl ∙ rw e refl
-brought-tells rules (InDeclaration held) c h goes e = absurd (false≢true (sym goes ∙ sym (ap is_stop e)))
-brought-tells rules (InComment before) c h goes e = brought-step rules (InComment before) c refl ∙ rw e refl
-brought-tells rules (InBogusComment before) c h goes e = brought-step rules (InBogusComment before) c refl ∙ rw e refl
-brought-tells rules (InDoctype place d) c h goes e = brought-step rules (InDoctype place d) c refl ∙ rw e refl
-brought-tells rules (InDoctypeKeyword held d) c h goes e = absurd (false≢true (sym goes ∙ sym (ap is_stop e)))
-brought-tells rules (InReference stand held) c h goes e = absurd (false≢true (sym goes ∙ sym (ap is_stop e)))
-brought-tells rules NotBuilt c h goes e = brought-step rules NotBuilt c refl ∙ rw e refl
+brought-tells rules foreign (Between mode) c h goes e = brought-step rules foreign (Between mode) c refl ∙ rw e refl
+brought-tells rules foreign LessThan c h goes e = brought-step rules foreign LessThan c refl ∙ rw e refl
+brought-tells rules foreign LessThanSolidus c h goes e = brought-step rules foreign LessThanSolidus c refl ∙ rw e refl
+brought-tells rules foreign (InTag place tag) c h goes e = brought-step rules foreign (InTag place tag) c refl ∙ rw e refl
+brought-tells rules foreign (InRaw place name) c h goes e = brought-step rules foreign (InRaw place name) c refl ∙ rw e refl
+brought-tells rules foreign (InDeclaration held) c h goes e = absurd (false≢true (sym goes ∙ sym (ap is_stop e)))
+brought-tells rules foreign (InComment before) c h goes e = brought-step rules foreign (InComment before) c refl ∙ rw e refl
+brought-tells rules foreign (InBogusComment before) c h goes e = brought-step rules foreign (InBogusComment before) c refl ∙ rw e refl
+brought-tells rules foreign (InDoctype place d) c h goes e = brought-step rules foreign (InDoctype place d) c refl ∙ rw e refl
+brought-tells rules foreign (InDoctypeKeyword held d) c h goes e = absurd (false≢true (sym goes ∙ sym (ap is_stop e)))
+brought-tells rules foreign (InCdata held) c h goes e = brought-step rules foreign (InCdata held) c refl ∙ rw e refl
+brought-tells rules foreign (InReference stand held) c h goes e = absurd (false≢true (sym goes ∙ sym (ap is_stop e)))
+brought-tells rules foreign NotBuilt c h goes e = brought-step rules foreign NotBuilt c refl ∙ rw e refl
+
+-- the sink's answer decides nothing where no CDATA section can begin
+
+pub none_without_beginning : (text : List ℕ) → begins_cdata text ≡ false → bytes_eq text cdata_keyword ≡ false
+unfolding begins_cdata
+none_without_beginning text h = false_from_ne_true (bytes_eq text cdata_keyword) (λ e.
+    false≢true (sym h ∙ ap begins_cdata (same_text text cdata_keyword (sym e))))
+
+pub brought-unasked : (rules : Rules) (foreign other : Bool) (held : List ℕ) (c : ℕ) → begins_cdata (held ++ c ∷ []) ≡ false
+    → brought_at rules foreign (InDeclaration held) c ≡ brought_at rules other (InDeclaration held) c
+unfolding brought_at declaration_step declaration_answer_step
+brought-unasked rules foreign other held c h =
+    rw (none_without_beginning (held ++ c ∷ []) h, h, and-false foreign, and-false other) refl
 
 -- what is open where a slice has no more
 
 rest_of-nil : (rules : Rules) (opened : Open) → open_behind (rest_of rules opened []).behind ≡ opened
-unfolding rest_of tag_name behind_tag_name attribute_behind_first behind_attribute_name behind_name_and_space value_or_next value_behind_space value quoted_value behind_quoted unquoted_value behind_unquoted behind_less_than behind_solidus behind_raw_less_than end_name behind_end_name behind_mark behind_mark_and_dash switch behind_switch declaration comment bogus_comment behind_bogus_comment doctype before_doctype_name behind_word_and_space doctype_name behind_doctype_name behind_doctype_name_and_space keyword_or_end doctype_keyword behind_keyword identifier_behind_space behind_keyword_and_space identifier behind_in_identifier between_identifiers behind_space_between skipped_rest behind_skipped_rest reference_text behind_held run_while behind_while run_of behind_run
+unfolding rest_of tag_name behind_tag_name attribute_behind_first behind_attribute_name behind_name_and_space value_or_next value_behind_space value quoted_value behind_quoted unquoted_value behind_unquoted behind_less_than behind_solidus behind_raw_less_than end_name behind_end_name behind_mark behind_mark_and_dash switch behind_switch declaration cdata comment bogus_comment behind_bogus_comment doctype before_doctype_name behind_word_and_space doctype_name behind_doctype_name behind_doctype_name_and_space keyword_or_end doctype_keyword behind_keyword identifier_behind_space behind_keyword_and_space identifier behind_in_identifier between_identifiers behind_space_between skipped_rest behind_skipped_rest reference_text behind_held run_while behind_while run_of behind_run
 rest_of-nil rules (Between mode) = refl
 rest_of-nil rules LessThan = refl
 rest_of-nil rules LessThanSolidus = refl
@@ -139,6 +158,7 @@ rest_of-nil rules (InDoctype (AfterIdentifier kind) d) = refl
 rest_of-nil rules (InDoctype BetweenIdentifiers d) = refl
 rest_of-nil rules (InDoctype Skipped d) = refl
 rest_of-nil rules (InDoctypeKeyword held d) = refl
+rest_of-nil rules (InCdata held) = refl
 rest_of-nil rules (InReference stand held) = ap (InReference stand) (append-nil held)
 rest_of-nil rules NotBuilt = refl
 
@@ -164,7 +184,7 @@ pub record Traces (read : Read) (trace : Trace) : Type 0 where
   pub opened : read.opened ≡ trace.opened
   pub last_start_tag : read.last_start_tag ≡ trace.last_start_tag
 
-module _ {S H : Type 0} (step : S → Told → ℕ → S) (reply : S → Told → ℕ → Reply H) (rules : Rules) (K : Start) where
+module _ {S H : Type 0} (step : S → Told → ℕ → S) (reply : S → Told → ℕ → Reply H) (foreign : S → Bool) (rules : Rules) (K : Start) where
   messages-events_at : (before : List ℕ) (c : ℕ) (tokens : List Told)
       → messages (events_at K.input before c tokens) ≡ on_line (line_past (line_after K.input before) c) tokens
   unfolding events_at
@@ -182,14 +202,14 @@ module _ {S H : Type 0} (step : S → Told → ℕ → S) (reply : S → Told �
   -- what goes on behind c traces what goes on in the machine
   abbrev TracesBehind : List ℕ → ℕ → List ℕ → Type 0
   TracesBehind before c text = (t : S) (name : List ℕ) (opened : Open)
-      → Traces (read_from step reply rules K t name (before ++ c ∷ []) (rest_of rules opened text) text)
-      (trace step reply rules t (line_past (line_after K.input before) c) name opened text)
+      → Traces (read_from step reply foreign rules K t name (before ++ c ∷ []) (rest_of rules opened text) text)
+      (trace step reply foreign rules t (line_past (line_after K.input before) c) name opened text)
 
   traces-here : (s : S) (last : List ℕ) (before : List ℕ) (c : ℕ) (text : List ℕ) (h : Here Open)
       → TracesBehind before c text
       → Traces
-      (read_here step reply rules K (λ t name rest. read_from step reply rules K t name (before ++ c ∷ []) rest text) cut_off s last before c (going (λ opened. rest_of rules opened text) h))
-      (trace_here step reply rules (λ t name later. trace step reply rules t (line_past (line_after K.input before) c) name later text) s (line_past (line_after K.input before) c) last c h)
+      (read_here step reply foreign rules K (λ t name rest. read_from step reply foreign rules K t name (before ++ c ∷ []) rest text) cut_off s last before c (going (λ opened. rest_of rules opened text) h))
+      (trace_here step reply foreign rules (λ t name later. trace step reply foreign rules t (line_past (line_after K.input before) c) name later text) s (line_past (line_after K.input before) c) last c h)
   unfolding trace_here
   traces-here s last before c text (Tells told opened) ih =
       rw (line_after-past K.input before c)
@@ -216,18 +236,18 @@ module _ {S H : Type 0} (step : S → Told → ℕ → S) (reply : S → Told �
       → TracesBehind before c text
       → Traces
       (with_events (late_events K.input before (Character (length before)) next.settled)
-      (read_here step reply rules K (λ t name rest. read_from step reply rules K t name (before ++ c ∷ []) rest text) cut_off
+      (read_here step reply foreign rules K (λ t name rest. read_from step reply foreign rules K t name (before ++ c ∷ []) rest text) cut_off
       (stepped step s (on_line (line_after K.input before) (tokens_of_late next.settled))) last before c (going (λ opened. rest_of rules opened text) next.here)))
-      (trace_brought step reply rules (λ t name later. trace step reply rules t (line_past (line_after K.input before) c) name later text) s (line_after K.input before) last c next)
+      (trace_brought step reply foreign rules (λ t name later. trace step reply foreign rules t (line_past (line_after K.input before) c) name later text) s (line_after K.input before) last c next)
   unfolding trace_brought
   traces-brought s last before c text next ih =
       Traces-with _ _ _ _ (messages-late before (Character (length before)) next.settled) (traces-here _ last before c text next.here ih)
 
   pub traces : (s : S) (last : List ℕ) (before : List ℕ) (opened : Open) (text : List ℕ)
-      → Traces (read_from step reply rules K s last before (rest_of rules opened text) text) (trace step reply rules s (line_after K.input before) last opened text)
+      → Traces (read_from step reply foreign rules K s last before (rest_of rules opened text) text) (trace step reply foreign rules s (line_after K.input before) last opened text)
   unfolding read_from trace
   traces s last before opened [] = record { messages = refl; opened = rest_of-nil rules opened; last_start_tag = refl }
   traces s last before opened (c ∷ text) =
-      rw (rest_of-brought_at rules c text opened)
-      (traces-brought s last before c text (brought_at rules opened c)
+      rw (rest_of-brought_at rules (foreign s) c text opened)
+      (traces-brought s last before c text (brought_at rules (foreign s) opened c)
       (λ t name later. rw (← line_after-past K.input before c) (traces t name (before ++ c ∷ []) later text)))

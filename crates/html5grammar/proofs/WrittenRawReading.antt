@@ -9,7 +9,7 @@ use Rattle.std.proofs.lemmas.Str.{length-le-encodes}
 use Rattle.markup5ever.proofs.NameOrder.{bytes_eq-same}
 use Rattle.std.proofs.lemmas.Bool.{false≢true, and_parts, not-true, ne_eqb}
 use Rattle.std.proofs.lemmas.List.{append_assoc, append-nil}
-use Rattle.html5ever_interface.specs.Sink.{Message, stepped, on_line}
+use Rattle.html5ever_interface.specs.Sink.{Message, stepped}
 use Rattle.html5ever_interface.specs.Token.{Told, Reply}
 use Rattle.html5ever_interface.specs.Token.Told.{Tag, End}
 use Rattle.html5ever_interface.specs.Token.Reply.{KeepOn}
@@ -21,7 +21,6 @@ use Rattle.html5ever_interface.specs.declared.states.ScriptEscapeKind.TheVariant
 use Rattle.html5ever_interface.specs.declared.states.State.TheVariants as state
 use Rattle.html5grammar.specs.Characters.{solidus, less_than, greater_than, is_letter, is_white_space, shown, name_bytes}
 use Rattle.html5grammar.specs.EndOfInput.{raw_end_error, told_at_raw_end, late_at_end_of, open_at_end_of, told_at_end_of, tokens_at_end}
-use Rattle.html5grammar.specs.ErrorText.{bad_character_error}
 use Rattle.html5grammar.specs.NormalisedText.{normalised, line_after}
 use Rattle.html5grammar.specs.OneTag as one_tag
 use Rattle.html5grammar.specs.OneTag.{Part, WrittenTag, Spelled, spell, spell_silent, spell_parts, part_text, name_shown, all_attributes, end_place, tag_told, end_errors, spelled, spelled_messages}
@@ -30,7 +29,7 @@ use Rattle.html5grammar.specs.RawText.{texts, lower, ends_name, kind_of, ends_ra
 use Rattle.html5grammar.specs.Reading.{reading, told, messages, after, last_behind}
 use Rattle.html5grammar.specs.Reading.Here.{Tells}
 use Rattle.html5grammar.specs.Slice.{silent}
-use Rattle.html5grammar.specs.Start.{Input, Raw, OpenTag, Open, Start, Rules, is_undecided_open, begun}
+use Rattle.html5grammar.specs.Start.{Raw, OpenTag, Open, Start, Rules, is_undecided_open, begun}
 use Rattle.html5grammar.specs.Start.Mode.{Data, RawText}
 use Rattle.html5grammar.specs.Start.Place.{InName}
 use Rattle.html5grammar.specs.Start.Open.{Between, InTag, InRaw, NotBuilt}
@@ -38,7 +37,7 @@ use Rattle.html5grammar.specs.Start.RawPlace.{AfterLessThan, InEndName, AfterMar
 use Rattle.html5grammar.specs.Tag.{with_name, null_error, in_tag_name}
 use Rattle.html5grammar.specs.WrittenRaw.{RawItem, WrittenRaw, raw_behind_item, raw_behind_items, switch_text, item_text, items_text, written, next_is, is_double_escaped, can_stand, can_follow, is_raw, carried, carried_to, spell_text, spell_item, spell_items, carried_behind, spell_raw, raw_at_end, told_at_end, raw_messages, IsRawText}
 use Rattle.html5grammar.specs.WrittenRaw.RawItem.{Character, LessThan, Letters, Mark, Switch}
-use Rattle.html5grammar.proofs.Leading.{trace-goes}
+use Rattle.html5grammar.proofs.Leading.{trace-goes, spelled_messages-append}
 use Rattle.html5grammar.proofs.Machine.{step_at, raw_place_step, end_name_step, tag_name_end_step, tag_step, tag_name_step}
 use Rattle.html5grammar.proofs.OneTagParts.{Holds-none, Led, goes-parts, can_end-parts}
 use Rattle.html5grammar.proofs.OneTagReading.{characters, characters-append, characters-spell, characters-two, characters-parts, body, characters-body, ends-tag, trace-tag}
@@ -265,26 +264,14 @@ module _ (exact : Bool) (name : List ℕ) where
 
 -- ---- the messages
 
-spelled_messages-append : (exact : Bool) (input : Input) (before : List ℕ) (xs ys : List Spelled)
-    → spelled_messages exact input before (xs ++ ys) ≡ spelled_messages exact input before xs ++ spelled_messages exact input (before ++ characters xs) ys
-unfolding spelled_messages
-spelled_messages-append exact input before [] ys = rw (append-nil before) refl
-spelled_messages-append exact input before (here ∷ more) ys =
-    let past : List ℕ = before ++ here.character ∷ [] in
-    let M : List Message = on_line (line_after input past) (bad_character_error exact here.character ++ here.told) in
-    ap (λ l. M ++ l)
-    (spelled_messages-append exact input past more ys
-    ∙ ap (λ b. spelled_messages exact input past more ++ spelled_messages exact input b ys) (append_assoc before (here.character ∷ []) (characters more)))
-    ∙ sym (append_assoc M (spelled_messages exact input past more) (spelled_messages exact input (before ++ here.character ∷ characters more) ys))
-
-module _ {S H : Type 0} (step : S → Told → ℕ → S) (reply : S → Told → ℕ → Reply H) (rules : Rules) where
+module _ {S H : Type 0} (step : S → Told → ℕ → S) (reply : S → Told → ℕ → Reply H) (foreign : S → Bool) (rules : Rules) where
   -- where two places do the same at the next character, they tell the same
   trace-same : (s : S) (line : ℕ) (last : List ℕ) (a b : Open) (is_kind : ℕ → Bool) (text : List ℕ) → is_undecided_open a ≡ false → is_undecided_open b ≡ false
       → next_is is_kind text ≡ true → ((c : ℕ) → is_kind c ≡ true → step_at rules.exact a c ≡ step_at rules.exact b c)
-      → trace step reply rules s line last a text ≡ trace step reply rules s line last b text
+      → trace step reply foreign rules s line last a text ≡ trace step reply foreign rules s line last b text
   unfolding trace
   trace-same s line last a b is_kind [] no_a no_b h same = absurd (false≢true h)
-  trace-same s line last a b is_kind (c ∷ text) no_a no_b h same = rw (brought-step rules a c no_a, brought-step rules b c no_b, same c h) refl
+  trace-same s line last a b is_kind (c ∷ text) no_a no_b h same = rw (brought-step rules (foreign s) a c no_a, brought-step rules (foreign s) b c no_b, same c h) refl
 
   -- the sink keeps on behind the end tag, where there is one
   abbrev pub KeepsOn : Option WrittenTag → Type 0
@@ -294,7 +281,7 @@ module _ {S H : Type 0} (step : S → Told → ℕ → S) (reply : S → Told �
   record Reads (K : Start) (s : S) (X : List ℕ) (raw : Raw) (items : List RawItem) (end_tag : Option WrittenTag) : Type 0 where
     behind : Open
     last : List ℕ
-    trace_is : trace step reply rules s (line_after K.input []) K.last_start_tag K.opened (normalised K.input X)
+    trace_is : trace step reply foreign rules s (line_after K.input []) K.last_start_tag K.opened (normalised K.input X)
         ≡ record { messages = spelled_messages rules.exact K.input [] (spell_raw rules.exact raw (record { items = items; end_tag = end_tag })); opened = behind; last_start_tag = last }
     end_is : tokens_at_end rules behind ≡ told_at_end rules.exact raw items end_tag
     opened_is : IsBehind end_tag behind
@@ -310,7 +297,7 @@ module _ {S H : Type 0} (step : S → Told → ℕ → S) (reply : S → Told �
         last = K.last_start_tag;
         trace_is =
             rw (one.starts, one.text, ← characters-items rules.exact raw [] items [], append-nil cells)
-            (trace-goes step reply rules K.input [] s K.last_start_tag (Between (RawText raw name)) (opened_at name r.behind) cells [] r.goes
+            (trace-goes step reply foreign rules K.input [] s K.last_start_tag (Between (RawText raw name)) (opened_at name r.behind) cells [] r.goes
             ∙ ap (λ l. record { messages = l; opened = opened_at name r.behind; last_start_tag = K.last_start_tag }) (append-nil (spelled_messages rules.exact K.input [] cells)));
         end_is =
             tokens-standing rules name r.behind
@@ -366,11 +353,11 @@ module _ {S H : Type 0} (step : S → Told → ℕ → S) (reply : S → Told �
         last = last_behind K.last_start_tag (tag_told tag);
         trace_is =
             rw (one.starts, text-end_tag K X raw name items first rest parts one, ← cells, spelled_messages-append rules.exact K.input [] before (tail ++ end_cell rules.exact tag ∷ []))
-            (trace-goes step reply rules K.input [] s K.last_start_tag (Between (RawText raw name)) opened before (characters tail ++ greater_than ∷ []) r.goes
+            (trace-goes step reply foreign rules K.input [] s K.last_start_tag (Between (RawText raw name)) opened before (characters tail ++ greater_than ∷ []) r.goes
             ∙ ap (with_messages M)
             (trace-same later line K.last_start_tag opened (InTag InName named) ends_name (characters tail ++ greater_than ∷ []) refl refl begins
             (λ c ends. step-end_name rules.exact name r.kind (first ∷ rest) c ends (name_ends name first rest c ended.name_is ends))
-            ∙ trace-tag step reply rules K.input (characters before) later K.last_start_tag (InTag InName named) (InTag (end_place tag) led.behind) tail greater_than (end_errors rules.exact tag) (tag_told tag) keeps led.goes
+            ∙ trace-tag step reply foreign rules K.input (characters before) later K.last_start_tag (InTag InName named) (InTag (end_place tag) led.behind) tail greater_than (end_errors rules.exact tag) (tag_told tag) keeps led.goes
             (ends-tag rules.exact tag led.behind (can_end-parts InName parts refl) led.holds)));
         end_is = refl;
         opened_is = refl;
@@ -396,30 +383,30 @@ module _ {S H : Type 0} (step : S → Told → ℕ → S) (reply : S → Told �
   -- a text that is raw text, where the sink keeps on behind the end tag
   pub reading-raw : (K : Start) (s : S) (X : List ℕ) (raw : Raw) (name : List ℕ) (written_as : WrittenRaw)
       → KeepsOn written_as.end_tag → IsRawText K X raw name written_as
-      → messages (reading step reply rules K s X) ≡ raw_messages rules.exact K.input raw written_as
+      → messages (reading step reply foreign rules K s X) ≡ raw_messages rules.exact K.input raw written_as
   unfolding raw_messages
   reading-raw K s X raw name written_as keeps one =
       let r : Reads K s X raw written_as.items written_as.end_tag = reads_raw K s X raw name written_as.items written_as.end_tag keeps one in
-      ap messages (reading-events step reply rules K s X)
-      ∙ messages-append (told step reply rules K s X) _
-      ∙ ap (λ M. messages (told step reply rules K s X) ++ M) (messages-at_end step reply rules K s X)
-      ∙ rw (told-trace step reply rules K s X, after-opened step reply rules K s X, r.trace_is, r.end_is, one.text) refl
+      ap messages (reading-events step reply foreign rules K s X)
+      ∙ messages-append (told step reply foreign rules K s X) _
+      ∙ ap (λ M. messages (told step reply foreign rules K s X) ++ M) (messages-at_end step reply foreign rules K s X)
+      ∙ rw (told-trace step reply foreign rules K s X, after-opened step reply foreign rules K s X, r.trace_is, r.end_is, one.text) refl
 
   after-reads : (K : Start) (s : S) (X : List ℕ) (raw : Raw) (items : List RawItem) (end_tag : Option WrittenTag)
-      → Reads K s X raw items end_tag → IsBehind end_tag (after step reply rules K s X).opened
+      → Reads K s X raw items end_tag → IsBehind end_tag (after step reply foreign rules K s X).opened
   after-reads K s X raw items end_tag r =
-      subst (IsBehind end_tag) (sym (after-opened step reply rules K s X ∙ ap (λ (t : Trace). t.opened) r.trace_is)) r.opened_is
+      subst (IsBehind end_tag) (sym (after-opened step reply foreign rules K s X ∙ ap (λ (t : Trace). t.opened) r.trace_is)) r.opened_is
 
   pub after-raw : (K : Start) (s : S) (X : List ℕ) (raw : Raw) (name : List ℕ) (written_as : WrittenRaw)
       → KeepsOn written_as.end_tag → IsRawText K X raw name written_as
-      → (after step reply rules K s X).opened ≢ NotBuilt
+      → (after step reply foreign rules K s X).opened ≢ NotBuilt
   after-raw K s X raw name written_as keeps one e =
       let r : Reads K s X raw written_as.items written_as.end_tag = reads_raw K s X raw name written_as.items written_as.end_tag keeps one in
-      false≢true (sym (ap is_built e) ∙ built-behind written_as.end_tag (after step reply rules K s X).opened (after-reads K s X raw written_as.items written_as.end_tag r))
+      false≢true (sym (ap is_built e) ∙ built-behind written_as.end_tag (after step reply foreign rules K s X).opened (after-reads K s X raw written_as.items written_as.end_tag r))
 
   -- nothing is open behind an end tag
   pub after-raw_end_tag : (K : Start) (s : S) (X : List ℕ) (raw : Raw) (name : List ℕ) (items : List RawItem) (tag : WrittenTag)
       → KeepsOn (Some tag) → IsRawText K X raw name (record { items = items; end_tag = Some tag })
-      → (after step reply rules K s X).opened ≡ Between Data
+      → (after step reply foreign rules K s X).opened ≡ Between Data
   after-raw_end_tag K s X raw name items tag keeps one =
       after-reads K s X raw items (Some tag) (reads_raw K s X raw name items (Some tag) keeps one)

@@ -10,8 +10,8 @@ use Rattle.html5grammar.specs.Characters.{exclamation_mark, greater_than, lower_
 use Rattle.html5grammar.specs.Doctype.{doctype}
 use Rattle.html5grammar.specs.ErrorText.{error_in, where_true}
 use Rattle.html5grammar.specs.Slice.{Slice, Late, no_character, cut_off, one_character, with_character, with_run, run_of, behind_run}
-use Rattle.html5grammar.specs.Slice.Behind.{Settles}
-use Rattle.html5grammar.specs.Start.Mode.{Data}
+use Rattle.html5grammar.specs.Slice.Behind.{Settles, Asks}
+use Rattle.html5grammar.specs.Start.Mode.{Data, Cdata}
 use Rattle.html5grammar.specs.Start.Open.{Between, InDeclaration, InComment, InBogusComment}
 use Rattle.html5grammar.specs.Tag.{null_error}
 
@@ -108,7 +108,7 @@ bogus_comment_from exact before first c text =
 
 -- ---- behind `<!`
 
--- the keywords, one in any case. What is held of them is ASCII, so its characters are its bytes.
+-- the first two keywords, one in any case. What is held of them is ASCII, so its characters are its bytes.
 unfoldable pub begins_keyword : List ℕ → Bool
 begins_keyword held = starts_with nat_eq (codes "--") held || starts_with nat_eq (codes "doctype") (lower_case held)
 
@@ -117,11 +117,27 @@ abbrev pub declaration_error : Bool → List ℕ → List Late
 declaration_error exact held =
     record { token = error_in exact state.MarkupDeclarationOpen exclamation_mark; back = length held + 2; is_at = true; is_held = false } ∷ []
 
--- the first keyword with which the text behind `<!` begins decides, or the first character by which none begins
+-- the first keyword with which the text behind `<!` begins decides, or the first character by which neither of these two begins:
+-- there the sink is asked whether a CDATA section may begin
 unfoldable pub declaration : Bool → List ℕ → List ℕ → Slice
 declaration exact held [] = cut_off (InDeclaration held)
 declaration exact held (c ∷ text) =
     if bytes_eq (held ++ c ∷ []) (codes "--") then with_character [] (comment exact [] text)
     else if bytes_eq (lower_case (held ++ c ∷ [])) (codes "doctype") then with_character [] (doctype exact empty_doctype text)
     else if begins_keyword (held ++ c ∷ []) then with_character [] (declaration exact (held ++ c ∷ []) text)
+    else no_character (Asks held)
+
+-- the keyword of a CDATA section, in this case only
+abbrev pub cdata_keyword : List ℕ
+cdata_keyword = codes "[CDATA["
+
+unfoldable pub begins_cdata : List ℕ → Bool
+begins_cdata held = starts_with nat_eq cdata_keyword held
+
+-- where c goes on with neither of these two, by the sink's answer whether that is in foreign content: there a CDATA section begins
+-- behind its keyword, and else a bogus comment
+unfoldable pub declaration_by_answer : Bool → Bool → List ℕ → ℕ → List ℕ → Slice
+declaration_by_answer exact foreign held c text =
+    if foreign && bytes_eq (held ++ c ∷ []) cdata_keyword then one_character [] (Between Cdata)
+    else if foreign && begins_cdata (held ++ c ∷ []) then with_character [] (declaration exact (held ++ c ∷ []) text)
     else no_character (Settles (declaration_error exact held) (InBogusComment held))

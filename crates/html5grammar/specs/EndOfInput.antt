@@ -15,11 +15,11 @@ use Rattle.html5grammar.specs.RawText.{raw_state, texts, told_behind_less_than}
 use Rattle.html5grammar.specs.Start.{Raw, Place, RawPlace, DoctypePlace, Open, Rules, raw_of}
 use Rattle.html5grammar.specs.Start.Dashes.{NoDash}
 use Rattle.html5grammar.specs.Start.Raw.{Escaped, DoubleEscaped}
-use Rattle.html5grammar.specs.Start.Mode.{RawText}
+use Rattle.html5grammar.specs.Start.Mode.{RawText, Cdata}
 use Rattle.html5grammar.specs.Start.RawPlace.{AfterLessThan, InEndName, AfterMark, AfterMarkAndDash, InSwitch}
 use Rattle.html5grammar.specs.Start.Place.{InName, BeforeAttribute, InAttributeName, AfterAttributeName, BeforeValue, InValue, AfterQuotedValue, AfterSolidus}
 use Rattle.html5grammar.specs.Start.DoctypePlace.{AfterWord, BeforeName, InDoctypeName, AfterName, AfterKeyword, BeforeIdentifier, InIdentifier, AfterIdentifier, BetweenIdentifiers, Skipped}
-use Rattle.html5grammar.specs.Start.Open.{Between, LessThan, LessThanSolidus, InTag, InRaw, InDeclaration, InComment, InBogusComment, InDoctype, InDoctypeKeyword, InReference, NotBuilt}
+use Rattle.html5grammar.specs.Start.Open.{Between, LessThan, LessThanSolidus, InTag, InRaw, InDeclaration, InComment, InBogusComment, InDoctype, InDoctypeKeyword, InCdata, InReference, NotBuilt}
 
 -- the state that the error of a tag without its end names
 unfoldable pub state_at : Place → State
@@ -81,6 +81,7 @@ told_at_doctype_end exact place d = end_error_in exact (doctype_state_at place) 
 -- what is told at the end: a tag without its end is an error, and is not told
 unfoldable pub told_at_end_of : Bool → Open → List Told
 told_at_end_of exact (Between (RawText raw name)) = raw_end_error exact raw ++ End ∷ []
+told_at_end_of exact (Between Cdata) = end_error_in exact state.CdataSection ∷ End ∷ []
 told_at_end_of exact (Between mode) = End ∷ []
 told_at_end_of exact LessThan = end_error_in exact state.TagOpen ∷ Text (codes "<") ∷ End ∷ []
 told_at_end_of exact LessThanSolidus = end_error_in exact state.EndTagOpen ∷ Text (codes "<") ∷ Text (codes "/") ∷ End ∷ []
@@ -91,6 +92,7 @@ told_at_end_of exact (InComment text) = end_error_in exact (comment_state state.
 told_at_end_of exact (InBogusComment text) = Comment text ∷ End ∷ []
 told_at_end_of exact (InDoctype place d) = told_at_doctype_end exact place d ++ End ∷ []
 told_at_end_of exact (InDoctypeKeyword held d) = []
+told_at_end_of exact (InCdata held) = Text held ∷ end_error_in exact state.CdataSection ∷ End ∷ []
 told_at_end_of exact (InReference stand held) = []
 told_at_end_of exact NotBuilt = []
 

@@ -8,6 +8,7 @@ pub mod Tag
 pub mod Text
 pub mod Doctype
 pub mod Comment
+pub mod Cdata
 pub mod RawText
 pub mod EndOfInput
 pub mod Cutting
@@ -17,3 +18,4 @@ pub mod OneReference
 pub mod WrittenRaw
 pub mod OneComment
 pub mod OneDoctype
+pub mod OneCdata

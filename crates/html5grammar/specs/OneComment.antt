@@ -7,11 +7,10 @@ use Rattle.html5ever_interface.specs.Token.Told.{Comment, End}
 use Rattle.html5ever_interface.specs.declared.states.State.{State}
 use Rattle.html5ever_interface.specs.declared.states.State.TheVariants as state
 use Rattle.html5grammar.specs.Characters.{exclamation_mark, greater_than, question_mark, is_letter, value_bytes, lower_case}
-use Rattle.html5grammar.specs.Comment.{ends_in, without_last, is_lone_dash, in_bogus_comment, begins_keyword}
+use Rattle.html5grammar.specs.Comment.{ends_in, without_last, is_lone_dash, in_bogus_comment}
 use Rattle.html5grammar.specs.ErrorText.{error_in, where_true}
 use Rattle.html5grammar.specs.NormalisedText.{normalised, line_after}
 use Rattle.html5grammar.specs.OneTag.{Spelled, spell, spell_silent, spelled_messages}
-use Rattle.html5grammar.specs.Slice.{run_while, behind_while}
 use Rattle.html5grammar.specs.Start.{Input, Start}
 use Rattle.html5grammar.specs.Start.Mode.{Data}
 use Rattle.html5grammar.specs.Start.Open.{Between}
@@ -89,19 +88,21 @@ can_end_with content Bang = is_content content
 can_end_with content AtOnce = is_empty content
 can_end_with content AfterDash = is_empty content
 
--- behind `</` a letter begins a tag, and behind `<!` two dashes begin a comment and `doctype`, in any case, a doctype
-abbrev pub can_open : Opening → List ℕ → Bool
-can_open Solidus [] = false
-can_open Solidus (c ∷ content) = not (is_letter c)
-can_open QuestionMark [] = false
-can_open QuestionMark (c ∷ content) = c == question_mark
-can_open ExclamationMark content =
-    not (begins_with (codes "--") content) && not (begins_with (codes "doctype") (lower_case content))
+-- behind `</` a letter begins a tag, and behind `<!` two dashes begin a comment, `doctype`, in any case, a doctype, and `[CDATA[`
+-- in foreign content a CDATA section
+abbrev pub can_open : Bool → Opening → List ℕ → Bool
+can_open foreign Solidus [] = false
+can_open foreign Solidus (c ∷ content) = not (is_letter c)
+can_open foreign QuestionMark [] = false
+can_open foreign QuestionMark (c ∷ content) = c == question_mark
+can_open foreign ExclamationMark content =
+    not (begins_with (codes "--") content)
+    && (not (begins_with (codes "doctype") (lower_case content)) && not (foreign && begins_with (codes "[CDATA[") content))
 
--- whether this is a comment, written out: a bogus one ends at the first `>`
-unfoldable pub is_written : WrittenComment → Bool
-is_written (Proper content ending) = can_end_with content ending
-is_written (Bogus opening content) = can_open opening content && list_all in_bogus_comment content
+-- whether this is a comment, written out, in foreign content or not: a bogus one ends at the first `>`
+unfoldable pub is_written : Bool → WrittenComment → Bool
+is_written foreign (Proper content ending) = can_end_with content ending
+is_written foreign (Bogus opening content) = can_open foreign opening content && list_all in_bogus_comment content
 
 -- ---- what it tells
 
@@ -155,15 +156,8 @@ spell_odd exact expecting [] = []
 spell_odd exact expecting (c ∷ content) =
     record { character = c; told = error_in exact expecting c ∷ null_error exact state.BogusComment c } ∷ spell_bogus exact content
 
--- the longest beginning of a content that is a beginning of a keyword, and what follows it
-abbrev pub held_of : List ℕ → List ℕ
-held_of content = run_while begins_keyword [] content
-
-abbrev pub behind_held_of : List ℕ → List ℕ
-behind_held_of content = behind_while begins_keyword [] content
-
--- the messages of a comment. Where no keyword stands behind `<!`, that is an error on the line of its `!`, which is told when the
--- first character behind what could begin one shows it, before what that character tells.
+-- the messages of a comment. Where no keyword stands behind `<!`, that is an error on the line of its `!`, and what could have begun
+-- one tells nothing, so the error comes first.
 unfoldable pub messages_of : Bool → Input → WrittenComment → List Message
 messages_of exact input (Proper content ending) =
     spelled_messages exact input []
@@ -173,17 +167,16 @@ messages_of exact input (Bogus Solidus content) =
 messages_of exact input (Bogus QuestionMark content) =
     spelled_messages exact input [] (spell_silent (codes "<") ++ (spell_odd exact state.TagOpen content ++ spell_end [] content))
 messages_of exact input (Bogus ExclamationMark content) =
-    spelled_messages exact input [] (spell_silent (codes "<!" ++ held_of content))
-    ++ (on_line (line_after input (codes "<!")) (error_in exact state.MarkupDeclarationOpen exclamation_mark ∷ [])
-    ++ spelled_messages exact input (codes "<!" ++ held_of content) (spell_bogus exact (behind_held_of content) ++ spell_end [] content))
+    on_line (line_after input (codes "<!")) (error_in exact state.MarkupDeclarationOpen exclamation_mark ∷ [])
+    ++ spelled_messages exact input (codes "<!") (spell_bogus exact content ++ spell_end [] content)
 
 -- the messages of a text that is one comment
 unfoldable pub comment_messages : Bool → Input → WrittenComment → List Message
 comment_messages exact input comment =
     messages_of exact input comment ++ record { token = End; line = line_after input (written comment) } ∷ []
 
--- the text X, read from the start K, is this comment, written out
-pub record IsComment (K : Start) (X : List ℕ) (comment : WrittenComment) : Type 0 where
+-- the text X, read from the start K, in foreign content or not, is this comment, written out
+pub record IsComment (K : Start) (foreign : Bool) (X : List ℕ) (comment : WrittenComment) : Type 0 where
   pub starts : K.opened ≡ Between Data
-  pub is_comment : is_written comment ≡ true
+  pub is_comment : is_written foreign comment ≡ true
   pub text : normalised K.input X ≡ written comment

@@ -4,16 +4,17 @@ use Rattle.html5ever_interface.specs.Sink.{Message, stepped, on_line}
 use Rattle.html5ever_interface.specs.Token.{Told, TagOf, Reply}
 use Rattle.html5ever_interface.specs.Token.Told.{Tag}
 use Rattle.html5ever_interface.specs.Token.Reply.{KeepOn, ReadPlainText, ReadRawData, RunScript, SwitchEncoding}
+use Rattle.html5grammar.specs.Comment.{declaration_by_answer}
 use Rattle.html5grammar.specs.Cutting.{rest_of, slice_at}
 use Rattle.html5grammar.specs.EndOfInput.{late_at_end_of, open_at_end_of, told_at_end_of}
 use Rattle.html5grammar.specs.ErrorText.{bad_character_error}
 use Rattle.html5grammar.specs.NormalisedText.{normalised, line_after, input_after}
 use Rattle.html5grammar.specs.Slice.{Slice, Cell, Behind, Late, cut_off, tokens_of_late}
 use Rattle.html5grammar.specs.Slice.Cell.{Says, Ends, Returns}
-use Rattle.html5grammar.specs.Slice.Behind.{Leaves, StopsAt, Settles}
+use Rattle.html5grammar.specs.Slice.Behind.{Leaves, StopsAt, Settles, Asks}
 use Rattle.html5grammar.specs.Start.{Input, Start, Open, Rules, raw_of}
 use Rattle.html5grammar.specs.Start.Mode.{Data, Plain, RawText}
-use Rattle.html5grammar.specs.Start.Open.{Between, NotBuilt}
+use Rattle.html5grammar.specs.Start.Open.{Between, InDeclaration, NotBuilt}
 use Rattle.html5grammar.specs.Tag.{is_end_tag}
 
 -- a character of the normalised text, counted from 0, the place directly before it, or the end of input
@@ -80,21 +81,30 @@ at_first rules text (Returns late opened ∷ cells) behind = Stops []
 at_first rules text [] (Leaves before opened) = Stops before
 at_first rules text [] (StopsAt before) = Stops before
 at_first rules text [] (Settles late opened) = Stops []
+at_first rules text [] (Asks held) = Stops []
 
 unfoldable pub here : Rules → Slice → ℕ → List ℕ → Here Slice
 here rules slice c text =
     let next : Slice = slice_at rules slice.cells slice.behind c text in
     at_first rules text next.cells next.behind
 
-abbrev pub brought_by : Rules → List Cell → Behind → ℕ → List ℕ → Brought Slice
-brought_by rules [] (Settles late opened) c text =
+-- what a character brings where the sink is not asked
+abbrev pub brought_without_answer : Rules → List Cell → Behind → ℕ → List ℕ → Brought Slice
+brought_without_answer rules [] (Settles late opened) c text =
     record { settled = late; here = here rules (rest_of rules opened (c ∷ text)) c text }
-brought_by rules (Returns late opened ∷ cells) behind c text =
+brought_without_answer rules (Returns late opened ∷ cells) behind c text =
     record { settled = late; here = Tells [] (rest_of rules opened text) }
-brought_by rules cells behind c text = record { settled = []; here = here rules (record { cells = cells; behind = behind }) c text }
+brought_without_answer rules cells behind c text = record { settled = []; here = here rules (record { cells = cells; behind = behind }) c text }
 
-unfoldable pub brought : Rules → Slice → ℕ → List ℕ → Brought Slice
-brought rules slice c text = brought_by rules slice.cells slice.behind c text
+-- the sink's answer about foreign content decides where it is asked
+abbrev pub brought_by : Rules → Bool → List Cell → Behind → ℕ → List ℕ → Brought Slice
+brought_by rules foreign [] (Asks held) c text =
+    let asked : Slice = declaration_by_answer rules.exact foreign held c text in
+    brought_without_answer rules asked.cells asked.behind c text
+brought_by rules foreign cells behind c text = brought_without_answer rules cells behind c text
+
+unfoldable pub brought : Rules → Bool → Slice → ℕ → List ℕ → Brought Slice
+brought rules foreign slice c text = brought_by rules foreign slice.cells slice.behind c text
 
 -- the events of a text, and what is open behind it, with the name of the last start tag
 pub record Read : Type 0 where
@@ -110,6 +120,7 @@ abbrev pub open_behind : Behind → Open
 open_behind (Leaves before opened) = opened
 open_behind (StopsAt before) = NotBuilt
 open_behind (Settles late opened) = opened
+open_behind (Asks held) = InDeclaration held
 
 -- the name of the last start tag behind a tag
 unfoldable pub last_behind : List ℕ → TagOf → List ℕ
@@ -123,7 +134,7 @@ open_after_reply last (ReadRawData kind) = Between (RawText (raw_of kind) last)
 open_after_reply last (RunScript handle) = Between Data
 open_after_reply last (SwitchEncoding text) = Between Data
 
-module _ {S H : Type 0} (step : S → Told → ℕ → S) (reply : S → Told → ℕ → Reply H) (rules : Rules) (K : Start) where
+module _ {S H : Type 0} (step : S → Told → ℕ → S) (reply : S → Told → ℕ → Reply H) (foreign : S → Bool) (rules : Rules) (K : Start) where
   -- the events at the place of c, and those behind it, which `rest` reads from a sink's state and what goes on
   abbrev pub read_here : {G : Type 0} → (S → List ℕ → G → Read) → (Open → G) → S → List ℕ → List ℕ → ℕ → Here G → Read
   read_here rest begin s last before c (Tells told goes_on) =
@@ -140,11 +151,12 @@ module _ {S H : Type 0} (step : S → Told → ℕ → S) (reply : S → Told �
       record { events = events_at K.input before c told; opened = NotBuilt; last_start_tag = last }
 
   -- the events at the places of a text, with `before` in front of it, where the sink has the state s and the last start tag
-  -- had the name `last`
+  -- had the name `last`. The sink is asked about foreign content in the state behind all events before the `<!`, since nothing is
+  -- told between that and the answer.
   unfoldable pub read_from : S → List ℕ → List ℕ → Slice → List ℕ → Read
   read_from s last before slice [] = record { events = []; opened = open_behind slice.behind; last_start_tag = last }
   read_from s last before slice (c ∷ text) =
-      let next : Brought Slice = brought rules slice c text in
+      let next : Brought Slice = brought rules (foreign s) slice c text in
       with_events (late_events K.input before (Character (length before)) next.settled)
       (read_here (λ t name rest. read_from t name (before ++ c ∷ []) rest text) cut_off
       (stepped step s (on_line (line_after K.input before) (tokens_of_late next.settled))) last before c next.here)

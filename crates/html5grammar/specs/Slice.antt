@@ -29,6 +29,9 @@ pub data Behind : Type 0 where
   StopsAt : List Told → Behind
   -- the next character, or the end, decides what is told before it, and then this is open
   Settles : List Late → Open → Behind
+  -- behind `<!` and what is held the next character begins no comment and no doctype: whether a CDATA section may begin there is
+  -- asked of the sink
+  Asks : List ℕ → Behind
 
 pub record Slice : Type 0 where
   -- what is told at each character

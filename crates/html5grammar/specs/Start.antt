@@ -36,6 +36,8 @@ pub data Mode : Type 0 where
   Plain : Mode
   -- with the name whose end tag ends the text; the empty name is none
   RawText : Raw → List ℕ → Mode
+  -- inside a CDATA section of which no text is held
+  Cdata : Mode
 
 -- a tag that was begun, with its texts in bytes
 pub record OpenTag : Type 0 where
@@ -128,6 +130,8 @@ pub data Open : Type 0 where
   InDoctype : DoctypePlace → DoctypeOf → Open
   -- behind a doctype's name and white space, with the characters, at least one, that may begin `public` or `system`
   InDoctypeKeyword : List ℕ → DoctypeOf → Open
+  -- inside a CDATA section, with its text that is not told yet, in bytes: it is never empty, and its brackets belong to it
+  InCdata : List ℕ → Open
   -- a reference that is not decided, with the characters behind its `&`
   InReference : Stand → List ℕ → Open
   -- the text met what is not built yet: nothing more is told
@@ -192,6 +196,7 @@ raw_of (raw_kind.ScriptDataEscaped kind) = escaped kind NoDash
 abbrev pub initial_mode : Option State → List ℕ → Mode
 initial_mode (Some state.Plaintext) last_start_tag = Plain
 initial_mode (Some (state.RawData kind)) last_start_tag = RawText (raw_of kind) last_start_tag
+initial_mode (Some state.CdataSection) last_start_tag = Cdata
 initial_mode _ last_start_tag = Data
 
 -- the name that the options give the last start tag

@@ -2,7 +2,7 @@
 //! stand the laws that readers of a text in pieces rest on.
 #![tactic(auto)]
 
-ghost use Rattle.std.specs.Prelude.{◌≡◌, ◌≢◌, ℕ, List, [], ◌++◌, true, codes, None, Some, if◌then◌else◌};
+ghost use Rattle.std.specs.Prelude.{◌≡◌, ◌≢◌, ℕ, Bool, List, [], ◌++◌, true, false, codes, None, Some, if◌then◌else◌};
 ghost use Rattle.std.specs.List.{list_all};
 ghost use Rattle.std.specs.Str.{bytes_eq};
 ghost use Rattle.std.specs.Char.{is_ascii_alphanumeric};
@@ -11,6 +11,8 @@ ghost use Rattle.html5ever_interface.specs.Sink.{Message, stepped};
 ghost use Rattle.html5grammar.specs.Reading.{told, messages, after};
 ghost use Rattle.html5grammar.specs.Characters.{lower_case, number_sign};
 ghost use Rattle.html5grammar.specs.Doctype.{in_skipped_rest};
+ghost use Rattle.html5grammar.specs.OneCdata.{IsCdataText};
+ghost use Rattle.html5grammar.specs.OneComment.{occurs};
 ghost use Rattle.html5grammar.specs.OneDoctype.{IsDoctypeText};
 ghost use Rattle.html5grammar.specs.Reference.{first_or, is_undecided, longest_name};
 ghost use Rattle.html5grammar.specs.Slice.{run_of, run_while};
@@ -26,21 +28,21 @@ use std::alloc::Allocator;
 /// forget all but that start, wherever a text is cut.
 pub fn forgetting<S: TokenSink<Token<A>>, A: Allocator>()
     ensures told { (rules : Rules) (K : Start) (s : S.State) (text rest : List ℕ) →
-        messages (told S.step S.reply rules K s (text ++ rest))
-        ≡ messages (told S.step S.reply rules K s text)
-        ++ messages (told S.step S.reply rules (after S.step S.reply rules K s text)
-        (stepped S.step s (messages (told S.step S.reply rules K s text))) rest) }
+        messages (told S.step S.reply S.foreign rules K s (text ++ rest))
+        ≡ messages (told S.step S.reply S.foreign rules K s text)
+        ++ messages (told S.step S.reply S.foreign rules (after S.step S.reply S.foreign rules K s text)
+        (stepped S.step s (messages (told S.step S.reply S.foreign rules K s text))) rest) }
     ensures after { (rules : Rules) (K : Start) (s : S.State) (text rest : List ℕ) →
-        after S.step S.reply rules K s (text ++ rest)
-        ≡ after S.step S.reply rules (after S.step S.reply rules K s text)
-        (stepped S.step s (messages (told S.step S.reply rules K s text))) rest }
+        after S.step S.reply S.foreign rules K s (text ++ rest)
+        ≡ after S.step S.reply S.foreign rules (after S.step S.reply S.foreign rules K s text)
+        (stepped S.step s (messages (told S.step S.reply S.foreign rules K s text))) rest }
 {}
 
 /// What is told of a text is a beginning of what is told of it and more.
 pub fn beginning<S: TokenSink<Token<A>>, A: Allocator>()
     ensures { (rules : Rules) (K : Start) (s : S.State) (text rest : List ℕ) → (later : List Message)
-        × (messages (told S.step S.reply rules K s (text ++ rest))
-        ≡ messages (told S.step S.reply rules K s text) ++ later) }
+        × (messages (told S.step S.reply S.foreign rules K s (text ++ rest))
+        ≡ messages (told S.step S.reply S.foreign rules K s text) ++ later) }
 {}
 
 /// Names behind an `&` that no `#` follows: the longest name that begins what is held when a reference
@@ -61,4 +63,12 @@ pub fn longest_name_of_text()
 pub fn each_doctype()
     ensures { (word text : List ℕ) → bytes_eq (lower_case word) (codes "doctype") ≡ true
         → list_all in_skipped_rest text ≡ true → IsDoctypeText word text }
+{}
+
+/// Each text in which `]]>` stands nowhere is that of one CDATA section, written out, between its
+/// `<![CDATA[` and its `]]>`, or without one of them or both. So what is said of one section is said
+/// of all.
+pub fn each_cdata()
+    ensures { (has_opening is_ended : Bool) (text : List ℕ) → occurs (codes "]]>") text ≡ false
+        → IsCdataText has_opening is_ended text }
 {}

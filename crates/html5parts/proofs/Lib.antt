@@ -5,3 +5,4 @@ pub mod Keywords
 pub mod LongestName
 pub mod Numbers
 pub mod RunSteps
+pub mod Sections

@@ -10,16 +10,16 @@ use Rattle.html5grammar.specs.Reading.Here.{Tells}
 use Rattle.html5grammar.specs.Start.{Open}
 use Rattle.html5grammar.specs.Start.Dashes.{NoDash, OneDash, TwoDashes}
 use Rattle.html5grammar.specs.Start.Raw.{Rcdata, Rawtext, ScriptData, Escaped, DoubleEscaped}
-use Rattle.html5grammar.specs.Start.Mode.{Data, Plain, RawText}
+use Rattle.html5grammar.specs.Start.Mode.{Data, Plain, RawText, Cdata}
 use Rattle.html5grammar.specs.Start.Place.{InName, BeforeAttribute, InAttributeName, AfterAttributeName, BeforeValue, InValue, AfterQuotedValue, AfterSolidus}
-use Rattle.html5grammar.specs.Start.Open.{Between, LessThan, LessThanSolidus, InTag, InRaw, InDeclaration, InComment, InBogusComment, InDoctype, InDoctypeKeyword, InReference, NotBuilt}
+use Rattle.html5grammar.specs.Start.Open.{Between, LessThan, LessThanSolidus, InTag, InRaw, InDeclaration, InComment, InBogusComment, InDoctype, InDoctypeKeyword, InCdata, InReference, NotBuilt}
 use Rattle.html5grammar.specs.Tag.{in_tag_name, in_attribute_name, in_quoted, in_unquoted, unquoted_error, is_odd_in_name}
 use Rattle.std.proofs.lemmas.List.{append-nil}
 use Rattle.html5grammar.specs.Comment.{ends_in, comment_errors, mark_error}
 use Rattle.html5parts.proofs.CommentEnds.{NoDashLast, comment_ends, ends_in_dash-none, ends_in_mark-none, value_bytes-last}
 use Rattle.html5grammar.specs.RawText.{raw_character, raw_behind, dashes_behind}
 use Rattle.html5grammar.specs.Text.{plain_text}
-use Rattle.html5grammar.proofs.Machine.{step_at, tag_step, data_step, raw_step, comment_step, bogus_comment_step, tag_name_step, attribute_name_step, quoted_step, unquoted_step}
+use Rattle.html5grammar.proofs.Machine.{step_at, tag_step, data_step, raw_step, comment_step, bogus_comment_step, cdata_step, tag_name_step, attribute_name_step, quoted_step, unquoted_step}
 use Rattle.html5grammar.proofs.Slices.{with_name-nil, with_last_name-nil, with_value-nil, with_name-cons, with_last_name-cons, with_value-cons, bytes-cons}
 use Rattle.html5parts.specs.Runs.{other_run_ends, run_ends, opened_after_run, run_tokens}
 
@@ -52,6 +52,7 @@ opened_after_run-nil (InComment text) = ap InComment (append-nil text)
 opened_after_run-nil (InBogusComment text) = ap InBogusComment (append-nil text)
 opened_after_run-nil (InDoctype place doctype) = refl
 opened_after_run-nil (InDoctypeKeyword held doctype) = refl
+opened_after_run-nil (InCdata text) = ap InCdata (append-nil text)
 opened_after_run-nil (InReference stand held) = refl
 opened_after_run-nil NotBuilt = refl
 
@@ -74,6 +75,7 @@ opened_after_run-cons (InComment text) c run = ap InComment (bytes-cons value_by
 opened_after_run-cons (InBogusComment text) c run = ap InBogusComment (bytes-cons value_bytes text c run)
 opened_after_run-cons (InDoctype place doctype) c run = refl
 opened_after_run-cons (InDoctypeKeyword held doctype) c run = refl
+opened_after_run-cons (InCdata text) c run = ap InCdata (bytes-cons encode_utf8 text c run)
 opened_after_run-cons (InReference stand held) c run = refl
 opened_after_run-cons NotBuilt c run = refl
 
@@ -100,6 +102,7 @@ other_run_ends-after (InComment text) others c has out =
 other_run_ends-after (InBogusComment text) others c has out = refl
 other_run_ends-after (InDoctype place doctype) others c has out = refl
 other_run_ends-after (InDoctypeKeyword held doctype) others c has out = refl
+other_run_ends-after (InCdata text) others c has out = refl
 other_run_ends-after (InReference stand held) others c has out = refl
 other_run_ends-after NotBuilt others c has out = refl
 
@@ -123,6 +126,7 @@ run_tokens-cons (InComment text) c run = refl
 run_tokens-cons (InBogusComment text) c run = refl
 run_tokens-cons (InDoctype place doctype) c run = refl
 run_tokens-cons (InDoctypeKeyword held doctype) c run = refl
+run_tokens-cons (InCdata text) c run = refl
 run_tokens-cons (InReference stand held) c run = refl
 run_tokens-cons NotBuilt c run = refl
 
@@ -137,6 +141,7 @@ run_tokens-nil (InComment text) = refl
 run_tokens-nil (InBogusComment text) = refl
 run_tokens-nil (InDoctype place doctype) = refl
 run_tokens-nil (InDoctypeKeyword held doctype) = refl
+run_tokens-nil (InCdata text) = refl
 run_tokens-nil (InReference stand held) = refl
 run_tokens-nil NotBuilt = refl
 
@@ -159,10 +164,11 @@ no_carriage_return others c other = λ same. other (2, omega arith, sym same)
 -- a character that ends no run tells itself alone, or is put to the open name or value
 pub step-run : (opened : Open) (others : List ℕ) (c : ℕ) → other_run_ends opened ≡ Some others → ¬ Contains (run_ends others) c
     → step_at false opened c ≡ Tells (run_tokens opened (c ∷ [])) (opened_after_run opened (c ∷ []))
-unfolding step_at tag_step data_step plain_text raw_step raw_character raw_behind dashes_behind comment_step comment_errors mark_error bogus_comment_step tag_name_step attribute_name_step quoted_step unquoted_step in_tag_name in_attribute_name in_quoted in_unquoted unquoted_error is_odd_in_name is_white_space
+unfolding step_at tag_step data_step plain_text raw_step raw_character raw_behind dashes_behind comment_step comment_errors mark_error bogus_comment_step cdata_step tag_name_step attribute_name_step quoted_step unquoted_step in_tag_name in_attribute_name in_quoted in_unquoted unquoted_error is_odd_in_name is_white_space
 step-run (Between Data) others c has other =
     let out : ¬ Contains (run_ends (less_than ∷ ampersand ∷ [])) c = known (less_than ∷ ampersand ∷ []) others c has other in
     rw (no (less_than ∷ ampersand ∷ []) c out 3 less_than (lit< tt) refl, no (less_than ∷ ampersand ∷ []) c out 4 ampersand (lit< tt) refl, no (less_than ∷ ampersand ∷ []) c out 0 null (lit< tt) refl) refl
+step-run (Between Cdata) others c has other = absurd (none≢some has)
 step-run (Between Plain) others c has other = rw (no others c other 0 null (omega arith) refl) refl
 step-run (Between (RawText Rcdata name)) others c has other =
     let out : ¬ Contains (run_ends (less_than ∷ ampersand ∷ [])) c = known (less_than ∷ ampersand ∷ []) others c has other in
@@ -216,5 +222,8 @@ step-run (InBogusComment text) others c has other =
     rw (no (greater_than ∷ []) c out 3 greater_than (lit< tt) refl, no (greater_than ∷ []) c out 0 null (lit< tt) refl, append-nil (value_bytes c)) refl
 step-run (InDoctype place doctype) others c has other = absurd (none≢some has)
 step-run (InDoctypeKeyword held doctype) others c has other = absurd (none≢some has)
+step-run (InCdata text) others c has other =
+    let out : ¬ Contains (run_ends (greater_than ∷ [])) c = known (greater_than ∷ []) others c has other in
+    rw (no (greater_than ∷ []) c out 3 greater_than (lit< tt) refl, no (greater_than ∷ []) c out 0 null (lit< tt) refl, append-nil (encode_utf8 c)) refl
 step-run (InReference stand held) others c has other = absurd (none≢some has)
 step-run NotBuilt others c has other = absurd (none≢some has)

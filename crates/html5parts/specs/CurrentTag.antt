@@ -5,6 +5,7 @@ use Rattle.html5ever_interface.specs.Token.{DoctypeOf, doctype_of}
 use Rattle.html5ever_interface.specs.declared.states.ScriptEscapeKind.TheVariants as escape_kind
 use Rattle.html5ever_interface.specs.declared.states.State.{State}
 use Rattle.html5ever_interface.specs.declared.states.State.TheVariants as state
+use Rattle.html5grammar.specs.Cdata.{open_cdata}
 use Rattle.html5grammar.specs.Start.{OpenTag, Open, escaped, raw_of}
 use Rattle.html5grammar.specs.Start.Dashes.{OneDash, TwoDashes}
 use Rattle.html5grammar.specs.Start.Mode.{Data, Plain, RawText}
@@ -78,19 +79,21 @@ open_of (state.DoctypeIdentifierSingleQuoted kind) at = InDoctype (InIdentifier 
 open_of (state.AfterDoctypeIdentifier kind) at = InDoctype (AfterIdentifier kind) (doctype_of at.doctype)
 open_of state.BetweenDoctypePublicAndSystemIdentifiers at = InDoctype BetweenIdentifiers (doctype_of at.doctype)
 open_of state.BogusDoctype at = InDoctype Skipped (doctype_of at.doctype)
+open_of state.CdataSection at = open_cdata (string_bytes at.comment)
 open_of other at = NotBuilt
 
 abbrev pub opened_of : {Z : Type 0} → Opened Z → Open
 opened_of at = open_of at.state at
 
--- whether nothing is open in the state
-abbrev pub is_between : State → Bool
-is_between state.Data = true
-is_between state.Plaintext = true
-is_between (state.RawData kind) = true
-is_between (state.ScriptDataEscapedDash kind) = true
-is_between (state.ScriptDataEscapedDashDash kind) = true
-is_between other = false
+-- whether nothing is open in the state, where this is held
+abbrev pub is_between : State → List ℕ → Bool
+is_between state.Data held = true
+is_between state.Plaintext held = true
+is_between (state.RawData kind) held = true
+is_between (state.ScriptDataEscapedDash kind) held = true
+is_between (state.ScriptDataEscapedDashDash kind) held = true
+is_between state.CdataSection [] = true
+is_between other held = false
 
 -- whether a DOCTYPE is open in the state
 abbrev pub is_doctype_state : State → Bool
@@ -144,4 +147,5 @@ stops_at_bad (state.DoctypeIdentifierSingleQuoted kind) = false
 stops_at_bad (state.AfterDoctypeIdentifier kind) = false
 stops_at_bad state.BetweenDoctypePublicAndSystemIdentifiers = false
 stops_at_bad state.BogusDoctype = false
+stops_at_bad state.CdataSection = false
 stops_at_bad other = true

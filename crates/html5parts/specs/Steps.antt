@@ -5,7 +5,7 @@ use Rattle.html5grammar.specs.Reading.{Here}
 use Rattle.html5grammar.specs.Reading.Here.{Tells, TellsTag, Stops}
 use Rattle.html5grammar.specs.Start.{Open}
 use Rattle.html5grammar.specs.Start.Mode.{Data}
-use Rattle.html5grammar.specs.Start.Open.{Between, LessThan, LessThanSolidus, InTag, InRaw, InDeclaration, InComment, InBogusComment, InDoctype, InDoctypeKeyword, InReference, NotBuilt}
+use Rattle.html5grammar.specs.Start.Open.{Between, LessThan, LessThanSolidus, InTag, InRaw, InDeclaration, InComment, InBogusComment, InDoctype, InDoctypeKeyword, InCdata, InReference, NotBuilt}
 use Rattle.html5grammar.specs.Tag.{told_tag}
 use Rattle.html5parts.specs.CharRef.{begun_reference}
 use Rattle.html5parts.specs.CurrentTag.{open_tag, opened_of}
@@ -43,6 +43,7 @@ IsBuilt (InComment text) = Unit {0}
 IsBuilt (InBogusComment text) = Unit {0}
 IsBuilt (InDoctype place doctype) = Unit {0}
 IsBuilt (InDoctypeKeyword held doctype) = Unit {0}
+IsBuilt (InCdata text) = Unit {0}
 IsBuilt (InReference stand held) = Unit {0}
 IsBuilt NotBuilt = ⊥
 

@@ -2,6 +2,7 @@
 //! end one, and where a run within a tag goes. A run between tags is told as one text.
 ghost use Rattle.std.specs.Prelude.{◌≡◌, ℕ, [], false, ◌↔◌, ◌++◌, Contains, OnOk, IfSome, is_some, string_bytes, flat_map};
 ghost use Rattle.std.specs.Str.{chars};
+ghost use Rattle.html5grammar.specs.Cdata.{open_cdata};
 ghost use Rattle.html5grammar.specs.Characters.{name_bytes};
 ghost use Rattle.html5grammar.specs.Start.{is_clean, held_len};
 ghost use Rattle.html5grammar.specs.Start.{raw_of};
@@ -43,6 +44,19 @@ fn raw_ends(kind: RawKind) -> SmallCharSet
     }
 }
 
+// The characters that end a run in a CDATA section, where text of it is held.
+#[inline(always)]
+fn section_ends(text: &str) -> Option<SmallCharSet>
+    ensures has_runs { is_some result ≡ is_some (other_run_ends (open_cdata text.now)) }
+    ensures ends { IfSome result (λ set. IfSome (other_run_ends (open_cdata text.now)) (λ others.
+        (c : ℕ) → IsMember set c ↔ Contains (run_ends others) c)) }
+{
+    if text.is_empty() {
+        return None;
+    }
+    Some(SmallCharSet::of(b"\0\n\r>"))
+}
+
 /// The characters that end a run, where the state reads runs.
 #[inline(always)]
 pub fn run_ends<A: Allocator>(at: &Opened<A>) -> Option<SmallCharSet>
@@ -59,6 +73,7 @@ pub fn run_ends<A: Allocator>(at: &Opened<A>) -> Option<SmallCharSet>
         State::RawData(kind) => Some(raw_ends(kind)),
         State::Comment if !ends_in(&at.comment, b"-") => Some(SmallCharSet::of(b"\0\n\r->")),
         State::BogusComment => Some(SmallCharSet::of(b"\0\n\r>")),
+        State::CdataSection => section_ends(&at.comment),
         _ => None,
     }
 }
@@ -90,6 +105,7 @@ pub fn push_run<A: Allocator>(at: &mut Opened<A>, run: &str) -> Result<(), Alloc
         State::AttributeValue(_) => at.tag.attr_value.push_str(run)?,
         State::Comment => at.comment.push_str(run)?,
         State::BogusComment => at.comment.push_str(run)?,
+        State::CdataSection => at.comment.push_str(run)?,
         _ => unreachable!(),
     }
     Ok(())

@@ -22,6 +22,10 @@ pub record Printer : Type 0 where
 abbrev pub blank_page : Bool → Page
 blank_page foreign = record { lines = []; in_text = false; foreign = foreign }
 
+-- the answer about foreign content
+abbrev pub page_foreign : Page → Bool
+page_foreign page = page.foreign
+
 -- what comes before the bytes of a text, where `in_text` says that a text is open
 abbrev pub text_opening : Bool → List ℕ
 text_opening true = []

@@ -83,7 +83,7 @@ impl<A: Allocator> PrintSink<A> {
 
 impl<A: Allocator + Copy> TokenSink<Token<A>> for PrintSink<A> {
     ghost use Rattle.std.specs.Prelude.{◌≡◌};
-    ghost use Rattle.html5print.specs.Page.{Page, page_step, page_reply, page_faulted};
+    ghost use Rattle.html5print.specs.Page.{Page, page_step, page_reply, page_foreign, page_faulted};
     ghost use Rattle.html5print.specs.PageLaws.{page_joins, page_empty, page_any_line, page_keeps_on};
 
     type Handle = ();
@@ -98,7 +98,7 @@ impl<A: Allocator + Copy> TokenSink<Token<A>> for PrintSink<A> {
 
     ghost reply = { page_reply };
 
-    ghost foreign = { λ p. p.foreign };
+    ghost foreign = { page_foreign };
 
     ghost finish = { λ p. p };
 

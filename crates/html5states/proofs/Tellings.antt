@@ -42,6 +42,14 @@ encoded≢nil : (cs : List ℕ) → map (λ (c : ℕ). Text (encode_utf8 c)) cs 
 encoded≢nil [] filled = λ h. filled refl
 encoded≢nil (c ∷ cs) filled = λ h. cc
 
+texts≢nil : (cs : List ℕ) → cs ≢ [] → map (λ (c : ℕ). Text (encode_utf8 c)) cs ≢ []
+texts≢nil [] filled = λ e. filled refl
+texts≢nil (c ∷ cs) filled = λ e. cc
+
+-- a text that isn't empty has characters
+pub filled-text : (bytes : List ℕ) → IsUtf8 bytes → bytes ≢ [] → tokens_in (Text bytes) ≢ []
+filled-text bytes utf8 filled = texts≢nil (chars bytes) (λ none. filled (sym (encodes-chars bytes utf8) ∙ ap encode_utf8_all none))
+
 -- a token that is told says what the grammar has for it
 pub says-token : {Z : Type 0} → (token : Token Z) (line : ℕ) → tokens_in (told_by token) ≢ []
     → IsToldAs (told_by token) line (on_line line (tokens_in (told_by token)))
@@ -332,6 +340,35 @@ module _ {Q S Z : Type 0} {state : Q → S} {count : Q → ℕ} {step faulted : 
     tells = token-tells step faulted joins empty _ _ token _ steps;
     refusal = tt;
     faults = count ∙ sym (add-zero _);
+    kept = kept;
+  }
+
+  -- the same, of the token as it is handed on
+  pub emits_one : {before after : Teller Q Z} (token : Token Z)
+      → state after.sink.now ≡ step (state before.sink.now) (told_by token) before.line
+      → count after.sink.now ≡ count before.sink.now → IsKept before after
+      → Emits state count step faulted {T = Unit {0}} (Ok tt) before after (told_by token ∷ [])
+  unfolding stepped
+  emits_one token steps count kept = record { tells = steps; refusal = tt; faults = count ∙ sym (add-zero _); kept = kept }
+
+  pub emits_fault-one : {T : Type 0} {before after : Teller Q Z} (token : Token Z)
+      → state after.sink.now ≡ faulted (state before.sink.now) (told_by token) before.line
+      → count after.sink.now ≡ count before.sink.now + 1 → IsKept before after
+      → Emits state count step faulted {T = T} (Err Sink) before after (told_by token ∷ [])
+  unfolding stepped
+  emits_fault-one {before = before} token fault count kept = record {
+    tells = record {
+      before = [];
+      token = told_by token;
+      line = before.line;
+      next = on_line before.line (told_by token ∷ []);
+      rest = [];
+      parts = refl;
+      says = inl refl;
+      state = fault;
+    };
+    refusal = tt;
+    faults = count;
     kept = kept;
   }
 

@@ -34,8 +34,8 @@ const DOUBLE_ESCAPED: State = State::RawData(RawKind::ScriptDataEscaped(
 ));
 
 impl<S: TokenSink<Token<A>>, A: Allocator + Copy> Teller<'_, S, A> {
-    // Ends in a state that doesn't expect it.
-    fn end_unexpected(&mut self, state: State) -> Result<(), TokenizerError>
+    /// Ends in a state that doesn't expect it.
+    pub fn end_unexpected(&mut self, state: State) -> Result<(), TokenizerError>
         ensures { Emits S.state S.faults S.step S.faulted result self.old self.new
             (end_error_in self.old.exact_errors state ∷ End ∷ []) }
     {
@@ -183,6 +183,7 @@ impl<S: TokenSink<Token<A>>, A: Allocator + Copy> Teller<'_, S, A> {
             | State::ScriptDataEscapeStartDash => self.tell(Token::EOFToken),
             State::Comment => self.end_comment_text(&at.comment),
             State::BogusComment => self.end_behind_comment(&at.comment),
+            State::CdataSection => self.end_in_cdata(&at.comment),
             State::MarkupDeclarationOpen => unreachable!(),
             State::ScriptDataEscapeStart(ScriptEscapeKind::DoubleEscaped)
             | State::ScriptDataDoubleEscapeEnd => self.end_unexpected(DOUBLE_ESCAPED),

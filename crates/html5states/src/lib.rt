@@ -2,6 +2,7 @@
 #![tactic(auto)]
 
 mod attributes;
+mod cdata_states;
 mod comment_states;
 mod declaration;
 mod doctype_keyword;

@@ -36,12 +36,15 @@ impl<S, A: Drop> Drop for Teller<'_, S, A> {
 }
 
 impl<S: TokenSink<Token<A>>, A: Allocator + Copy> Teller<'_, S, A> {
-    /// Tells the sink a token that isn't a tag, so the tokenizer keeps on.
+    /// Hands the sink a token that isn't a tag, so the tokenizer keeps on. A text of several characters
+    /// is the same to a sink as each of them by itself.
     #[inline(always)]
-    pub fn tell(&mut self, token: Token<A>) -> Result<(), TokenizerError>
+    pub fn hand_on(&mut self, token: Token<A>) -> Result<(), TokenizerError>
         requires no_tag { is_tag (told_by token) ≡ false }
         requires filled { tokens_in (told_by token) ≢ [] }
-        ensures { Emits S.state S.faults S.step S.faulted result self.old self.new
+        ensures whole { Emits S.state S.faults S.step S.faulted result self.old self.new
+            (told_by token ∷ []) }
+        ensures characters { Emits S.state S.faults S.step S.faulted result self.old self.new
             (tokens_in (told_by token)) }
     {
         match self.sink.process_token(token, self.line) {
@@ -49,6 +52,17 @@ impl<S: TokenSink<Token<A>>, A: Allocator + Copy> Teller<'_, S, A> {
             Ok(_) => unreachable!(),
             Err(SinkFault) => Err(TokenizerError::Sink),
         }
+    }
+
+    /// Tells the sink a token that isn't a tag, a text by its characters.
+    #[inline(always)]
+    pub fn tell(&mut self, token: Token<A>) -> Result<(), TokenizerError>
+        requires no_tag { is_tag (told_by token) ≡ false }
+        requires filled { tokens_in (told_by token) ≢ [] }
+        ensures { Emits S.state S.faults S.step S.faulted result self.old self.new
+            (tokens_in (told_by token)) }
+    {
+        self.hand_on(token)
     }
 
     /// Tells the sink a text of one character.

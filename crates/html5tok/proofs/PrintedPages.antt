@@ -16,16 +16,16 @@ use Rattle.html5grammar.specs.NormalisedText.{normalised, line_after}
 use Rattle.html5grammar.specs.Reading.{Event, end_events, late_events, read, reading, told, messages, after}
 use Rattle.html5grammar.specs.Reading.TextPlace.{EndOfInput}
 use Rattle.html5grammar.specs.Start.{Start, Mode, Open, Rules, start_of}
-use Rattle.html5grammar.specs.Start.Mode.{Data, Plain, RawText}
+use Rattle.html5grammar.specs.Start.Mode.{Data, Plain, RawText, Cdata}
 use Rattle.html5grammar.specs.Start.DoctypePlace.{Skipped}
-use Rattle.html5grammar.specs.Start.Open.{Between, LessThan, LessThanSolidus, InTag, InRaw, InDeclaration, InComment, InBogusComment, InDoctype, InDoctypeKeyword, InReference, NotBuilt}
+use Rattle.html5grammar.specs.Start.Open.{Between, LessThan, LessThanSolidus, InTag, InRaw, InDeclaration, InComment, InBogusComment, InDoctype, InDoctypeKeyword, InCdata, InReference, NotBuilt}
 use Rattle.html5grammar.specs.Start.Place.{InValue}
 use Rattle.html5grammar.specs.Start.Stand.{InText, InAttribute}
 use Rattle.html5grammar.proofs.ReadingLemmas.{reading-events}
 use Rattle.html5grammar.proofs.Traces.{messages-append, messages-map}
 use Rattle.html5parts.specs.Steps.{IsBuilt}
 use Rattle.html5ever.specs.Tokenizer.{Tokenizing, StandsAt}
-use Rattle.html5print.specs.Page.{Page, Printer, page_step, page_reply, blank_page}
+use Rattle.html5print.specs.Page.{Page, Printer, page_step, page_reply, page_foreign, blank_page}
 use Rattle.html5print.proofs.Pages.{lines-stepped}
 use Rattle.html5tok.specs.Device.{ConsumesBeginning}
 use Rattle.html5tok.specs.Printing.{IsWholeBuilt, printed_reading}
@@ -39,6 +39,7 @@ between-ends : (exact : Bool) (mode : Mode) → EndsWithEnd (told_at_end_of exac
 unfolding told_at_end_of EndsWithEnd
 between-ends exact Data = ([], refl)
 between-ends exact Plain = ([], refl)
+between-ends exact Cdata = (end_error_in exact state.CdataSection ∷ [], refl)
 between-ends exact (RawText raw name) = (raw_end_error exact raw, refl)
 
 told_at_end_of-ends : (rules : Rules) (opened : Open) → IsBuilt opened → EndsWithEnd (told_at_end_of rules.exact (open_at_end_of rules opened))
@@ -53,6 +54,7 @@ told_at_end_of-ends rules (InComment text) built = (end_error_in rules.exact (co
 told_at_end_of-ends rules (InBogusComment text) built = (Comment text ∷ [], refl)
 told_at_end_of-ends rules (InDoctype place doctype) built = (told_at_doctype_end rules.exact place doctype, refl)
 told_at_end_of-ends rules (InDoctypeKeyword held doctype) built = (told_at_doctype_end rules.exact Skipped (with_quirks doctype), refl)
+told_at_end_of-ends rules (InCdata text) built = (Text text ∷ end_error_in rules.exact state.CdataSection ∷ [], refl)
 told_at_end_of-ends rules (InReference (InText mode) held) built = between-ends rules.exact mode
 told_at_end_of-ends rules (InReference (InAttribute kind tag) held) built = (end_error_in rules.exact (state_at (InValue kind)) ∷ [], refl)
 told_at_end_of-ends rules NotBuilt built = absurd built
@@ -64,25 +66,25 @@ module _ (rules : Rules) (K : Start) (p : Page) (X : List ℕ) where
 
   -- what the end decides of a reference
   abbrev late-events : List Event
-  late-events = late_events K.input (normalised K.input X) EndOfInput (late_at_end_of rules (read page_step reply rules K p X).opened)
+  late-events = late_events K.input (normalised K.input X) EndOfInput (late_at_end_of rules (read page_step reply page_foreign rules K p X).opened)
 
   front-messages : List Told → List Message
-  front-messages tokens = messages (told page_step reply rules K p X) ++ (messages late-events ++ on_line (line_after K.input (normalised K.input X)) tokens)
+  front-messages tokens = messages (told page_step reply page_foreign rules K p X) ++ (messages late-events ++ on_line (line_after K.input (normalised K.input X)) tokens)
 
-  reading-ends : (tokens : List Told) → told_at_end_of rules.exact (open_at_end_of rules (read page_step reply rules K p X).opened) ≡ tokens ++ End ∷ []
-      → messages (reading page_step reply rules K p X)
+  reading-ends : (tokens : List Told) → told_at_end_of rules.exact (open_at_end_of rules (read page_step reply page_foreign rules K p X).opened) ≡ tokens ++ End ∷ []
+      → messages (reading page_step reply page_foreign rules K p X)
       ≡ front-messages tokens ++ record { token = End; line = line_after K.input (normalised K.input X) } ∷ []
   unfolding end_events front-messages
   reading-ends tokens ends =
       let line : ℕ = line_after K.input (normalised K.input X) in
-      let front : List Message = messages (told page_step reply rules K p X) in
+      let front : List Message = messages (told page_step reply page_foreign rules K p X) in
       let end : List Message = record { token = End; line = line } ∷ [] in
-      ap (λ E. messages E) (reading-events page_step reply rules K p X)
-      ∙ messages-append (told page_step reply rules K p X) (end_events page_step reply rules K (read page_step reply rules K p X).opened (normalised K.input X))
+      ap (λ E. messages E) (reading-events page_step reply page_foreign rules K p X)
+      ∙ messages-append (told page_step reply page_foreign rules K p X) (end_events page_step reply page_foreign rules K (read page_step reply page_foreign rules K p X).opened (normalised K.input X))
       ∙ ap (λ M. front ++ M)
       (messages-append late-events _
       ∙ ap (λ M. messages late-events ++ M)
-      (messages-map _ _ (λ t. refl) (told_at_end_of rules.exact (open_at_end_of rules (read page_step reply rules K p X).opened))
+      (messages-map _ _ (λ t. refl) (told_at_end_of rules.exact (open_at_end_of rules (read page_step reply page_foreign rules K p X).opened))
       ∙ ap (on_line line) ends
       ∙ map-append (λ (token : Told). record { token = token; line = line }) tokens (End ∷ []))
       ∙ sym (append_assoc (messages late-events) (on_line line tokens) end))
@@ -91,21 +93,21 @@ module _ (rules : Rules) (K : Start) (p : Page) (X : List ℕ) where
 -- a page that a reading was printed to has its lines
 pub printed-page : (rules : Rules) (settings : SettingsOf) (p : Page) (bytes : List ℕ)
     → rules ≡ rules_said settings → p ≡ blank_page settings.foreign → IsWholeBuilt settings bytes
-    → (stepped page_step p (messages (reading page_step page_reply rules (start_of settings.opts) p (chars bytes)))).lines ≡ printed_reading settings bytes
+    → (stepped page_step p (messages (reading page_step page_reply page_foreign rules (start_of settings.opts) p (chars bytes)))).lines ≡ printed_reading settings bytes
 unfolding printed_reading EndsWithEnd
 printed-page rules settings p bytes same blank built =
-    let M : List Message = messages (reading page_step page_reply (rules_said settings) (start_of settings.opts) (blank_page settings.foreign) (chars bytes)) in
-    let ends = told_at_end_of-ends (rules_said settings) (read page_step page_reply (rules_said settings) (start_of settings.opts) (blank_page settings.foreign) (chars bytes)).opened built in
+    let M : List Message = messages (reading page_step page_reply page_foreign (rules_said settings) (start_of settings.opts) (blank_page settings.foreign) (chars bytes)) in
+    let ends = told_at_end_of-ends (rules_said settings) (read page_step page_reply page_foreign (rules_said settings) (start_of settings.opts) (blank_page settings.foreign) (chars bytes)).opened built in
     rw (same, blank) (lines-stepped (blank_page settings.foreign) M _ _ refl
     (reading-ends (rules_said settings) (start_of settings.opts) (blank_page settings.foreign) (chars bytes) ends.0 ends.1))
 
 -- a tokenizer that stands behind the text met nothing that isn't built yet
 pub built-reading : (settings : SettingsOf) (t : Tokenizing Printer) (p : Page) (bytes : List ℕ)
     → t.rules ≡ rules_said settings → p ≡ blank_page settings.foreign
-    → StandsAt (λ (sink : Printer). sink.page) page_step page_reply t (start_of settings.opts) p (chars bytes)
+    → StandsAt (λ (sink : Printer). sink.page) page_step page_reply page_foreign t (start_of settings.opts) p (chars bytes)
     → IsWholeBuilt settings bytes
 built-reading settings t p bytes rules blank stands =
-    let position : t.position ≡ after page_step page_reply (rules_said settings) (start_of settings.opts) (blank_page settings.foreign) (chars bytes) =
+    let position : t.position ≡ after page_step page_reply page_foreign (rules_said settings) (start_of settings.opts) (blank_page settings.foreign) (chars bytes) =
     stands.position ∙ rw (rules, blank) refl in
     subst (λ (P : Start). IsBuilt P.opened) position stands.built
 

@@ -11,7 +11,7 @@ use Rattle.std.specs.Option.{is_some, option_map, option_and_then, option_or}
 use Rattle.std.specs.Str.{bytes_eq, all_ascii_digits}
 use Rattle.std.proofs.lemmas.Bool.{false_from_ne_true, false≢true}
 use Rattle.std.proofs.lemmas.Slice.Eq.{bytes_eq-Decides}
-use Rattle.html5tok.specs.Settings.{SettingsOf, state_said, cut_said, flag_said, value_said, said_after, with_exact_errors, with_byte_order_mark, with_state, with_last, with_cut, with_table}
+use Rattle.html5tok.specs.Settings.{SettingsOf, state_said, cut_said, flag_said, value_said, said_after, with_exact_errors, with_byte_order_mark, with_foreign, with_state, with_last, with_cut, with_table}
 use Rattle.html5table.specs.Listed.{listed}
 use Rattle.markup5ever.specs.NamedReferences.{NamedReference}
 
@@ -52,6 +52,7 @@ differs w p n = false_from_ne_true (bytes_eq w p) (λ e. n ((bytes_eq-Decides w 
 pub record IsUnknown (w : List ℕ) : Type 0 where
   pub no_exact : w ≢ codes "--exact"
   pub no_keep_bom : w ≢ codes "--keep-bom"
+  pub no_foreign : w ≢ codes "--foreign"
   pub no_state : w ≢ codes "--state"
   pub no_last : w ≢ codes "--last"
   pub no_cut : w ≢ codes "--cut"
@@ -59,7 +60,7 @@ pub record IsUnknown (w : List ℕ) : Type 0 where
 
 flag_said-unknown : (s : SettingsOf) (w : List ℕ) → IsUnknown w → flag_said s w ≡ None
 unfolding flag_said
-flag_said-unknown s w unknown = rw (differs w (codes "--exact") unknown.no_exact, differs w (codes "--keep-bom") unknown.no_keep_bom) refl
+flag_said-unknown s w unknown = rw (differs w (codes "--exact") unknown.no_exact, differs w (codes "--keep-bom") unknown.no_keep_bom, differs w (codes "--foreign") unknown.no_foreign) refl
 
 value_said-unknown : (s : SettingsOf) (w v : List ℕ) → IsUnknown w → value_said s w v ≡ None
 unfolding value_said
@@ -84,6 +85,10 @@ exact_said s = (refl, λ v. refl)
 pub keep_bom_said : (s : SettingsOf) → (flag_said s (codes "--keep-bom") ≡ Some (with_byte_order_mark s)) × ((v : List ℕ) → value_said s (codes "--keep-bom") v ≡ None)
 unfolding flag_said value_said
 keep_bom_said s = (refl, λ v. refl)
+
+pub foreign_said : (s : SettingsOf) → (flag_said s (codes "--foreign") ≡ Some (with_foreign s)) × ((v : List ℕ) → value_said s (codes "--foreign") v ≡ None)
+unfolding flag_said value_said
+foreign_said s = (refl, λ v. refl)
 
 pub state_word : (s : SettingsOf) → (flag_said s (codes "--state") ≡ None) × ((v : List ℕ) → value_said s (codes "--state") v ≡ option_map (with_state s) (state_said v))
 unfolding flag_said value_said

@@ -3,7 +3,7 @@ use Rattle.std.specs.Prelude.{◌≡◌, ℕ, List, Option}
 use Rattle.std.specs.Io.KnownBytes.{Appends, Consumes, IsAtEnd, Keeps}
 use Rattle.std.specs.Str.{IsUtf8, chars}
 use Rattle.html5tok.specs.Device.{AppendsBeginning}
-use Rattle.html5print.specs.Page.{blank_page, page_step, page_reply}
+use Rattle.html5print.specs.Page.{blank_page, page_step, page_reply, page_foreign}
 use Rattle.html5print.specs.Printed.{printed}
 use Rattle.html5grammar.specs.Reading.{reading, messages, after}
 use Rattle.html5grammar.specs.Start.{Open, start_of}
@@ -14,12 +14,12 @@ use Rattle.html5parts.specs.Steps.{IsBuilt}
 -- the printed lines of the reading of a text, whose bytes are given: the cut is not in it
 unfoldable pub printed_reading : SettingsOf → List ℕ → List ℕ
 printed_reading settings bytes =
-    printed (messages (reading page_step page_reply (rules_said settings) (start_of settings.opts) (blank_page settings.foreign) (chars bytes)))
+    printed (messages (reading page_step page_reply page_foreign (rules_said settings) (start_of settings.opts) (blank_page settings.foreign) (chars bytes)))
 
 -- what is open behind the text of the bytes
 abbrev pub open_behind_text : SettingsOf → List ℕ → Open
 open_behind_text settings bytes =
-    (after page_step page_reply (rules_said settings) (start_of settings.opts) (blank_page settings.foreign) (chars bytes)).opened
+    (after page_step page_reply page_foreign (rules_said settings) (start_of settings.opts) (blank_page settings.foreign) (chars bytes)).opened
 
 -- the text of the bytes meets nothing that isn't built yet
 abbrev pub IsWholeBuilt : SettingsOf → List ℕ → Type 0

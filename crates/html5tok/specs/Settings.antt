@@ -8,7 +8,7 @@ use Rattle.html5table.specs.Profile.{profile_entries}
 use Rattle.markup5ever.specs.NamedReferences.{NamedReference, table_of}
 use Rattle.html5ever_interface.specs.Options.{OptionsOf, default_options}
 use Rattle.html5ever_interface.specs.declared.states.State.{State}
-use Rattle.html5ever_interface.specs.declared.states.State.TheVariants.{Data, Plaintext, RawData}
+use Rattle.html5ever_interface.specs.declared.states.State.TheVariants.{Data, Plaintext, RawData, CdataSection}
 use Rattle.html5ever_interface.specs.declared.states.RawKind.TheVariants.{Rcdata, Rawtext, ScriptData}
 use Rattle.html5grammar.specs.Start.{Rules}
 use Rattle.html5ever.specs.Tokenizer.{rules_of}
@@ -45,6 +45,9 @@ with_exact_errors s = record s { opts = record s.opts { exact_errors = true } }
 abbrev pub with_byte_order_mark : SettingsOf → SettingsOf
 with_byte_order_mark s = record s { opts = record s.opts { discard_bom = false } }
 
+abbrev pub with_foreign : SettingsOf → SettingsOf
+with_foreign s = record s { foreign = true }
+
 abbrev pub with_state : SettingsOf → State → SettingsOf
 with_state s state = record s { opts = record s.opts { initial_state = Some state } }
 
@@ -69,6 +72,7 @@ state_said name =
     else if bytes_eq name (codes "rcdata") then Some (RawData Rcdata)
     else if bytes_eq name (codes "rawtext") then Some (RawData Rawtext)
     else if bytes_eq name (codes "script") then Some (RawData ScriptData)
+    else if bytes_eq name (codes "cdata") then Some CdataSection
     else None
 
 -- a number in decimal digits, at least 1 and below 2 ^ 32
@@ -82,6 +86,7 @@ unfoldable pub flag_said : SettingsOf → List ℕ → Option SettingsOf
 flag_said s word =
     if bytes_eq word (codes "--exact") then Some (with_exact_errors s)
     else if bytes_eq word (codes "--keep-bom") then Some (with_byte_order_mark s)
+    else if bytes_eq word (codes "--foreign") then Some (with_foreign s)
     else None
 
 -- a word with a value behind it

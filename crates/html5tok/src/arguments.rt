@@ -1,5 +1,5 @@
 //! The words of the command line.
-ghost use Rattle.std.specs.Prelude.{◌≡◌, ◌<◌, ◌^◌, ◌↔◌, false, IfSome, IsSome, map, string_bytes};
+ghost use Rattle.std.specs.Prelude.{◌≡◌, ◌<◌, ◌^◌, ◌↔◌, IfSome, IsSome, map, string_bytes};
 ghost use Rattle.std.specs.Option.{option_map};
 ghost use Rattle.html5ever.specs.Tokenizer.{CanStart};
 ghost use Rattle.html5table.specs.Listed.{listed};
@@ -15,7 +15,6 @@ use std::alloc::Allocator;
 pub fn settings_of<A: Allocator>(words: &[String<A>]) -> Option<Settings<'_>>
     ensures said { option_map said_by result ≡ settings_said (map string_bytes words.now) }
     ensures state { IfSome result (λ settings. CanStart settings.initial_state) }
-    ensures foreign { IfSome result (λ settings. settings.foreign ≡ false) }
     ensures cut { IfSome result (λ settings. settings.cut < 2 ^ 32) }
     ensures table { IfSome result (λ settings. IsSome (listed settings.table.now)) }
 {
@@ -25,6 +24,7 @@ pub fn settings_of<A: Allocator>(words: &[String<A>]) -> Option<Settings<'_>>
         match word.as_str() {
             "--exact" => settings.exact_errors = true,
             "--keep-bom" => settings.discard_bom = false,
+            "--foreign" => settings.foreign = true,
             "--state" => settings.initial_state = Some(state_of(words.next()?)?),
             "--last" => settings.last = Some(words.next()?),
             "--cut" => settings.cut = cut_of(words.next()?)?,
@@ -63,6 +63,7 @@ fn state_of(name: &str) -> Option<State>
         "rcdata" => Some(State::RawData(RawKind::Rcdata)),
         "rawtext" => Some(State::RawData(RawKind::Rawtext)),
         "script" => Some(State::RawData(RawKind::ScriptData)),
+        "cdata" => Some(State::CdataSection),
         _ => None,
     }
 }

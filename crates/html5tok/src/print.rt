@@ -2,7 +2,7 @@ ghost use Rattle.std.specs.Prelude.{◌≡◌, ◌≢◌, ◌↔◌, ◌+◌, �
 ghost use Rattle.std.specs.Io.KnownBytes.{Keeps};
 ghost use Rattle.std.specs.Str.{IsUtf8, chars};
 ghost use Rattle.html5tok.specs.Device.{IsRefusal, reported_failures};
-ghost use Rattle.html5print.specs.Page.{page_step, page_reply};
+ghost use Rattle.html5print.specs.Page.{page_step, page_reply, page_foreign};
 ghost use Rattle.html5ever_interface.specs.Options.{options_of};
 ghost use Rattle.html5tok.specs.Settings.{options_said, said_by};
 ghost use Rattle.html5tok.specs.Printing.{printed_reading, open_behind_text, IsWholeBuilt, PrintsNotYet, PrintsReading, PrintsBeginning, PrintsNothing};
@@ -63,11 +63,11 @@ fn feed_piece<A: Allocator + Copy>(
     requires waiting { queue.old.text ≡ [] }
     requires going_on { tokenizer.old.ended ≡ false }
     requires not_failed { tokenizer.old.failed ≡ false }
-    ensures reads { OnOk result (ReadsOn (λ sink. sink.page) page_step page_reply
+    ensures reads { OnOk result (ReadsOn (λ sink. sink.page) page_step page_reply page_foreign
         tokenizer.old tokenizer.new (chars (string_bytes piece))) }
     ensures taken { OnOk result (queue.new.text ≡ []) }
     ensures not_yet { result ≡ Err Fault.NotYet
-        → MeetsNotBuilt (λ sink. sink.page) page_step page_reply
+        → MeetsNotBuilt (λ sink. sink.page) page_step page_reply page_foreign
         tokenizer.old (chars (string_bytes piece)) }
     ensures rules { tokenizer.new.rules ≡ tokenizer.old.rules }
     ensures going_on { tokenizer.new.ended ≡ false }
@@ -156,10 +156,10 @@ fn feed_text<A: Allocator + Copy>(
 ) -> Result<(), Fault>
     requires going_on { tokenizer.old.ended ≡ false }
     requires not_failed { tokenizer.old.failed ≡ false }
-    ensures reads { OnOk result (ReadsOn (λ sink. sink.page) page_step page_reply
+    ensures reads { OnOk result (ReadsOn (λ sink. sink.page) page_step page_reply page_foreign
         tokenizer.old tokenizer.new (chars (string_bytes text))) }
     ensures not_yet { result ≡ Err Fault.NotYet
-        → MeetsNotBuilt (λ sink. sink.page) page_step page_reply
+        → MeetsNotBuilt (λ sink. sink.page) page_step page_reply page_foreign
         tokenizer.old (chars (string_bytes text)) }
     ensures rules { tokenizer.new.rules ≡ tokenizer.old.rules }
     ensures going_on { tokenizer.new.ended ≡ false }

@@ -14,7 +14,7 @@ use std::test::Fail;
 // and what the queue keeps.
 type Stop<'a> = (&'a str, bool, usize, bool, &'a str);
 
-const STOPS: [Stop<'static>; 19] = [
+const STOPS: [Stop<'static>; 23] = [
     ("a\0bc", true, 0, false, "\0bc"),
     ("a\0bc", true, 1, false, "bc"),
     ("a\0bc", true, 2, true, "bc"),
@@ -34,6 +34,10 @@ const STOPS: [Stop<'static>; 19] = [
     ("<!doctypea>b", false, 2, true, ""),
     ("<!doctype a px>b", false, 0, false, ">b"),
     ("<!doctype a px>b", false, 1, true, "b"),
+    ("<![CDATA[a\0b]]>c", false, 0, false, "b]]>c"),
+    ("<![CDATA[a\0b]]>c", false, 1, false, "b]]>c"),
+    ("<![CDATA[a\0b]]>c", false, 2, true, "c"),
+    ("<![CDATA[a\0b]]>c", false, 3, true, ""),
 ];
 
 // Feeds a text to a sink that faults.
@@ -72,7 +76,7 @@ fn stops_where_the_sink_faults(rt: HostRuntime) -> Result<(), Fail> {
 // and whether the sink faults as it finishes, not at the next token.
 type EndStop<'a> = (&'a str, bool, usize, bool, bool);
 
-const END_STOPS: [EndStop<'static>; 10] = [
+const END_STOPS: [EndStop<'static>; 14] = [
     ("a", false, 1, false, false),
     ("a", false, 2, true, true),
     ("a", true, 1, false, false),
@@ -83,6 +87,10 @@ const END_STOPS: [EndStop<'static>; 10] = [
     ("<!doctype", false, 3, true, true),
     ("<!doctype a p", false, 0, false, false),
     ("<!doctype a p", false, 1, true, false),
+    ("<![CDATA[a", false, 0, false, false),
+    ("<![CDATA[a", false, 1, false, false),
+    ("<![CDATA[a", false, 2, true, false),
+    ("<![CDATA[a", false, 3, true, true),
 ];
 
 // Feeds a text whole. At its end the sink faults.

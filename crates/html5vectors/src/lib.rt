@@ -2,6 +2,8 @@
 #![tactic(auto)]
 
 #[cfg(test)]
+mod cdata_cases;
+#[cfg(test)]
 mod characters;
 #[cfg(test)]
 mod comment_cases;

@@ -46,7 +46,7 @@ fn told_on(
     let Ok(names) = profile(heap) else {
         return Ok(None);
     };
-    let mut tokenizer = Tokenizer::new(heap, Collector::new(heap, false), opts, &names);
+    let mut tokenizer = Tokenizer::new(heap, Collector::new(heap, true), opts, &names);
     let refused = read_all(&mut tokenizer, &mut queue).err();
     if refused.is_some() {
         check_refused(rt, &mut tokenizer, &mut queue, text);
@@ -111,7 +111,7 @@ fn check_refusals(
 }
 
 // A text, and what it tells.
-const REFUSED: [(&str, &str); 5] = [
+const REFUSED: [(&str, &str); 6] = [
     (
         "<a b=\"1\"c='2'c>",
         "error 1 \"Saw c in state AfterAttributeValueQuoted\"\n\
@@ -160,6 +160,16 @@ const REFUSED: [(&str, &str); 5] = [
          doctype 1 \"a\" - \"s\"\n\
          error 1 \"Saw EOF in state DoctypeIdentifierDoubleQuoted(System)\"\n\
          doctype 1 \"b\" \"p\" \"s\" quirks\n\
+         eof 1",
+    ),
+    (
+        "<![CDATA[a\0bc]]><d><![CDATA[e",
+        "text \"a\"\n\
+         null 1\n\
+         text \"bc\"\n\
+         start 1 \"d\"\n\
+         text \"e\"\n\
+         error 1 \"Saw EOF in state CdataSection\"\n\
          eof 1",
     ),
 ];

@@ -26,6 +26,7 @@ fn check_raw_text(
         let start = Start {
             state: Some(State::RawData(kind)),
             last: *last,
+            foreign: false,
         };
         check_case_from(rt, alloc, start, &names, *case)?;
     }
@@ -661,6 +662,7 @@ fn says_whether_nothing_is_pending_in_raw_text(rt: HostRuntime) -> Result<(), Fa
         let start = Start {
             state: Some(State::RawData(kind)),
             last: Some("script"),
+            foreign: false,
         };
         let opts = options_from(alloc, false, start)?;
         let mut tokenizer = Tokenizer::new(alloc, Collector::new(alloc, false), opts, &names);
@@ -690,6 +692,7 @@ fn check_two(
     let start = Start {
         state: Some(State::RawData(kind)),
         last: Some("script"),
+        foreign: false,
     };
     let opts = options_from(alloc, false, start)?;
     let names = profile(alloc)?;

@@ -35,11 +35,13 @@ pub fn options<A: Allocator>(exact_errors: bool, plain: bool) -> TokenizerOpts<A
     }
 }
 
-/// Where a stream starts: its state, where it is not `Data`, and the name of the start tag before it.
+/// Where a stream starts: its state, where it is not `Data`, the name of the start tag before it, and
+/// what the sink says of foreign content.
 #[derive(Clone, Copy)]
 pub struct Start<'a> {
     pub state: Option<State>,
     pub last: Option<&'a str>,
+    pub foreign: bool,
 }
 
 /// The default options, but for the errors and the start.
@@ -110,12 +112,13 @@ pub fn lines_of_pieces(
     rt: &impl Abort,
     alloc: Global,
     opts: TokenizerOpts,
+    foreign: bool,
     names: &NamedReferences,
     pieces: &[&str],
 ) -> Result<String, AllocError>
     requires starts { CanStart opts.initial_state }
 {
-    let mut tokenizer = Tokenizer::new(alloc, Collector::new(alloc, false), opts, names);
+    let mut tokenizer = Tokenizer::new(alloc, Collector::new(alloc, foreign), opts, names);
     let mut queue = BufferQueue::new(alloc);
     for piece in pieces {
         feed_piece(rt, alloc, &mut tokenizer, &mut queue, piece)?;
@@ -128,12 +131,13 @@ fn lines_of_characters(
     rt: &impl Abort,
     alloc: Global,
     opts: TokenizerOpts,
+    foreign: bool,
     names: &NamedReferences,
     text: &str,
 ) -> Result<String, AllocError>
     requires starts { CanStart opts.initial_state }
 {
-    let mut tokenizer = Tokenizer::new(alloc, Collector::new(alloc, false), opts, names);
+    let mut tokenizer = Tokenizer::new(alloc, Collector::new(alloc, foreign), opts, names);
     let mut queue = BufferQueue::new(alloc);
     for c in text.chars() {
         let mut piece = String::new(alloc);
@@ -185,7 +189,12 @@ pub fn check_case_by(
     case: Case,
 ) -> Result<(), AllocError> {
     let state = if plain { Some(State::Plaintext) } else { None };
-    check_case_from(rt, alloc, Start { state, last: None }, names, case)
+    let start = Start {
+        state,
+        last: None,
+        foreign: false,
+    };
+    check_case_from(rt, alloc, start, names, case)
 }
 
 /// Runs a case: fed in its pieces, in any two, and in single characters it tells the same lines.
@@ -200,18 +209,18 @@ pub fn check_case_from(
 {
     let (name, pieces, exact, lines) = case;
     let opts = options_from(alloc, exact, start)?;
-    let told = lines_of_pieces(rt, alloc, opts, names, pieces)?;
+    let told = lines_of_pieces(rt, alloc, opts, start.foreign, names, pieces)?;
     assert_eq!(rt; told.as_str(), lines, "{name}");
     let text = joined(alloc, pieces)?;
     for count in 0..text.len() {
         let (first, second) = cut(alloc, &text, count)?;
         let parts = [first.as_str(), second.as_str()];
         let opts = options_from(alloc, exact, start)?;
-        let told = lines_of_pieces(rt, alloc, opts, names, &parts)?;
+        let told = lines_of_pieces(rt, alloc, opts, start.foreign, names, &parts)?;
         assert_eq!(rt; told.as_str(), lines, "{name}, cut at {count}");
     }
     let opts = options_from(alloc, exact, start)?;
-    let told = lines_of_characters(rt, alloc, opts, names, &text)?;
+    let told = lines_of_characters(rt, alloc, opts, start.foreign, names, &text)?;
     assert_eq!(rt; told.as_str(), lines, "{name}, in characters");
     Ok(())
 }
@@ -226,10 +235,28 @@ pub fn check_any_case(rt: &impl Abort, alloc: Global, case: AnyCase) -> Result<(
 
 /// Feeds a text that may go on.
 pub fn check_decided(rt: &impl Abort, alloc: Global, decided: Decided) -> Result<(), AllocError> {
+    let start = Start {
+        state: None,
+        last: None,
+        foreign: false,
+    };
+    check_decided_from(rt, alloc, start, decided)
+}
+
+/// Feeds a text that may go on, from a start.
+pub fn check_decided_from(
+    rt: &impl Abort,
+    alloc: Global,
+    start: Start,
+    decided: Decided,
+) -> Result<(), AllocError>
+    requires starts { CanStart start.state }
+{
     let (text, lines, clean) = decided;
     let names = profile(alloc)?;
-    let opts = options(false, false);
-    let mut tokenizer = Tokenizer::new(alloc, Collector::new(alloc, false), opts, &names);
+    let opts = options_from(alloc, false, start)?;
+    let sink = Collector::new(alloc, start.foreign);
+    let mut tokenizer = Tokenizer::new(alloc, sink, opts, &names);
     let mut queue = BufferQueue::new(alloc);
     feed_piece(rt, alloc, &mut tokenizer, &mut queue, text)?;
     assert_eq!(rt; tokenizer.nothing_pending(), clean, "{text:?}");

@@ -4,7 +4,7 @@ use crate::names::profile;
 use crate::running::options;
 use crate::sinks::FaultySink;
 use html5ever::TokenizerError;
-use html5ever::tokenizer::laws::{closed, comment, doctype, reference, tag};
+use html5ever::tokenizer::laws::{cdata, closed, comment, doctype, reference, tag};
 use html5ever_interface::collect::Collector;
 use html5ever_interface::interface::token::Token;
 use std::alloc::{AllocError, Global};
@@ -141,6 +141,35 @@ fn reads_one_comment(rt: HostRuntime) -> Result<(), Fail> {
         let text = String::from_str(alloc, text)?;
         let names = profile(alloc)?;
         let sink = comment(alloc, options(false, false), false, &names, text)?;
+        check_collected(&rt, alloc, &sink, lines)?;
+    }
+    Ok(())
+}
+
+#[test]
+fn reads_one_section(rt: HostRuntime) -> Result<(), Fail> {
+    let alloc = rt.alloc();
+    let cases = [
+        (
+            "<![CDATA[a\0]]]>",
+            "text \"a\"\n\
+             null 1\n\
+             text \"]\"\n\
+             eof 1",
+        ),
+        ("<![CDATA[]]>", "eof 1"),
+        (
+            "<![CDATA[a]]\0",
+            "text \"a]]\"\n\
+             null 1\n\
+             error 1 \"Saw EOF in state CdataSection\"\n\
+             eof 1",
+        ),
+    ];
+    for (text, lines) in cases {
+        let text = String::from_str(alloc, text)?;
+        let names = profile(alloc)?;
+        let sink = cdata(alloc, options(false, false), true, &names, text)?;
         check_collected(&rt, alloc, &sink, lines)?;
     }
     Ok(())

@@ -5,6 +5,7 @@ ghost use Rattle.std.specs.Str.{chars};
 ghost use Rattle.html5ever_interface.specs.Collected.{none_collected, collected_step, collected_finish};
 ghost use Rattle.html5ever_interface.specs.Options.{options_of};
 ghost use Rattle.html5ever_interface.specs.Sink.{stepped};
+ghost use Rattle.html5grammar.specs.OneCdata.{WrittenCdata, IsCdata, kept_messages};
 ghost use Rattle.html5grammar.specs.OneComment.{WrittenComment, IsComment, comment_messages};
 ghost use Rattle.html5grammar.specs.OneDoctype.{WrittenDoctype, IsDoctype, doctype_messages};
 ghost use Rattle.html5grammar.specs.OneReference.{WrittenReference, IsReference, reference_messages};
@@ -38,13 +39,13 @@ fn read_whole<S: TokenSink<Token<A>>, A: Allocator + Copy>(
 ) -> Result<(), TokenizerError>
     requires going_on { tokenizer.old.ended ≡ false }
     requires not_failed { tokenizer.old.failed ≡ false }
-    ensures finishes { OnOk result (ReadsWhole S.state S.step S.reply S.finish tokenizer.old
+    ensures finishes { OnOk result (ReadsWhole S.state S.step S.reply S.foreign S.finish tokenizer.old
         (chars (string_bytes text)) (S.state tokenizer.new.sink)) }
-    ensures stops { IfErr result (λ error. StopsWhole S.state S.step S.reply S.faulted S.end_faulted
+    ensures stops { IfErr result (λ error. StopsWhole S.state S.step S.reply S.foreign S.faulted S.end_faulted
         error tokenizer.old (chars (string_bytes text)) (S.state tokenizer.new.sink)) }
-    ensures built { OnOk result (IsBuiltBehind S.state S.step S.reply tokenizer.old (chars (string_bytes text))) }
+    ensures built { OnOk result (IsBuiltBehind S.state S.step S.reply S.foreign tokenizer.old (chars (string_bytes text))) }
     ensures not_yet { result ≡ Err TokenizerError.NotYet
-        → MeetsNotBuilt S.state S.step S.reply tokenizer.old (chars (string_bytes text)) }
+        → MeetsNotBuilt S.state S.step S.reply S.foreign tokenizer.old (chars (string_bytes text)) }
     ensures faults { S.faults tokenizer.new.sink ≡ S.faults tokenizer.old.sink + faults_of result }
 {
     let mut queue = BufferQueue::new(alloc);
@@ -66,15 +67,15 @@ pub fn closed<S: TokenSink<Token<A>>, A: Allocator + Copy>(
 ) -> (S, Result<(), TokenizerError>)
     requires { CanStart opts.initial_state }
     ensures finishes { OnOk result.1 (S.state result.0 ≡ S.finish (stepped S.step (S.state sink)
-        (messages (reading S.step S.reply (rules_of (options_of opts) names.now) (start_of (options_of opts)) (S.state sink)
+        (messages (reading S.step S.reply S.foreign (rules_of (options_of opts) names.now) (start_of (options_of opts)) (S.state sink)
         (chars (string_bytes text)))))) }
     ensures stops { IfErr result.1 (λ error. WholeStops S.step S.faulted S.end_faulted error (S.state sink)
-        (messages (reading S.step S.reply (rules_of (options_of opts) names.now) (start_of (options_of opts)) (S.state sink)
+        (messages (reading S.step S.reply S.foreign (rules_of (options_of opts) names.now) (start_of (options_of opts)) (S.state sink)
         (chars (string_bytes text)))) (S.state result.0)) }
-    ensures built { OnOk result.1 (IsBuilt (after S.step S.reply (rules_of (options_of opts) names.now) (start_of (options_of opts))
+    ensures built { OnOk result.1 (IsBuilt (after S.step S.reply S.foreign (rules_of (options_of opts) names.now) (start_of (options_of opts))
         (S.state sink) (chars (string_bytes text))).opened) }
     ensures not_yet { result.1 ≡ Err TokenizerError.NotYet
-        → (after S.step S.reply (rules_of (options_of opts) names.now) (start_of (options_of opts)) (S.state sink)
+        → (after S.step S.reply S.foreign (rules_of (options_of opts) names.now) (start_of (options_of opts)) (S.state sink)
         (chars (string_bytes text))).opened ≡ NotBuilt }
     ensures faults { S.faults result.0 ≡ S.faults sink + faults_of result.1 }
 {
@@ -205,7 +206,7 @@ pub fn comment<A: Allocator + Copy>(
     requires { CanStart opts.initial_state }
     ensures reads { IfOk result (λ sink. sink.collected ≡ collected_of (options_of opts) names.now foreign (chars (string_bytes text))) }
     ensures comment { IfOk result (λ sink. (comment : WrittenComment) →
-        IsComment (start_of (options_of opts)) (chars (string_bytes text)) comment →
+        IsComment (start_of (options_of opts)) foreign (chars (string_bytes text)) comment →
         sink.collected ≡ record {
           messages = comment_messages opts.exact_errors (start_of (options_of opts)).input comment;
           finished = true;
@@ -217,7 +218,7 @@ pub fn comment<A: Allocator + Copy>(
     ensures no_fault { IfOk result (λ sink. sink.faults ≡ 0) }
     ensures not_failed { IfErr result IsNotFailed }
     ensures refusals { IfErr result (λ error. (comment : WrittenComment) →
-        IsComment (start_of (options_of opts)) (chars (string_bytes text)) comment → IsRefusal error) }
+        IsComment (start_of (options_of opts)) foreign (chars (string_bytes text)) comment → IsRefusal error) }
 {
     collect(alloc, opts, foreign, names, text)
 }
@@ -251,16 +252,45 @@ pub fn doctype<A: Allocator + Copy>(
     collect(alloc, opts, foreign, names, text)
 }
 
+/// Reads a whole text by a collector. Where the text is one CDATA section, written out, the collector
+/// then holds the texts between its NULs, the NULs, and the end.
+pub fn cdata<A: Allocator + Copy>(
+    alloc: A,
+    opts: TokenizerOpts<A>,
+    foreign: bool,
+    names: &NamedReferences<A>,
+    text: String<A>,
+) -> Result<Collector<A>, TokenizerError>
+    requires { CanStart opts.initial_state }
+    ensures reads { IfOk result (λ sink. sink.collected ≡ collected_of (options_of opts) names.now foreign (chars (string_bytes text))) }
+    ensures cdata { IfOk result (λ sink. (cdata : WrittenCdata) →
+        IsCdata (start_of (options_of opts)) foreign (chars (string_bytes text)) cdata →
+        sink.collected ≡ record {
+          messages = kept_messages opts.exact_errors (start_of (options_of opts)).input cdata;
+          finished = true;
+          foreign = foreign;
+        }) }
+    ensures built { OnOk result (IsBuilt (opened_collecting (options_of opts) names.now foreign (chars (string_bytes text)))) }
+    ensures not_yet { result ≡ Err TokenizerError.NotYet
+        → opened_collecting (options_of opts) names.now foreign (chars (string_bytes text)) ≡ NotBuilt }
+    ensures no_fault { IfOk result (λ sink. sink.faults ≡ 0) }
+    ensures not_failed { IfErr result IsNotFailed }
+    ensures refusals { IfErr result (λ error. (cdata : WrittenCdata) →
+        IsCdata (start_of (options_of opts)) foreign (chars (string_bytes text)) cdata → IsRefusal error) }
+{
+    collect(alloc, opts, foreign, names, text)
+}
+
 /// The law of cutting: runs that push the same text in all, however it is cut, take the same text.
 /// So, by the contract of `run_steps`, they leave lawful sinks in equal states, where they begin with
 /// equal options and equal states and both answer `Ok`.
 pub fn cutting<S: TokenSink<Token<A>>, A: Allocator>()
     ensures text { (rules : Rules) (K : Start) (s : S.State) (pieces : List (List ℕ)) →
-        run_text S.step S.reply rules K s [] [] (map AtBack pieces) ≡ concat pieces }
+        run_text S.step S.reply S.foreign rules K s [] [] (map AtBack pieces) ≡ concat pieces }
     ensures states { (rules : Rules) (K : Start) (s : S.State) (pieces others : List (List ℕ)) →
         concat pieces ≡ concat others →
-        S.finish (stepped S.step s (messages (reading S.step S.reply rules K s
-        (run_text S.step S.reply rules K s [] [] (map AtBack pieces)))))
-        ≡ S.finish (stepped S.step s (messages (reading S.step S.reply rules K s
-        (run_text S.step S.reply rules K s [] [] (map AtBack others))))) }
+        S.finish (stepped S.step s (messages (reading S.step S.reply S.foreign rules K s
+        (run_text S.step S.reply S.foreign rules K s [] [] (map AtBack pieces)))))
+        ≡ S.finish (stepped S.step s (messages (reading S.step S.reply S.foreign rules K s
+        (run_text S.step S.reply S.foreign rules K s [] [] (map AtBack others))))) }
 {}

@@ -30,14 +30,14 @@ pub fn feed_until_done<S: TokenSink<Token<A>>, A: Allocator + Copy>(
     requires { tokenizer.old.ended ≡ false }
 
     // What an `Ok` says: all that waited was taken, and exactly what it decides was told.
-    ensures reads { OnOk result (ReadsOn S.state S.step S.reply tokenizer.old tokenizer.new queue.old.text) }
+    ensures reads { OnOk result (ReadsOn S.state S.step S.reply S.foreign tokenizer.old tokenizer.new queue.old.text) }
     ensures taken { OnOk result (queue.new.text ≡ []) }
 
     // When each error comes, and what it leaves.
     ensures failed_before { (result ≡ Err TokenizerError.Failed) ↔ (tokenizer.old.failed ≡ true) }
     ensures not_yet { result ≡ Err TokenizerError.NotYet
-        → MeetsNotBuilt S.state S.step S.reply tokenizer.old queue.old.text }
-    ensures stops { IfErr result (λ error. StopsReading S.state S.step S.reply S.faulted
+        → MeetsNotBuilt S.state S.step S.reply S.foreign tokenizer.old queue.old.text }
+    ensures stops { IfErr result (λ error. StopsReading S.state S.step S.reply S.foreign S.faulted
         error tokenizer.old queue.old.text (S.state tokenizer.new.sink)) }
     ensures faults { S.faults tokenizer.new.sink ≡ S.faults tokenizer.old.sink + faults_of result }
     ensures failed { tokenizer.new.failed ≡ is_err result }
@@ -90,11 +90,11 @@ fn feed_once<S: TokenSink<Token<A>>, A: Allocator + Copy>(
 ) -> Result<(), TokenizerError>
     requires going_on { tokenizer.old.ended ≡ false }
     requires not_failed { tokenizer.old.failed ≡ false }
-    ensures reads { OnOk result (FeedsOn S.state S.step S.reply tokenizer.old tokenizer.new queue.old.text) }
-    ensures left { OnOk result (LeavesWaiting S.state S.step S.reply tokenizer.old queue.old.text queue.new.text) }
+    ensures reads { OnOk result (FeedsOn S.state S.step S.reply S.foreign tokenizer.old tokenizer.new queue.old.text) }
+    ensures left { OnOk result (LeavesWaiting S.state S.step S.reply S.foreign tokenizer.old queue.old.text queue.new.text) }
     ensures not_yet { result ≡ Err TokenizerError.NotYet
-        → FeedMeetsNotBuilt S.state S.step S.reply tokenizer.old queue.old.text }
-    ensures stops { IfErr result (λ error. StopsFeeding S.state S.step S.reply S.faulted
+        → FeedMeetsNotBuilt S.state S.step S.reply S.foreign tokenizer.old queue.old.text }
+    ensures stops { IfErr result (λ error. StopsFeeding S.state S.step S.reply S.foreign S.faulted
         error tokenizer.old queue.old.text (S.state tokenizer.new.sink)) }
     ensures faults { S.faults tokenizer.new.sink ≡ S.faults tokenizer.old.sink + faults_of result }
     ensures end_of_queue { IsEndOf queue.new.text queue.old.text }
@@ -116,13 +116,13 @@ fn take_steps<S: TokenSink<Token<A>>, A: Allocator + Copy>(
 ) -> Result<(), TokenizerError>
     requires going_on { tokenizer.old.ended ≡ false }
     requires not_failed { tokenizer.old.failed ≡ false }
-    ensures finishes { OnOk result (FinishesRun S.state S.step S.reply S.finish tokenizer.old
+    ensures finishes { OnOk result (FinishesRun S.state S.step S.reply S.foreign S.finish tokenizer.old
         (map step_of steps.items) (S.state tokenizer.new.sink)) }
-    ensures stops { IfErr result (λ error. StopsRun S.state S.step S.reply S.faulted S.end_faulted
+    ensures stops { IfErr result (λ error. StopsRun S.state S.step S.reply S.foreign S.faulted S.end_faulted
         error tokenizer.old (map step_of steps.items) (S.state tokenizer.new.sink)) }
-    ensures built { OnOk result (IsBuiltInRun S.state S.step S.reply tokenizer.old (map step_of steps.items)) }
+    ensures built { OnOk result (IsBuiltInRun S.state S.step S.reply S.foreign tokenizer.old (map step_of steps.items)) }
     ensures not_yet { result ≡ Err TokenizerError.NotYet
-        → MeetsInRun S.state S.step S.reply tokenizer.old (map step_of steps.items) }
+        → MeetsInRun S.state S.step S.reply S.foreign tokenizer.old (map step_of steps.items) }
     ensures faults { S.faults tokenizer.new.sink ≡ S.faults tokenizer.old.sink + faults_of result }
 {
     let mut queue = BufferQueue::new(alloc);
@@ -146,17 +146,17 @@ pub fn run_steps<S: TokenSink<Token<A>>, A: Allocator + Copy>(
 ) -> (S, Result<(), TokenizerError>)
     requires { CanStart opts.initial_state }
     ensures finishes { OnOk result.1 (S.state result.0 ≡ S.finish (stepped S.step (S.state sink)
-        (messages (reading S.step S.reply (rules_of (options_of opts) names.now) (start_of (options_of opts)) (S.state sink)
-        (run_text S.step S.reply (rules_of (options_of opts) names.now) (start_of (options_of opts)) (S.state sink) [] [] (map step_of steps.items)))))) }
+        (messages (reading S.step S.reply S.foreign (rules_of (options_of opts) names.now) (start_of (options_of opts)) (S.state sink)
+        (run_text S.step S.reply S.foreign (rules_of (options_of opts) names.now) (start_of (options_of opts)) (S.state sink) [] [] (map step_of steps.items)))))) }
     ensures stops { IfErr result.1 (λ error. WholeStops S.step S.faulted S.end_faulted error (S.state sink)
-        (messages (reading S.step S.reply (rules_of (options_of opts) names.now) (start_of (options_of opts)) (S.state sink)
-        (run_text S.step S.reply (rules_of (options_of opts) names.now) (start_of (options_of opts)) (S.state sink) [] [] (map step_of steps.items))))
+        (messages (reading S.step S.reply S.foreign (rules_of (options_of opts) names.now) (start_of (options_of opts)) (S.state sink)
+        (run_text S.step S.reply S.foreign (rules_of (options_of opts) names.now) (start_of (options_of opts)) (S.state sink) [] [] (map step_of steps.items))))
         (S.state result.0)) }
-    ensures built { OnOk result.1 (IsBuilt (after S.step S.reply (rules_of (options_of opts) names.now) (start_of (options_of opts)) (S.state sink)
-        (run_text S.step S.reply (rules_of (options_of opts) names.now) (start_of (options_of opts)) (S.state sink) [] [] (map step_of steps.items))).opened) }
+    ensures built { OnOk result.1 (IsBuilt (after S.step S.reply S.foreign (rules_of (options_of opts) names.now) (start_of (options_of opts)) (S.state sink)
+        (run_text S.step S.reply S.foreign (rules_of (options_of opts) names.now) (start_of (options_of opts)) (S.state sink) [] [] (map step_of steps.items))).opened) }
     ensures not_yet { result.1 ≡ Err TokenizerError.NotYet
-        → (after S.step S.reply (rules_of (options_of opts) names.now) (start_of (options_of opts)) (S.state sink)
-        (run_text S.step S.reply (rules_of (options_of opts) names.now) (start_of (options_of opts)) (S.state sink) [] [] (map step_of steps.items))).opened
+        → (after S.step S.reply S.foreign (rules_of (options_of opts) names.now) (start_of (options_of opts)) (S.state sink)
+        (run_text S.step S.reply S.foreign (rules_of (options_of opts) names.now) (start_of (options_of opts)) (S.state sink) [] [] (map step_of steps.items))).opened
         ≡ NotBuilt }
     ensures faults { S.faults result.0 ≡ S.faults sink + faults_of result.1 }
 {

@@ -22,6 +22,7 @@ use std::test::Fail;
 mod comments;
 mod doctypes;
 mod raw_text;
+mod sections;
 mod table;
 
 // The options, an input, and what is printed for it.
@@ -277,9 +278,9 @@ fn refuses_words_that_it_does_not_know(rt: HostRuntime) -> Result<(), Fail> {
     let faults: [&[&str]; 36] = [
         &["--table=a=41"],
         &["--exact", "--state"],
-        &["--foreign"],
+        &["--foreign", "true"],
         &["--state"],
-        &["--state", "cdata"],
+        &["--state", "CDATA"],
         &["--state", "Rcdata"],
         &["--state", "script data"],
         &["--state", "scriptdata"],
@@ -314,7 +315,7 @@ fn refuses_words_that_it_does_not_know(rt: HostRuntime) -> Result<(), Fail> {
             "100000000000000000000000000000000000000001",
         ],
         &["--state", "plaintext", "--cut", "0", "--cut", "1"],
-        &["--state", "cdata", "--state", "plaintext"],
+        &["--state", "cdatasection", "--state", "plaintext"],
         &["--state", "plaintext", "--cut", "--exact"],
     ];
     for words in faults {
@@ -366,6 +367,12 @@ fn reads_states(rt: HostRuntime) -> Result<(), Fail> {
         settings_in(Some(State::Data)),
     )?;
     says(&rt, alloc, &PLAIN, settings_in(Some(State::Plaintext)))?;
+    says(
+        &rt,
+        alloc,
+        &["--state", "cdata"],
+        settings_in(Some(State::CdataSection)),
+    )?;
     for (name, kind) in [
         ("rcdata", RawKind::Rcdata),
         ("rawtext", RawKind::Rawtext),
@@ -428,6 +435,9 @@ fn reads_flags(rt: HostRuntime) -> Result<(), Fail> {
     let mut kept = settings_in(None);
     kept.discard_bom = false;
     says(&rt, alloc, &["--keep-bom"], kept)?;
+    let mut foreign = settings_in(None);
+    foreign.foreign = true;
+    says(&rt, alloc, &["--foreign"], foreign)?;
     Ok(())
 }
 
@@ -567,7 +577,7 @@ fn a_line_that_fails_changes_nothing(rt: HostRuntime) -> Result<(), Fail> {
     for refusal in [Refusal::Error, Refusal::Nothing] {
         for (words, input, status, taken) in [
             (PLAIN, b"\xff".as_slice(), 3, "inp"),
-            (["--state", "cdata"], b"a", 2, "usa"),
+            (["--state", "cdatas"], b"a", 2, "usa"),
             (PLAIN, b"a", 0, ""),
         ] {
             let mut reader = ReadSource::new(input);

@@ -1,4 +1,3 @@
-use Rattle.std.proofs.Common.{◌∙◌}
 use Rattle.html5grammar.specs.EndOfInput.{late_at_end_of, open_at_end_of}
 use Rattle.html5ever.proofs.Decided.{doctype_keyword-open}
 use Rattle.html5ever.proofs.keyword.finish_keyword.Goals as goal

@@ -1,5 +1,3 @@
-use Rattle.std.proofs.Common.{◌∙◌}
-use Rattle.html5parts.specs.CurrentTag.{opened_of}
 use Rattle.html5ever.proofs.Decided.{undecided-keyword}
 use Rattle.html5ever.proofs.position.read_undecided.Goals as goal
 

@@ -6,7 +6,7 @@ use Rattle.html5ever.proofs.reading.read_queue.Given as goal
 
 abbrev pub invariant-loop-queue : goal.invariant-loop-queue
 invariant-loop-queue g l =
-    HasRead g.S.TokenSink.step g.S.TokenSink.reply l.rules l.initial.position l.position l.initial.queue l.queue
+    HasRead g.S.TokenSink.step g.S.TokenSink.reply g.S.TokenSink.foreign l.rules l.initial.position l.position l.initial.queue l.queue
     (g.S.TokenSink.state l.initial.sink) (g.S.TokenSink.state l.sink)
     × (g.S.TokenSink.faults l.sink ≡ g.S.TokenSink.faults l.initial.sink)
     × IsBuilt l.position.opened

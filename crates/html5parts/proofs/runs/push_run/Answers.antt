@@ -1,14 +1,17 @@
-use Rattle.std.proofs.Common.{◌≡◌, ◌≢◌, ◌++◌, refl, ap, sym, ◌∙◌, string_bytes}
+use Rattle.std.proofs.Common.{◌≡◌, ◌≢◌, ◌++◌, false, refl, ap, sym, ◌∙◌, string_bytes}
 use Rattle.std.specs.Prelude.{Contains, flat_map}
 use Rattle.std.specs.Str.{chars}
 use Rattle.std.proofs.lemmas.List.Elements.{All-weaker}
 use Rattle.std.proofs.lemmas.Str.{encodes-chars}
 use Rattle.html5grammar.specs.Characters.{null, value_bytes}
+use Rattle.html5grammar.specs.Cdata.{open_cdata}
+use Rattle.html5grammar.specs.Start.{is_clean}
 use Rattle.html5grammar.specs.Start.Open.{InTag, InComment, InBogusComment}
 use Rattle.html5grammar.specs.Start.Place.{InValue}
 use Rattle.html5parts.specs.CurrentTag.{open_tag}
 use Rattle.html5parts.specs.Runs.{run_ends}
 use Rattle.html5parts.proofs.RunSteps.{value_bytes-run, no_null}
+use Rattle.html5parts.proofs.Sections.{section-run, held_len-section}
 use Rattle.html5parts.proofs.runs.push_run.Goals as goal
 
 pub returns-in_ok-push_str-in-AttributeValue : goal.returns-in_ok-push_str-in-AttributeValue
@@ -38,3 +41,15 @@ returns-in_ok-push_str-in-BogusComment-clause-run g c =
     let value : flat_map value_bytes run ≡ c.args.run.now =
     value_bytes-run run (All-weaker (λ d. ¬ Contains (run_ends c.requires.is_run.others) d) (λ d. d ≢ null) (no_null c.requires.is_run.others) run c.requires.is_run.ordinary) ∙ encodes-chars c.args.run.now c.utf8.run in
     rw c.in-BogusComment.is (ap InBogusComment (c.in_ok-push_str-in-BogusComment.ensures.bytes ∙ ap (λ l. string_bytes c.args.at.now.comment ++ l) (sym value)))
+
+pub returns-in_ok-push_str-in-CdataSection-clause-run : goal.returns-in_ok-push_str-in-CdataSection-clause-run
+returns-in_ok-push_str-in-CdataSection-clause-run g c =
+    let run = chars c.args.run.now in
+    let held = string_bytes c.args.at.now.comment in
+    let not_clean : is_clean (open_cdata held) ≡ false = rw c.in-CdataSection.is at c.requires.not_clean in
+    rw c.in-CdataSection.is
+    (ap open_cdata (c.in_ok-push_str-in-CdataSection.ensures.bytes ∙ ap (λ l. held ++ l) (sym (encodes-chars c.args.run.now c.utf8.run)))
+    ∙ section-run held run not_clean)
+
+pub returns-in_ok-push_str-in-CdataSection-clause-held : goal.returns-in_ok-push_str-in-CdataSection-clause-held
+returns-in_ok-push_str-in-CdataSection-clause-held g c = rw c.in-CdataSection.is (held_len-section _)

@@ -1,4 +1,3 @@
-use Rattle.std.proofs.Common.{◌∙◌}
 use Rattle.html5ever.proofs.Decided.{begun-stands}
 use Rattle.html5ever.proofs.position.Position.begin_reference.Goals as goal
 

@@ -6,7 +6,7 @@ use Rattle.html5ever.proofs.position.Position.new.Goals as goal
 
 pub returns-clause-start : goal.returns-clause-start
 returns-clause-start g c =
-    let opened = c.standing.ensures.opened ∙ starts-in c.args.opts.initial_state _ c.unwrap_or.ensures c.requires in
+    let opened = c.standing.ensures.opened ∙ starts-in c.args.opts.initial_state _ c.unwrap_or.ensures c.new-2.ensures.bytes c.requires in
     start-is _ _
     (opened ∙ ap (λ name. Between (initial_mode c.args.opts.initial_state name)) c.name_or_empty.ensures)
     (c.standing.ensures.last ∙ c.name_or_empty.ensures)
@@ -14,4 +14,4 @@ returns-clause-start g c =
 
 pub returns-clause-built : goal.returns-clause-built
 returns-clause-built g c =
-    rw (c.standing.ensures.opened ∙ starts-in c.args.opts.initial_state _ c.unwrap_or.ensures c.requires) tt
+    rw (c.standing.ensures.opened ∙ starts-in c.args.opts.initial_state _ c.unwrap_or.ensures c.new-2.ensures.bytes c.requires) tt

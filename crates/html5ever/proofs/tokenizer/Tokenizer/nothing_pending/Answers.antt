@@ -6,7 +6,7 @@ use Rattle.html5ever.proofs.tokenizer.Tokenizer.nothing_pending.Goals as goal
 
 pub returns-clause-anew : goal.returns-clause-anew
 returns-clause-anew g c = λ pending x.
-    StandsAt-anew g.Sink.TokenSink.state g.Sink.TokenSink.step g.Sink.TokenSink.reply c.args.self.now x
+    StandsAt-anew g.Sink.TokenSink.state g.Sink.TokenSink.step g.Sink.TokenSink.reply g.Sink.TokenSink.foreign c.args.self.now x
     (λ not_failed. subst (λ (t : Tokenizing _). IsBuilt t.position.opened) c.self.view_is (c.self.invariant c.if-self.false))
     (sym (ap (λ (t : Tokenizing _). t.failed) c.self.view_is) ∙ c.if-self.false)
     (sym (ap (λ (t : Tokenizing _). t.ended) c.self.view_is) ∙ c.if-self-2.false)

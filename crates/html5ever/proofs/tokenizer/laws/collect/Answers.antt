@@ -2,7 +2,7 @@ use Rattle.html5ever.specs.Tokenizer.{rules_of}
 use Rattle.std.proofs.Common.{◌∙◌, ap, refl, Err}
 use Rattle.std.specs.Str.{chars}
 use Rattle.std.specs.String.{string_bytes}
-use Rattle.html5ever_interface.specs.Collected.{collected_step, collected_reply, collected_faulted}
+use Rattle.html5ever_interface.specs.Collected.{collected_step, collected_reply, collected_foreign, collected_faulted}
 use Rattle.html5ever_interface.specs.Options.{options_of}
 use Rattle.html5grammar.specs.Reading.{reading, messages}
 use Rattle.html5grammar.specs.Start.{start_of}
@@ -14,7 +14,7 @@ pub returns-in-Err-clause-not_failed : goal.returns-in-Err-clause-not_failed
 returns-in-Err-clause-not_failed g c =
     let stops = rw c.in-Err.is at c.closed-sink.ensures.stops in
     whole-not_failed collected_step collected_faulted (λ s. s) c.in-Err.error c.new-sink.result.collected
-    (messages (reading collected_step (collected_reply {H = Unit {0}}) (rules_of (options_of c.args.opts) c.args.names.now) (start_of (options_of c.args.opts)) c.new-sink.result.collected (chars (string_bytes c.args.text))))
+    (messages (reading collected_step (collected_reply {H = Unit {0}}) collected_foreign (rules_of (options_of c.args.opts) c.args.names.now) (start_of (options_of c.args.opts)) c.new-sink.result.collected (chars (string_bytes c.args.text))))
     c.closed-sink.result.0.collected stops
 
 pub returns-in-Err-clause-not_yet : goal.returns-in-Err-clause-not_yet

@@ -1,7 +1,7 @@
 use Rattle.std.proofs.Common.{true}
 use Rattle.std.specs.Str.{chars}
 use Rattle.std.specs.String.{string_bytes}
-use Rattle.html5ever_interface.specs.Collected.{Collecting, none_collected, collected_step, collected_reply}
+use Rattle.html5ever_interface.specs.Collected.{Collecting, none_collected, collected_step, collected_reply, collected_foreign}
 use Rattle.html5ever_interface.specs.Options.{options_of}
 use Rattle.html5grammar.proofs.OneDoctypeCollected.{collects-doctype}
 use Rattle.html5grammar.proofs.OneDoctypeReading.{after-doctype}
@@ -24,4 +24,4 @@ returns-clause-refusals g c =
     refusal-one c.collect.result (λ doctype. IsDoctype (start_of (options_of c.args.opts)) (chars (string_bytes c.args.text)) doctype)
     (opened_collecting (options_of c.args.opts) c.args.names.now c.args.foreign (chars (string_bytes c.args.text)))
     c.collect.ensures.not_failed c.collect.ensures.not_yet
-    (λ doctype one. rw (after-doctype collected_step (collected_reply {H = Unit {0}}) (rules_of (options_of c.args.opts) c.args.names.now) (start_of (options_of c.args.opts)) (none_collected c.args.foreign) (chars (string_bytes c.args.text)) doctype one) tt)
+    (λ doctype one. rw (after-doctype collected_step (collected_reply {H = Unit {0}}) collected_foreign (rules_of (options_of c.args.opts) c.args.names.now) (start_of (options_of c.args.opts)) (none_collected c.args.foreign) (chars (string_bytes c.args.text)) doctype one) tt)

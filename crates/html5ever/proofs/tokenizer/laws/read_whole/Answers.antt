@@ -9,14 +9,14 @@ use Rattle.html5ever.proofs.tokenizer.laws.read_whole.Goals as goal
 
 pub returns-in_default-clause-stops : goal.returns-in_default-clause-stops
 returns-in_default-clause-stops g c = λ K s stands.
-    whole-memory g.S.TokenSink.state g.S.TokenSink.step g.S.TokenSink.reply g.S.TokenSink.faulted c.args.tokenizer.now K s _ stands
+    whole-memory g.S.TokenSink.state g.S.TokenSink.step g.S.TokenSink.reply g.S.TokenSink.foreign g.S.TokenSink.faulted c.args.tokenizer.now K s _ stands
 
 pub returns-in_err-feed_until_done-clause-stops : goal.returns-in_err-feed_until_done-clause-stops
 returns-in_err-feed_until_done-clause-stops g c =
     let p = err_from_is_err_and c.from_residual.result c.from_residual.ensures.1 in
     rw (p.1, p.2) (λ K s stands.
     rw (sym (queued _ _ (chars (string_bytes c.args.text)) c.new-queue.ensures.text c.in-Ok.ensures.ok))
-    (whole-feed_stops g.S.TokenSink.state g.S.TokenSink.step g.S.TokenSink.reply g.S.TokenSink.faulted g.S.TokenSink.end_faulted _ c.args.tokenizer.now K s _ _ stands
+    (whole-feed_stops g.S.TokenSink.state g.S.TokenSink.step g.S.TokenSink.reply g.S.TokenSink.foreign g.S.TokenSink.faulted g.S.TokenSink.end_faulted _ c.args.tokenizer.now K s _ _ stands
     (λ same. c.feed_until_done.ensures.not_yet (c.in_err-feed_until_done.was ∙ ap Err same) K s [] stands)
     (c.in_err-feed_until_done.ensures.stops K s [] stands)))
 
@@ -24,9 +24,9 @@ pub returns-clause-stops : goal.returns-clause-stops
 returns-clause-stops g c =
     IfErr-weaker c.end.result _ _
     (λ e stops K s stands.
-    let standing = subst (λ (l : List ℕ). StandsAt g.S.TokenSink.state g.S.TokenSink.step g.S.TokenSink.reply c.feed_until_done.new.tokenizer K s l)
+    let standing = subst (λ (l : List ℕ). StandsAt g.S.TokenSink.state g.S.TokenSink.step g.S.TokenSink.reply g.S.TokenSink.foreign c.feed_until_done.new.tokenizer K s l)
     (queued _ _ (chars (string_bytes c.args.text)) c.new-queue.ensures.text c.in-Ok.ensures.ok) (c.in_ok-feed_until_done.ensures.reads K s [] stands) in
-    subst (λ x. WholeStops g.S.TokenSink.step g.S.TokenSink.faulted g.S.TokenSink.end_faulted e s (messages (reading g.S.TokenSink.step g.S.TokenSink.reply x K s (chars (string_bytes c.args.text)))) (g.S.TokenSink.state c.end.new.self.sink)) c.in_ok-feed_until_done.ensures.rules
-    (whole-end_stops g.S.TokenSink.state g.S.TokenSink.step g.S.TokenSink.reply g.S.TokenSink.faulted g.S.TokenSink.end_faulted e c.feed_until_done.new.tokenizer K s (g.S.TokenSink.state c.end.new.self.sink) (chars (string_bytes c.args.text)) standing
+    subst (λ x. WholeStops g.S.TokenSink.step g.S.TokenSink.faulted g.S.TokenSink.end_faulted e s (messages (reading g.S.TokenSink.step g.S.TokenSink.reply g.S.TokenSink.foreign x K s (chars (string_bytes c.args.text)))) (g.S.TokenSink.state c.end.new.self.sink)) c.in_ok-feed_until_done.ensures.rules
+    (whole-end_stops g.S.TokenSink.state g.S.TokenSink.step g.S.TokenSink.reply g.S.TokenSink.foreign g.S.TokenSink.faulted g.S.TokenSink.end_faulted e c.feed_until_done.new.tokenizer K s (g.S.TokenSink.state c.end.new.self.sink) (chars (string_bytes c.args.text)) standing
     (stops K s (chars (string_bytes c.args.text)) standing)))
     c.end.ensures.stops

@@ -2,7 +2,7 @@ use Rattle.html5ever.specs.Tokenizer.{rules_of, collected_of, opened_collecting}
 use Rattle.std.proofs.Common.{sym, subst, true}
 use Rattle.std.specs.Str.{chars}
 use Rattle.std.specs.String.{string_bytes}
-use Rattle.html5ever_interface.specs.Collected.{Collecting, none_collected, collected_step, collected_reply}
+use Rattle.html5ever_interface.specs.Collected.{Collecting, none_collected, collected_step, collected_reply, collected_foreign}
 use Rattle.html5ever_interface.specs.Options.{options_of}
 use Rattle.html5grammar.specs.Start.{start_of}
 use Rattle.html5parts.specs.Steps.{IsBuilt}
@@ -27,5 +27,5 @@ returns-clause-refusals g c =
     c.collect.ensures.not_failed c.collect.ensures.not_yet
     (λ reference one.
     subst IsBuilt
-    (sym (after-reference collected_step (collected_reply {H = Unit {0}}) (rules_of (options_of c.args.opts) c.args.names.now) (start_of (options_of c.args.opts)) (none_collected c.args.foreign) (chars (string_bytes c.args.text)) reference c.is_checked.ensures one))
+    (sym (after-reference collected_step (collected_reply {H = Unit {0}}) collected_foreign (rules_of (options_of c.args.opts) c.args.names.now) (start_of (options_of c.args.opts)) (none_collected c.args.foreign) (chars (string_bytes c.args.text)) reference c.is_checked.ensures one))
     (built-reference reference))

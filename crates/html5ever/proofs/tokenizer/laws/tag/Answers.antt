@@ -2,7 +2,7 @@ use Rattle.html5ever.specs.Tokenizer.{rules_of, collected_of, opened_collecting}
 use Rattle.std.proofs.Common.{refl, true}
 use Rattle.std.specs.Str.{chars}
 use Rattle.std.specs.String.{string_bytes}
-use Rattle.html5ever_interface.specs.Collected.{Collecting, none_collected, collected_step, collected_reply}
+use Rattle.html5ever_interface.specs.Collected.{Collecting, none_collected, collected_step, collected_reply, collected_foreign}
 use Rattle.html5ever_interface.specs.Options.{options_of}
 use Rattle.html5grammar.specs.Start.{start_of}
 use Rattle.html5grammar.specs.OneTag.{IsTag, tag_messages}
@@ -24,4 +24,4 @@ returns-clause-refusals g c =
     refusal-one c.collect.result (λ tag. IsTag (start_of (options_of c.args.opts)) (chars (string_bytes c.args.text)) tag)
     (opened_collecting (options_of c.args.opts) c.args.names.now c.args.foreign (chars (string_bytes c.args.text)))
     c.collect.ensures.not_failed c.collect.ensures.not_yet
-    (λ tag one. rw (after-tag collected_step (collected_reply {H = Unit {0}}) (rules_of (options_of c.args.opts) c.args.names.now) (start_of (options_of c.args.opts)) (none_collected c.args.foreign) (chars (string_bytes c.args.text)) tag (λ t line. refl) one) tt)
+    (λ tag one. rw (after-tag collected_step (collected_reply {H = Unit {0}}) collected_foreign (rules_of (options_of c.args.opts) c.args.names.now) (start_of (options_of c.args.opts)) (none_collected c.args.foreign) (chars (string_bytes c.args.text)) tag (λ t line. refl) one) tt)

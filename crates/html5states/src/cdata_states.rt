@@ -1,0 +1,95 @@
+//! The states of CDATA sections, the standard's "CDATA section state", "CDATA section bracket state" and
+//! "CDATA section end state": which of them is open is told by the end of the text that is held.
+#![tactic(auto, using(crate::proofs::Tellings::tells_from_memory), unfolding(html5grammar::proofs::Machine::cdata_step, html5parts::specs::Steps::tokens_of, html5parts::specs::Steps::behind, html5ever_interface::specs::Sink::stepped))]
+
+ghost use Rattle.std.specs.Prelude.{◌≡◌, ◌∷◌, [], ◌++◌, true, string_bytes};
+ghost use Rattle.html5ever_interface.specs.Token.Told.{Null, End};
+ghost use Rattle.html5grammar.proofs.Machine.{cdata_step};
+ghost use Rattle.html5grammar.specs.Cdata.{ends_cdata, piece_text, told_at_end_of_cdata};
+ghost use Rattle.html5grammar.specs.ErrorText.{end_error_in};
+ghost use Rattle.html5grammar.specs.Reading.Here.{Tells};
+ghost use Rattle.html5grammar.specs.Start.Mode.{Cdata, Data};
+ghost use Rattle.html5grammar.specs.Start.Open.{Between};
+ghost use Rattle.html5states.specs.Telling.{Emits, Reads};
+
+use crate::teller::Teller;
+use html5ever_interface::interface::sink::TokenSink;
+use html5ever_interface::interface::token::Token;
+use html5ever_interface::states::State;
+use html5parts::cdata::{ends_section, push_text, section_len};
+use html5parts::error::TokenizerError;
+use html5parts::opened::{Opened, Progress, Step};
+use std::alloc::Allocator;
+use std::mem;
+
+impl<S: TokenSink<Token<A>>, A: Allocator + Copy> Teller<'_, S, A> {
+    /// Reads a character of a CDATA section.
+    pub fn cdata_section_state(&mut self, at: &mut Opened<A>, c: char) -> Step
+        requires { at.old.state ≡ State.CdataSection }
+        ensures { Reads S.state S.faults S.step S.faulted result self.old self.new
+            (cdata_step (string_bytes at.old.comment) c) at.old at.new }
+    {
+        if c == '>' && ends_section(&at.comment) {
+            return self.end_section(at);
+        }
+        if c == '\0' {
+            return self.cut_section(at);
+        }
+        push_text(at, c)?;
+        Ok(Progress::Continues)
+    }
+
+    // Tells the text before a NUL, and the NUL.
+    fn cut_section(&mut self, at: &mut Opened<A>) -> Step
+        requires { at.old.state ≡ State.CdataSection }
+        ensures { Reads S.state S.faults S.step S.faulted result self.old self.new
+            (Tells (piece_text (string_bytes at.old.comment) ++ Null ∷ []) (Between Cdata)) at.old at.new }
+    {
+        let text = mem::replace(&mut at.comment, String::new(self.alloc));
+        self.emit_cdata_null(text)?;
+        Ok(Progress::Continues)
+    }
+
+    // Tells a text, where there is one, and NUL.
+    fn emit_cdata_null(&mut self, text: String<A>) -> Result<(), TokenizerError>
+        ensures { Emits S.state S.faults S.step S.faulted result self.old self.new
+            (piece_text (string_bytes text) ++ Null ∷ []) }
+    {
+        self.emit_piece(text)?;
+        self.tell(Token::NullCharacterToken)
+    }
+
+    // Ends a section at its `>`.
+    fn end_section(&mut self, at: &mut Opened<A>) -> Step
+        requires { ends_cdata (string_bytes at.old.comment) ≡ true }
+        ensures { Reads S.state S.faults S.step S.faulted result self.old self.new
+            (Tells (told_at_end_of_cdata (string_bytes at.old.comment)) (Between Data)) at.old at.new }
+    {
+        at.state = State::Data;
+        let len = section_len(&at.comment);
+        let mut text = mem::replace(&mut at.comment, String::new(self.alloc));
+        text.truncate(len);
+        self.emit_piece(text)?;
+        Ok(Progress::Continues)
+    }
+
+    // Tells a text, where there is one.
+    fn emit_piece(&mut self, text: String<A>) -> Result<(), TokenizerError>
+        ensures { Emits S.state S.faults S.step S.faulted result self.old self.new
+            (piece_text (string_bytes text)) }
+    {
+        if text.is_empty() {
+            return Ok(());
+        }
+        self.hand_on(Token::CharacterTokens(text))
+    }
+
+    /// Ends in a section, whose text is told as it stands.
+    pub fn end_in_cdata(&mut self, text: &str) -> Result<(), TokenizerError>
+        ensures { Emits S.state S.faults S.step S.faulted result self.old self.new
+            (piece_text text.now ++ end_error_in self.old.exact_errors State.CdataSection ∷ End ∷ []) }
+    {
+        self.emit_piece(String::from_str(self.alloc, text)?)?;
+        self.end_unexpected(State::CdataSection)
+    }
+}
