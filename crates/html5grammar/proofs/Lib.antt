@@ -8,6 +8,12 @@ pub mod Splitting
 pub mod Steps
 pub mod GoodCharacters
 pub mod NoTags
+pub mod NoTagsAtEnd
+pub mod LawfulBytes
+pub mod LawfulReferences
+pub mod LawfulTags
+pub mod LawfulSteps
+pub mod LawfulReading
 pub mod Holding
 pub mod OneTagSteps
 pub mod OneTagParts

@@ -55,12 +55,12 @@ unfolding NoTags
 no_tags-where true error h = (h, tt)
 no_tags-where false error h = tt
 
-no_tags-texts : (characters : List ℕ) → NoTags (map (λ (c : ℕ). Text (encode_utf8 c)) characters)
+pub no_tags-texts : (characters : List ℕ) → NoTags (map (λ (c : ℕ). Text (encode_utf8 c)) characters)
 unfolding NoTags
 no_tags-texts [] = tt
 no_tags-texts (c ∷ characters) = (refl, no_tags-texts characters)
 
-no_tags-told_behind : (kind : RawKind) → NoTags (told_behind_less_than kind)
+pub no_tags-told_behind : (kind : RawKind) → NoTags (told_behind_less_than kind)
 unfolding NoTags
 no_tags-told_behind raw_kind.Rcdata = (refl, tt)
 no_tags-told_behind raw_kind.Rawtext = (refl, tt)
@@ -358,7 +358,7 @@ no_tags-held_text stand [] = tt
 no_tags-held_text stand (c ∷ held) =
     no_tags-late_append _ _ (no_tags-late_map _ _ _ (text_in stand (c ∷ [])) (no_tags-text_in stand (c ∷ []))) (no_tags-held_text stand held)
 
-no_tags-late_tokens : (rules : Rules) (stand : Stand) (held : List ℕ) (next : Option ℕ)
+pub no_tags-late_tokens : (rules : Rules) (stand : Stand) (held : List ℕ) (next : Option ℕ)
     → NoTags (tokens_of_late (late_tokens stand (reference rules (in_value stand) held next) held))
 no_tags-late_tokens rules stand held next =
     let found : Found = reference rules (in_value stand) held next in
@@ -384,7 +384,7 @@ no_tags-declaration exact foreign held c =
     (no_tags-brought (bytes_eq (lower_case (held ++ c ∷ [])) (codes "doctype")) _ _ tt
     (no_tags-brought (begins_keyword (held ++ c ∷ [])) _ _ tt (no_tags-answer exact foreign held c)))
 
-no_tags-keyword_error : (exact : Bool) (held : List ℕ) → NoTags (tokens_of_late (keyword_error exact held))
+pub no_tags-keyword_error : (exact : Bool) (held : List ℕ) → NoTags (tokens_of_late (keyword_error exact held))
 unfolding keyword_error NoTags
 no_tags-keyword_error exact [] = tt
 no_tags-keyword_error exact (c ∷ held) = (refl, tt)
