@@ -40,6 +40,7 @@ pub mod OneCdataSteps
 pub mod OneCdataReading
 pub mod OneCdataCollected
 pub mod OneCdataForms
+pub mod ByItself
 mod WrittenRawCases
 mod CommentCases
 mod DoctypeCases

@@ -19,3 +19,4 @@ pub mod WrittenRaw
 pub mod OneComment
 pub mod OneDoctype
 pub mod OneCdata
+pub mod Anywhere

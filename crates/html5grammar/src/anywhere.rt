@@ -1,0 +1,43 @@
+//! Items of a text as they are written, wherever they stand: what each tells by itself, behind any
+//! text that leads to where it is read, and before any text.
+#![tactic(auto)]
+
+ghost use Rattle.std.specs.Prelude.{ℕ, List};
+ghost use Rattle.html5grammar.specs.Anywhere.{TellsByItself, start_behind};
+ghost use Rattle.html5grammar.specs.OneCdata as one_cdata;
+ghost use Rattle.html5grammar.specs.OneCdata.{WrittenCdata, IsCdata, opening_text, spell_cdata, open_behind_cdata};
+ghost use Rattle.html5grammar.specs.OneComment as one_comment;
+ghost use Rattle.html5grammar.specs.OneComment.{WrittenComment, IsComment};
+ghost use Rattle.html5grammar.specs.OneDoctype as one_doctype;
+ghost use Rattle.html5grammar.specs.OneDoctype.{WrittenDoctype, IsDoctype};
+ghost use Rattle.html5grammar.specs.OneTag.{spelled_messages};
+ghost use Rattle.html5grammar.specs.Start.{Start, Rules};
+ghost use Rattle.html5grammar.specs.Start.Mode.{Data};
+ghost use Rattle.html5grammar.specs.Start.Open.{Between};
+
+use html5ever_interface::interface::sink::TokenSink;
+use html5ever_interface::interface::token::Token;
+use std::alloc::Allocator;
+
+/// A comment, proper or bogus.
+pub fn comment<S: TokenSink<Token<A>>, A: Allocator>()
+    ensures { (rules : Rules) (K : Start) (s : S.State) (Y : List ℕ) (comment : WrittenComment) → IsComment K (S.foreign s) Y comment
+        → TellsByItself S.step S.reply S.foreign rules K s Y (one_comment.messages_of rules.exact K.input comment)
+        (start_behind K Y (Between Data) K.last_start_tag) }
+{}
+
+/// A doctype.
+pub fn doctype<S: TokenSink<Token<A>>, A: Allocator>()
+    ensures { (rules : Rules) (K : Start) (s : S.State) (Y : List ℕ) (doctype : WrittenDoctype) → IsDoctype K Y doctype
+        → TellsByItself S.step S.reply S.foreign rules K s Y (one_doctype.messages_of rules.exact K.input doctype.word doctype.space doctype.content)
+        (start_behind K Y (Between Data) K.last_start_tag) }
+{}
+
+/// A CDATA section, also one that is open already or doesn't end: then what is open behind it is the
+/// section with its last piece, of which nothing is told yet.
+pub fn cdata<S: TokenSink<Token<A>>, A: Allocator>()
+    ensures { (rules : Rules) (K : Start) (s : S.State) (Y : List ℕ) (cdata : WrittenCdata) → IsCdata K (S.foreign s) Y cdata
+        → TellsByItself S.step S.reply S.foreign rules K s Y
+        (spelled_messages rules.exact K.input (opening_text cdata.has_opening) (spell_cdata cdata))
+        (start_behind K Y (open_behind_cdata cdata) K.last_start_tag) }
+{}
