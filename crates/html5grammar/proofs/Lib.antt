@@ -41,6 +41,7 @@ pub mod OneCdataReading
 pub mod OneCdataCollected
 pub mod OneCdataForms
 pub mod ByItself
+pub mod LastReply
 mod WrittenRawCases
 mod CommentCases
 mod DoctypeCases

@@ -2,15 +2,16 @@
 //! text that leads to where it is read, and before any text.
 #![tactic(auto)]
 
-ghost use Rattle.std.specs.Prelude.{ℕ, List};
-ghost use Rattle.html5grammar.specs.Anywhere.{TellsByItself, start_behind};
+ghost use Rattle.std.specs.Prelude.{ℕ, List, []};
+ghost use Rattle.html5ever_interface.specs.Sink.{Message};
+ghost use Rattle.html5grammar.specs.Anywhere.{TellsByItself, start_behind, start_behind_tag};
 ghost use Rattle.html5grammar.specs.OneCdata as one_cdata;
 ghost use Rattle.html5grammar.specs.OneCdata.{WrittenCdata, IsCdata, opening_text, spell_cdata, open_behind_cdata};
 ghost use Rattle.html5grammar.specs.OneComment as one_comment;
 ghost use Rattle.html5grammar.specs.OneComment.{WrittenComment, IsComment};
 ghost use Rattle.html5grammar.specs.OneDoctype as one_doctype;
 ghost use Rattle.html5grammar.specs.OneDoctype.{WrittenDoctype, IsDoctype};
-ghost use Rattle.html5grammar.specs.OneTag.{spelled_messages};
+ghost use Rattle.html5grammar.specs.OneTag.{WrittenTag, IsTag, tag_told, spelled, spelled_messages};
 ghost use Rattle.html5grammar.specs.Start.{Start, Rules};
 ghost use Rattle.html5grammar.specs.Start.Mode.{Data};
 ghost use Rattle.html5grammar.specs.Start.Open.{Between};
@@ -40,4 +41,11 @@ pub fn cdata<S: TokenSink<Token<A>>, A: Allocator>()
         → TellsByItself S.step S.reply S.foreign rules K s Y
         (spelled_messages rules.exact K.input (opening_text cdata.has_opening) (spell_cdata cdata))
         (start_behind K Y (open_behind_cdata cdata) K.last_start_tag) }
+{}
+
+/// A tag. What is open behind it is by the sink's reply to it.
+pub fn tag<S: TokenSink<Token<A>>, A: Allocator>()
+    ensures { (rules : Rules) (K : Start) (s : S.State) (Y : List ℕ) (tag : WrittenTag) → IsTag K Y tag
+        → let M : List Message = spelled_messages rules.exact K.input [] (spelled rules.exact tag) in
+        TellsByItself S.step S.reply S.foreign rules K s Y M (start_behind_tag S.step S.reply K s Y (tag_told tag) M) }
 {}
