@@ -1,6 +1,7 @@
 -- A tag as the last message of a text, whatever the sink replies.
 use Rattle.std.proofs.Common.{◌≡◌, ℕ, Bool, List, [], ◌∷◌, ◌++◌, refl, ap, sym, ◌∙◌}
 use Rattle.std.proofs.lemmas.List.{append_assoc, append-nil}
+use Rattle.html5ever_interface.proofs.Steppings.{stepped-append}
 use Rattle.html5ever_interface.specs.Sink.{Message, stepped, on_line}
 use Rattle.html5ever_interface.specs.Token.{Told, TagOf, Reply}
 use Rattle.html5ever_interface.specs.Token.Told.{Tag}
@@ -101,6 +102,26 @@ module _ {S H : Type 0} (step : S → Told → ℕ → S) (reply : S → Told �
       ∙ ap (with_messages M) (trace-cell input past (stepped step s M) last behind c errors tag ends)
       ∙ ap (λ r. record { messages = M ++ N; opened = open_after_reply name r; last_start_tag = name }) (sym (last_reply-append step reply s M line tokens (Tag tag)))
       ∙ ap (λ l. record { messages = l; opened = open_after_reply name (last_reply step reply s l); last_start_tag = name }) (sym whole)
+
+  -- the same reply, where messages stand in front
+  pub last_reply-spelled : (s : S) (M : List Message) (input : Input) (before : List ℕ) (cells : List Spelled) (c : ℕ) (errors : List Told) (tag : TagOf)
+      → last_reply step reply s (M ++ spelled_messages rules.exact input before (cells ++ record { character = c; told = errors ++ Tag tag ∷ [] } ∷ []))
+      ≡ last_reply step reply (stepped step s M) (spelled_messages rules.exact input before (cells ++ record { character = c; told = errors ++ Tag tag ∷ [] } ∷ []))
+  last_reply-spelled s M input before cells c errors tag =
+      let past : List ℕ = before ++ characters cells in
+      let line : ℕ = line_after input (past ++ c ∷ []) in
+      let tokens : List Told = bad_character_error rules.exact c ++ errors in
+      let F : List Message = spelled_messages rules.exact input before cells in
+      let N : List Message = on_line line (tokens ++ Tag tag ∷ []) in
+      let cell : Spelled = record { character = c; told = errors ++ Tag tag ∷ [] } in
+      let whole : spelled_messages rules.exact input before (cells ++ cell ∷ []) ≡ F ++ N =
+      spelled_messages-append rules.exact input before cells (cell ∷ []) ∙ ap (λ l. F ++ l) (messages-cell input past c errors tag) in
+      ap (λ l. last_reply step reply s (M ++ l)) whole
+      ∙ ap (last_reply step reply s) (sym (append_assoc M F N))
+      ∙ last_reply-append step reply s (M ++ F) line tokens (Tag tag)
+      ∙ ap (λ t. last_reply step reply t N) (stepped-append step s M F)
+      ∙ sym (last_reply-append step reply (stepped step s M) F line tokens (Tag tag))
+      ∙ ap (last_reply step reply (stepped step s M)) (sym whole)
 
   -- a text that is one tag
   pub reads_tag_reply : (K : Start) (s : S) (X : List ℕ) (tag : WrittenTag) → IsTag K X tag

@@ -2,7 +2,7 @@
 //! text that leads to where it is read, and before any text.
 #![tactic(auto)]
 
-ghost use Rattle.std.specs.Prelude.{ℕ, List, []};
+ghost use Rattle.std.specs.Prelude.{◌≡◌, ℕ, List, [], None, Some};
 ghost use Rattle.html5ever_interface.specs.Sink.{Message};
 ghost use Rattle.html5grammar.specs.Anywhere.{TellsByItself, start_behind, start_behind_tag};
 ghost use Rattle.html5grammar.specs.OneCdata as one_cdata;
@@ -12,9 +12,11 @@ ghost use Rattle.html5grammar.specs.OneComment.{WrittenComment, IsComment};
 ghost use Rattle.html5grammar.specs.OneDoctype as one_doctype;
 ghost use Rattle.html5grammar.specs.OneDoctype.{WrittenDoctype, IsDoctype};
 ghost use Rattle.html5grammar.specs.OneTag.{WrittenTag, IsTag, tag_told, spelled, spelled_messages};
-ghost use Rattle.html5grammar.specs.Start.{Start, Rules};
+ghost use Rattle.html5grammar.specs.Reading.{after};
+ghost use Rattle.html5grammar.specs.Start.{Raw, Start, Rules};
 ghost use Rattle.html5grammar.specs.Start.Mode.{Data};
 ghost use Rattle.html5grammar.specs.Start.Open.{Between};
+ghost use Rattle.html5grammar.specs.WrittenRaw.{WrittenRaw, IsRawText, spell_raw};
 
 use html5ever_interface::interface::sink::TokenSink;
 use html5ever_interface::interface::token::Token;
@@ -48,4 +50,17 @@ pub fn tag<S: TokenSink<Token<A>>, A: Allocator>()
     ensures { (rules : Rules) (K : Start) (s : S.State) (Y : List ℕ) (tag : WrittenTag) → IsTag K Y tag
         → let M : List Message = spelled_messages rules.exact K.input [] (spelled rules.exact tag) in
         TellsByItself S.step S.reply S.foreign rules K s Y M (start_behind_tag S.step S.reply K s Y (tag_told tag) M) }
+{}
+
+/// Raw text up to its end tag, or without one: then letters and marks at its end may be told only
+/// behind it.
+pub fn raw<S: TokenSink<Token<A>>, A: Allocator>()
+    ensures ended { (rules : Rules) (K : Start) (s : S.State) (Y : List ℕ) (raw : Raw) (name : List ℕ) (written_as : WrittenRaw) (tag : WrittenTag)
+        → written_as.end_tag ≡ Some tag → IsRawText K Y raw name written_as
+        → let M : List Message = spelled_messages rules.exact K.input [] (spell_raw rules.exact raw written_as) in
+        TellsByItself S.step S.reply S.foreign rules K s Y M (start_behind_tag S.step S.reply K s Y (tag_told tag) M) }
+    ensures open { (rules : Rules) (K : Start) (s : S.State) (Y : List ℕ) (raw : Raw) (name : List ℕ) (written_as : WrittenRaw)
+        → written_as.end_tag ≡ None → IsRawText K Y raw name written_as
+        → TellsByItself S.step S.reply S.foreign rules K s Y (spelled_messages rules.exact K.input [] (spell_raw rules.exact raw written_as))
+        (after S.step S.reply S.foreign rules K s Y) }
 {}
