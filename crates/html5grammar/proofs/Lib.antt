@@ -42,6 +42,7 @@ pub mod OneCdataCollected
 pub mod OneCdataForms
 pub mod ByItself
 pub mod LastReply
+pub mod OneReferenceWithin
 mod WrittenRawCases
 mod CommentCases
 mod DoctypeCases

@@ -2,21 +2,25 @@
 //! text that leads to where it is read, and before any text.
 #![tactic(auto)]
 
-ghost use Rattle.std.specs.Prelude.{◌≡◌, ℕ, List, [], None, Some};
+ghost use Rattle.std.specs.Prelude.{◌≡◌, ℕ, true, List, [], ◌∷◌, Option, None, Some};
 ghost use Rattle.html5ever_interface.specs.Sink.{Message};
-ghost use Rattle.html5grammar.specs.Anywhere.{TellsByItself, start_behind, start_behind_tag};
+ghost use Rattle.html5grammar.specs.Anywhere.{TellsBefore, TellsByItself, start_behind, start_behind_tag, is_decided_by, messages_within};
+ghost use Rattle.html5grammar.specs.NormalisedText.{normalised, input_after};
 ghost use Rattle.html5grammar.specs.OneCdata as one_cdata;
 ghost use Rattle.html5grammar.specs.OneCdata.{WrittenCdata, IsCdata, opening_text, spell_cdata, open_behind_cdata};
 ghost use Rattle.html5grammar.specs.OneComment as one_comment;
 ghost use Rattle.html5grammar.specs.OneComment.{WrittenComment, IsComment};
 ghost use Rattle.html5grammar.specs.OneDoctype as one_doctype;
 ghost use Rattle.html5grammar.specs.OneDoctype.{WrittenDoctype, IsDoctype};
+ghost use Rattle.html5grammar.specs.OneReference.{WrittenReference, IsReference};
+ghost use Rattle.html5grammar.specs.OneReference.WrittenReference.{Number};
 ghost use Rattle.html5grammar.specs.OneTag.{WrittenTag, IsTag, tag_told, spelled, spelled_messages};
 ghost use Rattle.html5grammar.specs.Reading.{after};
 ghost use Rattle.html5grammar.specs.Start.{Raw, Start, Rules};
 ghost use Rattle.html5grammar.specs.Start.Mode.{Data};
 ghost use Rattle.html5grammar.specs.Start.Open.{Between};
 ghost use Rattle.html5grammar.specs.WrittenRaw.{WrittenRaw, IsRawText, spell_raw};
+ghost use Rattle.markup5ever.specs.NamedReferences.{IsTable};
 
 use html5ever_interface::interface::sink::TokenSink;
 use html5ever_interface::interface::token::Token;
@@ -63,4 +67,17 @@ pub fn raw<S: TokenSink<Token<A>>, A: Allocator>()
         → written_as.end_tag ≡ None → IsRawText K Y raw name written_as
         → TellsByItself S.step S.reply S.foreign rules K s Y (spelled_messages rules.exact K.input [] (spell_raw rules.exact raw written_as))
         (after S.step S.reply S.foreign rules K s Y) }
+{}
+
+/// A character reference, before a text whose first character decides it and is no part of it; a
+/// number with its semicolon is decided before any text.
+pub fn reference<S: TokenSink<Token<A>>, A: Allocator>()
+    ensures number { (rules : Rules) (K : Start) (s : S.State) (Y : List ℕ) (x : Option ℕ) (digits : List ℕ) → IsReference rules.names K Y (Number x digits true)
+        → TellsByItself S.step S.reply S.foreign rules K s Y (messages_within rules.exact K.input (Number x digits true))
+        (start_behind K Y (Between Data) K.last_start_tag) }
+    ensures decided { (rules : Rules) (K : Start) (s : S.State) (Y Z : List ℕ) (reference : WrittenReference) (c : ℕ) (rest : List ℕ)
+        → IsTable rules.names → IsReference rules.names K Y reference
+        → normalised (input_after K.input Y) Z ≡ c ∷ rest → is_decided_by rules.names reference c ≡ true
+        → TellsBefore S.step S.reply S.foreign rules Z K s Y (messages_within rules.exact K.input reference)
+        (start_behind K Y (Between Data) K.last_start_tag) }
 {}
