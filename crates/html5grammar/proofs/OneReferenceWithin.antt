@@ -5,7 +5,7 @@ use Rattle.std.specs.List.{list_all}
 use Rattle.std.proofs.Math.Bool.{and-false}
 use Rattle.std.proofs.Math.ListN.{drop_of_length-le}
 use Rattle.std.proofs.lemmas.Bool.{and_parts, not-true}
-use Rattle.std.proofs.lemmas.List.{append_assoc, append-nil}
+use Rattle.std.proofs.lemmas.List.{append-nil}
 use Rattle.html5ever_interface.specs.Sink.{stepped, on_line}
 use Rattle.html5ever_interface.specs.Token.{Told, Reply}
 use Rattle.html5ever_interface.specs.Token.Told.{Error}
@@ -16,7 +16,7 @@ use Rattle.html5grammar.specs.NormalisedText.{normalised, line_after, input_afte
 use Rattle.html5grammar.specs.OneReference.{WrittenReference, x_text, written, is_base, is_base_digit, value_of, reference_errors, reference_characters, IsReference}
 use Rattle.html5grammar.specs.OneReference.WrittenReference.{Ampersand, Number, Named}
 use Rattle.html5grammar.specs.Reference.{Found, is_undecided, has_digits, semicolon_len, is_invalid_number, invalid_number, character_of_number, unended_number, reference, ends_number, is_ended}
-use Rattle.html5grammar.specs.Start.{Start, Open, Rules}
+use Rattle.html5grammar.specs.Start.{Start, Rules}
 use Rattle.html5grammar.specs.Start.Mode.{Data}
 use Rattle.html5grammar.specs.Start.Stand.{InText}
 use Rattle.html5grammar.specs.Start.Open.{Between, InReference}
@@ -26,8 +26,8 @@ use Rattle.html5grammar.proofs.Machine.{brought_at, reference_step}
 use Rattle.html5grammar.proofs.OneReferenceReading.{Holds, Holds-number, Holds-name, is_number-ended, has_digits-written, tokens_in, tokens-taken, found_number, number-found, number-taken, found_entry, entry_errors, name-found, trace-run, trace-ended}
 use Rattle.html5grammar.proofs.OneTagSteps.{is_not}
 use Rattle.html5grammar.proofs.TableNames.{is_name_character, named_alone, plain-entry}
-use Rattle.html5grammar.proofs.Traces.{trace, trace_brought, trace_here, with_messages}
-use Rattle.markup5ever.specs.NamedReferences.{NamedReference, IsTable, is_plain_name}
+use Rattle.html5grammar.proofs.Traces.{trace, trace_brought, with_messages}
+use Rattle.markup5ever.specs.NamedReferences.{IsTable, is_plain_name}
 
 -- a name begins with no `#`, so no semicolon ends it as one ends a number
 name-no_number : (name : List ℕ) (c : ℕ) → list_all is_name_character name ≡ true → ends_number name c ≡ false

@@ -26,6 +26,39 @@ use html5ever_interface::interface::sink::TokenSink;
 use html5ever_interface::interface::token::Token;
 use std::alloc::Allocator;
 
+/// A tag. What is open behind it is by the sink's reply to it.
+pub fn tag<S: TokenSink<Token<A>>, A: Allocator>()
+    ensures { (rules : Rules) (K : Start) (s : S.State) (Y : List ℕ) (tag : WrittenTag) → IsTag K Y tag
+        → let M : List Message = spelled_messages rules.exact K.input [] (spelled rules.exact tag) in
+        TellsByItself S.step S.reply S.foreign rules K s Y M (start_behind_tag S.step S.reply K s Y (tag_told tag) M) }
+{}
+
+/// A character reference, before a text whose first character decides it and is no part of it; a
+/// number with its semicolon is decided before any text.
+pub fn reference<S: TokenSink<Token<A>>, A: Allocator>()
+    ensures number { (rules : Rules) (K : Start) (s : S.State) (Y : List ℕ) (x : Option ℕ) (digits : List ℕ) → IsReference rules.names K Y (Number x digits true)
+        → TellsByItself S.step S.reply S.foreign rules K s Y (messages_within rules.exact K.input (Number x digits true))
+        (start_behind K Y (Between Data) K.last_start_tag) }
+    ensures decided { (rules : Rules) (K : Start) (s : S.State) (Y Z : List ℕ) (reference : WrittenReference) (c : ℕ) (rest : List ℕ)
+        → IsTable rules.names → IsReference rules.names K Y reference
+        → normalised (input_after K.input Y) Z ≡ c ∷ rest → is_decided_by rules.names reference c ≡ true
+        → TellsBefore S.step S.reply S.foreign rules Z K s Y (messages_within rules.exact K.input reference)
+        (start_behind K Y (Between Data) K.last_start_tag) }
+{}
+
+/// Raw text up to its end tag, or without one: then letters and marks at its end may be told only
+/// behind it.
+pub fn raw<S: TokenSink<Token<A>>, A: Allocator>()
+    ensures ended { (rules : Rules) (K : Start) (s : S.State) (Y : List ℕ) (raw : Raw) (name : List ℕ) (written_as : WrittenRaw) (tag : WrittenTag)
+        → written_as.end_tag ≡ Some tag → IsRawText K Y raw name written_as
+        → let M : List Message = spelled_messages rules.exact K.input [] (spell_raw rules.exact raw written_as) in
+        TellsByItself S.step S.reply S.foreign rules K s Y M (start_behind_tag S.step S.reply K s Y (tag_told tag) M) }
+    ensures open { (rules : Rules) (K : Start) (s : S.State) (Y : List ℕ) (raw : Raw) (name : List ℕ) (written_as : WrittenRaw)
+        → written_as.end_tag ≡ None → IsRawText K Y raw name written_as
+        → TellsByItself S.step S.reply S.foreign rules K s Y (spelled_messages rules.exact K.input [] (spell_raw rules.exact raw written_as))
+        (after S.step S.reply S.foreign rules K s Y) }
+{}
+
 /// A comment, proper or bogus.
 pub fn comment<S: TokenSink<Token<A>>, A: Allocator>()
     ensures { (rules : Rules) (K : Start) (s : S.State) (Y : List ℕ) (comment : WrittenComment) → IsComment K (S.foreign s) Y comment
@@ -47,37 +80,4 @@ pub fn cdata<S: TokenSink<Token<A>>, A: Allocator>()
         → TellsByItself S.step S.reply S.foreign rules K s Y
         (spelled_messages rules.exact K.input (opening_text cdata.has_opening) (spell_cdata cdata))
         (start_behind K Y (open_behind_cdata cdata) K.last_start_tag) }
-{}
-
-/// A tag. What is open behind it is by the sink's reply to it.
-pub fn tag<S: TokenSink<Token<A>>, A: Allocator>()
-    ensures { (rules : Rules) (K : Start) (s : S.State) (Y : List ℕ) (tag : WrittenTag) → IsTag K Y tag
-        → let M : List Message = spelled_messages rules.exact K.input [] (spelled rules.exact tag) in
-        TellsByItself S.step S.reply S.foreign rules K s Y M (start_behind_tag S.step S.reply K s Y (tag_told tag) M) }
-{}
-
-/// Raw text up to its end tag, or without one: then letters and marks at its end may be told only
-/// behind it.
-pub fn raw<S: TokenSink<Token<A>>, A: Allocator>()
-    ensures ended { (rules : Rules) (K : Start) (s : S.State) (Y : List ℕ) (raw : Raw) (name : List ℕ) (written_as : WrittenRaw) (tag : WrittenTag)
-        → written_as.end_tag ≡ Some tag → IsRawText K Y raw name written_as
-        → let M : List Message = spelled_messages rules.exact K.input [] (spell_raw rules.exact raw written_as) in
-        TellsByItself S.step S.reply S.foreign rules K s Y M (start_behind_tag S.step S.reply K s Y (tag_told tag) M) }
-    ensures open { (rules : Rules) (K : Start) (s : S.State) (Y : List ℕ) (raw : Raw) (name : List ℕ) (written_as : WrittenRaw)
-        → written_as.end_tag ≡ None → IsRawText K Y raw name written_as
-        → TellsByItself S.step S.reply S.foreign rules K s Y (spelled_messages rules.exact K.input [] (spell_raw rules.exact raw written_as))
-        (after S.step S.reply S.foreign rules K s Y) }
-{}
-
-/// A character reference, before a text whose first character decides it and is no part of it; a
-/// number with its semicolon is decided before any text.
-pub fn reference<S: TokenSink<Token<A>>, A: Allocator>()
-    ensures number { (rules : Rules) (K : Start) (s : S.State) (Y : List ℕ) (x : Option ℕ) (digits : List ℕ) → IsReference rules.names K Y (Number x digits true)
-        → TellsByItself S.step S.reply S.foreign rules K s Y (messages_within rules.exact K.input (Number x digits true))
-        (start_behind K Y (Between Data) K.last_start_tag) }
-    ensures decided { (rules : Rules) (K : Start) (s : S.State) (Y Z : List ℕ) (reference : WrittenReference) (c : ℕ) (rest : List ℕ)
-        → IsTable rules.names → IsReference rules.names K Y reference
-        → normalised (input_after K.input Y) Z ≡ c ∷ rest → is_decided_by rules.names reference c ≡ true
-        → TellsBefore S.step S.reply S.foreign rules Z K s Y (messages_within rules.exact K.input reference)
-        (start_behind K Y (Between Data) K.last_start_tag) }
 {}

@@ -1,5 +1,5 @@
 use Rattle.std.specs.Prelude.{List, []}
-use Rattle.std.proofs.Common.{refl, ap, subst}
+use Rattle.std.proofs.Common.{refl}
 use Rattle.html5ever_interface.specs.Sink.{Message}
 use Rattle.html5grammar.specs.Anywhere.{last_reply}
 use Rattle.html5grammar.specs.OneTag.{tag_told, spelled_messages}
