@@ -47,6 +47,9 @@ pub mod OneCdataSteps
 pub mod OneCdataReading
 pub mod OneCdataCollected
 pub mod OneCdataForms
+pub mod ByItself
+pub mod LastReply
+pub mod OneReferenceWithin
 mod WrittenRawCases
 mod CommentCases
 mod DoctypeCases

@@ -166,7 +166,7 @@ module _ {S H : Type 0} (step : S → Told → ℕ → S) (reply : S → Told �
       let p = and_parts (can_open (foreign s) ExclamationMark content) (list_all in_bogus_comment content) h in
       reads_declaration K s content p.0 p.1
 
-  reads_comment : (K : Start) (s : S) (X : List ℕ) (comment : WrittenComment) → IsComment K (foreign s) X comment
+  pub reads_comment : (K : Start) (s : S) (X : List ℕ) (comment : WrittenComment) → IsComment K (foreign s) X comment
       → IsReadFrom step reply foreign rules K s X (messages_of rules.exact K.input comment)
   reads_comment K s X comment one = rw (one.starts, one.text) (reads K s comment one.is_comment)
 

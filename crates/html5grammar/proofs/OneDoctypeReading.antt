@@ -201,7 +201,7 @@ module _ {S H : Type 0} (step : S → Told → ℕ → S) (reply : S → Told �
       ∙ ap (λ l. with_messages M (trace step reply foreign rules (stepped step s M) (line_after K.input l) K.last_start_tag opened text)) (characters-name rules.exact word space first rest later)
       ∙ ap (with_messages M) (reads-behind K.input before K.last_start_tag name (stepped step s M) later behind p.1)
 
-  reads_doctype : (K : Start) (s : S) (X : List ℕ) (doctype : WrittenDoctype) → IsDoctype K X doctype
+  pub reads_doctype : (K : Start) (s : S) (X : List ℕ) (doctype : WrittenDoctype) → IsDoctype K X doctype
       → IsReadFrom step reply foreign rules K s X (messages_of rules.exact K.input doctype.word doctype.space doctype.content)
   unfolding written is_written
   reads_doctype K s X doctype one =

@@ -115,10 +115,10 @@ module _ (exact : Bool) where
   )
 
   -- a tag up to its `>`, and what that tells
-  record ReadsTag (tag : WrittenTag) : Type 0 where
-    behind : Open
-    goes : Goes exact (Between Data) (body exact tag) behind
-    ends : step_at exact behind greater_than ≡ TellsTag (end_errors exact tag) (tag_told tag)
+  pub record ReadsTag (tag : WrittenTag) : Type 0 where
+    pub behind : Open
+    pub goes : Goes exact (Between Data) (body exact tag) behind
+    pub ends : step_at exact behind greater_than ≡ TellsTag (end_errors exact tag) (tag_told tag)
 
   pub ends-tag : (tag : WrittenTag) (behind : OpenTag) → can_end (end_place tag) ≡ true
       → Holds tag.kind (name_shown tag.first tag.rest) (all_attributes tag) behind
@@ -130,7 +130,7 @@ module _ (exact : Bool) where
       ∙ ap (λ errors. TellsTag (end_error exact place ++ (errors ++ end_tag_errors (with_last_attribute behind) closes)) (told_tag (with_last_attribute behind) closes)) holds.error
       ∙ ap (λ closed. TellsTag (end_error exact place ++ (repeated_error (all_attributes tag) ++ end_tag_errors closed closes)) (told_tag closed closes)) holds.closed
 
-  reads-tag : (tag : WrittenTag) → is_written tag ≡ true → ReadsTag tag
+  pub reads-tag : (tag : WrittenTag) → is_written tag ≡ true → ReadsTag tag
   unfolding is_written
   reads-tag tag h =
       let p = and_parts (is_letter tag.first) _ h in

@@ -20,3 +20,4 @@ pub mod OneComment
 pub mod OneDoctype
 pub mod OneCdata
 pub mod Lawful
+pub mod Anywhere

@@ -21,6 +21,8 @@ ghost use Rattle.html5grammar.specs.Slice.{run_of, run_while};
 ghost use Rattle.html5grammar.specs.Start.{Start, Rules, is_clean};
 ghost use Rattle.markup5ever.specs.NamedReferences.{NamedReference, IsTable, begins_name};
 
+pub mod anywhere;
+
 use html5ever_interface::interface::sink::TokenSink;
 use html5ever_interface::interface::token::Token;
 use std::alloc::Allocator;
