@@ -1,12 +1,10 @@
 -- Where a tokenizer stands in a text, and what its calls make of that.
-use Rattle.std.specs.Prelude.{◌≡◌, ℕ, Bool, false, List, [], ◌++◌, ◌⊎◌, Option, None, Some}
+use Rattle.std.specs.Prelude.{◌≡◌, ℕ, Bool, false, List, [], ◌++◌, ◌⊎◌}
 use Rattle.html5ever_interface.specs.Collected.{Collected, none_collected, collected_step, collected_reply, collected_foreign, collected_finish}
 use Rattle.html5ever_interface.specs.Options.{OptionsOf}
 use Rattle.markup5ever.specs.NamedReferences.{NamedReference}
 use Rattle.html5ever_interface.specs.Sink.{Message, stepped}
 use Rattle.html5ever_interface.specs.Token.{Told, Reply}
-use Rattle.html5ever_interface.specs.declared.states.State.{State}
-use Rattle.html5ever_interface.specs.declared.states.State.TheVariants.{Data, Plaintext, RawData, CdataSection}
 use Rattle.html5grammar.specs.Reading.{reading, told, messages, after}
 use Rattle.html5grammar.specs.Start.{Start, Rules, start_of}
 use Rattle.html5reading.specs.Feed.{told_beyond, told_at_end, feed}
