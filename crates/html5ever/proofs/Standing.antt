@@ -1,33 +1,26 @@
 -- Where a tokenizer stands, after more text and at the end.
-use Rattle.std.proofs.Common.{Bool, ◌≡◌, ℕ, ◌<◌, ◌^◌, arith, string_bytes, false, List, [], ◌∷◌, ◌++◌, refl, ap, sym, ◌∙◌, subst, length, drop}
+use Rattle.std.proofs.Common.{Bool, ◌≡◌, ℕ, ◌<◌, ◌^◌, arith, false, List, [], ◌∷◌, ◌++◌, refl, ap, sym, ◌∙◌, subst, length, drop}
 use Rattle.std.proofs.Math.Seq.{drop-append_seam}
 use Rattle.std.proofs.lemmas.List.{length-map}
 use Rattle.html5ever_interface.specs.Sink.{Message, stepped, on_line}
 use Rattle.html5ever_interface.specs.Token.{Told, Reply}
-use Rattle.html5grammar.specs.Cdata.{open_cdata}
 use Rattle.html5grammar.specs.EndOfInput.{tokens_at_end}
 use Rattle.html5grammar.specs.NormalisedText.{with_line_feeds, without_dropped_first, normalised, line_after, input_after}
 use Rattle.html5grammar.specs.Reading.{Event, end_events, reading, told, messages, after, read}
-use Rattle.html5grammar.specs.Start.{Start, Input, Rules, initial_mode}
+use Rattle.html5grammar.specs.Start.{Start, Input, Rules}
 use Rattle.html5grammar.specs.Start.Mode.{Plain}
 use Rattle.html5grammar.specs.Start.Open.{Between}
 use Rattle.html5grammar.proofs.ReadingLemmas.{told-nil, told-append, after-nil, after-append, reading-events, messages-at_end}
 use Rattle.html5ever_interface.proofs.Steppings.{stepped-append}
 use Rattle.html5grammar.proofs.Traces.{messages-append}
-use Rattle.html5ever.specs.Feed.{Feed, pauses, reply_in, told_beyond, told_at_end, feed}
-use Rattle.html5ever.specs.Refused.{IsItem, RefusedBehind}
-use Rattle.html5ever.proofs.Pauses.{told_beyond-behind, state_behind-append, feed-anew, feed-done, feed-shorter, reply_in-pauses}
+use Rattle.html5reading.specs.Feed.{Feed, pauses, reply_in, told_beyond, told_at_end, feed}
+use Rattle.html5reading.specs.Refused.{IsItem, RefusedBehind}
+use Rattle.html5reading.proofs.Pauses.{told_beyond-behind, state_behind-append, feed-anew, feed-done, feed-shorter, reply_in-pauses}
 use Rattle.markup5ever.specs.declared.tokenizer_result.TokenizerResult.{TokenizerResult}
 use Rattle.markup5ever.specs.declared.tokenizer_result.TokenizerResult.TheVariants.{Done, Script, EncodingIndicator}
 use Rattle.std.specs.Prelude.{Result, Ok, Err, OnOk, IfOk, IfErr, is_err, ◌≢◌}
 use Rattle.html5states.specs.Telling.{Stops, Tells}
-use Rattle.std.specs.Prelude.{Option, None, Some}
-use Rattle.std.specs.Option.{unwrap_or}
-use Rattle.html5ever_interface.specs.declared.states.State.{State}
-use Rattle.html5ever_interface.specs.declared.states.State.TheVariants as state
-use Rattle.html5parts.specs.CurrentTag.{open_of, opened_of, last_name_of}
-use Rattle.html5parts.specs.declared.opened.Opened.{Opened}
-use Rattle.html5ever.specs.Tokenizer.{CanStart, Tokenizing, StandsAt, FeedsOn, HandsOn, LeavesWaiting, StopsFeeding, LeavesRefused, EndStops}
+use Rattle.html5ever.specs.Tokenizer.{Tokenizing, StandsAt, FeedsOn, HandsOn, LeavesWaiting, StopsFeeding, LeavesRefused, EndStops}
 use Rattle.html5parts.specs.declared.error.TokenizerError.{TokenizerError}
 use Rattle.html5parts.specs.declared.error.TokenizerError.TheVariants.{Failed}
 
@@ -36,24 +29,6 @@ position-line : (I : Input) (X : List ℕ) → (input_after I X).line < 2 ^ 64 �
 unfolding input_after normalised without_dropped_first with_line_feeds line_after
 position-line I [] h = omega arith
 position-line I (c ∷ X) h = refl
-
--- the state in which a stream starts
-
-starts-mode : {Z : Type 0} → (chosen : Option State) (at : Opened Z) → string_bytes at.comment ≡ [] → CanStart chosen → open_of (unwrap_or chosen state.Data) at ≡ Between (initial_mode chosen (last_name_of at))
-starts-mode None at none can = refl
-starts-mode (Some state.Data) at none can = refl
-starts-mode (Some state.Plaintext) at none can = refl
-starts-mode (Some (state.RawData kind)) at none can = refl
-starts-mode (Some state.CdataSection) at none can = ap open_cdata none
-starts-mode (Some other) at none can = absurd can
-
-pub starts-in : {Z : Type 0} → (chosen : Option State) (at : Opened Z) → at.state ≡ unwrap_or chosen state.Data → string_bytes at.comment ≡ [] → CanStart chosen
-    → opened_of at ≡ Between (initial_mode chosen (last_name_of at))
-starts-in chosen at is none can = ap (λ s. open_of s at) is ∙ starts-mode chosen at none can
-
-pub start-is : (K L : Start) → K.opened ≡ L.opened → K.last_start_tag ≡ L.last_start_tag → K.input.line ≡ L.input.line → K.input.after_carriage_return ≡ L.input.after_carriage_return
-    → K.input.drops_byte_order_mark ≡ L.input.drops_byte_order_mark → K ≡ L
-start-is K L opened last line carriage_return mark = rw (← opened, ← last, ← line, ← carriage_return, ← mark) refl
 
 script≢done : {H T E : Type 0} (handle : H) (r q : Result (TokenizerResult H T) E) → r ≡ Ok (Script handle) → q ≡ Ok Done → r ≡ q → ⊥
 script≢done handle r q h k e = cc

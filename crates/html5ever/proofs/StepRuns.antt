@@ -7,9 +7,9 @@ use Rattle.html5ever_interface.specs.Sink.{stepped}
 use Rattle.html5ever_interface.specs.Token.{Told, Reply}
 use Rattle.html5grammar.specs.Reading.{reading, messages}
 use Rattle.html5grammar.specs.Start.{Start, Rules}
-use Rattle.html5ever.specs.Feed.{Feed, feed, told_beyond, IsEndOf}
+use Rattle.html5reading.specs.Feed.{Feed, feed, told_beyond, IsEndOf}
 use Rattle.html5ever.specs.RunSteps.StepOf.{AtBack}
-use Rattle.html5ever.proofs.Pauses.{feed-parts}
+use Rattle.html5reading.proofs.Pauses.{feed-parts}
 use Rattle.html5ever.specs.RunSteps.{StepOf, waiting_with, run_text, FinishesRun, StopsRun}
 use Rattle.html5states.specs.Telling.{Stops}
 use Rattle.html5ever.specs.Tokenizer.{Tokenizing, StandsAt, ReadsOn, FeedsOn, LeavesWaiting, Finishes, StopsFeeding, StopsReading, StopsEnding, EndStops}

@@ -13,7 +13,7 @@ use Rattle.html5grammar.specs.Start.{Start, Rules}
 use Rattle.html5grammar.proofs.ReadingLemmas.{told-nil, reading-events}
 use Rattle.html5ever.proofs.Draining.{told-beyond}
 use Rattle.html5grammar.proofs.Traces.{messages-append}
-use Rattle.html5ever.specs.Feed.{told_beyond, told_at_end}
+use Rattle.html5reading.specs.Feed.{told_beyond, told_at_end}
 use Rattle.html5states.specs.Telling.{Stops, StopsWithin, IsRefusal}
 use Rattle.html5ever.specs.Tokenizer.{Tokenizing, StandsAt, EndStops}
 use Rattle.html5parts.specs.declared.error.TokenizerError.{TokenizerError}

@@ -6,7 +6,7 @@ use Rattle.html5ever_interface.specs.Sink.{stepped}
 use Rattle.html5ever_interface.specs.Token.{Told, Reply}
 use Rattle.html5grammar.specs.Reading.{reading, messages}
 use Rattle.html5grammar.specs.Start.{Start, Rules}
-use Rattle.html5ever.specs.Feed.{Feed, feed}
+use Rattle.html5reading.specs.Feed.{Feed, feed}
 use Rattle.html5ever.specs.Tokenizer.{Tokenizing, StandsAt, EndStops}
 use Rattle.html5parts.specs.declared.error.TokenizerError.{TokenizerError}
 use Rattle.html5ever.specs.declared.tokenizer.steps.Step.{Step}

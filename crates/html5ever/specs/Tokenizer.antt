@@ -1,16 +1,14 @@
 -- Where a tokenizer stands in a text, and what its calls make of that.
-use Rattle.std.specs.Prelude.{◌≡◌, ℕ, Bool, false, List, [], ◌++◌, ◌⊎◌, Option, None, Some}
+use Rattle.std.specs.Prelude.{◌≡◌, ℕ, Bool, false, List, [], ◌++◌, ◌⊎◌}
 use Rattle.html5ever_interface.specs.Collected.{Collected, none_collected, collected_step, collected_reply, collected_foreign, collected_finish}
 use Rattle.html5ever_interface.specs.Options.{OptionsOf}
 use Rattle.markup5ever.specs.NamedReferences.{NamedReference}
 use Rattle.html5ever_interface.specs.Sink.{Message, stepped}
 use Rattle.html5ever_interface.specs.Token.{Told, Reply}
-use Rattle.html5ever_interface.specs.declared.states.State.{State}
-use Rattle.html5ever_interface.specs.declared.states.State.TheVariants.{Data, Plaintext, RawData, CdataSection}
 use Rattle.html5grammar.specs.Reading.{reading, told, messages, after}
 use Rattle.html5grammar.specs.Start.{Start, Rules, start_of}
-use Rattle.html5ever.specs.Feed.{told_beyond, told_at_end, feed}
-use Rattle.html5ever.specs.Refused.{RefusedBehind}
+use Rattle.html5reading.specs.Feed.{told_beyond, told_at_end, feed}
+use Rattle.html5reading.specs.Refused.{RefusedBehind}
 use Rattle.html5states.specs.Telling.{Stops, StopsWithin, FaultsWithin}
 use Rattle.html5parts.specs.declared.error.TokenizerError.{TokenizerError}
 use Rattle.html5parts.specs.declared.error.TokenizerError.TheVariants.{Memory, Sink, Failed}
@@ -30,15 +28,6 @@ pub record Tokenizing (X : Type 0) : Type 0 where
 -- what a tokenizer with these options and this table reads by
 abbrev pub rules_of : OptionsOf → List NamedReference → Rules
 rules_of opts names = record { exact = opts.exact_errors; names = names }
-
--- a stream can start in this state: none is chosen, or a text state
-abbrev pub CanStart : Option State → Type 0
-CanStart None = Unit {0}
-CanStart (Some Data) = Unit {0}
-CanStart (Some Plaintext) = Unit {0}
-CanStart (Some (RawData kind)) = Unit {0}
-CanStart (Some CdataSection) = Unit {0}
-CanStart (Some other) = ⊥
 
 module _ {X S H : Type 0} (state : X → S) (step : S → Told → ℕ → S) (reply : S → Told → ℕ → Reply H) (foreign : S → Bool) where
   -- the tokenizer stands where the text taken, from the start K and the sink's state s, leaves it

@@ -7,14 +7,15 @@ ghost use Rattle.html5grammar.specs.Reading.{after};
 ghost use Rattle.html5grammar.specs.Start.{Start, start_of, is_clean, held_len};
 ghost use Rattle.html5grammar.specs.Start.Mode.{Plain};
 ghost use Rattle.html5grammar.specs.Start.Open.{Between};
-ghost use Rattle.html5ever.specs.Feed.{reply_in, IsEndOf, IsLinear};
+ghost use Rattle.html5reading.specs.Feed.{reply_in, IsEndOf, IsLinear};
 ghost use Rattle.html5states.specs.Telling.{faults_of};
-ghost use Rattle.html5ever.specs.Tokenizer.{CanStart, rules_of, StandsAt, FeedsOn, HandsOn, LeavesWaiting};
+ghost use Rattle.html5reading.specs.Starting.{CanStart};
+ghost use Rattle.html5ever.specs.Tokenizer.{rules_of, StandsAt, FeedsOn, HandsOn, LeavesWaiting};
 ghost use Rattle.html5ever.specs.Tokenizer.{StopsFeeding, LeavesRefused, Finishes, StopsEnding, EndStops};
 
-use crate::position::Position;
-use crate::reading::read_queue;
-use crate::rules::Rules;
+use html5reading::position::Position;
+use html5reading::reading::read_queue;
+use html5reading::rules::Rules;
 use std::alloc::{Allocator, Global};
 use std::marker::Model;
 

@@ -6,7 +6,8 @@ ghost use Rattle.html5print.specs.Page.{page_step, page_reply, page_foreign};
 ghost use Rattle.html5ever_interface.specs.Options.{options_of};
 ghost use Rattle.html5tok.specs.Settings.{options_said, said_by};
 ghost use Rattle.html5tok.specs.Printing.{printed_reading, PrintsReading, PrintsBeginning, PrintsNothing};
-ghost use Rattle.html5ever.specs.Tokenizer.{CanStart, ReadsOn};
+ghost use Rattle.html5reading.specs.Starting.{CanStart};
+ghost use Rattle.html5ever.specs.Tokenizer.{ReadsOn};
 ghost use Rattle.markup5ever.specs.NamedReferences.{table_of};
 
 use crate::device::{Source, Target, read_to_end, write_all};

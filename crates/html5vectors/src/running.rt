@@ -1,6 +1,6 @@
 //! Running the tokenizer on a text that comes in pieces.
 ghost use Rattle.std.specs.Prelude.{◌≡◌, IfOk};
-ghost use Rattle.html5ever.specs.Tokenizer.{CanStart};
+ghost use Rattle.html5reading.specs.Starting.{CanStart};
 
 use crate::lines::{exact_lines, lines_of};
 use crate::names::profile;

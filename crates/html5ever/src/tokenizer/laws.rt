@@ -16,7 +16,8 @@ ghost use Rattle.html5grammar.specs.Start.{Raw, Start, Rules, start_of};
 ghost use Rattle.html5ever.specs.RunSteps.{run_text};
 ghost use Rattle.html5ever.specs.RunSteps.StepOf.{AtBack};
 ghost use Rattle.html5states.specs.Telling.{IsRefusal, faults_of};
-ghost use Rattle.html5ever.specs.Tokenizer.{CanStart, rules_of, ReadsWhole, StopsWhole, EndStops, collected_of};
+ghost use Rattle.html5reading.specs.Starting.{CanStart};
+ghost use Rattle.html5ever.specs.Tokenizer.{rules_of, ReadsWhole, StopsWhole, EndStops, collected_of};
 
 use crate::tokenizer::Tokenizer;
 use crate::tokenizer::steps::feed_until_done;

@@ -4,10 +4,11 @@ ghost use Rattle.html5ever_interface.specs.Options.{options_of};
 ghost use Rattle.html5ever_interface.specs.Sink.{stepped};
 ghost use Rattle.html5grammar.specs.Reading.{reading, messages, after};
 ghost use Rattle.html5grammar.specs.Start.{start_of, held_len};
-ghost use Rattle.html5ever.specs.Feed.{IsEndOf, IsLinear};
+ghost use Rattle.html5reading.specs.Feed.{IsEndOf, IsLinear};
 ghost use Rattle.html5states.specs.Telling.{faults_of};
 ghost use Rattle.html5ever.specs.RunSteps.{step_of, waiting_with, run_text, FinishesRun, StopsRun};
-ghost use Rattle.html5ever.specs.Tokenizer.{CanStart, rules_of, ReadsOn, StopsReading, EndStops};
+ghost use Rattle.html5reading.specs.Starting.{CanStart};
+ghost use Rattle.html5ever.specs.Tokenizer.{rules_of, ReadsOn, StopsReading, EndStops};
 ghost use Rattle.html5ever.specs.Tokenizer.{FeedsOn, LeavesWaiting, StopsFeeding};
 
 use crate::tokenizer::Tokenizer;

@@ -1,5 +1,5 @@
 ghost use Rattle.std.specs.Prelude.{IsSome};
-ghost use Rattle.html5ever.specs.Tokenizer.{CanStart};
+ghost use Rattle.html5reading.specs.Starting.{CanStart};
 ghost use Rattle.html5table.specs.Listed.{listed};
 
 use super::*;
