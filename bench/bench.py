@@ -63,6 +63,7 @@ def cases(sizes):
     table = ["--table", corpora.table()]
     yield Case(f"pages, {sizes.megabytes} MB", corpora.pages(sizes.megabytes), [])
     yield Case(f"pages of entities, {sizes.megabytes} MB", corpora.entity_pages(sizes.megabytes), [], table)
+    yield Case(f"full pages, {sizes.megabytes} MB", corpora.full_pages(sizes.megabytes), [], table)
     yield Case(f"{sizes.odd:,} `&`", b"&" * sizes.odd, [], table)
     yield Case(f"a number of {sizes.long / MB:g} MB", corpora.long_number(sizes.long), [], table)
     yield Case(f"plain text, {sizes.megabytes} MB", corpora.plain_text(sizes.megabytes), ["--state", "plaintext"])
@@ -81,6 +82,8 @@ def linear_cases(sizes):
     table = ["--table", corpora.table()]
     for megabytes in sizes.linear[::2]:
         yield Case("pages of entities, whole", corpora.entity_pages(megabytes), [], table)
+    for megabytes in sizes.linear[::2]:
+        yield Case("full pages, whole", corpora.full_pages(megabytes), [], table)
     for size in (sizes.long // 8, sizes.long):
         yield Case("a number, whole", corpora.long_number(size), [])
     for size in (MB // 8, MB):

@@ -1,4 +1,4 @@
-"""The texts that are timed. All are made here, from one seed, and none has a comment, a doctype or a `meta`."""
+"""The texts that are timed. All are made here, from one seed. None has a `meta`; only full pages have comments, doctypes, scripts and styles."""
 
 import html.entities
 import random
@@ -28,15 +28,28 @@ BLOCKS = [
     '<span data-id="{n}" data-id="{n}" style="color: red; width: {n}px">{word}</span>\r\n',
     "<p>{n} < {n}{n} {some}</p>\n",
 ]
+# What full pages have besides: a page's head, scripts, styles, and comments.
+FULL_BLOCKS = BLOCKS + [
+    "<!DOCTYPE html>\n<html lang=en>\n<head><title>{some} &amp; {word}</title>\n",
+    '<!DOCTYPE html PUBLIC "-//W3C//DTD XHTML 1.0 Strict//EN" "http://www.w3.org/TR/xhtml1/DTD/xhtml1-strict.dtd">\n',
+    "<!-- {some} -->\n",
+    "<!-- {many}\n     {many} -->\n",
+    "<!--[if lt IE {n}]><p>{some}</p><![endif]-->\n",
+    "<style>\n.card-{n} > p {{ margin: 0 {n}px; color: #333 }}\n.card-{n}::before {{ content: '<' }}\n</style>\n",
+    '<script>\nfor (let i = 0; i < {n} && i << 1; i++) {{ add("<p>" + i + "<\\/p>"); }} // {many}\n</script>\n',
+    '<script>var data = {{"id": {n}, "text": "{many}", "list": [{n}, {n}, {n}]}};</script>\n',
+    "<script><!--\nshow('{some}');\n//--></script>\n",
+    '<textarea name="t{n}" rows=4>{some} < {n} &lt; {some}</textarea>\n',
+]
 
 
 def phrase(chance, words, least, most):
     return " ".join(chance.choices(words, k=chance.randint(least, most)))
 
 
-def block(chance, words):
+def block(chance, words, blocks=BLOCKS):
     """A piece of a page."""
-    return chance.choice(BLOCKS).format(
+    return chance.choice(blocks).format(
         n=chance.randint(1, 99_999),
         word=chance.choice(WORDS),
         some=phrase(chance, words, 1, 5),
@@ -76,6 +89,12 @@ def entity_pages(megabytes):
     """The same, where about one word in ten is or has a character reference."""
     chance = random.Random(SEED)
     return filled(MB, lambda: block(chance, WORDS + REFERENCES * 2)) * megabytes
+
+
+def full_pages(megabytes):
+    """Pages with all that a page has: references, comments, doctypes, scripts, styles and titles."""
+    chance = random.Random(SEED)
+    return filled(MB, lambda: block(chance, WORDS + REFERENCES * 2, FULL_BLOCKS)) * megabytes
 
 
 def plain_text(megabytes):

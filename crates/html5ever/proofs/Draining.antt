@@ -3,18 +3,17 @@ use Rattle.std.proofs.Common.{◌≡◌, ℕ, Bool, false, List, [], ◌++◌, r
 use Rattle.std.proofs.lemmas.List.{append-nil, append_assoc, append_cancel_right}
 use Rattle.html5ever_interface.specs.Sink.{Message, stepped}
 use Rattle.html5ever_interface.specs.Token.{Told, Reply}
-use Rattle.html5grammar.proofs.ReadingLemmas.{state_behind, told-append, after-append, told-not_built, after-not_built}
+use Rattle.html5grammar.proofs.ReadingLemmas.{state_behind, told-append, after-append}
 use Rattle.html5grammar.specs.Reading.{told, messages, after}
 use Rattle.html5grammar.specs.Start.{Start, Rules, held_len}
-use Rattle.html5grammar.specs.Start.Open.{NotBuilt}
 use Rattle.markup5ever.specs.BufferQueue.{TextQueue}
-use Rattle.html5ever.specs.Feed.{Feed, feed, told_beyond, IsEndOf, IsLinear}
+use Rattle.html5reading.specs.Feed.{Feed, feed, told_beyond, IsEndOf, IsLinear}
 use Rattle.html5states.specs.Telling.{Stops}
-use Rattle.html5ever.specs.Tokenizer.{Tokenizing, StandsAt, ReadsOn, FeedsOn, LeavesWaiting, MeetsNotBuilt, FeedMeetsNotBuilt, StopsReading, StopsFeeding}
+use Rattle.html5ever.specs.Tokenizer.{Tokenizing, StandsAt, ReadsOn, FeedsOn, LeavesWaiting, StopsReading, StopsFeeding}
 use Rattle.html5parts.specs.declared.error.TokenizerError.{TokenizerError}
-use Rattle.html5parts.specs.declared.error.TokenizerError.TheVariants.{Memory, Sink, Failed, NotYet}
-use Rattle.html5ever.proofs.Pauses.{told_beyond-behind, state_behind-append, feed-parts}
-use Rattle.html5ever.proofs.QueueReading.{no_error}
+use Rattle.html5parts.specs.declared.error.TokenizerError.TheVariants.{Memory, Sink, Failed}
+use Rattle.html5reading.proofs.Pauses.{told_beyond-behind, state_behind-append, feed-parts}
+use Rattle.html5reading.proofs.QueueReading.{no_error}
 use Rattle.html5states.proofs.Tellings.{stops_after, stops_before}
 use Rattle.std.proofs.Common.{Result, Ok, Err, true, ◌↔◌}
 
@@ -107,36 +106,17 @@ module _ {X S H : Type 0} (state : X → S) (step : S → Told → ℕ → S) (r
   HasDrained-all first now old new drained none K s text stands =
       subst (λ l. StandsAt state step reply foreign now K s (text ++ l)) (sym (drained.parts ∙ ap (λ l. drained.front ++ l) none ∙ append-nil drained.front)) (drained.reads K s text stands)
 
-  -- a feed that meets what isn't built yet
-  pub HasDrained-met : (first now : Tokenizing X) (old queue : TextQueue) → HasDrained first now old queue
-      → FeedMeetsNotBuilt state step reply foreign now queue.text → MeetsNotBuilt state step reply foreign first old.text
-  HasDrained-met first now old queue drained met K s text stands =
-      let x : Rules = first.rules in
-      let f : Feed H = feed step reply foreign x K s (text ++ drained.front) queue.text in
-      let here : (after step reply foreign x K s ((text ++ drained.front) ++ f.taken)).opened ≡ NotBuilt =
-      subst (λ b. (after step reply foreign b K s ((text ++ drained.front) ++ (feed step reply foreign b K s (text ++ drained.front) queue.text).taken)).opened ≡ NotBuilt) drained.rules
-      (met K s (text ++ drained.front) (drained.reads K s text stands)) in
-      let whole : text ++ old.text ≡ ((text ++ drained.front) ++ f.taken) ++ f.left =
-      ap (λ l. text ++ l) (drained.parts ∙ ap (λ l. drained.front ++ l) (sym (feed-parts step reply foreign x K s (text ++ drained.front) queue.text)))
-      ∙ sym (append_assoc text drained.front (f.taken ++ f.left)) ∙ sym (append_assoc (text ++ drained.front) f.taken f.left) in
-      ap (λ l. (after step reply foreign x K s l).opened) whole
-      ∙ ap (λ (P : Start). P.opened) (after-append step reply foreign x K s ((text ++ drained.front) ++ f.taken) f.left)
-      ∙ after-not_built step reply foreign x (after step reply foreign x K s ((text ++ drained.front) ++ f.taken)) _ f.left here
-
   module _ (faulted : S → Told → ℕ → S) where
     -- a refused feed stops within all that the queue tells
-    drained-stops : (e : TokenizerError) (s t v : S) (F T L : List Message) → t ≡ stepped step s F → (e ≡ NotYet → L ≡ [])
+    drained-stops : (e : TokenizerError) (s t v : S) (F T L : List Message) → t ≡ stepped step s F
         → Stops step faulted e t T v → Stops step faulted e s (F ++ (T ++ L)) v
-    drained-stops Memory s t v F T L e none stop = stops_after step faulted Memory s t v F (T ++ L) e (stops_before step faulted Memory t v T L tt stop)
-    drained-stops Sink s t v F T L e none stop = stops_after step faulted Sink s t v F (T ++ L) e (stops_before step faulted Sink t v T L tt stop)
-    drained-stops Failed s t v F T L e none stop = stop
-    drained-stops NotYet s t v F T L e none stop =
-        rw (none refl, append-nil T) (stops_after step faulted NotYet s t v F T e stop)
+    drained-stops Memory s t v F T L e stop = stops_after step faulted Memory s t v F (T ++ L) e (stops_before step faulted Memory t v T L tt stop)
+    drained-stops Sink s t v F T L e stop = stops_after step faulted Sink s t v F (T ++ L) e (stops_before step faulted Sink t v T L tt stop)
+    drained-stops Failed s t v F T L e stop = stop
 
     pub HasDrained-stops : (e : TokenizerError) (first now : Tokenizing X) (old queue : TextQueue) (v : S) → HasDrained first now old queue
-        → (e ≡ NotYet → FeedMeetsNotBuilt state step reply foreign now queue.text)
         → StopsFeeding state step reply foreign faulted e now queue.text v → StopsReading state step reply foreign faulted e first old.text v
-    HasDrained-stops e first now old queue v drained met stops K s text stands =
+    HasDrained-stops e first now old queue v drained stops K s text stands =
         let x : Rules = first.rules in
         let f : Feed H = feed step reply foreign x K s (text ++ drained.front) queue.text in
         let mid : StandsAt state step reply foreign now K s (text ++ drained.front) = drained.reads K s text stands in
@@ -150,12 +130,7 @@ module _ {X S H : Type 0} (state : X → S) (step : S → Told → ℕ → S) (r
         ∙ ap (λ b. stepped step s (messages (told step reply foreign b K s (text ++ drained.front)))) drained.rules
         ∙ state-beyond step reply foreign x K s text drained.front
         ∙ ap (λ u. stepped step u (told_beyond step reply foreign x K s text drained.front)) (sym stands.told) in
-        let none : e ≡ NotYet → told_beyond step reply foreign x K s ((text ++ drained.front) ++ f.taken) f.left ≡ [] = λ same.
-        told_beyond-behind step reply foreign x K s ((text ++ drained.front) ++ f.taken) f.left
-        ∙ told-not_built step reply foreign x (after step reply foreign x K s ((text ++ drained.front) ++ f.taken)) _ f.left
-        (subst (λ b. (after step reply foreign b K s ((text ++ drained.front) ++ (feed step reply foreign b K s (text ++ drained.front) queue.text).taken)).opened ≡ NotBuilt) drained.rules
-        (met same K s (text ++ drained.front) mid)) in
-        rw whole (drained-stops e (state first.sink) (state now.sink) v _ _ _ state_now none
+        rw whole (drained-stops e (state first.sink) (state now.sink) v _ _ _ state_now
         (subst (λ b. Stops step faulted e (state now.sink) (told_beyond step reply foreign b K s (text ++ drained.front) (feed step reply foreign b K s (text ++ drained.front) queue.text).taken) v) drained.rules
         (stops K s (text ++ drained.front) mid)))
 

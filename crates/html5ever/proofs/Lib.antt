@@ -1,11 +1,4 @@
-pub mod RunLemmas
-pub mod Pauses
-pub mod QueueReading
 pub mod Standing
-pub mod Decided
-pub mod CharacterReading
 pub mod Wholes
 pub mod Draining
 pub mod StepRuns
-pub mod UndecidedReading
-pub mod KeywordReading

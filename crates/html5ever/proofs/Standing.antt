@@ -1,34 +1,26 @@
 -- Where a tokenizer stands, after more text and at the end.
-use Rattle.std.proofs.Common.{Bool, ◌≡◌, ℕ, ◌<◌, ◌^◌, arith, string_bytes, false, List, [], ◌∷◌, ◌++◌, refl, ap, sym, ◌∙◌, subst, length, drop}
+use Rattle.std.proofs.Common.{Bool, ◌≡◌, ℕ, ◌<◌, ◌^◌, arith, false, List, [], ◌∷◌, ◌++◌, refl, ap, sym, ◌∙◌, subst, length, drop}
 use Rattle.std.proofs.Math.Seq.{drop-append_seam}
 use Rattle.std.proofs.lemmas.List.{length-map}
 use Rattle.html5ever_interface.specs.Sink.{Message, stepped, on_line}
 use Rattle.html5ever_interface.specs.Token.{Told, Reply}
-use Rattle.html5grammar.specs.Cdata.{open_cdata}
 use Rattle.html5grammar.specs.EndOfInput.{tokens_at_end}
 use Rattle.html5grammar.specs.NormalisedText.{with_line_feeds, without_dropped_first, normalised, line_after, input_after}
 use Rattle.html5grammar.specs.Reading.{Event, end_events, reading, told, messages, after, read}
-use Rattle.html5grammar.specs.Start.{Start, Input, Rules, initial_mode}
+use Rattle.html5grammar.specs.Start.{Start, Input, Rules}
 use Rattle.html5grammar.specs.Start.Mode.{Plain}
-use Rattle.html5grammar.specs.Start.Open.{Between, NotBuilt}
+use Rattle.html5grammar.specs.Start.Open.{Between}
 use Rattle.html5grammar.proofs.ReadingLemmas.{told-nil, told-append, after-nil, after-append, reading-events, messages-at_end}
 use Rattle.html5ever_interface.proofs.Steppings.{stepped-append}
 use Rattle.html5grammar.proofs.Traces.{messages-append}
-use Rattle.html5ever.specs.Feed.{Feed, pauses, reply_in, told_beyond, told_at_end, feed}
-use Rattle.html5ever.specs.Refused.{IsItem, RefusedBehind}
-use Rattle.html5ever.proofs.Pauses.{told_beyond-behind, state_behind-append, feed-anew, feed-done, feed-shorter, reply_in-pauses}
+use Rattle.html5reading.specs.Feed.{Feed, pauses, reply_in, told_beyond, told_at_end, feed}
+use Rattle.html5reading.specs.Refused.{IsItem, RefusedBehind}
+use Rattle.html5reading.proofs.Pauses.{told_beyond-behind, state_behind-append, feed-anew, feed-done, feed-shorter, reply_in-pauses}
 use Rattle.markup5ever.specs.declared.tokenizer_result.TokenizerResult.{TokenizerResult}
 use Rattle.markup5ever.specs.declared.tokenizer_result.TokenizerResult.TheVariants.{Done, Script, EncodingIndicator}
 use Rattle.std.specs.Prelude.{Result, Ok, Err, OnOk, IfOk, IfErr, is_err, ◌≢◌}
-use Rattle.html5parts.specs.Steps.{IsBuilt}
 use Rattle.html5states.specs.Telling.{Stops, Tells}
-use Rattle.std.specs.Prelude.{Option, None, Some}
-use Rattle.std.specs.Option.{unwrap_or}
-use Rattle.html5ever_interface.specs.declared.states.State.{State}
-use Rattle.html5ever_interface.specs.declared.states.State.TheVariants as state
-use Rattle.html5parts.specs.CurrentTag.{open_of, opened_of, last_name_of}
-use Rattle.html5parts.specs.declared.opened.Opened.{Opened}
-use Rattle.html5ever.specs.Tokenizer.{CanStart, Tokenizing, StandsAt, FeedsOn, HandsOn, LeavesWaiting, FeedMeetsNotBuilt, StopsFeeding, LeavesRefused, EndStops}
+use Rattle.html5ever.specs.Tokenizer.{Tokenizing, StandsAt, FeedsOn, HandsOn, LeavesWaiting, StopsFeeding, LeavesRefused, EndStops}
 use Rattle.html5parts.specs.declared.error.TokenizerError.{TokenizerError}
 use Rattle.html5parts.specs.declared.error.TokenizerError.TheVariants.{Failed}
 
@@ -37,24 +29,6 @@ position-line : (I : Input) (X : List ℕ) → (input_after I X).line < 2 ^ 64 �
 unfolding input_after normalised without_dropped_first with_line_feeds line_after
 position-line I [] h = omega arith
 position-line I (c ∷ X) h = refl
-
--- the state in which a stream starts
-
-starts-mode : {Z : Type 0} → (chosen : Option State) (at : Opened Z) → string_bytes at.comment ≡ [] → CanStart chosen → open_of (unwrap_or chosen state.Data) at ≡ Between (initial_mode chosen (last_name_of at))
-starts-mode None at none can = refl
-starts-mode (Some state.Data) at none can = refl
-starts-mode (Some state.Plaintext) at none can = refl
-starts-mode (Some (state.RawData kind)) at none can = refl
-starts-mode (Some state.CdataSection) at none can = ap open_cdata none
-starts-mode (Some other) at none can = absurd can
-
-pub starts-in : {Z : Type 0} → (chosen : Option State) (at : Opened Z) → at.state ≡ unwrap_or chosen state.Data → string_bytes at.comment ≡ [] → CanStart chosen
-    → opened_of at ≡ Between (initial_mode chosen (last_name_of at))
-starts-in chosen at is none can = ap (λ s. open_of s at) is ∙ starts-mode chosen at none can
-
-pub start-is : (K L : Start) → K.opened ≡ L.opened → K.last_start_tag ≡ L.last_start_tag → K.input.line ≡ L.input.line → K.input.after_carriage_return ≡ L.input.after_carriage_return
-    → K.input.drops_byte_order_mark ≡ L.input.drops_byte_order_mark → K ≡ L
-start-is K L opened last line carriage_return mark = rw (← opened, ← last, ← line, ← carriage_return, ← mark) refl
 
 script≢done : {H T E : Type 0} (handle : H) (r q : Result (TokenizerResult H T) E) → r ≡ Ok (Script handle) → q ≡ Ok Done → r ≡ q → ⊥
 script≢done handle r q h k e = cc
@@ -92,33 +66,32 @@ module _ {X S H : Type 0} (state : X → S) (step : S → Told → ℕ → S) (r
       ∙ ap (λ n. drop n (messages E ++ M)) (sym (length-map E (λ (e : Event). e.message)))
       ∙ drop-append_seam (messages E) M
 
-  pub StandsAt-start : (t : Tokenizing X) (K : Start) → t.position ≡ K → IsBuilt t.position.opened → t.failed ≡ false → t.ended ≡ false
+  pub StandsAt-start : (t : Tokenizing X) (K : Start) → t.position ≡ K → t.failed ≡ false → t.ended ≡ false
       → StandsAt state step reply foreign t K (state t.sink) []
   unfolding stepped
-  StandsAt-start t K e built not_failed not_ended = record {
+  StandsAt-start t K e not_failed not_ended = record {
     told = rw (told-nil step reply foreign t.rules K (state t.sink)) refl;
     position = e ∙ sym (after-nil step reply foreign t.rules K (state t.sink));
-    built = built;
     not_failed = not_failed;
     not_ended = not_ended;
   }
 
   -- another sink, where nothing is pending
-  pub StandsAt-anew : (t : Tokenizing X) (x : X) → (t.failed ≡ false → IsBuilt t.position.opened) → t.failed ≡ false → t.ended ≡ false
+  pub StandsAt-anew : (t : Tokenizing X) (x : X) → t.failed ≡ false → t.ended ≡ false
       → StandsAt state step reply foreign (record t { sink = x }) t.position (state x) []
-  StandsAt-anew t x built not_failed not_ended = StandsAt-start (record t { sink = x }) t.position refl (built not_failed) not_failed not_ended
+  StandsAt-anew t x not_failed not_ended = StandsAt-start (record t { sink = x }) t.position refl not_failed not_ended
 
   -- plain text from here on
   pub StandsAt-plain : (t : Tokenizing X) (before : Start) → t.position.opened ≡ Between Plain → t.position.last_start_tag ≡ before.last_start_tag → t.position.input ≡ before.input → t.failed ≡ false → t.ended ≡ false
       → StandsAt state step reply foreign t (record before { opened = Between Plain }) (state t.sink) []
   StandsAt-plain t before opened last input not_failed not_ended =
-      StandsAt-start t (record before { opened = Between Plain }) (rw (← opened, ← last, ← input) refl) (rw opened tt) not_failed not_ended
+      StandsAt-start t (record before { opened = Between Plain }) (rw (← opened, ← last, ← input) refl) not_failed not_ended
 
   pub StandsAt-more : (t u : Tokenizing X) (K : Start) (s : S) (text more : List ℕ)
       → u.rules ≡ t.rules → state u.sink ≡ stepped step (state t.sink) (messages (told step reply foreign t.rules t.position (state t.sink) more))
-      → u.position ≡ after step reply foreign t.rules t.position (state t.sink) more → IsBuilt u.position.opened → u.failed ≡ false → u.ended ≡ t.ended
+      → u.position ≡ after step reply foreign t.rules t.position (state t.sink) more → u.failed ≡ false → u.ended ≡ t.ended
       → StandsAt state step reply foreign t K s text → StandsAt state step reply foreign u K s (text ++ more)
-  StandsAt-more t u K s text more rules tells moves built not_failed ended stands = record {
+  StandsAt-more t u K s text more rules tells moves not_failed ended stands = record {
     told =
         tells
         ∙ rw (stands.position, stands.told)
@@ -129,17 +102,9 @@ module _ {X S H : Type 0} (state : X → S) (step : S → Told → ℕ → S) (r
         moves
         ∙ rw (stands.position, stands.told) (sym (after-append step reply foreign t.rules K s text more))
         ∙ ap (λ x. after step reply foreign x K s (text ++ more)) (sym rules);
-    built = built;
     not_failed = not_failed;
     not_ended = ended ∙ stands.not_ended;
   }
-
-  -- the text meets what isn't built yet
-  pub not_built-more : (t : Tokenizing X) (K : Start) (s : S) (text more : List ℕ)
-      → (after step reply foreign t.rules t.position (state t.sink) more).opened ≡ NotBuilt
-      → StandsAt state step reply foreign t K s text → (after step reply foreign t.rules K s (text ++ more)).opened ≡ NotBuilt
-  not_built-more t K s text more met stands =
-      ap (λ (P : Start). P.opened) (after-append step reply foreign t.rules K s text more) ∙ rw (← stands.told, ← stands.position) met
 
   -- what a feed does is told by where the tokenizer stands
   pub feed-stands : (t : Tokenizing X) (K : Start) (s : S) (text queue : List ℕ) → StandsAt state step reply foreign t K s text
@@ -155,10 +120,10 @@ module _ {X S H : Type 0} (state : X → S) (step : S → Told → ℕ → S) (r
         → u.rules ≡ t.rules → u.failed ≡ is_err r → u.ended ≡ t.ended
         → Tells step faulted r (state t.sink) (messages (told step reply foreign t.rules t.position (state t.sink) (feed step reply foreign t.rules t.position (state t.sink) [] queue).taken)) (state u.sink)
         → OnOk r (u.position ≡ after step reply foreign t.rules t.position (state t.sink) (feed step reply foreign t.rules t.position (state t.sink) [] queue).taken)
-        → OnOk r (IsBuilt u.position.opened) → OnOk r (FeedsOn state step reply foreign t u queue)
-    FeedsOn-read (Ok x) t u queue rules failed ended tells moves built = λ K s text stands.
-        rw (feed-stands t K s text queue stands) (StandsAt-more t u K s text _ rules tells moves built failed ended stands)
-    FeedsOn-read (Err e) t u queue rules failed ended tells moves built = tt
+        → OnOk r (FeedsOn state step reply foreign t u queue)
+    FeedsOn-read (Ok x) t u queue rules failed ended tells moves = λ K s text stands.
+        rw (feed-stands t K s text queue stands) (StandsAt-more t u K s text _ rules tells moves failed ended stands)
+    FeedsOn-read (Err e) t u queue rules failed ended tells moves = tt
 
     pub Stops-beyond : (e : TokenizerError) (t : Tokenizing X) (K : Start) (s v : S) (text more : List ℕ)
         → StandsAt state step reply foreign t K s text
@@ -200,12 +165,6 @@ module _ {X S H : Type 0} (state : X → S) (step : S → Told → ℕ → S) (r
       → left ≡ (feed step reply foreign t.rules t.position (state t.sink) [] queue).left → LeavesWaiting state step reply foreign t queue left
   LeavesWaiting-stands t queue left is K s text stands =
       is ∙ ap (λ (f : Feed H). f.left) (sym (feed-stands state step reply foreign t K s text queue stands))
-
-  pub FeedMeets-stands : (t : Tokenizing X) (queue : List ℕ)
-      → (after step reply foreign t.rules t.position (state t.sink) (feed step reply foreign t.rules t.position (state t.sink) [] queue).taken).opened ≡ NotBuilt
-      → FeedMeetsNotBuilt state step reply foreign t queue
-  FeedMeets-stands t queue met K s text stands =
-      rw (feed-stands state step reply foreign t K s text queue stands) (not_built-more state step reply foreign t K s text _ met stands)
 
   StopsFeeding-stands : (faulted : S → Told → ℕ → S) (e : TokenizerError) (t : Tokenizing X) (queue : List ℕ) (v : S)
       → Stops step faulted e (state t.sink) (messages (told step reply foreign t.rules t.position (state t.sink) (feed step reply foreign t.rules t.position (state t.sink) [] queue).taken)) v

@@ -1,25 +1,21 @@
 -- A run by steps: what was taken so far, and what that gives at the end or where it is refused.
 use Rattle.std.proofs.Common.{Bool, ◌≡◌, ℕ, false, List, [], ◌∷◌, ◌++◌, refl, ap, sym, ◌∙◌, subst, length, arith}
 use Rattle.std.specs.List.{concat}
-use Rattle.std.specs.Prelude.{map, Result, Err, IfErr}
+use Rattle.std.specs.Prelude.{map}
 use Rattle.std.proofs.lemmas.List.{append-nil, append_assoc}
 use Rattle.html5ever_interface.specs.Sink.{stepped}
 use Rattle.html5ever_interface.specs.Token.{Told, Reply}
-use Rattle.html5grammar.proofs.ReadingLemmas.{after-append, after-not_built}
-use Rattle.html5grammar.specs.Reading.{reading, messages, after}
+use Rattle.html5grammar.specs.Reading.{reading, messages}
 use Rattle.html5grammar.specs.Start.{Start, Rules}
-use Rattle.html5grammar.specs.Start.Open.{NotBuilt}
-use Rattle.html5ever.specs.Feed.{Feed, feed, told_beyond, IsEndOf}
+use Rattle.html5reading.specs.Feed.{Feed, feed, told_beyond, IsEndOf}
 use Rattle.html5ever.specs.RunSteps.StepOf.{AtBack}
-use Rattle.html5ever.proofs.Pauses.{feed-parts}
-use Rattle.html5ever.specs.RunSteps.{StepOf, waiting_with, run_text, FinishesRun, StopsRun, IsBuiltInRun, MeetsInRun}
-use Rattle.html5parts.specs.Steps.{IsBuilt}
+use Rattle.html5reading.proofs.Pauses.{feed-parts}
+use Rattle.html5ever.specs.RunSteps.{StepOf, waiting_with, run_text, FinishesRun, StopsRun}
 use Rattle.html5states.specs.Telling.{Stops}
-use Rattle.html5ever.specs.Tokenizer.{Tokenizing, StandsAt, ReadsOn, FeedsOn, LeavesWaiting, Finishes, FeedMeetsNotBuilt, MeetsNotBuilt, StopsFeeding, StopsReading, StopsEnding, WholeStops}
+use Rattle.html5ever.specs.Tokenizer.{Tokenizing, StandsAt, ReadsOn, FeedsOn, LeavesWaiting, Finishes, StopsFeeding, StopsReading, StopsEnding, EndStops}
 use Rattle.html5parts.specs.declared.error.TokenizerError.{TokenizerError}
-use Rattle.html5parts.specs.declared.error.TokenizerError.TheVariants.{Memory, NotYet}
+use Rattle.html5parts.specs.declared.error.TokenizerError.TheVariants.{Memory}
 use Rattle.html5ever.proofs.Draining.{taken-is}
-use Rattle.html5ever.proofs.QueueReading.{memory≢not_yet}
 use Rattle.html5states.proofs.Tellings.{Memory-at_once}
 use Rattle.html5ever.proofs.Wholes.{whole-within_stops, whole-end_stops}
 
@@ -125,29 +121,6 @@ module _ {X S H : Type 0} (state : X → S) (step : S → Told → ℕ → S) (r
       ∙ ap (λ b. finish (stepped step s (messages (reading step reply foreign b K s (taken.front ++ queue))))) (rules ∙ taken.rules)
       ∙ ap (λ l. finish (stepped step s (messages (reading step reply foreign first.rules K s l)))) (sym text)
 
-  -- where all was read, nothing that isn't built yet was met
-  pub HasTaken-built : (first now last : Tokenizing X) (steps : List StepOf) (queue : List ℕ) → HasTaken first now steps [] queue
-      → ReadsOn state step reply foreign now last queue → last.rules ≡ now.rules → IsBuiltInRun state step reply foreign first steps
-  HasTaken-built first now last steps queue taken reads rules K s stands =
-      let text : run_text step reply foreign first.rules K s [] [] steps ≡ taken.front ++ queue =
-      taken.runs K s stands ∙ run_text-last step reply foreign first.rules K s taken.front queue in
-      let standing : StandsAt state step reply foreign last K s (taken.front ++ queue) = reads K s taken.front (taken.reads K s [] stands) in
-      subst (λ l. IsBuilt (after step reply foreign first.rules K s l).opened) (sym text)
-      (subst (λ b. IsBuilt (after step reply foreign b K s (taken.front ++ queue)).opened) (rules ∙ taken.rules)
-      (subst (λ (P : Start). IsBuilt P.opened) standing.position standing.built))
-
-  -- what isn't built yet, met in what the run takes next
-  meets-within : (first now : Tokenizing X) (steps rest : List StepOf) (queue fed more : List ℕ) → (taken : HasTaken first now steps rest queue)
-      → (K : Start) (s : S) → StandsAt state step reply foreign first K s []
-      → run_text step reply foreign first.rules K s taken.front queue rest ≡ (taken.front ++ fed) ++ more
-      → (after step reply foreign now.rules K s (taken.front ++ fed)).opened ≡ NotBuilt
-      → (after step reply foreign first.rules K s (run_text step reply foreign first.rules K s [] [] steps)).opened ≡ NotBuilt
-  meets-within first now steps rest queue fed more taken K s stands parts met =
-      ap (λ l. (after step reply foreign first.rules K s l).opened) (taken.runs K s stands ∙ parts)
-      ∙ ap (λ (P : Start). P.opened) (after-append step reply foreign first.rules K s (taken.front ++ fed) more)
-      ∙ after-not_built step reply foreign first.rules (after step reply foreign first.rules K s (taken.front ++ fed)) _ more
-      (subst (λ b. (after step reply foreign b K s (taken.front ++ fed)).opened ≡ NotBuilt) taken.rules met)
-
   -- the feed behind a step takes this much of what the run takes
   fed-parts : (first now : Tokenizing X) (steps rest : List StepOf) (t : StepOf) (queue waiting : List ℕ) → (taken : HasTaken first now steps (t ∷ rest) queue)
       → waiting ≡ waiting_with t queue → (K : Start) (s : S)
@@ -165,40 +138,17 @@ module _ {X S H : Type 0} (state : X → S) (step : S → Told → ℕ → S) (r
             ∙ begins.parts,
       )
 
-  pub HasTaken-met : (first now : Tokenizing X) (steps rest : List StepOf) (t : StepOf) (queue waiting : List ℕ)
-      → HasTaken first now steps (t ∷ rest) queue → waiting ≡ waiting_with t queue
-      → FeedMeetsNotBuilt state step reply foreign now waiting → MeetsInRun state step reply foreign first steps
-  HasTaken-met first now steps rest t queue waiting taken handed met K s stands =
-      let parts = fed-parts first now steps rest t queue waiting taken handed K s in
-      meets-within first now steps (t ∷ rest) queue _ parts.0 taken K s stands parts.1 (met K s taken.front (taken.reads K s [] stands))
-
-  pub HasTaken-drain_met : (first now : Tokenizing X) (steps : List StepOf) (queue : List ℕ)
-      → HasTaken first now steps [] queue → MeetsNotBuilt state step reply foreign now queue → MeetsInRun state step reply foreign first steps
-  HasTaken-drain_met first now steps queue taken met K s stands =
-      meets-within first now steps [] queue queue [] taken K s stands
-      (run_text-last step reply foreign first.rules K s taken.front queue ∙ sym (append-nil (taken.front ++ queue)))
-      (met K s taken.front (taken.reads K s [] stands))
-
-  -- the end never answers so
-  pub HasTaken-end_met : {T : Type 0} (faulted : S → Told → ℕ → S) (end_faulted : S → S) (r : Result T TokenizerError) (first now last : Tokenizing X) (steps : List StepOf) (queue : List ℕ) (v : S)
-      → r ≡ Err NotYet → IfErr r (λ e. StopsEnding state step reply foreign faulted end_faulted e last v)
-      → HasTaken first now steps [] queue → ReadsOn state step reply foreign now last queue → MeetsInRun state step reply foreign first steps
-  HasTaken-end_met faulted end_faulted r first now last steps queue v same stops taken reads K s stands =
-      let stopped : StopsEnding state step reply foreign faulted end_faulted NotYet last v = rw same at stops in
-      absurd (stopped K s (taken.front ++ queue) (reads K s taken.front (taken.reads K s [] stands)))
-
   module _ (faulted : S → Told → ℕ → S) (end_faulted : S → S) where
     -- refused within what the run takes next
     stops-within : (e : TokenizerError) (first now : Tokenizing X) (steps rest : List StepOf) (queue fed more : List ℕ) (v : S) → (taken : HasTaken first now steps rest queue)
         → (K : Start) (s : S) → StandsAt state step reply foreign first K s []
         → run_text step reply foreign first.rules K s taken.front queue rest ≡ (taken.front ++ fed) ++ more
-        → (e ≡ NotYet → (after step reply foreign now.rules K s (taken.front ++ fed)).opened ≡ NotBuilt)
         → Stops step faulted e (state now.sink) (told_beyond step reply foreign now.rules K s taken.front fed) v
-        → WholeStops step faulted end_faulted e s (messages (reading step reply foreign first.rules K s (run_text step reply foreign first.rules K s [] [] steps))) v
-    stops-within e first now steps rest queue fed more v taken K s stands parts met stops =
-        subst (λ l. WholeStops step faulted end_faulted e s (messages (reading step reply foreign first.rules K s l)) v) (sym (taken.runs K s stands ∙ parts))
-        (subst (λ b. WholeStops step faulted end_faulted e s (messages (reading step reply foreign b K s ((taken.front ++ fed) ++ more))) v) taken.rules
-        (whole-within_stops state step reply foreign faulted end_faulted e now K s v taken.front fed more (taken.reads K s [] stands) met stops))
+        → EndStops step faulted end_faulted e s (messages (reading step reply foreign first.rules K s (run_text step reply foreign first.rules K s [] [] steps))) v
+    stops-within e first now steps rest queue fed more v taken K s stands parts stops =
+        subst (λ l. EndStops step faulted end_faulted e s (messages (reading step reply foreign first.rules K s l)) v) (sym (taken.runs K s stands ∙ parts))
+        (subst (λ b. EndStops step faulted end_faulted e s (messages (reading step reply foreign b K s ((taken.front ++ fed) ++ more))) v) taken.rules
+        (whole-within_stops state step reply foreign faulted end_faulted e now K s v taken.front fed more (taken.reads K s [] stands) stops))
 
     -- a text that could not be handed in
     pub HasTaken-memory : (first now : Tokenizing X) (steps rest : List StepOf) (queue : List ℕ) → HasTaken first now steps rest queue
@@ -206,30 +156,30 @@ module _ {X S H : Type 0} (state : X → S) (step : S → Told → ℕ → S) (r
     HasTaken-memory first now steps rest queue taken K s stands =
         let begins = run_text-begins step reply foreign first.rules K s taken.front queue rest in
         stops-within Memory first now steps rest queue [] begins.more (state now.sink) taken K s stands
-        (begins.parts ∙ ap (λ l. l ++ begins.more) (sym (append-nil taken.front))) (λ same. absurd (memory≢not_yet same))
+        (begins.parts ∙ ap (λ l. l ++ begins.more) (sym (append-nil taken.front)))
         (Memory-at_once step faulted (state now.sink) _)
 
     -- a feed that was refused
     pub HasTaken-stops : (e : TokenizerError) (first now : Tokenizing X) (steps rest : List StepOf) (t : StepOf) (queue waiting : List ℕ) (v : S)
         → HasTaken first now steps (t ∷ rest) queue → waiting ≡ waiting_with t queue
-        → (e ≡ NotYet → FeedMeetsNotBuilt state step reply foreign now waiting) → StopsFeeding state step reply foreign faulted e now waiting v
+        → StopsFeeding state step reply foreign faulted e now waiting v
         → StopsRun state step reply foreign faulted end_faulted e first steps v
-    HasTaken-stops e first now steps rest t queue waiting v taken handed met stops K s stands =
+    HasTaken-stops e first now steps rest t queue waiting v taken handed stops K s stands =
         let mid : StandsAt state step reply foreign now K s taken.front = taken.reads K s [] stands in
         let parts = fed-parts first now steps rest t queue waiting taken handed K s in
         stops-within e first now steps (t ∷ rest) queue _ parts.0 v taken K s stands parts.1
-        (λ is. met is K s taken.front mid) (stops K s taken.front mid)
+        (stops K s taken.front mid)
 
     -- the feeds behind the last step, refused
     pub HasTaken-drain_stops : (e : TokenizerError) (first now : Tokenizing X) (steps : List StepOf) (queue : List ℕ) (v : S)
         → HasTaken first now steps [] queue
-        → (e ≡ NotYet → MeetsNotBuilt state step reply foreign now queue) → StopsReading state step reply foreign faulted e now queue v
+        → StopsReading state step reply foreign faulted e now queue v
         → StopsRun state step reply foreign faulted end_faulted e first steps v
-    HasTaken-drain_stops e first now steps queue v taken met stops K s stands =
+    HasTaken-drain_stops e first now steps queue v taken stops K s stands =
         let mid : StandsAt state step reply foreign now K s taken.front = taken.reads K s [] stands in
         stops-within e first now steps [] queue queue [] v taken K s stands
         (run_text-last step reply foreign first.rules K s taken.front queue ∙ sym (append-nil (taken.front ++ queue)))
-        (λ is. met is K s taken.front mid) (stops K s taken.front mid)
+        (stops K s taken.front mid)
 
     -- the end, refused
     pub HasTaken-end_stops : (e : TokenizerError) (first now last : Tokenizing X) (steps : List StepOf) (queue : List ℕ) (v : S)
@@ -240,8 +190,8 @@ module _ {X S H : Type 0} (state : X → S) (step : S → Told → ℕ → S) (r
         let text : run_text step reply foreign first.rules K s [] [] steps ≡ taken.front ++ queue =
         taken.runs K s stands ∙ run_text-last step reply foreign first.rules K s taken.front queue in
         let standing : StandsAt state step reply foreign last K s (taken.front ++ queue) = reads K s taken.front (taken.reads K s [] stands) in
-        subst (λ l. WholeStops step faulted end_faulted e s (messages (reading step reply foreign first.rules K s l)) v) (sym text)
-        (subst (λ b. WholeStops step faulted end_faulted e s (messages (reading step reply foreign b K s (taken.front ++ queue))) v) (rules ∙ taken.rules)
+        subst (λ l. EndStops step faulted end_faulted e s (messages (reading step reply foreign first.rules K s l)) v) (sym text)
+        (subst (λ b. EndStops step faulted end_faulted e s (messages (reading step reply foreign b K s (taken.front ++ queue))) v) (rules ∙ taken.rules)
         (whole-end_stops state step reply foreign faulted end_faulted e last K s v (taken.front ++ queue) standing (stops K s (taken.front ++ queue) standing)))
 
 -- a list of no item

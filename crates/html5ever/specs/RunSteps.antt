@@ -4,12 +4,10 @@ use Rattle.std.specs.Str.{chars}
 use Rattle.std.specs.String.{string_bytes}
 use Rattle.html5ever_interface.specs.Sink.{stepped}
 use Rattle.html5ever_interface.specs.Token.{Told, Reply}
-use Rattle.html5grammar.specs.Reading.{reading, messages, after}
+use Rattle.html5grammar.specs.Reading.{reading, messages}
 use Rattle.html5grammar.specs.Start.{Start, Rules}
-use Rattle.html5grammar.specs.Start.Open.{NotBuilt}
-use Rattle.html5ever.specs.Feed.{Feed, feed}
-use Rattle.html5parts.specs.Steps.{IsBuilt}
-use Rattle.html5ever.specs.Tokenizer.{Tokenizing, StandsAt, WholeStops}
+use Rattle.html5reading.specs.Feed.{Feed, feed}
+use Rattle.html5ever.specs.Tokenizer.{Tokenizing, StandsAt, EndStops}
 use Rattle.html5parts.specs.declared.error.TokenizerError.{TokenizerError}
 use Rattle.html5ever.specs.declared.tokenizer.steps.Step.{Step}
 use Rattle.html5ever.specs.declared.tokenizer.steps.Step.TheVariants.{Push, Insert}
@@ -48,16 +46,4 @@ module _ {X S H : Type 0} (state : X → S) (step : S → Told → ℕ → S) (r
   abbrev pub StopsRun : (S → Told → ℕ → S) → (S → S) → TokenizerError → Tokenizing X → List StepOf → S → Type 0
   StopsRun faulted end_faulted e old steps t =
       (K : Start) (s : S) → StandsAt state step reply foreign old K s []
-      → WholeStops step faulted end_faulted e s (messages (reading step reply foreign old.rules K s (run_text step reply foreign old.rules K s [] [] steps))) t
-
-  -- from the start of a text, what the steps make the tokenizer take meets what isn't built yet
-  abbrev pub MeetsInRun : Tokenizing X → List StepOf → Type 0
-  MeetsInRun old steps =
-      (K : Start) (s : S) → StandsAt state step reply foreign old K s []
-      → (after step reply foreign old.rules K s (run_text step reply foreign old.rules K s [] [] steps)).opened ≡ NotBuilt
-
-  -- from the start of a text, what the steps make the tokenizer take meets nothing that isn't built yet
-  abbrev pub IsBuiltInRun : Tokenizing X → List StepOf → Type 0
-  IsBuiltInRun old steps =
-      (K : Start) (s : S) → StandsAt state step reply foreign old K s []
-      → IsBuilt (after step reply foreign old.rules K s (run_text step reply foreign old.rules K s [] [] steps)).opened
+      → EndStops step faulted end_faulted e s (messages (reading step reply foreign old.rules K s (run_text step reply foreign old.rules K s [] [] steps))) t

@@ -1,21 +1,17 @@
 -- Where a tokenizer stands in a text, and what its calls make of that.
-use Rattle.std.specs.Prelude.{◌≡◌, ℕ, Bool, false, List, [], ◌++◌, ◌⊎◌, Option, None, Some}
+use Rattle.std.specs.Prelude.{◌≡◌, ℕ, Bool, false, List, [], ◌++◌, ◌⊎◌}
 use Rattle.html5ever_interface.specs.Collected.{Collected, none_collected, collected_step, collected_reply, collected_foreign, collected_finish}
 use Rattle.html5ever_interface.specs.Options.{OptionsOf}
 use Rattle.markup5ever.specs.NamedReferences.{NamedReference}
 use Rattle.html5ever_interface.specs.Sink.{Message, stepped}
 use Rattle.html5ever_interface.specs.Token.{Told, Reply}
-use Rattle.html5ever_interface.specs.declared.states.State.{State}
-use Rattle.html5ever_interface.specs.declared.states.State.TheVariants.{Data, Plaintext, RawData, CdataSection}
 use Rattle.html5grammar.specs.Reading.{reading, told, messages, after}
-use Rattle.html5grammar.specs.Start.{Start, Open, Rules, start_of}
-use Rattle.html5grammar.specs.Start.Open.{NotBuilt}
-use Rattle.html5ever.specs.Feed.{told_beyond, told_at_end, feed}
-use Rattle.html5ever.specs.Refused.{RefusedBehind}
-use Rattle.html5parts.specs.Steps.{IsBuilt}
+use Rattle.html5grammar.specs.Start.{Start, Rules, start_of}
+use Rattle.html5reading.specs.Feed.{told_beyond, told_at_end, feed}
+use Rattle.html5reading.specs.Refused.{RefusedBehind}
 use Rattle.html5states.specs.Telling.{Stops, StopsWithin, FaultsWithin}
 use Rattle.html5parts.specs.declared.error.TokenizerError.{TokenizerError}
-use Rattle.html5parts.specs.declared.error.TokenizerError.TheVariants.{Memory, Sink, Failed, NotYet}
+use Rattle.html5parts.specs.declared.error.TokenizerError.TheVariants.{Memory, Sink, Failed}
 
 -- what contracts see of a tokenizer
 pub record Tokenizing (X : Type 0) : Type 0 where
@@ -33,15 +29,6 @@ pub record Tokenizing (X : Type 0) : Type 0 where
 abbrev pub rules_of : OptionsOf → List NamedReference → Rules
 rules_of opts names = record { exact = opts.exact_errors; names = names }
 
--- a stream can start in this state: none is chosen, or a text state
-abbrev pub CanStart : Option State → Type 0
-CanStart None = Unit {0}
-CanStart (Some Data) = Unit {0}
-CanStart (Some Plaintext) = Unit {0}
-CanStart (Some (RawData kind)) = Unit {0}
-CanStart (Some CdataSection) = Unit {0}
-CanStart (Some other) = ⊥
-
 module _ {X S H : Type 0} (state : X → S) (step : S → Told → ℕ → S) (reply : S → Told → ℕ → Reply H) (foreign : S → Bool) where
   -- the tokenizer stands where the text taken, from the start K and the sink's state s, leaves it
   pub record StandsAt (t : Tokenizing X) (K : Start) (s : S) (text : List ℕ) : Type 0 where
@@ -49,8 +36,6 @@ module _ {X S H : Type 0} (state : X → S) (step : S → Told → ℕ → S) (r
     pub told : state t.sink ≡ stepped step s (messages (told step reply foreign t.rules K s text))
     -- what follows is read from the start behind the text
     pub position : t.position ≡ after step reply foreign t.rules K s text
-    -- the text met nothing that isn't built yet
-    pub built : IsBuilt t.position.opened
     pub not_failed : t.failed ≡ false
     pub not_ended : t.ended ≡ false
 
@@ -73,33 +58,17 @@ module _ {X S H : Type 0} (state : X → S) (step : S → Told → ℕ → S) (r
   LeavesWaiting old queue left =
       (K : Start) (s : S) (text : List ℕ) → StandsAt old K s text → left ≡ (feed step reply foreign old.rules K s text queue).left
 
-  -- from wherever the tokenizer stood, a feed of the queue's text meets what isn't built yet
-  abbrev pub FeedMeetsNotBuilt : Tokenizing X → List ℕ → Type 0
-  FeedMeetsNotBuilt old queue =
-      (K : Start) (s : S) (text : List ℕ) → StandsAt old K s text
-      → (after step reply foreign old.rules K s (text ++ (feed step reply foreign old.rules K s text queue).taken)).opened ≡ NotBuilt
-
   -- from wherever the tokenizer stood, the whole reading was told, and then the sink finished
   abbrev pub Finishes : (S → S) → Tokenizing X → S → Type 0
   Finishes finish old t =
       (K : Start) (s : S) (text : List ℕ) → StandsAt old K s text → t ≡ finish (stepped step s (messages (reading step reply foreign old.rules K s text)))
 
-  -- from wherever the tokenizer stood, the text meets in `more` what isn't built yet
-  abbrev pub MeetsNotBuilt : Tokenizing X → List ℕ → Type 0
-  MeetsNotBuilt old more =
-      (K : Start) (s : S) (text : List ℕ) → StandsAt old K s text → (after step reply foreign old.rules K s (text ++ more)).opened ≡ NotBuilt
-
-  -- from wherever the tokenizer stood, the text meets in `more` nothing that isn't built yet
-  abbrev pub IsBuiltBehind : Tokenizing X → List ℕ → Type 0
-  IsBuiltBehind old more =
-      (K : Start) (s : S) (text : List ℕ) → StandsAt old K s text → IsBuilt (after step reply foreign old.rules K s (text ++ more)).opened
-
--- what a refused end leaves of the messages that it tells: the sink may also fault at its own end
+-- what a refused end, or the refused reading of a whole text, leaves of the messages that it tells: the sink may also fault at
+-- its own end
 abbrev pub EndStops : {S : Type 0} → (S → Told → ℕ → S) → (S → Told → ℕ → S) → (S → S) → TokenizerError → S → List Message → S → Type 0
 EndStops step faulted end_faulted Memory s M t = StopsWithin step faulted s M t
 EndStops step faulted end_faulted Sink s M t = FaultsWithin step faulted s M t ⊎ (t ≡ end_faulted (stepped step s M))
 EndStops step faulted end_faulted Failed s M t = ⊥
-EndStops step faulted end_faulted NotYet s M t = ⊥
 
 module _ {X S H : Type 0} (state : X → S) (step : S → Told → ℕ → S) (reply : S → Told → ℕ → Reply H) (foreign : S → Bool) (faulted : S → Told → ℕ → S) where
   -- from wherever it stood, the tokenizer stopped within what `more` would have told
@@ -126,11 +95,6 @@ module _ {X S H : Type 0} (state : X → S) (step : S → Told → ℕ → S) (r
       (K : Start) (s : S) (text : List ℕ) → StandsAt state step reply foreign old K s text
       → EndStops step faulted end_faulted e (state old.sink) (told_at_end step reply foreign old.rules K s text) t
 
--- what a refusal within the reading of a whole text leaves of its messages: all was told where it is what isn't built yet
-abbrev pub WholeStops : {S : Type 0} → (S → Told → ℕ → S) → (S → Told → ℕ → S) → (S → S) → TokenizerError → S → List Message → S → Type 0
-WholeStops step faulted end_faulted NotYet s M t = t ≡ stepped step s M
-WholeStops step faulted end_faulted other s M t = EndStops step faulted end_faulted other s M t
-
 module _ {X S H : Type 0} (state : X → S) (step : S → Told → ℕ → S) (reply : S → Told → ℕ → Reply H) (foreign : S → Bool) where
   -- from wherever the tokenizer stood, the reading of what was taken and `more` was told, and then the sink finished
   abbrev pub ReadsWhole : (S → S) → Tokenizing X → List ℕ → S → Type 0
@@ -142,15 +106,10 @@ module _ {X S H : Type 0} (state : X → S) (step : S → Told → ℕ → S) (r
   abbrev pub StopsWhole : (S → Told → ℕ → S) → (S → S) → TokenizerError → Tokenizing X → List ℕ → S → Type 0
   StopsWhole faulted end_faulted e old more t =
       (K : Start) (s : S) → StandsAt state step reply foreign old K s []
-      → WholeStops step faulted end_faulted e s (messages (reading step reply foreign old.rules K s more)) t
+      → EndStops step faulted end_faulted e s (messages (reading step reply foreign old.rules K s more)) t
 
 -- what a collector holds behind a whole text
 abbrev pub collected_of : OptionsOf → List NamedReference → Bool → List ℕ → Collected
 collected_of opts names foreign text =
     collected_finish (stepped collected_step (none_collected foreign)
     (messages (reading collected_step (collected_reply {H = Unit {0}}) collected_foreign (rules_of opts names) (start_of opts) (none_collected foreign) text)))
-
--- what is open behind a text that a collector is told
-abbrev pub opened_collecting : OptionsOf → List NamedReference → Bool → List ℕ → Open
-opened_collecting opts names foreign text =
-    (after collected_step (collected_reply {H = Unit {0}}) collected_foreign (rules_of opts names) (start_of opts) (none_collected foreign) text).opened

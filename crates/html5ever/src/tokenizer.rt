@@ -7,15 +7,15 @@ ghost use Rattle.html5grammar.specs.Reading.{after};
 ghost use Rattle.html5grammar.specs.Start.{Start, start_of, is_clean, held_len};
 ghost use Rattle.html5grammar.specs.Start.Mode.{Plain};
 ghost use Rattle.html5grammar.specs.Start.Open.{Between};
-ghost use Rattle.html5ever.specs.Feed.{reply_in, IsEndOf, IsLinear};
-ghost use Rattle.html5parts.specs.Steps.{IsBuilt};
+ghost use Rattle.html5reading.specs.Feed.{reply_in, IsEndOf, IsLinear};
 ghost use Rattle.html5states.specs.Telling.{faults_of};
-ghost use Rattle.html5ever.specs.Tokenizer.{CanStart, rules_of, StandsAt, FeedsOn, HandsOn, LeavesWaiting, FeedMeetsNotBuilt};
+ghost use Rattle.html5reading.specs.Starting.{CanStart};
+ghost use Rattle.html5ever.specs.Tokenizer.{rules_of, StandsAt, FeedsOn, HandsOn, LeavesWaiting};
 ghost use Rattle.html5ever.specs.Tokenizer.{StopsFeeding, LeavesRefused, Finishes, StopsEnding, EndStops};
 
-use crate::position::Position;
-use crate::reading::read_queue;
-use crate::rules::Rules;
+use html5reading::position::Position;
+use html5reading::reading::read_queue;
+use html5reading::rules::Rules;
 use std::alloc::{Allocator, Global};
 use std::marker::Model;
 
@@ -54,7 +54,6 @@ pub struct Tokenizer<'t, Sink, A: Allocator = Global> {
 
 impl<'t, Sink, A: Allocator> Model for Tokenizer<'t, Sink, A> {
     ghost use Rattle.std.specs.Prelude.{◌≡◌, false};
-    ghost use Rattle.html5parts.specs.Steps.{IsBuilt};
     ghost use Rattle.html5ever.specs.Tokenizer.{Tokenizing};
 
     ghost Value = { Tokenizing Sink };
@@ -66,8 +65,6 @@ impl<'t, Sink, A: Allocator> Model for Tokenizer<'t, Sink, A> {
       failed = t.failed;
       ended = t.ended;
     } };
-
-    ghost invariant = { λ t. t.failed ≡ false → IsBuilt t.position.opened };
 }
 
 impl<'t, Sink: TokenSink<Token<A>>, A: Allocator + Copy> Tokenizer<'t, Sink, A> {
@@ -122,8 +119,6 @@ impl<'t, Sink: TokenSink<Token<A>>, A: Allocator + Copy> Tokenizer<'t, Sink, A> 
         ensures failed_before { (result ≡ Err TokenizerError.Failed) ↔ (self.old.failed ≡ true) }
         ensures unchanged { self.old.failed ≡ true
             → (self.new ≡ self.old) × (queue.new ≡ queue.old) }
-        ensures not_yet { result ≡ Err TokenizerError.NotYet
-            → FeedMeetsNotBuilt Sink.state Sink.step Sink.reply Sink.foreign self.old queue.old.text }
         ensures stops { IfErr result (λ error. StopsFeeding Sink.state Sink.step Sink.reply Sink.foreign Sink.faulted
             error self.old queue.old.text (Sink.state self.new.sink)) }
         ensures refused { IfErr result (λ error. error ≢ TokenizerError.Failed → LeavesRefused Sink.state Sink.step Sink.reply Sink.foreign
@@ -239,13 +234,11 @@ fn tell_end<S: TokenSink<Token<A>>, A: Allocator + Copy>(
     rules: &Rules<'_, A>,
     position: &mut Position<A>,
 ) -> Result<(), TokenizerError>
-    requires { IsBuilt position.old.opened }
     ensures ok { OnOk result
         (S.state sink.new ≡ S.finish (stepped S.step (S.state sink.old)
         (on_line position.old.input.line (tokens_at_end rules.now position.old.opened)))) }
     ensures err { IfErr result (λ error. EndStops S.step S.faulted S.end_faulted error
         (S.state sink.old) (on_line position.old.input.line (tokens_at_end rules.now position.old.opened)) (S.state sink.new)) }
-    ensures built { IsBuilt position.new.opened }
     ensures faults { S.faults sink.new ≡ S.faults sink.old + faults_of result }
     ensures fits { position.old.input.line < 2 ^ 64 }
 {

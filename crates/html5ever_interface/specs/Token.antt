@@ -1,5 +1,5 @@
 -- What a sink is told, and what it replies, as contracts speak of them: texts are the bytes of their UTF-8.
-use Rattle.std.specs.Prelude.{ℕ, Bool, true, false, List, Option, None, option_map, map, string_bytes}
+use Rattle.std.specs.Prelude.{◌≡◌, ℕ, Bool, true, false, List, Option, None, option_map, map, string_bytes, IsPermutation}
 use Rattle.markup5ever.specs.Names.{AttributeOf, attribute_of}
 use Rattle.html5ever_interface.specs.declared.interface.token.TagKind.{TagKind}
 use Rattle.html5ever_interface.specs.declared.interface.token.Tag.{Tag as RustTag}
@@ -40,6 +40,12 @@ tag_of tag = record {
   attributes = map attribute_of tag.attrs.items;
   had_duplicate_attributes = tag.had_duplicate_attributes;
 }
+
+-- one kind, one name and the same attributes, each as often, in any order: the flags may differ
+pub record IsEquivalent (tag other : TagOf) : Type 0 where
+  pub kind : tag.kind ≡ other.kind
+  pub name : tag.name ≡ other.name
+  pub attributes : IsPermutation tag.attributes other.attributes
 
 abbrev pub doctype_of : {Z : Type 0} → RustDoctype Z → DoctypeOf
 doctype_of doctype = record {

@@ -20,7 +20,7 @@ use Rattle.html5grammar.specs.Reading.Here.{Tells}
 use Rattle.html5grammar.specs.Slice.{Late, run_while, behind_while, tokens_of_late}
 use Rattle.html5grammar.specs.Start.{Input, Open, Rules}
 use Rattle.html5grammar.specs.WrittenRaw.{next_is}
-use Rattle.html5grammar.proofs.Going.{good_between}
+use Rattle.html5grammar.proofs.GoodCharacters.{good_between}
 use Rattle.html5grammar.proofs.InputLemmas.{line_after-past}
 use Rattle.html5grammar.proofs.Leading.{Leads}
 use Rattle.html5grammar.proofs.Machine.{step_at, brought_at}

@@ -1,6 +1,7 @@
 -- Behind a character that is read nothing is held but that character: what begins to be held begins empty, or with the first
 -- character of a keyword of a doctype.
-use Rattle.std.proofs.Common.{ℕ, ◌≤◌, Bool, true, false, List, [], ◌∷◌, arith}
+use Rattle.std.proofs.lemmas.Bool.{false≢true}
+use Rattle.std.proofs.Common.{◌≡◌, sym, ℕ, ◌≤◌, Bool, true, false, List, [], ◌∷◌, arith}
 use Rattle.std.specs.Prelude.{◌&&◌, ◌==◌, if◌then◌else◌}
 use Rattle.html5ever_interface.specs.Token.{Told, DoctypeOf}
 use Rattle.html5ever_interface.specs.declared.states.AttrValueKind.{AttrValueKind}
@@ -18,11 +19,11 @@ use Rattle.html5grammar.specs.Comment.{ends_comment}
 use Rattle.html5grammar.specs.Doctype.{in_identifier, begins_doctype_keyword, in_doctype_name}
 use Rattle.html5grammar.specs.RawText.{ends_name, is_rcdata, ends_raw_text, begins_mark, begins_switch}
 use Rattle.html5grammar.specs.Reading.{Here}
-use Rattle.html5grammar.specs.Reading.Here.{Tells, TellsTag, Stops}
-use Rattle.html5grammar.specs.Start.{Raw, OpenTag, Place, RawPlace, DoctypePlace, Open, held_len}
+use Rattle.html5grammar.specs.Reading.Here.{Tells, TellsTag}
+use Rattle.html5grammar.specs.Start.{Raw, OpenTag, Place, RawPlace, DoctypePlace, Open, held_len, is_undecided_open}
 use Rattle.html5grammar.specs.Start.Mode.{Data, Plain, RawText, Cdata}
 use Rattle.html5grammar.specs.Start.DoctypePlace.{AfterWord, BeforeName, InDoctypeName, AfterName, AfterKeyword, BeforeIdentifier, InIdentifier, AfterIdentifier, BetweenIdentifiers, Skipped}
-use Rattle.html5grammar.specs.Start.Open.{Between, LessThan, LessThanSolidus, InTag, InRaw, InDeclaration, InComment, InBogusComment, InDoctype, InDoctypeKeyword, InReference, NotBuilt, InCdata}
+use Rattle.html5grammar.specs.Start.Open.{Between, LessThan, LessThanSolidus, InTag, InRaw, InDeclaration, InComment, InBogusComment, InDoctype, InDoctypeKeyword, InReference, InCdata}
 use Rattle.html5grammar.specs.Start.Place.{InName, BeforeAttribute, InAttributeName, AfterAttributeName, BeforeValue, InValue, AfterQuotedValue, AfterSolidus}
 use Rattle.html5grammar.specs.Start.RawPlace.{AfterLessThan, InEndName, AfterMark, AfterMarkAndDash, InSwitch}
 use Rattle.html5grammar.specs.Tag.{in_quoted, in_unquoted, in_attribute_name, in_tag_name}
@@ -31,7 +32,6 @@ use Rattle.html5grammar.proofs.Machine.{closing_step, tag_name_step, part_step, 
 abbrev pub HoldsAtMostOne : Here Open → Type 0
 HoldsAtMostOne (Tells told later) = held_len later ≤ 1
 HoldsAtMostOne (TellsTag told tag) = Unit {0}
-HoldsAtMostOne (Stops told) = Unit {0}
 
 none : 0 ≤ 1
 none = omega arith
@@ -161,24 +161,23 @@ module _ (exact : Bool) (c : ℕ) where
   holds-doctype BetweenIdentifiers d = holds-space _ d _ (holds-system_or_end false state.BetweenDoctypePublicAndSystemIdentifiers d)
   holds-doctype Skipped d = holds-skipped [] d
 
-  pub holds_at_most_one : (opened : Open) → HoldsAtMostOne (step_at exact opened c)
+  pub holds_at_most_one : (opened : Open) → is_undecided_open opened ≡ false → HoldsAtMostOne (step_at exact opened c)
   unfolding step_at less_than_step solidus_step comment_step
-  holds_at_most_one (Between Data) = holds-data []
-  holds_at_most_one (Between Plain) = none
-  holds_at_most_one (Between Cdata) = holds-cdata []
-  holds_at_most_one (Between (RawText raw name)) = holds-raw raw name []
-  holds_at_most_one LessThan =
+  holds_at_most_one (Between Data) decided = holds-data []
+  holds_at_most_one (Between Plain) decided = none
+  holds_at_most_one (Between Cdata) decided = holds-cdata []
+  holds_at_most_one (Between (RawText raw name)) decided = holds-raw raw name []
+  holds_at_most_one LessThan decided =
       holds-if (is_letter c) _ _ (holds-tag_name _) (holds-if (c == solidus) _ _ none
       (holds-if (c == exclamation_mark) _ _ none (holds-if (c == question_mark) _ _ (holds-bogus_comment [] _) (holds-data _))))
-  holds_at_most_one LessThanSolidus =
+  holds_at_most_one LessThanSolidus decided =
       holds-if (is_letter c) _ _ (holds-tag_name _) (holds-if (c == greater_than) _ _ none (holds-bogus_comment [] _))
-  holds_at_most_one (InTag place tag) = holds-tag place tag
-  holds_at_most_one (InRaw place name) = holds-raw_place place name
-  holds_at_most_one (InDeclaration held) = tt
-  holds_at_most_one (InComment before) = holds-if ((c == greater_than) && ends_comment before) _ _ none none
-  holds_at_most_one (InBogusComment before) = holds-bogus_comment before []
-  holds_at_most_one (InDoctype place d) = holds-doctype place d
-  holds_at_most_one (InDoctypeKeyword held d) = tt
-  holds_at_most_one (InCdata held) = holds-cdata held
-  holds_at_most_one (InReference stand held) = tt
-  holds_at_most_one NotBuilt = tt
+  holds_at_most_one (InTag place tag) decided = holds-tag place tag
+  holds_at_most_one (InRaw place name) decided = holds-raw_place place name
+  holds_at_most_one (InDeclaration held) decided = absurd (false≢true (sym decided))
+  holds_at_most_one (InComment before) decided = holds-if ((c == greater_than) && ends_comment before) _ _ none none
+  holds_at_most_one (InBogusComment before) decided = holds-bogus_comment before []
+  holds_at_most_one (InDoctype place d) decided = holds-doctype place d
+  holds_at_most_one (InDoctypeKeyword held d) decided = absurd (false≢true (sym decided))
+  holds_at_most_one (InCdata held) decided = holds-cdata held
+  holds_at_most_one (InReference stand held) decided = absurd (false≢true (sym decided))

@@ -1,5 +1,5 @@
 -- Characters that tell what they spell, also behind `<!`, where a keyword is undecided.
-use Rattle.std.proofs.Common.{◌≡◌, ℕ, List, [], ◌∷◌, ◌++◌, refl, ap, ◌∙◌, sym, subst, Bool}
+use Rattle.std.proofs.Common.{◌≡◌, ℕ, Bool, false, List, [], ◌∷◌, ◌++◌, refl, ap, ◌∙◌, sym, subst}
 use Rattle.std.proofs.lemmas.List.{append_assoc, append-nil}
 use Rattle.html5ever_interface.proofs.Steppings.{stepped-append}
 use Rattle.html5ever_interface.specs.Sink.{Message, stepped, on_line}
@@ -11,13 +11,13 @@ use Rattle.html5grammar.specs.NormalisedText.{normalised, line_after}
 use Rattle.html5grammar.specs.OneTag.{Spelled, spelled_messages}
 use Rattle.html5grammar.specs.Reading.{reading, told, messages, after}
 use Rattle.html5grammar.specs.Reading.Here.{Tells}
-use Rattle.html5grammar.specs.Start.{Input, Open, Start, Rules}
+use Rattle.html5grammar.specs.Start.{Input, Open, Start, Rules, is_undecided_open}
 use Rattle.html5grammar.specs.Start.Mode.{Data}
 use Rattle.html5grammar.specs.Start.Open.{Between}
 use Rattle.html5grammar.proofs.InputLemmas.{line_after-past}
 use Rattle.html5grammar.proofs.Machine.{brought_at}
 use Rattle.html5grammar.proofs.OneTagReading.{characters}
-use Rattle.html5grammar.proofs.OneTagSteps.{Goes}
+use Rattle.html5grammar.proofs.OneTagSteps.{Goes, Goes-decided}
 use Rattle.html5grammar.proofs.ReadingLemmas.{told-trace, after-opened, reading-events, messages-at_end}
 use Rattle.html5grammar.proofs.Traces.{brought-tells, trace_brought, Trace, trace, trace_here, with_messages, messages-append}
 
@@ -29,10 +29,12 @@ module _ (rules : Rules) where
   Leads opened (here ∷ more) later =
       (next : Open) × ((foreign : Bool) → brought_at rules foreign opened here.character ≡ record { settled = []; here = Tells here.told next }) × Leads next more later
 
-  pub leads-goes : (a b : Open) (cells : List Spelled) → Goes rules.exact a cells b → Leads a cells b
+  pub leads-goes : (a b : Open) (cells : List Spelled) → is_undecided_open b ≡ false → Goes rules.exact a cells b → Leads a cells b
   unfolding Leads Goes
-  leads-goes a b [] goes = goes
-  leads-goes a b (here ∷ more) goes = (goes.0, λ foreign. brought-tells rules foreign a here.character _ refl goes.1, leads-goes goes.0 b more goes.2)
+  leads-goes a b [] decided goes = goes
+  leads-goes a b (here ∷ more) decided goes =
+      let before : is_undecided_open a ≡ false = Goes-decided rules.exact a b (here ∷ more) goes decided in
+      (goes.0, λ foreign. brought-tells rules foreign a here.character _ before goes.1, leads-goes goes.0 b more decided goes.2)
 
   pub Leads-append : (a b c : Open) (xs ys : List Spelled) → Leads a xs b → Leads b ys c → Leads a (xs ++ ys) c
   unfolding Leads
@@ -89,12 +91,12 @@ module _ {S H : Type 0} (step : S → Told → ℕ → S) (reply : S → Told �
       ∙ ap (λ l. record { messages = l; opened = behind; last_start_tag = last }) (append-nil (spelled_messages rules.exact input before cells))
 
   pub trace-goes : (input : Input) (before : List ℕ) (s : S) (last : List ℕ) (opened behind : Open) (cells : List Spelled) (text : List ℕ)
-      → Goes rules.exact opened cells behind
+      → is_undecided_open behind ≡ false → Goes rules.exact opened cells behind
       → trace step reply foreign rules s (line_after input before) last opened (characters cells ++ text)
       ≡ with_messages (spelled_messages rules.exact input before cells)
       (trace step reply foreign rules (stepped step s (spelled_messages rules.exact input before cells)) (line_after input (before ++ characters cells)) last behind text)
-  trace-goes input before s last opened behind cells text goes =
-      trace-leads input before s last opened behind cells text (leads-goes rules opened behind cells goes)
+  trace-goes input before s last opened behind cells text decided goes =
+      trace-leads input before s last opened behind cells text (leads-goes rules opened behind cells decided goes)
 
   -- the same, where the text is given
   pub trace-text : (input : Input) (before : List ℕ) (s : S) (last : List ℕ) (opened behind : Open) (cells : List Spelled) (text : List ℕ)

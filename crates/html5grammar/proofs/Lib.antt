@@ -4,9 +4,16 @@ pub mod InputLemmas
 pub mod Traces
 pub mod Cases
 pub mod ReadingLemmas
+pub mod Splitting
 pub mod Steps
-pub mod Going
+pub mod GoodCharacters
 pub mod NoTags
+pub mod NoTagsAtEnd
+pub mod LawfulBytes
+pub mod LawfulReferences
+pub mod LawfulTags
+pub mod LawfulSteps
+pub mod LawfulReading
 pub mod Holding
 pub mod OneTagSteps
 pub mod OneTagParts
@@ -40,6 +47,9 @@ pub mod OneCdataSteps
 pub mod OneCdataReading
 pub mod OneCdataCollected
 pub mod OneCdataForms
+pub mod ByItself
+pub mod LastReply
+pub mod OneReferenceWithin
 mod WrittenRawCases
 mod CommentCases
 mod DoctypeCases

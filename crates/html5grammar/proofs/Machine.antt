@@ -21,7 +21,7 @@ use Rattle.html5grammar.specs.Comment.{comment_errors, ends_comment, comment_end
 use Rattle.html5grammar.specs.Doctype.{with_quirks, with_doctype_name, with_first_of_name, with_begun_identifier, with_identifier, identifier_state, in_identifier, is_keyword, begins_doctype_keyword, keyword_error, in_doctype_name, word_error}
 use Rattle.html5grammar.specs.ErrorText.{error_in, where_true, bad_character_error}
 use Rattle.html5grammar.specs.Reading.{Here, Brought, last_behind, open_after_reply}
-use Rattle.html5grammar.specs.Reading.Here.{Tells, TellsTag, Stops}
+use Rattle.html5grammar.specs.Reading.Here.{Tells, TellsTag}
 use Rattle.html5grammar.specs.Start.{Raw, OpenTag, Place, RawPlace, Quotes, DoctypePlace, Stand, Open, Rules, begun, raw_of}
 use Rattle.html5grammar.specs.Start.Stand.{InText, InAttribute}
 use Rattle.html5grammar.specs.Start.Dashes.{TwoDashes}
@@ -31,7 +31,7 @@ use Rattle.html5grammar.specs.Start.RawPlace.{AfterLessThan, InEndName, AfterMar
 use Rattle.html5grammar.specs.Start.Place.{InName, BeforeAttribute, InAttributeName, AfterAttributeName, BeforeValue, InValue, AfterQuotedValue, AfterSolidus}
 use Rattle.html5grammar.specs.Start.DoctypePlace.{AfterWord, BeforeName, InDoctypeName, AfterName, AfterKeyword, BeforeIdentifier, InIdentifier, AfterIdentifier, BetweenIdentifiers, Skipped}
 use Rattle.html5grammar.specs.Start.Quotes.{DoubleQuotes, SingleQuotes}
-use Rattle.html5grammar.specs.Start.Open.{Between, LessThan, LessThanSolidus, InTag, InRaw, InDeclaration, InComment, InBogusComment, InDoctype, InDoctypeKeyword, InCdata, InReference, NotBuilt}
+use Rattle.html5grammar.specs.Start.Open.{Between, LessThan, LessThanSolidus, InTag, InRaw, InDeclaration, InComment, InBogusComment, InDoctype, InDoctypeKeyword, InCdata, InReference}
 use Rattle.html5grammar.specs.Reference.{Found, in_value, reference, is_undecided, ends_number, late_tokens, opened_behind, with_value}
 use Rattle.html5grammar.specs.Tag.{with_last_attribute, duplicate_error, end_tag_errors, told_tag, null_error, in_quoted, in_unquoted, unquoted_error, in_attribute_name, attribute_name_error, with_last_name, place_error, first_error, is_after_solidus, in_tag_name, with_name}
 use Rattle.html5grammar.specs.RawText.{raw_text_of, texts, ends_name, kind_of, is_rcdata, raw_behind, raw_character, ends_raw_text, switched, told_at_less_than, told_behind_less_than, begins_mark, begins_switch}
@@ -41,7 +41,6 @@ use Rattle.html5grammar.specs.Text.{plain_text}
 abbrev pub told_first : List Told → Here Open → Here Open
 told_first before (Tells told later) = Tells (before ++ told) later
 told_first before (TellsTag told tag) = TellsTag (before ++ told) tag
-told_first before (Stops told) = Stops (before ++ told)
 
 unfoldable pub closing_step : List Told → OpenTag → Bool → Here Open
 closing_step errors tag self_closing =
@@ -284,10 +283,7 @@ step_at exact (InComment before) c = comment_step exact before c
 step_at exact (InBogusComment before) c = bogus_comment_step exact before [] c
 step_at exact (InDoctype place d) c = doctype_step exact place d c
 step_at exact (InCdata held) c = cdata_step held c
-step_at exact (InDeclaration held) c = Stops []
-step_at exact (InDoctypeKeyword held d) c = Stops []
-step_at exact (InReference stand held) c = Stops []
-step_at exact NotBuilt c = Stops []
+step_at exact undecided c = Tells [] undecided
 
 -- a character behind what is held of a reference
 unfoldable pub reference_step : Rules → Stand → List ℕ → ℕ → Brought Open
@@ -335,7 +331,6 @@ brought_at rules foreign LessThanSolidus c = record { settled = []; here = step_
 brought_at rules foreign (InTag place tag) c = record { settled = []; here = step_at rules.exact (InTag place tag) c }
 brought_at rules foreign (InRaw place name) c = record { settled = []; here = step_at rules.exact (InRaw place name) c }
 brought_at rules foreign (InCdata held) c = record { settled = []; here = step_at rules.exact (InCdata held) c }
-brought_at rules foreign NotBuilt c = record { settled = []; here = Stops [] }
 
 module _ {S H : Type 0} (step : S → Told → ℕ → S) (reply : S → Told → ℕ → Reply H) (rules : Rules) where
   -- the messages at c, and what is open behind it
@@ -343,16 +338,13 @@ module _ {S H : Type 0} (step : S → Told → ℕ → S) (reply : S → Told �
   unfoldable pub messages_here : ℕ → ℕ → Here Open → List Message
   messages_here line c (Tells told later) = on_line line (bad_character_error rules.exact c ++ told)
   messages_here line c (TellsTag told tag) = on_line line ((bad_character_error rules.exact c ++ told) ++ Tag tag ∷ [])
-  messages_here line c (Stops told) = on_line line told
 
   unfoldable pub opened_here : S → ℕ → List ℕ → ℕ → Here Open → Open
   opened_here s line last c (Tells told later) = later
   opened_here s line last c (TellsTag told tag) =
       open_after_reply (last_behind last tag) (reply (stepped step s (on_line line (bad_character_error rules.exact c ++ told))) (Tag tag) line)
-  opened_here s line last c (Stops told) = NotBuilt
 
 -- the name of the last start tag behind a character
 unfoldable pub last_here : List ℕ → Here Open → List ℕ
 last_here last (Tells told later) = last
 last_here last (TellsTag told tag) = last_behind last tag
-last_here last (Stops told) = last

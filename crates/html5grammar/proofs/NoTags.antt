@@ -20,14 +20,14 @@ use Rattle.html5grammar.specs.Reference.{Found, in_value, reference, number_refe
 use Rattle.html5grammar.specs.Slice.{Late, tokens_of_late}
 use Rattle.html5grammar.specs.Start.Stand.{InText, InAttribute}
 use Rattle.markup5ever.specs.NamedReferences.{NamedReference}
-use Rattle.html5grammar.specs.Reading.Here.{Tells, TellsTag, Stops}
+use Rattle.html5grammar.specs.Reading.Here.{Tells, TellsTag}
 use Rattle.html5grammar.specs.Start.{Raw, OpenTag, Place, RawPlace, DoctypePlace, Stand, Open, Rules, raw_of}
 use Rattle.html5grammar.specs.Start.Raw.{ScriptData}
 use Rattle.html5grammar.specs.Start.Mode.{Data, Plain, RawText, Cdata}
 use Rattle.html5grammar.specs.Start.RawPlace.{AfterLessThan, InEndName, AfterMark, AfterMarkAndDash, InSwitch}
 use Rattle.html5grammar.specs.Start.Place.{InName, BeforeAttribute, InAttributeName, AfterAttributeName, BeforeValue, InValue, AfterQuotedValue, AfterSolidus}
 use Rattle.html5grammar.specs.Start.DoctypePlace.{AfterWord, BeforeName, InDoctypeName, AfterName, AfterKeyword, BeforeIdentifier, InIdentifier, AfterIdentifier, BetweenIdentifiers, Skipped}
-use Rattle.html5grammar.specs.Start.Open.{Between, LessThan, LessThanSolidus, InTag, InRaw, InDeclaration, InComment, InBogusComment, InDoctype, InDoctypeKeyword, InReference, NotBuilt, InCdata}
+use Rattle.html5grammar.specs.Start.Open.{Between, LessThan, LessThanSolidus, InTag, InRaw, InDeclaration, InComment, InBogusComment, InDoctype, InDoctypeKeyword, InReference, InCdata}
 use Rattle.html5grammar.specs.Tag.{null_error, duplicate_error, end_tag_errors, with_last_attribute, in_quoted, in_unquoted, unquoted_error, in_attribute_name, place_error, first_error, in_tag_name}
 use Rattle.std.specs.Str.{bytes_eq}
 use Rattle.html5grammar.specs.Comment.{comment_state, ends_comment, comment_content, comment_end_error, comment_errors, mark_error, begins_keyword, without_last, cdata_keyword, begins_cdata}
@@ -44,7 +44,6 @@ NoTags (t ∷ ts) = (is_tag t ≡ false) × NoTags ts
 unfoldable pub NoTagsHere : Here Open → Type 0
 NoTagsHere (Tells told later) = NoTags told
 NoTagsHere (TellsTag told tag) = NoTags told
-NoTagsHere (Stops told) = NoTags told
 
 pub no_tags-append : (ts us : List Told) → NoTags ts → NoTags us → NoTags (ts ++ us)
 unfolding NoTags
@@ -56,12 +55,12 @@ unfolding NoTags
 no_tags-where true error h = (h, tt)
 no_tags-where false error h = tt
 
-no_tags-texts : (characters : List ℕ) → NoTags (map (λ (c : ℕ). Text (encode_utf8 c)) characters)
+pub no_tags-texts : (characters : List ℕ) → NoTags (map (λ (c : ℕ). Text (encode_utf8 c)) characters)
 unfolding NoTags
 no_tags-texts [] = tt
 no_tags-texts (c ∷ characters) = (refl, no_tags-texts characters)
 
-no_tags-told_behind : (kind : RawKind) → NoTags (told_behind_less_than kind)
+pub no_tags-told_behind : (kind : RawKind) → NoTags (told_behind_less_than kind)
 unfolding NoTags
 no_tags-told_behind raw_kind.Rcdata = (refl, tt)
 no_tags-told_behind raw_kind.Rawtext = (refl, tt)
@@ -301,7 +300,6 @@ module _ (exact : Bool) (c : ℕ) where
   no_tags-step_at (InDoctypeKeyword held d) = tt
   no_tags-step_at (InCdata held) = no_tags-cdata held
   no_tags-step_at (InReference stand held) = tt
-  no_tags-step_at NotBuilt = tt
 
 -- what is decided late is text, or an error
 
@@ -360,7 +358,7 @@ no_tags-held_text stand [] = tt
 no_tags-held_text stand (c ∷ held) =
     no_tags-late_append _ _ (no_tags-late_map _ _ _ (text_in stand (c ∷ [])) (no_tags-text_in stand (c ∷ []))) (no_tags-held_text stand held)
 
-no_tags-late_tokens : (rules : Rules) (stand : Stand) (held : List ℕ) (next : Option ℕ)
+pub no_tags-late_tokens : (rules : Rules) (stand : Stand) (held : List ℕ) (next : Option ℕ)
     → NoTags (tokens_of_late (late_tokens stand (reference rules (in_value stand) held next) held))
 no_tags-late_tokens rules stand held next =
     let found : Found = reference rules (in_value stand) held next in
@@ -386,7 +384,7 @@ no_tags-declaration exact foreign held c =
     (no_tags-brought (bytes_eq (lower_case (held ++ c ∷ [])) (codes "doctype")) _ _ tt
     (no_tags-brought (begins_keyword (held ++ c ∷ [])) _ _ tt (no_tags-answer exact foreign held c)))
 
-no_tags-keyword_error : (exact : Bool) (held : List ℕ) → NoTags (tokens_of_late (keyword_error exact held))
+pub no_tags-keyword_error : (exact : Bool) (held : List ℕ) → NoTags (tokens_of_late (keyword_error exact held))
 unfolding keyword_error NoTags
 no_tags-keyword_error exact [] = tt
 no_tags-keyword_error exact (c ∷ held) = (refl, tt)
@@ -414,4 +412,3 @@ no_tags-settled rules foreign (InCdata held) c = tt
 no_tags-settled rules foreign (InReference stand held) c =
     no_tags-brought (is_undecided rules.names (held ++ c ∷ [])) _ _ tt
     (no_tags-brought (ends_number held c) _ _ (no_tags-late_tokens rules stand held (Some c)) (no_tags-late_tokens rules stand held (Some c)))
-no_tags-settled rules foreign NotBuilt c = tt

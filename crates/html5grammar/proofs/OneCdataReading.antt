@@ -2,10 +2,10 @@
 use Rattle.html5grammar.specs.ErrorText.{end_error_in}
 use Rattle.html5ever_interface.specs.Token.Told.{End}
 use Rattle.std.specs.List.{list_all}
-use Rattle.std.proofs.Common.{◌≡◌, ◌≢◌, ℕ, Bool, true, false, List, [], ◌∷◌, ◌++◌, refl, ap, sym, ◌∙◌}
+use Rattle.std.proofs.Common.{◌≡◌, ℕ, Bool, true, false, List, [], ◌∷◌, ◌++◌, refl, ap, sym, ◌∙◌}
 use Rattle.std.specs.Prelude.{◌&&◌, codes, encode_utf8_all, if◌then◌else◌, ◌||◌, not}
 use Rattle.std.proofs.Math.Bool.{and-false}
-use Rattle.std.proofs.lemmas.Bool.{false≢true, and_parts}
+use Rattle.std.proofs.lemmas.Bool.{and_parts}
 use Rattle.std.proofs.lemmas.List.{append_assoc}
 use Rattle.html5ever_interface.specs.Sink.{stepped}
 use Rattle.html5ever_interface.specs.Token.{Told, Reply}
@@ -20,9 +20,9 @@ use Rattle.html5grammar.specs.OneTag.{Spelled, spell_silent, spelled_messages}
 use Rattle.html5grammar.specs.Reading.{reading, told, messages, after}
 use Rattle.html5grammar.specs.Reading.Here.{Tells}
 use Rattle.html5grammar.specs.Slice.{silent}
-use Rattle.html5grammar.specs.Start.{Open, Start, Rules}
+use Rattle.html5grammar.specs.Start.{Start, Rules, is_undecided_open}
 use Rattle.html5grammar.specs.Start.Mode.{Data, Cdata}
-use Rattle.html5grammar.specs.Start.Open.{Between, InDeclaration, NotBuilt}
+use Rattle.html5grammar.specs.Start.Open.{Between, InDeclaration}
 use Rattle.html5grammar.proofs.HeldWords.{AreHeld, trace-held}
 use Rattle.html5grammar.proofs.InputLemmas.{line_after-past}
 use Rattle.html5grammar.proofs.Leading.{leads-goes, trace-ends}
@@ -77,17 +77,13 @@ tokens_at_end-cdata rules last false = by (encode_utf8_all last)
     by [] = refl
     by (b ∷ held) = refl
 
-abbrev is_built : Open → Bool
-is_built NotBuilt = false
-is_built opened = true
+decided-section : (held : List ℕ) → is_undecided_open (open_cdata held) ≡ false
+decided-section [] = refl
+decided-section (b ∷ held) = refl
 
-built-section : (held : List ℕ) → is_built (open_cdata held) ≡ true
-built-section [] = refl
-built-section (b ∷ held) = refl
-
-built-behind : (last : List ℕ) (is_ended : Bool) → is_built (if is_ended then Between Data else open_cdata (encode_utf8_all last)) ≡ true
-built-behind last true = refl
-built-behind last false = built-section (encode_utf8_all last)
+decided-behind : (last : List ℕ) (is_ended : Bool) → is_undecided_open (if is_ended then Between Data else open_cdata (encode_utf8_all last)) ≡ false
+decided-behind last true = refl
+decided-behind last false = decided-section (encode_utf8_all last)
 
 module _ {S H : Type 0} (step : S → Told → ℕ → S) (reply : S → Told → ℕ → Reply H) (foreign : S → Bool) (rules : Rules) where
   trace-begins : (K : Start) (s : S) (before text : List ℕ) → foreign s ≡ true
@@ -114,7 +110,7 @@ module _ {S H : Type 0} (step : S → Told → ℕ → S) (reply : S → Told �
   trace-start K s true text e = trace-opening K s text e
   trace-start K s false text e = refl
 
-  reads : (K : Start) (s : S) (X : List ℕ) (cdata : WrittenCdata) → IsCdata K (foreign s) X cdata
+  pub reads : (K : Start) (s : S) (X : List ℕ) (cdata : WrittenCdata) → IsCdata K (foreign s) X cdata
       → trace step reply foreign rules s (line_after K.input []) K.last_start_tag K.opened (normalised K.input X)
       ≡ record { messages = spelled_messages rules.exact K.input (opening_text cdata.has_opening) (spell_cdata cdata); opened = open_behind_cdata cdata; last_start_tag = K.last_start_tag }
   unfolding written is_written
@@ -126,16 +122,11 @@ module _ {S H : Type 0} (step : S → Told → ℕ → S) (reply : S → Told �
       (trace-start K s cdata.has_opening text begins
       ∙ ap (trace step reply foreign rules s (line_after K.input (opening_text cdata.has_opening)) K.last_start_tag (Between Cdata)) (sym (characters-cdata cdata))
       ∙ trace-ends step reply foreign rules K.input (opening_text cdata.has_opening) s K.last_start_tag (Between Cdata) (open_behind_cdata cdata) (spell_cdata cdata)
-      (leads-goes rules (Between Cdata) (open_behind_cdata cdata) (spell_cdata cdata) (goes-cdata rules.exact (foreign s) cdata one.is_cdata)))
+      (leads-goes rules (Between Cdata) (open_behind_cdata cdata) (spell_cdata cdata) (decided-behind cdata.last cdata.is_ended) (goes-cdata rules.exact (foreign s) cdata one.is_cdata)))
 
   pub after-cdata : (K : Start) (s : S) (X : List ℕ) (cdata : WrittenCdata) → IsCdata K (foreign s) X cdata
       → (after step reply foreign rules K s X).opened ≡ open_behind_cdata cdata
   after-cdata K s X cdata one = after-opened step reply foreign rules K s X ∙ ap (λ (t : Trace). t.opened) (reads K s X cdata one)
-
-  pub built-cdata : (K : Start) (s : S) (X : List ℕ) (cdata : WrittenCdata) → IsCdata K (foreign s) X cdata
-      → (after step reply foreign rules K s X).opened ≢ NotBuilt
-  built-cdata K s X cdata one e =
-      false≢true (sym (ap is_built e) ∙ ap is_built (after-cdata K s X cdata one) ∙ built-behind cdata.last cdata.is_ended)
 
   -- a text that is one section
   pub reading-cdata : (K : Start) (s : S) (X : List ℕ) (cdata : WrittenCdata) → IsCdata K (foreign s) X cdata

@@ -139,7 +139,7 @@ module _ {S H : Type 0} (step : S → Told → ℕ → S) (reply : S → Told �
       ∙ ap (λ l. with_messages (E line) (trace step reply foreign rules (stepped step s (E line)) line K.last_start_tag (InBogusComment held) l)) (sym text)
       ∙ ap (with_messages (E line))
       (trace-ends step reply foreign rules K.input past (stepped step s (E line)) K.last_start_tag (InBogusComment held) (Between Data) cells
-      (leads-goes rules (InBogusComment held) (Between Data) cells goes))
+      (leads-goes rules (InBogusComment held) (Between Data) cells refl goes))
       ∙ ap (λ n. record { messages = E n ++ spelled_messages rules.exact K.input past cells; opened = Between Data; last_start_tag = K.last_start_tag }) (line-plain K.input (codes "<!") held plain)
       ∙ ap (λ N. record { messages = E (line_after K.input (codes "<!")) ++ N; opened = Between Data; last_start_tag = K.last_start_tag })
       (sym (spelled-held rules.exact K.input (codes "<!") held rest content parts plain.good))
@@ -151,22 +151,22 @@ module _ {S H : Type 0} (step : S → Told → ℕ → S) (reply : S → Told �
       let cells : List Spelled = spell_content rules.exact [] front ++ spell_end (ending_errors rules.exact ending) content in
       trace-whole K s (spell_silent (codes "<!--") ++ cells) (written (Proper content ending))
       (characters-three (codes "<!--") (spell_content rules.exact [] front) front (ending_errors rules.exact ending) content (characters-content rules.exact [] front))
-      (leads-opening rules cells (Between Data) (leads-goes rules (InComment []) (Between Data) cells (goes-proper rules.exact content ending h)))
+      (leads-opening rules cells (Between Data) (leads-goes rules (InComment []) (Between Data) cells refl (goes-proper rules.exact content ending h)))
   reads K s (Bogus Solidus content) h =
       let cells : List Spelled = spell_odd rules.exact state.EndTagOpen content in
       trace-whole K s (spell_silent (codes "</") ++ (cells ++ spell_end [] content)) (written (Bogus Solidus content))
       (characters-three (codes "</") cells content [] content (characters-odd rules.exact state.EndTagOpen content))
-      (leads-goes rules (Between Data) (Between Data) (spell_silent (codes "</") ++ (cells ++ spell_end [] content)) (goes-solidus rules.exact (foreign s) content h))
+      (leads-goes rules (Between Data) (Between Data) (spell_silent (codes "</") ++ (cells ++ spell_end [] content)) refl (goes-solidus rules.exact (foreign s) content h))
   reads K s (Bogus QuestionMark content) h =
       let cells : List Spelled = spell_odd rules.exact state.TagOpen content in
       trace-whole K s (spell_silent (codes "<") ++ (cells ++ spell_end [] content)) (written (Bogus QuestionMark content))
       (characters-three (codes "<") cells content [] content (characters-odd rules.exact state.TagOpen content))
-      (leads-goes rules (Between Data) (Between Data) (spell_silent (codes "<") ++ (cells ++ spell_end [] content)) (goes-question_mark rules.exact (foreign s) content h))
+      (leads-goes rules (Between Data) (Between Data) (spell_silent (codes "<") ++ (cells ++ spell_end [] content)) refl (goes-question_mark rules.exact (foreign s) content h))
   reads K s (Bogus ExclamationMark content) h =
       let p = and_parts (can_open (foreign s) ExclamationMark content) (list_all in_bogus_comment content) h in
       reads_declaration K s content p.0 p.1
 
-  reads_comment : (K : Start) (s : S) (X : List ℕ) (comment : WrittenComment) → IsComment K (foreign s) X comment
+  pub reads_comment : (K : Start) (s : S) (X : List ℕ) (comment : WrittenComment) → IsComment K (foreign s) X comment
       → IsReadFrom step reply foreign rules K s X (messages_of rules.exact K.input comment)
   reads_comment K s X comment one = rw (one.starts, one.text) (reads K s comment one.is_comment)
 

@@ -14,7 +14,7 @@ use Rattle.html5grammar.specs.ErrorText.{error_in}
 use Rattle.html5grammar.specs.OneDoctype.{opening, behind_space, direct_error, spell_name}
 use Rattle.html5grammar.specs.OneTag.{Spelled, spell, spell_silent}
 use Rattle.html5grammar.specs.Reading.Here.{Tells}
-use Rattle.html5grammar.specs.Start.{Open, Rules}
+use Rattle.html5grammar.specs.Start.{Open, Rules, is_undecided_open}
 use Rattle.html5grammar.specs.Start.DoctypePlace.{AfterWord, BeforeName, InDoctypeName, AfterName}
 use Rattle.html5grammar.specs.Start.Mode.{Data}
 use Rattle.html5grammar.specs.Start.Open.{Between, LessThan, InDeclaration, InDoctype}
@@ -38,6 +38,10 @@ module _ (rules : Rules) where
   abbrev pub behind_word : List ℕ → Open
   behind_word space = behind_space space (InDoctype AfterWord empty_doctype) (InDoctype BeforeName empty_doctype)
 
+  decided-behind_word : (space : List ℕ) → is_undecided_open (behind_word space) ≡ false
+  decided-behind_word [] = refl
+  decided-behind_word (c ∷ space) = refl
+
   goes-space_behind_word : (space : List ℕ) → list_all is_white_space space ≡ true
       → Goes rules.exact (InDoctype AfterWord empty_doctype) (spell_silent space) (behind_word space)
   unfolding step_at doctype_step space_step
@@ -50,7 +54,7 @@ module _ (rules : Rules) where
   leads-opening word space is_word all =
       let leads : Leads rules (InDeclaration []) (spell_silent word ++ spell_silent space) (behind_word space) =
       Leads-append rules (InDeclaration []) (InDoctype AfterWord empty_doctype) (behind_word space) (spell_silent word) (spell_silent space) (leads-doctype_word rules word is_word)
-      (leads-goes rules (InDoctype AfterWord empty_doctype) (behind_word space) (spell_silent space) (goes-space_behind_word space all)) in
+      (leads-goes rules (InDoctype AfterWord empty_doctype) (behind_word space) (spell_silent space) (decided-behind_word space) (goes-space_behind_word space all)) in
       (LessThan, λ foreign. refl, (InDeclaration [], λ foreign. refl, subst (λ cells. Leads rules (InDeclaration []) cells (behind_word space)) (sym (silent-append word space)) leads))
 
   pub step-no_name : (space : List ℕ)
@@ -69,6 +73,10 @@ module _ (rules : Rules) where
 
   abbrev pub behind_name : DoctypeOf → List ℕ → Open
   behind_name d space = behind_space space (InDoctype InDoctypeName d) (InDoctype AfterName d)
+
+  decided-behind_name : (d : DoctypeOf) (space : List ℕ) → is_undecided_open (behind_name d space) ≡ false
+  decided-behind_name d [] = refl
+  decided-behind_name d (c ∷ space) = refl
 
   goes-space_behind_name : (d : DoctypeOf) (space : List ℕ) → list_all is_white_space space ≡ true
       → Goes rules.exact (InDoctype InDoctypeName d) (spell_silent space) (behind_name d space)
@@ -108,4 +116,4 @@ module _ (rules : Rules) where
       ) in
       Leads-append rules (Between Data) (behind_word space) (behind_name (named first rest) later) (spell_silent (opening word space)) (here ∷ cells)
       (leads-opening word space is_word all)
-      (leads-goes rules (behind_word space) (behind_name (named first rest) later) (here ∷ cells) goes)
+      (leads-goes rules (behind_word space) (behind_name (named first rest) later) (here ∷ cells) (decided-behind_name (named first rest) later) goes)

@@ -64,7 +64,7 @@ module _ {S H : Type 0} (step : S → Told → ℕ → S) (reply : S → Told �
   unfolding messages_behind_name
   reads-nothing s opened ends =
       reads-cells s opened (NoKeyword [])
-      (leads-goes rules opened (Between Data) (spell_end [] d) (Goes-one rules.exact opened (Between Data) greater_than (Doctype d ∷ []) ends))
+      (leads-goes rules opened (Between Data) (spell_end [] d) refl (Goes-one rules.exact opened (Between Data) greater_than (Doctype d ∷ []) ends))
 
   -- a rest whose first character begins no keyword
   leads-odd : (c : ℕ) (rest : List ℕ) → begins_doctype_keyword (c ∷ []) ≡ false → is_rest is_white_space (c ∷ rest) ≡ true
@@ -73,7 +73,7 @@ module _ {S H : Type 0} (step : S → Told → ℕ → S) (reply : S → Told �
   leads-odd c rest none h =
       let p = and_parts (not (is_white_space c)) (list_all in_skipped_rest (c ∷ rest)) h in
       let q = and_parts (in_skipped_rest c) (list_all in_skipped_rest rest) p.1 in
-      leads-goes rules (InDoctype AfterName d) (Between Data) (spell_odd rules.exact state.AfterDoctypeName (with_quirks d) (c ∷ rest))
+      leads-goes rules (InDoctype AfterName d) (Between Data) (spell_odd rules.exact state.AfterDoctypeName (with_quirks d) (c ∷ rest)) refl
       (goes-odd_some rules.exact (InDoctype AfterName d) state.AfterDoctypeName (with_quirks d) c rest
       (rw (not-true (is_white_space c) p.0, not-true (c == greater_than) q.0, none) refl) p.1)
 
@@ -124,7 +124,7 @@ module _ {S H : Type 0} (step : S → Told → ℕ → S) (reply : S → Told �
       (ap (next_is (λ b. not (begins_doctype_keyword (held ++ b ∷ [])))) text ∙ decides-held (c ∷ rest))
       ∙ ap (with_messages E)
       (trace-ends step reply foreign rules input (before ++ held) (stepped step (stepped step s M) E) last (InDoctype Skipped (with_quirks d)) (Between Data) cells
-      (leads-goes rules (InDoctype Skipped (with_quirks d)) (Between Data) cells (goes-skipped rules.exact (with_quirks d) behind within))))
+      (leads-goes rules (InDoctype Skipped (with_quirks d)) (Between Data) cells refl (goes-skipped rules.exact (with_quirks d) behind within))))
       ∙ ap (λ l. record { messages = M ++ (l ++ N); opened = Between Data; last_start_tag = last }) (held-error line c rest begins ∙ ap error (line-first c rest begins))
 
   -- behind the name and white space
@@ -145,7 +145,7 @@ module _ {S H : Type 0} (step : S → Told → ℕ → S) (reply : S → Told �
       let cells : List Spelled = spell_wanted rules.exact Public told space (spell_behind_public rules.exact told) identifier in
       reads-cells s (InDoctype AfterName d) (PublicKeyword keyword space identifier)
       (Leads-append rules (InDoctype AfterName d) (InDoctype (AfterKeyword Public) d) (Between Data) (spell_silent keyword) cells (leads-keyword rules d Public keyword p.0)
-      (leads-goes rules (InDoctype (AfterKeyword Public) d) (Between Data) cells (goes-public_keyword rules.exact name space identifier q.0 q.1)))
+      (leads-goes rules (InDoctype (AfterKeyword Public) d) (Between Data) cells refl (goes-public_keyword rules.exact name space identifier q.0 q.1)))
   reads-behind_name s (SystemKeyword keyword space identifier) h =
       let p = and_parts (is_keyword System keyword) (list_all is_white_space space && is_system identifier) h in
       let q = and_parts (list_all is_white_space space) (is_system identifier) p.1 in
@@ -153,7 +153,7 @@ module _ {S H : Type 0} (step : S → Told → ℕ → S) (reply : S → Told �
       let cells : List Spelled = spell_wanted rules.exact System told space (spell_behind_system rules.exact told) identifier in
       reads-cells s (InDoctype AfterName d) (SystemKeyword keyword space identifier)
       (Leads-append rules (InDoctype AfterName d) (InDoctype (AfterKeyword System) d) (Between Data) (spell_silent keyword) cells (leads-keyword rules d System keyword p.0)
-      (leads-goes rules (InDoctype (AfterKeyword System) d) (Between Data) cells (goes-system_keyword rules.exact name space identifier q.0 q.1)))
+      (leads-goes rules (InDoctype (AfterKeyword System) d) (Between Data) cells refl (goes-system_keyword rules.exact name space identifier q.0 q.1)))
 
 -- ---- the whole doctype
 
@@ -182,7 +182,7 @@ module _ {S H : Type 0} (step : S → Told → ℕ → S) (reply : S → Told �
       trace-text step reply foreign rules K.input [] s K.last_start_tag (Between Data) (Between Data) (spell_silent (opening word space) ++ ends) (opening word space ++ greater_than ∷ [])
       (characters-two (spell_silent (opening word space)) ends (opening word space) (greater_than ∷ []) (characters-spell silent (opening word space)) refl)
       (Leads-append rules (Between Data) (behind_word rules space) (Between Data) (spell_silent (opening word space)) ends (leads-opening rules word space is_word all)
-      (leads-goes rules (behind_word rules space) (Between Data) ends
+      (leads-goes rules (behind_word rules space) (Between Data) ends refl
       (Goes-one rules.exact (behind_word rules space) (Between Data) greater_than _ (step-no_name rules space))))
   reads-content K s word space (Named first rest later behind) is_word all h =
       let p = and_parts (list_all in_doctype_name (first ∷ rest)) (can_stand_behind later behind) h in
@@ -201,7 +201,7 @@ module _ {S H : Type 0} (step : S → Told → ℕ → S) (reply : S → Told �
       ∙ ap (λ l. with_messages M (trace step reply foreign rules (stepped step s M) (line_after K.input l) K.last_start_tag opened text)) (characters-name rules.exact word space first rest later)
       ∙ ap (with_messages M) (reads-behind K.input before K.last_start_tag name (stepped step s M) later behind p.1)
 
-  reads_doctype : (K : Start) (s : S) (X : List ℕ) (doctype : WrittenDoctype) → IsDoctype K X doctype
+  pub reads_doctype : (K : Start) (s : S) (X : List ℕ) (doctype : WrittenDoctype) → IsDoctype K X doctype
       → IsReadFrom step reply foreign rules K s X (messages_of rules.exact K.input doctype.word doctype.space doctype.content)
   unfolding written is_written
   reads_doctype K s X doctype one =

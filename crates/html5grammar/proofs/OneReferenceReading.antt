@@ -25,7 +25,7 @@ use Rattle.html5grammar.specs.Start.{Start, Open, Rules}
 use Rattle.html5grammar.specs.Start.Mode.{Data}
 use Rattle.html5grammar.specs.Start.Open.{Between, InReference}
 use Rattle.html5grammar.specs.Start.Stand.{InText}
-use Rattle.html5grammar.proofs.Going.{good_between}
+use Rattle.html5grammar.proofs.GoodCharacters.{good_between}
 use Rattle.html5grammar.proofs.InputLemmas.{line_past, lines_past, line_after-past, line_after-last, line_after-lines_past}
 use Rattle.html5grammar.proofs.Machine.{step_at, data_step, brought_at, reference_step}
 use Rattle.html5grammar.proofs.OneTagSteps.{is_not}
@@ -76,7 +76,7 @@ is_number-written None (d ∷ digits) base all =
 is_number-written (Some x) digits base all = is_number-cons x digits ∙ rw base all
 
 -- a semicolon is no digit
-is_number-ended : (x : Option ℕ) (digits : List ℕ) → is_base x ≡ true → not (nat_eq (length digits) 0) ≡ true → list_all (is_base_digit x) digits ≡ true
+pub is_number-ended : (x : Option ℕ) (digits : List ℕ) → is_base x ≡ true → not (nat_eq (length digits) 0) ≡ true → list_all (is_base_digit x) digits ≡ true
     → is_number ((x_text x ++ digits) ++ semicolon ∷ []) ≡ false
 is_number-ended None [] base some all = absurd cc
 is_number-ended None (d ∷ digits) base some all =
@@ -89,7 +89,7 @@ is_number-ended (Some x) digits base some all =
 
 -- ---- what is held: each character leaves the reference undecided, and is no bad one
 
-unfoldable Holds : List NamedReference → List ℕ → List ℕ → Type 0
+unfoldable pub Holds : List NamedReference → List ℕ → List ℕ → Type 0
 Holds names held [] = Unit {0}
 Holds names held (c ∷ run) =
     (is_bad_character c ≡ false) × (is_undecided names (held ++ c ∷ []) ≡ true) × Holds names (held ++ c ∷ []) run
@@ -104,7 +104,7 @@ Holds-digits names x before (d ∷ digits) base all more =
     subst (λ held. (is_bad_character d ≡ false) × (is_undecided names (number_sign ∷ held) ≡ true) × Holds names (number_sign ∷ held) digits) (sym (append_assoc (x_text x) before (d ∷ [])))
     (good-digit x d p.0, is_number-written x (before ++ d ∷ []) base longer, Holds-digits names x (before ++ d ∷ []) digits base longer p.1)
 
-Holds-number : (names : List NamedReference) (x : Option ℕ) (digits : List ℕ) → is_base x ≡ true → list_all (is_base_digit x) digits ≡ true
+pub Holds-number : (names : List NamedReference) (x : Option ℕ) (digits : List ℕ) → is_base x ≡ true → list_all (is_base_digit x) digits ≡ true
     → Holds names [] (number_sign ∷ (x_text x ++ digits))
 unfolding Holds is_undecided is_bad_character is_number
 Holds-number names None digits base all = (refl, refl, Holds-digits names None [] digits base refl all)
@@ -118,7 +118,7 @@ undecided-begun names (c ∷ held) all begins =
     let p = and_parts (is_name_character c) (list_all is_name_character held) all in
     rw (is_not is_name_character c number_sign refl p.0, begins) refl
 
-Holds-name : (names : List NamedReference) (before name : List ℕ) (found : ℕ × Option ℕ) → characters_of_name names (before ++ name) ≡ Some found
+pub Holds-name : (names : List NamedReference) (before name : List ℕ) (found : ℕ × Option ℕ) → characters_of_name names (before ++ name) ≡ Some found
     → list_all is_name_character before ≡ true → list_all is_name_character name ≡ true → Holds names before name
 unfolding Holds
 Holds-name names before [] found e all more = tt
@@ -134,10 +134,10 @@ tokens-late : (back : ℕ) (tokens : List Told) → tokens_of_late (map (λ (tok
 tokens-late back [] = refl
 tokens-late back (t ∷ tokens) = ap (λ l. t ∷ l) (tokens-late back tokens)
 
-abbrev tokens_in : Found → List Told
+abbrev pub tokens_in : Found → List Told
 tokens_in found = told_of (InText Data) found
 
-tokens-taken : (found : Found) (held : List ℕ) → drop found.taken held ≡ [] → tokens_of_late (late_tokens (InText Data) found held) ≡ tokens_in found
+pub tokens-taken : (found : Found) (held : List ℕ) → drop found.taken held ≡ [] → tokens_of_late (late_tokens (InText Data) found held) ≡ tokens_in found
 unfolding held_text
 tokens-taken found held taken = rw taken (tokens-late (suc (length held) - found.taken) (tokens_in found))
 
@@ -148,13 +148,13 @@ end-found rules held found e taken = rw e (ap (λ l. l ++ End ∷ []) (tokens-ta
 
 -- ---- what a number comes to, and a name
 
-has_digits-written : (x : Option ℕ) (digits : List ℕ) → is_base x ≡ true → not (nat_eq (length digits) 0) ≡ true → list_all (is_base_digit x) digits ≡ true
+pub has_digits-written : (x : Option ℕ) (digits : List ℕ) → is_base x ≡ true → not (nat_eq (length digits) 0) ≡ true → list_all (is_base_digit x) digits ≡ true
     → has_digits (x_text x ++ digits) ≡ true
 unfolding has_digits
 has_digits-written x digits base some all = rw (behind-written x digits base all) some
 
 -- what follows a number decides whether a semicolon is missing
-abbrev found_number : Bool → Option ℕ → List ℕ → Option ℕ → Found
+abbrev pub found_number : Bool → Option ℕ → List ℕ → Option ℕ → Found
 found_number exact x digits next = record {
   taken = suc (length (x_text x ++ digits)) + semicolon_len next;
   errors = unended_number next ++ where_true (is_invalid_number (value_of x digits)) (Error (invalid_number exact (value_of x digits)));
@@ -162,24 +162,24 @@ found_number exact x digits next = record {
   more = [];
 }
 
-number-found : (exact : Bool) (x : Option ℕ) (digits : List ℕ) (next : Option ℕ) → is_base x ≡ true → not (nat_eq (length digits) 0) ≡ true → list_all (is_base_digit x) digits ≡ true
+pub number-found : (exact : Bool) (x : Option ℕ) (digits : List ℕ) (next : Option ℕ) → is_base x ≡ true → not (nat_eq (length digits) 0) ≡ true → list_all (is_base_digit x) digits ≡ true
     → number_reference exact (x_text x ++ digits) next ≡ found_number exact x digits next
 unfolding number_reference
 number-found exact x digits next base some all = rw (has_digits-written x digits base some all, value-written x digits base all) refl
 
-number-taken : (x : Option ℕ) (digits : List ℕ) (next : Option ℕ) → drop (suc (length (x_text x ++ digits)) + semicolon_len next) (number_sign ∷ (x_text x ++ digits)) ≡ []
+pub number-taken : (x : Option ℕ) (digits : List ℕ) (next : Option ℕ) → drop (suc (length (x_text x ++ digits)) + semicolon_len next) (number_sign ∷ (x_text x ++ digits)) ≡ []
 number-taken x digits next = drop_of_length-le (number_sign ∷ (x_text x ++ digits)) (omega arith)
 
-abbrev found_entry : NamedReference → List Told → Found
+abbrev pub found_entry : NamedReference → List Told → Found
 found_entry entry errors = record { taken = length entry.name; errors = errors; first = entry.first; more = second_of entry.second }
 
-abbrev entry_errors : Bool → List Told
+abbrev pub entry_errors : Bool → List Told
 entry_errors ended = where_true (not ended) (Error (codes "Character reference does not end with semicolon"))
 
-entry-found : (rules : Rules) (entry : NamedReference) → characters_of_name rules.names entry.name ≡ Some (entry.first, entry.second)
-    → named_reference rules.exact false entry.name None (longest_name rules.names entry.name) ≡ found_entry entry (entry_errors (is_ended entry.name))
+entry-found : (rules : Rules) (entry : NamedReference) (next : Option ℕ) → characters_of_name rules.names entry.name ≡ Some (entry.first, entry.second)
+    → named_reference rules.exact false entry.name next (longest_name rules.names entry.name) ≡ found_entry entry (entry_errors (is_ended entry.name))
 unfolding named_reference
-entry-found rules entry e =
+entry-found rules entry next e =
     let found = longest-found rules.names entry.name entry.first entry.second e in
     rw (found.is, found.name_is, found.first_is, found.second_is)
     (elim (is_ended entry.name) as (λ b. (if b then found_entry entry [] else found_entry entry (entry_errors false)) ≡ found_entry entry (entry_errors b)) [
@@ -187,14 +187,14 @@ entry-found rules entry e =
       | false ↦ refl
     ])
 
-name-found : (rules : Rules) (name : List ℕ) (entry : NamedReference) → name ≡ entry.name → is_plain_name name ≡ true
-    → characters_of_name rules.names entry.name ≡ Some (entry.first, entry.second) → reference rules false name None ≡ found_entry entry (entry_errors (is_ended entry.name))
+pub name-found : (rules : Rules) (name : List ℕ) (entry : NamedReference) (next : Option ℕ) → name ≡ entry.name → is_plain_name name ≡ true
+    → characters_of_name rules.names entry.name ≡ Some (entry.first, entry.second) → reference rules false name next ≡ found_entry entry (entry_errors (is_ended entry.name))
 unfolding reference is_plain_name is_name_character
-name-found rules [] entry same plain e = absurd cc
-name-found rules (c ∷ name) entry same plain e =
+name-found rules [] entry next same plain e = absurd cc
+name-found rules (c ∷ name) entry next same plain e =
     let p = and_parts (is_name_character c) (list_all is_name_character name) (named_alone (c ∷ name) plain) in
     rw (is_not is_name_character c number_sign refl p.0)
-    (ap (λ n. named_reference rules.exact false n None (longest_name rules.names n)) same ∙ entry-found rules entry e)
+    (ap (λ n. named_reference rules.exact false n next (longest_name rules.names n)) same ∙ entry-found rules entry next e)
 
 -- ---- the machine reads them
 
@@ -230,7 +230,7 @@ module _ {S H : Type 0} (step : S → Told → ℕ → S) (reply : S → Told �
   trace-ampersand s line last text = rw (good-ampersand, and-false rules.exact) refl
 
   -- the semicolon of a number decides it
-  trace-ended : (s : S) (line : ℕ) (last held : List ℕ) (found : Found)
+  pub trace-ended : (s : S) (line : ℕ) (last held : List ℕ) (found : Found)
       → is_undecided rules.names (held ++ semicolon ∷ []) ≡ false → ends_number held semicolon ≡ true
       → reference rules false held (Some semicolon) ≡ found → drop found.taken held ≡ []
       → trace step reply foreign rules s line last (InReference (InText Data) held) (semicolon ∷ [])
@@ -241,7 +241,7 @@ module _ {S H : Type 0} (step : S → Told → ℕ → S) (reply : S → Told �
       (ap (λ M. record { messages = M; opened = Between Data; last_start_tag = last }) (append-nil (on_line line (tokens_of_late (late_tokens (InText Data) found held))) ∙ ap (on_line line) (tokens-taken found held taken)))
 
   -- what was held is open behind it, on the line that it reached
-  trace-run : (K : Start) (s : S) (X run more : List ℕ) → K.opened ≡ Between Data → normalised K.input X ≡ (ampersand ∷ run) ++ more → Holds rules.names [] run
+  pub trace-run : (K : Start) (s : S) (X run more : List ℕ) → K.opened ≡ Between Data → normalised K.input X ≡ (ampersand ∷ run) ++ more → Holds rules.names [] run
       → trace step reply foreign rules s (line_after K.input []) K.last_start_tag K.opened (normalised K.input X)
       ≡ trace step reply foreign rules s (line_after K.input (ampersand ∷ run)) K.last_start_tag (InReference (InText Data) run) more
   unfolding lines_past
@@ -316,7 +316,7 @@ module _ {S H : Type 0} (step : S → Told → ℕ → S) (reply : S → Told �
       let plain : is_plain_name entry.name ≡ true = plain-entry rules.names entry.name (entry.first, entry.second) table.plain one.is_reference in
       reads-held K s X entry.name (found_entry entry (entry_errors (is_ended entry.name))) one.starts one.text
       (Holds-name rules.names [] entry.name (entry.first, entry.second) one.is_reference refl (named_alone entry.name plain))
-      (name-found rules entry.name entry refl plain one.is_reference) (drop_of_length-le entry.name (omega arith))
+      (name-found rules entry.name entry None refl plain one.is_reference) (drop_of_length-le entry.name (omega arith))
 
   pub reading-reference : (K : Start) (s : S) (X : List ℕ) (written_as : WrittenReference) → IsTable rules.names → IsReference rules.names K X written_as
       → messages (reading step reply foreign rules K s X) ≡ on_line (line_after K.input (written written_as)) (reference_tokens rules.exact written_as)

@@ -1,5 +1,5 @@
 -- A text that is one tag tells the tag's messages.
-use Rattle.std.proofs.Common.{◌≡◌, ℕ, Bool, true, List, [], ◌∷◌, ◌++◌, refl, ap, sym, ◌∙◌, subst}
+use Rattle.std.proofs.Common.{◌≡◌, ℕ, Bool, false, true, List, [], ◌∷◌, ◌++◌, refl, ap, sym, ◌∙◌, subst}
 use Rattle.std.specs.Prelude.{map, flat_map}
 use Rattle.std.specs.List.{list_all}
 use Rattle.std.proofs.lemmas.Bool.{and_parts}
@@ -21,7 +21,7 @@ use Rattle.html5grammar.specs.OneTag.Part.{Blank, Solidus, Name, Attribute}
 use Rattle.html5grammar.specs.OneTag.Value.{InDoubleQuotes, InSingleQuotes, Bare}
 use Rattle.html5grammar.specs.Reading.{reading, read, told, messages, after, end_events, late_events, last_behind}
 use Rattle.html5grammar.specs.Reading.Here.{TellsTag}
-use Rattle.html5grammar.specs.Start.{Input, OpenTag, Place, Open, Start, begun, Rules}
+use Rattle.html5grammar.specs.Start.{Input, OpenTag, Place, Open, Start, begun, Rules, is_undecided_open}
 use Rattle.html5grammar.specs.Start.Mode.{Data}
 use Rattle.html5grammar.specs.Start.Place.{InName}
 use Rattle.html5grammar.specs.Start.Open.{Between, LessThan, LessThanSolidus, InTag}
@@ -30,7 +30,7 @@ use Rattle.html5grammar.specs.Tag.{with_name, with_last_attribute, told_tag, end
 use Rattle.html5grammar.proofs.InputLemmas.{line_after-past}
 use Rattle.html5grammar.proofs.Machine.{step_at, data_step, less_than_step, solidus_step, tag_name_step}
 use Rattle.html5grammar.proofs.OneTagParts.{Holds, Holds-none, Led, goes-parts, can_end-parts}
-use Rattle.html5grammar.proofs.OneTagSteps.{can_end, Goes, Goes-append, goes-name, step-end, letter-in_tag_name}
+use Rattle.html5grammar.proofs.OneTagSteps.{can_end, Goes, Goes-append, Goes-decided, tag-decided, goes-name, step-end, letter-in_tag_name}
 use Rattle.html5grammar.proofs.ReadingLemmas.{told-trace, after-opened, reading-events}
 use Rattle.html5grammar.proofs.Slices.{with_name-cons}
 use Rattle.html5grammar.proofs.Traces.{brought-tells, trace_brought, Trace, trace, trace_here, with_messages, messages-append}
@@ -115,10 +115,10 @@ module _ (exact : Bool) where
   )
 
   -- a tag up to its `>`, and what that tells
-  record ReadsTag (tag : WrittenTag) : Type 0 where
-    behind : Open
-    goes : Goes exact (Between Data) (body exact tag) behind
-    ends : step_at exact behind greater_than ≡ TellsTag (end_errors exact tag) (tag_told tag)
+  pub record ReadsTag (tag : WrittenTag) : Type 0 where
+    pub behind : Open
+    pub goes : Goes exact (Between Data) (body exact tag) behind
+    pub ends : step_at exact behind greater_than ≡ TellsTag (end_errors exact tag) (tag_told tag)
 
   pub ends-tag : (tag : WrittenTag) (behind : OpenTag) → can_end (end_place tag) ≡ true
       → Holds tag.kind (name_shown tag.first tag.rest) (all_attributes tag) behind
@@ -130,7 +130,7 @@ module _ (exact : Bool) where
       ∙ ap (λ errors. TellsTag (end_error exact place ++ (errors ++ end_tag_errors (with_last_attribute behind) closes)) (told_tag (with_last_attribute behind) closes)) holds.error
       ∙ ap (λ closed. TellsTag (end_error exact place ++ (repeated_error (all_attributes tag) ++ end_tag_errors closed closes)) (told_tag closed closes)) holds.closed
 
-  reads-tag : (tag : WrittenTag) → is_written tag ≡ true → ReadsTag tag
+  pub reads-tag : (tag : WrittenTag) → is_written tag ≡ true → ReadsTag tag
   unfolding is_written
   reads-tag tag h =
       let p = and_parts (is_letter tag.first) _ h in
@@ -159,7 +159,7 @@ module _ {S H : Type 0} (step : S → Told → ℕ → S) (reply : S → Told �
       ≡ record { messages = spelled_messages rules.exact input before (record { character = c; told = errors ++ Tag tag ∷ [] } ∷ []); opened = Between Data; last_start_tag = last_behind last tag }
   unfolding trace trace_brought trace_here spelled_messages
   trace-last input before s last opened c errors tag keeps ends =
-      rw (brought-tells rules (foreign s) opened c _ refl ends, line_after-past input before c, keeps, append_assoc (bad_character_error rules.exact c) errors (Tag tag ∷ [])) refl
+      rw (brought-tells rules (foreign s) opened c _ (tag-decided rules.exact opened c errors tag ends) ends, line_after-past input before c, keeps, append_assoc (bad_character_error rules.exact c) errors (Tag tag ∷ [])) refl
 
   pub trace-tag : (input : Input) (before : List ℕ) (s : S) (last : List ℕ) (opened behind : Open) (cells : List Spelled) (c : ℕ) (errors : List Told) (tag : TagOf)
       → ((t : S) (line : ℕ) → reply t (Tag tag) line ≡ KeepOn)
@@ -172,7 +172,9 @@ module _ {S H : Type 0} (step : S → Told → ℕ → S) (reply : S → Told �
       rw goes (trace-last input before s last behind c errors tag keeps ends)
   trace-tag input before s last opened behind (here ∷ more) c errors tag keeps goes ends =
       let M : List Message = on_line (line_after input (before ++ here.character ∷ [])) (bad_character_error rules.exact here.character ++ here.told) in
-      rw (brought-tells rules (foreign s) opened here.character _ refl goes.1, ← line_after-past input before here.character)
+      let decided : is_undecided_open opened ≡ false =
+      Goes-decided rules.exact opened behind (here ∷ more) goes (tag-decided rules.exact behind c errors tag ends) in
+      rw (brought-tells rules (foreign s) opened here.character _ decided goes.1, ← line_after-past input before here.character)
       (ap (with_messages M) (trace-tag input (before ++ here.character ∷ []) (stepped step s M) last goes.0 behind more c errors tag keeps goes.2 ends))
 
   -- a text that is one tag, behind which the sink keeps on

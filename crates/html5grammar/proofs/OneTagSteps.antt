@@ -3,16 +3,18 @@ use Rattle.std.proofs.Common.{◌≡◌, ℕ, Bool, true, false, List, [], ◌�
 use Rattle.std.specs.Prelude.{◌==◌, ◌||◌, not}
 use Rattle.std.specs.List.{list_all}
 use Rattle.std.proofs.lemmas.Bool.{eqb-true, false_from_ne_true, false≢true, and_parts, not-true}
-use Rattle.html5ever_interface.specs.Token.{Told}
+use Rattle.html5ever_interface.specs.Token.{Told, TagOf}
 use Rattle.html5ever_interface.specs.declared.states.AttrValueKind.TheVariants.{Unquoted, SingleQuoted, DoubleQuoted}
 use Rattle.html5ever_interface.specs.declared.states.State.TheVariants as state
 use Rattle.html5grammar.specs.Characters.{tab, line_feed, form_feed, space, ampersand, solidus, equals_sign, greater_than, is_letter, is_white_space}
 use Rattle.html5grammar.specs.OneTag.{Spelled, spell, spell_silent, begins_attribute, takes_blank, takes_solidus, takes_attribute, place_behind, end_error}
 use Rattle.html5grammar.specs.OneTag.Part.{Blank}
 use Rattle.html5grammar.specs.Reading.Here.{Tells, TellsTag}
-use Rattle.html5grammar.specs.Start.{OpenTag, Place, Open}
+use Rattle.html5grammar.specs.Reading.{Here}
+use Rattle.html5grammar.specs.Start.{OpenTag, Place, Open, is_undecided_open}
 use Rattle.html5grammar.specs.Start.Place.{InName, BeforeAttribute, InAttributeName, AfterAttributeName, BeforeValue, InValue, AfterQuotedValue, AfterSolidus}
-use Rattle.html5grammar.specs.Start.Open.{InTag}
+use Rattle.html5grammar.specs.Start.Open.{Between, InTag, InReference, InDeclaration, InDoctypeKeyword}
+use Rattle.html5grammar.specs.Start.Mode.{Data}
 use Rattle.html5grammar.specs.Slice.{silent}
 use Rattle.html5grammar.specs.Reference.{with_value}
 use Rattle.html5grammar.specs.Tag.{with_last_attribute, duplicate_error, end_tag_errors, told_tag, null_error, in_quoted, in_unquoted, unquoted_error, in_attribute_name, attribute_name_error, with_last_name, place_error, first_error, is_after_solidus, in_tag_name, with_name}
@@ -62,6 +64,14 @@ can_end (InValue SingleQuoted) = false
 can_end (InValue DoubleQuoted) = false
 can_end place = true
 
+abbrev behind_step : Here Open → Open
+behind_step (Tells told later) = later
+behind_step (TellsTag told tag) = Between Data
+
+abbrev tells_tag : Here Open → Bool
+tells_tag (Tells told later) = false
+tells_tag (TellsTag told tag) = true
+
 module _ (exact : Bool) where
   -- each character tells what it spells, and leads on from what is open
   unfoldable pub Goes : Open → List Spelled → Open → Type 0
@@ -77,6 +87,28 @@ module _ (exact : Bool) where
   pub Goes-one : (a b : Open) (c : ℕ) (told : List Told) → step_at exact a c ≡ Tells told b → Goes a (record { character = c; told = told } ∷ []) b
   unfolding Goes
   Goes-one a b c told e = (b, e, refl)
+
+  -- what is undecided stays open, so that nothing is undecided before what is decided
+  stays_decided : (opened next : Open) (c : ℕ) (told : List Told) → step_at exact opened c ≡ Tells told next → is_undecided_open next ≡ false
+      → is_undecided_open opened ≡ false
+  unfolding step_at
+  stays_decided (InReference stand held) next c told e h = ap (λ here. is_undecided_open (behind_step here)) e ∙ h
+  stays_decided (InDeclaration held) next c told e h = ap (λ here. is_undecided_open (behind_step here)) e ∙ h
+  stays_decided (InDoctypeKeyword held d) next c told e h = ap (λ here. is_undecided_open (behind_step here)) e ∙ h
+  stays_decided opened next c told e h = refl
+
+  pub Goes-decided : (a b : Open) (cells : List Spelled) → Goes a cells b → is_undecided_open b ≡ false → is_undecided_open a ≡ false
+  unfolding Goes
+  Goes-decided a b [] goes h = ap is_undecided_open goes ∙ h
+  Goes-decided a b (here ∷ more) goes h = stays_decided a goes.0 here.character here.told goes.1 (Goes-decided goes.0 b more goes.2 h)
+
+  -- nor where a tag is told
+  pub tag-decided : (opened : Open) (c : ℕ) (told : List Told) (tag : TagOf) → step_at exact opened c ≡ TellsTag told tag → is_undecided_open opened ≡ false
+  unfolding step_at
+  tag-decided (InReference stand held) c told tag e = absurd (false≢true (ap tells_tag e))
+  tag-decided (InDeclaration held) c told tag e = absurd (false≢true (ap tells_tag e))
+  tag-decided (InDoctypeKeyword held d) c told tag e = absurd (false≢true (ap tells_tag e))
+  tag-decided opened c told tag e = refl
 
   -- a run of characters that only make what is open grow
   pub goes-run : {X : Type 0} → (opened : X → Open) (more : X → List ℕ → X) (is_kind : ℕ → Bool) (tells : ℕ → List Told)

@@ -16,20 +16,20 @@ use Rattle.html5grammar.specs.Reading.{Event, Here, Brought, Read, brought, is_c
 use Rattle.html5grammar.specs.Reading.TextPlace.{Character, EndOfInput}
 use Rattle.html5grammar.specs.Reference.{Found, in_value, reference, held_text, late_tokens}
 use Rattle.html5ever_interface.specs.declared.states.AttrValueKind.{AttrValueKind}
-use Rattle.html5grammar.specs.Reading.Here.{Tells, TellsTag, Stops}
+use Rattle.html5grammar.specs.Reading.Here.{Tells, TellsTag}
 use Rattle.html5grammar.specs.Slice.{Slice, Late, cut_off, tokens_of_late}
 use Rattle.html5grammar.specs.Start.{Input, OpenTag, Stand, Start, Open, Rules}
 use Rattle.html5grammar.specs.Start.Mode.{Data, Plain, RawText, Cdata}
 use Rattle.html5grammar.specs.Start.Stand.{InText, InAttribute}
-use Rattle.html5grammar.specs.Start.Open.{Between, LessThan, LessThanSolidus, InTag, InRaw, InDeclaration, InComment, InBogusComment, InDoctype, InDoctypeKeyword, InReference, NotBuilt, InCdata}
+use Rattle.html5grammar.specs.Start.Open.{Between, LessThan, LessThanSolidus, InTag, InRaw, InDeclaration, InComment, InBogusComment, InDoctype, InDoctypeKeyword, InReference, InCdata}
 use Rattle.html5grammar.proofs.Machine.{brought_at, messages_here, opened_here, last_here}
 use Rattle.html5grammar.proofs.InputLemmas.{line_past, lines_past, normalised-append, input_after-line_none, input_after-append, input_after-line_one}
 use Rattle.html5grammar.proofs.Traces.{Trace, Traces, with_messages, trace, trace_here, trace_brought, traces, messages-append, messages-map, messages-late}
 
-take_while-cons : {X : Type 0} → (p : X → Bool) (x : X) (xs : List X) → p x ≡ true → take_while p (x ∷ xs) ≡ x ∷ take_while p xs
+pub take_while-cons : {X : Type 0} → (p : X → Bool) (x : X) (xs : List X) → p x ≡ true → take_while p (x ∷ xs) ≡ x ∷ take_while p xs
 take_while-cons p x xs h = rw (h, one-add) refl
 
-take_while-map : {X E : Type 0} → (p : E → Bool) (f : X → E) → ((x : X) → p (f x) ≡ true) → (xs : List X) (ys : List E)
+pub take_while-map : {X E : Type 0} → (p : E → Bool) (f : X → E) → ((x : X) → p (f x) ≡ true) → (xs : List X) (ys : List E)
     → take_while p (map f xs ++ ys) ≡ map f xs ++ take_while p ys
 take_while-map p f h [] ys = refl
 take_while-map p f h (x ∷ xs) ys =
@@ -69,7 +69,6 @@ decided-told_at_end exact (InDoctype place d) f h = none_decided f h (told_at_en
 decided-told_at_end exact (InDoctypeKeyword held d) f h = refl
 decided-told_at_end exact (InCdata held) f h = none_decided f h (told_at_end_of exact (InCdata held))
 decided-told_at_end exact (InReference stand held) f h = refl
-decided-told_at_end exact NotBuilt f h = refl
 
 -- what a character decides late is decided by characters
 
@@ -98,7 +97,7 @@ late_first : (I : Input) (Y : List ℕ) (back : ℕ) (tokens : List Told) (later
 unfolding late_events
 late_first I Y back tokens later E t ts e = rw e refl
 
-held_text-in_value : (kind : AttrValueKind) (tag : OpenTag) (held : List ℕ) → held_text (InAttribute kind tag) held ≡ []
+pub held_text-in_value : (kind : AttrValueKind) (tag : OpenTag) (held : List ℕ) → held_text (InAttribute kind tag) held ≡ []
 unfolding held_text
 held_text-in_value kind tag [] = refl
 held_text-in_value kind tag (c ∷ held) = held_text-in_value kind tag held
@@ -139,7 +138,6 @@ module _ (I : Input) (Y : List ℕ) (E : List Event) (none : take_while (λ (e :
   decided-late_at_end rules (InDoctypeKeyword (c ∷ held) d) = refl
   decided-late_at_end rules (InCdata held) = none
   decided-late_at_end rules (InReference stand held) = decided-late_tokens stand (reference rules (in_value stand) held None) held
-  decided-late_at_end rules NotBuilt = none
 
 module _ {S H : Type 0} (step : S → Told → ℕ → S) (reply : S → Told → ℕ → Reply H) (foreign : S → Bool) (rules : Rules) where
   abbrev pub start_behind : Start → S → List ℕ → Start
@@ -159,8 +157,6 @@ module _ {S H : Type 0} (step : S → Told → ℕ → S) (reply : S → Told �
       ≡ (read_here step reply foreign rules K rest cut_off s last before c h).events ++ take_while (λ e. is_character e.decided_by) E
   decided-here K s last before c (Tells told goes_on) rest E ih = decided-events_at K.input before c _ (rest _ last goes_on).events E (ih _ last goes_on)
   decided-here K s last before c (TellsTag told tag) rest E ih = decided-events_at K.input before c _ (rest _ _ _).events E (ih _ _ _)
-  decided-here K s last before c (Stops told) rest E ih =
-      rw (← append-nil (events_at K.input before c told)) (decided-events_at K.input before c told [] E refl)
 
   decided-read_from : (K : Start) (s : S) (last : List ℕ) (before : List ℕ) (slice : Slice) (Y : List ℕ) (E : List Event)
       → take_while (λ e. is_character e.decided_by) ((read_from step reply foreign rules K s last before slice Y).events ++ E)
@@ -208,12 +204,6 @@ module _ {S H : Type 0} (step : S → Told → ℕ → S) (reply : S → Told �
       → messages (told step reply foreign rules K s X) ≡ (trace step reply foreign rules s (line_after K.input []) K.last_start_tag K.opened (normalised K.input X)).messages
   told-trace K s X = ap messages (told-events K s X) ∙ (read-traces K s X).messages
 
-  -- nothing is told where what isn't built yet was met
-  trace-not_built : (s : S) (line : ℕ) (last W : List ℕ) → trace step reply foreign rules s line last NotBuilt W ≡ record { messages = []; opened = NotBuilt; last_start_tag = last }
-  unfolding trace trace_brought trace_here brought_at
-  trace-not_built s line last [] = refl
-  trace-not_built s line last (c ∷ W) = refl
-
   abbrev going_on : S → ℕ → Trace → List ℕ → Trace
   going_on s line t W = with_messages t.messages (trace step reply foreign rules (stepped step s t.messages) line t.last_start_tag t.opened W)
 
@@ -247,8 +237,6 @@ module _ {S H : Type 0} (step : S → Told → ℕ → S) (reply : S → Told �
       rw (stepped-last s line tokens (Tag tag))
       (ap (with_messages M) (ih (stepped step s M) name later)
       ∙ going_on-with s (lines_past line Y) M (trace step reply foreign rules (stepped step s M) line name later Y) W)
-  trace-append-here s line last c Y W (Stops told) ih =
-      rw (trace-not_built (stepped step s (on_line line told)) (lines_past line Y) last W, append-nil (on_line line told)) refl
 
   trace-append-brought : (s : S) (line : ℕ) (last : List ℕ) (c : ℕ) (Y W : List ℕ) (next : Brought Open)
       → ((t : S) (name : List ℕ) (later : Open) → trace step reply foreign rules t (line_past line c) name later (Y ++ W) ≡ going_on t (lines_past (line_past line c) Y) (trace step reply foreign rules t (line_past line c) name later Y) W)
@@ -344,7 +332,6 @@ module _ {S H : Type 0} (step : S → Told → ℕ → S) (reply : S → Told �
   unfolding trace_here messages_here opened_here last_here
   trace_here-one s line last d (Tells told later) = rw (append-nil (on_line line (bad_character_error rules.exact d ++ told))) refl
   trace_here-one s line last d (TellsTag told tag) = rw (append-nil (on_line line ((bad_character_error rules.exact d ++ told) ++ Tag tag ∷ []))) refl
-  trace_here-one s line last d (Stops told) = refl
 
   -- the state of the sink in which the character is told
   abbrev pub state_here : Start → S → ℕ → S
@@ -375,10 +362,3 @@ module _ {S H : Type 0} (step : S → Told → ℕ → S) (reply : S → Told �
         input = input_after K.input (c ∷ []);
       }
   after-one K s c d e = rw (after-opened K s (c ∷ []), after-last K s (c ∷ []), trace-one K s c d e) refl
-
-  -- where what isn't built yet was met, nothing more is told
-  pub told-not_built : (K : Start) (s : S) (X : List ℕ) → K.opened ≡ NotBuilt → messages (told step reply foreign rules K s X) ≡ []
-  told-not_built K s X e = told-trace K s X ∙ rw (e, trace-not_built s (line_after K.input []) K.last_start_tag (normalised K.input X)) refl
-
-  pub after-not_built : (K : Start) (s : S) (X : List ℕ) → K.opened ≡ NotBuilt → (start_behind K s X).opened ≡ NotBuilt
-  after-not_built K s X e = after-opened K s X ∙ rw (e, trace-not_built s (line_after K.input []) K.last_start_tag (normalised K.input X)) refl

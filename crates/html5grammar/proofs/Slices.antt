@@ -28,7 +28,7 @@ use Rattle.html5grammar.specs.Text.{behind_solidus, behind_less_than, data_text}
 use Rattle.html5grammar.specs.ErrorText.{error_in}
 use Rattle.html5grammar.specs.Cutting.{rest_of, next_slice, slice_at}
 use Rattle.html5grammar.specs.Reading.{Here, Brought, at_first, here, brought_without_answer, brought}
-use Rattle.html5grammar.specs.Reading.Here.{Tells, TellsTag, Stops}
+use Rattle.html5grammar.specs.Reading.Here.{Tells, TellsTag}
 use Rattle.html5grammar.specs.Slice.{Slice, with_run, run_of, behind_run, silent, run_while, behind_while, no_character, with_character}
 use Rattle.html5grammar.specs.Slice.Cell.{Says}
 use Rattle.html5grammar.specs.Slice.Behind.{Leaves}
@@ -39,13 +39,12 @@ use Rattle.html5grammar.specs.Start.Mode.{Data, Plain, RawText, Cdata}
 use Rattle.html5grammar.specs.Start.RawPlace.{AfterLessThan, InEndName, AfterMark, AfterMarkAndDash, InSwitch}
 use Rattle.html5grammar.specs.Start.Place.{InName, BeforeAttribute, InAttributeName, AfterAttributeName, BeforeValue, InValue, AfterQuotedValue, AfterSolidus}
 use Rattle.html5grammar.specs.Start.DoctypePlace.{AfterWord, BeforeName, InDoctypeName, AfterName, AfterKeyword, BeforeIdentifier, InIdentifier, AfterIdentifier, BetweenIdentifiers, Skipped}
-use Rattle.html5grammar.specs.Start.Open.{Between, LessThan, LessThanSolidus, InTag, InRaw, InDeclaration, InComment, InBogusComment, InDoctype, InDoctypeKeyword, InCdata, InReference, NotBuilt}
+use Rattle.html5grammar.specs.Start.Open.{Between, LessThan, LessThanSolidus, InTag, InRaw, InDeclaration, InComment, InBogusComment, InDoctype, InDoctypeKeyword, InCdata, InReference}
 use Rattle.html5grammar.proofs.Machine.{step_at, brought_at, reference_step, closing_step, tag_name_step, part_step, attribute_name_step, after_attribute_name_step, quoted_step, unquoted_step, before_value_step, tag_step, data_step, less_than_step, solidus_step, bogus_comment_step, comment_step, cdata_step, skipped_step, wanted_name_step, doctype_name_step, keyword_or_end_step, wanted_identifier_step, system_or_end_step, identifier_step, behind_identifier_step, space_step, doctype_step, declaration_answer_step, declaration_step, doctype_keyword_step, raw_step, tag_name_end_step, end_name_step, switch_step, mark_step, mark_and_dash_step, raw_solidus_step, raw_less_than_step, raw_place_step}
 
 abbrev pub going : {F G : Type 0} → (F → G) → Here F → Here G
 going f (Tells told goes_on) = Tells told (f goes_on)
 going f (TellsTag told tag) = TellsTag told tag
-going f (Stops told) = Stops told
 
 -- a run that goes on
 pub with_run-member : (is_kind : ℕ → Bool) (tells : ℕ → List Told) (behind : List ℕ → List ℕ → Slice) (c : ℕ) (text : List ℕ) → is_kind c ≡ true
@@ -673,4 +672,3 @@ module _ (rules : Rules) (foreign : Bool) (c : ℕ) (text : List ℕ) where
   rest_of-brought_at (InDoctypeKeyword held d) = brings-doctype_keyword held d
   rest_of-brought_at (InCdata held) = brings-from (rest_of rules (InCdata held) (c ∷ text)) _ (follows-cdata held)
   rest_of-brought_at (InReference stand held) = brings-reference stand held (is_undecided rules.names (held ++ c ∷ [])) refl
-  rest_of-brought_at NotBuilt = refl

@@ -9,7 +9,7 @@ use Rattle.html5ever_interface.specs.declared.states.State.TheVariants as state
 use Rattle.html5grammar.specs.Characters.{null, quotation_mark, ampersand, apostrophe, solidus, less_than, greater_than, is_white_space}
 use Rattle.html5grammar.specs.ErrorText.{error_in, where_true}
 use Rattle.html5grammar.specs.Reading.{Here}
-use Rattle.html5grammar.specs.Reading.Here.{Tells, TellsTag, Stops}
+use Rattle.html5grammar.specs.Reading.Here.{Tells, TellsTag}
 use Rattle.html5grammar.specs.Start.{Raw, OpenTag, Open}
 use Rattle.html5grammar.specs.Start.Place.{BeforeAttribute, AfterQuotedValue, AfterSolidus}
 use Rattle.html5grammar.specs.RawText.{is_rcdata}
@@ -52,7 +52,6 @@ wanted_name_step-before exact errors d c = told_first-if errors (c == greater_th
 told_first-none : (h : Here Open) → told_first [] h ≡ h
 told_first-none (Tells told later) = refl
 told_first-none (TellsTag told tag) = refl
-told_first-none (Stops told) = refl
 
 wanted-direct : (p q : Bool) (error : Told) (x y : Open) (z : Here Open)
     → (if p then Tells (where_true true error) x else if q then Tells (where_true true error) y else z)

@@ -1,5 +1,5 @@
 -- What the machine tells of a text, with the lines that it counts.
-use Rattle.std.proofs.Common.{◌≡◌, ℕ, Bool, true, false, List, [], ◌∷◌, ◌++◌, refl, ap, sym, ◌∙◌}
+use Rattle.std.proofs.Common.{◌≡◌, ℕ, Bool, false, List, [], ◌∷◌, ◌++◌, refl, ap, sym, ◌∙◌}
 use Rattle.std.proofs.Math.Bool.{and-false}
 use Rattle.std.proofs.lemmas.Bool.{false≢true, false_from_ne_true}
 use Rattle.std.specs.Cmp.Lexicographic.{same_text}
@@ -19,12 +19,12 @@ use Rattle.html5grammar.specs.Reading.TextPlace.{Character}
 use Rattle.html5grammar.specs.Reference.{reference_text, behind_held}
 use Rattle.html5grammar.specs.NormalisedText.{line_after}
 use Rattle.html5grammar.proofs.InputLemmas.{line_past, line_after-past}
-use Rattle.html5grammar.specs.Reading.Here.{Tells, TellsTag, Stops}
+use Rattle.html5grammar.specs.Reading.Here.{Tells, TellsTag}
 use Rattle.html5grammar.specs.Slice.{Late, cut_off, run_of, behind_run, run_while, behind_while, tokens_of_late}
 use Rattle.html5grammar.specs.Start.{Start, Open, Rules, is_undecided_open}
 use Rattle.html5grammar.specs.Start.Place.{InName, BeforeAttribute, InAttributeName, AfterAttributeName, BeforeValue, InValue, AfterQuotedValue, AfterSolidus}
 use Rattle.html5grammar.specs.Start.DoctypePlace.{AfterWord, BeforeName, InDoctypeName, AfterName, AfterKeyword, BeforeIdentifier, InIdentifier, AfterIdentifier, BetweenIdentifiers, Skipped}
-use Rattle.html5grammar.specs.Start.Open.{Between, LessThan, LessThanSolidus, InTag, InRaw, InDeclaration, InComment, InBogusComment, InDoctype, InDoctypeKeyword, InCdata, InReference, NotBuilt}
+use Rattle.html5grammar.specs.Start.Open.{Between, LessThan, LessThanSolidus, InTag, InRaw, InDeclaration, InComment, InBogusComment, InDoctype, InDoctypeKeyword, InCdata, InReference}
 use Rattle.html5grammar.specs.Tag.{tag_name, behind_tag_name, attribute_behind_first, behind_attribute_name, behind_name_and_space, value_or_next, value_behind_space, value, quoted_value, behind_quoted, unquoted_value, behind_unquoted}
 use Rattle.html5grammar.specs.Comment.{begins_cdata, cdata_keyword, declaration, comment, bogus_comment, behind_bogus_comment}
 use Rattle.html5grammar.specs.Doctype.{doctype, before_doctype_name, behind_word_and_space, doctype_name, behind_doctype_name, behind_doctype_name_and_space, keyword_or_end, doctype_keyword, behind_keyword, identifier_behind_space, behind_keyword_and_space, identifier, behind_in_identifier, between_identifiers, behind_space_between, skipped_rest, behind_skipped_rest}
@@ -54,7 +54,6 @@ module _ {S H : Type 0} (step : S → Told → ℕ → S) (reply : S → Told �
       let name : List ℕ = last_behind last tag in
       with_messages (on_line line ((bad_character_error rules.exact c ++ told) ++ Tag tag ∷ []))
       (rest (step t (Tag tag) line) name (open_after_reply name (reply t (Tag tag) line)))
-  trace_here rest s line last c (Stops told) = record { messages = on_line line told; opened = NotBuilt; last_start_tag = last }
 
   -- what a character brings: first what it decides, on the line before it
   unfoldable pub trace_brought : (S → List ℕ → Open → Trace) → S → ℕ → List ℕ → ℕ → Brought Open → Trace
@@ -84,30 +83,10 @@ brought-step rules foreign (InDoctype place d) c h = refl
 brought-step rules foreign (InDoctypeKeyword held d) c h = absurd (false≢true (sym h))
 brought-step rules foreign (InCdata held) c h = refl
 brought-step rules foreign (InReference stand held) c h = absurd (false≢true (sym h))
-brought-step rules foreign NotBuilt c h = refl
 
-abbrev is_stop : Here Open → Bool
-is_stop (Tells told opened) = false
-is_stop (TellsTag told tag) = false
-is_stop (Stops told) = true
-
--- nor where the machine goes on
-pub brought-tells : (rules : Rules) (foreign : Bool) (opened : Open) (c : ℕ) (h : Here Open) → is_stop h ≡ false → step_at rules.exact opened c ≡ h
+pub brought-tells : (rules : Rules) (foreign : Bool) (opened : Open) (c : ℕ) (h : Here Open) → is_undecided_open opened ≡ false → step_at rules.exact opened c ≡ h
     → brought_at rules foreign opened c ≡ record { settled = []; here = h }
-unfolding step_at
-brought-tells rules foreign (Between mode) c h goes e = brought-step rules foreign (Between mode) c refl ∙ rw e refl
-brought-tells rules foreign LessThan c h goes e = brought-step rules foreign LessThan c refl ∙ rw e refl
-brought-tells rules foreign LessThanSolidus c h goes e = brought-step rules foreign LessThanSolidus c refl ∙ rw e refl
-brought-tells rules foreign (InTag place tag) c h goes e = brought-step rules foreign (InTag place tag) c refl ∙ rw e refl
-brought-tells rules foreign (InRaw place name) c h goes e = brought-step rules foreign (InRaw place name) c refl ∙ rw e refl
-brought-tells rules foreign (InDeclaration held) c h goes e = absurd (false≢true (sym goes ∙ sym (ap is_stop e)))
-brought-tells rules foreign (InComment before) c h goes e = brought-step rules foreign (InComment before) c refl ∙ rw e refl
-brought-tells rules foreign (InBogusComment before) c h goes e = brought-step rules foreign (InBogusComment before) c refl ∙ rw e refl
-brought-tells rules foreign (InDoctype place d) c h goes e = brought-step rules foreign (InDoctype place d) c refl ∙ rw e refl
-brought-tells rules foreign (InDoctypeKeyword held d) c h goes e = absurd (false≢true (sym goes ∙ sym (ap is_stop e)))
-brought-tells rules foreign (InCdata held) c h goes e = brought-step rules foreign (InCdata held) c refl ∙ rw e refl
-brought-tells rules foreign (InReference stand held) c h goes e = absurd (false≢true (sym goes ∙ sym (ap is_stop e)))
-brought-tells rules foreign NotBuilt c h goes e = brought-step rules foreign NotBuilt c refl ∙ rw e refl
+brought-tells rules foreign opened c h decided e = brought-step rules foreign opened c decided ∙ rw e refl
 
 -- the sink's answer decides nothing where no CDATA section can begin
 
@@ -124,7 +103,7 @@ brought-unasked rules foreign other held c h =
 
 -- what is open where a slice has no more
 
-rest_of-nil : (rules : Rules) (opened : Open) → open_behind (rest_of rules opened []).behind ≡ opened
+pub rest_of-nil : (rules : Rules) (opened : Open) → open_behind (rest_of rules opened []).behind ≡ opened
 unfolding rest_of tag_name behind_tag_name attribute_behind_first behind_attribute_name behind_name_and_space value_or_next value_behind_space value quoted_value behind_quoted unquoted_value behind_unquoted behind_less_than behind_solidus behind_raw_less_than end_name behind_end_name behind_mark behind_mark_and_dash switch behind_switch declaration cdata comment bogus_comment behind_bogus_comment doctype before_doctype_name behind_word_and_space doctype_name behind_doctype_name behind_doctype_name_and_space keyword_or_end doctype_keyword behind_keyword identifier_behind_space behind_keyword_and_space identifier behind_in_identifier between_identifiers behind_space_between skipped_rest behind_skipped_rest reference_text behind_held run_while behind_while run_of behind_run
 rest_of-nil rules (Between mode) = refl
 rest_of-nil rules LessThan = refl
@@ -160,10 +139,9 @@ rest_of-nil rules (InDoctype Skipped d) = refl
 rest_of-nil rules (InDoctypeKeyword held d) = refl
 rest_of-nil rules (InCdata held) = refl
 rest_of-nil rules (InReference stand held) = ap (InReference stand) (append-nil held)
-rest_of-nil rules NotBuilt = refl
 
 -- behind a tag a new slice begins
-rest_of-reply : {H : Type 0} → (rules : Rules) (last : List ℕ) (r : Reply H) (text : List ℕ) → cut_off (open_after_reply last r) ≡ rest_of rules (open_after_reply last r) text
+pub rest_of-reply : {H : Type 0} → (rules : Rules) (last : List ℕ) (r : Reply H) (text : List ℕ) → cut_off (open_after_reply last r) ≡ rest_of rules (open_after_reply last r) text
 unfolding rest_of
 rest_of-reply rules last KeepOn text = refl
 rest_of-reply rules last ReadPlainText text = refl
@@ -219,11 +197,6 @@ module _ {S H : Type 0} (step : S → Told → ℕ → S) (reply : S → Told �
       let t : S = stepped step s (on_line line (bad_character_error rules.exact c ++ told)) in
       rw (line_after-past K.input before c, rest_of-reply rules (last_behind last tag) (reply t (Tag tag) line) text)
       (Traces-with _ _ _ _ (messages-events_at before c ((bad_character_error rules.exact c ++ told) ++ Tag tag ∷ [])) (ih _ _ _))
-  traces-here s last before c text (Stops told) ih = record {
-    messages = messages-events_at before c told;
-    opened = refl;
-    last_start_tag = refl;
-  }
 
   pub messages-late : (before : List ℕ) (place : TextPlace) (late : List Late)
       → messages (late_events K.input before place late) ≡ on_line (line_after K.input before) (tokens_of_late late)

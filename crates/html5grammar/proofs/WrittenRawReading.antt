@@ -1,5 +1,5 @@
 -- A text that is raw text tells the messages of how it is written.
-use Rattle.std.proofs.Common.{◌≡◌, ◌≢◌, ℕ, Bool, true, false, List, [], ◌∷◌, ◌++◌, Option, None, Some, refl, ap, sym, ◌∙◌, subst, length, length-append, ◌≤◌, arith}
+use Rattle.std.proofs.Common.{◌≡◌, ℕ, Bool, true, false, List, [], ◌∷◌, ◌++◌, Option, None, Some, refl, ap, sym, ◌∙◌, subst, length, length-append, ◌≤◌, arith}
 use Rattle.std.specs.Prelude.{not, flat_map}
 use Rattle.std.specs.List.{list_all}
 use Rattle.std.specs.Bool.{nat_eq}
@@ -19,6 +19,7 @@ use Rattle.html5ever_interface.specs.declared.states.RawKind.{RawKind}
 use Rattle.html5ever_interface.specs.declared.states.RawKind.TheVariants as raw_kind
 use Rattle.html5ever_interface.specs.declared.states.ScriptEscapeKind.TheVariants as escape_kind
 use Rattle.html5ever_interface.specs.declared.states.State.TheVariants as state
+use Rattle.html5grammar.specs.Anywhere.{last_reply}
 use Rattle.html5grammar.specs.Characters.{solidus, less_than, greater_than, is_letter, is_white_space, shown, name_bytes}
 use Rattle.html5grammar.specs.EndOfInput.{raw_end_error, told_at_raw_end, late_at_end_of, open_at_end_of, told_at_end_of, tokens_at_end}
 use Rattle.html5grammar.specs.NormalisedText.{normalised, line_after}
@@ -26,17 +27,18 @@ use Rattle.html5grammar.specs.OneTag as one_tag
 use Rattle.html5grammar.specs.OneTag.{Part, WrittenTag, Spelled, spell, spell_silent, spell_parts, part_text, name_shown, all_attributes, end_place, tag_told, end_errors, spelled, spelled_messages}
 use Rattle.html5grammar.specs.OneTag.Part.{Blank, Solidus, Name, Attribute}
 use Rattle.html5grammar.specs.RawText.{texts, lower, ends_name, kind_of, ends_raw_text, told_at_less_than, told_behind_less_than}
-use Rattle.html5grammar.specs.Reading.{reading, told, messages, after, last_behind}
-use Rattle.html5grammar.specs.Reading.Here.{Tells}
+use Rattle.html5grammar.specs.Reading.{reading, told, messages, after, last_behind, open_after_reply}
+use Rattle.html5grammar.specs.Reading.Here.{Tells, TellsTag}
 use Rattle.html5grammar.specs.Slice.{silent}
 use Rattle.html5grammar.specs.Start.{Raw, OpenTag, Open, Start, Rules, is_undecided_open, begun}
 use Rattle.html5grammar.specs.Start.Mode.{Data, RawText}
 use Rattle.html5grammar.specs.Start.Place.{InName}
-use Rattle.html5grammar.specs.Start.Open.{Between, InTag, InRaw, NotBuilt}
+use Rattle.html5grammar.specs.Start.Open.{Between, InTag, InRaw}
 use Rattle.html5grammar.specs.Start.RawPlace.{AfterLessThan, InEndName, AfterMark, AfterMarkAndDash, InSwitch}
 use Rattle.html5grammar.specs.Tag.{with_name, null_error, in_tag_name}
 use Rattle.html5grammar.specs.WrittenRaw.{RawItem, WrittenRaw, raw_behind_item, raw_behind_items, switch_text, item_text, items_text, written, next_is, is_double_escaped, can_stand, can_follow, is_raw, carried, carried_to, spell_text, spell_item, spell_items, carried_behind, spell_raw, raw_at_end, told_at_end, raw_messages, IsRawText}
 use Rattle.html5grammar.specs.WrittenRaw.RawItem.{Character, LessThan, Letters, Mark, Switch}
+use Rattle.html5grammar.proofs.LastReply.{last_reply-spelled, trace-tag_reply}
 use Rattle.html5grammar.proofs.Leading.{trace-goes, spelled_messages-append}
 use Rattle.html5grammar.proofs.Machine.{step_at, raw_place_step, end_name_step, tag_name_end_step, tag_step, tag_name_step}
 use Rattle.html5grammar.proofs.OneTagParts.{Holds-none, Led, goes-parts, can_end-parts}
@@ -131,22 +133,14 @@ tokens-standing rules name (Within AfterMarkAndDash) = refl
 tokens-standing rules name (Within (InSwitch escape_kind.Escaped letters)) = refl
 tokens-standing rules name (Within (InSwitch escape_kind.DoubleEscaped letters)) = refl
 
-abbrev is_built : Open → Bool
-is_built NotBuilt = false
-is_built opened = true
-
-built-standing : (name : List ℕ) (standing : Standing) → is_built (opened_at name standing) ≡ true
-built-standing name (Free raw) = refl
-built-standing name (Within place) = refl
+decided-standing : (name : List ℕ) (standing : Standing) → is_undecided_open (opened_at name standing) ≡ false
+decided-standing name (Free raw) = refl
+decided-standing name (Within place) = refl
 
 -- what can be open behind raw text
 abbrev IsBehind : Option WrittenTag → Open → Type 0
-IsBehind None opened = is_built opened ≡ true
+IsBehind None opened = Unit {0}
 IsBehind (Some tag) opened = opened ≡ Between Data
-
-built-behind : (end_tag : Option WrittenTag) (opened : Open) → IsBehind end_tag opened → is_built opened ≡ true
-built-behind None opened h = h
-built-behind (Some tag) opened h = ap is_built h
 
 -- ---- the machine reads the end tag
 
@@ -286,6 +280,14 @@ module _ {S H : Type 0} (step : S → Told → ℕ → S) (reply : S → Told �
     end_is : tokens_at_end rules behind ≡ told_at_end rules.exact raw items end_tag
     opened_is : IsBehind end_tag behind
 
+  -- the same where the last message is this tag, and the sink's reply to it says what is open behind it
+  abbrev IsReadByReply : Start → S → List ℕ → Raw → WrittenRaw → WrittenTag → Type 0
+  IsReadByReply K s X raw written_as tag =
+      let M : List Message = spelled_messages rules.exact K.input [] (spell_raw rules.exact raw written_as) in
+      let last : List ℕ = last_behind K.last_start_tag (tag_told tag) in
+      trace step reply foreign rules s (line_after K.input []) K.last_start_tag K.opened (normalised K.input X)
+      ≡ record { messages = M; opened = open_after_reply last (last_reply step reply s M); last_start_tag = last }
+
   reads_open : (K : Start) (s : S) (X : List ℕ) (raw : Raw) (name : List ℕ) (items : List RawItem)
       → IsRawText K X raw name (record { items = items; end_tag = None }) → Reads K s X raw items None
   unfolding is_raw written trace
@@ -297,13 +299,13 @@ module _ {S H : Type 0} (step : S → Told → ℕ → S) (reply : S → Told �
         last = K.last_start_tag;
         trace_is =
             rw (one.starts, one.text, ← characters-items rules.exact raw [] items [], append-nil cells)
-            (trace-goes step reply foreign rules K.input [] s K.last_start_tag (Between (RawText raw name)) (opened_at name r.behind) cells [] r.goes
+            (trace-goes step reply foreign rules K.input [] s K.last_start_tag (Between (RawText raw name)) (opened_at name r.behind) cells [] (decided-standing name r.behind) r.goes
             ∙ ap (λ l. record { messages = l; opened = opened_at name r.behind; last_start_tag = K.last_start_tag }) (append-nil (spelled_messages rules.exact K.input [] cells)));
         end_is =
             tokens-standing rules name r.behind
             ∙ ap (λ told. (told ++ raw_end_error rules.exact (end_from r.behind [] (raw_at r.behind))) ++ End ∷ []) r.carried_is
             ∙ ap (λ end. (carried_behind raw [] items ++ raw_end_error rules.exact end) ++ End ∷ []) (sym r.end_is);
-        opened_is = built-standing name r.behind;
+        opened_is = tt;
       }
 
   -- the end tag behind items
@@ -325,12 +327,24 @@ module _ {S H : Type 0} (step : S → Told → ℕ → S) (reply : S → Told �
       ∙ sym (append_assoc (characters cells) (characters named) (characters tail ++ greater_than ∷ []))
       ∙ ap (λ l. l ++ (characters tail ++ greater_than ∷ [])) (sym (characters-append cells named))
 
-  reads_end_tag : (K : Start) (s : S) (X : List ℕ) (raw : Raw) (name : List ℕ) (items : List RawItem) (first : ℕ) (rest : List ℕ) (parts : List Part)
-      → ((t : S) (line : ℕ) → reply t (Tag (tag_told (end_tag_of first rest parts))) line ≡ KeepOn)
+  -- raw text up to the name of its end tag, and then a tag from its name on, up to its `>`
+  record ReachesEnd (K : Start) (s : S) (X : List ℕ) (raw : Raw) (items : List RawItem) (first : ℕ) (rest : List ℕ) (parts : List Part) : Type 0 where
+    before : List Spelled
+    behind : Open
+    goes : Goes rules.exact (InTag InName (with_name (begun EndTag) (first ∷ rest))) (spell_parts rules.exact InName [] parts) behind
+    ends : step_at rules.exact behind greater_than ≡ TellsTag (end_errors rules.exact (end_tag_of first rest parts)) (tag_told (end_tag_of first rest parts))
+    cells_are : spelled_messages rules.exact K.input [] before
+        ++ spelled_messages rules.exact K.input (characters before) (spell_parts rules.exact InName [] parts ++ end_cell rules.exact (end_tag_of first rest parts) ∷ [])
+        ≡ spelled_messages rules.exact K.input [] (spell_raw rules.exact raw (record { items = items; end_tag = Some (end_tag_of first rest parts) }))
+    trace_is : trace step reply foreign rules s (line_after K.input []) K.last_start_tag K.opened (normalised K.input X)
+        ≡ with_messages (spelled_messages rules.exact K.input [] before)
+        (trace step reply foreign rules (stepped step s (spelled_messages rules.exact K.input [] before)) (line_after K.input (characters before)) K.last_start_tag
+        (InTag InName (with_name (begun EndTag) (first ∷ rest))) (characters (spell_parts rules.exact InName [] parts) ++ greater_than ∷ []))
+
+  reaches_end : (K : Start) (s : S) (X : List ℕ) (raw : Raw) (name : List ℕ) (items : List RawItem) (first : ℕ) (rest : List ℕ) (parts : List Part)
       → IsRawText K X raw name (record { items = items; end_tag = Some (end_tag_of first rest parts) })
-      → Reads K s X raw items (Some (end_tag_of first rest parts))
-  unfolding late_at_end_of open_at_end_of told_at_end_of
-  reads_end_tag K s X raw name items first rest parts keeps one =
+      → ReachesEnd K s X raw items first rest parts
+  reaches_end K s X raw name items first rest parts one =
       let tag : WrittenTag = end_tag_of first rest parts in
       let ended : IsEnded name raw items first rest parts = is_ended name raw items first rest parts one.is_raw in
       let r : ReadsName rules.exact name raw items first rest = reads_name rules.exact name raw items first rest parts ended in
@@ -346,22 +360,87 @@ module _ {S H : Type 0} (step : S → Told → ℕ → S) (reply : S → Told �
       let begins : next_is ends_name (characters tail ++ greater_than ∷ []) ≡ true =
       ap (λ l. next_is ends_name (l ++ greater_than ∷ [])) (characters-parts rules.exact InName [] parts) ∙ parts-end_name parts ended.parts_follow in
       let M : List Message = spelled_messages rules.exact K.input [] before in
-      let later : S = stepped step s M in
-      let line : ℕ = line_after K.input (characters before) in
+      record {
+        before = before;
+        behind = InTag (end_place tag) led.behind;
+        goes = led.goes;
+        ends = ends-tag rules.exact tag led.behind (can_end-parts InName parts refl) led.holds;
+        cells_are =
+            sym (spelled_messages-append rules.exact K.input [] before (tail ++ end_cell rules.exact tag ∷ []))
+            ∙ ap (spelled_messages rules.exact K.input []) cells;
+        trace_is =
+            rw (one.starts, text-end_tag K X raw name items first rest parts one)
+            (trace-goes step reply foreign rules K.input [] s K.last_start_tag (Between (RawText raw name)) opened before (characters tail ++ greater_than ∷ []) refl r.goes
+            ∙ ap (with_messages M)
+            (trace-same (stepped step s M) (line_after K.input (characters before)) K.last_start_tag opened (InTag InName named) ends_name (characters tail ++ greater_than ∷ []) refl refl begins
+            (λ c ends. step-end_name rules.exact name r.kind (first ∷ rest) c ends (name_ends name first rest c ended.name_is ends))));
+      }
+
+  reads_end_tag : (K : Start) (s : S) (X : List ℕ) (raw : Raw) (name : List ℕ) (items : List RawItem) (first : ℕ) (rest : List ℕ) (parts : List Part)
+      → ((t : S) (line : ℕ) → reply t (Tag (tag_told (end_tag_of first rest parts))) line ≡ KeepOn)
+      → IsRawText K X raw name (record { items = items; end_tag = Some (end_tag_of first rest parts) })
+      → Reads K s X raw items (Some (end_tag_of first rest parts))
+  unfolding late_at_end_of open_at_end_of told_at_end_of
+  reads_end_tag K s X raw name items first rest parts keeps one =
+      let tag : WrittenTag = end_tag_of first rest parts in
+      let r : ReachesEnd K s X raw items first rest parts = reaches_end K s X raw name items first rest parts one in
+      let tail : List Spelled = spell_parts rules.exact InName [] parts in
+      let M : List Message = spelled_messages rules.exact K.input [] r.before in
+      let last : List ℕ = last_behind K.last_start_tag (tag_told tag) in
       record {
         behind = Between Data;
-        last = last_behind K.last_start_tag (tag_told tag);
+        last = last;
         trace_is =
-            rw (one.starts, text-end_tag K X raw name items first rest parts one, ← cells, spelled_messages-append rules.exact K.input [] before (tail ++ end_cell rules.exact tag ∷ []))
-            (trace-goes step reply foreign rules K.input [] s K.last_start_tag (Between (RawText raw name)) opened before (characters tail ++ greater_than ∷ []) r.goes
+            r.trace_is
             ∙ ap (with_messages M)
-            (trace-same later line K.last_start_tag opened (InTag InName named) ends_name (characters tail ++ greater_than ∷ []) refl refl begins
-            (λ c ends. step-end_name rules.exact name r.kind (first ∷ rest) c ends (name_ends name first rest c ended.name_is ends))
-            ∙ trace-tag step reply foreign rules K.input (characters before) later K.last_start_tag (InTag InName named) (InTag (end_place tag) led.behind) tail greater_than (end_errors rules.exact tag) (tag_told tag) keeps led.goes
-            (ends-tag rules.exact tag led.behind (can_end-parts InName parts refl) led.holds)));
+            (trace-tag step reply foreign rules K.input (characters r.before) (stepped step s M) K.last_start_tag (InTag InName (with_name (begun EndTag) (first ∷ rest))) r.behind tail greater_than (end_errors rules.exact tag) (tag_told tag) keeps r.goes r.ends)
+            ∙ ap (λ l. record { messages = l; opened = Between Data; last_start_tag = last }) r.cells_are;
         end_is = refl;
         opened_is = refl;
       }
+
+  -- the same, whatever the sink replies
+  reads_end_tag_reply : (K : Start) (s : S) (X : List ℕ) (raw : Raw) (name : List ℕ) (items : List RawItem) (first : ℕ) (rest : List ℕ) (parts : List Part)
+      → IsRawText K X raw name (record { items = items; end_tag = Some (end_tag_of first rest parts) })
+      → IsReadByReply K s X raw (record { items = items; end_tag = Some (end_tag_of first rest parts) }) (end_tag_of first rest parts)
+  reads_end_tag_reply K s X raw name items first rest parts one =
+      let tag : WrittenTag = end_tag_of first rest parts in
+      let r : ReachesEnd K s X raw items first rest parts = reaches_end K s X raw name items first rest parts one in
+      let tail : List Spelled = spell_parts rules.exact InName [] parts in
+      let M : List Message = spelled_messages rules.exact K.input [] r.before in
+      let N : List Message = spelled_messages rules.exact K.input (characters r.before) (tail ++ end_cell rules.exact tag ∷ []) in
+      let last : List ℕ = last_behind K.last_start_tag (tag_told tag) in
+      r.trace_is
+      ∙ ap (with_messages M)
+      (trace-tag_reply step reply foreign rules K.input (characters r.before) (stepped step s M) K.last_start_tag (InTag InName (with_name (begun EndTag) (first ∷ rest))) r.behind tail greater_than (end_errors rules.exact tag) (tag_told tag) r.goes r.ends)
+      ∙ ap (λ a. record { messages = M ++ N; opened = open_after_reply last a; last_start_tag = last })
+      (sym (last_reply-spelled step reply foreign rules s M K.input (characters r.before) tail greater_than (end_errors rules.exact tag) (tag_told tag)))
+      ∙ ap (λ l. record { messages = l; opened = open_after_reply last (last_reply step reply s l); last_start_tag = last }) r.cells_are
+
+  reads_ended_reply : (K : Start) (s : S) (X : List ℕ) (raw : Raw) (name : List ℕ) (items : List RawItem) (kind : TagKind) (first : ℕ) (rest : List ℕ) (parts : List Part)
+      → IsRawText K X raw name (record { items = items; end_tag = Some (record { kind = kind; first = first; rest = rest; parts = parts }) })
+      → IsReadByReply K s X raw (record { items = items; end_tag = Some (record { kind = kind; first = first; rest = rest; parts = parts }) }) (record { kind = kind; first = first; rest = rest; parts = parts })
+  unfolding is_raw
+  reads_ended_reply K s X raw name items StartTag first rest parts one =
+      let p = and_parts (can_follow name raw items (one_tag.written (record { kind = StartTag; first = first; rest = rest; parts = parts }))) _ one.is_raw in
+      absurd (false≢true (and_parts (not (is_double_escaped (kind_of (raw_behind_items raw items)))) false p.1).1)
+  reads_ended_reply K s X raw name items EndTag first rest parts one = reads_end_tag_reply K s X raw name items first rest parts one
+
+  pub reads_raw_reply : (K : Start) (s : S) (X : List ℕ) (raw : Raw) (name : List ℕ) (written_as : WrittenRaw) (tag : WrittenTag) → written_as.end_tag ≡ Some tag
+      → IsRawText K X raw name written_as → IsReadByReply K s X raw written_as tag
+  reads_raw_reply K s X raw name written_as tag e one =
+      subst (λ o. IsReadByReply K s X raw (record { items = written_as.items; end_tag = o }) tag) (sym e)
+      (reads_ended_reply K s X raw name written_as.items tag.kind tag.first tag.rest tag.parts
+      (subst (λ o. IsRawText K X raw name (record { items = written_as.items; end_tag = o })) e one))
+
+  -- raw text without its end tag
+  pub told-raw_open : (K : Start) (s : S) (X : List ℕ) (raw : Raw) (name : List ℕ) (written_as : WrittenRaw) → written_as.end_tag ≡ None → IsRawText K X raw name written_as
+      → messages (told step reply foreign rules K s X) ≡ spelled_messages rules.exact K.input [] (spell_raw rules.exact raw written_as)
+  told-raw_open K s X raw name written_as e one =
+      told-trace step reply foreign rules K s X
+      ∙ ap (λ (t : Trace). t.messages)
+      (reads_open K s X raw name written_as.items (subst (λ o. IsRawText K X raw name (record { items = written_as.items; end_tag = o })) e one)).trace_is
+      ∙ ap (λ o. spelled_messages rules.exact K.input [] (spell_raw rules.exact raw (record { items = written_as.items; end_tag = o }))) (sym e)
 
   -- what is told of any raw text
 
@@ -396,13 +475,6 @@ module _ {S H : Type 0} (step : S → Told → ℕ → S) (reply : S → Told �
       → Reads K s X raw items end_tag → IsBehind end_tag (after step reply foreign rules K s X).opened
   after-reads K s X raw items end_tag r =
       subst (IsBehind end_tag) (sym (after-opened step reply foreign rules K s X ∙ ap (λ (t : Trace). t.opened) r.trace_is)) r.opened_is
-
-  pub after-raw : (K : Start) (s : S) (X : List ℕ) (raw : Raw) (name : List ℕ) (written_as : WrittenRaw)
-      → KeepsOn written_as.end_tag → IsRawText K X raw name written_as
-      → (after step reply foreign rules K s X).opened ≢ NotBuilt
-  after-raw K s X raw name written_as keeps one e =
-      let r : Reads K s X raw written_as.items written_as.end_tag = reads_raw K s X raw name written_as.items written_as.end_tag keeps one in
-      false≢true (sym (ap is_built e) ∙ built-behind written_as.end_tag (after step reply foreign rules K s X).opened (after-reads K s X raw written_as.items written_as.end_tag r))
 
   -- nothing is open behind an end tag
   pub after-raw_end_tag : (K : Start) (s : S) (X : List ℕ) (raw : Raw) (name : List ℕ) (items : List RawItem) (tag : WrittenTag)

@@ -3,15 +3,15 @@ use Rattle.std.specs.Prelude.{ℕ, List, [], ◌∷◌, ◌++◌}
 use Rattle.html5ever_interface.specs.Token.{Told}
 use Rattle.html5ever_interface.specs.declared.states.AttrValueKind.TheVariants.{Unquoted, SingleQuoted, DoubleQuoted}
 use Rattle.html5grammar.specs.Cdata.{cdata, cdata_from}
-use Rattle.html5grammar.specs.Slice.{Slice, Cell, Behind, no_character, cut_off, one_character}
-use Rattle.html5grammar.specs.Slice.Behind.{Leaves, StopsAt, Settles, Asks}
+use Rattle.html5grammar.specs.Slice.{Slice, Cell, Behind, cut_off, one_character}
+use Rattle.html5grammar.specs.Slice.Behind.{Leaves, Settles, Asks}
 use Rattle.html5grammar.specs.Reference.{reference_text}
 use Rattle.html5grammar.specs.Start.{Open, Rules}
 use Rattle.html5grammar.specs.Start.Mode.{Data, Plain, RawText, Cdata}
 use Rattle.html5grammar.specs.Start.RawPlace.{AfterLessThan, InEndName, AfterMark, AfterMarkAndDash, InSwitch}
 use Rattle.html5grammar.specs.Start.Place.{InName, BeforeAttribute, InAttributeName, AfterAttributeName, BeforeValue, InValue, AfterQuotedValue, AfterSolidus}
 use Rattle.html5grammar.specs.Start.DoctypePlace.{AfterWord, BeforeName, InDoctypeName, AfterName, AfterKeyword, BeforeIdentifier, InIdentifier, AfterIdentifier, BetweenIdentifiers, Skipped}
-use Rattle.html5grammar.specs.Start.Open.{Between, LessThan, LessThanSolidus, InTag, InRaw, InDeclaration, InComment, InBogusComment, InDoctype, InDoctypeKeyword, InCdata, InReference, NotBuilt}
+use Rattle.html5grammar.specs.Start.Open.{Between, LessThan, LessThanSolidus, InTag, InRaw, InDeclaration, InComment, InBogusComment, InDoctype, InDoctypeKeyword, InCdata, InReference}
 use Rattle.html5grammar.specs.Comment.{declaration, comment, bogus_comment, bogus_comment_from}
 use Rattle.html5grammar.specs.Doctype.{doctype, before_doctype_name, doctype_name, behind_doctype_name_and_space, doctype_keyword, behind_keyword, identifier_behind_space, identifier, behind_identifier, between_identifiers, skipped_rest}
 use Rattle.html5grammar.specs.RawText.{behind_raw_less_than, end_name, behind_mark, behind_mark_and_dash, switch, raw_text}
@@ -54,7 +54,6 @@ rest_of rules (InDoctypeKeyword held d) text = doctype_keyword rules.exact held 
 rest_of rules (InCdata held) text = cdata held text
 rest_of rules (Between mode) text = cut_off (Between mode)
 rest_of rules (InReference stand held) text = reference_text rules stand held text
-rest_of rules NotBuilt text = cut_off NotBuilt
 
 -- the next slice, which c begins, where `before` is told first
 unfoldable pub next_slice : Rules → Open → List Told → ℕ → List ℕ → Slice
@@ -63,23 +62,13 @@ next_slice rules (Between Plain) before c text = one_character (before ++ plain_
 next_slice rules (Between (RawText raw name)) before c text = raw_text rules raw name before c text
 next_slice rules (Between Cdata) before c text = cdata_from before c text
 next_slice rules (InTag place tag) before c text = part rules place tag c text
-next_slice rules LessThan before c text = no_character (StopsAt before)
-next_slice rules LessThanSolidus before c text = no_character (StopsAt before)
-next_slice rules (InRaw place name) before c text = no_character (StopsAt before)
 next_slice rules (InBogusComment told) before c text = bogus_comment_from rules.exact told before c text
-next_slice rules (InDeclaration held) before c text = no_character (StopsAt before)
-next_slice rules (InComment told) before c text = no_character (StopsAt before)
 next_slice rules (InDoctype (AfterIdentifier kind) d) before c text = behind_identifier rules.exact kind d c text
-next_slice rules (InDoctype place d) before c text = no_character (StopsAt before)
-next_slice rules (InDoctypeKeyword held d) before c text = no_character (StopsAt before)
-next_slice rules (InCdata held) before c text = no_character (StopsAt before)
-next_slice rules (InReference stand held) before c text = no_character (StopsAt before)
-next_slice rules NotBuilt before c text = no_character (StopsAt before)
+next_slice rules opened before c text = rest_of rules opened (c ∷ text)
 
 -- the slice that has the character c: a new one where the last has no more
 unfoldable pub slice_at : Rules → List Cell → Behind → ℕ → List ℕ → Slice
 slice_at rules (cell ∷ cells) behind c text = record { cells = cell ∷ cells; behind = behind }
 slice_at rules [] (Leaves before opened) c text = next_slice rules opened before c text
-slice_at rules [] (StopsAt before) c text = no_character (StopsAt before)
-slice_at rules [] (Settles late opened) c text = no_character (StopsAt [])
-slice_at rules [] (Asks held) c text = no_character (StopsAt [])
+slice_at rules [] (Settles late opened) c text = rest_of rules opened (c ∷ text)
+slice_at rules [] (Asks held) c text = rest_of rules (InDeclaration held) (c ∷ text)

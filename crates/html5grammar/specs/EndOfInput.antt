@@ -19,7 +19,7 @@ use Rattle.html5grammar.specs.Start.Mode.{RawText, Cdata}
 use Rattle.html5grammar.specs.Start.RawPlace.{AfterLessThan, InEndName, AfterMark, AfterMarkAndDash, InSwitch}
 use Rattle.html5grammar.specs.Start.Place.{InName, BeforeAttribute, InAttributeName, AfterAttributeName, BeforeValue, InValue, AfterQuotedValue, AfterSolidus}
 use Rattle.html5grammar.specs.Start.DoctypePlace.{AfterWord, BeforeName, InDoctypeName, AfterName, AfterKeyword, BeforeIdentifier, InIdentifier, AfterIdentifier, BetweenIdentifiers, Skipped}
-use Rattle.html5grammar.specs.Start.Open.{Between, LessThan, LessThanSolidus, InTag, InRaw, InDeclaration, InComment, InBogusComment, InDoctype, InDoctypeKeyword, InCdata, InReference, NotBuilt}
+use Rattle.html5grammar.specs.Start.Open.{Between, LessThan, LessThanSolidus, InTag, InRaw, InDeclaration, InComment, InBogusComment, InDoctype, InDoctypeKeyword, InCdata, InReference}
 
 -- the state that the error of a tag without its end names
 unfoldable pub state_at : Place → State
@@ -94,7 +94,6 @@ told_at_end_of exact (InDoctype place d) = told_at_doctype_end exact place d ++ 
 told_at_end_of exact (InDoctypeKeyword held d) = []
 told_at_end_of exact (InCdata held) = Text held ∷ end_error_in exact state.CdataSection ∷ End ∷ []
 told_at_end_of exact (InReference stand held) = []
-told_at_end_of exact NotBuilt = []
 
 -- all that the end tells: what it decides, and then what it tells of what is open behind that
 abbrev pub tokens_at_end : Rules → Open → List Told

@@ -19,3 +19,5 @@ pub mod WrittenRaw
 pub mod OneComment
 pub mod OneDoctype
 pub mod OneCdata
+pub mod Lawful
+pub mod Anywhere

@@ -1,5 +1,5 @@
 -- The reading of a text: its events, which of them its characters decide, and the start behind it.
-use Rattle.std.specs.Prelude.{ℕ, suc, ◌-◌, Bool, true, false, List, [], ◌∷◌, ◌++◌, length, map, take_while, if◌then◌else◌}
+use Rattle.std.specs.Prelude.{ℕ, suc, leb, ◌-◌, Bool, true, false, List, [], ◌∷◌, ◌++◌, length, map, take_while, if◌then◌else◌}
 use Rattle.html5ever_interface.specs.Sink.{Message, stepped, on_line}
 use Rattle.html5ever_interface.specs.Token.{Told, TagOf, Reply}
 use Rattle.html5ever_interface.specs.Token.Told.{Tag}
@@ -9,12 +9,12 @@ use Rattle.html5grammar.specs.Cutting.{rest_of, slice_at}
 use Rattle.html5grammar.specs.EndOfInput.{late_at_end_of, open_at_end_of, told_at_end_of}
 use Rattle.html5grammar.specs.ErrorText.{bad_character_error}
 use Rattle.html5grammar.specs.NormalisedText.{normalised, line_after, input_after}
-use Rattle.html5grammar.specs.Slice.{Slice, Cell, Behind, Late, cut_off, tokens_of_late}
+use Rattle.html5grammar.specs.Slice.{Slice, Cell, Behind, Late, no_character, cut_off, tokens_of_late}
 use Rattle.html5grammar.specs.Slice.Cell.{Says, Ends, Returns}
-use Rattle.html5grammar.specs.Slice.Behind.{Leaves, StopsAt, Settles, Asks}
+use Rattle.html5grammar.specs.Slice.Behind.{Leaves, Settles, Asks}
 use Rattle.html5grammar.specs.Start.{Input, Start, Open, Rules, raw_of}
 use Rattle.html5grammar.specs.Start.Mode.{Data, Plain, RawText}
-use Rattle.html5grammar.specs.Start.Open.{Between, InDeclaration, NotBuilt}
+use Rattle.html5grammar.specs.Start.Open.{Between, InDeclaration}
 use Rattle.html5grammar.specs.Tag.{is_end_tag}
 
 -- a character of the normalised text, counted from 0, the place directly before it, or the end of input
@@ -27,6 +27,12 @@ abbrev pub is_character : TextPlace → Bool
 is_character (Character k) = true
 is_character (BeforeCharacter k) = true
 is_character EndOfInput = false
+
+-- one of the first n characters
+abbrev pub is_among : ℕ → TextPlace → Bool
+is_among n (Character k) = leb (suc k) n
+is_among n (BeforeCharacter k) = leb (suc k) n
+is_among n EndOfInput = false
 
 -- a message, the place where it stands, and the place that decides it
 pub record Event : Type 0 where
@@ -65,8 +71,6 @@ pub data Here (G : Type 0) : Type 0 where
   Tells : List Told → G → Here G
   -- a tag is told last, and the sink's reply chooses
   TellsTag : List Told → TagOf → Here G
-  -- the character begins what is not built yet
-  Stops : List Told → Here G
 
 -- what a character brings: first what it decides, and then what is told at it
 pub record Brought (G : Type 0) : Type 0 where
@@ -77,11 +81,8 @@ pub record Brought (G : Type 0) : Type 0 where
 abbrev pub at_first : Rules → List ℕ → List Cell → Behind → Here Slice
 at_first rules text (Says told ∷ cells) behind = Tells told (record { cells = cells; behind = behind })
 at_first rules text (Ends told tag ∷ cells) behind = TellsTag told tag
-at_first rules text (Returns late opened ∷ cells) behind = Stops []
-at_first rules text [] (Leaves before opened) = Stops before
-at_first rules text [] (StopsAt before) = Stops before
-at_first rules text [] (Settles late opened) = Stops []
-at_first rules text [] (Asks held) = Stops []
+at_first rules text (Returns late opened ∷ cells) behind = Tells [] (rest_of rules opened text)
+at_first rules text [] behind = Tells [] (no_character behind)
 
 unfoldable pub here : Rules → Slice → ℕ → List ℕ → Here Slice
 here rules slice c text =
@@ -118,7 +119,6 @@ with_events events read = record { events = events ++ read.events; opened = read
 -- what is open behind the last character of a text
 abbrev pub open_behind : Behind → Open
 open_behind (Leaves before opened) = opened
-open_behind (StopsAt before) = NotBuilt
 open_behind (Settles late opened) = opened
 open_behind (Asks held) = InDeclaration held
 
@@ -147,8 +147,6 @@ module _ {S H : Type 0} (step : S → Told → ℕ → S) (reply : S → Told �
       let name : List ℕ = last_behind last tag in
       with_events (events_at K.input before c (tokens ++ Tag tag ∷ []))
       (rest (step t (Tag tag) line) name (begin (open_after_reply name (reply t (Tag tag) line))))
-  read_here rest begin s last before c (Stops told) =
-      record { events = events_at K.input before c told; opened = NotBuilt; last_start_tag = last }
 
   -- the events at the places of a text, with `before` in front of it, where the sink has the state s and the last start tag
   -- had the name `last`. The sink is asked about foreign content in the state behind all events before the `<!`, since nothing is

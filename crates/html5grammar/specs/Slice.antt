@@ -25,8 +25,6 @@ pub data Cell : Type 0 where
 pub data Behind : Type 0 where
   -- first something is told at the next character, and this is open
   Leaves : List Told → Open → Behind
-  -- the next character begins what is not built yet; before that something is told
-  StopsAt : List Told → Behind
   -- the next character, or the end, decides what is told before it, and then this is open
   Settles : List Late → Open → Behind
   -- behind `<!` and what is held the next character begins no comment and no doctype: whether a CDATA section may begin there is

@@ -134,8 +134,6 @@ pub data Open : Type 0 where
   InCdata : List ℕ → Open
   -- a reference that is not decided, with the characters behind its `&`
   InReference : Stand → List ℕ → Open
-  -- the text met what is not built yet: nothing more is told
-  NotBuilt : Open
 
 -- nothing is open, so that what follows can be read anew
 abbrev pub is_clean : Open → Bool

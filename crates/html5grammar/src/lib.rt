@@ -2,22 +2,26 @@
 //! stand the laws that readers of a text in pieces rest on.
 #![tactic(auto)]
 
-ghost use Rattle.std.specs.Prelude.{◌≡◌, ◌≢◌, ℕ, Bool, List, [], ◌++◌, true, false, codes, None, Some, if◌then◌else◌};
+ghost use Rattle.std.specs.Prelude.{◌≡◌, ◌≢◌, ℕ, Bool, List, [], ◌++◌, All, length, take_while, true, false, codes, None, Some, if◌then◌else◌};
 ghost use Rattle.std.specs.List.{list_all};
 ghost use Rattle.std.specs.Str.{bytes_eq};
 ghost use Rattle.std.specs.Char.{is_ascii_alphanumeric};
 ghost use Rattle.std.specs.Option.{is_none};
 ghost use Rattle.html5ever_interface.specs.Sink.{Message, stepped};
-ghost use Rattle.html5grammar.specs.Reading.{told, messages, after};
+ghost use Rattle.html5grammar.specs.Reading.{reading, told, messages, after, is_among};
+ghost use Rattle.html5grammar.specs.Lawful.{IsLawful, TellsNoTagBehind};
 ghost use Rattle.html5grammar.specs.Characters.{lower_case, number_sign};
 ghost use Rattle.html5grammar.specs.Doctype.{in_skipped_rest};
+ghost use Rattle.html5grammar.specs.NormalisedText.{normalised};
 ghost use Rattle.html5grammar.specs.OneCdata.{IsCdataText};
 ghost use Rattle.html5grammar.specs.OneComment.{occurs};
 ghost use Rattle.html5grammar.specs.OneDoctype.{IsDoctypeText};
 ghost use Rattle.html5grammar.specs.Reference.{first_or, is_undecided, longest_name};
 ghost use Rattle.html5grammar.specs.Slice.{run_of, run_while};
-ghost use Rattle.html5grammar.specs.Start.{Start, Rules};
+ghost use Rattle.html5grammar.specs.Start.{Start, Rules, is_clean};
 ghost use Rattle.markup5ever.specs.NamedReferences.{NamedReference, IsTable, begins_name};
+
+pub mod anywhere;
 
 use html5ever_interface::interface::sink::TokenSink;
 use html5ever_interface::interface::token::Token;
@@ -43,6 +47,15 @@ pub fn beginning<S: TokenSink<Token<A>>, A: Allocator>()
     ensures { (rules : Rules) (K : Start) (s : S.State) (text rest : List ℕ) → (later : List Message)
         × (messages (told S.step S.reply S.foreign rules K s (text ++ rest))
         ≡ messages (told S.step S.reply S.foreign rules K s text) ++ later) }
+{}
+
+/// What is told of a text, however it goes on: the events of the reading of the whole before the first
+/// that a character behind the text decides, or the end.
+pub fn told_of_a_split<S: TokenSink<Token<A>>, A: Allocator>()
+    ensures { (rules : Rules) (K : Start) (s : S.State) (text more : List ℕ) →
+        told S.step S.reply S.foreign rules K s text
+        ≡ take_while (λ e. is_among (length (normalised K.input text)) e.decided_by)
+        (reading S.step S.reply S.foreign rules K s (text ++ more)) }
 {}
 
 /// Names behind an `&` that no `#` follows: the longest name that begins what is held when a reference
@@ -71,4 +84,18 @@ pub fn each_doctype()
 pub fn each_cdata()
     ensures { (has_opening is_ended : Bool) (text : List ℕ) → occurs (codes "]]>") text ≡ false
         → IsCdataText has_opening is_ended text }
+{}
+
+/// A tag that the end of input cuts off is never told: what the end decides and tells has no tag.
+pub fn tags_cut_off<S: TokenSink<Token<A>>, A: Allocator>()
+    ensures { (rules : Rules) (K : Start) (s : S.State) (text : List ℕ) →
+        TellsNoTagBehind (messages (told S.step S.reply S.foreign rules K s text)) (messages (reading S.step S.reply S.foreign rules K s text)) }
+{}
+
+/// By a table of names each token that a text tells is lawful, where nothing was open before it: text
+/// without NUL, a tag whose name begins with a letter, with no capital in its names and no attribute
+/// twice, a doctype whose name has no capital.
+pub fn lawful_tokens<S: TokenSink<Token<A>>, A: Allocator>()
+    ensures { (rules : Rules) (K : Start) (s : S.State) (text : List ℕ) → IsTable rules.names → is_clean K.opened ≡ true →
+        All (λ m. IsLawful m.token) (messages (reading S.step S.reply S.foreign rules K s text)) }
 {}

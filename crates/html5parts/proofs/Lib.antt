@@ -1,4 +1,5 @@
 pub mod CommentEnds
+pub mod CommentStates
 pub mod Held
 pub mod HeldLetters
 pub mod Keywords

@@ -12,7 +12,7 @@ use Rattle.html5grammar.specs.Start.Dashes.{NoDash, OneDash, TwoDashes}
 use Rattle.html5grammar.specs.Start.Raw.{Rcdata, Rawtext, ScriptData, Escaped, DoubleEscaped}
 use Rattle.html5grammar.specs.Start.Mode.{Data, Plain, RawText, Cdata}
 use Rattle.html5grammar.specs.Start.Place.{InName, BeforeAttribute, InAttributeName, AfterAttributeName, BeforeValue, InValue, AfterQuotedValue, AfterSolidus}
-use Rattle.html5grammar.specs.Start.Open.{Between, LessThan, LessThanSolidus, InTag, InRaw, InDeclaration, InComment, InBogusComment, InDoctype, InDoctypeKeyword, InCdata, InReference, NotBuilt}
+use Rattle.html5grammar.specs.Start.Open.{Between, LessThan, LessThanSolidus, InTag, InRaw, InDeclaration, InComment, InBogusComment, InDoctype, InDoctypeKeyword, InCdata, InReference}
 use Rattle.html5grammar.specs.Tag.{in_tag_name, in_attribute_name, in_quoted, in_unquoted, unquoted_error, is_odd_in_name}
 use Rattle.std.proofs.lemmas.List.{append-nil}
 use Rattle.html5grammar.specs.Comment.{ends_in, comment_errors, mark_error}
@@ -54,7 +54,6 @@ opened_after_run-nil (InDoctype place doctype) = refl
 opened_after_run-nil (InDoctypeKeyword held doctype) = refl
 opened_after_run-nil (InCdata text) = ap InCdata (append-nil text)
 opened_after_run-nil (InReference stand held) = refl
-opened_after_run-nil NotBuilt = refl
 
 pub opened_after_run-cons : (opened : Open) (c : ℕ) (run : List ℕ)
     → opened_after_run opened (c ∷ run) ≡ opened_after_run (opened_after_run opened (c ∷ [])) run
@@ -77,7 +76,6 @@ opened_after_run-cons (InDoctype place doctype) c run = refl
 opened_after_run-cons (InDoctypeKeyword held doctype) c run = refl
 opened_after_run-cons (InCdata text) c run = ap InCdata (bytes-cons encode_utf8 text c run)
 opened_after_run-cons (InReference stand held) c run = refl
-opened_after_run-cons NotBuilt c run = refl
 
 -- behind a character of a run the same characters end it
 pub other_run_ends-after : (opened : Open) (others : List ℕ) (c : ℕ) → other_run_ends opened ≡ Some others → ¬ Contains (run_ends others) c
@@ -104,7 +102,6 @@ other_run_ends-after (InDoctype place doctype) others c has out = refl
 other_run_ends-after (InDoctypeKeyword held doctype) others c has out = refl
 other_run_ends-after (InCdata text) others c has out = refl
 other_run_ends-after (InReference stand held) others c has out = refl
-other_run_ends-after NotBuilt others c has out = refl
 
 -- what the run tells is what its characters tell
 pub run_tokens-cons : (opened : Open) (c : ℕ) (run : List ℕ)
@@ -128,7 +125,6 @@ run_tokens-cons (InDoctype place doctype) c run = refl
 run_tokens-cons (InDoctypeKeyword held doctype) c run = refl
 run_tokens-cons (InCdata text) c run = refl
 run_tokens-cons (InReference stand held) c run = refl
-run_tokens-cons NotBuilt c run = refl
 
 pub run_tokens-nil : (opened : Open) → run_tokens opened [] ≡ []
 run_tokens-nil (Between mode) = refl
@@ -143,7 +139,6 @@ run_tokens-nil (InDoctype place doctype) = refl
 run_tokens-nil (InDoctypeKeyword held doctype) = refl
 run_tokens-nil (InCdata text) = refl
 run_tokens-nil (InReference stand held) = refl
-run_tokens-nil NotBuilt = refl
 
 -- a character that ends no run is none of the characters that end one
 no : (others : List ℕ) (c : ℕ) → ¬ Contains (run_ends others) c → (k e : ℕ) → k < length (run_ends others) → get_or (run_ends others) k c ≡ e → (c == e) ≡ false
@@ -226,4 +221,3 @@ step-run (InCdata text) others c has other =
     let out : ¬ Contains (run_ends (greater_than ∷ [])) c = known (greater_than ∷ []) others c has other in
     rw (no (greater_than ∷ []) c out 3 greater_than (lit< tt) refl, no (greater_than ∷ []) c out 0 null (lit< tt) refl, append-nil (encode_utf8 c)) refl
 step-run (InReference stand held) others c has other = absurd (none≢some has)
-step-run NotBuilt others c has other = absurd (none≢some has)

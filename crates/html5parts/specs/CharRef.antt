@@ -8,7 +8,7 @@ use Rattle.html5grammar.specs.Reference as grammar
 use Rattle.html5grammar.specs.Start.{Open, Stand}
 use Rattle.html5grammar.specs.Start.Mode.{Data, RawText}
 use Rattle.html5grammar.specs.Start.Raw.{Rcdata}
-use Rattle.html5grammar.specs.Start.Open.{Between, InTag, InReference, NotBuilt}
+use Rattle.html5grammar.specs.Start.Open.{Between, InTag, InReference}
 use Rattle.html5grammar.specs.Start.Place.{InValue}
 use Rattle.html5grammar.specs.Start.Stand.{InText, InAttribute}
 use Rattle.html5parts.specs.declared.char_ref.Found.{Found}
@@ -62,10 +62,7 @@ with_reference is_in held opened = if is_in then InReference (stand_of opened) h
 
 -- what is open behind the `&` of a reference
 abbrev pub begun_reference : Open → Open
-begun_reference (Between Data) = InReference (InText Data) []
-begun_reference (Between (RawText Rcdata name)) = InReference (InText (RawText Rcdata name)) []
-begun_reference (InTag (InValue kind) tag) = InReference (InAttribute kind tag) []
-begun_reference other = NotBuilt
+begun_reference opened = InReference (stand_of opened) []
 
 -- the reference of which so much is held, in a value or not, where that follows
 abbrev pub decided : Bool → List NamedReference → Bool → List ℕ → Option ℕ → grammar.Found

@@ -12,7 +12,7 @@ use Rattle.html5grammar.specs.Start.Mode.{Data, Plain, RawText}
 use Rattle.html5grammar.specs.Start.RawPlace.{AfterLessThan, InEndName, AfterMark, AfterMarkAndDash, InSwitch}
 use Rattle.html5grammar.specs.Start.Place.{InName, BeforeAttribute, InAttributeName, AfterAttributeName, BeforeValue, InValue, AfterQuotedValue, AfterSolidus}
 use Rattle.html5grammar.specs.Start.DoctypePlace.{AfterWord, BeforeName, InDoctypeName, AfterName, AfterKeyword, BeforeIdentifier, InIdentifier, AfterIdentifier, BetweenIdentifiers, Skipped}
-use Rattle.html5grammar.specs.Start.Open.{Between, LessThan, LessThanSolidus, InTag, InRaw, InDeclaration, InComment, InBogusComment, InDoctype, InDoctypeKeyword, NotBuilt}
+use Rattle.html5grammar.specs.Start.Open.{Between, LessThan, LessThanSolidus, InTag, InRaw, InDeclaration, InComment, InBogusComment, InDoctype, InDoctypeKeyword}
 use Rattle.html5grammar.specs.Start.Quotes.{DoubleQuotes, SingleQuotes}
 use Rattle.html5parts.specs.declared.current_tag.CurrentTag.{CurrentTag}
 use Rattle.html5parts.specs.declared.opened.Opened.{Opened}
@@ -41,7 +41,8 @@ last_name_of at = string_bytes at.last_start_tag
 abbrev pub letters_of : {Z : Type 0} → Opened Z → List ℕ
 letters_of at = chars (string_bytes at.letters)
 
--- what is open in a state, with what is kept of what was begun
+-- what is open in a state, with what is kept of what was begun. In a comment its text says which of the standard's states it is,
+-- so the other states of comments, and of CDATA sections, are never set: each stands for a comment, too.
 abbrev pub open_of : {Z : Type 0} → State → Opened Z → Open
 open_of state.Data at = Between Data
 open_of state.Plaintext at = Between Plain
@@ -66,7 +67,6 @@ open_of (state.ScriptDataEscapedDash kind) at = Between (RawText (escaped kind O
 open_of (state.ScriptDataEscapedDashDash kind) at = Between (RawText (escaped kind TwoDashes) (last_name_of at))
 open_of state.ScriptDataDoubleEscapeEnd at = InRaw (InSwitch escape_kind.DoubleEscaped (letters_of at)) (last_name_of at)
 open_of state.MarkupDeclarationOpen at = InDeclaration (string_bytes at.comment)
-open_of state.Comment at = InComment (string_bytes at.comment)
 open_of state.BogusComment at = InBogusComment (string_bytes at.comment)
 open_of state.Doctype at = InDoctype AfterWord (doctype_of at.doctype)
 open_of state.BeforeDoctypeName at = InDoctype BeforeName (doctype_of at.doctype)
@@ -80,7 +80,7 @@ open_of (state.AfterDoctypeIdentifier kind) at = InDoctype (AfterIdentifier kind
 open_of state.BetweenDoctypePublicAndSystemIdentifiers at = InDoctype BetweenIdentifiers (doctype_of at.doctype)
 open_of state.BogusDoctype at = InDoctype Skipped (doctype_of at.doctype)
 open_of state.CdataSection at = open_cdata (string_bytes at.comment)
-open_of other at = NotBuilt
+open_of other at = InComment (string_bytes at.comment)
 
 abbrev pub opened_of : {Z : Type 0} → Opened Z → Open
 opened_of at = open_of at.state at
@@ -110,42 +110,18 @@ is_doctype_state state.BetweenDoctypePublicAndSystemIdentifiers = true
 is_doctype_state state.BogusDoctype = true
 is_doctype_state other = false
 
--- whether a bad character begins in the state what is not built yet
-abbrev pub stops_at_bad : State → Bool
-stops_at_bad state.Data = false
-stops_at_bad state.Plaintext = false
-stops_at_bad state.TagOpen = false
-stops_at_bad state.TagName = false
-stops_at_bad state.BeforeAttributeName = false
-stops_at_bad state.AttributeName = false
-stops_at_bad state.AfterAttributeName = false
-stops_at_bad state.BeforeAttributeValue = false
-stops_at_bad (state.AttributeValue kind) = false
-stops_at_bad state.AfterAttributeValueQuoted = false
-stops_at_bad state.SelfClosingStartTag = false
-stops_at_bad (state.RawData kind) = false
-stops_at_bad (state.RawLessThanSign kind) = false
-stops_at_bad (state.RawEndTagOpen kind) = false
-stops_at_bad (state.RawEndTagName kind) = false
-stops_at_bad (state.ScriptDataEscapeStart kind) = false
-stops_at_bad state.ScriptDataEscapeStartDash = false
-stops_at_bad (state.ScriptDataEscapedDash kind) = false
-stops_at_bad (state.ScriptDataEscapedDashDash kind) = false
-stops_at_bad state.ScriptDataDoubleEscapeEnd = false
-stops_at_bad state.EndTagOpen = false
-stops_at_bad state.Comment = false
-stops_at_bad state.BogusComment = false
-stops_at_bad state.MarkupDeclarationOpen = false
-stops_at_bad state.Doctype = false
-stops_at_bad state.BeforeDoctypeName = false
-stops_at_bad state.DoctypeName = false
-stops_at_bad state.AfterDoctypeName = false
-stops_at_bad (state.AfterDoctypeKeyword kind) = false
-stops_at_bad (state.BeforeDoctypeIdentifier kind) = false
-stops_at_bad (state.DoctypeIdentifierDoubleQuoted kind) = false
-stops_at_bad (state.DoctypeIdentifierSingleQuoted kind) = false
-stops_at_bad (state.AfterDoctypeIdentifier kind) = false
-stops_at_bad state.BetweenDoctypePublicAndSystemIdentifiers = false
-stops_at_bad state.BogusDoctype = false
-stops_at_bad state.CdataSection = false
-stops_at_bad other = true
+-- whether a comment is open in the state
+abbrev pub is_comment_state : State → Bool
+is_comment_state state.Comment = true
+is_comment_state state.CommentStart = true
+is_comment_state state.CommentStartDash = true
+is_comment_state state.CommentLessThanSign = true
+is_comment_state state.CommentLessThanSignBang = true
+is_comment_state state.CommentLessThanSignBangDash = true
+is_comment_state state.CommentLessThanSignBangDashDash = true
+is_comment_state state.CommentEndDash = true
+is_comment_state state.CommentEnd = true
+is_comment_state state.CommentEndBang = true
+is_comment_state state.CdataSectionBracket = true
+is_comment_state state.CdataSectionEnd = true
+is_comment_state other = false

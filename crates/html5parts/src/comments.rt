@@ -5,6 +5,7 @@
 ghost use Rattle.std.specs.Prelude.{◌≡◌, ◌==◌, ◌&&◌, not, take};
 ghost use Rattle.std.specs.Str.{IsCharBoundary};
 ghost use Rattle.html5grammar.specs.Characters.{greater_than};
+ghost use Rattle.html5parts.specs.CurrentTag.{is_comment_state};
 ghost use Rattle.html5grammar.specs.Comment.{ends_in, comment_state, may_begin_mark, ends_in_mark, ends_comment, comment_content};
 
 use html5ever_interface::states::State;
@@ -85,4 +86,18 @@ pub fn content_len(text: &str) -> usize
         return text.len() - 1;
     }
     text.len()
+}
+
+/// Whether a comment is open in the state.
+pub fn is_comment_state(state: State) -> bool
+    ensures { result ≡ is_comment_state state }
+{
+    match state {
+        State::Comment | State::CommentStart | State::CommentStartDash => true,
+        State::CommentLessThanSign | State::CommentLessThanSignBang => true,
+        State::CommentLessThanSignBangDash | State::CommentLessThanSignBangDashDash => true,
+        State::CommentEndDash | State::CommentEnd | State::CommentEndBang => true,
+        State::CdataSectionBracket | State::CdataSectionEnd => true,
+        _ => false,
+    }
 }

@@ -13,7 +13,6 @@ ghost use Rattle.html5grammar.specs.Start.{held_len};
 ghost use Rattle.html5grammar.specs.Start.Mode.{Cdata};
 ghost use Rattle.html5grammar.specs.Start.Open.{Between, InDeclaration};
 ghost use Rattle.html5parts.specs.CurrentTag.{opened_of, last_name_of};
-ghost use Rattle.html5parts.specs.Steps.{IsBuilt};
 
 use crate::opened::Opened;
 use html5ever_interface::interface::token::Doctype;
@@ -81,7 +80,6 @@ pub fn hold_declaration<A: Allocator>(
         ≡ record { settled = declaration_error exact (string_bytes at.old.comment); here = bogus_comment_step exact (string_bytes at.old.comment) [] c } }
     ensures kept { result ≡ Ok false → opened_of at.new ≡ opened_of at.old }
     ensures last { last_name_of at.new ≡ last_name_of at.old }
-    ensures built { OnOk result (IsBuilt (opened_of at.new)) }
     ensures held { held_len (opened_of at.new) ≤ held_len (opened_of at.old) + 1 }
 {
     if !c.is_ascii() {

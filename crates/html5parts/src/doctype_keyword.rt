@@ -11,7 +11,6 @@ ghost use Rattle.html5grammar.specs.Reading.Here.{Tells};
 ghost use Rattle.html5grammar.specs.Start.{held_len};
 ghost use Rattle.html5parts.specs.CurrentTag.{opened_of, last_name_of};
 ghost use Rattle.html5parts.specs.Doctypes.{keyword_in};
-ghost use Rattle.html5parts.specs.Steps.{IsBuilt};
 
 use crate::opened::Opened;
 use html5ever_interface::states::{DoctypeIdKind, State};
@@ -64,7 +63,6 @@ pub fn hold_doctype_keyword<A: Allocator>(at: &mut Opened<A>, c: char) -> Result
         ≡ record { settled = keyword_error exact (string_bytes at.old.comment); here = skipped_step exact [] (with_quirks (doctype_of at.old.doctype)) c } }
     ensures kept { result ≡ Ok false → opened_of at.new ≡ opened_of at.old }
     ensures last { last_name_of at.new ≡ last_name_of at.old }
-    ensures built { OnOk result (IsBuilt (opened_of at.new)) }
     ensures held { held_len (opened_of at.new) ≤ held_len (opened_of at.old) + 1 }
 {
     if !c.is_ascii() {

@@ -16,9 +16,6 @@ pub enum TokenizerError {
     /// An earlier call was refused: nothing was told, and nothing was taken.
     #[error("an earlier call failed")]
     Failed,
-    /// The text has what isn't built yet: the sink was told exactly what comes before it.
-    #[error("not built yet")]
-    NotYet,
 }
 
 impl From<AllocError> for TokenizerError {

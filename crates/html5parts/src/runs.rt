@@ -7,12 +7,12 @@ ghost use Rattle.html5grammar.specs.Characters.{name_bytes};
 ghost use Rattle.html5grammar.specs.Start.{is_clean, held_len};
 ghost use Rattle.html5grammar.specs.Start.{raw_of};
 ghost use Rattle.html5grammar.specs.Start.Mode.{RawText};
-ghost use Rattle.html5grammar.specs.Start.Open.{Between};
+ghost use Rattle.html5grammar.specs.Start.Open.{Between, InComment};
 ghost use Rattle.html5parts.specs.CurrentTag.{opened_of, last_name_of};
 ghost use Rattle.html5parts.specs.Runs.{IsRunAt, other_value_ends, other_run_ends, run_ends, opened_after_run};
 ghost use Rattle.markup5ever.specs.SmallCharSet.{IsMember};
 
-use crate::comments::ends_in;
+use crate::comments::{ends_in, is_comment_state};
 use crate::current_tag::push_name;
 use crate::opened::Opened;
 use html5ever_interface::states::{AttrValueKind, RawKind, State};
@@ -57,6 +57,19 @@ fn section_ends(text: &str) -> Option<SmallCharSet>
     Some(SmallCharSet::of(b"\0\n\r>"))
 }
 
+// The characters that end a run in a comment, unless its text so far ends in a dash.
+#[inline(always)]
+fn comment_ends(text: &str) -> Option<SmallCharSet>
+    ensures has_runs { is_some result ≡ is_some (other_run_ends (InComment text.now)) }
+    ensures ends { IfSome result (λ set. IfSome (other_run_ends (InComment text.now)) (λ others.
+        (c : ℕ) → IsMember set c ↔ Contains (run_ends others) c)) }
+{
+    if ends_in(text, b"-") {
+        return None;
+    }
+    Some(SmallCharSet::of(b"\0\n\r->"))
+}
+
 /// The characters that end a run, where the state reads runs.
 #[inline(always)]
 pub fn run_ends<A: Allocator>(at: &Opened<A>) -> Option<SmallCharSet>
@@ -71,9 +84,9 @@ pub fn run_ends<A: Allocator>(at: &Opened<A>) -> Option<SmallCharSet>
         State::AttributeName => Some(SmallCharSet::of(b"\0\n\r\t\x0C />=\"'<")),
         State::AttributeValue(kind) => Some(value_ends(kind)),
         State::RawData(kind) => Some(raw_ends(kind)),
-        State::Comment if !ends_in(&at.comment, b"-") => Some(SmallCharSet::of(b"\0\n\r->")),
         State::BogusComment => Some(SmallCharSet::of(b"\0\n\r>")),
         State::CdataSection => section_ends(&at.comment),
+        state if is_comment_state(state) => comment_ends(&at.comment),
         _ => None,
     }
 }
@@ -89,7 +102,7 @@ pub fn push_names<A: Allocator>(name: &mut String<A>, run: &str) -> Result<(), A
     Ok(())
 }
 
-/// Puts a run to the open name, value or comment.
+/// Puts a run to the open name or value, or to the text of a comment or a section.
 #[inline(always)]
 pub fn push_run<A: Allocator>(at: &mut Opened<A>, run: &str) -> Result<(), AllocError>
     requires is_run { IsRunAt (opened_of at.old) (chars run.now) }
@@ -103,9 +116,9 @@ pub fn push_run<A: Allocator>(at: &mut Opened<A>, run: &str) -> Result<(), Alloc
         State::TagName => push_names(&mut at.tag.name, run)?,
         State::AttributeName => push_names(&mut at.tag.attr_name, run)?,
         State::AttributeValue(_) => at.tag.attr_value.push_str(run)?,
-        State::Comment => at.comment.push_str(run)?,
         State::BogusComment => at.comment.push_str(run)?,
         State::CdataSection => at.comment.push_str(run)?,
+        state if is_comment_state(state) => at.comment.push_str(run)?,
         _ => unreachable!(),
     }
     Ok(())

@@ -22,7 +22,7 @@ use Rattle.html5parts.specs.declared.opened.Opened.{Opened}
 use Rattle.html5parts.specs.declared.opened.Progress.{Progress}
 use Rattle.html5states.specs.declared.teller.Teller.{Teller}
 use Rattle.html5parts.specs.declared.error.TokenizerError.{TokenizerError}
-use Rattle.html5parts.specs.declared.error.TokenizerError.TheVariants.{Memory, Sink, Failed, NotYet}
+use Rattle.html5parts.specs.declared.error.TokenizerError.TheVariants.{Memory, Sink, Failed}
 use Rattle.html5ever_interface.specs.declared.interface.token.Token.{Token}
 use Rattle.html5ever_interface.specs.declared.interface.token.Token.TheVariants.{DoctypeToken, TagToken, CommentToken, CharacterTokens, NullCharacterToken, EOFToken, ParseError}
 use Rattle.html5ever_interface.specs.Token.{Told, told_by}
@@ -142,7 +142,6 @@ module _ {S : Type 0} (step faulted : S → Told → ℕ → S) where
     state = stop.state ∙ rw (told, stepped-append step s M stop.before) refl;
   }
   stops_after Failed s t u M N told stop = stop
-  stops_after NotYet s t u M N told stop = stop ∙ rw (told, stepped-append step s M N) refl
 
   pub tells_after : {T : Type 0} → (r : Result T TokenizerError) (s t u : S) (M N : List Message) → t ≡ stepped step s M
       → Tells step faulted r t N u → Tells step faulted r s (M ++ N) u
@@ -169,7 +168,6 @@ module _ {S : Type 0} (step faulted : S → Told → ℕ → S) where
     state = stop.state;
   }
   stops_before Failed s t M N refusal stop = stop
-  stops_before NotYet s t M N refusal stop = absurd refusal
 
   -- a growth that was refused before anything was told
   pub Memory-at_once : (s : S) (M : List Message) → Stops step faulted Memory s M s
@@ -215,7 +213,6 @@ module _ {S : Type 0} (step faulted : S → Told → ℕ → S) where
   unfolding tokens_of
   tokens-told_first before (Here.Tells told later) = refl
   tokens-told_first before (Here.TellsTag told tag) = refl
-  tokens-told_first before (Here.Stops told) = refl
 
   pub first_then : {T : Type 0} → (r : Result T TokenizerError) (s t u : S) (line : ℕ) (before : List Told) (all later : Here Open)
       → all ≡ told_first before later → t ≡ stepped step s (on_line line before)
@@ -235,7 +232,6 @@ behind-told_first : (before : List Told) (later : Here Open) → behind (told_fi
 unfolding behind
 behind-told_first before (Here.Tells told later) = refl
 behind-told_first before (Here.TellsTag told tag) = refl
-behind-told_first before (Here.Stops told) = refl
 
 pub leads_first : {Z : Type 0} → (r : Result Progress TokenizerError) (at : Opened Z) (before : List Told) (all later : Here Open)
     → all ≡ told_first before later → Ends r at (behind later) → Ends r at (behind all)
@@ -258,7 +254,6 @@ refused_leads : {Z : Type 0} (r : Result Progress TokenizerError) (e : Tokenizer
 refused_leads r Memory at next h refusal = let p = err_from_is_err_and r h in rw (p.1, p.2) tt
 refused_leads r Sink at next h refusal = let p = err_from_is_err_and r h in rw (p.1, p.2) tt
 refused_leads r Failed at next h refusal = absurd refusal
-refused_leads r NotYet at next h refusal = absurd refusal
 
 -- calls of a teller, one behind the other: what it is stays, and a call that tells comes before one that tells or reads
 kept_then : {Q Z : Type 0} {before middle after : Teller Q Z} → IsKept before middle → IsKept middle after → IsKept before after

@@ -13,7 +13,7 @@ use Rattle.html5parts.specs.declared.opened.Opened.{Opened}
 use Rattle.html5parts.specs.declared.opened.Progress.{Progress}
 use Rattle.html5states.specs.declared.teller.Teller.{Teller}
 use Rattle.html5parts.specs.declared.error.TokenizerError.{TokenizerError}
-use Rattle.html5parts.specs.declared.error.TokenizerError.TheVariants.{Memory, Sink, Failed, NotYet}
+use Rattle.html5parts.specs.declared.error.TokenizerError.TheVariants.{Memory, Sink, Failed}
 
 -- the tokens that the grammar has for one that is told: a text for each character of a text, and else the token itself
 abbrev pub tokens_in : Told → List Told
@@ -50,8 +50,6 @@ module _ {S : Type 0} (step faulted : S → Told → ℕ → S) where
   Stops Memory s M t = StopsWithin s M t
   Stops Sink s M t = FaultsWithin s M t
   Stops Failed s M t = ⊥
-  -- what is not built yet comes behind the messages
-  Stops NotYet s M t = t ≡ stepped step s M
 
   -- told all the messages, or stopped within them
   abbrev pub Tells : {T : Type 0} → Result T TokenizerError → S → List Message → S → Type 0
@@ -64,21 +62,12 @@ faults_of (Ok x) = 0
 faults_of (Err Memory) = 0
 faults_of (Err Sink) = 1
 faults_of (Err Failed) = 0
-faults_of (Err NotYet) = 0
 
 -- a refusal of a call that tells: want of memory, or a fault of the sink
 abbrev pub IsRefusal : TokenizerError → Type 0
 IsRefusal Memory = Unit {0}
 IsRefusal Sink = Unit {0}
 IsRefusal Failed = ⊥
-IsRefusal NotYet = ⊥
-
--- a refusal that isn't owed to an earlier one
-abbrev pub IsNotFailed : TokenizerError → Type 0
-IsNotFailed Memory = Unit {0}
-IsNotFailed Sink = Unit {0}
-IsNotFailed Failed = ⊥
-IsNotFailed NotYet = Unit {0}
 
 -- what a teller is stays while it tells
 pub record IsKept {Q Z : Type 0} (before after : Teller Q Z) : Type 0 where

@@ -26,7 +26,6 @@ use std::mem;
 impl<S: TokenSink<Token<A>>, A: Allocator + Copy> Teller<'_, S, A> {
     /// The standard's comment states, from its "comment start state" to its "comment end bang state".
     pub fn comment_state(&mut self, at: &mut Opened<A>, c: char) -> Step
-        requires { at.old.state ≡ State.Comment }
         ensures { Reads S.state S.faults S.step S.faulted result self.old self.new
             (comment_step self.old.exact_errors (string_bytes at.old.comment) c) at.old at.new }
     {
@@ -35,6 +34,7 @@ impl<S: TokenSink<Token<A>>, A: Allocator + Copy> Teller<'_, S, A> {
         }
         self.emit_comment_errors(&at.comment, c)?;
         push_value(&mut at.comment, c)?;
+        at.state = State::Comment;
         Ok(Progress::Continues)
     }
 

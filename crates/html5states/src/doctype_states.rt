@@ -10,6 +10,7 @@ ghost use Rattle.html5grammar.specs.ErrorText.{error_in};
 ghost use Rattle.html5grammar.specs.Reading.Here.{Tells};
 ghost use Rattle.html5grammar.specs.Start.DoctypePlace.{AfterWord, BeforeName, InDoctypeName, AfterName, AfterKeyword, BeforeIdentifier, InIdentifier, AfterIdentifier, BetweenIdentifiers};
 ghost use Rattle.html5grammar.specs.Start.Mode.{Data};
+ghost use Rattle.html5grammar.specs.Start.{is_undecided_open};
 ghost use Rattle.html5grammar.specs.Start.Open.{Between};
 ghost use Rattle.html5parts.specs.CurrentTag.{is_doctype_state, opened_of};
 ghost use Rattle.html5parts.specs.Doctypes.{quotes_of};
@@ -25,7 +26,6 @@ use html5parts::doctype_keyword::begins_doctype_keyword;
 use html5parts::doctypes::{
     Quotes, begin_identifier, begin_name, push_doctype_name, push_identifier,
 };
-use html5parts::error::TokenizerError;
 use html5parts::opened::{Opened, Progress, Step};
 use std::alloc::Allocator;
 use std::mem;
@@ -301,7 +301,8 @@ impl<S: TokenSink<Token<A>>, A: Allocator + Copy> Teller<'_, S, A> {
 
     /// Reads one character in a state of DOCTYPEs.
     pub fn step_in_doctype(&mut self, at: &mut Opened<A>, c: char) -> Step
-        requires { is_doctype_state at.old.state ≡ true }
+        requires doctype { is_doctype_state at.old.state ≡ true }
+        requires decided { is_undecided_open (opened_of at.old) ≡ false }
         ensures { Reads S.state S.faults S.step S.faulted result self.old self.new
             (step_at self.old.exact_errors (opened_of at.old) c) at.old at.new }
     {
@@ -309,9 +310,7 @@ impl<S: TokenSink<Token<A>>, A: Allocator + Copy> Teller<'_, S, A> {
             State::Doctype => self.doctype_state(at, c),
             State::BeforeDoctypeName => self.before_doctype_name_state(at, c),
             State::DoctypeName => self.doctype_name_state(at, c),
-            State::AfterDoctypeName if at.comment.is_empty() => {
-                self.after_doctype_name_state(at, c)
-            }
+            State::AfterDoctypeName => self.after_doctype_name_state(at, c),
             State::AfterDoctypeKeyword(kind) => self.after_doctype_keyword_state(at, kind, c),
             State::BeforeDoctypeIdentifier(kind) => {
                 self.before_doctype_identifier_state(at, kind, c)
@@ -328,7 +327,7 @@ impl<S: TokenSink<Token<A>>, A: Allocator + Copy> Teller<'_, S, A> {
                 self.between_identifiers_state(at, c)
             }
             State::BogusDoctype => self.bogus_doctype_state(at, c),
-            _ => Err(TokenizerError::NotYet),
+            _ => unreachable!(),
         }
     }
 }

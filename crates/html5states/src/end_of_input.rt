@@ -14,7 +14,6 @@ ghost use Rattle.html5grammar.specs.RawText.{texts, told_behind_less_than};
 ghost use Rattle.html5grammar.specs.Comment.{comment_state, comment_content};
 ghost use Rattle.html5grammar.specs.Start.{raw_of, is_undecided_open};
 ghost use Rattle.html5parts.specs.CurrentTag.{opened_of};
-ghost use Rattle.html5parts.specs.Steps.{IsBuilt};
 ghost use Rattle.html5states.specs.Telling.{Emits};
 
 use crate::teller::Teller;
@@ -22,7 +21,7 @@ use html5ever_interface::interface::sink::TokenSink;
 use html5ever_interface::interface::token::{Doctype, Token};
 use html5ever_interface::states::AttrValueKind::Unquoted;
 use html5ever_interface::states::{RawKind, ScriptEscapeKind, State};
-use html5parts::comments::{content_len, state_in_comment};
+use html5parts::comments::{content_len, is_comment_state, state_in_comment};
 use html5parts::doctypes::is_doctype_state;
 use html5parts::error::TokenizerError;
 use html5parts::opened::Opened;
@@ -162,7 +161,6 @@ impl<S: TokenSink<Token<A>>, A: Allocator + Copy> Teller<'_, S, A> {
 
     /// Tells what the end of input tells in the state. A tag without its end is not told.
     pub fn tell_end_of_input(&mut self, at: &Opened<A>) -> Result<(), TokenizerError>
-        requires built { IsBuilt (opened_of at.now) }
         requires decided { is_undecided_open (opened_of at.now) ≡ false }
         ensures { Emits S.state S.faults S.step S.faulted result self.old self.new
             (told_at_end_of self.old.exact_errors (opened_of at.now)) }
@@ -181,7 +179,6 @@ impl<S: TokenSink<Token<A>>, A: Allocator + Copy> Teller<'_, S, A> {
             }
             State::ScriptDataEscapeStart(ScriptEscapeKind::Escaped)
             | State::ScriptDataEscapeStartDash => self.tell(Token::EOFToken),
-            State::Comment => self.end_comment_text(&at.comment),
             State::BogusComment => self.end_behind_comment(&at.comment),
             State::CdataSection => self.end_in_cdata(&at.comment),
             State::MarkupDeclarationOpen => unreachable!(),
@@ -191,6 +188,7 @@ impl<S: TokenSink<Token<A>>, A: Allocator + Copy> Teller<'_, S, A> {
             State::EndTagOpen => self.end_in_end_tag_open(),
             State::BeforeAttributeValue => self.end_unexpected(State::AttributeValue(Unquoted)),
             State::BogusDoctype => self.end_behind_doctype(&at.doctype, at.doctype.force_quirks),
+            state if is_comment_state(state) => self.end_comment_text(&at.comment),
             state if is_doctype_state(state) => self.end_in_doctype(state, &at.doctype),
             state => self.end_unexpected(state),
         }

@@ -2,6 +2,8 @@
 #![tactic(auto, unfolding(html5grammar::proofs::Machine::step_at, html5grammar::proofs::Machine::tag_step, html5grammar::proofs::Machine::raw_place_step, html5parts::specs::Steps::tokens_of, html5parts::specs::Steps::behind, html5ever_interface::specs::Sink::stepped))]
 
 ghost use Rattle.html5grammar.proofs.Machine.{step_at};
+ghost use Rattle.std.specs.Prelude.{◌≡◌, false};
+ghost use Rattle.html5grammar.specs.Start.{is_undecided_open};
 ghost use Rattle.html5parts.specs.CurrentTag.{opened_of};
 ghost use Rattle.html5states.specs.Telling.{Reads};
 
@@ -11,14 +13,14 @@ use html5ever_interface::interface::token::Token;
 use html5ever_interface::states::AttrValueKind::Unquoted;
 use html5ever_interface::states::State;
 use html5parts::doctypes::is_doctype_state;
-use html5parts::error::TokenizerError;
 use html5parts::opened::{Opened, Step};
 use std::alloc::Allocator;
 
 impl<S: TokenSink<Token<A>>, A: Allocator + Copy> Teller<'_, S, A> {
-    /// Reads one character, and tells what it brings. No other state is built.
+    /// Reads one character, and tells what it brings.
     #[inline(always)]
     pub fn step(&mut self, at: &mut Opened<A>, c: char) -> Step
+        requires { is_undecided_open (opened_of at.old) ≡ false }
         ensures { Reads S.state S.faults S.step S.faulted result self.old self.new
             (step_at self.old.exact_errors (opened_of at.old) c) at.old at.new }
     {
@@ -47,11 +49,11 @@ impl<S: TokenSink<Token<A>>, A: Allocator + Copy> Teller<'_, S, A> {
                 at, kind, c,
             ),
             State::ScriptDataDoubleEscapeEnd => self.script_data_double_escape_end_state(at, c),
-            State::Comment => self.comment_state(at, c),
             State::BogusComment => self.bogus_comment_state(at, c),
             State::CdataSection => self.cdata_section_state(at, c),
             state if is_doctype_state(state) => self.step_in_doctype(at, c),
-            _ => Err(TokenizerError::NotYet),
+            State::MarkupDeclarationOpen => unreachable!(),
+            _ => self.comment_state(at, c),
         }
     }
 }

@@ -8,11 +8,9 @@ use Rattle.std.proofs.lemmas.List.{append-nil, append_assoc}
 use Rattle.std.proofs.lemmas.Str.{chars-append, chars-nil}
 use Rattle.markup5ever.specs.BufferQueue.{TextQueue}
 use Rattle.html5print.specs.Page.{Printer, page_step, page_reply, page_foreign}
-use Rattle.html5ever.specs.Tokenizer.{Tokenizing, ReadsOn, MeetsNotBuilt}
+use Rattle.html5ever.specs.Tokenizer.{Tokenizing, ReadsOn}
 use Rattle.html5grammar.specs.Reading.{after}
 use Rattle.html5grammar.specs.Start.{Start}
-use Rattle.html5grammar.specs.Start.Open.{NotBuilt}
-use Rattle.html5grammar.proofs.ReadingLemmas.{after-append, after-not_built}
 use Rattle.markup5ever.proofs.TextLemmas.{chars_cut}
 use Rattle.html5tok.specs.declared.fault.Fault.{Fault}
 use Rattle.html5tok.proofs.Cuts.{IsCut, IsCut-start, IsCut-front}
@@ -55,27 +53,6 @@ FedTo-more first now next text piece start len queue later fed utf8 cut is_piece
       not_failed = not_failed;
       waiting = waiting;
     }
-
--- a piece that meets what isn't built yet, with whatever follows it
-pub FedTo-met : (first now : Tokenizing Printer) (text piece : List ℕ) (start len : ℕ) (queue : TextQueue)
-    → FedTo first now text start queue → IsUtf8 text → IsCut text (start + len) → piece ≡ take len (drop start text)
-    → MeetsNotBuilt (λ (sink : Printer). sink.page) page_step page_reply page_foreign now (chars piece)
-    → MeetsNotBuilt (λ (sink : Printer). sink.page) page_step page_reply page_foreign first (chars text)
-FedTo-met first now text piece start len queue fed utf8 cut is_piece met K s X stands =
-    let front : chars (take (start + len) text) ≡ chars (take start text) ++ chars piece =
-    ap chars (take-add start len text)
-    ∙ chars-append (take start text) (take len (drop start text)) (IsCut-front text start utf8 fed.cut)
-    ∙ ap (λ l. chars (take start text) ++ chars l) (sym is_piece) in
-    let whole : chars text ≡ (chars (take start text) ++ chars piece) ++ chars (drop (start + len) text) =
-    chars_cut text (start + len) (IsCut-front text (start + len) utf8 cut) ∙ ap (λ l. l ++ chars (drop (start + len) text)) front in
-    let here : (after page_step page_reply page_foreign first.rules K s (X ++ (chars (take start text) ++ chars piece))).opened ≡ NotBuilt =
-    ap (λ l. (after page_step page_reply page_foreign first.rules K s l).opened) (sym (append_assoc X (chars (take start text)) (chars piece)))
-    ∙ ap (λ x. (after page_step page_reply page_foreign x K s ((X ++ chars (take start text)) ++ chars piece)).opened) (sym fed.rules)
-    ∙ met K s (X ++ chars (take start text)) (fed.reads K s X stands) in
-    ap (λ l. (after page_step page_reply page_foreign first.rules K s (X ++ l)).opened) whole
-    ∙ ap (λ l. (after page_step page_reply page_foreign first.rules K s l).opened) (sym (append_assoc X (chars (take start text) ++ chars piece) (chars (drop (start + len) text))))
-    ∙ ap (λ (P : Start). P.opened) (after-append page_step page_reply page_foreign first.rules K s (X ++ (chars (take start text) ++ chars piece)) (chars (drop (start + len) text)))
-    ∙ after-not_built page_step page_reply page_foreign first.rules _ _ (chars (drop (start + len) text)) here
 
 -- the fault of a `?`
 pub fault_is : {T : Type 0} (r : Result T Fault) (e f : Fault) → IsErrAnd r (λ x. x ≡ e) → r ≡ Err f → e ≡ f

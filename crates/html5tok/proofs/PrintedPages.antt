@@ -18,20 +18,19 @@ use Rattle.html5grammar.specs.Reading.TextPlace.{EndOfInput}
 use Rattle.html5grammar.specs.Start.{Start, Mode, Open, Rules, start_of}
 use Rattle.html5grammar.specs.Start.Mode.{Data, Plain, RawText, Cdata}
 use Rattle.html5grammar.specs.Start.DoctypePlace.{Skipped}
-use Rattle.html5grammar.specs.Start.Open.{Between, LessThan, LessThanSolidus, InTag, InRaw, InDeclaration, InComment, InBogusComment, InDoctype, InDoctypeKeyword, InCdata, InReference, NotBuilt}
+use Rattle.html5grammar.specs.Start.Open.{Between, LessThan, LessThanSolidus, InTag, InRaw, InDeclaration, InComment, InBogusComment, InDoctype, InDoctypeKeyword, InCdata, InReference}
 use Rattle.html5grammar.specs.Start.Place.{InValue}
 use Rattle.html5grammar.specs.Start.Stand.{InText, InAttribute}
 use Rattle.html5grammar.proofs.ReadingLemmas.{reading-events}
 use Rattle.html5grammar.proofs.Traces.{messages-append, messages-map}
-use Rattle.html5parts.specs.Steps.{IsBuilt}
 use Rattle.html5ever.specs.Tokenizer.{Tokenizing, StandsAt}
 use Rattle.html5print.specs.Page.{Page, Printer, page_step, page_reply, page_foreign, blank_page}
 use Rattle.html5print.proofs.Pages.{lines-stepped}
 use Rattle.html5tok.specs.Device.{ConsumesBeginning}
-use Rattle.html5tok.specs.Printing.{IsWholeBuilt, printed_reading}
+use Rattle.html5tok.specs.Printing.{printed_reading}
 use Rattle.html5tok.specs.Settings.{SettingsOf, rules_said}
 
--- the end of what was built tells the end last
+-- the end is told last
 EndsWithEnd : List Told → Type 0
 EndsWithEnd tokens = (front : List Told) × (tokens ≡ front ++ End ∷ [])
 
@@ -42,24 +41,23 @@ between-ends exact Plain = ([], refl)
 between-ends exact Cdata = (end_error_in exact state.CdataSection ∷ [], refl)
 between-ends exact (RawText raw name) = (raw_end_error exact raw, refl)
 
-told_at_end_of-ends : (rules : Rules) (opened : Open) → IsBuilt opened → EndsWithEnd (told_at_end_of rules.exact (open_at_end_of rules opened))
+told_at_end_of-ends : (rules : Rules) (opened : Open) → EndsWithEnd (told_at_end_of rules.exact (open_at_end_of rules opened))
 unfolding told_at_end_of open_at_end_of EndsWithEnd
-told_at_end_of-ends rules (Between mode) built = between-ends rules.exact mode
-told_at_end_of-ends rules LessThan built = (end_error_in rules.exact state.TagOpen ∷ Text (codes "<") ∷ [], refl)
-told_at_end_of-ends rules LessThanSolidus built = (end_error_in rules.exact state.EndTagOpen ∷ Text (codes "<") ∷ Text (codes "/") ∷ [], refl)
-told_at_end_of-ends rules (InTag place tag) built = (end_error_in rules.exact (state_at place) ∷ [], refl)
-told_at_end_of-ends rules (InRaw place name) built = (told_at_raw_end rules.exact place, refl)
-told_at_end_of-ends rules (InDeclaration held) built = (Comment held ∷ [], refl)
-told_at_end_of-ends rules (InComment text) built = (end_error_in rules.exact (comment_state state.CommentEnd text) ∷ Comment (comment_content text) ∷ [], refl)
-told_at_end_of-ends rules (InBogusComment text) built = (Comment text ∷ [], refl)
-told_at_end_of-ends rules (InDoctype place doctype) built = (told_at_doctype_end rules.exact place doctype, refl)
-told_at_end_of-ends rules (InDoctypeKeyword held doctype) built = (told_at_doctype_end rules.exact Skipped (with_quirks doctype), refl)
-told_at_end_of-ends rules (InCdata text) built = (Text text ∷ end_error_in rules.exact state.CdataSection ∷ [], refl)
-told_at_end_of-ends rules (InReference (InText mode) held) built = between-ends rules.exact mode
-told_at_end_of-ends rules (InReference (InAttribute kind tag) held) built = (end_error_in rules.exact (state_at (InValue kind)) ∷ [], refl)
-told_at_end_of-ends rules NotBuilt built = absurd built
+told_at_end_of-ends rules (Between mode) = between-ends rules.exact mode
+told_at_end_of-ends rules LessThan = (end_error_in rules.exact state.TagOpen ∷ Text (codes "<") ∷ [], refl)
+told_at_end_of-ends rules LessThanSolidus = (end_error_in rules.exact state.EndTagOpen ∷ Text (codes "<") ∷ Text (codes "/") ∷ [], refl)
+told_at_end_of-ends rules (InTag place tag) = (end_error_in rules.exact (state_at place) ∷ [], refl)
+told_at_end_of-ends rules (InRaw place name) = (told_at_raw_end rules.exact place, refl)
+told_at_end_of-ends rules (InDeclaration held) = (Comment held ∷ [], refl)
+told_at_end_of-ends rules (InComment text) = (end_error_in rules.exact (comment_state state.CommentEnd text) ∷ Comment (comment_content text) ∷ [], refl)
+told_at_end_of-ends rules (InBogusComment text) = (Comment text ∷ [], refl)
+told_at_end_of-ends rules (InDoctype place doctype) = (told_at_doctype_end rules.exact place doctype, refl)
+told_at_end_of-ends rules (InDoctypeKeyword held doctype) = (told_at_doctype_end rules.exact Skipped (with_quirks doctype), refl)
+told_at_end_of-ends rules (InCdata text) = (Text text ∷ end_error_in rules.exact state.CdataSection ∷ [], refl)
+told_at_end_of-ends rules (InReference (InText mode) held) = between-ends rules.exact mode
+told_at_end_of-ends rules (InReference (InAttribute kind tag) held) = (end_error_in rules.exact (state_at (InValue kind)) ∷ [], refl)
 
--- a reading of what is built ends with the end of input
+-- a reading ends with the end of input
 module _ (rules : Rules) (K : Start) (p : Page) (X : List ℕ) where
   abbrev reply : Page → Told → ℕ → Reply (Unit {0})
   reply = page_reply
@@ -92,24 +90,14 @@ module _ (rules : Rules) (K : Start) (p : Page) (X : List ℕ) where
 
 -- a page that a reading was printed to has its lines
 pub printed-page : (rules : Rules) (settings : SettingsOf) (p : Page) (bytes : List ℕ)
-    → rules ≡ rules_said settings → p ≡ blank_page settings.foreign → IsWholeBuilt settings bytes
+    → rules ≡ rules_said settings → p ≡ blank_page settings.foreign
     → (stepped page_step p (messages (reading page_step page_reply page_foreign rules (start_of settings.opts) p (chars bytes)))).lines ≡ printed_reading settings bytes
 unfolding printed_reading EndsWithEnd
-printed-page rules settings p bytes same blank built =
+printed-page rules settings p bytes same blank =
     let M : List Message = messages (reading page_step page_reply page_foreign (rules_said settings) (start_of settings.opts) (blank_page settings.foreign) (chars bytes)) in
-    let ends = told_at_end_of-ends (rules_said settings) (read page_step page_reply page_foreign (rules_said settings) (start_of settings.opts) (blank_page settings.foreign) (chars bytes)).opened built in
+    let ends = told_at_end_of-ends (rules_said settings) (read page_step page_reply page_foreign (rules_said settings) (start_of settings.opts) (blank_page settings.foreign) (chars bytes)).opened in
     rw (same, blank) (lines-stepped (blank_page settings.foreign) M _ _ refl
     (reading-ends (rules_said settings) (start_of settings.opts) (blank_page settings.foreign) (chars bytes) ends.0 ends.1))
-
--- a tokenizer that stands behind the text met nothing that isn't built yet
-pub built-reading : (settings : SettingsOf) (t : Tokenizing Printer) (p : Page) (bytes : List ℕ)
-    → t.rules ≡ rules_said settings → p ≡ blank_page settings.foreign
-    → StandsAt (λ (sink : Printer). sink.page) page_step page_reply page_foreign t (start_of settings.opts) p (chars bytes)
-    → IsWholeBuilt settings bytes
-built-reading settings t p bytes rules blank stands =
-    let position : t.position ≡ after page_step page_reply page_foreign (rules_said settings) (start_of settings.opts) (blank_page settings.foreign) (chars bytes) =
-    stands.position ∙ rw (rules, blank) refl in
-    subst (λ (P : Start). IsBuilt P.opened) position stands.built
 
 -- bytes that were read to their end are all that there was
 pub Consumes-whole : (old new : Option (List ℕ)) (bytes : List ℕ) → IfSome old (λ xs. bytes ≡ xs) → IsAtEnd new → ConsumesBeginning old new → Consumes old new bytes

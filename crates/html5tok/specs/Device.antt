@@ -2,7 +2,7 @@
 use Rattle.std.specs.Prelude.{ℕ, ◌<◌, ◌&&◌, nat_eq, nat_lt, if◌then◌else◌, List, length, take, Option, Result, Ok, Err}
 use Rattle.std.specs.Io.KnownBytes.{Appends, Consumes}
 use Rattle.html5tok.specs.declared.fault.Fault.{Fault}
-use Rattle.html5tok.specs.declared.fault.Fault.TheVariants.{NotUtf8, Memory, Device, NotYet}
+use Rattle.html5tok.specs.declared.fault.Fault.TheVariants.{NotUtf8, Memory, Device}
 
 -- a device of type X, and how often it failed
 pub record Metered (X : Type 0) : Type 0 where
@@ -19,21 +19,18 @@ abbrev pub device_failures : Fault → ℕ
 device_failures NotUtf8 = 0
 device_failures Memory = 0
 device_failures Device = 1
-device_failures NotYet = 0
 
 -- a fault of a call that uses no device
 abbrev pub IsRefusal : Fault → Type 0
 IsRefusal NotUtf8 = ⊥
 IsRefusal Memory = Unit {0}
 IsRefusal Device = ⊥
-IsRefusal NotYet = Unit {0}
 
 -- a fault of a call that reads bytes
 abbrev pub IsReadFault : Fault → Type 0
 IsReadFault NotUtf8 = ⊥
 IsReadFault Memory = Unit {0}
 IsReadFault Device = Unit {0}
-IsReadFault NotYet = ⊥
 
 -- how many failures of its device a call reports
 abbrev pub reported_failures : {T : Type 0} → Result T Fault → ℕ

@@ -2,9 +2,9 @@
 use Rattle.std.specs.Prelude.{◌≡◌, ℕ, ◌+◌, List, [], ◌++◌, ◌⊎◌, Option, Some, IsSome, IsSomeAnd, codes, decimal}
 use Rattle.std.specs.Io.KnownBytes.{Appends}
 use Rattle.html5tok.specs.Device.{AppendsBeginning, device_failures}
-use Rattle.html5tok.specs.Printing.{PrintsReading, PrintsBeginning, PrintsNotYet}
+use Rattle.html5tok.specs.Printing.{PrintsReading, PrintsBeginning}
 use Rattle.html5tok.specs.Settings.{settings_said}
-use Rattle.html5tok.specs.declared.fault.Fault.TheVariants.{NotUtf8, Memory, Device, NotYet}
+use Rattle.html5tok.specs.declared.fault.Fault.TheVariants.{NotUtf8, Memory, Device}
 use Rattle.html5tok.specs.declared.run.Ending.{Ending}
 use Rattle.html5tok.specs.declared.run.Ending.TheVariants.{Printed, Usage, NoTable, Faulted}
 use Rattle.markup5ever.specs.NamedReferences.{first_fault}
@@ -21,7 +21,6 @@ status_of (NoTable (table.RepeatedName place)) = 4
 status_of (Faulted NotUtf8) = 3
 status_of (Faulted Memory) = 5
 status_of (Faulted Device) = 6
-status_of (Faulted NotYet) = 7
 
 abbrev pub line_of : Ending → List ℕ
 line_of Printed = []
@@ -33,7 +32,6 @@ line_of (NoTable (table.RepeatedName place)) = codes "table: repeated name at " 
 line_of (Faulted NotUtf8) = codes "input is not UTF-8\n"
 line_of (Faulted Memory) = codes "out of memory\n"
 line_of (Faulted Device) = codes "read or write failed\n"
-line_of (Faulted NotYet) = codes "not built yet\n"
 
 -- how many failures of its devices an ending tells
 abbrev pub failures_of : Ending → ℕ
@@ -71,8 +69,3 @@ PrintsAsSaid words unread left written after =
 abbrev pub PrintsBeginningAsSaid : List (List ℕ) → Option (List ℕ) → Option (List ℕ) → Option (List ℕ) → Option (List ℕ) → Type 0
 PrintsBeginningAsSaid words unread left written after =
     IsSomeAnd (settings_said words) (λ settings. PrintsBeginning settings unread left written after)
-
--- the words say some settings, and by these the text meets what isn't built yet, so nothing was printed
-abbrev pub PrintsNotYetAsSaid : List (List ℕ) → Option (List ℕ) → Option (List ℕ) → Option (List ℕ) → Option (List ℕ) → Type 0
-PrintsNotYetAsSaid words unread left written after =
-    IsSomeAnd (settings_said words) (λ settings. PrintsNotYet settings unread left written after)

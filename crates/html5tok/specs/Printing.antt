@@ -7,23 +7,12 @@ use Rattle.html5print.specs.Page.{blank_page, page_step, page_reply, page_foreig
 use Rattle.html5print.specs.Printed.{printed}
 use Rattle.html5grammar.specs.Reading.{reading, messages, after}
 use Rattle.html5grammar.specs.Start.{Open, start_of}
-use Rattle.html5grammar.specs.Start.Open.{NotBuilt}
 use Rattle.html5tok.specs.Settings.{SettingsOf, rules_said}
-use Rattle.html5parts.specs.Steps.{IsBuilt}
 
 -- the printed lines of the reading of a text, whose bytes are given: the cut is not in it
 unfoldable pub printed_reading : SettingsOf → List ℕ → List ℕ
 printed_reading settings bytes =
     printed (messages (reading page_step page_reply page_foreign (rules_said settings) (start_of settings.opts) (blank_page settings.foreign) (chars bytes)))
-
--- what is open behind the text of the bytes
-abbrev pub open_behind_text : SettingsOf → List ℕ → Open
-open_behind_text settings bytes =
-    (after page_step page_reply page_foreign (rules_said settings) (start_of settings.opts) (blank_page settings.foreign) (chars bytes)).opened
-
--- the text of the bytes meets nothing that isn't built yet
-abbrev pub IsWholeBuilt : SettingsOf → List ℕ → Type 0
-IsWholeBuilt settings bytes = IsBuilt (open_behind_text settings bytes)
 
 -- the reader was read to its end, what it gave is UTF-8, and what was written is its printed reading
 pub record PrintsReading (settings : SettingsOf) (unread left written after : Option (List ℕ)) : Type 0 where
@@ -31,7 +20,6 @@ pub record PrintsReading (settings : SettingsOf) (unread left written after : Op
   pub consumed : Consumes unread left bytes
   pub at_end : IsAtEnd left
   pub utf8 : IsUtf8 bytes
-  pub built : IsWholeBuilt settings bytes
   pub printed : Appends written after (printed_reading settings bytes)
 
 -- the same, but only a beginning was written
@@ -40,7 +28,6 @@ pub record PrintsBeginning (settings : SettingsOf) (unread left written after : 
   pub consumed : Consumes unread left bytes
   pub at_end : IsAtEnd left
   pub utf8 : IsUtf8 bytes
-  pub built : IsWholeBuilt settings bytes
   pub printed : AppendsBeginning written after (printed_reading settings bytes)
 
 -- the reader was read to its end, what it gave is no UTF-8, and nothing was written
@@ -49,13 +36,4 @@ pub record PrintsNothing (unread left written after : Option (List ℕ)) : Type 
   pub consumed : Consumes unread left bytes
   pub at_end : IsAtEnd left
   pub no_utf8 : ¬ IsUtf8 bytes
-  pub kept : Keeps written after
-
--- the reader was read to its end, what it gave is UTF-8, its text meets what isn't built yet, and nothing was written
-pub record PrintsNotYet (settings : SettingsOf) (unread left written after : Option (List ℕ)) : Type 0 where
-  pub bytes : List ℕ
-  pub consumed : Consumes unread left bytes
-  pub at_end : IsAtEnd left
-  pub utf8 : IsUtf8 bytes
-  pub not_built : open_behind_text settings bytes ≡ NotBuilt
   pub kept : Keeps written after

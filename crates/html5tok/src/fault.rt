@@ -12,8 +12,6 @@ pub enum Fault {
     Memory,
     /// A read or a write failed.
     Device,
-    /// The input has what is not built yet.
-    NotYet,
 }
 
 impl From<AllocError> for Fault {

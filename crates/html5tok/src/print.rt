@@ -5,9 +5,9 @@ ghost use Rattle.html5tok.specs.Device.{IsRefusal, reported_failures};
 ghost use Rattle.html5print.specs.Page.{page_step, page_reply, page_foreign};
 ghost use Rattle.html5ever_interface.specs.Options.{options_of};
 ghost use Rattle.html5tok.specs.Settings.{options_said, said_by};
-ghost use Rattle.html5tok.specs.Printing.{printed_reading, open_behind_text, IsWholeBuilt, PrintsNotYet, PrintsReading, PrintsBeginning, PrintsNothing};
-ghost use Rattle.html5grammar.specs.Start.Open.{NotBuilt};
-ghost use Rattle.html5ever.specs.Tokenizer.{CanStart, ReadsOn, MeetsNotBuilt};
+ghost use Rattle.html5tok.specs.Printing.{printed_reading, PrintsReading, PrintsBeginning, PrintsNothing};
+ghost use Rattle.html5reading.specs.Starting.{CanStart};
+ghost use Rattle.html5ever.specs.Tokenizer.{ReadsOn};
 ghost use Rattle.markup5ever.specs.NamedReferences.{table_of};
 
 use crate::device::{Source, Target, read_to_end, write_all};
@@ -45,11 +45,9 @@ pub struct Settings<'w> {
 fn fault_of(error: TokenizerError) -> Fault
     requires { error ≢ TokenizerError.Failed }
     ensures refusal { IsRefusal result }
-    ensures not_yet { (result ≡ Fault.NotYet) ↔ (error ≡ TokenizerError.NotYet) }
 {
     match error {
         TokenizerError::Memory | TokenizerError::Sink => Fault::Memory,
-        TokenizerError::NotYet => Fault::NotYet,
         TokenizerError::Failed => unreachable!(),
     }
 }
@@ -66,9 +64,6 @@ fn feed_piece<A: Allocator + Copy>(
     ensures reads { OnOk result (ReadsOn (λ sink. sink.page) page_step page_reply page_foreign
         tokenizer.old tokenizer.new (chars (string_bytes piece))) }
     ensures taken { OnOk result (queue.new.text ≡ []) }
-    ensures not_yet { result ≡ Err Fault.NotYet
-        → MeetsNotBuilt (λ sink. sink.page) page_step page_reply page_foreign
-        tokenizer.old (chars (string_bytes piece)) }
     ensures rules { tokenizer.new.rules ≡ tokenizer.old.rules }
     ensures going_on { tokenizer.new.ended ≡ false }
     ensures not_failed { OnOk result (tokenizer.new.failed ≡ false) }
@@ -158,9 +153,6 @@ fn feed_text<A: Allocator + Copy>(
     requires not_failed { tokenizer.old.failed ≡ false }
     ensures reads { OnOk result (ReadsOn (λ sink. sink.page) page_step page_reply page_foreign
         tokenizer.old tokenizer.new (chars (string_bytes text))) }
-    ensures not_yet { result ≡ Err Fault.NotYet
-        → MeetsNotBuilt (λ sink. sink.page) page_step page_reply page_foreign
-        tokenizer.old (chars (string_bytes text)) }
     ensures rules { tokenizer.new.rules ≡ tokenizer.old.rules }
     ensures going_on { tokenizer.new.ended ≡ false }
     ensures not_failed { OnOk result (tokenizer.new.failed ≡ false) }
@@ -216,9 +208,6 @@ fn print_text<A: Allocator + Copy>(
     requires start { CanStart settings.now.initial_state }
     requires names { names.now ≡ table_of (said_by settings.now).table }
     ensures ok { IfOk result (λ sink. sink.page.lines ≡ printed_reading (said_by settings.now) (string_bytes text)) }
-    ensures built { OnOk result (IsWholeBuilt (said_by settings.now) (string_bytes text)) }
-    ensures not_yet { result ≡ Err Fault.NotYet
-        → open_behind_text (said_by settings.now) (string_bytes text) ≡ NotBuilt }
     ensures err { IfErr result IsRefusal }
 {
     let sink = PrintSink::new(alloc, settings.foreign);
@@ -247,9 +236,6 @@ pub fn print_tokens<R: Source, W: Target, A: Allocator + Copy>(
     // When each fault comes, and what it leaves.
     ensures not_utf8 { result ≡ Err Fault.NotUtf8
         → PrintsNothing
-        (R.remaining reader.old) (R.remaining reader.new) (W.contents writer.old) (W.contents writer.new) }
-    ensures not_yet { result ≡ Err Fault.NotYet
-        → PrintsNotYet (said_by settings.now)
         (R.remaining reader.old) (R.remaining reader.new) (W.contents writer.old) (W.contents writer.new) }
     ensures beginning { OnErr result (Keeps (W.contents writer.old) (W.contents writer.new)
         ⊎ PrintsBeginning (said_by settings.now)

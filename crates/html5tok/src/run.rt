@@ -1,7 +1,7 @@
 //! A run of the program, over any devices.
 ghost use Rattle.std.specs.Prelude.{◌≡◌, ◌≢◌, ◌+◌, ◌≤◌, ◌⊎◌, ◌↔◌, ◌∷◌, ◌++◌, [], Contains, IsNone, IfErr, codes, decimal, length, map, string_bytes, nat_eq, if◌then◌else◌};
 ghost use Rattle.std.specs.Io.KnownBytes.{Keeps};
-ghost use Rattle.html5tok.specs.Ending.{status_of, line_of, failures_of, TriesLine, PrintsAsSaid, PrintsBeginningAsSaid, PrintsNotYetAsSaid};
+ghost use Rattle.html5tok.specs.Ending.{status_of, line_of, failures_of, TriesLine, PrintsAsSaid, PrintsBeginningAsSaid};
 ghost use Rattle.html5tok.specs.Ending.{IsNoTable, SayFault, SayBadTable};
 ghost use Rattle.html5tok.specs.Printing.{PrintsNothing};
 ghost use Rattle.html5tok.specs.Settings.{settings_said};
@@ -57,7 +57,6 @@ impl Ending {
             Ending::NoTable(TableError::Memory) => 5,
             Ending::Faulted(Fault::Memory) => 5,
             Ending::Faulted(Fault::Device) => 6,
-            Ending::Faulted(Fault::NotYet) => 7,
         }
     }
 
@@ -74,7 +73,6 @@ impl Ending {
             Ending::Faulted(Fault::NotUtf8) => line_with("input is not UTF-8\n"),
             Ending::Faulted(Fault::Memory) => line_with(OUT_OF_MEMORY),
             Ending::Faulted(Fault::Device) => line_with("read or write failed\n"),
-            Ending::Faulted(Fault::NotYet) => line_with("not built yet\n"),
         }
     }
 }
@@ -154,9 +152,6 @@ fn print_by_words<R: Source, W: Target, A: Allocator + Copy>(
     ensures not_utf8 { result ≡ Ending.Faulted Fault.NotUtf8
         → PrintsNothing
         (R.remaining reader.old) (R.remaining reader.new) (W.contents writer.old) (W.contents writer.new) }
-    ensures not_yet { result ≡ Ending.Faulted Fault.NotYet
-        → PrintsNotYetAsSaid (map string_bytes words.now)
-        (R.remaining reader.old) (R.remaining reader.new) (W.contents writer.old) (W.contents writer.new) }
     ensures beginning { result ≢ Ending.Printed → Keeps (W.contents writer.old) (W.contents writer.new)
         ⊎ PrintsBeginningAsSaid (map string_bytes words.now)
         (R.remaining reader.old) (R.remaining reader.new) (W.contents writer.old) (W.contents writer.new) }
@@ -199,7 +194,7 @@ pub fn run<R: Source, W: Target, E: Target, A: Allocator + Copy>(
     writer: &mut W,
     errors: &mut E,
 ) -> u8
-    ensures status { Contains (0 ∷ 2 ∷ 3 ∷ 4 ∷ 5 ∷ 6 ∷ 7 ∷ []) result }
+    ensures status { Contains (0 ∷ 2 ∷ 3 ∷ 4 ∷ 5 ∷ 6 ∷ []) result }
 
     // What each status says.
     ensures printed { result ≡ 0
@@ -215,9 +210,6 @@ pub fn run<R: Source, W: Target, E: Target, A: Allocator + Copy>(
         → Contains (4 ∷ 5 ∷ []) result × (reader.new ≡ reader.old) × (writer.new ≡ writer.old) }
     ensures not_utf8 { result ≡ 3
         → PrintsNothing
-        (R.remaining reader.old) (R.remaining reader.new) (W.contents writer.old) (W.contents writer.new) }
-    ensures not_yet { result ≡ 7
-        → PrintsNotYetAsSaid (map string_bytes words.items)
         (R.remaining reader.old) (R.remaining reader.new) (W.contents writer.old) (W.contents writer.new) }
     ensures beginning { result ≢ 0 → Keeps (W.contents writer.old) (W.contents writer.new)
         ⊎ PrintsBeginningAsSaid (map string_bytes words.items)

@@ -9,7 +9,6 @@ fn displays_each_error_by_a_text_of_its_own(rt: HostRuntime) -> Result<(), Fail>
         TokenizerError::Memory,
         TokenizerError::Sink,
         TokenizerError::Failed,
-        TokenizerError::NotYet,
     ];
     for error in errors {
         let text = format!(in alloc; "{error}")?;

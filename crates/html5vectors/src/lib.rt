@@ -2,6 +2,8 @@
 #![tactic(auto)]
 
 #[cfg(test)]
+mod calls;
+#[cfg(test)]
 mod cdata_cases;
 #[cfg(test)]
 mod characters;
@@ -19,6 +21,8 @@ mod examples;
 mod faults;
 #[cfg(test)]
 mod kept_parts;
+#[cfg(test)]
+mod keys;
 #[cfg(test)]
 mod lines;
 #[cfg(test)]

@@ -3,7 +3,7 @@ use crate::names::table;
 use crate::running::{Case, check_case, check_case_by};
 use std::test::Fail;
 
-const REFERENCES: [Case<'static>; 25] = [
+const REFERENCES: [Case<'static>; 26] = [
     (
         "the longest name",
         &["&notin;"],
@@ -129,6 +129,13 @@ const REFERENCES: [Case<'static>; 25] = [
         &["<a b=&noti"],
         false,
         "error 1 \"Saw EOF in state AttributeValue(Unquoted)\"\n\
+         eof 1",
+    ),
+    (
+        "a name's beginning in a quoted value at the end",
+        &["<a b=\"&am"],
+        false,
+        "error 1 \"Saw EOF in state AttributeValue(DoubleQuoted)\"\n\
          eof 1",
     ),
     (

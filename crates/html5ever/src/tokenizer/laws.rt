@@ -13,12 +13,11 @@ ghost use Rattle.html5grammar.specs.OneTag.{WrittenTag, IsTag, tag_messages};
 ghost use Rattle.html5grammar.specs.WrittenRaw.{WrittenRaw, IsRawText, raw_messages};
 ghost use Rattle.html5grammar.specs.Reading.{reading, messages, after};
 ghost use Rattle.html5grammar.specs.Start.{Raw, Start, Rules, start_of};
-ghost use Rattle.html5grammar.specs.Start.Open.{NotBuilt};
 ghost use Rattle.html5ever.specs.RunSteps.{run_text};
 ghost use Rattle.html5ever.specs.RunSteps.StepOf.{AtBack};
-ghost use Rattle.html5states.specs.Telling.{IsRefusal, IsNotFailed, faults_of};
-ghost use Rattle.html5parts.specs.Steps.{IsBuilt};
-ghost use Rattle.html5ever.specs.Tokenizer.{CanStart, rules_of, IsBuiltBehind, MeetsNotBuilt, ReadsWhole, StopsWhole, WholeStops, collected_of, opened_collecting};
+ghost use Rattle.html5states.specs.Telling.{IsRefusal, faults_of};
+ghost use Rattle.html5reading.specs.Starting.{CanStart};
+ghost use Rattle.html5ever.specs.Tokenizer.{rules_of, ReadsWhole, StopsWhole, EndStops, collected_of};
 
 use crate::tokenizer::Tokenizer;
 use crate::tokenizer::steps::feed_until_done;
@@ -43,9 +42,6 @@ fn read_whole<S: TokenSink<Token<A>>, A: Allocator + Copy>(
         (chars (string_bytes text)) (S.state tokenizer.new.sink)) }
     ensures stops { IfErr result (λ error. StopsWhole S.state S.step S.reply S.foreign S.faulted S.end_faulted
         error tokenizer.old (chars (string_bytes text)) (S.state tokenizer.new.sink)) }
-    ensures built { OnOk result (IsBuiltBehind S.state S.step S.reply S.foreign tokenizer.old (chars (string_bytes text))) }
-    ensures not_yet { result ≡ Err TokenizerError.NotYet
-        → MeetsNotBuilt S.state S.step S.reply S.foreign tokenizer.old (chars (string_bytes text)) }
     ensures faults { S.faults tokenizer.new.sink ≡ S.faults tokenizer.old.sink + faults_of result }
 {
     let mut queue = BufferQueue::new(alloc);
@@ -69,14 +65,9 @@ pub fn closed<S: TokenSink<Token<A>>, A: Allocator + Copy>(
     ensures finishes { OnOk result.1 (S.state result.0 ≡ S.finish (stepped S.step (S.state sink)
         (messages (reading S.step S.reply S.foreign (rules_of (options_of opts) names.now) (start_of (options_of opts)) (S.state sink)
         (chars (string_bytes text)))))) }
-    ensures stops { IfErr result.1 (λ error. WholeStops S.step S.faulted S.end_faulted error (S.state sink)
+    ensures stops { IfErr result.1 (λ error. EndStops S.step S.faulted S.end_faulted error (S.state sink)
         (messages (reading S.step S.reply S.foreign (rules_of (options_of opts) names.now) (start_of (options_of opts)) (S.state sink)
         (chars (string_bytes text)))) (S.state result.0)) }
-    ensures built { OnOk result.1 (IsBuilt (after S.step S.reply S.foreign (rules_of (options_of opts) names.now) (start_of (options_of opts))
-        (S.state sink) (chars (string_bytes text))).opened) }
-    ensures not_yet { result.1 ≡ Err TokenizerError.NotYet
-        → (after S.step S.reply S.foreign (rules_of (options_of opts) names.now) (start_of (options_of opts)) (S.state sink)
-        (chars (string_bytes text))).opened ≡ NotBuilt }
     ensures faults { S.faults result.0 ≡ S.faults sink + faults_of result.1 }
 {
     let mut tokenizer = Tokenizer::new(alloc, sink, opts, names);
@@ -94,11 +85,8 @@ fn collect<A: Allocator + Copy>(
 ) -> Result<Collector<A>, TokenizerError>
     requires { CanStart opts.initial_state }
     ensures reads { IfOk result (λ sink. sink.collected ≡ collected_of (options_of opts) names.now foreign (chars (string_bytes text))) }
-    ensures built { OnOk result (IsBuilt (opened_collecting (options_of opts) names.now foreign (chars (string_bytes text)))) }
-    ensures not_yet { result ≡ Err TokenizerError.NotYet
-        → opened_collecting (options_of opts) names.now foreign (chars (string_bytes text)) ≡ NotBuilt }
     ensures no_fault { IfOk result (λ sink. sink.faults ≡ 0) }
-    ensures not_failed { IfErr result IsNotFailed }
+    ensures refusal { IfErr result IsRefusal }
 {
     let sink = Collector::new(alloc, foreign);
     let (sink, read) = closed(alloc, sink, opts, names, text);
@@ -126,13 +114,8 @@ pub fn tag<A: Allocator + Copy>(
           finished = true;
           foreign = foreign;
         }) }
-    ensures built { OnOk result (IsBuilt (opened_collecting (options_of opts) names.now foreign (chars (string_bytes text)))) }
-    ensures not_yet { result ≡ Err TokenizerError.NotYet
-        → opened_collecting (options_of opts) names.now foreign (chars (string_bytes text)) ≡ NotBuilt }
     ensures no_fault { IfOk result (λ sink. sink.faults ≡ 0) }
-    ensures not_failed { IfErr result IsNotFailed }
-    ensures refusals { IfErr result (λ error. (tag : WrittenTag) →
-        IsTag (start_of (options_of opts)) (chars (string_bytes text)) tag → IsRefusal error) }
+    ensures refusal { IfErr result IsRefusal }
 {
     collect(alloc, opts, foreign, names, text)
 }
@@ -155,13 +138,8 @@ pub fn reference<A: Allocator + Copy>(
           finished = true;
           foreign = foreign;
         }) }
-    ensures built { OnOk result (IsBuilt (opened_collecting (options_of opts) names.now foreign (chars (string_bytes text)))) }
-    ensures not_yet { result ≡ Err TokenizerError.NotYet
-        → opened_collecting (options_of opts) names.now foreign (chars (string_bytes text)) ≡ NotBuilt }
     ensures no_fault { IfOk result (λ sink. sink.faults ≡ 0) }
-    ensures not_failed { IfErr result IsNotFailed }
-    ensures refusals { IfErr result (λ error. (reference : WrittenReference) →
-        IsReference names.now (start_of (options_of opts)) (chars (string_bytes text)) reference → IsRefusal error) }
+    ensures refusal { IfErr result IsRefusal }
 {
     names.is_checked();
     collect(alloc, opts, foreign, names, text)
@@ -183,13 +161,8 @@ pub fn raw<A: Allocator + Copy>(
         IsRawText (start_of (options_of opts)) (chars (string_bytes text)) raw name written →
         sink.collected ≡ collected_finish (stepped collected_step (none_collected foreign)
         (raw_messages opts.exact_errors (start_of (options_of opts)).input raw written))) }
-    ensures built { OnOk result (IsBuilt (opened_collecting (options_of opts) names.now foreign (chars (string_bytes text)))) }
-    ensures not_yet { result ≡ Err TokenizerError.NotYet
-        → opened_collecting (options_of opts) names.now foreign (chars (string_bytes text)) ≡ NotBuilt }
     ensures no_fault { IfOk result (λ sink. sink.faults ≡ 0) }
-    ensures not_failed { IfErr result IsNotFailed }
-    ensures refusals { IfErr result (λ error. (raw : Raw) (name : List ℕ) (written : WrittenRaw) →
-        IsRawText (start_of (options_of opts)) (chars (string_bytes text)) raw name written → IsRefusal error) }
+    ensures refusal { IfErr result IsRefusal }
 {
     collect(alloc, opts, foreign, names, text)
 }
@@ -212,13 +185,8 @@ pub fn comment<A: Allocator + Copy>(
           finished = true;
           foreign = foreign;
         }) }
-    ensures built { OnOk result (IsBuilt (opened_collecting (options_of opts) names.now foreign (chars (string_bytes text)))) }
-    ensures not_yet { result ≡ Err TokenizerError.NotYet
-        → opened_collecting (options_of opts) names.now foreign (chars (string_bytes text)) ≡ NotBuilt }
     ensures no_fault { IfOk result (λ sink. sink.faults ≡ 0) }
-    ensures not_failed { IfErr result IsNotFailed }
-    ensures refusals { IfErr result (λ error. (comment : WrittenComment) →
-        IsComment (start_of (options_of opts)) foreign (chars (string_bytes text)) comment → IsRefusal error) }
+    ensures refusal { IfErr result IsRefusal }
 {
     collect(alloc, opts, foreign, names, text)
 }
@@ -241,13 +209,8 @@ pub fn doctype<A: Allocator + Copy>(
           finished = true;
           foreign = foreign;
         }) }
-    ensures built { OnOk result (IsBuilt (opened_collecting (options_of opts) names.now foreign (chars (string_bytes text)))) }
-    ensures not_yet { result ≡ Err TokenizerError.NotYet
-        → opened_collecting (options_of opts) names.now foreign (chars (string_bytes text)) ≡ NotBuilt }
     ensures no_fault { IfOk result (λ sink. sink.faults ≡ 0) }
-    ensures not_failed { IfErr result IsNotFailed }
-    ensures refusals { IfErr result (λ error. (doctype : WrittenDoctype) →
-        IsDoctype (start_of (options_of opts)) (chars (string_bytes text)) doctype → IsRefusal error) }
+    ensures refusal { IfErr result IsRefusal }
 {
     collect(alloc, opts, foreign, names, text)
 }
@@ -270,13 +233,8 @@ pub fn cdata<A: Allocator + Copy>(
           finished = true;
           foreign = foreign;
         }) }
-    ensures built { OnOk result (IsBuilt (opened_collecting (options_of opts) names.now foreign (chars (string_bytes text)))) }
-    ensures not_yet { result ≡ Err TokenizerError.NotYet
-        → opened_collecting (options_of opts) names.now foreign (chars (string_bytes text)) ≡ NotBuilt }
     ensures no_fault { IfOk result (λ sink. sink.faults ≡ 0) }
-    ensures not_failed { IfErr result IsNotFailed }
-    ensures refusals { IfErr result (λ error. (cdata : WrittenCdata) →
-        IsCdata (start_of (options_of opts)) foreign (chars (string_bytes text)) cdata → IsRefusal error) }
+    ensures refusal { IfErr result IsRefusal }
 {
     collect(alloc, opts, foreign, names, text)
 }

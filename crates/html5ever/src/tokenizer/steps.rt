@@ -4,13 +4,12 @@ ghost use Rattle.html5ever_interface.specs.Options.{options_of};
 ghost use Rattle.html5ever_interface.specs.Sink.{stepped};
 ghost use Rattle.html5grammar.specs.Reading.{reading, messages, after};
 ghost use Rattle.html5grammar.specs.Start.{start_of, held_len};
-ghost use Rattle.html5grammar.specs.Start.Open.{NotBuilt};
-ghost use Rattle.html5ever.specs.Feed.{IsEndOf, IsLinear};
+ghost use Rattle.html5reading.specs.Feed.{IsEndOf, IsLinear};
 ghost use Rattle.html5states.specs.Telling.{faults_of};
-ghost use Rattle.html5ever.specs.RunSteps.{step_of, waiting_with, run_text, FinishesRun, StopsRun, IsBuiltInRun, MeetsInRun};
-ghost use Rattle.html5parts.specs.Steps.{IsBuilt};
-ghost use Rattle.html5ever.specs.Tokenizer.{CanStart, rules_of, ReadsOn, MeetsNotBuilt, StopsReading, WholeStops};
-ghost use Rattle.html5ever.specs.Tokenizer.{FeedsOn, LeavesWaiting, FeedMeetsNotBuilt, StopsFeeding};
+ghost use Rattle.html5ever.specs.RunSteps.{step_of, waiting_with, run_text, FinishesRun, StopsRun};
+ghost use Rattle.html5reading.specs.Starting.{CanStart};
+ghost use Rattle.html5ever.specs.Tokenizer.{rules_of, ReadsOn, StopsReading, EndStops};
+ghost use Rattle.html5ever.specs.Tokenizer.{FeedsOn, LeavesWaiting, StopsFeeding};
 
 use crate::tokenizer::Tokenizer;
 use html5ever_interface::interface::sink::TokenSink;
@@ -35,8 +34,6 @@ pub fn feed_until_done<S: TokenSink<Token<A>>, A: Allocator + Copy>(
 
     // When each error comes, and what it leaves.
     ensures failed_before { (result ≡ Err TokenizerError.Failed) ↔ (tokenizer.old.failed ≡ true) }
-    ensures not_yet { result ≡ Err TokenizerError.NotYet
-        → MeetsNotBuilt S.state S.step S.reply S.foreign tokenizer.old queue.old.text }
     ensures stops { IfErr result (λ error. StopsReading S.state S.step S.reply S.foreign S.faulted
         error tokenizer.old queue.old.text (S.state tokenizer.new.sink)) }
     ensures faults { S.faults tokenizer.new.sink ≡ S.faults tokenizer.old.sink + faults_of result }
@@ -92,8 +89,6 @@ fn feed_once<S: TokenSink<Token<A>>, A: Allocator + Copy>(
     requires not_failed { tokenizer.old.failed ≡ false }
     ensures reads { OnOk result (FeedsOn S.state S.step S.reply S.foreign tokenizer.old tokenizer.new queue.old.text) }
     ensures left { OnOk result (LeavesWaiting S.state S.step S.reply S.foreign tokenizer.old queue.old.text queue.new.text) }
-    ensures not_yet { result ≡ Err TokenizerError.NotYet
-        → FeedMeetsNotBuilt S.state S.step S.reply S.foreign tokenizer.old queue.old.text }
     ensures stops { IfErr result (λ error. StopsFeeding S.state S.step S.reply S.foreign S.faulted
         error tokenizer.old queue.old.text (S.state tokenizer.new.sink)) }
     ensures faults { S.faults tokenizer.new.sink ≡ S.faults tokenizer.old.sink + faults_of result }
@@ -120,9 +115,6 @@ fn take_steps<S: TokenSink<Token<A>>, A: Allocator + Copy>(
         (map step_of steps.items) (S.state tokenizer.new.sink)) }
     ensures stops { IfErr result (λ error. StopsRun S.state S.step S.reply S.foreign S.faulted S.end_faulted
         error tokenizer.old (map step_of steps.items) (S.state tokenizer.new.sink)) }
-    ensures built { OnOk result (IsBuiltInRun S.state S.step S.reply S.foreign tokenizer.old (map step_of steps.items)) }
-    ensures not_yet { result ≡ Err TokenizerError.NotYet
-        → MeetsInRun S.state S.step S.reply S.foreign tokenizer.old (map step_of steps.items) }
     ensures faults { S.faults tokenizer.new.sink ≡ S.faults tokenizer.old.sink + faults_of result }
 {
     let mut queue = BufferQueue::new(alloc);
@@ -148,16 +140,10 @@ pub fn run_steps<S: TokenSink<Token<A>>, A: Allocator + Copy>(
     ensures finishes { OnOk result.1 (S.state result.0 ≡ S.finish (stepped S.step (S.state sink)
         (messages (reading S.step S.reply S.foreign (rules_of (options_of opts) names.now) (start_of (options_of opts)) (S.state sink)
         (run_text S.step S.reply S.foreign (rules_of (options_of opts) names.now) (start_of (options_of opts)) (S.state sink) [] [] (map step_of steps.items)))))) }
-    ensures stops { IfErr result.1 (λ error. WholeStops S.step S.faulted S.end_faulted error (S.state sink)
+    ensures stops { IfErr result.1 (λ error. EndStops S.step S.faulted S.end_faulted error (S.state sink)
         (messages (reading S.step S.reply S.foreign (rules_of (options_of opts) names.now) (start_of (options_of opts)) (S.state sink)
         (run_text S.step S.reply S.foreign (rules_of (options_of opts) names.now) (start_of (options_of opts)) (S.state sink) [] [] (map step_of steps.items))))
         (S.state result.0)) }
-    ensures built { OnOk result.1 (IsBuilt (after S.step S.reply S.foreign (rules_of (options_of opts) names.now) (start_of (options_of opts)) (S.state sink)
-        (run_text S.step S.reply S.foreign (rules_of (options_of opts) names.now) (start_of (options_of opts)) (S.state sink) [] [] (map step_of steps.items))).opened) }
-    ensures not_yet { result.1 ≡ Err TokenizerError.NotYet
-        → (after S.step S.reply S.foreign (rules_of (options_of opts) names.now) (start_of (options_of opts)) (S.state sink)
-        (run_text S.step S.reply S.foreign (rules_of (options_of opts) names.now) (start_of (options_of opts)) (S.state sink) [] [] (map step_of steps.items))).opened
-        ≡ NotBuilt }
     ensures faults { S.faults result.0 ≡ S.faults sink + faults_of result.1 }
 {
     let mut tokenizer = Tokenizer::new(alloc, sink, opts, names);

@@ -1,6 +1,7 @@
 //! The tokens, and what is replied to them.
-ghost use Rattle.std.specs.Prelude.{◌≡◌, map, IfOk};
+ghost use Rattle.std.specs.Prelude.{◌≡◌, ◌↔◌, map, count_by, IfOk, IsPermutation, IsTrue};
 ghost use Rattle.markup5ever.specs.Names.{attribute_of};
+ghost use Rattle.html5ever_interface.specs.Token.{TagOf, IsEquivalent};
 
 use crate::states::RawKind;
 use markup5ever::interface::{Attribute, LocalName};
@@ -149,6 +150,53 @@ impl<A: Allocator + Copy> Tag<A> {
         })
     }
 }
+
+impl<A: Allocator> Tag<A> {
+    ghost use Rattle.html5ever_interface.specs.Token.{tag_of};
+
+    /// Whether the tags have one kind, one name and the same attributes, each as often, in any
+    /// order. The two flags are neglected. Nothing is allocated, and the time grows with the square
+    /// of the number of attributes.
+    pub fn equiv_modulo_attr_order(&self, other: &Tag<A>) -> bool
+        ensures { IsTrue result ↔ IsEquivalent (tag_of self.now) (tag_of other.now) }
+    {
+        self.kind == other.kind
+            && self.name == other.name
+            && is_permutation(&self.attrs, &other.attrs)
+    }
+}
+
+// Whether both have the same attributes, each as often, in any order.
+fn is_permutation<A: Allocator>(attrs: &[Attribute<A>], others: &[Attribute<A>]) -> bool
+    ensures { IsTrue result
+        ↔ IsPermutation (map attribute_of attrs.now) (map attribute_of others.now) }
+{
+    if attrs.len() != others.len() {
+        return false;
+    }
+    for attribute in attrs {
+        if count_of(attrs, attribute) != count_of(others, attribute) {
+            return false;
+        }
+    }
+    true
+}
+
+// How many attributes equal this one.
+fn count_of<A: Allocator>(attrs: &[Attribute<A>], attribute: &Attribute<A>) -> usize
+    ensures { result
+        ≡ count_by (λ other. ⟦<Attribute<A> as PartialEq>⟧.eq other attribute.now) attrs.now }
+{
+    attrs.iter().filter(|other| **other == *attribute).count()
+}
+
+/// To be equal but for the order of attributes and the flags is an equivalence of tags.
+pub fn equivalence_of_tags()
+    ensures reflexive { (tag : TagOf) → IsEquivalent tag tag }
+    ensures symmetric { (tag other : TagOf) → IsEquivalent tag other → IsEquivalent other tag }
+    ensures transitive { (tag other third : TagOf) → IsEquivalent tag other
+        → IsEquivalent other third → IsEquivalent tag third }
+{}
 
 // Attributes equal to these, with the same allocator.
 fn clone_attributes<A: Allocator + Copy>(

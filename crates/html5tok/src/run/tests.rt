@@ -1,5 +1,5 @@
 ghost use Rattle.std.specs.Prelude.{IsSome};
-ghost use Rattle.html5ever.specs.Tokenizer.{CanStart};
+ghost use Rattle.html5reading.specs.Starting.{CanStart};
 ghost use Rattle.html5table.specs.Listed.{listed};
 
 use super::*;
@@ -58,12 +58,24 @@ struct Ran {
     errors: Vec<u8>,
 }
 
+// Runs the program, by as much of its contract as tests need: none. So the proof of a test holds
+// nothing of what a run prints.
+fn status_of_run<R: Source, W: Target, E: Target, A: Allocator + Copy>(
+    alloc: A,
+    words: Vec<String<A>, A>,
+    reader: &mut R,
+    writer: &mut W,
+    errors: &mut E,
+) -> u8 {
+    run(alloc, words, reader, writer, errors)
+}
+
 fn run_over(alloc: Global, words: &[&str], input: &[u8]) -> Result<Ran, AllocError> {
     let mut reader = ReadSource::new(input);
     let mut writer = WriteTarget::new(Vec::new(alloc));
     let mut errors = WriteTarget::new(Vec::new(alloc));
     let words = words_of(alloc, words)?;
-    let status = run(alloc, words, &mut reader, &mut writer, &mut errors);
+    let status = status_of_run(alloc, words, &mut reader, &mut writer, &mut errors);
     Ok(Ran {
         status,
         output: writer.into_inner(),
@@ -453,7 +465,7 @@ fn tells_that_memory_ran_out(rt: HostRuntime) -> Result<(), Fail> {
         let mut reader = ReadSource::new(MIXED);
         let mut writer = WriteTarget::new(Vec::new(rt.alloc()));
         let mut errors = WriteTarget::new(Vec::new(rt.alloc()));
-        let status = run(&heap, words, &mut reader, &mut writer, &mut errors);
+        let status = status_of_run(&heap, words, &mut reader, &mut writer, &mut errors);
         let output: Vec<u8> = writer.into_inner();
         let errors: Vec<u8> = errors.into_inner();
         if !heap.has_refused() {
@@ -526,7 +538,7 @@ fn tells_that_a_read_failed(rt: HostRuntime) -> Result<(), Fail> {
         let mut writer = WriteTarget::new(Vec::new(rt.alloc()));
         let mut errors = WriteTarget::new(Vec::new(rt.alloc()));
         let words = words_of(rt.alloc(), &PLAIN)?;
-        let status = run(rt.alloc(), words, &mut reader, &mut writer, &mut errors);
+        let status = status_of_run(rt.alloc(), words, &mut reader, &mut writer, &mut errors);
         let (expected, output, line) = if reads < 7 {
             (6, "", "read or write failed\n")
         } else {
@@ -553,7 +565,7 @@ fn tells_that_a_write_failed(rt: HostRuntime) -> Result<(), Fail> {
             let mut writer = FailingTarget::new(rt.alloc(), writes, refusal);
             let mut errors = WriteTarget::new(Vec::new(rt.alloc()));
             let words = words_of(rt.alloc(), &PLAIN)?;
-            let status = run(rt.alloc(), words, &mut reader, &mut writer, &mut errors);
+            let status = status_of_run(rt.alloc(), words, &mut reader, &mut writer, &mut errors);
             let (expected, line) = if writes < MIXED_LINES.len() {
                 (6, "read or write failed\n")
             } else {
@@ -585,7 +597,7 @@ fn a_line_that_fails_changes_nothing(rt: HostRuntime) -> Result<(), Fail> {
             let mut errors = FailingTarget::new(rt.alloc(), 3, refusal);
             let words = words_of(rt.alloc(), &words)?;
             assert_eq!(rt;
-                run(rt.alloc(), words, &mut reader, &mut writer, &mut errors),
+                status_of_run(rt.alloc(), words, &mut reader, &mut writer, &mut errors),
                 status
             );
             assert_eq!(rt; errors.taken(), taken.as_bytes());

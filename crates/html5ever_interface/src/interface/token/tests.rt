@@ -39,6 +39,25 @@ fn tag_of<A: Allocator + Copy>(alloc: A) -> Result<Tag<A>, AllocError> {
     })
 }
 
+// A start tag with these names and values of attributes.
+fn start_tag<A: Allocator + Copy>(
+    alloc: A,
+    name: &str,
+    attributes: &[(&str, &str)],
+) -> Result<Tag<A>, AllocError> {
+    let mut attrs = Vec::new(alloc);
+    for (name, value) in attributes {
+        attrs.push(attribute_of(alloc, None, name, value)?)?;
+    }
+    Ok(Tag {
+        kind: TagKind::StartTag,
+        name: LocalName(text(alloc, name)?),
+        self_closing: false,
+        attrs,
+        had_duplicate_attributes: false,
+    })
+}
+
 #[test]
 fn clones_are_equal(rt: HostRuntime) -> Result<(), Fail> {
     let alloc = rt.alloc();
@@ -74,4 +93,46 @@ fn a_doctype_is_empty_at_first(rt: HostRuntime) {
     assert!(rt; doctype.public_id.is_none());
     assert!(rt; doctype.system_id.is_none());
     assert!(rt; !doctype.force_quirks);
+}
+
+#[test]
+fn the_order_of_attributes_and_the_flags_are_neglected(rt: HostRuntime) -> Result<(), Fail> {
+    let alloc = rt.alloc();
+    let tag = start_tag(alloc, "a", &[("x", "1"), ("y", "2")])?;
+    let mut other = start_tag(alloc, "a", &[("y", "2"), ("x", "1")])?;
+    other.self_closing = true;
+    assert!(rt; tag.equiv_modulo_attr_order(&other));
+    other.had_duplicate_attributes = true;
+    assert!(rt; tag.equiv_modulo_attr_order(&other));
+    let empty = start_tag(alloc, "a", &[])?;
+    assert!(rt; empty.equiv_modulo_attr_order(&start_tag(alloc, "a", &[])?));
+    Ok(())
+}
+
+#[test]
+fn all_else_of_a_tag_counts(rt: HostRuntime) -> Result<(), Fail> {
+    let alloc = rt.alloc();
+    let tag = start_tag(alloc, "a", &[("x", "1"), ("y", "2")])?;
+    let name = start_tag(alloc, "b", &[("x", "1"), ("y", "2")])?;
+    assert!(rt; !tag.equiv_modulo_attr_order(&name));
+    let mut kind = start_tag(alloc, "a", &[("x", "1"), ("y", "2")])?;
+    kind.kind = TagKind::EndTag;
+    assert!(rt; !tag.equiv_modulo_attr_order(&kind));
+    let more = start_tag(alloc, "a", &[("x", "1"), ("y", "2"), ("z", "3")])?;
+    assert!(rt; !tag.equiv_modulo_attr_order(&more));
+    assert!(rt; !more.equiv_modulo_attr_order(&tag));
+    let value = start_tag(alloc, "a", &[("x", "1"), ("y", "3")])?;
+    assert!(rt; !tag.equiv_modulo_attr_order(&value));
+    Ok(())
+}
+
+#[test]
+fn each_attribute_counts_as_often_as_it_stands(rt: HostRuntime) -> Result<(), Fail> {
+    let alloc = rt.alloc();
+    let first_twice = start_tag(alloc, "a", &[("x", "1"), ("x", "1"), ("y", "2")])?;
+    let second_twice = start_tag(alloc, "a", &[("x", "1"), ("y", "2"), ("y", "2")])?;
+    assert!(rt; !first_twice.equiv_modulo_attr_order(&second_twice));
+    let turned = start_tag(alloc, "a", &[("y", "2"), ("x", "1"), ("x", "1")])?;
+    assert!(rt; first_twice.equiv_modulo_attr_order(&turned));
+    Ok(())
 }

@@ -5,11 +5,12 @@ use Rattle.std.proofs.lemmas.List.Elements.{All-weaker}
 use Rattle.std.proofs.lemmas.Str.{encodes-chars}
 use Rattle.html5grammar.specs.Characters.{null, value_bytes}
 use Rattle.html5grammar.specs.Cdata.{open_cdata}
-use Rattle.html5grammar.specs.Start.{is_clean}
+use Rattle.html5grammar.specs.Start.{is_clean, held_len}
 use Rattle.html5grammar.specs.Start.Open.{InTag, InComment, InBogusComment}
 use Rattle.html5grammar.specs.Start.Place.{InValue}
 use Rattle.html5parts.specs.CurrentTag.{open_tag}
-use Rattle.html5parts.specs.Runs.{run_ends}
+use Rattle.html5parts.specs.Runs.{run_ends, opened_after_run}
+use Rattle.html5parts.proofs.CommentStates.{open-comment}
 use Rattle.html5parts.proofs.RunSteps.{value_bytes-run, no_null}
 use Rattle.html5parts.proofs.Sections.{section-run, held_len-section}
 use Rattle.html5parts.proofs.runs.push_run.Goals as goal
@@ -28,12 +29,21 @@ returns-in_ok-push_str-in-AttributeValue g c =
       held = rw c.in-AttributeValue.is refl;
     }
 
-pub returns-in_ok-push_str-in-Comment-clause-run : goal.returns-in_ok-push_str-in-Comment-clause-run
-returns-in_ok-push_str-in-Comment-clause-run g c =
+pub returns-in_ok-push_str-in_default : goal.returns-in_ok-push_str-in_default
+returns-in_ok-push_str-in_default g c =
     let run = chars c.args.run.now in
     let value : flat_map value_bytes run ≡ c.args.run.now =
     value_bytes-run run (All-weaker (λ d. ¬ Contains (run_ends c.requires.is_run.others) d) (λ d. d ≢ null) (no_null c.requires.is_run.others) run c.requires.is_run.ordinary) ∙ encodes-chars c.args.run.now c.utf8.run in
-    rw c.in-Comment.is (ap InComment (c.in_ok-push_str-in-Comment.ensures.bytes ∙ ap (λ l. string_bytes c.args.at.now.comment ++ l) (sym value)))
+    let is_comment = sym c.is_comment_state.ensures ∙ c.if-is_comment_state.true in
+    let open_then = open-comment c.args.at.now.state (record c.args.at.now { comment = c.push_str-in_default.new.self }) is_comment in
+    record {
+      run =
+          open_then
+          ∙ ap InComment (c.in_ok-push_str-in_default.ensures.bytes ∙ ap (λ l. string_bytes c.args.at.now.comment ++ l) (sym value))
+          ∙ ap (λ o. opened_after_run o run) (sym (open-comment c.args.at.now.state c.args.at.now is_comment));
+      last = refl;
+      held = ap held_len open_then;
+    }
 
 pub returns-in_ok-push_str-in-BogusComment-clause-run : goal.returns-in_ok-push_str-in-BogusComment-clause-run
 returns-in_ok-push_str-in-BogusComment-clause-run g c =

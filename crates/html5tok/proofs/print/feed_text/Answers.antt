@@ -1,7 +1,7 @@
 use Rattle.std.proofs.Common.{◌≡◌, ◌+◌, ◌-◌, drop, refl, ap, ◌∙◌, string_bytes, arith, Err}
 use Rattle.std.proofs.lemmas.Str.{IsUtf8-string_bytes}
 use Rattle.html5tok.proofs.Cuts.{IsCut, IsCut-further, IsCut-boundary}
-use Rattle.html5tok.proofs.Feeding.{FedTo-start, FedTo-more, FedTo-met, fault_is}
+use Rattle.html5tok.proofs.Feeding.{FedTo-start, FedTo-more, fault_is}
 use Rattle.html5tok.proofs.print.feed_text.Goals as goal
 
 pub loop-start-init : goal.loop-start-init
@@ -29,12 +29,3 @@ loop-start-preserved g c =
     let len : (c.loop-start.start + c.prefix_len.result) - c.loop-start.start ≡ c.prefix_len.result = omega arith in
     FedTo-more _ _ _ (string_bytes c.args.text) (string_bytes c.in_ok-piece.piece) c.loop-start.start c.prefix_len.result _ _ c.loop-start.invariant (IsUtf8-string_bytes c.args.text) cut
     (c.in_ok-piece.ensures.ok ∙ c.range.ensures.value ∙ rw (c.deref-in-loop-start.ensures, len) refl) c.in_ok-feed_piece.ensures.reads c.in_ok-feed_piece.ensures.rules c.in_ok-feed_piece.ensures.going_on c.in_ok-feed_piece.ensures.not_failed c.in_ok-feed_piece.ensures.taken
-
-pub returns-in_err-feed_piece-clause-not_yet : goal.returns-in_err-feed_piece-clause-not_yet
-returns-in_err-feed_piece-clause-not_yet g c = λ same.
-    let cut : IsCut (string_bytes c.args.text) (c.loop-start.start + c.prefix_len.result) =
-    IsCut-further (string_bytes c.args.text) c.range_from.result.now c.loop-start.start c.prefix_len.result c.loop-start.invariant.cut (c.range_from.ensures.value ∙ ap (drop c.loop-start.start) c.deref.ensures) c.prefix_len.ensures.within c.prefix_len.ensures.boundary.1 in
-    let len : (c.loop-start.start + c.prefix_len.result) - c.loop-start.start ≡ c.prefix_len.result = omega arith in
-    FedTo-met _ _ (string_bytes c.args.text) (string_bytes c.in_ok-piece.piece) c.loop-start.start c.prefix_len.result _ c.loop-start.invariant (IsUtf8-string_bytes c.args.text) cut
-    (c.in_ok-piece.ensures.ok ∙ c.range.ensures.value ∙ rw (c.deref-in-loop-start.ensures, len) refl)
-    (c.feed_piece-in-loop-start.ensures.not_yet (c.in_err-feed_piece.was ∙ ap Err (fault_is c.from_residual-in_err-feed_piece.result _ _ c.from_residual-in_err-feed_piece.ensures.1 same)))

@@ -7,7 +7,7 @@ use Rattle.html5grammar.specs.Start.{Start, start_of}
 use Rattle.html5ever_interface.specs.Options.{OptionsOf, options_of}
 use Rattle.html5print.specs.Page.{Page, Printer, page_step, page_reply, page_foreign}
 use Rattle.html5tok.specs.Settings.{options_said, said_by, rules_said}
-use Rattle.html5tok.proofs.PrintedPages.{printed-page, built-reading}
+use Rattle.html5tok.proofs.PrintedPages.{printed-page}
 use Rattle.html5tok.proofs.print.print_text.Goals as goal
 
 pub returns-in-Ok-clause-ok : goal.returns-in-Ok-clause-ok
@@ -22,5 +22,3 @@ returns-in-Ok-clause-ok g c =
     ∙ ap (λ (p : Page). p.lines) (c.in-Ok.ensures.finishes K c.new-sink.result.page (chars (string_bytes c.args.text)) stands)
     ∙ ap (λ (o : OptionsOf). (stepped page_step c.new-sink.result.page (messages (reading page_step page_reply page_foreign c.feed_text.new.tokenizer.rules (start_of o) c.new-sink.result.page (chars (string_bytes c.args.text))))).lines) same
     ∙ printed-page c.feed_text.new.tokenizer.rules settings c.new-sink.result.page (string_bytes c.args.text) rules c.new-sink.ensures.page
-    (built-reading settings c.feed_text.new.tokenizer c.new-sink.result.page (string_bytes c.args.text) rules c.new-sink.ensures.page
-    (subst (λ (o : OptionsOf). StandsAt (λ (sink : Printer). sink.page) page_step page_reply page_foreign c.feed_text.new.tokenizer (start_of o) c.new-sink.result.page (chars (string_bytes c.args.text))) same stands))

@@ -5,8 +5,7 @@ use Rattle.std.proofs.lemmas.Bool.{false≢true}
 use Rattle.std.proofs.lemmas.Result.{on_ok_weaker, on_err_weaker}
 use Rattle.std.proofs.lemmas.Str.{IsUtf8-string_bytes}
 use Rattle.html5tok.specs.Device.{AppendsBeginning}
-use Rattle.html5grammar.specs.Start.Open.{NotBuilt}
-use Rattle.html5tok.specs.Printing.{open_behind_text, printed_reading, IsWholeBuilt}
+use Rattle.html5tok.specs.Printing.{printed_reading}
 use Rattle.html5tok.proofs.Feeding.{fault_is}
 use Rattle.html5tok.specs.Settings.{said_by}
 use Rattle.html5tok.proofs.PrintedPages.{Consumes-whole, Keeps-same}
@@ -31,7 +30,6 @@ returns-clause-ok g c =
       consumed = Consumes-whole _ _ c.in_ok-bytes.bytes.items c.in_ok-bytes.ensures.ok c.in_ok-bytes.ensures.end c.in_ok-bytes.ensures.in_order;
       at_end = c.in_ok-bytes.ensures.end;
       utf8 = subst (λ (l : List ℕ). IsUtf8 l) text (IsUtf8-string_bytes c.in-Ok.text);
-      built = subst (λ (l : List ℕ). IsWholeBuilt (said_by c.args.settings.now) l) text c.in_ok-sink.ensures.built;
       printed = subst (λ (l : List ℕ). Appends (g.W.Target.contents c.args.writer.now) (g.W.Target.contents c.write_all.new.target) l) page written;
     }) c.write_all.ensures.ok
 
@@ -45,20 +43,5 @@ returns-clause-beginning g c =
       consumed = Consumes-whole _ _ c.in_ok-bytes.bytes.items c.in_ok-bytes.ensures.ok c.in_ok-bytes.ensures.end c.in_ok-bytes.ensures.in_order;
       at_end = c.in_ok-bytes.ensures.end;
       utf8 = subst (λ (l : List ℕ). IsUtf8 l) text (IsUtf8-string_bytes c.in-Ok.text);
-      built = subst (λ (l : List ℕ). IsWholeBuilt (said_by c.args.settings.now) l) text c.in_ok-sink.ensures.built;
       printed = subst (λ (l : List ℕ). AppendsBeginning (g.W.Target.contents c.args.writer.now) (g.W.Target.contents c.write_all.new.target) l) page written;
     })) c.write_all.ensures.err
-
-pub returns-in_err-sink-clause-not_yet : goal.returns-in_err-sink-clause-not_yet
-returns-in_err-sink-clause-not_yet g c = λ same.
-    let text : string_bytes c.in-Ok.text ≡ c.in_ok-bytes.bytes.items = ap (λ v. v.items) c.in-Ok.ensures.ok in
-    record {
-      bytes = c.in_ok-bytes.bytes.items;
-      consumed = Consumes-whole _ _ c.in_ok-bytes.bytes.items c.in_ok-bytes.ensures.ok c.in_ok-bytes.ensures.end c.in_ok-bytes.ensures.in_order;
-      at_end = c.in_ok-bytes.ensures.end;
-      utf8 = subst (λ (l : List ℕ). IsUtf8 l) text (IsUtf8-string_bytes c.in-Ok.text);
-      not_built =
-          subst (λ (l : List ℕ). open_behind_text (said_by c.args.settings.now) l ≡ NotBuilt) text
-          (c.print_text.ensures.not_yet (c.in_err-sink.was ∙ ap Err (fault_is c.from_residual-in_err-sink.result _ _ c.from_residual-in_err-sink.ensures.1 same)));
-      kept = Keeps-same _;
-    }

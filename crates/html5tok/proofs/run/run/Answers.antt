@@ -1,13 +1,13 @@
 use Rattle.std.proofs.Common.{[], ◌∷◌, refl, sym, subst, arith}
 use Rattle.std.specs.Prelude.{Contains}
 use Rattle.html5tok.specs.Ending.{IsNoTable, status_of}
-use Rattle.html5tok.specs.declared.fault.Fault.TheVariants.{NotUtf8, Memory, Device, NotYet}
+use Rattle.html5tok.specs.declared.fault.Fault.TheVariants.{NotUtf8, Memory, Device}
 use Rattle.html5tok.specs.declared.run.Ending.{Ending}
 use Rattle.html5tok.specs.declared.run.Ending.TheVariants.{Printed, Usage, NoTable, Faulted}
 use Rattle.markup5ever.specs.declared.data.TableError.TheVariants as table
 use Rattle.html5tok.proofs.run.run.Goals as goal
 
-Contains-status : (ending : Ending) → Contains (0 ∷ 2 ∷ 3 ∷ 4 ∷ 5 ∷ 6 ∷ 7 ∷ []) (status_of ending)
+Contains-status : (ending : Ending) → Contains (0 ∷ 2 ∷ 3 ∷ 4 ∷ 5 ∷ 6 ∷ []) (status_of ending)
 Contains-status Printed = (0, omega arith, refl)
 Contains-status Usage = (1, omega arith, refl)
 Contains-status (NoTable table.Memory) = (4, omega arith, refl)
@@ -17,7 +17,6 @@ Contains-status (NoTable (table.RepeatedName place)) = (3, omega arith, refl)
 Contains-status (Faulted NotUtf8) = (2, omega arith, refl)
 Contains-status (Faulted Memory) = (4, omega arith, refl)
 Contains-status (Faulted Device) = (5, omega arith, refl)
-Contains-status (Faulted NotYet) = (6, omega arith, refl)
 
 Contains-no_table : (ending : Ending) → IsNoTable ending → Contains (4 ∷ 5 ∷ []) (status_of ending)
 Contains-no_table Printed none = absurd none
@@ -29,7 +28,7 @@ Contains-no_table (NoTable (table.RepeatedName place)) none = (0, omega arith, r
 Contains-no_table (Faulted fault) none = absurd none
 
 pub returns-clause-status : goal.returns-clause-status
-returns-clause-status g c = subst (λ n. Contains (0 ∷ 2 ∷ 3 ∷ 4 ∷ 5 ∷ 6 ∷ 7 ∷ []) n) (sym c.report.ensures.status) (Contains-status c.print_by_words-ending.result)
+returns-clause-status g c = subst (λ n. Contains (0 ∷ 2 ∷ 3 ∷ 4 ∷ 5 ∷ 6 ∷ []) n) (sym c.report.ensures.status) (Contains-status c.print_by_words-ending.result)
 
 pub returns-clause-faulty : goal.returns-clause-faulty
 returns-clause-faulty g c = λ bad.

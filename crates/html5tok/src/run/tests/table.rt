@@ -1,7 +1,6 @@
-use super::{Ran, USAGE, prints, run_over, words_of};
+use super::{Ran, USAGE, prints, run_over, status_of_run, words_of};
 use crate::device::fakes::FailingSource;
 use crate::device::{ReadSource, WriteTarget};
-use crate::run::run;
 use refusing::Refusing;
 use std::alloc::Global;
 use std::process::Abort;
@@ -121,7 +120,7 @@ fn reads_nothing_where_the_table_is_faulty(rt: HostRuntime) -> Result<(), Fail> 
     let mut writer = WriteTarget::new(Vec::new(rt.alloc()));
     let mut errors = WriteTarget::new(Vec::new(rt.alloc()));
     let words = words_of(rt.alloc(), &["--table", "a=0"])?;
-    let status = run(rt.alloc(), words, &mut reader, &mut writer, &mut errors);
+    let status = status_of_run(rt.alloc(), words, &mut reader, &mut writer, &mut errors);
     assert_eq!(rt; status, 4);
     let told: Vec<u8> = errors.into_inner();
     assert_eq!(rt; told.as_slice(), b"table: zero character at 0\n".as_slice());
@@ -141,7 +140,7 @@ fn tells_that_there_is_no_memory_for_a_table(rt: HostRuntime) {
         let mut reader = ReadSource::new(b"a".as_slice());
         let mut writer = WriteTarget::new(Vec::new(rt.alloc()));
         let mut errors = WriteTarget::new(Vec::new(rt.alloc()));
-        let status = run(&heap, words, &mut reader, &mut writer, &mut errors);
+        let status = status_of_run(&heap, words, &mut reader, &mut writer, &mut errors);
         let told: Vec<u8> = errors.into_inner();
         if !heap.has_refused() {
             assert_eq!(rt; status, 4);

@@ -1,13 +1,13 @@
 use Rattle.std.proofs.Common.{refl, string_bytes}
 use Rattle.std.proofs.lemmas.Result.{on_ok_weaker, IfOk-weaker}
-use Rattle.html5ever.proofs.Standing.{FeedsOn-read, HandsOn-stands, LeavesWaiting-stands, FeedMeets-stands, StopsFeeding-read, LeavesRefused-read, left-done, left-shorter}
+use Rattle.html5ever.proofs.Standing.{FeedsOn-read, HandsOn-stands, LeavesWaiting-stands, StopsFeeding-read, LeavesRefused-read, left-done, left-shorter}
 use Rattle.html5ever.proofs.tokenizer.Tokenizer.feed.Goals as goal
 
 pub returns-clause-reads : goal.returns-clause-reads
 returns-clause-reads g c =
     rw (← c.self.view_is)
     (FeedsOn-read g.Sink.TokenSink.state g.Sink.TokenSink.step g.Sink.TokenSink.reply g.Sink.TokenSink.foreign g.Sink.TokenSink.faulted c.read_queue-result.result _ _ c.args.queue.now.text refl c.is_err-self-inside.ensures.value refl
-    c.read_queue-result.ensures.tells c.read_queue-result.ensures.moves c.read_queue-result.ensures.built)
+    c.read_queue-result.ensures.tells c.read_queue-result.ensures.moves)
 
 pub returns-clause-answer : goal.returns-clause-answer
 returns-clause-answer g c =
@@ -26,10 +26,6 @@ returns-clause-done g c =
 pub returns-clause-shorter : goal.returns-clause-shorter
 returns-clause-shorter g c =
     left-shorter g.Sink.TokenSink.state g.Sink.TokenSink.step g.Sink.TokenSink.reply g.Sink.TokenSink.foreign string_bytes _ _ _ c.args.queue.now.text _ c.read_queue-result.result c.read_queue-result.ensures.answer c.read_queue-result.ensures.left
-
-pub returns-clause-not_yet : goal.returns-clause-not_yet
-returns-clause-not_yet g c = λ same.
-    rw (← c.self.view_is) (FeedMeets-stands g.Sink.TokenSink.state g.Sink.TokenSink.step g.Sink.TokenSink.reply g.Sink.TokenSink.foreign _ c.args.queue.now.text (c.read_queue-result.ensures.not_yet same))
 
 pub returns-clause-stops : goal.returns-clause-stops
 returns-clause-stops g c =

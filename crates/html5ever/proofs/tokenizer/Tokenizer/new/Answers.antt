@@ -4,4 +4,4 @@ use Rattle.html5ever.proofs.tokenizer.Tokenizer.new.Goals as goal
 
 pub returns-clause-stands : goal.returns-clause-stands
 returns-clause-stands g c =
-    StandsAt-start g.Sink.TokenSink.state g.Sink.TokenSink.step g.Sink.TokenSink.reply g.Sink.TokenSink.foreign _ _ c.new.ensures.start c.new.ensures.built refl refl
+    StandsAt-start g.Sink.TokenSink.state g.Sink.TokenSink.step g.Sink.TokenSink.reply g.Sink.TokenSink.foreign _ _ c.new.ensures.start refl refl

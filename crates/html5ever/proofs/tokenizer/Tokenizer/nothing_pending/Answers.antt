@@ -1,5 +1,4 @@
-use Rattle.std.proofs.Common.{◌∙◌, ap, sym, subst}
-use Rattle.html5parts.specs.Steps.{IsBuilt}
+use Rattle.std.proofs.Common.{◌∙◌, ap, sym}
 use Rattle.html5ever.specs.Tokenizer.{Tokenizing}
 use Rattle.html5ever.proofs.Standing.{StandsAt-anew}
 use Rattle.html5ever.proofs.tokenizer.Tokenizer.nothing_pending.Goals as goal
@@ -7,6 +6,5 @@ use Rattle.html5ever.proofs.tokenizer.Tokenizer.nothing_pending.Goals as goal
 pub returns-clause-anew : goal.returns-clause-anew
 returns-clause-anew g c = λ pending x.
     StandsAt-anew g.Sink.TokenSink.state g.Sink.TokenSink.step g.Sink.TokenSink.reply g.Sink.TokenSink.foreign c.args.self.now x
-    (λ not_failed. subst (λ (t : Tokenizing _). IsBuilt t.position.opened) c.self.view_is (c.self.invariant c.if-self.false))
     (sym (ap (λ (t : Tokenizing _). t.failed) c.self.view_is) ∙ c.if-self.false)
     (sym (ap (λ (t : Tokenizing _). t.ended) c.self.view_is) ∙ c.if-self-2.false)

@@ -1,14 +1,13 @@
 use Rattle.std.proofs.Common.{true}
 use Rattle.std.specs.Str.{chars}
 use Rattle.std.specs.String.{string_bytes}
-use Rattle.html5ever_interface.specs.Collected.{Collecting, none_collected, collected_step, collected_reply, collected_foreign}
+use Rattle.html5ever_interface.specs.Collected.{Collecting}
 use Rattle.html5ever_interface.specs.Options.{options_of}
 use Rattle.html5grammar.proofs.OneCdataCollected.{collects-cdata}
-use Rattle.html5grammar.proofs.OneCdataReading.{built-cdata}
 use Rattle.html5grammar.specs.OneCdata.{IsCdata, kept_messages}
 use Rattle.html5grammar.specs.Start.{start_of}
-use Rattle.html5ever.specs.Tokenizer.{rules_of, collected_of, opened_collecting}
-use Rattle.html5ever.proofs.Wholes.{built-unless, holds-one, refusal-one}
+use Rattle.html5ever.specs.Tokenizer.{rules_of, collected_of}
+use Rattle.html5ever.proofs.Wholes.{holds-one}
 use Rattle.html5ever.proofs.tokenizer.laws.cdata.Goals as goal
 
 pub returns-clause-cdata : goal.returns-clause-cdata
@@ -18,10 +17,3 @@ returns-clause-cdata g c =
     (λ cdata. record { messages = kept_messages c.args.opts.exact_errors (start_of (options_of c.args.opts)).input cdata; finished = true; foreign = c.args.foreign })
     c.collect.ensures.reads
     (λ cdata one. collects-cdata (Unit {0}) (rules_of (options_of c.args.opts) c.args.names.now) (start_of (options_of c.args.opts)) c.args.foreign (chars (string_bytes c.args.text)) cdata one)
-
-pub returns-clause-refusals : goal.returns-clause-refusals
-returns-clause-refusals g c =
-    refusal-one c.collect.result (λ cdata. IsCdata (start_of (options_of c.args.opts)) c.args.foreign (chars (string_bytes c.args.text)) cdata)
-    (opened_collecting (options_of c.args.opts) c.args.names.now c.args.foreign (chars (string_bytes c.args.text)))
-    c.collect.ensures.not_failed c.collect.ensures.not_yet
-    (λ cdata one. built-unless _ (built-cdata collected_step (collected_reply {H = Unit {0}}) collected_foreign (rules_of (options_of c.args.opts) c.args.names.now) (start_of (options_of c.args.opts)) (none_collected c.args.foreign) (chars (string_bytes c.args.text)) cdata one))

@@ -1,14 +1,13 @@
 use Rattle.std.proofs.Common.{true}
 use Rattle.std.specs.Str.{chars}
 use Rattle.std.specs.String.{string_bytes}
-use Rattle.html5ever_interface.specs.Collected.{Collecting, none_collected, collected_step, collected_reply, collected_foreign}
+use Rattle.html5ever_interface.specs.Collected.{Collecting}
 use Rattle.html5ever_interface.specs.Options.{options_of}
 use Rattle.html5grammar.proofs.OneCommentCollected.{collects-comment}
-use Rattle.html5grammar.proofs.OneCommentReading.{after-comment}
 use Rattle.html5grammar.specs.OneComment.{IsComment, comment_messages}
 use Rattle.html5grammar.specs.Start.{start_of}
-use Rattle.html5ever.specs.Tokenizer.{rules_of, collected_of, opened_collecting}
-use Rattle.html5ever.proofs.Wholes.{holds-one, refusal-one}
+use Rattle.html5ever.specs.Tokenizer.{rules_of, collected_of}
+use Rattle.html5ever.proofs.Wholes.{holds-one}
 use Rattle.html5ever.proofs.tokenizer.laws.comment.Goals as goal
 
 pub returns-clause-comment : goal.returns-clause-comment
@@ -18,10 +17,3 @@ returns-clause-comment g c =
     (λ comment. record { messages = comment_messages c.args.opts.exact_errors (start_of (options_of c.args.opts)).input comment; finished = true; foreign = c.args.foreign })
     c.collect.ensures.reads
     (λ comment one. collects-comment (Unit {0}) (rules_of (options_of c.args.opts) c.args.names.now) (start_of (options_of c.args.opts)) c.args.foreign (chars (string_bytes c.args.text)) comment one)
-
-pub returns-clause-refusals : goal.returns-clause-refusals
-returns-clause-refusals g c =
-    refusal-one c.collect.result (λ comment. IsComment (start_of (options_of c.args.opts)) c.args.foreign (chars (string_bytes c.args.text)) comment)
-    (opened_collecting (options_of c.args.opts) c.args.names.now c.args.foreign (chars (string_bytes c.args.text)))
-    c.collect.ensures.not_failed c.collect.ensures.not_yet
-    (λ comment one. rw (after-comment collected_step (collected_reply {H = Unit {0}}) collected_foreign (rules_of (options_of c.args.opts) c.args.names.now) (start_of (options_of c.args.opts)) (none_collected c.args.foreign) (chars (string_bytes c.args.text)) comment one) tt)

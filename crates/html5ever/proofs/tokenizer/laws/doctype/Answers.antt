@@ -1,14 +1,13 @@
 use Rattle.std.proofs.Common.{true}
 use Rattle.std.specs.Str.{chars}
 use Rattle.std.specs.String.{string_bytes}
-use Rattle.html5ever_interface.specs.Collected.{Collecting, none_collected, collected_step, collected_reply, collected_foreign}
+use Rattle.html5ever_interface.specs.Collected.{Collecting}
 use Rattle.html5ever_interface.specs.Options.{options_of}
 use Rattle.html5grammar.proofs.OneDoctypeCollected.{collects-doctype}
-use Rattle.html5grammar.proofs.OneDoctypeReading.{after-doctype}
 use Rattle.html5grammar.specs.OneDoctype.{IsDoctype, doctype_messages}
 use Rattle.html5grammar.specs.Start.{start_of}
-use Rattle.html5ever.specs.Tokenizer.{rules_of, collected_of, opened_collecting}
-use Rattle.html5ever.proofs.Wholes.{holds-one, refusal-one}
+use Rattle.html5ever.specs.Tokenizer.{rules_of, collected_of}
+use Rattle.html5ever.proofs.Wholes.{holds-one}
 use Rattle.html5ever.proofs.tokenizer.laws.doctype.Goals as goal
 
 pub returns-clause-doctype : goal.returns-clause-doctype
@@ -18,10 +17,3 @@ returns-clause-doctype g c =
     (λ doctype. record { messages = doctype_messages c.args.opts.exact_errors (start_of (options_of c.args.opts)).input doctype; finished = true; foreign = c.args.foreign })
     c.collect.ensures.reads
     (λ doctype one. collects-doctype (Unit {0}) (rules_of (options_of c.args.opts) c.args.names.now) (start_of (options_of c.args.opts)) c.args.foreign (chars (string_bytes c.args.text)) doctype one)
-
-pub returns-clause-refusals : goal.returns-clause-refusals
-returns-clause-refusals g c =
-    refusal-one c.collect.result (λ doctype. IsDoctype (start_of (options_of c.args.opts)) (chars (string_bytes c.args.text)) doctype)
-    (opened_collecting (options_of c.args.opts) c.args.names.now c.args.foreign (chars (string_bytes c.args.text)))
-    c.collect.ensures.not_failed c.collect.ensures.not_yet
-    (λ doctype one. rw (after-doctype collected_step (collected_reply {H = Unit {0}}) collected_foreign (rules_of (options_of c.args.opts) c.args.names.now) (start_of (options_of c.args.opts)) (none_collected c.args.foreign) (chars (string_bytes c.args.text)) doctype one) tt)

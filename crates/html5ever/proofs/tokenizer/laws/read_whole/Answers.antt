@@ -1,6 +1,6 @@
-use Rattle.std.proofs.Common.{ℕ, List, [], ap, sym, ◌∙◌, subst, Err}
+use Rattle.std.proofs.Common.{ℕ, List, [], sym, subst}
 use Rattle.html5grammar.specs.Reading.{reading, messages}
-use Rattle.html5ever.specs.Tokenizer.{StandsAt, WholeStops}
+use Rattle.html5ever.specs.Tokenizer.{StandsAt, EndStops}
 use Rattle.std.specs.Str.{chars}
 use Rattle.std.specs.String.{string_bytes}
 use Rattle.std.proofs.lemmas.Result.{err_from_is_err_and, IfErr-weaker}
@@ -17,7 +17,6 @@ returns-in_err-feed_until_done-clause-stops g c =
     rw (p.1, p.2) (λ K s stands.
     rw (sym (queued _ _ (chars (string_bytes c.args.text)) c.new-queue.ensures.text c.in-Ok.ensures.ok))
     (whole-feed_stops g.S.TokenSink.state g.S.TokenSink.step g.S.TokenSink.reply g.S.TokenSink.foreign g.S.TokenSink.faulted g.S.TokenSink.end_faulted _ c.args.tokenizer.now K s _ _ stands
-    (λ same. c.feed_until_done.ensures.not_yet (c.in_err-feed_until_done.was ∙ ap Err same) K s [] stands)
     (c.in_err-feed_until_done.ensures.stops K s [] stands)))
 
 pub returns-clause-stops : goal.returns-clause-stops
@@ -26,7 +25,7 @@ returns-clause-stops g c =
     (λ e stops K s stands.
     let standing = subst (λ (l : List ℕ). StandsAt g.S.TokenSink.state g.S.TokenSink.step g.S.TokenSink.reply g.S.TokenSink.foreign c.feed_until_done.new.tokenizer K s l)
     (queued _ _ (chars (string_bytes c.args.text)) c.new-queue.ensures.text c.in-Ok.ensures.ok) (c.in_ok-feed_until_done.ensures.reads K s [] stands) in
-    subst (λ x. WholeStops g.S.TokenSink.step g.S.TokenSink.faulted g.S.TokenSink.end_faulted e s (messages (reading g.S.TokenSink.step g.S.TokenSink.reply g.S.TokenSink.foreign x K s (chars (string_bytes c.args.text)))) (g.S.TokenSink.state c.end.new.self.sink)) c.in_ok-feed_until_done.ensures.rules
+    subst (λ x. EndStops g.S.TokenSink.step g.S.TokenSink.faulted g.S.TokenSink.end_faulted e s (messages (reading g.S.TokenSink.step g.S.TokenSink.reply g.S.TokenSink.foreign x K s (chars (string_bytes c.args.text)))) (g.S.TokenSink.state c.end.new.self.sink)) c.in_ok-feed_until_done.ensures.rules
     (whole-end_stops g.S.TokenSink.state g.S.TokenSink.step g.S.TokenSink.reply g.S.TokenSink.foreign g.S.TokenSink.faulted g.S.TokenSink.end_faulted e c.feed_until_done.new.tokenizer K s (g.S.TokenSink.state c.end.new.self.sink) (chars (string_bytes c.args.text)) standing
     (stops K s (chars (string_bytes c.args.text)) standing)))
     c.end.ensures.stops

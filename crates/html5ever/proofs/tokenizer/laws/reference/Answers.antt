@@ -1,15 +1,13 @@
-use Rattle.html5ever.specs.Tokenizer.{rules_of, collected_of, opened_collecting}
-use Rattle.std.proofs.Common.{sym, subst, true}
+use Rattle.html5ever.specs.Tokenizer.{rules_of, collected_of}
+use Rattle.std.proofs.Common.{true}
 use Rattle.std.specs.Str.{chars}
 use Rattle.std.specs.String.{string_bytes}
-use Rattle.html5ever_interface.specs.Collected.{Collecting, none_collected, collected_step, collected_reply, collected_foreign}
+use Rattle.html5ever_interface.specs.Collected.{Collecting}
 use Rattle.html5ever_interface.specs.Options.{options_of}
 use Rattle.html5grammar.specs.Start.{start_of}
-use Rattle.html5parts.specs.Steps.{IsBuilt}
 use Rattle.html5grammar.specs.OneReference.{IsReference, reference_messages}
 use Rattle.html5grammar.proofs.OneReferenceCollected.{collects-reference}
-use Rattle.html5grammar.proofs.OneReferenceReading.{after-reference}
-use Rattle.html5ever.proofs.Wholes.{built-reference, holds-one, refusal-one}
+use Rattle.html5ever.proofs.Wholes.{holds-one}
 use Rattle.html5ever.proofs.tokenizer.laws.reference.Goals as goal
 
 pub returns-clause-reference : goal.returns-clause-reference
@@ -19,13 +17,3 @@ returns-clause-reference g c =
     (λ reference. record { messages = reference_messages c.args.opts.exact_errors (start_of (options_of c.args.opts)).input reference; finished = true; foreign = c.args.foreign })
     c.collect.ensures.reads
     (λ reference one. collects-reference (Unit {0}) (rules_of (options_of c.args.opts) c.args.names.now) (start_of (options_of c.args.opts)) c.args.foreign (chars (string_bytes c.args.text)) reference c.is_checked.ensures one)
-
-pub returns-clause-refusals : goal.returns-clause-refusals
-returns-clause-refusals g c =
-    refusal-one c.collect.result (λ reference. IsReference c.args.names.now (start_of (options_of c.args.opts)) (chars (string_bytes c.args.text)) reference)
-    (opened_collecting (options_of c.args.opts) c.args.names.now c.args.foreign (chars (string_bytes c.args.text)))
-    c.collect.ensures.not_failed c.collect.ensures.not_yet
-    (λ reference one.
-    subst IsBuilt
-    (sym (after-reference collected_step (collected_reply {H = Unit {0}}) collected_foreign (rules_of (options_of c.args.opts) c.args.names.now) (start_of (options_of c.args.opts)) (none_collected c.args.foreign) (chars (string_bytes c.args.text)) reference c.is_checked.ensures one))
-    (built-reference reference))

@@ -1,14 +1,13 @@
-use Rattle.html5ever.specs.Tokenizer.{rules_of, collected_of, opened_collecting}
-use Rattle.std.proofs.Common.{refl, true}
+use Rattle.html5ever.specs.Tokenizer.{rules_of, collected_of}
+use Rattle.std.proofs.Common.{true}
 use Rattle.std.specs.Str.{chars}
 use Rattle.std.specs.String.{string_bytes}
-use Rattle.html5ever_interface.specs.Collected.{Collecting, none_collected, collected_step, collected_reply, collected_foreign}
+use Rattle.html5ever_interface.specs.Collected.{Collecting}
 use Rattle.html5ever_interface.specs.Options.{options_of}
 use Rattle.html5grammar.specs.Start.{start_of}
 use Rattle.html5grammar.specs.OneTag.{IsTag, tag_messages}
 use Rattle.html5grammar.proofs.OneTagCollected.{collects-tag}
-use Rattle.html5grammar.proofs.OneTagReading.{after-tag}
-use Rattle.html5ever.proofs.Wholes.{holds-one, refusal-one}
+use Rattle.html5ever.proofs.Wholes.{holds-one}
 use Rattle.html5ever.proofs.tokenizer.laws.tag.Goals as goal
 
 pub returns-clause-tag : goal.returns-clause-tag
@@ -18,10 +17,3 @@ returns-clause-tag g c =
     (λ tag. record { messages = tag_messages c.args.opts.exact_errors (start_of (options_of c.args.opts)).input tag; finished = true; foreign = c.args.foreign })
     c.collect.ensures.reads
     (λ tag one. collects-tag (Unit {0}) (rules_of (options_of c.args.opts) c.args.names.now) (start_of (options_of c.args.opts)) c.args.foreign (chars (string_bytes c.args.text)) tag one)
-
-pub returns-clause-refusals : goal.returns-clause-refusals
-returns-clause-refusals g c =
-    refusal-one c.collect.result (λ tag. IsTag (start_of (options_of c.args.opts)) (chars (string_bytes c.args.text)) tag)
-    (opened_collecting (options_of c.args.opts) c.args.names.now c.args.foreign (chars (string_bytes c.args.text)))
-    c.collect.ensures.not_failed c.collect.ensures.not_yet
-    (λ tag one. rw (after-tag collected_step (collected_reply {H = Unit {0}}) collected_foreign (rules_of (options_of c.args.opts) c.args.names.now) (start_of (options_of c.args.opts)) (none_collected c.args.foreign) (chars (string_bytes c.args.text)) tag (λ t line. refl) one) tt)

@@ -1,21 +1,15 @@
-use Rattle.std.proofs.Common.{refl, ◌∙◌, ap, sym, Ok, Err, arith}
+use Rattle.std.proofs.Common.{refl, ◌∙◌, ap, sym, Ok, arith}
 use Rattle.std.proofs.lemmas.Result.{err_from_is_err_and}
-use Rattle.html5ever.proofs.Draining.{HasDrained-none, HasDrained-more, HasDrained-all, HasDrained-end, HasDrained-met, HasDrained-stops, ok-not_failed}
-use Rattle.html5ever.proofs.QueueReading.{error_of}
+use Rattle.html5ever.proofs.Draining.{HasDrained-none, HasDrained-more, HasDrained-all, HasDrained-end, HasDrained-stops, ok-not_failed}
 use Rattle.html5ever.proofs.tokenizer.steps.feed_until_done.Goals as goal
 
 pub loop-init : goal.loop-init
 loop-init g c = (HasDrained-none g.S.TokenSink.state g.S.TokenSink.step g.S.TokenSink.reply g.S.TokenSink.foreign c.args.tokenizer.now c.args.queue.now c.requires, refl)
 
-pub returns-in_err-feed-clause-not_yet : goal.returns-in_err-feed-clause-not_yet
-returns-in_err-feed-clause-not_yet g c = λ same.
-    HasDrained-met g.S.TokenSink.state g.S.TokenSink.step g.S.TokenSink.reply g.S.TokenSink.foreign _ _ _ _ c.loop.invariant.0 (c.feed.ensures.not_yet (c.in_err-feed.was ∙ ap Err (error_of c.from_residual.result _ _ c.from_residual.ensures.1 same)))
-
 pub returns-in_err-feed-clause-stops : goal.returns-in_err-feed-clause-stops
 returns-in_err-feed-clause-stops g c =
     let p = err_from_is_err_and c.from_residual.result c.from_residual.ensures.1 in
-    rw (p.1, p.2) (HasDrained-stops g.S.TokenSink.state g.S.TokenSink.step g.S.TokenSink.reply g.S.TokenSink.foreign g.S.TokenSink.faulted _ _ _ _ _ _ c.loop.invariant.0
-    (λ same. c.feed.ensures.not_yet (c.in_err-feed.was ∙ ap Err same)) c.in_err-feed.ensures.stops)
+    rw (p.1, p.2) (HasDrained-stops g.S.TokenSink.state g.S.TokenSink.step g.S.TokenSink.reply g.S.TokenSink.foreign g.S.TokenSink.faulted _ _ _ _ _ _ c.loop.invariant.0 c.in_err-feed.ensures.stops)
 
 pub returns-in_err-feed-clause-end_of_queue : goal.returns-in_err-feed-clause-end_of_queue
 returns-in_err-feed-clause-end_of_queue g c = HasDrained-end g.S.TokenSink.state g.S.TokenSink.step g.S.TokenSink.reply g.S.TokenSink.foreign _ _ _ _ _ c.loop.invariant.0 c.feed.ensures.end_of_queue

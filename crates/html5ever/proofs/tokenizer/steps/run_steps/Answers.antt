@@ -2,11 +2,10 @@ use Rattle.std.proofs.Common.{◌≡◌, [], subst, map}
 use Rattle.std.proofs.lemmas.Result.{on_ok_weaker, IfErr-weaker}
 use Rattle.html5ever_interface.specs.Options.{options_of}
 use Rattle.html5ever_interface.specs.Sink.{stepped}
-use Rattle.html5grammar.specs.Reading.{reading, messages, after}
+use Rattle.html5grammar.specs.Reading.{reading, messages}
 use Rattle.html5grammar.specs.Start.{start_of}
 use Rattle.html5ever.specs.RunSteps.{step_of, run_text}
-use Rattle.html5parts.specs.Steps.{IsBuilt}
-use Rattle.html5ever.specs.Tokenizer.{WholeStops}
+use Rattle.html5ever.specs.Tokenizer.{EndStops}
 use Rattle.html5ever.proofs.tokenizer.steps.run_steps.Goals as goal
 
 pub returns-clause-finishes : goal.returns-clause-finishes
@@ -21,13 +20,6 @@ pub returns-clause-stops : goal.returns-clause-stops
 returns-clause-stops g c =
     rw c.into_sink.ensures
     (IfErr-weaker c.take_steps-result.result _ _
-    (λ e stops. subst (λ b. WholeStops g.S.TokenSink.step g.S.TokenSink.faulted g.S.TokenSink.end_faulted e (g.S.TokenSink.state c.args.sink) (messages (reading g.S.TokenSink.step g.S.TokenSink.reply g.S.TokenSink.foreign b (start_of (options_of c.args.opts)) (g.S.TokenSink.state c.args.sink) (run_text g.S.TokenSink.step g.S.TokenSink.reply g.S.TokenSink.foreign b (start_of (options_of c.args.opts)) (g.S.TokenSink.state c.args.sink) [] [] (map step_of c.args.steps.items)))) (g.S.TokenSink.state c.take_steps-result.new.tokenizer.sink))
+    (λ e stops. subst (λ b. EndStops g.S.TokenSink.step g.S.TokenSink.faulted g.S.TokenSink.end_faulted e (g.S.TokenSink.state c.args.sink) (messages (reading g.S.TokenSink.step g.S.TokenSink.reply g.S.TokenSink.foreign b (start_of (options_of c.args.opts)) (g.S.TokenSink.state c.args.sink) (run_text g.S.TokenSink.step g.S.TokenSink.reply g.S.TokenSink.foreign b (start_of (options_of c.args.opts)) (g.S.TokenSink.state c.args.sink) [] [] (map step_of c.args.steps.items)))) (g.S.TokenSink.state c.take_steps-result.new.tokenizer.sink))
     c.new-tokenizer.ensures.rules (stops (start_of (options_of c.args.opts)) (g.S.TokenSink.state c.args.sink) c.new-tokenizer.ensures.stands))
     c.take_steps-result.ensures.stops)
-
-pub returns-clause-built : goal.returns-clause-built
-returns-clause-built g c =
-    on_ok_weaker c.take_steps-result.result
-    (λ built. subst (λ b. IsBuilt (after g.S.TokenSink.step g.S.TokenSink.reply g.S.TokenSink.foreign b (start_of (options_of c.args.opts)) (g.S.TokenSink.state c.args.sink) (run_text g.S.TokenSink.step g.S.TokenSink.reply g.S.TokenSink.foreign b (start_of (options_of c.args.opts)) (g.S.TokenSink.state c.args.sink) [] [] (map step_of c.args.steps.items))).opened)
-    c.new-tokenizer.ensures.rules (built (start_of (options_of c.args.opts)) (g.S.TokenSink.state c.args.sink) c.new-tokenizer.ensures.stands))
-    c.take_steps-result.ensures.built

@@ -1,8 +1,7 @@
-use Rattle.std.proofs.Common.{refl, ◌∙◌, ap, sym, Err, arith, length}
+use Rattle.std.proofs.Common.{refl, ◌∙◌, ap, sym, arith, length}
 use Rattle.std.proofs.lemmas.Result.{err_from_is_err_and, on_ok_weaker, IfErr-weaker}
 use Rattle.html5ever.specs.RunSteps.{step_of}
-use Rattle.html5ever.proofs.StepRuns.{HasTaken-none, HasTaken-more, HasTaken-finishes, HasTaken-memory, HasTaken-stops, HasTaken-drain_stops, HasTaken-end_stops, HasTaken-met, HasTaken-drain_met, HasTaken-end_met, HasTaken-built, nothing_left}
-use Rattle.html5ever.proofs.QueueReading.{error_of, memory≢not_yet}
+use Rattle.html5ever.proofs.StepRuns.{HasTaken-none, HasTaken-more, HasTaken-finishes, HasTaken-memory, HasTaken-stops, HasTaken-drain_stops, HasTaken-end_stops, nothing_left}
 use Rattle.html5ever.proofs.tokenizer.steps.take_steps.Goals as goal
 
 pub loop-step-init : goal.loop-step-init
@@ -16,8 +15,7 @@ returns-in_err-hand_in-clause-stops g c =
 pub returns-in_err-feed_once-clause-stops : goal.returns-in_err-feed_once-clause-stops
 returns-in_err-feed_once-clause-stops g c =
     let p = err_from_is_err_and c.from_residual-in_err-feed_once.result c.from_residual-in_err-feed_once.ensures.1 in
-    rw (p.1, p.2, ← c.into_iter-step-iterator.ensures.into_iter_gives.0) (HasTaken-stops g.S.TokenSink.state g.S.TokenSink.step g.S.TokenSink.reply g.S.TokenSink.foreign g.S.TokenSink.faulted g.S.TokenSink.end_faulted _ _ _ _ _ (step_of c.in-Some.step) _ _ _ (rw c.in-Some.ensures.steps.0 at c.loop-step.invariant.0) c.in_ok-hand_in.ensures.ok
-    (λ same. c.feed_once.ensures.not_yet (c.in_err-feed_once.was ∙ ap Err same)) c.in_err-feed_once.ensures.stops)
+    rw (p.1, p.2, ← c.into_iter-step-iterator.ensures.into_iter_gives.0) (HasTaken-stops g.S.TokenSink.state g.S.TokenSink.step g.S.TokenSink.reply g.S.TokenSink.foreign g.S.TokenSink.faulted g.S.TokenSink.end_faulted _ _ _ _ _ (step_of c.in-Some.step) _ _ _ (rw c.in-Some.ensures.steps.0 at c.loop-step.invariant.0) c.in_ok-hand_in.ensures.ok c.in_err-feed_once.ensures.stops)
 
 pub loop-step-preserved : goal.loop-step-preserved
 loop-step-preserved g c = (
@@ -34,8 +32,7 @@ loop-step-preserved g c = (
 pub returns-in_err-feed_until_done-clause-stops : goal.returns-in_err-feed_until_done-clause-stops
 returns-in_err-feed_until_done-clause-stops g c =
     let p = err_from_is_err_and c.from_residual-in_err-feed_until_done.result c.from_residual-in_err-feed_until_done.ensures.1 in
-    rw (p.1, p.2, ← c.into_iter-step-iterator.ensures.into_iter_gives.0) (HasTaken-drain_stops g.S.TokenSink.state g.S.TokenSink.step g.S.TokenSink.reply g.S.TokenSink.foreign g.S.TokenSink.faulted g.S.TokenSink.end_faulted _ _ _ _ _ _ (rw (nothing_left _ (sym c.loop-step.invariant.2 ∙ c.in-None.ensures.steps.0)) at c.loop-step.invariant.0)
-    (λ same. c.feed_until_done.ensures.not_yet (c.in_err-feed_until_done.was ∙ ap Err same)) c.in_err-feed_until_done.ensures.stops)
+    rw (p.1, p.2, ← c.into_iter-step-iterator.ensures.into_iter_gives.0) (HasTaken-drain_stops g.S.TokenSink.state g.S.TokenSink.step g.S.TokenSink.reply g.S.TokenSink.foreign g.S.TokenSink.faulted g.S.TokenSink.end_faulted _ _ _ _ _ _ (rw (nothing_left _ (sym c.loop-step.invariant.2 ∙ c.in-None.ensures.steps.0)) at c.loop-step.invariant.0) c.in_err-feed_until_done.ensures.stops)
 
 pub returns-clause-finishes : goal.returns-clause-finishes
 returns-clause-finishes g c =
@@ -52,33 +49,3 @@ returns-clause-stops g c =
     (λ e stops. HasTaken-end_stops g.S.TokenSink.state g.S.TokenSink.step g.S.TokenSink.reply g.S.TokenSink.foreign g.S.TokenSink.faulted g.S.TokenSink.end_faulted e _ _ _ _ _ _ (rw (nothing_left _ (sym c.loop-step.invariant.2 ∙ c.in-None.ensures.steps.0)) at c.loop-step.invariant.0)
     c.in_ok-feed_until_done.ensures.reads c.in_ok-feed_until_done.ensures.rules stops)
     c.end.ensures.stops)
-
-pub returns-in_err-hand_in-clause-not_yet : goal.returns-in_err-hand_in-clause-not_yet
-returns-in_err-hand_in-clause-not_yet g c = λ same.
-    absurd (memory≢not_yet (sym c.in_err-hand_in.ensures.err ∙ error_of c.from_residual.result _ _ c.from_residual.ensures.1 same))
-
-pub returns-in_err-feed_once-clause-not_yet : goal.returns-in_err-feed_once-clause-not_yet
-returns-in_err-feed_once-clause-not_yet g c = λ same.
-    rw (← c.into_iter-step-iterator.ensures.into_iter_gives.0)
-    (HasTaken-met g.S.TokenSink.state g.S.TokenSink.step g.S.TokenSink.reply g.S.TokenSink.foreign _ _ _ _ (step_of c.in-Some.step) _ _ (rw c.in-Some.ensures.steps.0 at c.loop-step.invariant.0) c.in_ok-hand_in.ensures.ok
-    (c.feed_once.ensures.not_yet (c.in_err-feed_once.was ∙ ap Err (error_of c.from_residual-in_err-feed_once.result _ _ c.from_residual-in_err-feed_once.ensures.1 same))))
-
-pub returns-in_err-feed_until_done-clause-not_yet : goal.returns-in_err-feed_until_done-clause-not_yet
-returns-in_err-feed_until_done-clause-not_yet g c = λ same.
-    rw (← c.into_iter-step-iterator.ensures.into_iter_gives.0)
-    (HasTaken-drain_met g.S.TokenSink.state g.S.TokenSink.step g.S.TokenSink.reply g.S.TokenSink.foreign _ _ _ _ (rw (nothing_left _ (sym c.loop-step.invariant.2 ∙ c.in-None.ensures.steps.0)) at c.loop-step.invariant.0)
-    (c.feed_until_done.ensures.not_yet (c.in_err-feed_until_done.was ∙ ap Err (error_of c.from_residual-in_err-feed_until_done.result _ _ c.from_residual-in_err-feed_until_done.ensures.1 same))))
-
-pub returns-clause-not_yet : goal.returns-clause-not_yet
-returns-clause-not_yet g c = λ same.
-    rw (← c.into_iter-step-iterator.ensures.into_iter_gives.0)
-    (HasTaken-end_met g.S.TokenSink.state g.S.TokenSink.step g.S.TokenSink.reply g.S.TokenSink.foreign g.S.TokenSink.faulted g.S.TokenSink.end_faulted c.end.result _ _ _ _ _ _ same c.end.ensures.stops
-    (rw (nothing_left _ (sym c.loop-step.invariant.2 ∙ c.in-None.ensures.steps.0)) at c.loop-step.invariant.0) c.in_ok-feed_until_done.ensures.reads)
-
-pub returns-clause-built : goal.returns-clause-built
-returns-clause-built g c =
-    rw (← c.into_iter-step-iterator.ensures.into_iter_gives.0)
-    (on_ok_weaker c.end.result
-    (λ finishes. HasTaken-built g.S.TokenSink.state g.S.TokenSink.step g.S.TokenSink.reply g.S.TokenSink.foreign _ _ _ _ _ (rw (nothing_left _ (sym c.loop-step.invariant.2 ∙ c.in-None.ensures.steps.0)) at c.loop-step.invariant.0)
-    c.in_ok-feed_until_done.ensures.reads c.in_ok-feed_until_done.ensures.rules)
-    c.end.ensures.finishes)

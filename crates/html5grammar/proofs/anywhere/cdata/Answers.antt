@@ -1,0 +1,10 @@
+use Rattle.html5grammar.specs.OneCdata.{opening_text, spell_cdata, open_behind_cdata}
+use Rattle.html5grammar.specs.OneTag.{spelled_messages}
+use Rattle.html5grammar.proofs.ByItself.{trace-by_itself}
+use Rattle.html5grammar.proofs.OneCdataReading.{reads}
+use Rattle.html5grammar.proofs.anywhere.cdata.Goals as goal
+
+pub returns : goal.returns
+returns g c = λ rules K s Y cdata one.
+    trace-by_itself g.S.TokenSink.step g.S.TokenSink.reply g.S.TokenSink.foreign rules K s Y (spelled_messages rules.exact K.input (opening_text cdata.has_opening) (spell_cdata cdata)) (open_behind_cdata cdata) K.last_start_tag
+    (reads g.S.TokenSink.step g.S.TokenSink.reply g.S.TokenSink.foreign rules K s Y cdata one)

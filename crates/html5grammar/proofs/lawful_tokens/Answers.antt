@@ -1,0 +1,5 @@
+use Rattle.html5grammar.proofs.LawfulReading.{lawful-reading}
+use Rattle.html5grammar.proofs.lawful_tokens.Goals as goal
+
+pub returns : goal.returns
+returns g c = λ rules K s text table clean. lawful-reading g.S.TokenSink.step g.S.TokenSink.reply g.S.TokenSink.foreign rules K s text table clean

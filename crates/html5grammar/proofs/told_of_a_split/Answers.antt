@@ -1,0 +1,6 @@
+use Rattle.html5grammar.proofs.Splitting.{told-within}
+use Rattle.html5grammar.proofs.told_of_a_split.Goals as goal
+
+pub returns : goal.returns
+returns g c = λ rules K s text more.
+    told-within g.S.TokenSink.step g.S.TokenSink.reply g.S.TokenSink.foreign rules K s text more

@@ -1,0 +1,83 @@
+//! Items of a text as they are written, wherever they stand: what each tells by itself, behind any
+//! text that leads to where it is read, and before any text.
+#![tactic(auto)]
+
+ghost use Rattle.std.specs.Prelude.{◌≡◌, ℕ, true, List, [], ◌∷◌, Option, None, Some};
+ghost use Rattle.html5ever_interface.specs.Sink.{Message};
+ghost use Rattle.html5grammar.specs.Anywhere.{TellsBefore, TellsByItself, start_behind, start_behind_tag, is_decided_by, messages_within};
+ghost use Rattle.html5grammar.specs.NormalisedText.{normalised, input_after};
+ghost use Rattle.html5grammar.specs.OneCdata as one_cdata;
+ghost use Rattle.html5grammar.specs.OneCdata.{WrittenCdata, IsCdata, opening_text, spell_cdata, open_behind_cdata};
+ghost use Rattle.html5grammar.specs.OneComment as one_comment;
+ghost use Rattle.html5grammar.specs.OneComment.{WrittenComment, IsComment};
+ghost use Rattle.html5grammar.specs.OneDoctype as one_doctype;
+ghost use Rattle.html5grammar.specs.OneDoctype.{WrittenDoctype, IsDoctype};
+ghost use Rattle.html5grammar.specs.OneReference.{WrittenReference, IsReference};
+ghost use Rattle.html5grammar.specs.OneReference.WrittenReference.{Number};
+ghost use Rattle.html5grammar.specs.OneTag.{WrittenTag, IsTag, tag_told, spelled, spelled_messages};
+ghost use Rattle.html5grammar.specs.Reading.{after};
+ghost use Rattle.html5grammar.specs.Start.{Raw, Start, Rules};
+ghost use Rattle.html5grammar.specs.Start.Mode.{Data};
+ghost use Rattle.html5grammar.specs.Start.Open.{Between};
+ghost use Rattle.html5grammar.specs.WrittenRaw.{WrittenRaw, IsRawText, spell_raw};
+ghost use Rattle.markup5ever.specs.NamedReferences.{IsTable};
+
+use html5ever_interface::interface::sink::TokenSink;
+use html5ever_interface::interface::token::Token;
+use std::alloc::Allocator;
+
+/// A tag. What is open behind it is by the sink's reply to it.
+pub fn tag<S: TokenSink<Token<A>>, A: Allocator>()
+    ensures { (rules : Rules) (K : Start) (s : S.State) (Y : List ℕ) (tag : WrittenTag) → IsTag K Y tag
+        → let M : List Message = spelled_messages rules.exact K.input [] (spelled rules.exact tag) in
+        TellsByItself S.step S.reply S.foreign rules K s Y M (start_behind_tag S.step S.reply K s Y (tag_told tag) M) }
+{}
+
+/// A character reference, before a text whose first character decides it and is no part of it; a
+/// number with its semicolon is decided before any text.
+pub fn reference<S: TokenSink<Token<A>>, A: Allocator>()
+    ensures number { (rules : Rules) (K : Start) (s : S.State) (Y : List ℕ) (x : Option ℕ) (digits : List ℕ) → IsReference rules.names K Y (Number x digits true)
+        → TellsByItself S.step S.reply S.foreign rules K s Y (messages_within rules.exact K.input (Number x digits true))
+        (start_behind K Y (Between Data) K.last_start_tag) }
+    ensures decided { (rules : Rules) (K : Start) (s : S.State) (Y Z : List ℕ) (reference : WrittenReference) (c : ℕ) (rest : List ℕ)
+        → IsTable rules.names → IsReference rules.names K Y reference
+        → normalised (input_after K.input Y) Z ≡ c ∷ rest → is_decided_by rules.names reference c ≡ true
+        → TellsBefore S.step S.reply S.foreign rules Z K s Y (messages_within rules.exact K.input reference)
+        (start_behind K Y (Between Data) K.last_start_tag) }
+{}
+
+/// Raw text up to its end tag, or without one: then letters and marks at its end may be told only
+/// behind it.
+pub fn raw<S: TokenSink<Token<A>>, A: Allocator>()
+    ensures ended { (rules : Rules) (K : Start) (s : S.State) (Y : List ℕ) (raw : Raw) (name : List ℕ) (written_as : WrittenRaw) (tag : WrittenTag)
+        → written_as.end_tag ≡ Some tag → IsRawText K Y raw name written_as
+        → let M : List Message = spelled_messages rules.exact K.input [] (spell_raw rules.exact raw written_as) in
+        TellsByItself S.step S.reply S.foreign rules K s Y M (start_behind_tag S.step S.reply K s Y (tag_told tag) M) }
+    ensures open { (rules : Rules) (K : Start) (s : S.State) (Y : List ℕ) (raw : Raw) (name : List ℕ) (written_as : WrittenRaw)
+        → written_as.end_tag ≡ None → IsRawText K Y raw name written_as
+        → TellsByItself S.step S.reply S.foreign rules K s Y (spelled_messages rules.exact K.input [] (spell_raw rules.exact raw written_as))
+        (after S.step S.reply S.foreign rules K s Y) }
+{}
+
+/// A comment, proper or bogus.
+pub fn comment<S: TokenSink<Token<A>>, A: Allocator>()
+    ensures { (rules : Rules) (K : Start) (s : S.State) (Y : List ℕ) (comment : WrittenComment) → IsComment K (S.foreign s) Y comment
+        → TellsByItself S.step S.reply S.foreign rules K s Y (one_comment.messages_of rules.exact K.input comment)
+        (start_behind K Y (Between Data) K.last_start_tag) }
+{}
+
+/// A doctype.
+pub fn doctype<S: TokenSink<Token<A>>, A: Allocator>()
+    ensures { (rules : Rules) (K : Start) (s : S.State) (Y : List ℕ) (doctype : WrittenDoctype) → IsDoctype K Y doctype
+        → TellsByItself S.step S.reply S.foreign rules K s Y (one_doctype.messages_of rules.exact K.input doctype.word doctype.space doctype.content)
+        (start_behind K Y (Between Data) K.last_start_tag) }
+{}
+
+/// A CDATA section, also one that is open already or doesn't end: then what is open behind it is the
+/// section with its last piece, of which nothing is told yet.
+pub fn cdata<S: TokenSink<Token<A>>, A: Allocator>()
+    ensures { (rules : Rules) (K : Start) (s : S.State) (Y : List ℕ) (cdata : WrittenCdata) → IsCdata K (S.foreign s) Y cdata
+        → TellsByItself S.step S.reply S.foreign rules K s Y
+        (spelled_messages rules.exact K.input (opening_text cdata.has_opening) (spell_cdata cdata))
+        (start_behind K Y (open_behind_cdata cdata) K.last_start_tag) }
+{}

@@ -1,0 +1,5 @@
+pub mod Feed
+pub mod Refused
+pub mod Runs
+pub mod Undecided
+pub mod Starting
