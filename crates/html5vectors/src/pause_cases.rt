@@ -127,7 +127,10 @@ fn reads_what_is_put_in_front_at_a_pause(rt: HostRuntime) -> Result<(), Fail> {
     let mut tokenizer = begin(alloc, Steering::new(alloc), options(false, false), &names);
     let mut queue = BufferQueue::new(alloc);
     push_text(alloc, &mut queue, "<s>x")?;
-    assert_eq!(rt; feed(&mut tokenizer, &mut queue), Ok(TokenizerResult::Script(7)));
+    assert_eq!(rt;
+        feed(&mut tokenizer, &mut queue),
+        Ok(TokenizerResult::Script(7))
+    );
     let front = String::from_str(alloc, "<b>")?;
     assert!(rt; queue.push_front(front).is_ok());
     assert_eq!(rt; feed_until_done(&mut tokenizer, &mut queue), Ok(()));
@@ -147,8 +150,14 @@ fn pauses_twice_in_a_text(rt: HostRuntime) -> Result<(), Fail> {
     let mut tokenizer = begin(alloc, Steering::new(alloc), options(false, false), &names);
     let mut queue = BufferQueue::new(alloc);
     push_text(alloc, &mut queue, "<s><s>x")?;
-    assert_eq!(rt; feed(&mut tokenizer, &mut queue), Ok(TokenizerResult::Script(7)));
-    assert_eq!(rt; feed(&mut tokenizer, &mut queue), Ok(TokenizerResult::Script(7)));
+    assert_eq!(rt;
+        feed(&mut tokenizer, &mut queue),
+        Ok(TokenizerResult::Script(7))
+    );
+    assert_eq!(rt;
+        feed(&mut tokenizer, &mut queue),
+        Ok(TokenizerResult::Script(7))
+    );
     assert_eq!(rt; feed(&mut tokenizer, &mut queue), Ok(TokenizerResult::Done));
     assert!(rt; queue.is_empty());
     assert_eq!(rt; end_of(&rt, alloc, tokenizer)?.as_str(), lines);
