@@ -8,6 +8,8 @@ mod cdata_cases;
 #[cfg(test)]
 mod characters;
 #[cfg(test)]
+mod clones;
+#[cfg(test)]
 mod comment_cases;
 #[cfg(test)]
 mod doctype_cases;

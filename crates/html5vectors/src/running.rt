@@ -3,6 +3,7 @@ ghost use Rattle.std.specs.Prelude.{◌≡◌, IfOk};
 ghost use Rattle.html5reading.specs.Starting.{CanStart};
 
 use crate::calls::{begin, end, feed};
+use crate::clones::check_clones;
 use crate::lines::{exact_lines, lines_of};
 use crate::names::profile;
 use html5ever::tokenizer::{Tokenizer, TokenizerResult};
@@ -105,6 +106,7 @@ fn end_of(
     assert!(rt; !tokenizer.has_failed());
     let sink = tokenizer.into_sink();
     assert!(rt; sink.is_finished());
+    check_clones(rt, sink.entries())?;
     lines_of(alloc, sink.entries())
 }
 

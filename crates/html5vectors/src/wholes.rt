@@ -1,4 +1,5 @@
 //! Texts that one call reads whole.
+use crate::clones::check_clones;
 use crate::lines::lines_of;
 use crate::names::profile;
 use crate::running::{Start, options, options_from};
@@ -6,22 +7,10 @@ use crate::sinks::FaultySink;
 use html5ever::TokenizerError;
 use html5ever::tokenizer::laws::{cdata, closed, comment, doctype, raw, reference, tag};
 use html5ever_interface::collect::Collector;
-use html5ever_interface::interface::token::{Tag, Token};
 use html5ever_interface::states::{RawKind, State};
 use std::alloc::{AllocError, Global};
 use std::process::Abort;
 use std::test::Fail;
-
-// Looks at clones of a tag, of its name, and of its attributes.
-fn check_clones(rt: &impl Abort, tag: &Tag, lines: &str) -> Result<(), AllocError> {
-    assert!(rt; tag.try_clone()? == *tag, "{lines}");
-    assert!(rt; tag.name.try_clone()? == tag.name, "{lines}");
-    for attribute in &tag.attrs {
-        assert!(rt; attribute.try_clone()? == *attribute, "{lines}");
-        assert!(rt; attribute.name.try_clone()? == attribute.name, "{lines}");
-    }
-    Ok(())
-}
 
 // Looks at what a collector holds, and at clones of it.
 fn check_collected(
@@ -32,18 +21,7 @@ fn check_collected(
 ) -> Result<(), AllocError> {
     assert!(rt; sink.is_finished(), "{lines}");
     assert_eq!(rt; lines_of(alloc, sink.entries())?.as_str(), lines);
-    for (token, _) in sink.entries() {
-        assert!(rt; token.try_clone()? == *token, "{lines}");
-        match token {
-            Token::TagToken(tag) => check_clones(rt, tag, lines)?,
-            Token::DoctypeToken(doctype) => assert!(rt;
-                doctype.try_clone()? == *doctype,
-                "{lines}"
-            ),
-            _ => {}
-        }
-    }
-    Ok(())
+    check_clones(rt, sink.entries())
 }
 
 #[test]
