@@ -1,7 +1,6 @@
 //! Each request for memory refused in turn.
 ghost use Rattle.std.specs.Prelude.{◌≡◌, false};
 
-use crate::calls::{begin, end, feed};
 use crate::lines::lines_of;
 use crate::names::profile;
 use crate::refused::check_refused;
@@ -27,8 +26,8 @@ fn read_all<'h>(
 ) -> Result<(), TokenizerError>
     requires going_on { tokenizer.old.ended ≡ false }
 {
-    feed(tokenizer, queue)?;
-    end(tokenizer)
+    tokenizer.feed(queue)?;
+    tokenizer.end()
 }
 
 // Reads a text on the heap. Answers what was told, and why a call was refused; `None` where the text
@@ -47,7 +46,7 @@ fn told_on(
     let Ok(names) = profile(heap) else {
         return Ok(None);
     };
-    let mut tokenizer = begin(heap, Collector::new(heap, true), opts, &names);
+    let mut tokenizer = Tokenizer::new(heap, Collector::new(heap, true), opts, &names);
     let refused = read_all(&mut tokenizer, &mut queue).err();
     if refused.is_some() {
         check_refused(rt, &mut tokenizer, &mut queue, text);
