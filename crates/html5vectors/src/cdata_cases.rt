@@ -1,4 +1,5 @@
 //! CDATA sections, and which sinks are asked for one.
+use crate::calls::{begin, end, feed};
 use crate::lines::lines_of;
 use crate::names::profile;
 use crate::running::{
@@ -6,7 +7,7 @@ use crate::running::{
     push_text,
 };
 use crate::sinks::Alternating;
-use html5ever::tokenizer::{Tokenizer, TokenizerResult};
+use html5ever::tokenizer::TokenizerResult;
 use html5ever_interface::states::State;
 use markup5ever::buffer_queue::BufferQueue;
 use std::test::Fail;
@@ -369,15 +370,15 @@ fn asks_the_sink_behind_all_that_it_was_told(rt: HostRuntime) -> Result<(), Fail
     let alloc = rt.alloc();
     let names = profile(alloc)?;
     let sink = Alternating::new(alloc);
-    let mut tokenizer = Tokenizer::new(alloc, sink, options(false, false), &names);
+    let mut tokenizer = begin(alloc, sink, options(false, false), &names);
     let mut queue = BufferQueue::new(alloc);
     for piece in ["<a><![CDATA[x]]><b><!", "[CDATA[x]]><c>y"] {
         push_text(alloc, &mut queue, piece)?;
         assert!(rt; !tokenizer.is_ended());
-        assert_eq!(rt; tokenizer.feed(&mut queue), Ok(TokenizerResult::Done));
+        assert_eq!(rt; feed(&mut tokenizer, &mut queue), Ok(TokenizerResult::Done));
     }
     assert!(rt; !tokenizer.is_ended());
-    assert_eq!(rt; tokenizer.end(), Ok(()));
+    assert_eq!(rt; end(&mut tokenizer), Ok(()));
     let sink = tokenizer.into_sink();
     let told = lines_of(alloc, sink.inner.entries())?;
     assert_eq!(rt;

@@ -2,9 +2,13 @@
 #![tactic(auto)]
 
 #[cfg(test)]
+mod calls;
+#[cfg(test)]
 mod cdata_cases;
 #[cfg(test)]
 mod characters;
+#[cfg(test)]
+mod clones;
 #[cfg(test)]
 mod comment_cases;
 #[cfg(test)]
@@ -19,6 +23,8 @@ mod examples;
 mod faults;
 #[cfg(test)]
 mod kept_parts;
+#[cfg(test)]
+mod keys;
 #[cfg(test)]
 mod lines;
 #[cfg(test)]

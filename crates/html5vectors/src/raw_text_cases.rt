@@ -1,9 +1,10 @@
 //! Raw text and scripts: which end tags end them, and what is pending within them.
+use crate::calls::{begin, feed};
 use crate::lines::lines_of;
 use crate::names::profile;
 use crate::running::{Case, Start, check_case_from, options, options_from, push_text};
 use crate::sinks::Steering;
-use html5ever::tokenizer::{Tokenizer, TokenizerResult};
+use html5ever::tokenizer::TokenizerResult;
 use html5ever_interface::collect::Collector;
 use html5ever_interface::states::{RawKind, State};
 use markup5ever::buffer_queue::BufferQueue;
@@ -665,12 +666,12 @@ fn says_whether_nothing_is_pending_in_raw_text(rt: HostRuntime) -> Result<(), Fa
             foreign: false,
         };
         let opts = options_from(alloc, false, start)?;
-        let mut tokenizer = Tokenizer::new(alloc, Collector::new(alloc, false), opts, &names);
+        let mut tokenizer = begin(alloc, Collector::new(alloc, false), opts, &names);
         let mut queue = BufferQueue::new(alloc);
         assert!(rt; tokenizer.nothing_pending(), "before {text:?}");
         push_text(alloc, &mut queue, text)?;
         assert_eq!(rt;
-            tokenizer.feed(&mut queue),
+            feed(&mut tokenizer, &mut queue),
             Ok(TokenizerResult::Done),
             "{text:?}"
         );
@@ -696,16 +697,16 @@ fn check_two(
     };
     let opts = options_from(alloc, false, start)?;
     let names = profile(alloc)?;
-    let mut tokenizer = Tokenizer::new(alloc, Collector::new(alloc, false), opts, &names);
+    let mut tokenizer = begin(alloc, Collector::new(alloc, false), opts, &names);
     let mut queue = BufferQueue::new(alloc);
     push_text(alloc, &mut queue, texts.0)?;
-    assert_eq!(rt; tokenizer.feed(&mut queue), Ok(TokenizerResult::Done));
+    assert_eq!(rt; feed(&mut tokenizer, &mut queue), Ok(TokenizerResult::Done));
     assert_eq!(rt; tokenizer.nothing_pending(), clean);
     let told = lines_of(alloc, tokenizer.sink.entries())?;
     assert_eq!(rt; told.as_str(), lines.0);
     push_text(alloc, &mut queue, texts.1)?;
     assert!(rt; !tokenizer.is_ended());
-    assert_eq!(rt; tokenizer.feed(&mut queue), Ok(TokenizerResult::Done));
+    assert_eq!(rt; feed(&mut tokenizer, &mut queue), Ok(TokenizerResult::Done));
     let told = lines_of(alloc, tokenizer.sink.entries())?;
     assert_eq!(rt; told.as_str(), lines.1);
     Ok(())
@@ -759,13 +760,13 @@ fn reads_raw_text_behind_a_tag_that_asks_for_it(rt: HostRuntime) -> Result<(), F
     ];
     for (texts, lines) in cases {
         let opts = options(false, false);
-        let mut tokenizer = Tokenizer::new(alloc, Steering::new(alloc), opts, &names);
+        let mut tokenizer = begin(alloc, Steering::new(alloc), opts, &names);
         let mut queue = BufferQueue::new(alloc);
         push_text(alloc, &mut queue, texts.0)?;
-        assert_eq!(rt; tokenizer.feed(&mut queue), Ok(TokenizerResult::Done));
+        assert_eq!(rt; feed(&mut tokenizer, &mut queue), Ok(TokenizerResult::Done));
         push_text(alloc, &mut queue, texts.1)?;
         assert!(rt; !tokenizer.is_ended(), "{lines}");
-        assert_eq!(rt; tokenizer.feed(&mut queue), Ok(TokenizerResult::Done));
+        assert_eq!(rt; feed(&mut tokenizer, &mut queue), Ok(TokenizerResult::Done));
         let told = lines_of(alloc, tokenizer.sink.inner.entries())?;
         assert_eq!(rt; told.as_str(), lines);
     }

@@ -2,6 +2,8 @@
 ghost use Rattle.std.specs.Prelude.{◌≡◌, IfOk};
 ghost use Rattle.html5reading.specs.Starting.{CanStart};
 
+use crate::calls::{begin, end, feed};
+use crate::clones::check_clones;
 use crate::lines::{exact_lines, lines_of};
 use crate::names::profile;
 use html5ever::tokenizer::{Tokenizer, TokenizerResult};
@@ -87,7 +89,7 @@ fn feed_piece(
 ) -> Result<(), AllocError> {
     push_text(alloc, queue, piece)?;
     assert!(rt; !tokenizer.is_ended());
-    assert_eq!(rt; tokenizer.feed(queue), Ok(TokenizerResult::Done));
+    assert_eq!(rt; feed(tokenizer, queue), Ok(TokenizerResult::Done));
     assert!(rt; queue.is_empty());
     Ok(())
 }
@@ -99,11 +101,12 @@ fn end_of(
     mut tokenizer: Tokenizer<'_, Collector>,
 ) -> Result<String, AllocError> {
     assert!(rt; !tokenizer.is_ended());
-    assert_eq!(rt; tokenizer.end(), Ok(()));
+    assert_eq!(rt; end(&mut tokenizer), Ok(()));
     assert!(rt; tokenizer.is_ended());
     assert!(rt; !tokenizer.has_failed());
     let sink = tokenizer.into_sink();
     assert!(rt; sink.is_finished());
+    check_clones(rt, sink.entries())?;
     lines_of(alloc, sink.entries())
 }
 
@@ -118,7 +121,7 @@ pub fn lines_of_pieces(
 ) -> Result<String, AllocError>
     requires starts { CanStart opts.initial_state }
 {
-    let mut tokenizer = Tokenizer::new(alloc, Collector::new(alloc, foreign), opts, names);
+    let mut tokenizer = begin(alloc, Collector::new(alloc, foreign), opts, names);
     let mut queue = BufferQueue::new(alloc);
     for piece in pieces {
         feed_piece(rt, alloc, &mut tokenizer, &mut queue, piece)?;
@@ -137,7 +140,7 @@ fn lines_of_characters(
 ) -> Result<String, AllocError>
     requires starts { CanStart opts.initial_state }
 {
-    let mut tokenizer = Tokenizer::new(alloc, Collector::new(alloc, foreign), opts, names);
+    let mut tokenizer = begin(alloc, Collector::new(alloc, foreign), opts, names);
     let mut queue = BufferQueue::new(alloc);
     for c in text.chars() {
         let mut piece = String::new(alloc);
@@ -256,7 +259,7 @@ pub fn check_decided_from(
     let names = profile(alloc)?;
     let opts = options_from(alloc, false, start)?;
     let sink = Collector::new(alloc, start.foreign);
-    let mut tokenizer = Tokenizer::new(alloc, sink, opts, &names);
+    let mut tokenizer = begin(alloc, sink, opts, &names);
     let mut queue = BufferQueue::new(alloc);
     feed_piece(rt, alloc, &mut tokenizer, &mut queue, text)?;
     assert_eq!(rt; tokenizer.nothing_pending(), clean, "{text:?}");

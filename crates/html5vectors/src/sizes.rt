@@ -77,11 +77,11 @@ fn repeated(
 }
 
 #[test]
-fn tells_a_million_ampersands(rt: HostRuntime) -> Result<(), Fail> {
+fn tells_a_hundred_thousand_ampersands(rt: HostRuntime) -> Result<(), Fail> {
     let alloc = rt.alloc();
     let names = profile(alloc)?;
-    let text = repeated(alloc, "", "&&&&&&&&&&", 100_000, "")?;
-    let lines = repeated(alloc, "text \"", "&&&&&&&&&&", 100_000, "\"\neof 1")?;
+    let text = repeated(alloc, "", "&&&&&&&&&&", 10_000, "")?;
+    let lines = repeated(alloc, "text \"", "&&&&&&&&&&", 10_000, "\"\neof 1")?;
     let told = lines_of_pieces(&rt, alloc, options(false, false), false, &names, &[&text])?;
     assert!(rt; told == lines);
     Ok(())
