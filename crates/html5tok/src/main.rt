@@ -1,15 +1,8 @@
 //! A tokenizer's program.
 #![tactic(auto)]
 
-mod arguments;
-mod device;
-mod fault;
-mod names;
-mod print;
-mod run;
-
-use crate::device::{ReadSource, WriteTarget};
-use crate::run::{given_words, report, run};
+use devices::{ReadSource, WriteTarget};
+use html5cli::run::{given_words, report, run};
 use std::process::ExitCode;
 
 fn main(rt: HostRuntime) -> ExitCode {

@@ -1,10 +1,11 @@
 //! Where a sink faults, the tokenizer stops.
+use crate::calls::{begin, end, feed};
 use crate::names::profile;
 use crate::refused::{check_refused, drained};
 use crate::running::{options, push_text};
 use crate::sinks::FaultySink;
 use html5ever::TokenizerError;
-use html5ever::tokenizer::{Tokenizer, TokenizerResult};
+use html5ever::tokenizer::TokenizerResult;
 use markup5ever::buffer_queue::BufferQueue;
 use std::alloc::{AllocError, Global};
 use std::process::Abort;
@@ -45,11 +46,11 @@ fn check_stop(rt: &impl Abort, alloc: Global, stop: Stop) -> Result<(), AllocErr
     let (text, plain, taken, took_another, left) = stop;
     let opts = options(false, plain);
     let names = profile(alloc)?;
-    let mut tokenizer = Tokenizer::new(alloc, FaultySink::new(taken, false), opts, &names);
+    let mut tokenizer = begin(alloc, FaultySink::new(taken, false), opts, &names);
     let mut queue = BufferQueue::new(alloc);
     push_text(alloc, &mut queue, text)?;
     assert_eq!(rt;
-        tokenizer.feed(&mut queue),
+        feed(&mut tokenizer, &mut queue),
         Err(TokenizerError::Sink),
         "{text} at {taken}"
     );
@@ -98,17 +99,17 @@ fn check_end(rt: &impl Abort, alloc: Global, stop: EndStop) -> Result<(), AllocE
     let (text, plain, taken, took_another, end_faults) = stop;
     let opts = options(false, plain);
     let names = profile(alloc)?;
-    let mut tokenizer = Tokenizer::new(alloc, FaultySink::new(taken, end_faults), opts, &names);
+    let mut tokenizer = begin(alloc, FaultySink::new(taken, end_faults), opts, &names);
     let mut queue = BufferQueue::new(alloc);
     push_text(alloc, &mut queue, text)?;
     assert_eq!(rt;
-        tokenizer.feed(&mut queue),
+        feed(&mut tokenizer, &mut queue),
         Ok(TokenizerResult::Done),
         "{text} at {taken}"
     );
     assert!(rt; queue.is_empty(), "{text} at {taken}");
     assert_eq!(rt;
-        tokenizer.end(),
+        end(&mut tokenizer),
         Err(TokenizerError::Sink),
         "{text} at {taken}"
     );

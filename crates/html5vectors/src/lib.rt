@@ -2,15 +2,11 @@
 #![tactic(auto)]
 
 #[cfg(test)]
-mod cdata_cases;
+mod calls;
+#[cfg(test)]
+mod foreign;
 #[cfg(test)]
 mod characters;
-#[cfg(test)]
-mod comment_cases;
-#[cfg(test)]
-mod doctype_cases;
-#[cfg(test)]
-mod end_cases;
 #[cfg(test)]
 mod errors;
 #[cfg(test)]
@@ -19,6 +15,8 @@ mod examples;
 mod faults;
 #[cfg(test)]
 mod kept_parts;
+#[cfg(test)]
+mod keys;
 #[cfg(test)]
 mod lines;
 #[cfg(test)]
@@ -30,8 +28,6 @@ mod pause_cases;
 #[cfg(test)]
 mod raw_text_cases;
 #[cfg(test)]
-mod reference_cases;
-#[cfg(test)]
 mod refused;
 #[cfg(test)]
 mod running;
@@ -41,9 +37,5 @@ mod runs;
 mod sinks;
 #[cfg(test)]
 mod sizes;
-#[cfg(test)]
-mod tag_cases;
-#[cfg(test)]
-mod text_cases;
 #[cfg(test)]
 mod wholes;

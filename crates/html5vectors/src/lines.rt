@@ -149,28 +149,3 @@ pub fn lines_of<A: Allocator>(
     }
     Ok(out)
 }
-
-// Appends a line as it stands with exact errors, which name no state.
-fn push_exact(out: &mut String, line: &str) -> Result<(), AllocError> {
-    if let Some((head, _)) = line.split_once(" \"Saw EOF in state ") {
-        out.push_str(head)?;
-        return out.push_str(" \"Unexpected EOF\"");
-    }
-    if let Some((head, _)) = line.split_once(" \"Saw ") {
-        out.push_str(head)?;
-        return out.push_str(" \"Bad character\"");
-    }
-    out.push_str(line)
-}
-
-/// The same lines with exact errors, where no character is a bad one.
-pub fn exact_lines(alloc: Global, lines: &str) -> Result<String, AllocError> {
-    let mut out = String::new(alloc);
-    for line in lines.lines() {
-        if !out.is_empty() {
-            out.push('\n')?;
-        }
-        push_exact(&mut out, line)?;
-    }
-    Ok(out)
-}

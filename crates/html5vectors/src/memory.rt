@@ -1,6 +1,7 @@
 //! Each request for memory refused in turn.
 ghost use Rattle.std.specs.Prelude.{◌≡◌, false};
 
+use crate::calls::{begin, end, feed};
 use crate::lines::lines_of;
 use crate::names::profile;
 use crate::refused::check_refused;
@@ -26,8 +27,8 @@ fn read_all<'h>(
 ) -> Result<(), TokenizerError>
     requires going_on { tokenizer.old.ended ≡ false }
 {
-    tokenizer.feed(queue)?;
-    tokenizer.end()
+    feed(tokenizer, queue)?;
+    end(tokenizer)
 }
 
 // Reads a text on the heap. Answers what was told, and why a call was refused; `None` where the text
@@ -46,7 +47,7 @@ fn told_on(
     let Ok(names) = profile(heap) else {
         return Ok(None);
     };
-    let mut tokenizer = Tokenizer::new(heap, Collector::new(heap, true), opts, &names);
+    let mut tokenizer = begin(heap, Collector::new(heap, true), opts, &names);
     let refused = read_all(&mut tokenizer, &mut queue).err();
     if refused.is_some() {
         check_refused(rt, &mut tokenizer, &mut queue, text);

@@ -1,4 +1,5 @@
 //! What a refused tokenizer does.
+use crate::calls::{end, feed};
 use html5ever::TokenizerError;
 use html5ever::tokenizer::Tokenizer;
 use html5ever_interface::interface::sink::TokenSink;
@@ -16,10 +17,10 @@ pub fn check_refused<S: TokenSink<Token<A>>, A: Allocator + Copy>(
 ) {
     assert!(rt; tokenizer.has_failed(), "{name}");
     assert!(rt; !tokenizer.is_ended(), "{name}");
-    let fed = matches!(tokenizer.feed(queue), Err(TokenizerError::Failed));
+    let fed = matches!(feed(tokenizer, queue), Err(TokenizerError::Failed));
     assert!(rt; fed, "{name}");
     assert!(rt; !tokenizer.is_ended(), "{name}");
-    let ended = matches!(tokenizer.end(), Err(TokenizerError::Failed));
+    let ended = matches!(end(tokenizer), Err(TokenizerError::Failed));
     assert!(rt; ended, "{name}");
     assert!(rt; tokenizer.has_failed(), "{name}");
     assert!(rt; !tokenizer.is_ended(), "{name}");

@@ -1,8 +1,9 @@
 //! Runs that are read at once.
+use crate::calls::{begin, feed};
 use crate::names::profile;
 use crate::running::{options, push_text};
 use crate::sinks::FaultySink;
-use html5ever::tokenizer::{Tokenizer, TokenizerResult};
+use html5ever::tokenizer::TokenizerResult;
 use markup5ever::buffer_queue::BufferQueue;
 use refusing::Refusing;
 use std::test::Fail;
@@ -21,12 +22,12 @@ fn a_run_that_is_all_that_waits_takes_no_memory(rt: HostRuntime) -> Result<(), F
     let sink = FaultySink::new(LETTERS, false);
     let ample = Refusing::new(rt.alloc(), u64::MAX);
     let names = profile(&ample)?;
-    let mut tokenizer = Tokenizer::new(&heap, sink, options(false, false), &names);
+    let mut tokenizer = begin(&heap, sink, options(false, false), &names);
     let mut queue = BufferQueue::new(&heap);
     push_text(&heap, &mut queue, "b")?;
-    assert!(rt; matches!(tokenizer.feed(&mut queue), Ok(TokenizerResult::Done)));
+    assert!(rt; matches!(feed(&mut tokenizer, &mut queue), Ok(TokenizerResult::Done)));
     push_text(&heap, &mut queue, &text)?;
-    assert!(rt; matches!(tokenizer.feed(&mut queue), Ok(TokenizerResult::Done)));
+    assert!(rt; matches!(feed(&mut tokenizer, &mut queue), Ok(TokenizerResult::Done)));
     assert!(rt; queue.is_empty());
     assert!(rt; !heap.has_refused());
     Ok(())

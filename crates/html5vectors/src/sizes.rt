@@ -1,35 +1,9 @@
-//! What takes room is read where there is memory for it: long characters, long texts, many attributes.
+//! Long texts are read where there is memory for them.
 use crate::names::profile;
-use crate::running::{Case, check_case, lines_of_pieces, options};
+use crate::running::{cut, lines_of_pieces, options};
 use std::alloc::{AllocError, Global};
+use std::process::Abort;
 use std::test::Fail;
-
-const TAGS: [Case<'static>; 2] = [
-    (
-        "characters above U+FFFF",
-        &["\u{1f600}<a\u{1f601} b\u{1f602}=\u{1f603} c=\"\u{10348}\">\u{1f604}"],
-        false,
-        "text \"\u{1f600}\"\n\
-         start 1 \"a\u{1f601}\" \"b\u{1f602}\"=\"\u{1f603}\" \"c\"=\"\u{10348}\"\n\
-         text \"\u{1f604}\"\n\
-         eof 1",
-    ),
-    (
-        "ten attributes",
-        &["<a b=0 c=1 d=2 e=3 f=4 g=5 h=6 i=7 j=8 k=9>"],
-        false,
-        "start 1 \"a\" \"b\"=\"0\" \"c\"=\"1\" \"d\"=\"2\" \"e\"=\"3\" \"f\"=\"4\" \"g\"=\"5\" \"h\"=\"6\" \"i\"=\"7\" \"j\"=\"8\" \"k\"=\"9\"\n\
-         eof 1",
-    ),
-];
-
-#[test]
-fn tells_long_characters_and_many_attributes(rt: HostRuntime) -> Result<(), Fail> {
-    for case in TAGS {
-        check_case(&rt, rt.alloc(), false, case)?;
-    }
-    Ok(())
-}
 
 // A text of three hundred letters.
 fn long_text(alloc: Global) -> Result<String, AllocError> {
@@ -40,23 +14,28 @@ fn long_text(alloc: Global) -> Result<String, AllocError> {
     Ok(text)
 }
 
+// Looks at what a text tells, cut in two at its middle.
+fn check_long(rt: &impl Abort, alloc: Global, text: &str, lines: &str) -> Result<(), AllocError> {
+    let names = profile(alloc)?;
+    let (first, second) = cut(alloc, text, text.len() / 2)?;
+    let pieces = [first.as_str(), second.as_str()];
+    let told = lines_of_pieces(rt, alloc, options(false, false), false, &names, &pieces)?;
+    assert_eq!(rt; told.as_str(), lines);
+    Ok(())
+}
+
 #[test]
 fn tells_long_texts(rt: HostRuntime) -> Result<(), Fail> {
     let alloc = rt.alloc();
     let long = long_text(alloc)?;
     let lines = format!(in alloc; "text \"{long}\"\neof 1")?;
-    for plain in [false, true] {
-        let pieces = [long.as_str()];
-        check_case(&rt, alloc, plain, ("a text", &pieces, false, &lines))?;
-    }
+    check_long(&rt, alloc, &long, &lines)?;
     let tag = format!(in alloc; "<{long} {long}='{long}'>")?;
     let lines = format!(in alloc; "start 1 \"{long}\" \"{long}\"=\"{long}\"\neof 1")?;
-    let pieces = [tag.as_str()];
-    check_case(&rt, alloc, false, ("a tag", &pieces, false, &lines))?;
+    check_long(&rt, alloc, &tag, &lines)?;
     let comment = format!(in alloc; "<!--{long}-->")?;
     let lines = format!(in alloc; "comment 1 \"{long}\"\neof 1")?;
-    let pieces = [comment.as_str()];
-    check_case(&rt, alloc, false, ("a comment", &pieces, false, &lines))?;
+    check_long(&rt, alloc, &comment, &lines)?;
     Ok(())
 }
 
@@ -77,11 +56,11 @@ fn repeated(
 }
 
 #[test]
-fn tells_a_million_ampersands(rt: HostRuntime) -> Result<(), Fail> {
+fn tells_a_hundred_thousand_ampersands(rt: HostRuntime) -> Result<(), Fail> {
     let alloc = rt.alloc();
     let names = profile(alloc)?;
-    let text = repeated(alloc, "", "&&&&&&&&&&", 100_000, "")?;
-    let lines = repeated(alloc, "text \"", "&&&&&&&&&&", 100_000, "\"\neof 1")?;
+    let text = repeated(alloc, "", "&&&&&&&&&&", 10_000, "")?;
+    let lines = repeated(alloc, "text \"", "&&&&&&&&&&", 10_000, "\"\neof 1")?;
     let told = lines_of_pieces(&rt, alloc, options(false, false), false, &names, &[&text])?;
     assert!(rt; told == lines);
     Ok(())

@@ -1,12 +1,12 @@
 //! Texts that one call reads whole.
 use crate::lines::lines_of;
 use crate::names::profile;
-use crate::running::options;
+use crate::running::{Start, options, options_from};
 use crate::sinks::FaultySink;
 use html5ever::TokenizerError;
-use html5ever::tokenizer::laws::{cdata, closed, comment, doctype, reference, tag};
+use html5ever::tokenizer::laws::{cdata, closed, comment, doctype, raw, reference, tag};
 use html5ever_interface::collect::Collector;
-use html5ever_interface::interface::token::Token;
+use html5ever_interface::states::{RawKind, State};
 use std::alloc::{AllocError, Global};
 use std::process::Abort;
 use std::test::Fail;
@@ -20,17 +20,6 @@ fn check_collected(
 ) -> Result<(), AllocError> {
     assert!(rt; sink.is_finished(), "{lines}");
     assert_eq!(rt; lines_of(alloc, sink.entries())?.as_str(), lines);
-    for (token, _) in sink.entries() {
-        assert!(rt; token.try_clone()? == *token, "{lines}");
-        match token {
-            Token::TagToken(tag) => assert!(rt; tag.try_clone()? == *tag, "{lines}"),
-            Token::DoctypeToken(doctype) => assert!(rt;
-                doctype.try_clone()? == *doctype,
-                "{lines}"
-            ),
-            _ => {}
-        }
-    }
     Ok(())
 }
 
@@ -157,6 +146,7 @@ fn reads_one_section(rt: HostRuntime) -> Result<(), Fail> {
              text \"]\"\n\
              eof 1",
         ),
+        ("<![CDATA[a]]]>", "text \"a]\"\neof 1"),
         ("<![CDATA[]]>", "eof 1"),
         (
             "<![CDATA[a]]\0",
@@ -170,6 +160,42 @@ fn reads_one_section(rt: HostRuntime) -> Result<(), Fail> {
         let text = String::from_str(alloc, text)?;
         let names = profile(alloc)?;
         let sink = cdata(alloc, options(false, false), true, &names, text)?;
+        check_collected(&rt, alloc, &sink, lines)?;
+    }
+    Ok(())
+}
+
+#[test]
+fn reads_raw_text(rt: HostRuntime) -> Result<(), Fail> {
+    let alloc = rt.alloc();
+    let cases = [
+        (
+            "<!--<script></script>--></script>",
+            "text \"<!--<script></script>-->\"\n\
+             end 1 \"script\"\n\
+             eof 1",
+        ),
+        (
+            "a\0</SCRIPT b>",
+            "text \"a\"\n\
+             error 1 \"Saw \\u{0} in state RawData(ScriptData)\"\n\
+             text \"\u{fffd}\"\n\
+             error 1 \"Attributes on an end tag\"\n\
+             end 1 \"script\" \"b\"=\"\"\n\
+             eof 1",
+        ),
+        ("<!-->x", "text \"<!-->x\"\neof 1"),
+    ];
+    for (text, lines) in cases {
+        let text = String::from_str(alloc, text)?;
+        let names = profile(alloc)?;
+        let start = Start {
+            state: Some(State::RawData(RawKind::ScriptData)),
+            last: Some("script"),
+            foreign: false,
+        };
+        let opts = options_from(alloc, false, start)?;
+        let sink = raw(alloc, opts, false, &names, text)?;
         check_collected(&rt, alloc, &sink, lines)?;
     }
     Ok(())

@@ -1,0 +1,28 @@
+//! Runs the worked cases of its input: each whole, and in pieces of each length.
+#![tactic(auto)]
+
+mod case;
+mod check;
+mod clones;
+mod fault;
+
+use crate::check::check_cases;
+use devices::{ReadSource, WriteTarget, read_to_end, write_all};
+use std::process::ExitCode;
+
+fn main(rt: HostRuntime) -> ExitCode {
+    let Ok(bytes) = read_to_end(rt.alloc(), &mut ReadSource::new(rt.stdin())) else {
+        return ExitCode::from(2);
+    };
+    let Ok(text) = String::from_utf8(bytes) else {
+        return ExitCode::from(2);
+    };
+    let Ok(told) = check_cases(rt.alloc(), &text) else {
+        return ExitCode::from(2);
+    };
+    let written = write_all(&mut WriteTarget::new(rt.stdout()), told.lines.as_bytes());
+    if written.is_err() || told.failed != 0 {
+        return ExitCode::from(1);
+    }
+    ExitCode::SUCCESS
+}

@@ -1,0 +1,4 @@
+pub mod Cuts
+pub mod Feeding
+pub mod PrintedPages
+pub mod SettingsLemmas

@@ -1,0 +1,110 @@
+-- The page of a whole reading, and what is known of the bytes of a reader that was read to its end.
+use Rattle.std.proofs.Common.{◌≡◌, ℕ, Bool, List, [], ◌∷◌, ◌++◌, Option, None, Some, refl, ap, sym, ◌∙◌, subst}
+use Rattle.std.specs.Prelude.{IfSome, codes}
+use Rattle.std.specs.Io.KnownBytes.{Consumes, IsAtEnd, Keeps}
+use Rattle.std.specs.Str.{chars}
+use Rattle.std.proofs.lemmas.List.{append-nil, append_assoc, map-append}
+use Rattle.html5ever_interface.specs.Sink.{Message, stepped, on_line}
+use Rattle.html5ever_interface.specs.Token.{Told, Reply}
+use Rattle.html5ever_interface.specs.Token.Told.{Text, Comment, End}
+use Rattle.html5ever_interface.specs.declared.states.State.TheVariants as state
+use Rattle.html5grammar.specs.Comment.{comment_content, comment_state}
+use Rattle.html5grammar.specs.Doctype.{with_quirks}
+use Rattle.html5grammar.specs.EndOfInput.{late_at_end_of, open_at_end_of, told_at_doctype_end, told_at_end_of, told_at_raw_end, raw_end_error, state_at}
+use Rattle.html5grammar.specs.ErrorText.{end_error_in}
+use Rattle.html5grammar.specs.NormalisedText.{normalised, line_after}
+use Rattle.html5grammar.specs.Reading.{Event, end_events, late_events, read, reading, told, messages, after}
+use Rattle.html5grammar.specs.Reading.TextPlace.{EndOfInput}
+use Rattle.html5grammar.specs.Start.{Start, Mode, Open, Rules, start_of}
+use Rattle.html5grammar.specs.Start.Mode.{Data, Plain, RawText, Cdata}
+use Rattle.html5grammar.specs.Start.DoctypePlace.{Skipped}
+use Rattle.html5grammar.specs.Start.Open.{Between, LessThan, LessThanSolidus, InTag, InRaw, InDeclaration, InComment, InBogusComment, InDoctype, InDoctypeKeyword, InCdata, InReference}
+use Rattle.html5grammar.specs.Start.Place.{InValue}
+use Rattle.html5grammar.specs.Start.Stand.{InText, InAttribute}
+use Rattle.html5grammar.proofs.ReadingLemmas.{reading-events}
+use Rattle.html5grammar.proofs.Traces.{messages-append, messages-map}
+use Rattle.html5ever.specs.Tokenizer.{Tokenizing, StandsAt}
+use Rattle.html5print.specs.Page.{Page, Printer, page_step, page_reply, page_foreign, blank_page}
+use Rattle.html5print.proofs.Pages.{lines-stepped}
+use Rattle.devices.specs.Device.{ConsumesBeginning}
+use Rattle.html5cli.specs.Printing.{printed_reading}
+use Rattle.html5cli.specs.Settings.{SettingsOf, rules_said}
+
+-- the end is told last
+EndsWithEnd : List Told → Type 0
+EndsWithEnd tokens = (front : List Told) × (tokens ≡ front ++ End ∷ [])
+
+between-ends : (exact : Bool) (mode : Mode) → EndsWithEnd (told_at_end_of exact (Between mode))
+unfolding told_at_end_of EndsWithEnd
+between-ends exact Data = ([], refl)
+between-ends exact Plain = ([], refl)
+between-ends exact Cdata = (end_error_in exact state.CdataSection ∷ [], refl)
+between-ends exact (RawText raw name) = (raw_end_error exact raw, refl)
+
+told_at_end_of-ends : (rules : Rules) (opened : Open) → EndsWithEnd (told_at_end_of rules.exact (open_at_end_of rules opened))
+unfolding told_at_end_of open_at_end_of EndsWithEnd
+told_at_end_of-ends rules (Between mode) = between-ends rules.exact mode
+told_at_end_of-ends rules LessThan = (end_error_in rules.exact state.TagOpen ∷ Text (codes "<") ∷ [], refl)
+told_at_end_of-ends rules LessThanSolidus = (end_error_in rules.exact state.EndTagOpen ∷ Text (codes "<") ∷ Text (codes "/") ∷ [], refl)
+told_at_end_of-ends rules (InTag place tag) = (end_error_in rules.exact (state_at place) ∷ [], refl)
+told_at_end_of-ends rules (InRaw place name) = (told_at_raw_end rules.exact place, refl)
+told_at_end_of-ends rules (InDeclaration held) = (Comment held ∷ [], refl)
+told_at_end_of-ends rules (InComment text) = (end_error_in rules.exact (comment_state state.CommentEnd text) ∷ Comment (comment_content text) ∷ [], refl)
+told_at_end_of-ends rules (InBogusComment text) = (Comment text ∷ [], refl)
+told_at_end_of-ends rules (InDoctype place doctype) = (told_at_doctype_end rules.exact place doctype, refl)
+told_at_end_of-ends rules (InDoctypeKeyword held doctype) = (told_at_doctype_end rules.exact Skipped (with_quirks doctype), refl)
+told_at_end_of-ends rules (InCdata text) = (Text text ∷ end_error_in rules.exact state.CdataSection ∷ [], refl)
+told_at_end_of-ends rules (InReference (InText mode) held) = between-ends rules.exact mode
+told_at_end_of-ends rules (InReference (InAttribute kind tag) held) = (end_error_in rules.exact (state_at (InValue kind)) ∷ [], refl)
+
+-- a reading ends with the end of input
+module _ (rules : Rules) (K : Start) (p : Page) (X : List ℕ) where
+  abbrev reply : Page → Told → ℕ → Reply (Unit {0})
+  reply = page_reply
+
+  -- what the end decides of a reference
+  abbrev late-events : List Event
+  late-events = late_events K.input (normalised K.input X) EndOfInput (late_at_end_of rules (read page_step reply page_foreign rules K p X).opened)
+
+  front-messages : List Told → List Message
+  front-messages tokens = messages (told page_step reply page_foreign rules K p X) ++ (messages late-events ++ on_line (line_after K.input (normalised K.input X)) tokens)
+
+  reading-ends : (tokens : List Told) → told_at_end_of rules.exact (open_at_end_of rules (read page_step reply page_foreign rules K p X).opened) ≡ tokens ++ End ∷ []
+      → messages (reading page_step reply page_foreign rules K p X)
+      ≡ front-messages tokens ++ record { token = End; line = line_after K.input (normalised K.input X) } ∷ []
+  unfolding end_events front-messages
+  reading-ends tokens ends =
+      let line : ℕ = line_after K.input (normalised K.input X) in
+      let front : List Message = messages (told page_step reply page_foreign rules K p X) in
+      let end : List Message = record { token = End; line = line } ∷ [] in
+      ap (λ E. messages E) (reading-events page_step reply page_foreign rules K p X)
+      ∙ messages-append (told page_step reply page_foreign rules K p X) (end_events page_step reply page_foreign rules K (read page_step reply page_foreign rules K p X).opened (normalised K.input X))
+      ∙ ap (λ M. front ++ M)
+      (messages-append late-events _
+      ∙ ap (λ M. messages late-events ++ M)
+      (messages-map _ _ (λ t. refl) (told_at_end_of rules.exact (open_at_end_of rules (read page_step reply page_foreign rules K p X).opened))
+      ∙ ap (on_line line) ends
+      ∙ map-append (λ (token : Told). record { token = token; line = line }) tokens (End ∷ []))
+      ∙ sym (append_assoc (messages late-events) (on_line line tokens) end))
+      ∙ sym (append_assoc front (messages late-events ++ on_line line tokens) end)
+
+-- a page that a reading was printed to has its lines
+pub printed-page : (rules : Rules) (settings : SettingsOf) (p : Page) (bytes : List ℕ)
+    → rules ≡ rules_said settings → p ≡ blank_page settings.foreign
+    → (stepped page_step p (messages (reading page_step page_reply page_foreign rules (start_of settings.opts) p (chars bytes)))).lines ≡ printed_reading settings bytes
+unfolding printed_reading EndsWithEnd
+printed-page rules settings p bytes same blank =
+    let M : List Message = messages (reading page_step page_reply page_foreign (rules_said settings) (start_of settings.opts) (blank_page settings.foreign) (chars bytes)) in
+    let ends = told_at_end_of-ends (rules_said settings) (read page_step page_reply page_foreign (rules_said settings) (start_of settings.opts) (blank_page settings.foreign) (chars bytes)).opened in
+    rw (same, blank) (lines-stepped (blank_page settings.foreign) M _ _ refl
+    (reading-ends (rules_said settings) (start_of settings.opts) (blank_page settings.foreign) (chars bytes) ends.0 ends.1))
+
+-- bytes that were read to their end are all that there was
+pub Consumes-whole : (old new : Option (List ℕ)) (bytes : List ℕ) → IfSome old (λ xs. bytes ≡ xs) → IsAtEnd new → ConsumesBeginning old new → Consumes old new bytes
+Consumes-whole None new bytes whole at_end consumed = tt
+Consumes-whole (Some xs) None bytes whole at_end consumed = absurd consumed.1
+Consumes-whole (Some xs) (Some ys) bytes whole at_end consumed = sym whole ∙ sym (append-nil bytes) ∙ ap (λ l. bytes ++ l) (sym at_end)
+
+pub Keeps-same : (known : Option (List ℕ)) → Keeps known known
+Keeps-same None = tt
+Keeps-same (Some xs) = refl

@@ -1,0 +1,39 @@
+-- The printed reading of bytes, and what printing it leaves at the reader and the writer.
+use Rattle.std.specs.Prelude.{◌≡◌, ℕ, List, Option}
+use Rattle.std.specs.Io.KnownBytes.{Appends, Consumes, IsAtEnd, Keeps}
+use Rattle.std.specs.Str.{IsUtf8, chars}
+use Rattle.devices.specs.Device.{AppendsBeginning}
+use Rattle.html5print.specs.Page.{blank_page, page_step, page_reply, page_foreign}
+use Rattle.html5print.specs.Printed.{printed}
+use Rattle.html5grammar.specs.Reading.{reading, messages, after}
+use Rattle.html5grammar.specs.Start.{Open, start_of}
+use Rattle.html5cli.specs.Settings.{SettingsOf, rules_said}
+
+-- the printed lines of the reading of a text, whose bytes are given: the cut is not in it
+unfoldable pub printed_reading : SettingsOf → List ℕ → List ℕ
+printed_reading settings bytes =
+    printed (messages (reading page_step page_reply page_foreign (rules_said settings) (start_of settings.opts) (blank_page settings.foreign) (chars bytes)))
+
+-- the reader was read to its end, what it gave is UTF-8, and what was written is its printed reading
+pub record PrintsReading (settings : SettingsOf) (unread left written after : Option (List ℕ)) : Type 0 where
+  pub bytes : List ℕ
+  pub consumed : Consumes unread left bytes
+  pub at_end : IsAtEnd left
+  pub utf8 : IsUtf8 bytes
+  pub printed : Appends written after (printed_reading settings bytes)
+
+-- the same, but only a beginning was written
+pub record PrintsBeginning (settings : SettingsOf) (unread left written after : Option (List ℕ)) : Type 0 where
+  pub bytes : List ℕ
+  pub consumed : Consumes unread left bytes
+  pub at_end : IsAtEnd left
+  pub utf8 : IsUtf8 bytes
+  pub printed : AppendsBeginning written after (printed_reading settings bytes)
+
+-- the reader was read to its end, what it gave is no UTF-8, and nothing was written
+pub record PrintsNothing (unread left written after : Option (List ℕ)) : Type 0 where
+  pub bytes : List ℕ
+  pub consumed : Consumes unread left bytes
+  pub at_end : IsAtEnd left
+  pub no_utf8 : ¬ IsUtf8 bytes
+  pub kept : Keeps written after

@@ -1,0 +1,254 @@
+ghost use Rattle.std.specs.Prelude.{◌≡◌, ◌≢◌, ◌↔◌, ◌+◌, ◌<◌, ◌≤◌, ◌⊎◌, [], true, false, IfOk, IfErr, OnOk, OnErr, length, take, drop, option_map, string_bytes};
+ghost use Rattle.std.specs.Io.KnownBytes.{Keeps};
+ghost use Rattle.std.specs.Str.{IsUtf8, chars};
+ghost use Rattle.devices.specs.Device.{IsRefusal, reported_failures};
+ghost use Rattle.html5print.specs.Page.{page_step, page_reply, page_foreign};
+ghost use Rattle.html5ever_interface.specs.Options.{options_of};
+ghost use Rattle.html5cli.specs.Settings.{options_said, said_by};
+ghost use Rattle.html5cli.specs.Printing.{printed_reading, PrintsReading, PrintsBeginning, PrintsNothing};
+ghost use Rattle.html5reading.specs.Starting.{CanStart};
+ghost use Rattle.html5ever.specs.Tokenizer.{ReadsOn};
+ghost use Rattle.markup5ever.specs.NamedReferences.{table_of};
+
+use devices::{Source, Target, read_to_end, write_all};
+use devices::Fault;
+use html5ever::TokenizerError;
+use html5ever::tokenizer::Tokenizer;
+use html5ever::tokenizer::steps::feed_until_done;
+use html5ever_interface::options::TokenizerOpts;
+use html5ever_interface::states::State;
+use html5print::print_sink::PrintSink;
+use markup5ever::buffer_queue::BufferQueue;
+use markup5ever::data::NamedReferences;
+use std::alloc::{AllocError, Allocator};
+
+/// How the program reads its input.
+#[derive(Clone, Copy, Debug, PartialEq, Eq)]
+pub struct Settings<'w> {
+    /// Report every bad character, and name no state in error messages.
+    pub exact_errors: bool,
+    /// Drop U+FEFF where it is the first character.
+    pub discard_bom: bool,
+    /// The state to start in, where it is not `Data`.
+    pub initial_state: Option<State>,
+    /// The name of the start tag before the input, where one is given.
+    pub last: Option<&'w str>,
+    /// The sink's answer about foreign content.
+    pub foreign: bool,
+    /// How many characters are fed at once, and 0 for all of them.
+    pub cut: usize,
+    /// The list of the table's entries.
+    pub table: &'w str,
+}
+
+// The fault that a refused call of the tokenizer means: its sink fails for want of memory alone.
+fn fault_of(error: TokenizerError) -> Fault
+    requires { error ≢ TokenizerError.Failed }
+    ensures refusal { IsRefusal result }
+{
+    match error {
+        TokenizerError::Memory | TokenizerError::Sink => Fault::Memory,
+        TokenizerError::Failed => unreachable!(),
+    }
+}
+
+// Feeds one piece of the text, past its pauses.
+fn feed_piece<A: Allocator + Copy>(
+    tokenizer: &mut Tokenizer<'_, PrintSink<A>, A>,
+    queue: &mut BufferQueue<A>,
+    piece: String<A>,
+) -> Result<(), Fault>
+    requires waiting { queue.old.text ≡ [] }
+    requires going_on { tokenizer.old.ended ≡ false }
+    requires not_failed { tokenizer.old.failed ≡ false }
+    ensures reads { OnOk result (ReadsOn (λ sink. sink.page) page_step page_reply page_foreign
+        tokenizer.old tokenizer.new (chars (string_bytes piece))) }
+    ensures taken { OnOk result (queue.new.text ≡ []) }
+    ensures rules { tokenizer.new.rules ≡ tokenizer.old.rules }
+    ensures going_on { tokenizer.new.ended ≡ false }
+    ensures not_failed { OnOk result (tokenizer.new.failed ≡ false) }
+    ensures err { IfErr result IsRefusal }
+{
+    if queue.push_back(piece).is_err() {
+        return Err(Fault::Memory);
+    }
+    match feed_until_done(tokenizer, queue) {
+        Ok(()) => Ok(()),
+        Err(error) => Err(fault_of(error)),
+    }
+}
+
+// How many bytes are looked at in one step.
+const BLOCK: usize = 16;
+
+// Whether a character begins at the byte.
+#[inline(always)]
+fn begins_character(byte: u8) -> bool
+    ensures { result ≡ true → 128 ≤ byte → 192 ≤ byte }
+{
+    (byte < 0x80) | (byte >= 0xC0)
+}
+
+// How many characters begin in the 16 bytes from this place on. It looks at each of them, so that the compiler makes it
+// one step over all.
+#[inline(always)]
+fn begun_within(bytes: &[u8], from: usize) -> usize
+    requires { from + BLOCK ≤ length bytes.now }
+    ensures { result ≤ BLOCK }
+{
+    let mut begun = 0u8;
+    for k in 0..BLOCK {
+        begun += u8::from(begins_character(bytes[from + k]));
+    }
+    usize::from(begun)
+}
+
+// The place behind `count` characters that begin at this place or behind it, or the end.
+#[inline(always)]
+fn place_behind(text: &str, from: usize, count: usize) -> usize
+    requires within { from ≤ length text.now }
+    requires some { from ≡ 0 → 0 < count }
+    ensures within { result ≤ length text.now }
+    ensures boundary { IsUtf8 (take result text.now) × IsUtf8 (drop result text.now) }
+    ensures some { 0 < length text.now → 0 < result }
+{
+    let bytes = text.as_bytes();
+    let mut left = count;
+    for at in from..bytes.len() {
+        if begins_character(bytes[at]) {
+            if left == 0 {
+                return at;
+            }
+            left -= 1;
+        }
+    }
+    bytes.len()
+}
+
+// How many bytes the first `count` characters take, or all where there are fewer.
+fn prefix_len(text: &str, count: usize) -> usize
+    requires { 0 < count }
+    ensures within { result ≤ length text.now }
+    ensures boundary { IsUtf8 (take result text.now) × IsUtf8 (drop result text.now) }
+    ensures some { 0 < length text.now → 0 < result }
+{
+    let bytes = text.as_bytes();
+    let mut len = 0;
+    let mut left = count;
+    while BLOCK <= left && BLOCK <= bytes.len() - len {
+        left -= begun_within(bytes, len);
+        len += BLOCK;
+    }
+    place_behind(text, len, left)
+}
+
+/// Feeds the text, cut into pieces of so many characters.
+pub fn feed_text<A: Allocator + Copy>(
+    alloc: A,
+    tokenizer: &mut Tokenizer<'_, PrintSink<A>, A>,
+    text: String<A>,
+    cut: usize,
+) -> Result<(), Fault>
+    requires going_on { tokenizer.old.ended ≡ false }
+    requires not_failed { tokenizer.old.failed ≡ false }
+    ensures reads { OnOk result (ReadsOn (λ sink. sink.page) page_step page_reply page_foreign
+        tokenizer.old tokenizer.new (chars (string_bytes text))) }
+    ensures rules { tokenizer.new.rules ≡ tokenizer.old.rules }
+    ensures going_on { tokenizer.new.ended ≡ false }
+    ensures not_failed { OnOk result (tokenizer.new.failed ≡ false) }
+    ensures err { IfErr result IsRefusal }
+{
+    let mut queue = BufferQueue::new(alloc);
+    if cut == 0 {
+        return feed_piece(tokenizer, &mut queue, text);
+    }
+    let mut start = 0;
+    while start < text.len() {
+        let end = start + prefix_len(&text[start..], cut);
+        let piece = String::from_str(alloc, &text[start..end])?;
+        feed_piece(tokenizer, &mut queue, piece)?;
+        start = end;
+    }
+    Ok(())
+}
+
+// The name as a text of its own, where there is one.
+fn owned<A: Allocator>(alloc: A, name: Option<&str>) -> Result<Option<String<A>>, AllocError>
+    ensures { IfOk result (λ owned. option_map string_bytes owned
+        ≡ option_map (λ name. name.now) name.entry) }
+{
+    match name {
+        None => Ok(None),
+        Some(name) => Ok(Some(String::from_str(alloc, name)?)),
+    }
+}
+
+/// The options that the settings give a tokenizer.
+pub fn options_of<A: Allocator>(
+    alloc: A,
+    settings: &Settings<'_>,
+) -> Result<TokenizerOpts<A>, AllocError>
+    ensures { IfOk result (λ opts. options_of opts ≡ options_said settings.now) }
+{
+    Ok(TokenizerOpts {
+        exact_errors: settings.exact_errors,
+        discard_bom: settings.discard_bom,
+        initial_state: settings.initial_state,
+        last_start_tag_name: owned(alloc, settings.last)?,
+    })
+}
+
+// Prints the reading of a text to a page.
+fn print_text<A: Allocator + Copy>(
+    alloc: A,
+    text: String<A>,
+    settings: &Settings<'_>,
+    names: &NamedReferences<A>,
+) -> Result<PrintSink<A>, Fault>
+    requires start { CanStart settings.now.initial_state }
+    requires names { names.now ≡ table_of (said_by settings.now).table }
+    ensures ok { IfOk result (λ sink. sink.page.lines ≡ printed_reading (said_by settings.now) (string_bytes text)) }
+    ensures err { IfErr result IsRefusal }
+{
+    let sink = PrintSink::new(alloc, settings.foreign);
+    let opts = options_of(alloc, settings)?;
+    let mut tokenizer = Tokenizer::new(alloc, sink, opts, names);
+    feed_text(alloc, &mut tokenizer, text, settings.cut)?;
+    match tokenizer.end() {
+        Ok(()) => Ok(tokenizer.into_sink()),
+        Err(error) => Err(fault_of(error)),
+    }
+}
+
+/// Reads the text of a source to its end and prints its reading by the table, a line for each token.
+pub fn print_tokens<R: Source, W: Target, A: Allocator + Copy>(
+    alloc: A,
+    reader: &mut R,
+    writer: &mut W,
+    settings: &Settings<'_>,
+    names: &NamedReferences<A>,
+) -> Result<(), Fault>
+    requires start { CanStart settings.now.initial_state }
+    requires names { names.now ≡ table_of (said_by settings.now).table }
+    ensures ok { OnOk result (PrintsReading (said_by settings.now)
+        (R.remaining reader.old) (R.remaining reader.new) (W.contents writer.old) (W.contents writer.new)) }
+
+    // When each fault comes, and what it leaves.
+    ensures not_utf8 { result ≡ Err Fault.NotUtf8
+        → PrintsNothing
+        (R.remaining reader.old) (R.remaining reader.new) (W.contents writer.old) (W.contents writer.new) }
+    ensures beginning { OnErr result (Keeps (W.contents writer.old) (W.contents writer.new)
+        ⊎ PrintsBeginning (said_by settings.now)
+        (R.remaining reader.old) (R.remaining reader.new) (W.contents writer.old) (W.contents writer.new)) }
+    ensures failed_read { R.failures reader.new ≢ R.failures reader.old
+        → Keeps (W.contents writer.old) (W.contents writer.new) }
+    ensures device { R.failures reader.new + W.failures writer.new
+        ≡ R.failures reader.old + W.failures writer.old + reported_failures result }
+{
+    let bytes = read_to_end(alloc, reader)?;
+    let Ok(text) = String::from_utf8(bytes) else {
+        return Err(Fault::NotUtf8);
+    };
+    let sink = print_text(alloc, text, settings, names)?;
+    write_all(writer, sink.page())
+}

@@ -1,9 +1,0 @@
-use Rattle.std.proofs.Common.{◌-◌, length, string_bytes}
-use Rattle.html5tok.proofs.Feeding.{FedTo}
-use Rattle.html5tok.proofs.print.feed_text.Given as goal
-
-abbrev pub invariant-loop-start : goal.invariant-loop-start
-invariant-loop-start g l = FedTo l.initial.tokenizer l.tokenizer (string_bytes l.text) l.start l.queue
-
-abbrev pub decreases-loop-start : goal.decreases-loop-start
-decreases-loop-start g l = length (string_bytes l.text) - l.start

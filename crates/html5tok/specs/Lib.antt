@@ -1,4 +1,0 @@
-pub mod Device
-pub mod Settings
-pub mod Printing
-pub mod Ending
