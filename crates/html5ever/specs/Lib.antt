@@ -1,2 +1,3 @@
 pub mod Tokenizer
 pub mod RunSteps
+pub mod Pieces

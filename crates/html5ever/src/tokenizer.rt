@@ -23,8 +23,10 @@ pub mod collect;
 pub mod laws;
 pub mod states;
 pub mod steps;
+pub mod whole;
 
 pub use crate::tokenizer::steps::{Step, feed_until_done, run_steps};
+pub use crate::tokenizer::whole::{read_pieces, read_whole};
 pub use html5ever_interface::interface::sink::{Says, TokenSink};
 pub use html5ever_interface::interface::token::TagKind::{EndTag, StartTag};
 pub use html5ever_interface::interface::token::Token::{
@@ -173,6 +175,21 @@ impl<'t, Sink: TokenSink<Token<A>>, A: Allocator + Copy> Tokenizer<'t, Sink, A> 
         self.failed = result.is_err();
         self.ended = result.is_ok();
         result
+    }
+
+    /// Tells the end of the input as `end` does, and gives the sink back, with what it was told.
+    pub fn finish(mut self) -> (Sink, Result<(), TokenizerError>)
+        requires { self.ended ≡ false }
+        ensures finishes { OnOk result.1
+            (Finishes Sink.state Sink.step Sink.reply Sink.foreign Sink.finish self.entry (Sink.state result.0)) }
+        ensures failed_before { (result.1 ≡ Err TokenizerError.Failed) ↔ (self.entry.failed ≡ true) }
+        ensures unchanged { self.entry.failed ≡ true → result.0 ≡ self.entry.sink }
+        ensures stops { IfErr result.1 (λ error. StopsEnding Sink.state Sink.step Sink.reply Sink.foreign Sink.faulted
+            Sink.end_faulted error self.entry (Sink.state result.0)) }
+        ensures faults { Sink.faults result.0 ≡ Sink.faults self.entry.sink + faults_of result.1 }
+    {
+        let result = self.end();
+        (self.sink, result)
     }
 
     /// Whether nothing is pending: no item is open, and no call was refused, nor the end told. A CR

@@ -85,13 +85,13 @@ fn tells_a_comment_of_dashes(rt: HostRuntime) -> Result<(), Fail> {
 }
 
 #[test]
-fn tells_a_number_of_a_million_digits(rt: HostRuntime) -> Result<(), Fail> {
+fn tells_a_number_of_many_digits(rt: HostRuntime) -> Result<(), Fail> {
     let alloc = rt.alloc();
     let names = profile(alloc)?;
-    let text = repeated(alloc, "&#x", "0000000000", 100_000, "41;")?;
+    let text = repeated(alloc, "&#x", "0000000000", 10_000, "41;")?;
     let told = lines_of_pieces(&rt, alloc, options(false, false), false, &names, &[&text])?;
     assert_eq!(rt; told.as_str(), "text \"A\"\neof 1");
-    let text = repeated(alloc, "&#", "9999999999", 100_000, ";")?;
+    let text = repeated(alloc, "&#", "9999999999", 10_000, ";")?;
     let told = lines_of_pieces(&rt, alloc, options(false, false), false, &names, &[&text])?;
     let lines = "error 1 \"Invalid numeric character reference\"\ntext \"\u{fffd}\"\neof 1";
     assert_eq!(rt; told.as_str(), lines);

@@ -1,5 +1,5 @@
 //! Laws of whole texts, on calls that read one.
-ghost use Rattle.std.specs.Prelude.{◌≡◌, ℕ, ◌+◌, true, false, List, [], map, IfErr, IfOk, OnOk, string_bytes};
+ghost use Rattle.std.specs.Prelude.{◌≡◌, ℕ, ◌+◌, true, List, [], map, IfErr, IfOk, OnOk, string_bytes};
 ghost use Rattle.std.specs.List.{concat};
 ghost use Rattle.std.specs.Str.{chars};
 ghost use Rattle.html5ever_interface.specs.Collected.{none_collected, collected_step, collected_finish};
@@ -17,63 +17,18 @@ ghost use Rattle.html5ever.specs.RunSteps.{run_text};
 ghost use Rattle.html5ever.specs.RunSteps.StepOf.{AtBack};
 ghost use Rattle.html5states.specs.Telling.{IsRefusal, faults_of};
 ghost use Rattle.html5reading.specs.Starting.{CanStart};
-ghost use Rattle.html5ever.specs.Tokenizer.{rules_of, ReadsWhole, StopsWhole, EndStops, collected_of};
+ghost use Rattle.html5ever.specs.Tokenizer.{rules_of, EndStops, collected_of};
 
-use crate::tokenizer::Tokenizer;
-use crate::tokenizer::steps::feed_until_done;
+use crate::tokenizer::whole::read_whole;
 use html5ever_interface::collect::Collector;
 use html5ever_interface::interface::sink::TokenSink;
 use html5ever_interface::interface::token::Token;
 use html5ever_interface::options::TokenizerOpts;
 use html5parts::error::TokenizerError;
-use markup5ever::buffer_queue::BufferQueue;
 use markup5ever::data::NamedReferences;
 use std::alloc::Allocator;
 
-// Feeds a tokenizer a text, and ends.
-fn read_whole<S: TokenSink<Token<A>>, A: Allocator + Copy>(
-    alloc: A,
-    tokenizer: &mut Tokenizer<'_, S, A>,
-    text: String<A>,
-) -> Result<(), TokenizerError>
-    requires going_on { tokenizer.old.ended ≡ false }
-    requires not_failed { tokenizer.old.failed ≡ false }
-    ensures finishes { OnOk result (ReadsWhole S.state S.step S.reply S.foreign S.finish tokenizer.old
-        (chars (string_bytes text)) (S.state tokenizer.new.sink)) }
-    ensures stops { IfErr result (λ error. StopsWhole S.state S.step S.reply S.foreign S.faulted S.end_faulted
-        error tokenizer.old (chars (string_bytes text)) (S.state tokenizer.new.sink)) }
-    ensures faults { S.faults tokenizer.new.sink ≡ S.faults tokenizer.old.sink + faults_of result }
-{
-    let mut queue = BufferQueue::new(alloc);
-    let Ok(()) = queue.push_back(text) else {
-        return Err(TokenizerError::Memory);
-    };
-    feed_until_done(tokenizer, &mut queue)?;
-    tokenizer.end()
-}
-
-/// Reads a whole text from the start of a stream, and hands the sink back: it has finished behind
-/// all that the text tells, or after a refusal it was told a beginning of that.
-pub fn closed<S: TokenSink<Token<A>>, A: Allocator + Copy>(
-    alloc: A,
-    sink: S,
-    opts: TokenizerOpts<A>,
-    names: &NamedReferences<A>,
-    text: String<A>,
-) -> (S, Result<(), TokenizerError>)
-    requires { CanStart opts.initial_state }
-    ensures finishes { OnOk result.1 (S.state result.0 ≡ S.finish (stepped S.step (S.state sink)
-        (messages (reading S.step S.reply S.foreign (rules_of (options_of opts) names.now) (start_of (options_of opts)) (S.state sink)
-        (chars (string_bytes text)))))) }
-    ensures stops { IfErr result.1 (λ error. EndStops S.step S.faulted S.end_faulted error (S.state sink)
-        (messages (reading S.step S.reply S.foreign (rules_of (options_of opts) names.now) (start_of (options_of opts)) (S.state sink)
-        (chars (string_bytes text)))) (S.state result.0)) }
-    ensures faults { S.faults result.0 ≡ S.faults sink + faults_of result.1 }
-{
-    let mut tokenizer = Tokenizer::new(alloc, sink, opts, names);
-    let result = read_whole(alloc, &mut tokenizer, text);
-    (tokenizer.into_sink(), result)
-}
+pub use crate::tokenizer::whole::read_whole as closed;
 
 // Reads a whole text by a collector.
 fn collect<A: Allocator + Copy>(
@@ -89,7 +44,7 @@ fn collect<A: Allocator + Copy>(
     ensures refusal { IfErr result IsRefusal }
 {
     let sink = Collector::new(alloc, foreign);
-    let (sink, read) = closed(alloc, sink, opts, names, text);
+    let (sink, read) = read_whole(alloc, sink, opts, names, text);
     match read {
         Ok(()) => Ok(sink),
         Err(error) => Err(error),

@@ -10,7 +10,7 @@ use Rattle.html5ever.proofs.tokenizer.laws.collect.Goals as goal
 
 pub returns-in-Err-clause-refusal : goal.returns-in-Err-clause-refusal
 returns-in-Err-clause-refusal g c =
-    let stops = rw c.in-Err.is at c.closed-sink.ensures.stops in
+    let stops = rw c.in-Err.is at c.read_whole-sink.ensures.stops in
     whole-refusal collected_step collected_faulted (λ s. s) c.in-Err.error c.new-sink.result.collected
     (messages (reading collected_step (collected_reply {H = Unit {0}}) collected_foreign (rules_of (options_of c.args.opts) c.args.names.now) (start_of (options_of c.args.opts)) c.new-sink.result.collected (chars (string_bytes c.args.text))))
-    c.closed-sink.result.0.collected stops
+    c.read_whole-sink.result.0.collected stops
