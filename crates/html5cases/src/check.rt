@@ -62,9 +62,11 @@ fn run_case(alloc: Global, case: &Case, cut: usize) -> Result<Ran, AllocError> {
 // Whether the program tells of the case, cut in pieces of so many characters, what it must tell.
 fn is_told(alloc: Global, case: &Case, cut: usize) -> Result<bool, AllocError> {
     let ran = run_case(alloc, case, cut)?;
-    Ok(ran.status == case.status
-        && ran.output.as_slice() == case.output.as_bytes()
-        && ran.errors.as_slice() == case.errors.as_bytes())
+    Ok(
+        ran.status == case.status
+            && ran.output.as_slice() == case.output.as_bytes()
+            && ran.errors.as_slice() == case.errors.as_bytes(),
+    )
 }
 
 // Whether of an input that may go on, cut in pieces of so many characters, is told what must be.
@@ -122,7 +124,10 @@ fn failing_cut(alloc: Global, case: &Case) -> Result<Option<usize>, CaseError> {
 fn check_case(alloc: Global, case: &Case, told: &mut Told) -> Result<(), CaseError> {
     let failing = failing_cut(alloc, case)?;
     if let Some(cut) = failing {
-        let line = format!(in alloc; "failed: {} {:?} in pieces of {cut}\n", case.name, case.input)?;
+        let line = format!(in alloc;
+            "failed: {} {:?} in pieces of {cut}\n",
+            case.name, case.input
+        )?;
         told.lines.push_str(&line)?;
     } else if case.status != 0 || check_clones(alloc, case)? {
         return Ok(());

@@ -12,9 +12,11 @@ use std::alloc::{AllocError, Global};
 
 // Whether the clones of a name equal it.
 fn is_cloned_name(name: &QualName) -> Result<bool, AllocError> {
-    Ok(name.try_clone()? == *name
-        && name.ns.try_clone()? == name.ns
-        && name.local.try_clone()? == name.local)
+    Ok(
+        name.try_clone()? == *name
+            && name.ns.try_clone()? == name.ns
+            && name.local.try_clone()? == name.local,
+    )
 }
 
 // Whether the clones of attributes equal them.

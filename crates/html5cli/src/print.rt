@@ -10,8 +10,7 @@ ghost use Rattle.html5reading.specs.Starting.{CanStart};
 ghost use Rattle.html5ever.specs.Tokenizer.{ReadsOn};
 ghost use Rattle.markup5ever.specs.NamedReferences.{table_of};
 
-use devices::{Source, Target, read_to_end, write_all};
-use devices::Fault;
+use devices::{Fault, Source, Target, read_to_end, write_all};
 use html5ever::TokenizerError;
 use html5ever::tokenizer::Tokenizer;
 use html5ever::tokenizer::steps::feed_until_done;

@@ -9,11 +9,10 @@ ghost use Rattle.html5cli.specs.declared.run.Ending.{Ending};
 ghost use Rattle.markup5ever.specs.declared.data.TableError.{TableError};
 
 use crate::arguments::settings_of;
-use devices::{Source, Target, write_all};
-use devices::Fault;
 use crate::names::names_of;
 use crate::print::print_tokens;
 use arrayvec::ArrayString;
+use devices::{Fault, Source, Target, write_all};
 use itoa::Buffer;
 use markup5ever::data::TableError;
 use std::alloc::Allocator;

@@ -4,8 +4,6 @@
 #[cfg(test)]
 mod calls;
 #[cfg(test)]
-mod foreign;
-#[cfg(test)]
 mod characters;
 #[cfg(test)]
 mod errors;
@@ -13,6 +11,8 @@ mod errors;
 mod examples;
 #[cfg(test)]
 mod faults;
+#[cfg(test)]
+mod foreign;
 #[cfg(test)]
 mod kept_parts;
 #[cfg(test)]

@@ -288,7 +288,11 @@ fn reads_plain_text_where_it_is_set(rt: HostRuntime) -> Result<(), Fail> {
 fn says_whether_nothing_is_pending(rt: HostRuntime) -> Result<(), Fail> {
     let alloc = rt.alloc();
     // A text, whether it is plain, and whether nothing is pending behind it.
-    let cases = [("", false, true), ("<a b=&", false, false), ("&", true, true)];
+    let cases = [
+        ("", false, true),
+        ("<a b=&", false, false),
+        ("&", true, true),
+    ];
     for (text, plain, expected) in cases {
         let opts = options(false, plain);
         let names = profile(alloc)?;

@@ -3,9 +3,9 @@ ghost use Rattle.html5reading.specs.Starting.{CanStart};
 ghost use Rattle.html5table.specs.Listed.{listed};
 
 use super::*;
+use crate::print::Settings;
 use devices::fakes::{FailingSource, FailingTarget, Refusal};
 use devices::{ReadSource, WriteTarget};
-use crate::print::Settings;
 use html5ever::tokenizer::{Tokenizer, TokenizerResult};
 use html5ever_interface::options::TokenizerOpts;
 use html5ever_interface::states::{RawKind, State};

@@ -20,6 +20,7 @@ ghost use Rattle.html5reading.specs.Starting.{CanStart};
 ghost use Rattle.html5ever.specs.Tokenizer.{rules_of, EndStops, collected_of};
 
 use crate::tokenizer::whole::read_whole;
+pub use crate::tokenizer::whole::read_whole as closed;
 use html5ever_interface::collect::Collector;
 use html5ever_interface::interface::sink::TokenSink;
 use html5ever_interface::interface::token::Token;
@@ -27,8 +28,6 @@ use html5ever_interface::options::TokenizerOpts;
 use html5parts::error::TokenizerError;
 use markup5ever::data::NamedReferences;
 use std::alloc::Allocator;
-
-pub use crate::tokenizer::whole::read_whole as closed;
 
 // Reads a whole text by a collector.
 fn collect<A: Allocator + Copy>(
