@@ -1,0 +1,3 @@
+pub mod All
+pub mod Cuts
+pub mod Fronts
