@@ -2,3 +2,4 @@ pub mod Standing
 pub mod Wholes
 pub mod Draining
 pub mod StepRuns
+pub mod Handing

@@ -18,7 +18,6 @@ use Rattle.html5states.specs.Telling.{Stops, StopsWithin, IsRefusal}
 use Rattle.html5ever.specs.Tokenizer.{Tokenizing, StandsAt, EndStops}
 use Rattle.html5parts.specs.declared.error.TokenizerError.{TokenizerError}
 use Rattle.html5parts.specs.declared.error.TokenizerError.TheVariants.{Memory, Sink, Failed}
-use Rattle.markup5ever.specs.BufferQueue.{TextQueue, Gains}
 use Rattle.html5states.proofs.Tellings.{stops_before, stops_after}
 use Rattle.std.proofs.Math.Seq.{drop-append_seam}
 use Rattle.std.proofs.lemmas.List.{length-map}
@@ -95,14 +94,10 @@ module _ {X S H : Type 0} (state : X → S) (step : S → Told → ℕ → S) (r
       (inr (ended ∙ ap end_faulted (rw (stands.told) (sym (stepped-append step s (messages (told step reply foreign t.rules K s text)) (told_at_end step reply foreign t.rules K s text))))))
   whole-end_stops end_faulted Failed t K s u text stands stops = stops
 
-  pub whole-memory : (t : Tokenizing X) (K : Start) (s : S) (M : List Message) → StandsAt state step reply foreign t K s []
-      → StopsWithin step faulted s M (state t.sink)
-  unfolding stepped
-  whole-memory t K s M stands = record { before = []; rest = M; parts = refl; state = state-start t K s stands }
-
--- the queue has the text alone
-pub queued : (old new : TextQueue) (text : List ℕ) → old.text ≡ [] → Gains old new text → new.text ≡ text
-queued old new text none gains = gains.text ∙ ap (λ l. l ++ text) none
+-- a sink that was told nothing yet
+pub untold : {S : Type 0} → (step faulted : S → Told → ℕ → S) (s : S) (M : List Message) → StopsWithin step faulted s M s
+unfolding stepped
+untold step faulted s M = record { before = []; rest = M; parts = refl; state = refl }
 
 -- the reading of a whole text isn't refused for an earlier refusal
 pub whole-refusal : {S : Type 0} → (step faulted : S → Told → ℕ → S) (end_faulted : S → S) (e : TokenizerError) (s : S) (M : List Message) (t : S)

@@ -189,7 +189,7 @@ impl<'t, Sink: TokenSink<Token<A>>, A: Allocator + Copy> Tokenizer<'t, Sink, A> 
         ensures faults { Sink.faults result.0 ≡ Sink.faults self.entry.sink + faults_of result.1 }
     {
         let result = self.end();
-        (self.sink, result)
+        (self.into_sink(), result)
     }
 
     /// Whether nothing is pending: no item is open, and no call was refused, nor the end told. A CR

@@ -68,9 +68,9 @@ fn hand_in_pieces<A: Allocator + Copy>(
     ensures err { IfErr result (λ error. error ≡ TokenizerError.Memory) }
 {
     for piece in pieces {
-        if queue.push_back(piece).is_err() {
+        let Ok(()) = queue.push_back(piece) else {
             return Err(TokenizerError::Memory);
-        }
+        };
     }
     Ok(())
 }

@@ -1,0 +1,7 @@
+use Rattle.html5ever.proofs.tokenizer.Tokenizer.finish.Goals as goal
+
+pub returns-clause-finishes : goal.returns-clause-finishes
+returns-clause-finishes g c = rw c.into_sink.ensures c.end-result.ensures.finishes
+
+pub returns-clause-stops : goal.returns-clause-stops
+returns-clause-stops g c = rw c.into_sink.ensures c.end-result.ensures.stops
