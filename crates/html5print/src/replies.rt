@@ -1,11 +1,11 @@
 //! What is replied to each token.
 ghost use Rattle.std.specs.Prelude.{◌≡◌, map, option_map, string_bytes, IfOk};
-ghost use Rattle.html5print.specs.Replies.{charset_of, reply_to_charset, raw_text_in, reply_to_raw_text, reply_to_start, reply_to_end, reply_to};
+ghost use Rattle.html5print.specs.Replies.{charset_of, reply_to_charset, reply_to_start, reply_to_end, reply_to};
 ghost use Rattle.html5ever_interface.specs.Token.{told_by, reply_of};
 ghost use Rattle.markup5ever.specs.Names.{attribute_of};
 
 use html5ever_interface::interface::token::{TagKind, Token, TokenSinkResult};
-use html5ever_interface::states::RawKind;
+use html5sinks::replies::standard_reply_to_start;
 use markup5ever::interface::Attribute;
 use std::alloc::{AllocError, Allocator};
 
@@ -36,29 +36,6 @@ fn reply_to_charset<A: Allocator + Copy>(
     }
 }
 
-// The kind of raw text that stands behind a start tag of this name, if any does.
-#[tactic(auto, unfolding(crate::specs::Replies::raw_text_in))]
-fn raw_text_in(name: &str) -> Option<RawKind>
-    ensures { result ≡ raw_text_in name.now }
-{
-    match name {
-        "title" | "textarea" => Some(RawKind::Rcdata),
-        "style" | "xmp" | "iframe" | "noembed" | "noframes" => Some(RawKind::Rawtext),
-        "script" => Some(RawKind::ScriptData),
-        _ => None,
-    }
-}
-
-// What is replied to a start tag behind which raw text may stand.
-fn reply_to_raw_text<A: Allocator>(kind: Option<RawKind>) -> TokenSinkResult<(), String<A>>
-    ensures { reply_of string_bytes result ≡ reply_to_raw_text kind }
-{
-    match kind {
-        None => TokenSinkResult::Continue,
-        Some(kind) => TokenSinkResult::RawData(kind),
-    }
-}
-
 // What is replied to a start tag.
 #[tactic(auto, unfolding(crate::specs::Replies::reply_to_start))]
 fn reply_to_start<A: Allocator + Copy>(
@@ -68,13 +45,10 @@ fn reply_to_start<A: Allocator + Copy>(
     ensures { IfOk result (λ reply. reply_of string_bytes reply
         ≡ reply_to_start name.now (map attribute_of attributes.now)) }
 {
-    if name == "plaintext" {
-        return Ok(TokenSinkResult::Plaintext);
-    }
     if name == "meta" {
         return reply_to_charset(charset_of(attributes));
     }
-    Ok(reply_to_raw_text(raw_text_in(name)))
+    Ok(standard_reply_to_start(name))
 }
 
 // What is replied to an end tag.

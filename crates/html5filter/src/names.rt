@@ -1,0 +1,57 @@
+use html5cli::names::names_of;
+use html5table::{has_form, profile};
+use markup5ever::data::{NamedReferences, TableError};
+use std::alloc::Allocator;
+use std::fs;
+use std::fs::Files;
+
+/// Why there is no table of names.
+#[derive(Clone, Copy, Debug, PartialEq, Eq)]
+pub enum NamesError {
+    /// The file can't be read.
+    Unreadable,
+    /// The file is no list of names.
+    NoList,
+    /// The list makes no table.
+    Table(TableError),
+}
+
+impl NamesError {
+    /// Why, in words.
+    pub fn message(self) -> &'static str {
+        match self {
+            NamesError::Unreadable => "the file can't be read",
+            NamesError::NoList => "the file has no list of names",
+            NamesError::Table(TableError::Memory) => "out of memory",
+            NamesError::Table(_) => "the list makes no table",
+        }
+    }
+}
+
+/// The table of names of a file, or else a few names.
+pub fn read_names<R: Files + Alloc>(
+    rt: &R,
+    path: Option<&str>,
+) -> Result<NamedReferences<R::A>, NamesError>
+where
+    R::A: Copy,
+{
+    let Some(path) = path else {
+        return table_of(rt.alloc(), profile());
+    };
+    let Ok(list) = fs::read_to_string(rt, path) else {
+        return Err(NamesError::Unreadable);
+    };
+    table_of(rt.alloc(), list.trim_end())
+}
+
+// The table of a list.
+fn table_of<A: Allocator + Copy>(alloc: A, list: &str) -> Result<NamedReferences<A>, NamesError> {
+    if !has_form(list) {
+        return Err(NamesError::NoList);
+    }
+    match names_of(alloc, list) {
+        Ok(names) => Ok(names),
+        Err(error) => Err(NamesError::Table(error)),
+    }
+}

@@ -1,0 +1,55 @@
+ghost use Rattle.std.specs.Prelude.{◌≡◌};
+
+use devices::Target;
+use markup5ever::count::Count;
+use std::io;
+use std::io::{ErrorKind, Write};
+
+/// A writer as a target, which knows whether its reader has gone away.
+#[derive(Drop)]
+pub struct Output<W> {
+    inner: W,
+    is_closed: bool,
+    failures: Count,
+}
+
+impl<W> Output<W> {
+    pub fn new(inner: W) -> Output<W>
+        ensures inner { result.inner ≡ inner }
+        ensures failures { result.failures.total ≡ 0 }
+    {
+        Output {
+            inner,
+            is_closed: false,
+            failures: Count::new(),
+        }
+    }
+
+    /// Whether a write failed since nobody reads any more.
+    pub fn is_closed(&self) -> bool
+        ensures { result ≡ self.now.is_closed }
+    {
+        self.is_closed
+    }
+}
+
+impl<W: Write> Target for Output<W> {
+    ghost contents = { λ t. W.contents t.inner };
+
+    ghost failures = { λ t. t.failures.total };
+
+    fn write(&mut self, buf: &[u8]) -> io::Result<usize> {
+        match self.inner.write(buf) {
+            Ok(0) if !buf.is_empty() => {
+                self.failures.add(1);
+                Ok(0)
+            }
+            Ok(n) => Ok(n),
+            Err(e) => {
+                self.is_closed = e.kind() == ErrorKind::BrokenPipe;
+                self.failures.add(1);
+                Err(e)
+            }
+        }
+    }
+}

@@ -1,0 +1,168 @@
+use crate::messages::Messages;
+use crate::names::read_names;
+use crate::output::Output;
+use crate::words::words_of;
+use devices::{ReadSource, Source, Target, WriteTarget, write_all};
+use html5stream::StreamError;
+use markup5ever::data::NamedReferences;
+use printer::{Logged, Printer};
+use std::alloc::Global;
+use std::fs::{File, Files};
+use std::io::{Read, Write};
+
+/// What a program makes of the pages that it reads: what it prints.
+pub trait Filter<W: Target + Drop>: Drop {
+    /// A filter that has read nothing, and prints to this printer.
+    fn new(alloc: Global, printer: Printer<W>) -> Self;
+
+    /// Reads a page, and prints what it makes of it as it arrives.
+    fn read_page<R: Source>(
+        self,
+        alloc: Global,
+        source: &mut R,
+        names: &NamedReferences,
+    ) -> (Self, Result<(), StreamError>);
+
+    /// The printer, with what was printed.
+    fn into_printer(self) -> Printer<W>;
+}
+
+/// The name of a program, and how it is used.
+#[derive(Clone, Copy, Debug, PartialEq, Eq)]
+pub struct Program<'p> {
+    pub name: &'p str,
+    pub help: &'p str,
+}
+
+/// The status of a program that did all that it was asked for.
+const DONE: u8 = 0;
+
+/// The status of a program that could not read an input or write what it printed.
+const FAILED: u8 = 1;
+
+/// The status of a program whose words are wrong, or their table.
+const WRONG: u8 = 2;
+
+// Why an input was not read to its end.
+fn why(error: StreamError) -> &'static str {
+    match error {
+        StreamError::Read => "can't be read",
+        StreamError::NotUtf8 { valid_up_to: _ } => "is no UTF-8",
+        StreamError::Memory => "out of memory",
+        StreamError::Sink => "can't be printed",
+        StreamError::TooLong => "does not end",
+    }
+}
+
+// Reads a file, or standard input where it is named `-`.
+fn read_file<F: Filter<W>, W: Target + Drop, R: Files + Alloc<A = Global>, I: Source>(
+    rt: &R,
+    filter: F,
+    names: &NamedReferences,
+    stdin: &mut I,
+    file: &str,
+) -> (F, Result<(), StreamError>) {
+    if file == "-" {
+        return filter.read_page(rt.alloc(), stdin, names);
+    }
+    match File::open(rt, file) {
+        Ok(opened) => filter.read_page(rt.alloc(), &mut ReadSource::new(opened), names),
+        Err(_) => (filter, Err(StreamError::Read)),
+    }
+}
+
+// Reads the files, up to one that can't be printed. Answers the filter, and whether all were read.
+fn read_files<F: Filter<W>, W: Target + Drop, R: Files + Alloc<A = Global>, I: Source, E: Target>(
+    rt: &R,
+    filter: F,
+    names: &NamedReferences,
+    stdin: &mut I,
+    files: &[&str],
+    messages: &mut Messages<'_, E>,
+) -> (F, bool) {
+    let mut filter = filter;
+    let mut all = true;
+    for file in files {
+        let (behind, read) = read_file(rt, filter, names, stdin, file);
+        filter = behind;
+        match read {
+            Ok(()) => {}
+            Err(StreamError::Sink) => return (filter, false),
+            Err(error) => {
+                messages.say(file, why(error));
+                all = false;
+            }
+        }
+    }
+    (filter, all)
+}
+
+// Reads the files and prints what the filter makes of them.
+fn filter_files<
+    F: Filter<Logged<Output<O>>>,
+    R: Files + Alloc<A = Global>,
+    I: Source,
+    O: Write + Drop,
+    E: Target,
+>(
+    rt: &R,
+    names: &NamedReferences,
+    files: &[&str],
+    stdin: &mut I,
+    stdout: O,
+    messages: &mut Messages<'_, E>,
+) -> u8 {
+    let printer = Printer::new(rt.alloc(), Logged::new(Output::new(stdout)));
+    let filter = F::new(rt.alloc(), printer);
+    let (filter, all) = read_files(rt, filter, names, stdin, files, messages);
+    let (target, written) = filter.into_printer().finish();
+    if written.is_ok() && all {
+        return DONE;
+    }
+    if target.inner().is_closed() {
+        return DONE;
+    }
+    if written.is_err() {
+        messages.say("output", "can't be written");
+    }
+    FAILED
+}
+
+/// Runs a program: `words` are those behind its name. Answers the status that the process ends with.
+/// Where the reader of the output goes away it ends without a word.
+pub fn run<
+    F: Filter<Logged<Output<O>>>,
+    R: Files + Alloc<A = Global>,
+    I: Read + Drop,
+    O: Write + Drop,
+    E: Write + Drop,
+>(rt: &R, program: Program, words: &[String], stdin: I, stdout: O, stderr: E) -> u8 {
+    let mut messages = Messages::new(rt.alloc(), program.name, WriteTarget::new(stderr));
+    let Ok(asked) = words_of(rt.alloc(), words) else {
+        messages.say("words", "out of memory");
+        return FAILED;
+    };
+    if asked.help {
+        let _ = write_all(&mut WriteTarget::new(stdout), program.help.as_bytes());
+        return DONE;
+    }
+    if let Some(word) = asked.wrong {
+        messages.say(
+            word,
+            "unknown word, or a word is missing behind it; try --help",
+        );
+        return WRONG;
+    }
+    let names = match read_names(rt, asked.names) {
+        Ok(names) => names,
+        Err(error) => {
+            messages.say("names", error.message());
+            return WRONG;
+        }
+    };
+    let stdin = &mut ReadSource::new(stdin);
+    if asked.files.is_empty() {
+        return filter_files::<F, R, _, O, _>(rt, &names, &["-"], stdin, stdout, &mut messages);
+    }
+    filter_files::<F, R, _, O, _>(rt, &names, &asked.files, stdin, stdout, &mut messages)
+}

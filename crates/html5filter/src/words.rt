@@ -1,0 +1,58 @@
+use std::alloc::{AllocError, Allocator, Global};
+
+/// What the words of the command line ask for.
+#[derive(Drop)]
+pub struct Words<'w, A: Allocator = Global> {
+    /// That the program says how it is used.
+    pub help: bool,
+    /// The file of the table of names, where one is given.
+    pub names: Option<&'w str>,
+    /// The files to read, in order. `-` is standard input.
+    pub files: Vec<&'w str, A>,
+    /// The first word that is unknown, or that another must follow.
+    pub wrong: Option<&'w str>,
+}
+
+impl<'w, A: Allocator + Copy> Words<'w, A> {
+    // What no word asks for.
+    fn none(alloc: A) -> Words<'w, A> {
+        Words {
+            help: false,
+            names: None,
+            files: Vec::new(alloc),
+            wrong: None,
+        }
+    }
+
+    // Takes a word that is no option with a word behind it.
+    fn take(&mut self, word: &'w str) -> Result<(), AllocError> {
+        if word == "--help" {
+            self.help = true;
+        } else if word == "-" || !word.starts_with('-') {
+            self.files.push(word)?;
+        } else if self.wrong.is_none() {
+            self.wrong = Some(word);
+        }
+        Ok(())
+    }
+}
+
+/// What the words ask for that stand behind the program's name.
+pub fn words_of<'w, A: Allocator + Copy>(
+    alloc: A,
+    words: &'w [String<A>],
+) -> Result<Words<'w, A>, AllocError> {
+    let mut asked = Words::none(alloc);
+    let mut words = words.iter();
+    while let Some(word) = words.next() {
+        if word.as_str() != "--names" {
+            asked.take(word.as_str())?;
+            continue;
+        }
+        match words.next() {
+            Some(path) => asked.names = Some(path.as_str()),
+            None => asked.wrong = Some(word.as_str()),
+        }
+    }
+    Ok(asked)
+}

@@ -1,0 +1,59 @@
+-- The links of a page, and how they are printed.
+use Rattle.std.specs.Prelude.{ℕ, Bool, List, [], ◌∷◌, ◌++◌, ◌||◌, nat_eq, Option, None, Some, codes, decimal, if◌then◌else◌}
+use Rattle.std.specs.List.{flat_map}
+use Rattle.std.specs.Str.{bytes_eq}
+use Rattle.markup5ever.specs.Names.{AttributeOf}
+use Rattle.html5ever_interface.specs.Token.{TagOf}
+use Rattle.html5ever_interface.specs.declared.interface.token.TagKind.{TagKind}
+use Rattle.html5ever_interface.specs.declared.interface.token.TagKind.TheVariants.{StartTag, EndTag}
+
+-- the value of the first attribute of this name
+unfoldable pub value_of : List ℕ → List AttributeOf → Option (List ℕ)
+value_of name [] = None
+value_of name (a ∷ attributes) = if bytes_eq a.name.local name then Some a.value else value_of name attributes
+
+-- the attribute that holds the link of an element of this name
+unfoldable pub link_attribute : List ℕ → Option (List ℕ)
+link_attribute name =
+    if bytes_eq name (codes "a") || bytes_eq name (codes "area") || bytes_eq name (codes "link") then Some (codes "href")
+    else if bytes_eq name (codes "img") || bytes_eq name (codes "script") || bytes_eq name (codes "iframe") then Some (codes "src")
+    else None
+
+-- the value of the attribute, where there is one
+abbrev pub value_where : Option (List ℕ) → List AttributeOf → Option (List ℕ)
+value_where None attributes = None
+value_where (Some name) attributes = value_of name attributes
+
+-- the link of a tag of this kind
+abbrev pub link_by_kind : TagKind → List ℕ → List AttributeOf → Option (List ℕ)
+link_by_kind StartTag name attributes = value_where (link_attribute name) attributes
+link_by_kind EndTag name attributes = None
+
+-- the link of a tag
+abbrev pub link_of : TagOf → Option (List ℕ)
+link_of tag = link_by_kind tag.kind tag.name tag.attributes
+
+-- whether a byte breaks a line, or is a tab
+abbrev pub is_break : ℕ → Bool
+is_break byte = nat_eq byte 9 || nat_eq byte 10 || nat_eq byte 13
+
+-- a byte, where it is no such one
+abbrev pub kept : ℕ → List ℕ
+kept byte = if is_break byte then [] else byte ∷ []
+
+-- a link without its tabs and line breaks
+abbrev pub kept_of : List ℕ → List ℕ
+kept_of link = flat_map kept link
+
+-- the line that is printed for a link: the number of the line, and the link
+abbrev pub link_line : ℕ → List ℕ → List ℕ
+link_line line link = decimal line ++ codes " " ++ kept_of link ++ codes "\n"
+
+-- what is printed for a tag
+abbrev pub line_where : ℕ → Option (List ℕ) → List ℕ
+line_where line None = []
+line_where line (Some link) = link_line line link
+
+-- what was printed behind a tag
+abbrev pub links_step : List ℕ → TagOf → ℕ → List ℕ
+links_step printed tag line = printed ++ line_where line (link_of tag)

@@ -1,0 +1,142 @@
+//! The links of a page, and how they are printed.
+ghost use Rattle.std.specs.Prelude.{◌≡◌, ◌++◌, map, option_map, string_bytes, IfOk, OnOk};
+ghost use Rattle.html5ever_interface.specs.Token.{tag_of};
+ghost use Rattle.markup5ever.specs.Names.{attribute_of};
+ghost use Rattle.html5links.specs.Links.{value_of, link_attribute, link_of, kept, kept_of, link_line};
+
+use devices::Target;
+use html5ever_interface::interface::token::{SinkFault, Tag, TagKind};
+use html5sinks::tags::TagHandler;
+use itoa::Buffer;
+use markup5ever::interface::Attribute;
+use printer::Printer;
+use std::alloc::{AllocError, Allocator, Global};
+use std::marker::Model;
+
+// The value of the first attribute of this name.
+#[tactic(auto, unfolding(crate::specs::Links::value_of))]
+fn value_of<'t, A: Allocator>(attributes: &'t [Attribute<A>], name: &str) -> Option<&'t String<A>>
+    ensures { option_map (λ value. string_bytes value.now) result
+        ≡ value_of name.now (map attribute_of attributes.now) }
+{
+    for attribute in attributes {
+        if attribute.name.local.0.as_str() == name {
+            return Some(&attribute.value);
+        }
+    }
+    None
+}
+
+// The attribute that holds the link of an element of this name.
+#[tactic(auto, unfolding(crate::specs::Links::link_attribute))]
+fn link_attribute(name: &str) -> Option<&'static str>
+    ensures { option_map (λ attribute. attribute.now) result ≡ link_attribute name.now }
+{
+    match name {
+        "a" | "area" | "link" => Some("href"),
+        "img" | "script" | "iframe" => Some("src"),
+        _ => None,
+    }
+}
+
+/// The link of a tag: `href` of `a`, `area` and `link`, `src` of `img`, `script` and `iframe`.
+pub fn link_of<A: Allocator>(tag: &Tag<A>) -> Option<&String<A>>
+    ensures { option_map (λ link. string_bytes link.now) result ≡ link_of (tag_of tag.now) }
+{
+    match tag.kind {
+        TagKind::StartTag => match link_attribute(&tag.name.0) {
+            Some(attribute) => value_of(&tag.attrs, attribute),
+            None => None,
+        },
+        TagKind::EndTag => None,
+    }
+}
+
+// Appends a byte, where it is no tab and no line break.
+fn push_kept<A: Allocator>(line: &mut Vec<u8, A>, byte: u8) -> Result<(), AllocError>
+    ensures { OnOk result (line.new.items ≡ line.old.items ++ kept byte) }
+{
+    if matches!(byte, b'\t' | b'\n' | b'\r') {
+        return Ok(());
+    }
+    line.push(byte)?;
+    Ok(())
+}
+
+// Appends a link without its tabs and line breaks.
+fn push_link<A: Allocator>(line: &mut Vec<u8, A>, link: &[u8]) -> Result<(), AllocError>
+    ensures { OnOk result (line.new.items ≡ line.old.items ++ kept_of link.now) }
+{
+    for byte in link {
+        push_kept(line, *byte)?;
+    }
+    Ok(())
+}
+
+// The line of a link.
+fn line_of<A: Allocator>(alloc: A, line_number: u64, link: &str) -> Result<Vec<u8, A>, AllocError>
+    ensures { IfOk result (λ line. line.items ≡ link_line line_number link.now) }
+{
+    let mut line = Vec::new(alloc);
+    line.extend_from_slice(Buffer::new().format(line_number).as_bytes())?;
+    line.extend_from_slice(b" ")?;
+    push_link(&mut line, link.as_bytes())?;
+    line.extend_from_slice(b"\n")?;
+    Ok(line)
+}
+
+/// Prints the links of the tags that it takes, a line each: the number of the line on which the tag
+/// ends, a space, and the link, without the tabs and line breaks that a URL has none of.
+#[derive(Drop)]
+pub struct Links<W: Target, A: Allocator = Global> {
+    alloc: A,
+    printer: Printer<W, A>,
+}
+
+impl<W: Target, A: Allocator> Model for Links<W, A> {
+    ghost use Rattle.printer.specs.Printing.{Printing};
+
+    ghost Value = { Printing W };
+
+    ghost view = { λ l. l.printer };
+}
+
+impl<W: Target, A: Allocator + Copy> Links<W, A> {
+    /// Prints to this printer.
+    pub fn new(alloc: A, printer: Printer<W, A>) -> Links<W, A>
+        ensures { result ≡ printer }
+    {
+        Links { alloc, printer }
+    }
+
+    /// The printer, with what was printed.
+    pub fn into_inner(self) -> Printer<W, A>
+        ensures { result ≡ self }
+    {
+        self.printer
+    }
+}
+
+impl<W: Target, A: Allocator + Copy> TagHandler<Tag<A>> for Links<W, A> {
+    ghost use Rattle.std.specs.Prelude.{ℕ, List};
+    ghost use Rattle.html5links.specs.Links.{links_step};
+
+    ghost State = { List ℕ };
+
+    ghost state = { λ l. l.printed };
+
+    ghost step = { links_step };
+
+    fn take_tag(&mut self, tag: Tag<A>, line_number: u64) -> Result<(), SinkFault> {
+        let Some(link) = link_of(&tag) else {
+            return Ok(());
+        };
+        let Ok(line) = line_of(self.alloc, line_number, link.as_str()) else {
+            return Err(SinkFault);
+        };
+        match self.printer.print(&line) {
+            Ok(()) => Ok(()),
+            Err(_) => Err(SinkFault),
+        }
+    }
+}

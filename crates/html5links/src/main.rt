@@ -1,0 +1,38 @@
+//! Prints the links of pages, a line each.
+#![tactic(auto)]
+
+mod filter;
+mod links;
+mod page;
+
+use crate::links::Links;
+use html5cli::run::given_words;
+use html5filter::{Program, run};
+use std::process::ExitCode;
+
+const HELP: &str = "usage: html5links [--names FILE] [FILE...]
+Prints the links of HTML pages as they arrive, a line each: the number of the line on which
+the tag ends, a space, and the link. Links are the href of a, area and link, and the src of
+img, script and iframe, as they are written: <base> is neglected. Without a FILE, or where
+it is -, standard input is read.
+  --names FILE  the table of named character references
+  --help        this text
+";
+
+fn main(rt: HostRuntime) -> ExitCode {
+    let Ok(words) = given_words(&rt) else {
+        return ExitCode::from(2);
+    };
+    let program = Program {
+        name: "html5links",
+        help: HELP,
+    };
+    ExitCode::from(run::<Links<_>, _, _, _, _>(
+        &rt,
+        program,
+        &words,
+        rt.stdin(),
+        rt.stdout(),
+        rt.stderr(),
+    ))
+}

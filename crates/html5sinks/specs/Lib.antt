@@ -1,0 +1,5 @@
+pub mod Replies
+pub mod Tags
+pub mod TagLaws
+pub mod Runs
+pub mod RunLaws

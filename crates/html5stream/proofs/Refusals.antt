@@ -1,0 +1,36 @@
+-- What the refusals of the parts say, by cases.
+use Rattle.std.proofs.Common.{◌≡◌, ℕ, List, ap}
+use Rattle.html5ever_interface.specs.Sink.{Message}
+use Rattle.html5ever_interface.specs.Token.{Told}
+use Rattle.html5ever.specs.Tokenizer.{EndStops}
+use Rattle.html5parts.specs.declared.error.TokenizerError.{TokenizerError}
+use Rattle.html5parts.specs.declared.error.TokenizerError.TheVariants.{Memory, Sink, Failed}
+use Rattle.utf8_pieces.specs.declared.error.DecodeError.{DecodeError}
+use Rattle.utf8_pieces.specs.declared.error.DecodeError.TheVariants as decoder
+use Rattle.html5stream.specs.declared.error.StreamError.{StreamError}
+use Rattle.html5stream.specs.declared.error.StreamError.TheVariants as stream
+use Rattle.html5stream.specs.DecodeErrors.{of_decoder}
+use Rattle.html5stream.specs.Errors.{stream_error}
+use Rattle.html5stream.specs.Streams.{SourceStops}
+
+pub SourceStops-end : {S : Type 0} (step faulted : S → Told → ℕ → S) (end_faulted : S → S) (e : TokenizerError) (s v : S) (M : List Message)
+    → EndStops step faulted end_faulted e s M v → SourceStops step faulted end_faulted (stream_error e) s M v
+SourceStops-end step faulted end_faulted Memory s v M stops = stops
+SourceStops-end step faulted end_faulted Sink s v M stops = stops
+SourceStops-end step faulted end_faulted Failed s v M stops = absurd stops
+
+-- the place that an error names
+pub place_in : StreamError → ℕ
+place_in error = elim error [
+  | stream.Read ↦ 0
+  | stream.NotUtf8 place ↦ place
+  | stream.Memory ↦ 0
+  | stream.Sink ↦ 0
+  | stream.TooLong ↦ 0
+]
+
+pub decoder-place : (e : DecodeError) (place : ℕ) → of_decoder e ≡ stream.NotUtf8 place → e ≡ decoder.NotUtf8 place
+decoder-place e place = elim e as (λ x. of_decoder x ≡ stream.NotUtf8 place → x ≡ decoder.NotUtf8 place) [
+  | decoder.NotUtf8 valid ↦ λ same. ap decoder.NotUtf8 (ap place_in same)
+  | decoder.Memory ↦ λ same. absurd (cc same)
+]

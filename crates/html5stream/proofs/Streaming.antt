@@ -1,0 +1,319 @@
+-- A source that is read piece by piece: what was fed so far, and what that gives at the end, or where the reading stops.
+use Rattle.std.proofs.Common.{◌≡◌, ◌≢◌, ◌⊎◌, ℕ, ◌+◌, ◌<◌, Bool, false, List, [], ◌∷◌, ◌++◌, length, take, Option, None, Some, refl, sym, ◌∙◌, ap, subst, arith, inl, inr, append-nil, append_assoc, length-append}
+use Rattle.std.specs.Io.KnownBytes.{Consumes, IsAtEnd}
+use Rattle.std.specs.Str.{IsUtf8, IsValidUpTo, chars}
+use Rattle.std.proofs.lemmas.Bool.{cases_lt}
+use Rattle.std.proofs.lemmas.List.{take_all}
+use Rattle.std.proofs.lemmas.Str.{IsUtf8-append, IsUtf8-nil, chars-append, chars-nil}
+use Rattle.devices.proofs.KnownBytes.{Consumes-append}
+use Rattle.utf8_pieces.specs.Pieces.{Decoding, IsCutCharacter, IsFault, IsNeverUtf8, place_behind}
+use Rattle.utf8_pieces.specs.declared.error.DecodeError.{DecodeError}
+use Rattle.utf8_pieces.specs.declared.error.DecodeError.TheVariants as decoder
+use Rattle.utf8_pieces.proofs.Cuts.{no_text_within}
+use Rattle.utf8_pieces.proofs.Fronts.{IsCutCharacter-nil, IsNeverUtf8-behind, IsValidUpTo-behind}
+use Rattle.html5ever_interface.specs.Sink.{Message, stepped}
+use Rattle.html5ever_interface.specs.Token.{Told, Reply}
+use Rattle.html5grammar.specs.Reading.{reading, messages}
+use Rattle.html5grammar.specs.Start.{Start, Rules}
+use Rattle.html5parts.specs.declared.error.TokenizerError.{TokenizerError}
+use Rattle.html5parts.specs.declared.error.TokenizerError.TheVariants as tokenizer
+use Rattle.html5reading.specs.Feed.{told_beyond, told_at_end}
+use Rattle.html5states.specs.Telling.{StopsWithin}
+use Rattle.html5ever.specs.Tokenizer.{Tokenizing, StandsAt, ReadsOn, ReadsWhole, Finishes, StopsReading, StopsEnding, EndStops}
+use Rattle.html5ever.proofs.Wholes.{whole-within_stops, whole-end_stops}
+use Rattle.html5stream.specs.declared.error.StreamError.{StreamError}
+use Rattle.html5stream.specs.declared.error.StreamError.TheVariants.{Read, NotUtf8, Memory, Sink, TooLong}
+use Rattle.html5stream.specs.DecodeErrors.{of_decoder}
+use Rattle.html5stream.specs.Errors.{stream_error}
+use Rattle.html5stream.specs.Streams.{SourceStops, GivesNoText, sink_fault}
+use Rattle.html5stream.specs.Taking.{TakesBytes, TakesText, FinishesText, StopsTelling, StopsAtEnd, StopsBytes, StopsText}
+use Rattle.html5stream.proofs.Refusals.{decoder-place, SourceStops-end}
+
+-- ---- bytes
+
+Consumes-none : (known : Option (List ℕ)) → Consumes known known []
+Consumes-none None = tt
+Consumes-none (Some xs) = refl
+
+place_behind-twice : (place a b : ℕ) → place_behind (place_behind place a) b ≡ place_behind place (a + b)
+place_behind-twice place a b = omega arith
+
+some_bytes : (bytes : List ℕ) → ¬ (bytes ≡ []) → 0 < length bytes
+some_bytes [] some = absurd (some refl)
+some_bytes (b ∷ bytes) some = omega arith
+
+-- no text begins a character that is cut
+IsValidUpTo-cut : (held : List ℕ) → IsCutCharacter held → 0 < length held → IsValidUpTo held 0
+IsValidUpTo-cut held cut some =
+    record {
+      short = some;
+      front = IsUtf8-nil;
+      longest = λ m more text. elim (cases_lt (length held) m) [
+        | inl past ↦
+            let same = take_all m held (omega arith) ∙ sym (take_all (length held) held (omega arith)) in
+            no_text_within held (length held) text.0 cut some (omega arith) (text.1.1 ∙ same)
+        | inr within ↦ no_text_within held m text.0 cut more within text.1.1
+      ];
+    }
+
+-- ---- errors
+
+-- what a decoder's refusal says, where it is one of bytes
+no_text-decoder : (e : DecodeError) (place taken : ℕ) (bytes : List ℕ) → e ≡ decoder.NotUtf8 place → (e ≡ decoder.Memory) ⊎ IsFault taken bytes e
+    → (e ≢ decoder.Memory → IsNeverUtf8 bytes) → IsFault taken bytes (decoder.NotUtf8 place) × IsNeverUtf8 bytes
+no_text-decoder e place taken bytes is (inl memory) never = absurd (cc (is, memory))
+no_text-decoder e place taken bytes is (inr fault) never = (subst (IsFault taken bytes) is fault, never (λ memory. cc (is, memory)))
+
+module _ {X S H : Type 0} (state : X → S) (step : S → Told → ℕ → S) (reply : S → Told → ℕ → Reply H) (foreign : S → Bool) where
+  -- what the source gave is a text that was fed, and what the decoder holds
+  pub record HasRead (before now : Option (List ℕ)) (first t : Tokenizing X) (decoder : Decoding) : Type 0 where
+    pub text : List ℕ
+    pub given : Consumes before now (text ++ decoder.held)
+    pub utf8 : IsUtf8 text
+    pub cut : IsCutCharacter decoder.held
+    pub taken : decoder.taken ≡ place_behind 0 (length text)
+    pub reads : ReadsOn state step reply foreign first t (chars text)
+    pub rules : t.rules ≡ first.rules
+    pub going_on : t.ended ≡ false
+    pub not_failed : t.failed ≡ false
+
+  pub HasRead-start : (known : Option (List ℕ)) (first : Tokenizing X) (decoder : Decoding) → decoder.held ≡ [] → decoder.taken ≡ 0
+      → first.ended ≡ false → first.failed ≡ false → HasRead known known first first decoder
+  HasRead-start known first decoder none start going_on not_failed =
+      let zero : 0 ≡ place_behind 0 (length {A = ℕ} []) = omega arith in
+      record {
+        text = [];
+        given = subst (Consumes known known) (sym none) (Consumes-none known);
+        utf8 = IsUtf8-nil;
+        cut = subst IsCutCharacter (sym none) IsCutCharacter-nil;
+        taken = start ∙ zero;
+        reads = λ K s front stands. rw (chars-nil, append-nil front) stands;
+        rules = refl;
+        going_on = going_on;
+        not_failed = not_failed;
+      }
+
+  pub HasRead-more : (before now after : Option (List ℕ)) (first t u : Tokenizing X) (old new : Decoding) (more : List ℕ)
+      → HasRead before now first t old → Consumes now after more → TakesBytes state step reply foreign old new t u more
+      → HasRead before after first u new
+  HasRead-more before now after first t u old new more had given takes =
+      let whole : (had.text ++ old.held) ++ more ≡ (had.text ++ takes.text) ++ new.held =
+      append_assoc had.text old.held more ∙ ap (λ l. had.text ++ l) takes.parts ∙ sym (append_assoc had.text takes.text new.held) in
+      record {
+        text = had.text ++ takes.text;
+        given = subst (Consumes before after) whole (Consumes-append before now after (had.text ++ old.held) more had.given given);
+        utf8 = IsUtf8-append _ _ had.utf8 takes.utf8;
+        cut = takes.cut;
+        taken = takes.taken ∙ ap (λ k. place_behind k (length takes.text)) had.taken
+            ∙ place_behind-twice 0 (length had.text) (length takes.text) ∙ ap (place_behind 0) (sym (length-append had.text takes.text));
+        reads = λ K s front stands.
+            rw (chars-append had.text takes.text had.utf8, ← append_assoc front (chars had.text) (chars takes.text))
+            (takes.reads K s (front ++ chars had.text) (had.reads K s front stands));
+        rules = takes.rules ∙ had.rules;
+        going_on = takes.going_on;
+        not_failed = takes.not_failed;
+      }
+
+  -- a read that gave nothing
+  pub HasRead-nothing : (before now after : Option (List ℕ)) (first t : Tokenizing X) (decoder : Decoding) (more : List ℕ)
+      → HasRead before now first t decoder → Consumes now after more → more ≡ [] → HasRead before after first t decoder
+  HasRead-nothing before now after first t decoder more had given none =
+      let same : (had.text ++ decoder.held) ++ more ≡ had.text ++ decoder.held =
+      ap (λ l. (had.text ++ decoder.held) ++ l) none ∙ append-nil (had.text ++ decoder.held) in
+      record {
+        text = had.text;
+        given = subst (Consumes before after) same (Consumes-append before now after (had.text ++ decoder.held) more had.given given);
+        utf8 = had.utf8;
+        cut = had.cut;
+        taken = had.taken;
+        reads = had.reads;
+        rules = had.rules;
+        going_on = had.going_on;
+        not_failed = had.not_failed;
+      }
+
+  pub HasRead-whole : (before after : Option (List ℕ)) (first t : Tokenizing X) (decoder : Decoding)
+      → HasRead before after first t decoder → decoder.held ≡ [] → IsAtEnd after → TakesText state step reply foreign before after first t
+  HasRead-whole before after first t decoder had none at_end =
+      record {
+        bytes = had.text;
+        given = subst (Consumes before after) (ap (λ l. had.text ++ l) none ∙ append-nil had.text) had.given;
+        at_end = at_end;
+        utf8 = had.utf8;
+        reads = had.reads;
+        rules = had.rules;
+      }
+
+  -- the source ended within a character
+  pub GivesNoText-cut : (before after : Option (List ℕ)) (first t : Tokenizing X) (held : Decoding)
+      → HasRead before after first t held → ¬ (held.held ≡ []) → IsAtEnd after → GivesNoText held.taken before after
+  GivesNoText-cut before after first t held had some at_end =
+      let place : place_behind 0 (length had.text) ≡ place_behind 0 (length had.text + 0) = omega arith in
+      record {
+        bytes = had.text ++ held.held;
+        given = had.given;
+        fault = record {
+          valid_len = length had.text + 0;
+          valid = IsValidUpTo-behind had.text held.held 0 had.utf8 (IsValidUpTo-cut held.held had.cut (some_bytes held.held some));
+          named = ap decoder.NotUtf8 (had.taken ∙ place);
+        };
+        settled = inr at_end;
+      }
+
+  -- a piece is no text
+  GivesNoText-piece : (before now after : Option (List ℕ)) (first t : Tokenizing X) (held : Decoding) (more : List ℕ) (place : ℕ)
+      → HasRead before now first t held → Consumes now after more
+      → IsFault held.taken (held.held ++ more) (decoder.NotUtf8 place) × IsNeverUtf8 (held.held ++ more) → GivesNoText place before after
+  GivesNoText-piece before now after first t held more place had given (fault, never) =
+      let n = fault.valid_len in
+      record {
+        bytes = had.text ++ (held.held ++ more);
+        given = subst (Consumes before after) (append_assoc had.text held.held more)
+            (Consumes-append before now after (had.text ++ held.held) more had.given given);
+        fault = record {
+          valid_len = length had.text + n;
+          valid = IsValidUpTo-behind had.text (held.held ++ more) n had.utf8 fault.valid;
+          named = fault.named ∙ ap decoder.NotUtf8 (ap (λ k. place_behind k n) had.taken ∙ place_behind-twice 0 (length had.text) n);
+        };
+        settled = inl (IsNeverUtf8-behind had.text (held.held ++ more) had.utf8 never);
+      }
+
+  pub FinishesText-end : (finish : S → S) (before after : Option (List ℕ)) (t u : Tokenizing X) (v : S)
+      → TakesText state step reply foreign before after t u → Finishes state step reply foreign finish u v
+      → FinishesText state step reply foreign finish before after t v
+  FinishesText-end finish before after t u v takes finishes =
+      record {
+        bytes = takes.bytes;
+        given = takes.given;
+        at_end = takes.at_end;
+        utf8 = takes.utf8;
+        finishes = λ K s front stands.
+            subst (λ b. v ≡ finish (stepped step s (messages (reading step reply foreign b K s (front ++ chars takes.bytes))))) takes.rules
+            (finishes K s (front ++ chars takes.bytes) (takes.reads K s front stands));
+      }
+
+  module _ (faulted : S → Told → ℕ → S) (end_faulted : S → S) where
+    StopsWithin-none : (s : S) (M : List Message) → StopsWithin step faulted s M s
+    unfolding stepped
+    StopsWithin-none s M = record { before = []; rest = M; parts = refl; state = refl }
+
+    SourceStops-within : (error : StreamError) (s v : S) (M : List Message) → sink_fault error ≡ 0 → StopsWithin step faulted s M v
+        → SourceStops step faulted end_faulted error s M v
+    SourceStops-within Read s v M none stops = stops
+    SourceStops-within (NotUtf8 place) s v M none stops = stops
+    SourceStops-within Memory s v M none stops = stops
+    SourceStops-within Sink s v M none stops = absurd (omega (arith, none))
+    SourceStops-within TooLong s v M none stops = stops
+
+    -- what was told so far is a beginning of the reading
+    stops-here : (t : Tokenizing X) (K : Start) (s : S) (text : List ℕ) → StandsAt state step reply foreign t K s text
+        → StopsWithin step faulted s (messages (reading step reply foreign t.rules K s text)) (state t.sink)
+    stops-here t K s text stands =
+        whole-end_stops state step reply foreign faulted end_faulted tokenizer.Memory t K s (state t.sink) text stands
+        (StopsWithin-none (state t.sink) (told_at_end step reply foreign t.rules K s text))
+
+    -- a refused feed
+    pub StopsTelling-feed : (e : TokenizerError) (t : Tokenizing X) (queue more : List ℕ) (v : S) → queue ≡ more
+        → StopsReading state step reply foreign faulted e t queue v → StopsTelling state step reply foreign faulted end_faulted (stream_error e) t more v
+    StopsTelling-feed e t queue more v same stops K s front stands =
+        SourceStops-end step faulted end_faulted e s v (messages (reading step reply foreign t.rules K s (front ++ more)))
+        (subst (λ l. EndStops step faulted end_faulted e s (messages (reading step reply foreign t.rules K s l)) v)
+        (append-nil (front ++ queue) ∙ ap (λ l. front ++ l) same)
+        (whole-within_stops state step reply foreign faulted end_faulted e t K s v front queue [] stands (stops K s front stands)))
+
+    -- a text that found no place
+    pub StopsTelling-memory : (t : Tokenizing X) (more : List ℕ) → StopsTelling state step reply foreign faulted end_faulted Memory t more (state t.sink)
+    StopsTelling-memory t more =
+        StopsTelling-feed tokenizer.Memory t more more (state t.sink) refl
+        (λ K s front stands. StopsWithin-none (state t.sink) (told_beyond step reply foreign t.rules K s front more))
+
+    -- a refused end
+    pub StopsAtEnd-end : (e : TokenizerError) (t : Tokenizing X) (v : S) → StopsEnding state step reply foreign faulted end_faulted e t v
+        → StopsAtEnd state step reply foreign faulted end_faulted (stream_error e) t v
+    StopsAtEnd-end e t v stops K s front stands =
+        SourceStops-end step faulted end_faulted e s v (messages (reading step reply foreign t.rules K s front))
+        (whole-end_stops state step reply foreign faulted end_faulted e t K s v front stands (stops K s front stands))
+
+    -- a piece that the decoder refused
+    pub StopsBytes-decoder : (e : DecodeError) (error : StreamError) (old : Decoding) (t : Tokenizing X) (bytes : List ℕ)
+        → (error ≡ of_decoder e) → sink_fault error ≡ 0 → (e ≡ decoder.Memory) ⊎ IsFault old.taken (old.held ++ bytes) e
+        → (e ≢ decoder.Memory → IsNeverUtf8 (old.held ++ bytes))
+        → StopsBytes state step reply foreign faulted end_faulted error old t bytes (state t.sink)
+    StopsBytes-decoder e error old t bytes is none fault never =
+        record {
+          text = [];
+          rest = old.held ++ bytes;
+          parts = refl;
+          utf8 = IsUtf8-nil;
+          stopped = λ K s front stands.
+              SourceStops-within error s (state t.sink) _ none (rw (chars-nil, append-nil front) (stops-here t K s front stands));
+          no_text = λ place same. no_text-decoder e place old.taken (old.held ++ bytes) (decoder-place e place (sym is ∙ same)) fault never;
+        }
+
+    -- a piece whose text was refused
+    pub StopsBytes-fed : (error : StreamError) (old : Decoding) (t : Tokenizing X) (bytes text rest : List ℕ) (v : S)
+        → old.held ++ bytes ≡ text ++ rest → IsUtf8 text → StopsTelling state step reply foreign faulted end_faulted error t (chars text) v
+        → ((place : ℕ) → error ≢ NotUtf8 place) → StopsBytes state step reply foreign faulted end_faulted error old t bytes v
+    StopsBytes-fed error old t bytes text rest v parts utf8 stopped other =
+        record {
+          text = text;
+          rest = rest;
+          parts = parts;
+          utf8 = utf8;
+          stopped = stopped;
+          no_text = λ place same. absurd (other place same);
+        }
+
+    -- nothing more was fed
+    pub StopsText-here : (error : StreamError) (before now : Option (List ℕ)) (first t : Tokenizing X) (held : Decoding)
+        → sink_fault error ≡ 0 → HasRead before now first t held → ((place : ℕ) → error ≡ NotUtf8 place → GivesNoText place before now)
+        → StopsText state step reply foreign faulted end_faulted error before now first (state t.sink)
+    StopsText-here error before now first t held none had no_text =
+        record {
+          text = had.text;
+          rest = held.held;
+          given = had.given;
+          utf8 = had.utf8;
+          stopped = λ K s front stands.
+              SourceStops-within error s (state t.sink) (messages (reading step reply foreign first.rules K s (front ++ chars had.text))) none
+              (subst (λ b. StopsWithin step faulted s (messages (reading step reply foreign b K s (front ++ chars had.text))) (state t.sink)) had.rules
+              (stops-here t K s (front ++ chars had.text) (had.reads K s front stands)));
+          no_text = no_text;
+        }
+
+    -- the last piece was refused
+    pub StopsText-piece : (error : StreamError) (before now after : Option (List ℕ)) (first t : Tokenizing X) (held : Decoding) (more : List ℕ) (v : S)
+        → HasRead before now first t held → Consumes now after more
+        → StopsBytes state step reply foreign faulted end_faulted error held t more v
+        → StopsText state step reply foreign faulted end_faulted error before after first v
+    StopsText-piece error before now after first t held more v had given stops =
+        let whole : (had.text ++ held.held) ++ more ≡ (had.text ++ stops.text) ++ stops.rest =
+        append_assoc had.text held.held more ∙ ap (λ l. had.text ++ l) stops.parts ∙ sym (append_assoc had.text stops.text stops.rest) in
+        record {
+          text = had.text ++ stops.text;
+          rest = stops.rest;
+          given = subst (Consumes before after) whole (Consumes-append before now after (had.text ++ held.held) more had.given given);
+          utf8 = IsUtf8-append _ _ had.utf8 stops.utf8;
+          stopped = λ K s front stands.
+              subst (λ l. SourceStops step faulted end_faulted error s (messages (reading step reply foreign first.rules K s l)) v)
+              (append_assoc front (chars had.text) (chars stops.text) ∙ ap (λ l. front ++ l) (sym (chars-append had.text stops.text had.utf8)))
+              (subst (λ b. SourceStops step faulted end_faulted error s (messages (reading step reply foreign b K s ((front ++ chars had.text) ++ chars stops.text))) v) had.rules
+              (stops.stopped K s (front ++ chars had.text) (had.reads K s front stands)));
+          no_text = λ place same. GivesNoText-piece before now after first t held more place had given (stops.no_text place same);
+        }
+
+    -- the end was refused
+    pub StopsText-end : (error : StreamError) (before after : Option (List ℕ)) (t u : Tokenizing X) (v : S)
+        → TakesText state step reply foreign before after t u → StopsAtEnd state step reply foreign faulted end_faulted error u v
+        → ((place : ℕ) → error ≢ NotUtf8 place) → StopsText state step reply foreign faulted end_faulted error before after t v
+    StopsText-end error before after t u v takes stops other =
+        record {
+          text = takes.bytes;
+          rest = [];
+          given = subst (Consumes before after) (sym (append-nil takes.bytes)) takes.given;
+          utf8 = takes.utf8;
+          stopped = λ K s front stands.
+              subst (λ b. SourceStops step faulted end_faulted error s (messages (reading step reply foreign b K s (front ++ chars takes.bytes))) v) takes.rules
+              (stops K s (front ++ chars takes.bytes) (takes.reads K s front stands));
+          no_text = λ place same. absurd (other place same);
+        }

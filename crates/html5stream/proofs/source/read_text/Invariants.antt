@@ -1,0 +1,14 @@
+-- What was read so far is fed but for what the decoder holds, nothing waits, and nothing failed yet.
+use Rattle.std.proofs.Common.{◌≡◌, ◌<◌, [], length}
+use Rattle.html5stream.proofs.Streaming.{HasRead}
+use Rattle.html5stream.proofs.source.read_text.Given as goal
+
+abbrev pub invariant-loop : goal.invariant-loop
+invariant-loop g l = record {
+  read : HasRead g.S.TokenSink.state g.S.TokenSink.step g.S.TokenSink.reply g.S.TokenSink.foreign
+      (g.R.Source.remaining l.fn.source) (g.R.Source.remaining l.source) l.fn.tokenizer l.tokenizer l.decoder;
+  waiting : l.queue.text ≡ [];
+  no_failure : g.R.Source.failures l.source ≡ g.R.Source.failures l.fn.source;
+  no_fault : g.S.TokenSink.faults l.tokenizer.sink ≡ g.S.TokenSink.faults l.fn.tokenizer.sink;
+  room : 0 < length l.buffer;
+}

@@ -1,0 +1,4 @@
+pub mod DecodeErrors
+pub mod Errors
+pub mod Streams
+pub mod Taking

@@ -1,0 +1,75 @@
+-- What reading a source to its end tells, and what it leaves where it stops.
+use Rattle.std.specs.Prelude.{◌≡◌, ◌⊎◌, ℕ, Bool, List, ◌++◌, Option, Result, Ok, Err}
+use Rattle.std.specs.Io.KnownBytes.{Consumes, IsAtEnd}
+use Rattle.std.specs.Str.{IsUtf8, chars}
+use Rattle.html5ever_interface.specs.Sink.{Message, stepped}
+use Rattle.html5ever_interface.specs.Token.{Told, Reply}
+use Rattle.html5grammar.specs.Reading.{reading, messages}
+use Rattle.html5grammar.specs.Start.{Start, Rules}
+use Rattle.html5states.specs.Telling.{StopsWithin, FaultsWithin}
+use Rattle.utf8_pieces.specs.Pieces.{IsFault, IsNeverUtf8}
+use Rattle.utf8_pieces.specs.declared.error.DecodeError.TheVariants as decoder
+use Rattle.html5stream.specs.declared.error.StreamError.{StreamError}
+use Rattle.html5stream.specs.declared.error.StreamError.TheVariants.{Read, NotUtf8, Memory, Sink, TooLong}
+
+-- how many reads an error says that failed
+abbrev pub failed_read : StreamError → ℕ
+failed_read Read = 1
+failed_read (NotUtf8 place) = 0
+failed_read Memory = 0
+failed_read Sink = 0
+failed_read TooLong = 0
+
+-- how many reads failed in a call with this result
+abbrev pub failed_reads : {T : Type 0} → Result T StreamError → ℕ
+failed_reads (Ok x) = 0
+failed_reads (Err e) = failed_read e
+
+-- how often an error says that the sink faulted
+abbrev pub sink_fault : StreamError → ℕ
+sink_fault Read = 0
+sink_fault (NotUtf8 place) = 0
+sink_fault Memory = 0
+sink_fault Sink = 1
+sink_fault TooLong = 0
+
+-- how often the sink faulted in a call with this result
+abbrev pub sink_faults : {T : Type 0} → Result T StreamError → ℕ
+sink_faults (Ok x) = 0
+sink_faults (Err e) = sink_fault e
+
+-- the bytes that the source gave stop being UTF-8 at that place: nothing behind them can mend it, or the source ended there
+-- within a character
+pub record GivesNoText (place : ℕ) (before after : Option (List ℕ)) : Type 0 where
+  pub bytes : List ℕ
+  pub given : Consumes before after bytes
+  pub fault : IsFault 0 bytes (decoder.NotUtf8 place)
+  pub settled : IsNeverUtf8 bytes ⊎ IsAtEnd after
+
+-- what each error leaves of the messages that a text tells: a beginning of them was told, and the sink may have faulted behind it,
+-- or at its own end
+module _ {S : Type 0} (step faulted : S → Told → ℕ → S) (end_faulted : S → S) where
+  abbrev pub SourceStops : StreamError → S → List Message → S → Type 0
+  SourceStops Read s M t = StopsWithin step faulted s M t
+  SourceStops (NotUtf8 place) s M t = StopsWithin step faulted s M t
+  SourceStops Memory s M t = StopsWithin step faulted s M t
+  SourceStops Sink s M t = FaultsWithin step faulted s M t ⊎ (t ≡ end_faulted (stepped step s M))
+  SourceStops TooLong s M t = StopsWithin step faulted s M t
+
+module _ {S H : Type 0} (step : S → Told → ℕ → S) (reply : S → Told → ℕ → Reply H) (foreign : S → Bool) where
+  -- the source gave a text up to its end, and its whole reading was told; then the sink finished
+  pub record ReadsSource (finish : S → S) (rules : Rules) (K : Start) (s : S) (before after : Option (List ℕ)) (t : S) : Type 0 where
+    pub bytes : List ℕ
+    pub given : Consumes before after bytes
+    pub at_end : IsAtEnd after
+    pub utf8 : IsUtf8 bytes
+    pub told : t ≡ finish (stepped step s (messages (reading step reply foreign rules K s (chars bytes))))
+
+  -- what the source gave begins with a text, and the sink stopped within the reading of that
+  pub record StopsSource (faulted : S → Told → ℕ → S) (end_faulted : S → S) (error : StreamError) (rules : Rules) (K : Start) (s : S)
+      (before after : Option (List ℕ)) (t : S) : Type 0 where
+    pub text : List ℕ
+    pub rest : List ℕ
+    pub given : Consumes before after (text ++ rest)
+    pub utf8 : IsUtf8 text
+    pub stopped : SourceStops step faulted end_faulted error s (messages (reading step reply foreign rules K s (chars text))) t

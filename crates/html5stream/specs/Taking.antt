@@ -1,0 +1,74 @@
+-- A tokenizer that takes its text from a decoder: what each call does to where it stands.
+use Rattle.std.specs.Prelude.{◌≡◌, ℕ, Bool, false, List, ◌++◌, length, Option}
+use Rattle.std.specs.Io.KnownBytes.{Consumes, IsAtEnd}
+use Rattle.std.specs.Str.{IsUtf8, chars}
+use Rattle.html5ever_interface.specs.Token.{Told, Reply}
+use Rattle.html5grammar.specs.Reading.{reading, messages}
+use Rattle.html5grammar.specs.Start.{Start}
+use Rattle.html5ever.specs.Tokenizer.{Tokenizing, StandsAt, ReadsOn, ReadsWhole}
+use Rattle.utf8_pieces.specs.Pieces.{Decoding, IsCutCharacter, IsFault, IsNeverUtf8, place_behind}
+use Rattle.utf8_pieces.specs.declared.error.DecodeError.TheVariants as decoder
+use Rattle.html5stream.specs.declared.error.StreamError.{StreamError}
+use Rattle.html5stream.specs.declared.error.StreamError.TheVariants.{NotUtf8}
+use Rattle.html5stream.specs.Streams.{SourceStops, GivesNoText}
+
+module _ {X S H : Type 0} (state : X → S) (step : S → Told → ℕ → S) (reply : S → Told → ℕ → Reply H) (foreign : S → Bool) where
+  -- a piece was taken: the text that it completes was fed, and what may begin a character is held
+  pub record TakesBytes (old new : Decoding) (t u : Tokenizing X) (bytes : List ℕ) : Type 0 where
+    pub text : List ℕ
+    pub parts : old.held ++ bytes ≡ text ++ new.held
+    pub utf8 : IsUtf8 text
+    pub cut : IsCutCharacter new.held
+    pub taken : new.taken ≡ place_behind old.taken (length text)
+    pub reads : ReadsOn state step reply foreign t u (chars text)
+    pub rules : u.rules ≡ t.rules
+    pub going_on : u.ended ≡ false
+    pub not_failed : u.failed ≡ false
+
+  -- what the source gave up to its end is a text, and was fed
+  pub record TakesText (before after : Option (List ℕ)) (t u : Tokenizing X) : Type 0 where
+    pub bytes : List ℕ
+    pub given : Consumes before after bytes
+    pub at_end : IsAtEnd after
+    pub utf8 : IsUtf8 bytes
+    pub reads : ReadsOn state step reply foreign t u (chars bytes)
+    pub rules : u.rules ≡ t.rules
+
+  -- and then the end was told, and the sink finished
+  pub record FinishesText (finish : S → S) (before after : Option (List ℕ)) (t : Tokenizing X) (v : S) : Type 0 where
+    pub bytes : List ℕ
+    pub given : Consumes before after bytes
+    pub at_end : IsAtEnd after
+    pub utf8 : IsUtf8 bytes
+    pub finishes : ReadsWhole state step reply foreign finish t (chars bytes) v
+
+  module _ (faulted : S → Told → ℕ → S) (end_faulted : S → S) where
+    -- from wherever the tokenizer stood, the sink stopped within the reading of what was taken and `more`
+    abbrev pub StopsTelling : StreamError → Tokenizing X → List ℕ → S → Type 0
+    StopsTelling error t more v =
+        (K : Start) (s : S) (front : List ℕ) → StandsAt state step reply foreign t K s front
+        → SourceStops step faulted end_faulted error s (messages (reading step reply foreign t.rules K s (front ++ more))) v
+
+    -- from wherever the tokenizer stood, the sink stopped within the reading of what was taken
+    abbrev pub StopsAtEnd : StreamError → Tokenizing X → S → Type 0
+    StopsAtEnd error t v =
+        (K : Start) (s : S) (front : List ℕ) → StandsAt state step reply foreign t K s front
+        → SourceStops step faulted end_faulted error s (messages (reading step reply foreign t.rules K s front)) v
+
+    -- a piece was refused: what was held and the piece begin with a text, and the sink stopped within the reading of that
+    pub record StopsBytes (error : StreamError) (old : Decoding) (t : Tokenizing X) (bytes : List ℕ) (v : S) : Type 0 where
+      pub text : List ℕ
+      pub rest : List ℕ
+      pub parts : old.held ++ bytes ≡ text ++ rest
+      pub utf8 : IsUtf8 text
+      pub stopped : StopsTelling error t (chars text) v
+      pub no_text : (place : ℕ) → error ≡ NotUtf8 place → IsFault old.taken (old.held ++ bytes) (decoder.NotUtf8 place) × IsNeverUtf8 (old.held ++ bytes)
+
+    -- a source was not read to its end: what it gave begins with a text, and the sink stopped within the reading of that
+    pub record StopsText (error : StreamError) (before after : Option (List ℕ)) (t : Tokenizing X) (v : S) : Type 0 where
+      pub text : List ℕ
+      pub rest : List ℕ
+      pub given : Consumes before after (text ++ rest)
+      pub utf8 : IsUtf8 text
+      pub stopped : StopsTelling error t (chars text) v
+      pub no_text : (place : ℕ) → error ≡ NotUtf8 place → GivesNoText place before after

@@ -1,0 +1,11 @@
+//! Reads a tokenizer's text from a source of bytes, as they arrive.
+#![tactic(auto)]
+
+mod error;
+mod source;
+
+pub use crate::error::StreamError;
+pub use crate::source::read_source;
+
+#[cfg(test)]
+mod tests;

@@ -1,0 +1,36 @@
+//! Prints the text of pages.
+#![tactic(auto)]
+
+mod filter;
+mod page;
+mod page_text;
+
+use crate::page_text::PageText;
+use html5cli::run::given_words;
+use html5filter::{Program, run};
+use std::process::ExitCode;
+
+const HELP: &str = "usage: html5text [--names FILE] [FILE...]
+Prints what stands between the tags of HTML pages as it arrives, references decoded, without
+scripts and styles. Without a FILE, or where it is -, standard input is read.
+  --names FILE  the table of named character references
+  --help        this text
+";
+
+fn main(rt: HostRuntime) -> ExitCode {
+    let Ok(words) = given_words(&rt) else {
+        return ExitCode::from(2);
+    };
+    let program = Program {
+        name: "html5text",
+        help: HELP,
+    };
+    ExitCode::from(run::<PageText<_>, _, _, _, _>(
+        &rt,
+        program,
+        &words,
+        rt.stdin(),
+        rt.stdout(),
+        rt.stderr(),
+    ))
+}

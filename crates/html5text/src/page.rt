@@ -1,0 +1,26 @@
+//! The text of a page that is read as it arrives.
+ghost use Rattle.std.specs.Prelude.{OnOk};
+ghost use Rattle.html5text.specs.Page.{ReadsText, reading_of};
+
+use crate::page_text::PageText;
+use devices::{Source, Target};
+use html5ever::tokenizer::TokenizerOpts;
+use html5sinks::text_runs::TextRuns;
+use html5stream::{StreamError, read_source};
+use markup5ever::data::NamedReferences;
+use std::alloc::Allocator;
+
+/// Reads a page, and prints its text as it arrives, without scripts and styles.
+pub fn read_text<R: Source, W: Target, A: Allocator + Copy>(
+    alloc: A,
+    source: &mut R,
+    text: PageText<W, A>,
+    names: &NamedReferences<A>,
+) -> (PageText<W, A>, Result<(), StreamError>)
+    ensures { OnOk result.1 (ReadsText names.now (R.remaining source.old) (R.remaining source.new)
+        (reading_of text) result.0.printer.printed) }
+{
+    let sink = TextRuns::new(alloc, text);
+    let (sink, read) = read_source(alloc, source, sink, TokenizerOpts::default(), names);
+    (sink.into_inner(), read)
+}

@@ -1,0 +1,8 @@
+-- Output that is written a page at a time.
+use Rattle.std.specs.Prelude.{ℕ, Bool, List}
+
+-- the target, all that was printed, and whether a page could not be written
+pub record Printing (W : Type 0) : Type 0 where
+  pub target : W
+  pub printed : List ℕ
+  pub failed : Bool

@@ -1,0 +1,100 @@
+//! A target behind a page.
+ghost use Rattle.std.specs.Prelude.{◌≡◌, ◌+◌, [], ◌++◌, false, Some, IfErr, OnOk, OnErr, is_err};
+ghost use Rattle.devices.specs.Device.{IsReadFault, reported_failures};
+
+use crate::log::Log;
+use devices::{Fault, Target, write_all};
+use std::alloc::{Allocator, Global};
+use std::marker::Model;
+
+#[cfg(test)]
+mod tests;
+
+/// How many bytes wait on a page before it is written.
+const PAGE: usize = 4096;
+
+/// Prints to a target by pages: what is printed is written once a page is full, and at the end.
+#[derive(Drop)]
+pub struct Printer<W: Target, A: Allocator = Global> {
+    target: W,
+    page: Vec<u8, A>,
+    log: Log,
+    failed: bool,
+}
+
+impl<W: Target, A: Allocator> Model for Printer<W, A> {
+    ghost use Rattle.std.specs.Prelude.{◌≡◌, ◌++◌, false, IsSomeAnd};
+    ghost use Rattle.printer.specs.Printing.{Printing};
+
+    ghost Value = { Printing W };
+
+    ghost view = { λ p. record { target = p.target; printed = p.log.bytes; failed = p.failed } };
+
+    ghost invariant = { λ p. p.failed ≡ false
+        → IsSomeAnd (W.contents p.target) (λ xs. p.log.bytes ≡ xs ++ p.page.items) };
+}
+
+impl<W: Target, A: Allocator> Printer<W, A> {
+    /// A printer that has printed nothing, to a target that holds nothing.
+    pub fn new(alloc: A, target: W) -> Printer<W, A>
+        requires empty { W.contents target ≡ Some [] }
+        ensures printed { result.printed ≡ [] }
+        ensures target { result.target ≡ target }
+        ensures failed { result.failed ≡ false }
+    {
+        Printer {
+            target,
+            page: Vec::new(alloc),
+            log: Log::new(),
+            failed: false,
+        }
+    }
+
+    // Writes the page, and begins another.
+    fn write_page(&mut self) -> Result<(), Fault>
+        requires { self.old.failed ≡ false }
+        ensures printed { self.new.printed ≡ self.old.printed }
+        ensures written { OnOk result (W.contents self.new.target ≡ Some self.old.printed) }
+        ensures failures { W.failures self.new.target ≡ W.failures self.old.target + reported_failures result }
+        ensures failed { self.new.failed ≡ is_err result }
+        ensures fault { IfErr result (λ fault. fault ≡ Fault.Device) }
+    {
+        let written = write_all(&mut self.target, self.page.as_slice());
+        self.page.clear();
+        self.failed = written.is_err();
+        written
+    }
+
+    /// Prints bytes. Where there is no memory for it nothing was printed; where a full page can't be
+    /// written the printer has failed, and prints nothing more.
+    pub fn print(&mut self, bytes: &[u8]) -> Result<(), Fault>
+        ensures ok { OnOk result (self.new.printed ≡ self.old.printed ++ bytes.now) }
+        ensures err { OnErr result (self.new.printed ≡ self.old.printed) }
+        ensures fault { IfErr result IsReadFault }
+        ensures failed { self.new.failed ≡ false → self.old.failed ≡ false }
+        ensures failures { self.old.failed ≡ false → W.failures self.new.target ≡ W.failures self.old.target + reported_failures result }
+    {
+        if self.failed {
+            return Err(Fault::Device);
+        }
+        if self.page.len() >= PAGE {
+            self.write_page()?;
+        }
+        self.page.extend_from_slice(bytes)?;
+        self.log.add(bytes);
+        Ok(())
+    }
+
+    /// Writes what waits, and gives the target back: it holds what was printed.
+    pub fn finish(mut self) -> (W, Result<(), Fault>)
+        ensures ok { OnOk result.1 (W.contents result.0 ≡ Some self.printed) }
+        ensures fault { IfErr result.1 (λ fault. fault ≡ Fault.Device) }
+        ensures failures { self.failed ≡ false → W.failures result.0 ≡ W.failures self.target + reported_failures result.1 }
+    {
+        if self.failed {
+            return (self.target, Err(Fault::Device));
+        }
+        let written = self.write_page();
+        (self.target, written)
+    }
+}
