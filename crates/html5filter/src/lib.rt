@@ -1,13 +1,14 @@
 //! What programs share that read pages and print what they make of them: words, inputs, messages.
 #![tactic(auto)]
 
+pub mod fakes;
 mod messages;
 mod names;
 mod output;
 mod run;
 mod words;
 
-pub use crate::names::{NamesError, read_names};
+pub use crate::names::{NamesError, few_names, read_names};
 pub use crate::output::Output;
 pub use crate::run::{Filter, Program, run};
 pub use crate::words::{Words, words_of};

@@ -37,12 +37,17 @@ where
     R::A: Copy,
 {
     let Some(path) = path else {
-        return table_of(rt.alloc(), profile());
+        return few_names(rt.alloc());
     };
     let Ok(list) = fs::read_to_string(rt, path) else {
         return Err(NamesError::Unreadable);
     };
     table_of(rt.alloc(), list.trim_end())
+}
+
+/// The table of a few of the standard's names.
+pub fn few_names<A: Allocator + Copy>(alloc: A) -> Result<NamedReferences<A>, NamesError> {
+    table_of(alloc, profile())
 }
 
 // The table of a list.

@@ -4,6 +4,8 @@
 mod filter;
 mod links;
 mod page;
+#[cfg(test)]
+mod tests;
 
 use crate::links::Links;
 use html5cli::run::given_words;

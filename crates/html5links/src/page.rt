@@ -19,7 +19,8 @@ pub fn read_links<R: Source, W: Target, A: Allocator + Copy>(
 ) -> (Links<W, A>, Result<(), StreamError>)
     ensures { OnOk result.1 (ReadsLinks names.now (R.remaining source.old) (R.remaining source.new) links.printed result.0.printed) }
 {
-    let sink = TagsOnly::new(links);
-    let (sink, read) = read_source(alloc, source, sink, TokenizerOpts::default(), names);
-    (sink.into_inner(), read)
+    let tags = TagsOnly::new(links);
+    let opts = TokenizerOpts::default();
+    let (told, read) = read_source(alloc, source, tags, opts, names);
+    (told.into_inner(), read)
 }

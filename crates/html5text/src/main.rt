@@ -4,6 +4,8 @@
 mod filter;
 mod page;
 mod page_text;
+#[cfg(test)]
+mod tests;
 
 use crate::page_text::PageText;
 use html5cli::run::given_words;

@@ -20,7 +20,8 @@ pub fn read_text<R: Source, W: Target, A: Allocator + Copy>(
     ensures { OnOk result.1 (ReadsText names.now (R.remaining source.old) (R.remaining source.new)
         (reading_of text) result.0.printer.printed) }
 {
-    let sink = TextRuns::new(alloc, text);
-    let (sink, read) = read_source(alloc, source, sink, TokenizerOpts::default(), names);
-    (sink.into_inner(), read)
+    let runs = TextRuns::new(alloc, text);
+    let opts = TokenizerOpts::default();
+    let (told, read) = read_source(alloc, source, runs, opts, names);
+    (told.into_inner(), read)
 }
