@@ -17,7 +17,8 @@ pub fn read_links<R: Source, W: Target, A: Allocator + Copy>(
     links: Links<W, A>,
     names: &NamedReferences<A>,
 ) -> (Links<W, A>, Result<(), StreamError>)
-    ensures { OnOk result.1 (ReadsLinks names.now (R.remaining source.old) (R.remaining source.new) links.printed result.0.printed) }
+    ensures { OnOk result.1
+        (ReadsLinks names.now (R.remaining source.old) (R.remaining source.new) links.printed result.0.printed) }
 {
     let tags = TagsOnly::new(links);
     let opts = TokenizerOpts::default();
