@@ -1,8 +1,13 @@
-//! A source for tests, which gives its bytes in pieces.
+//! For tests: a source that gives its bytes in pieces, and what a filter prints of it.
 ghost use Rattle.std.specs.Prelude.{◌≡◌, Some};
 
-use devices::Source;
+use crate::names::{NamesError, few_names};
+use crate::run::Filter;
+use devices::{Source, WriteTarget};
+use html5stream::StreamError;
 use markup5ever::count::Count;
+use printer::Printer;
+use std::alloc::Global;
 use std::io;
 use std::io::Read;
 
@@ -41,4 +46,18 @@ impl Source for PieceSource<'_> {
             }
         }
     }
+}
+
+/// What a filter prints of a page that comes in pieces of so many bytes, and whether it was read.
+pub fn filtered<F: Filter<WriteTarget<Vec<u8>>>>(
+    alloc: Global,
+    page: &[u8],
+    size: usize,
+) -> Result<(Vec<u8>, Result<(), StreamError>), NamesError> {
+    let names = few_names(alloc)?;
+    let printer = Printer::new(alloc, WriteTarget::new(Vec::new(alloc)));
+    let filter = F::new(alloc, printer);
+    let (filter, read) = filter.read_page(alloc, &mut PieceSource::new(page, size), &names);
+    let (target, _) = filter.into_printer().finish();
+    Ok((target.into_inner(), read))
 }

@@ -1,27 +1,21 @@
 use crate::links::Links;
-use crate::page::read_links;
 use devices::WriteTarget;
-use html5filter::fakes::PieceSource;
-use html5filter::few_names;
+use html5filter::fakes::filtered;
 use html5stream::StreamError;
-use printer::Printer;
-use std::alloc::{AllocError, Global};
-use std::test::Fail;
+use std::alloc::Global;
+use std::process::Abort;
 
 // What is printed for a page that comes in pieces of so many bytes, and whether it was read.
 fn printed(
+    rt: &impl Abort,
     alloc: Global,
     page: &[u8],
     size: usize,
-) -> Result<(Vec<u8>, Result<(), StreamError>), AllocError> {
-    let Ok(names) = few_names(alloc) else {
-        return Err(AllocError);
-    };
-    let printer = Printer::new(alloc, WriteTarget::new(Vec::new(alloc)));
-    let links = Links::new(alloc, printer);
-    let (links, read) = read_links(alloc, &mut PieceSource::new(page, size), links, &names);
-    let (target, _) = links.into_inner().finish();
-    Ok((target.into_inner(), read))
+) -> (Vec<u8>, Result<(), StreamError>) {
+    match filtered::<Links<WriteTarget<Vec<u8>>>>(alloc, page, size) {
+        Ok(printed) => printed,
+        Err(error) => panic!(rt; "{error:?}"),
+    }
 }
 
 // A page, and its links.
@@ -31,19 +25,17 @@ const PAGE: &str =
 const LINKS: &str = "1 /x?a&b\n3 \u{e9}.png\n3 s.css\n5 yz\n5 \n5 m\n";
 
 #[test]
-fn prints_the_links_however_the_page_is_cut(rt: HostRuntime) -> Result<(), Fail> {
+fn prints_the_links_however_the_page_is_cut(rt: HostRuntime) {
     for size in [1, 3, 4096] {
-        let (lines, read) = printed(rt.alloc(), PAGE.as_bytes(), size)?;
+        let (lines, read) = printed(&rt, rt.alloc(), PAGE.as_bytes(), size);
         assert_eq!(rt; read, Ok(()), "in pieces of {size}");
         assert_eq!(rt; lines.as_slice(), LINKS.as_bytes(), "in pieces of {size}");
     }
-    Ok(())
 }
 
 #[test]
-fn prints_the_links_before_bytes_that_are_no_text(rt: HostRuntime) -> Result<(), Fail> {
-    let (lines, read) = printed(rt.alloc(), b"<a href=x><a href=\xff>", 1)?;
+fn prints_the_links_before_bytes_that_are_no_text(rt: HostRuntime) {
+    let (lines, read) = printed(&rt, rt.alloc(), b"<a href=x><a href=\xff>", 1);
     assert_eq!(rt; read, Err(StreamError::NotUtf8 { valid_up_to: 18 }));
     assert_eq!(rt; lines.as_slice(), b"1 x\n".as_slice());
-    Ok(())
 }
