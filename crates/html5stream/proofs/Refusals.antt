@@ -20,7 +20,7 @@ SourceStops-end step faulted end_faulted Sink s v M stops = stops
 SourceStops-end step faulted end_faulted Failed s v M stops = absurd stops
 
 -- the place that an error names
-pub place_in : StreamError → ℕ
+abbrev pub place_in : StreamError → ℕ
 place_in error = elim error [
   | stream.Read ↦ 0
   | stream.NotUtf8 place ↦ place

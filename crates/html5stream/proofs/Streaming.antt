@@ -1,5 +1,6 @@
 -- A source that is read piece by piece: what was fed so far, and what that gives at the end, or where the reading stops.
-use Rattle.std.proofs.Common.{◌≡◌, ◌≢◌, ◌⊎◌, ℕ, ◌+◌, ◌<◌, Bool, false, List, [], ◌∷◌, ◌++◌, length, take, Option, None, Some, refl, sym, ◌∙◌, ap, subst, arith, inl, inr, append-nil, append_assoc, length-append}
+use Rattle.std.proofs.Common.{Result, Ok, Err, ◌≡◌, ◌≢◌, ◌⊎◌, ℕ, ◌+◌, ◌<◌, Bool, false, List, [], ◌∷◌, ◌++◌, length, take, Option, None, Some, refl, sym, ◌∙◌, ap, subst, arith, inl, inr, append-nil, append_assoc, length-append}
+use Rattle.std.specs.Prelude.{IfErr}
 use Rattle.std.specs.Io.KnownBytes.{Consumes, IsAtEnd}
 use Rattle.std.specs.Str.{IsUtf8, IsValidUpTo, chars}
 use Rattle.std.proofs.lemmas.Bool.{cases_lt}
@@ -27,7 +28,7 @@ use Rattle.html5stream.specs.DecodeErrors.{of_decoder}
 use Rattle.html5stream.specs.Errors.{stream_error}
 use Rattle.html5stream.specs.Streams.{SourceStops, GivesNoText, sink_fault}
 use Rattle.html5stream.specs.Taking.{TakesBytes, TakesText, FinishesText, StopsTelling, StopsAtEnd, StopsBytes, StopsText}
-use Rattle.html5stream.proofs.Refusals.{decoder-place, SourceStops-end}
+use Rattle.html5stream.proofs.Refusals.{decoder-place, place_in, SourceStops-end}
 
 -- ---- bytes
 
@@ -115,14 +116,14 @@ module _ {X S H : Type 0} (state : X → S) (step : S → Told → ℕ → S) (r
       }
 
   -- a read that gave nothing
-  pub HasRead-nothing : (before now after : Option (List ℕ)) (first t : Tokenizing X) (decoder : Decoding) (more : List ℕ)
-      → HasRead before now first t decoder → Consumes now after more → more ≡ [] → HasRead before after first t decoder
-  HasRead-nothing before now after first t decoder more had given none =
-      let same : (had.text ++ decoder.held) ++ more ≡ had.text ++ decoder.held =
-      ap (λ l. (had.text ++ decoder.held) ++ l) none ∙ append-nil (had.text ++ decoder.held) in
+  pub HasRead-nothing : (before now after : Option (List ℕ)) (first t : Tokenizing X) (decoder : Decoding) (n : ℕ) (buffer : List ℕ)
+      → HasRead before now first t decoder → Consumes now after (take n buffer) → n ≡ 0 → HasRead before after first t decoder
+  HasRead-nothing before now after first t decoder n buffer had given zero =
+      let same : (had.text ++ decoder.held) ++ take n buffer ≡ had.text ++ decoder.held =
+      ap (λ k. (had.text ++ decoder.held) ++ take k buffer) zero ∙ append-nil (had.text ++ decoder.held) in
       record {
         text = had.text;
-        given = subst (Consumes before after) same (Consumes-append before now after (had.text ++ decoder.held) more had.given given);
+        given = subst (Consumes before after) same (Consumes-append before now after (had.text ++ decoder.held) (take n buffer) had.given given);
         utf8 = had.utf8;
         cut = had.cut;
         taken = had.taken;
@@ -145,7 +146,7 @@ module _ {X S H : Type 0} (state : X → S) (step : S → Told → ℕ → S) (r
       }
 
   -- the source ended within a character
-  pub GivesNoText-cut : (before after : Option (List ℕ)) (first t : Tokenizing X) (held : Decoding)
+  GivesNoText-cut : (before after : Option (List ℕ)) (first t : Tokenizing X) (held : Decoding)
       → HasRead before after first t held → ¬ (held.held ≡ []) → IsAtEnd after → GivesNoText held.taken before after
   GivesNoText-cut before after first t held had some at_end =
       let place : place_behind 0 (length had.text) ≡ place_behind 0 (length had.text + 0) = omega arith in
@@ -265,7 +266,7 @@ module _ {X S H : Type 0} (state : X → S) (step : S → Told → ℕ → S) (r
         }
 
     -- nothing more was fed
-    pub StopsText-here : (error : StreamError) (before now : Option (List ℕ)) (first t : Tokenizing X) (held : Decoding)
+    StopsText-here : (error : StreamError) (before now : Option (List ℕ)) (first t : Tokenizing X) (held : Decoding)
         → sink_fault error ≡ 0 → HasRead before now first t held → ((place : ℕ) → error ≡ NotUtf8 place → GivesNoText place before now)
         → StopsText state step reply foreign faulted end_faulted error before now first (state t.sink)
     StopsText-here error before now first t held none had no_text =
@@ -280,6 +281,31 @@ module _ {X S H : Type 0} (state : X → S) (step : S → Told → ℕ → S) (r
               (stops-here t K s (front ++ chars had.text) (had.reads K s front stands)));
           no_text = no_text;
         }
+
+    -- a read failed
+    pub StopsText-read : (before now after : Option (List ℕ)) (first t : Tokenizing X) (held : Decoding)
+        → HasRead before now first t held → Consumes now after []
+        → StopsText state step reply foreign faulted end_faulted Read before after first (state t.sink)
+    StopsText-read before now after first t held had given =
+        StopsText-here Read before after first t held refl (HasRead-nothing before now after first t held 0 [] had given refl) (λ place same. absurd (cc same))
+
+    -- the source ended within a character
+    pub StopsText-cut : (e : DecodeError) (error : StreamError) (before now after : Option (List ℕ)) (first t : Tokenizing X) (held : Decoding) (n : ℕ) (buffer : List ℕ)
+        → HasRead before now first t held → Consumes now after (take n buffer) → n ≡ 0 → IsAtEnd after → ¬ (held.held ≡ [])
+        → error ≡ of_decoder e → e ≡ decoder.NotUtf8 held.taken
+        → StopsText state step reply foreign faulted end_faulted error before after first (state t.sink)
+    StopsText-cut e error before now after first t held n buffer had given none at_end some is place_is =
+        let read = HasRead-nothing before now after first t held n buffer had given none in
+        let named : error ≡ NotUtf8 held.taken = is ∙ ap of_decoder place_is in
+        subst (λ x. StopsText state step reply foreign faulted end_faulted x before after first (state t.sink)) (sym named)
+        (StopsText-here (NotUtf8 held.taken) before after first t held refl read
+        (λ place same. subst (λ p. GivesNoText p before after) (ap place_in same) (GivesNoText-cut before after first t held read some at_end)))
+
+    -- the reads were too many
+    pub StopsText-long : (before after : Option (List ℕ)) (first t : Tokenizing X) (held : Decoding)
+        → HasRead before after first t held → StopsText state step reply foreign faulted end_faulted TooLong before after first (state t.sink)
+    StopsText-long before after first t held had =
+        StopsText-here TooLong before after first t held refl had (λ place same. absurd (cc same))
 
     -- the last piece was refused
     pub StopsText-piece : (error : StreamError) (before now after : Option (List ℕ)) (first t : Tokenizing X) (held : Decoding) (more : List ℕ) (v : S)
@@ -303,7 +329,7 @@ module _ {X S H : Type 0} (state : X → S) (step : S → Told → ℕ → S) (r
         }
 
     -- the end was refused
-    pub StopsText-end : (error : StreamError) (before after : Option (List ℕ)) (t u : Tokenizing X) (v : S)
+    StopsText-end : (error : StreamError) (before after : Option (List ℕ)) (t u : Tokenizing X) (v : S)
         → TakesText state step reply foreign before after t u → StopsAtEnd state step reply foreign faulted end_faulted error u v
         → ((place : ℕ) → error ≢ NotUtf8 place) → StopsText state step reply foreign faulted end_faulted error before after t v
     StopsText-end error before after t u v takes stops other =
@@ -317,3 +343,11 @@ module _ {X S H : Type 0} (state : X → S) (step : S → Told → ℕ → S) (r
               (stops K s (front ++ chars takes.bytes) (takes.reads K s front stands));
           no_text = λ place same. absurd (other place same);
         }
+
+    pub StopsText-result : {T : Type 0} (r : Result T StreamError) (before after : Option (List ℕ)) (t u : Tokenizing X) (v : S)
+        → TakesText state step reply foreign before after t u
+        → IfErr r (λ error. StopsAtEnd state step reply foreign faulted end_faulted error u v)
+        → IfErr r (λ error. (place : ℕ) → error ≢ NotUtf8 place)
+        → IfErr r (λ error. StopsText state step reply foreign faulted end_faulted error before after t v)
+    StopsText-result (Ok x) before after t u v takes stops other = tt
+    StopsText-result (Err error) before after t u v takes stops other = StopsText-end error before after t u v takes stops other

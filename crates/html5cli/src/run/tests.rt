@@ -24,9 +24,6 @@ mod table;
 
 const PLAIN: [&str; 2] = ["--state", "plaintext"];
 
-const USAGE: &str =
-    "usage: html5tok [--exact] [--keep-bom] [--foreign] [--state S] [--last NAME] [--cut N] [--table LIST]\n";
-
 // A text with a line break of two characters and a NUL, and what is printed for it.
 const MIXED: &[u8] = b"a\r\nb\0c";
 

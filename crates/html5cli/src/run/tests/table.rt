@@ -1,9 +1,7 @@
-use super::{Ran, USAGE, prints, run_over, status_of_run, words_of};
+use super::{status_of_run, words_of};
 use devices::fakes::FailingSource;
 use devices::{ReadSource, WriteTarget};
 use refusing::Refusing;
-use std::alloc::Global;
-use std::process::Abort;
 use std::test::Fail;
 
 #[test]
