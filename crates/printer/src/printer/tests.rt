@@ -1,4 +1,5 @@
 use super::{PAGE, Printer};
+use crate::logged::Logged;
 use devices::fakes::{FailingTarget, Refusal};
 use devices::{Fault, WriteTarget};
 use std::test::Fail;
@@ -21,7 +22,7 @@ fn writes_pages_and_the_rest(rt: HostRuntime) -> Result<(), Fail> {
 #[test]
 fn tells_that_a_page_was_not_written(rt: HostRuntime) -> Result<(), Fail> {
     for refusal in [Refusal::Error, Refusal::Nothing] {
-        let target = FailingTarget::new(rt.alloc(), 2, refusal);
+        let target = Logged::new(FailingTarget::new(rt.alloc(), 2, refusal));
         let mut printer = Printer::new(rt.alloc(), target);
         for _ in 0..PAGE {
             printer.print(b"a")?;
@@ -30,7 +31,7 @@ fn tells_that_a_page_was_not_written(rt: HostRuntime) -> Result<(), Fail> {
         assert_eq!(rt; printer.print(b"c"), Err(Fault::Device), "{refusal:?}");
         let (target, written) = printer.finish();
         assert_eq!(rt; written, Err(Fault::Device), "{refusal:?}");
-        assert_eq!(rt; target.taken(), b"aa".as_slice(), "{refusal:?}");
+        assert_eq!(rt; target.inner().taken(), b"aa".as_slice(), "{refusal:?}");
     }
     Ok(())
 }
