@@ -2,7 +2,7 @@
 ghost use Rattle.std.specs.Prelude.{◌≡◌, Some};
 
 use crate::names::{NamesError, few_names};
-use crate::run::Filter;
+use crate::running::Filter;
 use devices::{Source, WriteTarget};
 use html5stream::StreamError;
 use markup5ever::count::Count;

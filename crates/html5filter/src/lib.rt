@@ -5,10 +5,10 @@ pub mod fakes;
 mod messages;
 mod names;
 mod output;
-mod run;
+mod running;
 mod words;
 
 pub use crate::names::{NamesError, few_names, read_names};
 pub use crate::output::Output;
-pub use crate::run::{Filter, Program, run};
+pub use crate::running::{Filter, Program, run};
 pub use crate::words::{Words, words_of};
