@@ -5,6 +5,7 @@ use Rattle.std.specs.Io.KnownBytes.{Consumes, IsAtEnd}
 use Rattle.std.specs.Str.{IsUtf8, IsValidUpTo, chars}
 use Rattle.std.proofs.lemmas.Bool.{cases_lt}
 use Rattle.std.proofs.lemmas.List.{take_all}
+use Rattle.std.proofs.lemmas.Result.{IfErr-at_err}
 use Rattle.std.proofs.lemmas.Str.{IsUtf8-append, IsUtf8-nil, chars-append, chars-nil}
 use Rattle.devices.proofs.KnownBytes.{Consumes-append}
 use Rattle.utf8_pieces.specs.Pieces.{Decoding, IsCutCharacter, IsFault, IsNeverUtf8, place_behind}
@@ -14,19 +15,19 @@ use Rattle.utf8_pieces.proofs.Cuts.{no_text_within}
 use Rattle.utf8_pieces.proofs.Fronts.{IsCutCharacter-nil, IsNeverUtf8-behind, IsValidUpTo-behind}
 use Rattle.html5ever_interface.specs.Sink.{Message, stepped}
 use Rattle.html5ever_interface.specs.Token.{Told, Reply}
-use Rattle.html5grammar.specs.Reading.{reading, messages}
+use Rattle.html5grammar.specs.Reading.{reading, told, messages}
 use Rattle.html5grammar.specs.Start.{Start, Rules}
 use Rattle.html5parts.specs.declared.error.TokenizerError.{TokenizerError}
 use Rattle.html5parts.specs.declared.error.TokenizerError.TheVariants as tokenizer
 use Rattle.html5reading.specs.Feed.{told_beyond, told_at_end}
 use Rattle.html5states.specs.Telling.{StopsWithin}
-use Rattle.html5ever.specs.Tokenizer.{Tokenizing, StandsAt, ReadsOn, ReadsWhole, Finishes, StopsReading, StopsEnding, EndStops}
+use Rattle.html5ever.specs.Tokenizer.{Tokenizing, StandsAt, ReadsOn, Finishes, StopsReading, StopsEnding, EndStops}
 use Rattle.html5ever.proofs.Wholes.{whole-within_stops, whole-end_stops}
 use Rattle.html5stream.specs.declared.error.StreamError.{StreamError}
 use Rattle.html5stream.specs.declared.error.StreamError.TheVariants.{Read, NotUtf8, Memory, Sink, TooLong}
 use Rattle.html5stream.specs.DecodeErrors.{of_decoder}
 use Rattle.html5stream.specs.Errors.{stream_error}
-use Rattle.html5stream.specs.Streams.{SourceStops, GivesNoText, sink_fault}
+use Rattle.html5stream.specs.Streams.{SourceStops, ReadsSource, StopsSource, TellsGiven, GivesNoText, failed_read, failed_reads, sink_fault}
 use Rattle.html5stream.specs.Taking.{TakesBytes, TakesText, FinishesText, StopsTelling, StopsAtEnd, StopsBytes, StopsText}
 use Rattle.html5stream.proofs.Refusals.{decoder-place, place_in, SourceStops-end}
 
@@ -58,6 +59,13 @@ IsValidUpTo-cut held cut some =
     }
 
 -- ---- errors
+
+is_read : (error : StreamError) → failed_read error ≡ 0 → error ≢ Read
+is_read Read none same = absurd (omega (arith, none))
+is_read (NotUtf8 place) none same = absurd (cc same)
+is_read Memory none same = absurd (cc same)
+is_read Sink none same = absurd (cc same)
+is_read TooLong none same = absurd (cc same)
 
 -- what a decoder's refusal says, where it is one of bytes
 no_text-decoder : (e : DecodeError) (place taken : ℕ) (bytes : List ℕ) → e ≡ decoder.NotUtf8 place → (e ≡ decoder.Memory) ⊎ IsFault taken bytes e
@@ -193,7 +201,57 @@ module _ {X S H : Type 0} (state : X → S) (step : S → Told → ℕ → S) (r
             (finishes K s (front ++ chars takes.bytes) (takes.reads K s front stands));
       }
 
+  -- from the start of a stream
+  pub ReadsSource-start : (finish : S → S) (rules : Rules) (before after : Option (List ℕ)) (t : Tokenizing X) (K : Start) (s v : S)
+      → StandsAt state step reply foreign t K s [] → t.rules ≡ rules → FinishesText state step reply foreign finish before after t v
+      → ReadsSource step reply foreign finish rules K s before after v
+  ReadsSource-start finish rules before after t K s v stands same read =
+      record {
+        bytes = read.bytes;
+        given = read.given;
+        at_end = read.at_end;
+        utf8 = read.utf8;
+        told = subst (λ b. v ≡ finish (stepped step s (messages (reading step reply foreign b K s (chars read.bytes))))) same
+            (read.finishes K s [] stands);
+      }
+
   module _ (faulted : S → Told → ℕ → S) (end_faulted : S → S) where
+    pub StopsSource-start : (rules : Rules) (before after : Option (List ℕ)) (t : Tokenizing X) (K : Start) (s v : S)
+        → StandsAt state step reply foreign t K s [] → t.rules ≡ rules
+        → (error : StreamError) → StopsText state step reply foreign faulted end_faulted error before after t v
+        → StopsSource step reply foreign faulted end_faulted error rules K s before after v
+    StopsSource-start rules before after t K s v stands same error stops =
+        record {
+          text = stops.text;
+          rest = stops.rest;
+          given = stops.given;
+          utf8 = stops.utf8;
+          stopped = subst (λ b. SourceStops step faulted end_faulted error s (messages (reading step reply foreign b K s (chars stops.text))) v) same
+              (stops.stopped K s [] stands);
+        }
+
+    pub TellsGiven-start : {T : Type 0} (r : Result T StreamError) (rules : Rules) (before after : Option (List ℕ)) (t : Tokenizing X) (K : Start) (s v : S)
+        → StandsAt state step reply foreign t K s [] → t.rules ≡ rules
+        → IfErr r (λ error. StopsText state step reply foreign faulted end_faulted error before after t v) → r ≡ Err Read
+        → TellsGiven step reply foreign rules K s before after v
+    TellsGiven-start r rules before after t K s v stands same stops is =
+        let read = IfErr-at_err (λ error. StopsText state step reply foreign faulted end_faulted error before after t v) is stops in
+        let decided = read.decided refl in
+        record {
+          text = read.text;
+          rest = read.rest;
+          given = read.given;
+          utf8 = read.utf8;
+          cut = decided.0;
+          told = subst (λ b. v ≡ stepped step s (messages (told step reply foreign b K s (chars read.text)))) same (decided.1 K s [] stands);
+        }
+
+    pub GivesNoText-stop : {T : Type 0} (r : Result T StreamError) (before after : Option (List ℕ)) (t : Tokenizing X) (v : S) (place : ℕ)
+        → IfErr r (λ error. StopsText state step reply foreign faulted end_faulted error before after t v) → r ≡ Err (NotUtf8 place)
+        → GivesNoText place before after
+    GivesNoText-stop r before after t v place stops is =
+        (IfErr-at_err (λ error. StopsText state step reply foreign faulted end_faulted error before after t v) is stops).no_text place refl
+
     StopsWithin-none : (s : S) (M : List Message) → StopsWithin step faulted s M s
     unfolding stepped
     StopsWithin-none s M = record { before = []; rest = M; parts = refl; state = refl }
@@ -280,6 +338,11 @@ module _ {X S H : Type 0} (state : X → S) (step : S → Told → ℕ → S) (r
               (subst (λ b. StopsWithin step faulted s (messages (reading step reply foreign b K s (front ++ chars had.text))) (state t.sink)) had.rules
               (stops-here t K s (front ++ chars had.text) (had.reads K s front stands)));
           no_text = no_text;
+          decided = λ _. (
+            had.cut,
+            λ K s front stands.
+                (had.reads K s front stands).told ∙ ap (λ b. stepped step s (messages (told step reply foreign b K s (front ++ chars had.text)))) had.rules,
+          );
         }
 
     -- a read failed
@@ -309,10 +372,10 @@ module _ {X S H : Type 0} (state : X → S) (step : S → Told → ℕ → S) (r
 
     -- the last piece was refused
     pub StopsText-piece : (error : StreamError) (before now after : Option (List ℕ)) (first t : Tokenizing X) (held : Decoding) (more : List ℕ) (v : S)
-        → HasRead before now first t held → Consumes now after more
+        → HasRead before now first t held → Consumes now after more → failed_read error ≡ 0
         → StopsBytes state step reply foreign faulted end_faulted error held t more v
         → StopsText state step reply foreign faulted end_faulted error before after first v
-    StopsText-piece error before now after first t held more v had given stops =
+    StopsText-piece error before now after first t held more v had given none stops =
         let whole : (had.text ++ held.held) ++ more ≡ (had.text ++ stops.text) ++ stops.rest =
         append_assoc had.text held.held more ∙ ap (λ l. had.text ++ l) stops.parts ∙ sym (append_assoc had.text stops.text stops.rest) in
         record {
@@ -326,13 +389,14 @@ module _ {X S H : Type 0} (state : X → S) (step : S → Told → ℕ → S) (r
               (subst (λ b. SourceStops step faulted end_faulted error s (messages (reading step reply foreign b K s ((front ++ chars had.text) ++ chars stops.text))) v) had.rules
               (stops.stopped K s (front ++ chars had.text) (had.reads K s front stands)));
           no_text = λ place same. GivesNoText-piece before now after first t held more place had given (stops.no_text place same);
+          decided = λ same. absurd (is_read error none same);
         }
 
     -- the end was refused
     StopsText-end : (error : StreamError) (before after : Option (List ℕ)) (t u : Tokenizing X) (v : S)
         → TakesText state step reply foreign before after t u → StopsAtEnd state step reply foreign faulted end_faulted error u v
-        → ((place : ℕ) → error ≢ NotUtf8 place) → StopsText state step reply foreign faulted end_faulted error before after t v
-    StopsText-end error before after t u v takes stops other =
+        → ((place : ℕ) → error ≢ NotUtf8 place) → failed_read error ≡ 0 → StopsText state step reply foreign faulted end_faulted error before after t v
+    StopsText-end error before after t u v takes stops other none =
         record {
           text = takes.bytes;
           rest = [];
@@ -342,12 +406,13 @@ module _ {X S H : Type 0} (state : X → S) (step : S → Told → ℕ → S) (r
               subst (λ b. SourceStops step faulted end_faulted error s (messages (reading step reply foreign b K s (front ++ chars takes.bytes))) v) takes.rules
               (stops K s (front ++ chars takes.bytes) (takes.reads K s front stands));
           no_text = λ place same. absurd (other place same);
+          decided = λ same. absurd (is_read error none same);
         }
 
     pub StopsText-result : {T : Type 0} (r : Result T StreamError) (before after : Option (List ℕ)) (t u : Tokenizing X) (v : S)
         → TakesText state step reply foreign before after t u
         → IfErr r (λ error. StopsAtEnd state step reply foreign faulted end_faulted error u v)
-        → IfErr r (λ error. (place : ℕ) → error ≢ NotUtf8 place)
+        → IfErr r (λ error. (place : ℕ) → error ≢ NotUtf8 place) → failed_reads r ≡ 0
         → IfErr r (λ error. StopsText state step reply foreign faulted end_faulted error before after t v)
-    StopsText-result (Ok x) before after t u v takes stops other = tt
-    StopsText-result (Err error) before after t u v takes stops other = StopsText-end error before after t u v takes stops other
+    StopsText-result (Ok x) before after t u v takes stops other none = tt
+    StopsText-result (Err error) before after t u v takes stops other none = StopsText-end error before after t u v takes stops other none

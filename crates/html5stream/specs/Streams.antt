@@ -4,10 +4,10 @@ use Rattle.std.specs.Io.KnownBytes.{Consumes, IsAtEnd}
 use Rattle.std.specs.Str.{IsUtf8, chars}
 use Rattle.html5ever_interface.specs.Sink.{Message, stepped}
 use Rattle.html5ever_interface.specs.Token.{Told, Reply}
-use Rattle.html5grammar.specs.Reading.{reading, messages}
+use Rattle.html5grammar.specs.Reading.{reading, told, messages}
 use Rattle.html5grammar.specs.Start.{Start, Rules}
 use Rattle.html5states.specs.Telling.{StopsWithin, FaultsWithin}
-use Rattle.utf8_pieces.specs.Pieces.{IsFault, IsNeverUtf8}
+use Rattle.utf8_pieces.specs.Pieces.{IsCutCharacter, IsFault, IsNeverUtf8}
 use Rattle.utf8_pieces.specs.declared.error.DecodeError.TheVariants as decoder
 use Rattle.html5stream.specs.declared.error.StreamError.{StreamError}
 use Rattle.html5stream.specs.declared.error.StreamError.TheVariants.{Read, NotUtf8, Memory, Sink, TooLong}
@@ -73,3 +73,12 @@ module _ {S H : Type 0} (step : S → Told → ℕ → S) (reply : S → Told �
     pub given : Consumes before after (text ++ rest)
     pub utf8 : IsUtf8 text
     pub stopped : SourceStops step faulted end_faulted error s (messages (reading step reply foreign rules K s (chars text))) t
+
+  -- what the source gave is a text, and behind it at most a beginning of a character: exactly what the text decides was told
+  pub record TellsGiven (rules : Rules) (K : Start) (s : S) (before after : Option (List ℕ)) (t : S) : Type 0 where
+    pub text : List ℕ
+    pub rest : List ℕ
+    pub given : Consumes before after (text ++ rest)
+    pub utf8 : IsUtf8 text
+    pub cut : IsCutCharacter rest
+    pub told : t ≡ stepped step s (messages (told step reply foreign rules K s (chars text)))

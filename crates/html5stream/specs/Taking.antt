@@ -2,14 +2,15 @@
 use Rattle.std.specs.Prelude.{◌≡◌, ℕ, Bool, false, List, ◌++◌, length, Option}
 use Rattle.std.specs.Io.KnownBytes.{Consumes, IsAtEnd}
 use Rattle.std.specs.Str.{IsUtf8, chars}
+use Rattle.html5ever_interface.specs.Sink.{stepped}
 use Rattle.html5ever_interface.specs.Token.{Told, Reply}
-use Rattle.html5grammar.specs.Reading.{reading, messages}
+use Rattle.html5grammar.specs.Reading.{reading, told, messages}
 use Rattle.html5grammar.specs.Start.{Start}
 use Rattle.html5ever.specs.Tokenizer.{Tokenizing, StandsAt, ReadsOn, ReadsWhole}
 use Rattle.utf8_pieces.specs.Pieces.{Decoding, IsCutCharacter, IsFault, IsNeverUtf8, place_behind}
 use Rattle.utf8_pieces.specs.declared.error.DecodeError.TheVariants as decoder
 use Rattle.html5stream.specs.declared.error.StreamError.{StreamError}
-use Rattle.html5stream.specs.declared.error.StreamError.TheVariants.{NotUtf8}
+use Rattle.html5stream.specs.declared.error.StreamError.TheVariants.{Read, NotUtf8}
 use Rattle.html5stream.specs.Streams.{SourceStops, GivesNoText}
 
 module _ {X S H : Type 0} (state : X → S) (step : S → Told → ℕ → S) (reply : S → Told → ℕ → Reply H) (foreign : S → Bool) where
@@ -42,6 +43,12 @@ module _ {X S H : Type 0} (state : X → S) (step : S → Told → ℕ → S) (r
     pub utf8 : IsUtf8 bytes
     pub finishes : ReadsWhole state step reply foreign finish t (chars bytes) v
 
+  -- from wherever the tokenizer stood, exactly what is decided by what was taken and `more` was told
+  abbrev pub TellsDecided : Tokenizing X → List ℕ → S → Type 0
+  TellsDecided t more v =
+      (K : Start) (s : S) (front : List ℕ) → StandsAt state step reply foreign t K s front
+      → v ≡ stepped step s (messages (told step reply foreign t.rules K s (front ++ more)))
+
   module _ (faulted : S → Told → ℕ → S) (end_faulted : S → S) where
     -- from wherever the tokenizer stood, the sink stopped within the reading of what was taken and `more`
     abbrev pub StopsTelling : StreamError → Tokenizing X → List ℕ → S → Type 0
@@ -72,3 +79,4 @@ module _ {X S H : Type 0} (state : X → S) (step : S → Told → ℕ → S) (r
       pub utf8 : IsUtf8 text
       pub stopped : StopsTelling error t (chars text) v
       pub no_text : (place : ℕ) → error ≡ NotUtf8 place → GivesNoText place before after
+      pub decided : error ≡ Read → IsCutCharacter rest × TellsDecided t (chars text) v

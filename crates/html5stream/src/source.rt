@@ -8,7 +8,7 @@ ghost use Rattle.html5states.specs.Telling.{faults_of};
 ghost use Rattle.html5reading.specs.Starting.{CanStart};
 ghost use Rattle.html5ever.specs.Tokenizer.{rules_of, ReadsOn, Finishes};
 ghost use Rattle.html5stream.specs.Errors.{stream_error};
-ghost use Rattle.html5stream.specs.Streams.{ReadsSource, StopsSource, GivesNoText, failed_read, failed_reads, sink_fault, sink_faults};
+ghost use Rattle.html5stream.specs.Streams.{ReadsSource, StopsSource, TellsGiven, GivesNoText, failed_read, failed_reads, sink_fault, sink_faults};
 ghost use Rattle.html5stream.specs.Taking.{TakesBytes, TakesText, FinishesText, StopsTelling, StopsAtEnd, StopsBytes, StopsText};
 
 use crate::error::StreamError;
@@ -211,6 +211,9 @@ pub fn read_source<R: Source, S: TokenSink<Token<A>>, A: Allocator + Copy>(
         (R.remaining source.old) (R.remaining source.new) (S.state result.0)) }
 
     // When each error comes, and what it leaves.
+    ensures decided { result.1 ≡ Err StreamError.Read → TellsGiven S.step S.reply S.foreign
+        (rules_of (options_of opts) names.now) (start_of (options_of opts)) (S.state sink)
+        (R.remaining source.old) (R.remaining source.new) (S.state result.0) }
     ensures not_utf8 { (place : ℕ) → result.1 ≡ Err (StreamError.NotUtf8 place)
         → GivesNoText place (R.remaining source.old) (R.remaining source.new) }
     ensures beginning { IfErr result.1 (λ error. StopsSource S.step S.reply S.foreign S.faulted S.end_faulted

@@ -12,4 +12,4 @@ returns-clause-finishes g c =
 pub returns-clause-stops : goal.returns-clause-stops
 returns-clause-stops g c =
     StopsText-result g.S.TokenSink.state g.S.TokenSink.step g.S.TokenSink.reply g.S.TokenSink.foreign g.S.TokenSink.faulted g.S.TokenSink.end_faulted
-    c.tell_end.result _ _ _ _ _ c.in_ok-read_text.ensures.takes c.tell_end.ensures.stops c.tell_end.ensures.text_error
+    c.tell_end.result _ _ _ _ _ c.in_ok-read_text.ensures.takes c.tell_end.ensures.stops c.tell_end.ensures.text_error c.tell_end.ensures.read

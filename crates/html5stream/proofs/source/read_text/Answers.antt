@@ -1,6 +1,6 @@
 use Rattle.std.proofs.Common.{refl, arith, rules}
 use Rattle.std.proofs.lemmas.Result.{err_from_is_err_and}
-use Rattle.html5stream.proofs.Streaming.{HasRead, HasRead-start, HasRead-more, HasRead-nothing, HasRead-whole, StopsText-read, StopsText-cut, StopsText-piece, StopsText-long}
+use Rattle.html5stream.proofs.Streaming.{HasRead-start, HasRead-more, HasRead-nothing, HasRead-whole, StopsText-read, StopsText-cut, StopsText-piece, StopsText-long}
 use Rattle.html5stream.proofs.source.read_text.Goals as goal
 
 pub loop-init : goal.loop-init
@@ -42,7 +42,7 @@ returns-in_err-take_bytes-clause-stops g c =
     let p = err_from_is_err_and c.from_residual-in_err-take_bytes.result c.from_residual-in_err-take_bytes.ensures.1 in
     rw (p.1, p.2)
     (StopsText-piece g.S.TokenSink.state g.S.TokenSink.step g.S.TokenSink.reply g.S.TokenSink.foreign g.S.TokenSink.faulted g.S.TokenSink.end_faulted
-    _ _ _ _ _ _ _ _ _ c.loop.invariant.read c.in_ok-n.ensures.given c.in_err-take_bytes.ensures.stops)
+    _ _ _ _ _ _ _ _ _ c.loop.invariant.read c.in_ok-n.ensures.given c.in_err-take_bytes.ensures.read c.in_err-take_bytes.ensures.stops)
 
 pub loop-preserved : goal.loop-preserved
 loop-preserved g c = record {
