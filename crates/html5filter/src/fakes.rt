@@ -11,7 +11,7 @@ use std::alloc::Global;
 use std::io;
 use std::io::Read;
 
-/// A source that gives at most so many bytes a read.
+/// A source that gives at most so many bytes a read, and at least one.
 #[derive(Drop)]
 pub struct PieceSource<'a> {
     bytes: &'a [u8],
@@ -25,7 +25,7 @@ impl<'a> PieceSource<'a> {
     {
         PieceSource {
             bytes,
-            size: size.max(1),
+            size,
             failures: Count::new(),
         }
     }
@@ -37,14 +37,8 @@ impl Source for PieceSource<'_> {
     ghost failures = { λ s. s.failures.total };
 
     fn read(&mut self, buf: &mut [u8]) -> io::Result<usize> {
-        let room = buf.len().min(self.size);
-        match self.bytes.read(&mut buf[..room]) {
-            Ok(n) => Ok(n),
-            Err(e) => {
-                self.failures.add(1);
-                Err(e)
-            }
-        }
+        let room = buf.len().min(self.size.max(1));
+        self.bytes.read(&mut buf[..room])
     }
 }
 
