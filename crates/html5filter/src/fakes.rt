@@ -3,9 +3,10 @@ ghost use Rattle.std.specs.Prelude.{◌≡◌, Some};
 
 use crate::names::{NamesError, few_names};
 use crate::running::Filter;
-use devices::{Source, WriteTarget};
+use devices::{Source, Target, WriteTarget};
 use html5stream::StreamError;
 use markup5ever::count::Count;
+use markup5ever::data::NamedReferences;
 use printer::Printer;
 use std::alloc::Global;
 use std::io;
@@ -42,16 +43,34 @@ impl Source for PieceSource<'_> {
     }
 }
 
-/// What a filter prints of a page that comes in pieces of so many bytes, and whether it was read.
+// Reads pages that come in pieces of so many bytes, up to one that can't be read.
+fn read_pages<F: Filter<W>, W: Target + Drop>(
+    alloc: Global,
+    filter: F,
+    names: &NamedReferences,
+    pages: &[&[u8]],
+    size: usize,
+) -> (F, Result<(), StreamError>) {
+    let mut filter = filter;
+    for page in pages {
+        let (behind, read) = filter.read_page(alloc, &mut PieceSource::new(page, size), names);
+        filter = behind;
+        if read.is_err() {
+            return (filter, read);
+        }
+    }
+    (filter, Ok(()))
+}
+
+/// What a filter prints of pages that come in pieces of so many bytes, and whether they were read.
 pub fn filtered<F: Filter<WriteTarget<Vec<u8>>>>(
     alloc: Global,
-    page: &[u8],
+    pages: &[&[u8]],
     size: usize,
 ) -> Result<(Vec<u8>, Result<(), StreamError>), NamesError> {
     let names = few_names(alloc)?;
     let printer = Printer::new(alloc, WriteTarget::new(Vec::new(alloc)));
-    let filter = F::new(alloc, printer);
-    let (filter, read) = filter.read_page(alloc, &mut PieceSource::new(page, size), &names);
+    let (filter, read) = read_pages(alloc, F::new(alloc, printer), &names, pages, size);
     let (target, _) = filter.into_printer().finish();
     Ok((target.into_inner(), read))
 }

@@ -1,5 +1,6 @@
 use devices::{Target, write_all};
 use std::alloc::Global;
+use std::fmt::Display;
 
 /// Says on standard error what went wrong, a line each, in the program's name.
 #[derive(Drop)]
@@ -19,7 +20,7 @@ impl<'p, E: Target> Messages<'p, E> {
     }
 
     /// Says it, as far as that can be said.
-    pub fn say(&mut self, what: &str, why: &str) {
+    pub fn say<D: Display + Drop>(&mut self, what: &str, why: D) {
         let program = self.program;
         if let Ok(line) = format!(in self.alloc; "{program}: {what}: {why}\n") {
             let _ = write_all(&mut self.target, line.as_bytes());

@@ -4,28 +4,17 @@ use markup5ever::data::{NamedReferences, TableError};
 use std::alloc::Allocator;
 use std::fs;
 use std::fs::Files;
+use thiserror::Error;
 
 /// Why there is no table of names.
-#[derive(Clone, Copy, Debug, PartialEq, Eq)]
+#[derive(Clone, Copy, Debug, PartialEq, Eq, Error)]
 pub enum NamesError {
-    /// The file can't be read.
+    #[error("the file can't be read")]
     Unreadable,
-    /// The file is no list of names.
+    #[error("the file has no list of names")]
     NoList,
-    /// The list makes no table.
+    #[error("the list makes no table: {0}")]
     Table(TableError),
-}
-
-impl NamesError {
-    /// Why, in words.
-    pub fn message(self) -> &'static str {
-        match self {
-            NamesError::Unreadable => "the file can't be read",
-            NamesError::NoList => "the file has no list of names",
-            NamesError::Table(TableError::Memory) => "out of memory",
-            NamesError::Table(_) => "the list makes no table",
-        }
-    }
 }
 
 /// The table of names of a file, or else a few names.

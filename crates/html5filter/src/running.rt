@@ -43,17 +43,6 @@ const FAILED: u8 = 1;
 /// The status of a program whose words are wrong, or their table.
 const WRONG: u8 = 2;
 
-// Why an input was not read to its end.
-fn why(error: StreamError) -> &'static str {
-    match error {
-        StreamError::Read => "can't be read",
-        StreamError::NotUtf8 { valid_up_to: _ } => "is no UTF-8",
-        StreamError::Memory => "out of memory",
-        StreamError::Sink => "can't be printed",
-        StreamError::TooLong => "does not end",
-    }
-}
-
 // Reads a file, or standard input where it is named `-`.
 fn read_file<F: Filter<W>, W: Target + Drop, R: Files + Alloc<A = Global>, I: Source>(
     rt: &R,
@@ -89,7 +78,7 @@ fn read_files<F: Filter<W>, W: Target + Drop, R: Files + Alloc<A = Global>, I: S
             Ok(()) => {}
             Err(StreamError::Sink) => return (filter, false),
             Err(error) => {
-                messages.say(file, why(error));
+                messages.say(file, error);
                 all = false;
             }
         }
@@ -156,7 +145,7 @@ pub fn run<
     let names = match read_names(rt, asked.names) {
         Ok(names) => names,
         Err(error) => {
-            messages.say("names", error.message());
+            messages.say("names", error);
             return WRONG;
         }
     };

@@ -10,12 +10,12 @@ use Rattle.html5stream.specs.Streams.{ReadsSource}
 use Rattle.html5text.specs.PageText.{Reading, text_step}
 use Rattle.html5text.specs.Page.{text_behind, ReadsText}
 
-pub text-read : (names : List NamedReference) (before after : Option (List ℕ)) (start : Reading) (t : Running Reading)
+pub text-read : (names : List NamedReference) (before after : Option (List ℕ)) (printed : List ℕ) (t : Running Reading)
     → ReadsSource (runs_step text_step) (runs_reply (λ state run tag line. standard_reply tag)) (λ s. s.foreign) (λ s. s)
-    (rules_of default_options names) (start_of default_options) (record { joined = joined_of start []; foreign = false }) before after t
-    → ReadsText names before after start t.joined.handler.printed
+    (rules_of default_options names) (start_of default_options) (record { joined = joined_of (record { printed = printed; within = false }) []; foreign = false }) before after t
+    → ReadsText names before after printed t.joined.handler.printed
 unfolding text_behind
-text-read names before after start t reads = record {
+text-read names before after printed t reads = record {
   bytes = reads.bytes;
   consumed = reads.given;
   at_end = reads.at_end;

@@ -1,6 +1,6 @@
 //! The text of a page that is read as it arrives.
 ghost use Rattle.std.specs.Prelude.{OnOk};
-ghost use Rattle.html5text.specs.Page.{ReadsText, reading_of};
+ghost use Rattle.html5text.specs.Page.{ReadsText};
 
 use crate::page_text::PageText;
 use devices::{Source, Target};
@@ -18,9 +18,9 @@ pub fn read_text<R: Source, W: Target, A: Allocator + Copy>(
     names: &NamedReferences<A>,
 ) -> (PageText<W, A>, Result<(), StreamError>)
     ensures { OnOk result.1 (ReadsText names.now (R.remaining source.old) (R.remaining source.new)
-        (reading_of text) result.0.printer.printed) }
+        text.printer.printed result.0.printer.printed) }
 {
-    let runs = TextRuns::new(alloc, text);
+    let runs = TextRuns::new(alloc, text.at_start());
     let opts = TokenizerOpts::default();
     let (told, read) = read_source(alloc, source, runs, opts, names);
     (told.into_inner(), read)

@@ -58,6 +58,14 @@ impl<W: Target, A: Allocator> PageText<W, A> {
         }
     }
 
+    /// Prints to the same printer, at the start of a page.
+    pub fn at_start(self) -> PageText<W, A>
+        ensures printer { result.printer ≡ self.printer }
+        ensures within { result.within ≡ false }
+    {
+        PageText::new(self.printer)
+    }
+
     // Prints a run, where no script and no style is open.
     fn show(&mut self, run: &str) -> Result<(), SinkFault>
         ensures ok { OnOk result (self.new.printer.printed ≡ self.old.printer.printed ++ shown self.old.within run.now) }
