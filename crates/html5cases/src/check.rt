@@ -1,5 +1,7 @@
 //! Runs cases, and tells which tell something else.
-ghost use Rattle.std.specs.Prelude.{◌≡◌, false};
+ghost use Rattle.std.specs.Prelude.{IsSome};
+ghost use Rattle.html5reading.specs.Starting.{CanStart};
+ghost use Rattle.html5table.specs.Listed.{listed};
 
 use crate::case::Case;
 use crate::clones::check_clones;
@@ -75,7 +77,10 @@ fn is_told_so_far(
     case: &Case,
     settings: &Settings,
     clean: bool,
-) -> Result<bool, CaseError> {
+) -> Result<bool, CaseError>
+    requires state { CanStart settings.now.initial_state }
+    requires table { IsSome (listed settings.now.table.now) }
+{
     let Ok(names) = names_of(alloc, settings.table) else {
         return Err(CaseError::BadLine);
     };

@@ -72,5 +72,5 @@ pub fn filtered<F: Filter<WriteTarget<Vec<u8>>>>(
     let printer = Printer::new(alloc, WriteTarget::new(Vec::new(alloc)));
     let (filter, read) = read_pages(alloc, F::new(alloc, printer), &names, pages, size);
     let (target, _) = filter.into_printer().finish();
-    Ok((target.into_inner(), read))
+    Ok((target.into_inner().into_inner(), read))
 }

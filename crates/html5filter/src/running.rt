@@ -5,7 +5,7 @@ use crate::words::words_of;
 use devices::{ReadSource, Source, Target, WriteTarget, write_all};
 use html5stream::StreamError;
 use markup5ever::data::NamedReferences;
-use printer::{Logged, Printer};
+use printer::Printer;
 use std::alloc::Global;
 use std::fs::{File, Files};
 use std::io::{Read, Write};
@@ -88,7 +88,7 @@ fn read_files<F: Filter<W>, W: Target + Drop, R: Files + Alloc<A = Global>, I: S
 
 // Reads the files and prints what the filter makes of them.
 fn filter_files<
-    F: Filter<Logged<Output<O>>>,
+    F: Filter<Output<O>>,
     R: Files + Alloc<A = Global>,
     I: Source,
     O: Write + Drop,
@@ -101,7 +101,7 @@ fn filter_files<
     stdout: O,
     messages: &mut Messages<'_, E>,
 ) -> u8 {
-    let printer = Printer::new(rt.alloc(), Logged::new(Output::new(stdout)));
+    let printer = Printer::new(rt.alloc(), Output::new(stdout));
     let filter = F::new(rt.alloc(), printer);
     let (filter, all) = read_files(rt, filter, names, stdin, files, messages);
     let (target, written) = filter.into_printer().finish();
@@ -120,7 +120,7 @@ fn filter_files<
 /// Runs a program: `words` are those behind its name. Answers the status that the process ends with.
 /// Where the reader of the output goes away it ends without a word.
 pub fn run<
-    F: Filter<Logged<Output<O>>>,
+    F: Filter<Output<O>>,
     R: Files + Alloc<A = Global>,
     I: Read + Drop,
     O: Write + Drop,

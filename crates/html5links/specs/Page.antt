@@ -16,7 +16,7 @@ use Rattle.html5links.specs.Links.{links_step}
 -- what was printed behind a page, whose bytes are given: the line of each link of the tags that its reading tells
 unfoldable pub links_behind : List NamedReference → List ℕ → List ℕ → List ℕ
 links_behind names printed bytes =
-    let start = record { handler = printed; foreign = false } in
+    let start : Tagged (List ℕ) = record { handler = printed; foreign = false } in
     (stepped (tags_step links_step) start
     (messages (reading (tags_step links_step) (tags_reply (λ state tag line. standard_reply tag)) (λ s. s.foreign)
     (rules_of default_options names) (start_of default_options) start (chars bytes)))).handler

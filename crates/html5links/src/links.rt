@@ -88,12 +88,12 @@ fn line_of<A: Allocator>(alloc: A, line_number: u64, link: &str) -> Result<Vec<u
 /// Prints the links of the tags that it takes, a line each: the number of the line on which the tag
 /// ends, a space, and the link, without the tabs and line breaks that a URL has none of.
 #[derive(Drop)]
-pub struct Links<W: Target, A: Allocator = Global> {
+pub struct Links<W, A: Allocator = Global> {
     alloc: A,
     printer: Printer<W, A>,
 }
 
-impl<W: Target, A: Allocator> Model for Links<W, A> {
+impl<W, A: Allocator> Model for Links<W, A> {
     ghost use Rattle.printer.specs.Printing.{Printing};
 
     ghost Value = { Printing W };
@@ -101,7 +101,7 @@ impl<W: Target, A: Allocator> Model for Links<W, A> {
     ghost view = { λ l. l.printer };
 }
 
-impl<W: Target, A: Allocator + Copy> Links<W, A> {
+impl<W, A: Allocator + Copy> Links<W, A> {
     /// Prints to this printer.
     pub fn new(alloc: A, printer: Printer<W, A>) -> Links<W, A>
         ensures { result ≡ printer }

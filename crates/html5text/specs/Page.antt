@@ -15,7 +15,7 @@ use Rattle.html5text.specs.PageText.{Reading, text_step}
 -- what was printed behind a page, whose bytes are given: each whole run of text of its reading, but for those in scripts and styles
 unfoldable pub text_behind : List NamedReference → List ℕ → List ℕ → List ℕ
 text_behind names printed bytes =
-    let start = record { joined = joined_of (record { printed = printed; within = false }) []; foreign = false } in
+    let start : Running Reading = record { joined = joined_of (record { printed = printed; within = false }) []; foreign = false } in
     (stepped (runs_step text_step) start
     (messages (reading (runs_step text_step) (runs_reply (λ state run tag line. standard_reply tag)) (λ s. s.foreign)
     (rules_of default_options names) (start_of default_options) start (chars bytes)))).joined.handler.printed

@@ -33,12 +33,12 @@ fn is_within_behind<A: Allocator>(within: bool, token: &Token<A>) -> bool
 
 /// Prints the text that it takes, but for what stands in scripts and styles.
 #[derive(Drop)]
-pub struct PageText<W: Target, A: Allocator = Global> {
+pub struct PageText<W, A: Allocator = Global> {
     printer: Printer<W, A>,
     within: bool,
 }
 
-impl<W: Target, A: Allocator> Model for PageText<W, A> {
+impl<W, A: Allocator> Model for PageText<W, A> {
     ghost use Rattle.html5text.specs.PageText.{Showing};
 
     ghost Value = { Showing W };

@@ -1,8 +1,13 @@
 -- Output that is written a page at a time.
 use Rattle.std.specs.Prelude.{ℕ, Bool, List}
 
+-- a target, and the bytes that it took
+pub record Taking (W : Type 0) : Type 0 where
+  pub inner : W
+  pub taken : List ℕ
+
 -- the target, all that was printed, and whether a page could not be written
 pub record Printing (W : Type 0) : Type 0 where
-  pub target : W
+  pub target : Taking W
   pub printed : List ℕ
   pub failed : Bool

@@ -1,23 +1,31 @@
-//! A target that contracts know the bytes of.
+//! A target of which contracts know what it took.
 ghost use Rattle.std.specs.Prelude.{◌≡◌, [], Some};
 
 use crate::log::Log;
 use devices::Target;
 use std::io;
+use std::marker::Model;
 
-/// A target behind which contracts see what it took: its contents are the bytes that were written
-/// through it.
+/// A target of which contracts know what it took: the bytes that were written through this.
 #[derive(Drop)]
 pub struct Logged<W> {
     inner: W,
     log: Log,
 }
 
+impl<W> Model for Logged<W> {
+    ghost use Rattle.printer.specs.Printing.{Taking};
+
+    ghost Value = { Taking W };
+
+    ghost view = { λ t. record { inner = t.inner; taken = t.log.bytes } };
+}
+
 impl<W> Logged<W> {
-    /// A target through which nothing was written yet.
+    /// A target that took nothing yet.
     pub fn new(inner: W) -> Logged<W>
         ensures inner { result.inner ≡ inner }
-        ensures empty { result.log.bytes ≡ [] }
+        ensures taken { result.taken ≡ [] }
     {
         Logged {
             inner,
@@ -31,10 +39,17 @@ impl<W> Logged<W> {
     {
         &self.inner
     }
+
+    /// The target itself.
+    pub fn into_inner(self) -> W
+        ensures { result ≡ self.inner }
+    {
+        self.inner
+    }
 }
 
 impl<W: Target> Target for Logged<W> {
-    ghost contents = { λ t. Some t.log.bytes };
+    ghost contents = { λ t. Some t.taken };
 
     ghost failures = { λ t. W.failures t.inner };
 

@@ -1,8 +1,9 @@
 //! A target behind a page.
-ghost use Rattle.std.specs.Prelude.{◌≡◌, ◌+◌, [], ◌++◌, false, Some, IfErr, OnOk, OnErr, is_err};
+ghost use Rattle.std.specs.Prelude.{◌≡◌, ◌+◌, [], ◌++◌, false, IfErr, OnOk, OnErr, is_err};
 ghost use Rattle.devices.specs.Device.{IsReadFault, reported_failures};
 
 use crate::log::Log;
+use crate::logged::Logged;
 use devices::{Fault, Target, write_all};
 use std::alloc::{Allocator, Global};
 use std::marker::Model;
@@ -15,35 +16,33 @@ const PAGE: usize = 4096;
 
 /// Prints to a target by pages: what is printed is written once a page is full, and at the end.
 #[derive(Drop)]
-pub struct Printer<W: Target, A: Allocator = Global> {
-    target: W,
+pub struct Printer<W, A: Allocator = Global> {
+    target: Logged<W>,
     page: Vec<u8, A>,
     log: Log,
     failed: bool,
 }
 
-impl<W: Target, A: Allocator> Model for Printer<W, A> {
-    ghost use Rattle.std.specs.Prelude.{◌≡◌, ◌++◌, false, IsSomeAnd};
+impl<W, A: Allocator> Model for Printer<W, A> {
+    ghost use Rattle.std.specs.Prelude.{◌≡◌, ◌++◌, false};
     ghost use Rattle.printer.specs.Printing.{Printing};
 
     ghost Value = { Printing W };
 
     ghost view = { λ p. record { target = p.target; printed = p.log.bytes; failed = p.failed } };
 
-    ghost invariant = { λ p. p.failed ≡ false
-        → IsSomeAnd (W.contents p.target) (λ xs. p.log.bytes ≡ xs ++ p.page.items) };
+    ghost invariant = { λ p. p.failed ≡ false → p.log.bytes ≡ p.target.taken ++ p.page.items };
 }
 
 impl<W: Target, A: Allocator> Printer<W, A> {
-    /// A printer that has printed nothing, to a target that holds nothing.
+    /// A printer that has printed nothing.
     pub fn new(alloc: A, target: W) -> Printer<W, A>
-        requires empty { W.contents target ≡ Some [] }
         ensures printed { result.printed ≡ [] }
-        ensures target { result.target ≡ target }
+        ensures target { result.target.inner ≡ target }
         ensures failed { result.failed ≡ false }
     {
         Printer {
-            target,
+            target: Logged::new(target),
             page: Vec::new(alloc),
             log: Log::new(),
             failed: false,
@@ -54,8 +53,8 @@ impl<W: Target, A: Allocator> Printer<W, A> {
     fn write_page(&mut self) -> Result<(), Fault>
         requires { self.old.failed ≡ false }
         ensures printed { self.new.printed ≡ self.old.printed }
-        ensures written { OnOk result (W.contents self.new.target ≡ Some self.old.printed) }
-        ensures failures { W.failures self.new.target ≡ W.failures self.old.target + reported_failures result }
+        ensures written { OnOk result (self.new.target.taken ≡ self.old.printed) }
+        ensures failures { W.failures self.new.target.inner ≡ W.failures self.old.target.inner + reported_failures result }
         ensures failed { self.new.failed ≡ is_err result }
         ensures fault { IfErr result (λ fault. fault ≡ Fault.Device) }
     {
@@ -72,7 +71,8 @@ impl<W: Target, A: Allocator> Printer<W, A> {
         ensures err { OnErr result (self.new.printed ≡ self.old.printed) }
         ensures fault { IfErr result IsReadFault }
         ensures failed { self.new.failed ≡ false → self.old.failed ≡ false }
-        ensures failures { self.old.failed ≡ false → W.failures self.new.target ≡ W.failures self.old.target + reported_failures result }
+        ensures failures { self.old.failed ≡ false
+            → W.failures self.new.target.inner ≡ W.failures self.old.target.inner + reported_failures result }
     {
         if self.failed {
             return Err(Fault::Device);
@@ -85,11 +85,12 @@ impl<W: Target, A: Allocator> Printer<W, A> {
         Ok(())
     }
 
-    /// Writes what waits, and gives the target back: it holds what was printed.
-    pub fn finish(mut self) -> (W, Result<(), Fault>)
-        ensures ok { OnOk result.1 (W.contents result.0 ≡ Some self.printed) }
+    /// Writes what waits, and gives the target back: what it took is what was printed.
+    pub fn finish(mut self) -> (Logged<W>, Result<(), Fault>)
+        ensures ok { OnOk result.1 (result.0.taken ≡ self.printed) }
         ensures fault { IfErr result.1 (λ fault. fault ≡ Fault.Device) }
-        ensures failures { self.failed ≡ false → W.failures result.0 ≡ W.failures self.target + reported_failures result.1 }
+        ensures failures { self.failed ≡ false
+            → W.failures result.0.inner ≡ W.failures self.target.inner + reported_failures result.1 }
     {
         if self.failed {
             return (self.target, Err(Fault::Device));

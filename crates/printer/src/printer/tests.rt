@@ -1,5 +1,4 @@
 use super::{PAGE, Printer};
-use crate::logged::Logged;
 use devices::fakes::{FailingTarget, Refusal};
 use devices::{Fault, WriteTarget};
 use std::test::Fail;
@@ -14,7 +13,7 @@ fn writes_pages_and_the_rest(rt: HostRuntime) -> Result<(), Fail> {
     }
     let (target, written) = printer.finish();
     assert_eq!(rt; written, Ok(()));
-    let taken: Vec<u8> = target.into_inner();
+    let taken: Vec<u8> = target.into_inner().into_inner();
     assert_eq!(rt; taken.as_slice(), expected.as_bytes());
     Ok(())
 }
@@ -22,7 +21,7 @@ fn writes_pages_and_the_rest(rt: HostRuntime) -> Result<(), Fail> {
 #[test]
 fn tells_that_a_page_was_not_written(rt: HostRuntime) -> Result<(), Fail> {
     for refusal in [Refusal::Error, Refusal::Nothing] {
-        let target = Logged::new(FailingTarget::new(rt.alloc(), 2, refusal));
+        let target = FailingTarget::new(rt.alloc(), 2, refusal);
         let mut printer = Printer::new(rt.alloc(), target);
         for _ in 0..PAGE {
             printer.print(b"a")?;
