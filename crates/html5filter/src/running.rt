@@ -9,6 +9,7 @@ use printer::Printer;
 use std::alloc::Global;
 use std::fs::{File, Files};
 use std::io::{Read, Write};
+use thiserror::Error;
 
 /// What a program makes of the pages that it reads: what it prints.
 pub trait Filter<W: Target + Drop>: Drop {
@@ -43,6 +44,26 @@ const FAILED: u8 = 1;
 /// The status of a program whose words are wrong, or their table.
 const WRONG: u8 = 2;
 
+// Why a file was not read to its end.
+#[derive(Clone, Copy, Debug, PartialEq, Eq, Error)]
+enum FileError {
+    #[error("can't be opened")]
+    Open,
+    #[error("{0}")]
+    Stream(StreamError),
+}
+
+// How reading the files ends.
+#[derive(Clone, Copy, Debug, PartialEq, Eq)]
+enum Outcome {
+    // All were read.
+    Read,
+    // Some were not, and it was said why.
+    Missed,
+    // What the filter makes of one can't be printed.
+    Stopped,
+}
+
 // Reads a file, or standard input where it is named `-`.
 fn read_file<F: Filter<W>, W: Target + Drop, R: Files + Alloc<A = Global>, I: Source>(
     rt: &R,
@@ -50,17 +71,22 @@ fn read_file<F: Filter<W>, W: Target + Drop, R: Files + Alloc<A = Global>, I: So
     names: &NamedReferences,
     stdin: &mut I,
     file: &str,
-) -> (F, Result<(), StreamError>) {
-    if file == "-" {
-        return filter.read_page(rt.alloc(), stdin, names);
-    }
-    match File::open(rt, file) {
-        Ok(opened) => filter.read_page(rt.alloc(), &mut ReadSource::new(opened), names),
-        Err(_) => (filter, Err(StreamError::Read)),
+) -> (F, Result<(), FileError>) {
+    let (filter, read) = if file == "-" {
+        filter.read_page(rt.alloc(), stdin, names)
+    } else {
+        match File::open(rt, file) {
+            Ok(opened) => filter.read_page(rt.alloc(), &mut ReadSource::new(opened), names),
+            Err(_) => return (filter, Err(FileError::Open)),
+        }
+    };
+    match read {
+        Ok(()) => (filter, Ok(())),
+        Err(error) => (filter, Err(FileError::Stream(error))),
     }
 }
 
-// Reads the files, up to one that can't be printed. Answers the filter, and whether all were read.
+// Reads the files, up to one that can't be printed.
 fn read_files<F: Filter<W>, W: Target + Drop, R: Files + Alloc<A = Global>, I: Source, E: Target>(
     rt: &R,
     filter: F,
@@ -68,22 +94,22 @@ fn read_files<F: Filter<W>, W: Target + Drop, R: Files + Alloc<A = Global>, I: S
     stdin: &mut I,
     files: &[&str],
     messages: &mut Messages<'_, E>,
-) -> (F, bool) {
+) -> (F, Outcome) {
     let mut filter = filter;
-    let mut all = true;
+    let mut outcome = Outcome::Read;
     for file in files {
         let (behind, read) = read_file(rt, filter, names, stdin, file);
         filter = behind;
         match read {
             Ok(()) => {}
-            Err(StreamError::Sink) => return (filter, false),
+            Err(FileError::Stream(StreamError::Sink)) => return (filter, Outcome::Stopped),
             Err(error) => {
                 messages.say(file, error);
-                all = false;
+                outcome = Outcome::Missed;
             }
         }
     }
-    (filter, all)
+    (filter, outcome)
 }
 
 // Reads the files and prints what the filter makes of them.
@@ -101,20 +127,20 @@ fn filter_files<
     stdout: O,
     messages: &mut Messages<'_, E>,
 ) -> u8 {
-    let printer = Printer::new(rt.alloc(), Output::new(stdout));
-    let filter = F::new(rt.alloc(), printer);
-    let (filter, all) = read_files(rt, filter, names, stdin, files, messages);
+    let filter = F::new(rt.alloc(), Printer::new(rt.alloc(), Output::new(stdout)));
+    let (filter, outcome) = read_files(rt, filter, names, stdin, files, messages);
     let (target, written) = filter.into_printer().finish();
-    if written.is_ok() && all {
-        return DONE;
-    }
     if target.inner().is_closed() {
         return DONE;
     }
-    if written.is_err() {
-        messages.say("output", "can't be written");
+    match outcome {
+        Outcome::Read if written.is_ok() => DONE,
+        Outcome::Missed if written.is_ok() => FAILED,
+        _ => {
+            messages.say("output", "can't be printed");
+            FAILED
+        }
     }
-    FAILED
 }
 
 /// Runs a program: `words` are those behind its name. Answers the status that the process ends with.

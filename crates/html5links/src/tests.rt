@@ -2,21 +2,6 @@ use crate::links::Links;
 use devices::WriteTarget;
 use html5filter::fakes::filtered;
 use html5stream::StreamError;
-use std::alloc::Global;
-use std::process::Abort;
-
-// What is printed for pages that come in pieces of so many bytes, and whether they were read.
-fn printed(
-    rt: &impl Abort,
-    alloc: Global,
-    pages: &[&[u8]],
-    size: usize,
-) -> (Vec<u8>, Result<(), StreamError>) {
-    match filtered::<Links<WriteTarget<Vec<u8>>>>(alloc, pages, size) {
-        Ok(printed) => printed,
-        Err(error) => panic!(rt; "{error:?}"),
-    }
-}
 
 // A page, and its links.
 const PAGE: &str =
@@ -27,7 +12,11 @@ const LINKS: &str = "1 /x?a&b\n3 \u{e9}.png\n3 s.css\n5 yz\n5 \n5 m\n";
 #[test]
 fn prints_the_links_however_the_page_is_cut(rt: HostRuntime) {
     for size in [1, 3, 4096] {
-        let (lines, read) = printed(&rt, rt.alloc(), &[PAGE.as_bytes()], size);
+        let (lines, read) = filtered::<Links<WriteTarget<Vec<u8>>>, _>(
+            &rt,
+            &[PAGE.as_bytes()],
+            size,
+        );
         assert_eq!(rt; read, Ok(()), "in pieces of {size}");
         assert_eq!(rt; lines.as_slice(), LINKS.as_bytes(), "in pieces of {size}");
     }
@@ -35,7 +24,11 @@ fn prints_the_links_however_the_page_is_cut(rt: HostRuntime) {
 
 #[test]
 fn prints_the_links_before_bytes_that_are_no_text(rt: HostRuntime) {
-    let (lines, read) = printed(&rt, rt.alloc(), &[b"<a href=x><a href=\xff>".as_slice()], 1);
+    let (lines, read) = filtered::<Links<WriteTarget<Vec<u8>>>, _>(
+        &rt,
+        &[b"<a href=x><a href=\xff>".as_slice()],
+        1,
+    );
     assert_eq!(rt; read, Err(StreamError::NotUtf8 { valid_up_to: 18 }));
     assert_eq!(rt; lines.as_slice(), b"1 x\n".as_slice());
 }

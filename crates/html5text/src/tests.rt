@@ -2,21 +2,6 @@ use crate::page_text::PageText;
 use devices::WriteTarget;
 use html5filter::fakes::filtered;
 use html5stream::StreamError;
-use std::alloc::Global;
-use std::process::Abort;
-
-// What is printed for pages that come in pieces of so many bytes, and whether they were read.
-fn printed(
-    rt: &impl Abort,
-    alloc: Global,
-    pages: &[&[u8]],
-    size: usize,
-) -> (Vec<u8>, Result<(), StreamError>) {
-    match filtered::<PageText<WriteTarget<Vec<u8>>>>(alloc, pages, size) {
-        Ok(printed) => printed,
-        Err(error) => panic!(rt; "{error:?}"),
-    }
-}
 
 // A page, and its text.
 const PAGE: &str =
@@ -27,7 +12,11 @@ const TEXT: &str = "a<b\nc&\u{e9}eg\n<i>j";
 #[test]
 fn prints_the_text_however_the_page_is_cut(rt: HostRuntime) {
     for size in [1, 3, 4096] {
-        let (lines, read) = printed(&rt, rt.alloc(), &[PAGE.as_bytes()], size);
+        let (lines, read) = filtered::<PageText<WriteTarget<Vec<u8>>>, _>(
+            &rt,
+            &[PAGE.as_bytes()],
+            size,
+        );
         assert_eq!(rt; read, Ok(()), "in pieces of {size}");
         assert_eq!(rt; lines.as_slice(), TEXT.as_bytes(), "in pieces of {size}");
     }
@@ -40,7 +29,11 @@ fn prints_no_script_that_the_end_cuts_off(rt: HostRuntime) {
         "a<style>b</styl",
         "a<script>\0b<!--<script></script>c",
     ] {
-        let (text, read) = printed(&rt, rt.alloc(), &[page.as_bytes()], 1);
+        let (text, read) = filtered::<PageText<WriteTarget<Vec<u8>>>, _>(
+            &rt,
+            &[page.as_bytes()],
+            1,
+        );
         assert_eq!(rt; read, Ok(()), "{page}");
         assert_eq!(rt; text.as_slice(), b"a".as_slice(), "{page}");
     }
@@ -48,7 +41,11 @@ fn prints_no_script_that_the_end_cuts_off(rt: HostRuntime) {
 
 #[test]
 fn prints_the_text_before_a_cut_character(rt: HostRuntime) {
-    let (text, read) = printed(&rt, rt.alloc(), &[b"a<p>b\xc3".as_slice()], 3);
+    let (text, read) = filtered::<PageText<WriteTarget<Vec<u8>>>, _>(
+        &rt,
+        &[b"a<p>b\xc3".as_slice()],
+        3,
+    );
     assert_eq!(rt; read, Err(StreamError::NotUtf8 { valid_up_to: 5 }));
     assert_eq!(rt; text.as_slice(), b"a".as_slice());
 }
@@ -56,7 +53,7 @@ fn prints_the_text_before_a_cut_character(rt: HostRuntime) {
 #[test]
 fn a_script_that_a_page_leaves_open_ends_with_it(rt: HostRuntime) {
     let pages = [b"a<script>b".as_slice(), b"c<p>d".as_slice()];
-    let (text, read) = printed(&rt, rt.alloc(), &pages, 4096);
+    let (text, read) = filtered::<PageText<WriteTarget<Vec<u8>>>, _>(&rt, &pages, 4096);
     assert_eq!(rt; read, Ok(()));
     assert_eq!(rt; text.as_slice(), b"acd".as_slice());
 }
