@@ -1,7 +1,7 @@
 //! For tests: a source that gives its bytes in pieces, and what a filter prints of it.
 ghost use Rattle.std.specs.Prelude.{◌≡◌, Some};
 
-use crate::names::few_names;
+use crate::names::{NamesError, few_names};
 use crate::running::Filter;
 use devices::{Source, Target, WriteTarget};
 use html5stream::StreamError;
@@ -11,7 +11,6 @@ use printer::Printer;
 use std::alloc::Global;
 use std::io;
 use std::io::Read;
-use std::process::Abort;
 
 /// A source that gives at most so many bytes a read, and at least one.
 #[derive(Drop)]
@@ -63,20 +62,15 @@ fn read_pages<F: Filter<W>, W: Target + Drop>(
     (filter, Ok(()))
 }
 
-/// What a filter prints of pages that come in pieces of so many bytes, and whether they were read. It
-/// stops the test where there is no memory for the table of names.
-pub fn filtered<F: Filter<WriteTarget<Vec<u8>>>, R: Abort + Alloc<A = Global>>(
-    rt: &R,
+/// What a filter prints of pages that come in pieces of so many bytes, and whether they were read.
+pub fn filtered<F: Filter<WriteTarget<Vec<u8>>>>(
+    alloc: Global,
     pages: &[&[u8]],
     size: usize,
-) -> (Vec<u8>, Result<(), StreamError>) {
-    let alloc = rt.alloc();
-    let names = match few_names(alloc) {
-        Ok(names) => names,
-        Err(error) => panic!(rt; "{error}"),
-    };
+) -> Result<(Vec<u8>, Result<(), StreamError>), NamesError> {
+    let names = few_names(alloc)?;
     let printer = Printer::new(alloc, WriteTarget::new(Vec::new(alloc)));
     let (filter, read) = read_pages(alloc, F::new(alloc, printer), &names, pages, size);
     let (target, _) = filter.into_printer().finish();
-    (target.into_inner().into_inner(), read)
+    Ok((target.into_inner().into_inner(), read))
 }

@@ -2,6 +2,7 @@ use crate::links::Links;
 use devices::WriteTarget;
 use html5filter::fakes::filtered;
 use html5stream::StreamError;
+use std::test::Fail;
 
 // A page, and its links.
 const PAGE: &str =
@@ -10,25 +11,27 @@ const PAGE: &str =
 const LINKS: &str = "1 /x?a&b\n3 \u{e9}.png\n3 s.css\n5 yz\n5 \n5 m\n";
 
 #[test]
-fn prints_the_links_however_the_page_is_cut(rt: HostRuntime) {
+fn prints_the_links_however_the_page_is_cut(rt: HostRuntime) -> Result<(), Fail> {
     for size in [1, 3, 4096] {
-        let (lines, read) = filtered::<Links<WriteTarget<Vec<u8>>>, _>(
-            &rt,
+        let (lines, read) = filtered::<Links<WriteTarget<Vec<u8>>>>(
+            rt.alloc(),
             &[PAGE.as_bytes()],
             size,
-        );
+        )?;
         assert_eq!(rt; read, Ok(()), "in pieces of {size}");
         assert_eq!(rt; lines.as_slice(), LINKS.as_bytes(), "in pieces of {size}");
     }
+    Ok(())
 }
 
 #[test]
-fn prints_the_links_before_bytes_that_are_no_text(rt: HostRuntime) {
-    let (lines, read) = filtered::<Links<WriteTarget<Vec<u8>>>, _>(
-        &rt,
+fn prints_the_links_before_bytes_that_are_no_text(rt: HostRuntime) -> Result<(), Fail> {
+    let (lines, read) = filtered::<Links<WriteTarget<Vec<u8>>>>(
+        rt.alloc(),
         &[b"<a href=x><a href=\xff>".as_slice()],
         1,
-    );
+    )?;
     assert_eq!(rt; read, Err(StreamError::NotUtf8 { valid_up_to: 18 }));
     assert_eq!(rt; lines.as_slice(), b"1 x\n".as_slice());
+    Ok(())
 }
