@@ -1,2 +1,3 @@
+pub mod Pages
 pub mod Refusals
 pub mod Streaming

@@ -1,4 +1,5 @@
 pub mod DecodeErrors
 pub mod Errors
+pub mod Pages
 pub mod Streams
 pub mod Taking

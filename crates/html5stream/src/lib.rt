@@ -2,9 +2,11 @@
 #![tactic(auto)]
 
 mod error;
+mod page;
 mod source;
 
 pub use crate::error::StreamError;
+pub use crate::page::{read_runs, read_tags};
 pub use crate::source::read_source;
 
 #[cfg(test)]
