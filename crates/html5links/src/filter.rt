@@ -1,11 +1,28 @@
+//! Pages whose links are printed as they arrive.
+ghost use Rattle.std.specs.Prelude.{OnOk};
+ghost use Rattle.html5stream.specs.Pages.{ReadsPage, tags_behind};
+ghost use Rattle.html5links.specs.Links.{links_step};
+
 use crate::links::Links;
-use crate::page::read_links;
 use devices::{Source, Target};
 use html5filter::Filter;
-use html5stream::StreamError;
+use html5stream::{StreamError, read_tags};
 use markup5ever::data::NamedReferences;
 use printer::Printer;
-use std::alloc::Global;
+use std::alloc::{Allocator, Global};
+
+/// Reads a page, and prints its links as it arrives, in the order in which they stand there.
+pub fn read_links<R: Source, W: Target, A: Allocator + Copy>(
+    alloc: A,
+    source: &mut R,
+    links: Links<W, A>,
+    names: &NamedReferences<A>,
+) -> (Links<W, A>, Result<(), StreamError>)
+    ensures { OnOk result.1 (ReadsPage (tags_behind links_step names.now)
+        (R.remaining source.old) (R.remaining source.new) links.printed result.0.printed) }
+{
+    read_tags(alloc, source, links, names)
+}
 
 impl<W: Target + Drop> Filter<W> for Links<W> {
     fn new(alloc: Global, printer: Printer<W>) -> Links<W> {

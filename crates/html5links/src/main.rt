@@ -3,7 +3,6 @@
 
 mod filter;
 mod links;
-mod page;
 #[cfg(test)]
 mod tests;
 

@@ -42,6 +42,6 @@ pub fn read_runs<R: Source, H: RunHandler<Token<A>>, A: Allocator + Copy>(
 {
     let runs = TextRuns::new(alloc, handler);
     let opts = TokenizerOpts::default();
-    let (told, read) = read_source(alloc, source, runs, opts, names);
-    (told.into_inner(), read)
+    let (joined, read) = read_source(alloc, source, runs, opts, names);
+    (joined.into_inner(), read)
 }

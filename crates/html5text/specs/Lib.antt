@@ -1,2 +1,1 @@
 pub mod PageText
-pub mod Page

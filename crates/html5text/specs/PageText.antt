@@ -17,6 +17,14 @@ pub record Showing (W : Type 0) : Type 0 where
   pub printer : Printing W
   pub within : Bool
 
+-- where a page begins
+abbrev pub at_start : List ℕ → Reading
+at_start printed = record { printed = printed; within = false }
+
+-- where a printer of text stands
+abbrev pub reading_of : {W : Type 0} → Showing W → Reading
+reading_of showing = record { printed = showing.printer.printed; within = showing.within }
+
 -- whether what stands in an element of this name is a script or a style
 unfoldable pub is_skipped : List ℕ → Bool
 is_skipped name = bytes_eq name (codes "script") || bytes_eq name (codes "style")

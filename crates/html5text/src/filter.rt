@@ -1,11 +1,29 @@
-use crate::page::read_text;
+//! Pages whose text is printed as it arrives.
+ghost use Rattle.std.specs.Prelude.{OnOk};
+ghost use Rattle.html5stream.specs.Pages.{ReadsPage, runs_behind};
+ghost use Rattle.html5text.specs.PageText.{at_start, reading_of, text_step};
+
 use crate::page_text::PageText;
 use devices::{Source, Target};
 use html5filter::Filter;
-use html5stream::StreamError;
+use html5stream::{StreamError, read_runs};
 use markup5ever::data::NamedReferences;
 use printer::Printer;
-use std::alloc::Global;
+use std::alloc::{Allocator, Global};
+
+/// Reads a page, and prints its text as it arrives, without scripts and styles.
+pub fn read_text<R: Source, W: Target, A: Allocator + Copy>(
+    alloc: A,
+    source: &mut R,
+    text: PageText<W, A>,
+    names: &NamedReferences<A>,
+) -> (PageText<W, A>, Result<(), StreamError>)
+    ensures { OnOk result.1 (ReadsPage (runs_behind text_step names.now)
+        (R.remaining source.old) (R.remaining source.new)
+        (at_start text.printer.printed) (reading_of result.0)) }
+{
+    read_runs(alloc, source, text.at_start(), names)
+}
 
 impl<W: Target + Drop> Filter<W> for PageText<W> {
     fn new(alloc: Global, printer: Printer<W>) -> PageText<W> {

@@ -2,7 +2,6 @@
 #![tactic(auto)]
 
 mod filter;
-mod page;
 mod page_text;
 #[cfg(test)]
 mod tests;

@@ -90,11 +90,11 @@ impl<W: Target, A: Allocator> PageText<W, A> {
 }
 
 impl<W: Target, A: Allocator> RunHandler<Token<A>> for PageText<W, A> {
-    ghost use Rattle.html5text.specs.PageText.{Reading, text_step};
+    ghost use Rattle.html5text.specs.PageText.{Reading, reading_of, text_step};
 
     ghost State = { Reading };
 
-    ghost state = { λ t. record { printed = t.printer.printed; within = t.within } };
+    ghost state = { reading_of };
 
     ghost step = { text_step };
 
