@@ -33,21 +33,13 @@ link_by_kind EndTag name attributes = None
 abbrev pub link_of : TagOf → Option (List ℕ)
 link_of tag = link_by_kind tag.kind tag.name tag.attributes
 
--- whether a byte breaks a line, or is a tab
-abbrev pub is_break : ℕ → Bool
-is_break byte = nat_eq byte 9 || nat_eq byte 10 || nat_eq byte 13
-
--- a byte, where it is no such one
+-- a byte, where it is no tab and breaks no line
 abbrev pub kept : ℕ → List ℕ
-kept byte = if is_break byte then [] else byte ∷ []
-
--- a link without its tabs and line breaks
-abbrev pub kept_of : List ℕ → List ℕ
-kept_of link = flat_map kept link
+kept byte = if nat_eq byte 9 || nat_eq byte 10 || nat_eq byte 13 then [] else byte ∷ []
 
 -- the line that is printed for a link: the number of the line, and the link
 abbrev pub link_line : ℕ → List ℕ → List ℕ
-link_line line link = decimal line ++ codes " " ++ kept_of link ++ codes "\n"
+link_line line link = decimal line ++ codes " " ++ flat_map kept link ++ codes "\n"
 
 -- what is printed for a tag
 abbrev pub line_where : ℕ → Option (List ℕ) → List ℕ

@@ -19,14 +19,14 @@ pub fn read_links<R: Source, W: Target, A: Allocator + Copy>(
     names: &NamedReferences<A>,
 ) -> (Links<W, A>, Result<(), StreamError>)
     ensures { OnOk result.1 (ReadsPage (tags_behind links_step names.now)
-        (R.remaining source.old) (R.remaining source.new) links.printed result.0.printed) }
+        (R.remaining source.old) (R.remaining source.new) links.printer.printed result.0.printer.printed) }
 {
     read_tags(alloc, source, links, names)
 }
 
 impl<W: Target + Drop> Filter<W> for Links<W> {
     fn new(alloc: Global, printer: Printer<W>) -> Links<W> {
-        Links::new(alloc, printer)
+        Links { alloc, printer }
     }
 
     fn read_page<R: Source>(
@@ -39,6 +39,6 @@ impl<W: Target + Drop> Filter<W> for Links<W> {
     }
 
     fn into_printer(self) -> Printer<W> {
-        self.into_inner()
+        self.printer
     }
 }

@@ -1,8 +1,9 @@
 //! The links of a page, and how they are printed.
 ghost use Rattle.std.specs.Prelude.{◌≡◌, ◌++◌, map, option_map, string_bytes, IfOk, OnOk};
+ghost use Rattle.std.specs.List.{flat_map};
 ghost use Rattle.html5ever_interface.specs.Token.{tag_of};
 ghost use Rattle.markup5ever.specs.Names.{attribute_of};
-ghost use Rattle.html5links.specs.Links.{value_of, link_attribute, link_of, kept, kept_of, link_line};
+ghost use Rattle.html5links.specs.Links.{value_of, link_attribute, link_of, kept, link_line};
 
 use devices::Target;
 use html5ever_interface::interface::token::{SinkFault, Tag, TagKind};
@@ -11,7 +12,6 @@ use itoa::Buffer;
 use markup5ever::interface::Attribute;
 use printer::Printer;
 use std::alloc::{AllocError, Allocator, Global};
-use std::marker::Model;
 
 // The value of the first attribute of this name.
 #[tactic(auto, unfolding(crate::specs::Links::value_of))]
@@ -44,31 +44,19 @@ pub fn link_of<A: Allocator>(tag: &Tag<A>) -> Option<&String<A>>
     ensures { option_map (λ link. string_bytes link.now) result ≡ link_of (tag_of tag.now) }
 {
     match tag.kind {
-        TagKind::StartTag => match link_attribute(&tag.name.0) {
-            Some(attribute) => value_of(&tag.attrs, attribute),
-            None => None,
-        },
+        TagKind::StartTag => value_of(&tag.attrs, link_attribute(&tag.name.0)?),
         TagKind::EndTag => None,
     }
 }
 
-// Appends a byte, where it is no tab and no line break.
-fn push_kept<A: Allocator>(line: &mut Vec<u8, A>, byte: u8) -> Result<(), AllocError>
-    ensures { OnOk result (line.new.items ≡ line.old.items ++ kept byte) }
-{
-    if matches!(byte, b'\t' | b'\n' | b'\r') {
-        return Ok(());
-    }
-    line.push(byte)?;
-    Ok(())
-}
-
 // Appends a link without its tabs and line breaks.
 fn push_link<A: Allocator>(line: &mut Vec<u8, A>, link: &[u8]) -> Result<(), AllocError>
-    ensures { OnOk result (line.new.items ≡ line.old.items ++ kept_of link.now) }
+    ensures { OnOk result (line.new.items ≡ line.old.items ++ flat_map kept link.now) }
 {
     for byte in link {
-        push_kept(line, *byte)?;
+        if !matches!(byte, b'\t' | b'\n' | b'\r') {
+            line.push(*byte)?;
+        }
     }
     Ok(())
 }
@@ -89,32 +77,8 @@ fn line_of<A: Allocator>(alloc: A, line_number: u64, link: &str) -> Result<Vec<u
 /// ends, a space, and the link, without the tabs and line breaks that a URL has none of.
 #[derive(Drop)]
 pub struct Links<W, A: Allocator = Global> {
-    alloc: A,
-    printer: Printer<W, A>,
-}
-
-impl<W, A: Allocator> Model for Links<W, A> {
-    ghost use Rattle.printer.specs.Printing.{Printing};
-
-    ghost Value = { Printing W };
-
-    ghost view = { λ l. l.printer };
-}
-
-impl<W, A: Allocator + Copy> Links<W, A> {
-    /// Prints to this printer.
-    pub fn new(alloc: A, printer: Printer<W, A>) -> Links<W, A>
-        ensures { result ≡ printer }
-    {
-        Links { alloc, printer }
-    }
-
-    /// The printer, with what was printed.
-    pub fn into_inner(self) -> Printer<W, A>
-        ensures { result ≡ self }
-    {
-        self.printer
-    }
+    pub alloc: A,
+    pub printer: Printer<W, A>,
 }
 
 impl<W: Target, A: Allocator + Copy> TagHandler<Tag<A>> for Links<W, A> {
@@ -123,7 +87,7 @@ impl<W: Target, A: Allocator + Copy> TagHandler<Tag<A>> for Links<W, A> {
 
     ghost State = { List ℕ };
 
-    ghost state = { λ l. l.printed };
+    ghost state = { λ l. l.printer.printed };
 
     ghost step = { links_step };
 
