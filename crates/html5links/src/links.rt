@@ -49,14 +49,22 @@ pub fn link_of<A: Allocator>(tag: &Tag<A>) -> Option<&String<A>>
     }
 }
 
+// Appends a byte, where it is no tab and no line break.
+fn push_kept<A: Allocator>(line: &mut Vec<u8, A>, byte: u8) -> Result<(), AllocError>
+    ensures { OnOk result (line.new.items ≡ line.old.items ++ kept byte) }
+{
+    if !matches!(byte, b'\t' | b'\n' | b'\r') {
+        line.push(byte)?;
+    }
+    Ok(())
+}
+
 // Appends a link without its tabs and line breaks.
 fn push_link<A: Allocator>(line: &mut Vec<u8, A>, link: &[u8]) -> Result<(), AllocError>
     ensures { OnOk result (line.new.items ≡ line.old.items ++ flat_map kept link.now) }
 {
     for byte in link {
-        if !matches!(byte, b'\t' | b'\n' | b'\r') {
-            line.push(*byte)?;
-        }
+        push_kept(line, *byte)?;
     }
     Ok(())
 }
