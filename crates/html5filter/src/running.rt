@@ -3,12 +3,14 @@ use crate::names::read_names;
 use crate::output::Output;
 use crate::words::words_of;
 use devices::{ReadSource, Source, Target, WriteTarget, write_all};
+use html5cli::run::given_words;
 use html5stream::StreamError;
 use markup5ever::data::NamedReferences;
 use printer::Printer;
 use std::alloc::Global;
 use std::fs::{File, Files};
 use std::io::{Read, Write};
+use std::rt::Env;
 use thiserror::Error;
 
 /// What a program makes of the pages that it reads: what it prints.
@@ -143,16 +145,38 @@ fn filter_files<
     }
 }
 
-/// Runs a program: `words` are those behind its name. Answers the status that the process ends with.
+/// Runs a program by the words behind its name, and answers the status that the process ends with.
 /// Where the reader of the output goes away it ends without a word.
 pub fn run<
+    F: Filter<Output<O>>,
+    R: Env + Files + Alloc<A = Global>,
+    I: Read + Drop,
+    O: Write + Drop,
+    E: Write + Drop,
+>(rt: &R, program: Program, stdin: I, stdout: O, stderr: E) -> u8 {
+    let mut messages = Messages::new(rt.alloc(), program.name, WriteTarget::new(stderr));
+    let Ok(words) = given_words(rt) else {
+        messages.say("words", "can't be read");
+        return WRONG;
+    };
+    run_by_words::<F, R, I, O, _>(rt, program, &words, stdin, stdout, &mut messages)
+}
+
+// Runs a program by these words.
+fn run_by_words<
     F: Filter<Output<O>>,
     R: Files + Alloc<A = Global>,
     I: Read + Drop,
     O: Write + Drop,
-    E: Write + Drop,
->(rt: &R, program: Program, words: &[String], stdin: I, stdout: O, stderr: E) -> u8 {
-    let mut messages = Messages::new(rt.alloc(), program.name, WriteTarget::new(stderr));
+    E: Target,
+>(
+    rt: &R,
+    program: Program,
+    words: &[String],
+    stdin: I,
+    stdout: O,
+    messages: &mut Messages<'_, E>,
+) -> u8 {
     let Ok(asked) = words_of(rt.alloc(), words) else {
         messages.say("words", "out of memory");
         return FAILED;
@@ -177,7 +201,7 @@ pub fn run<
     };
     let stdin = &mut ReadSource::new(stdin);
     if asked.files.is_empty() {
-        return filter_files::<F, R, _, O, _>(rt, &names, &["-"], stdin, stdout, &mut messages);
+        return filter_files::<F, R, _, O, _>(rt, &names, &["-"], stdin, stdout, messages);
     }
-    filter_files::<F, R, _, O, _>(rt, &names, &asked.files, stdin, stdout, &mut messages)
+    filter_files::<F, R, _, O, _>(rt, &names, &asked.files, stdin, stdout, messages)
 }

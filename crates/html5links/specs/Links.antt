@@ -37,15 +37,11 @@ link_of tag = link_by_kind tag.kind tag.name tag.attributes
 abbrev pub kept : ℕ → List ℕ
 kept byte = if nat_eq byte 9 || nat_eq byte 10 || nat_eq byte 13 then [] else byte ∷ []
 
--- the line that is printed for a link: the number of the line, and the link
-abbrev pub link_line : ℕ → List ℕ → List ℕ
-link_line line link = decimal line ++ codes " " ++ flat_map kept link ++ codes "\n"
-
--- what is printed for a tag
-abbrev pub line_where : ℕ → Option (List ℕ) → List ℕ
-line_where line None = []
-line_where line (Some link) = link_line line link
+-- what is printed for the link of a tag: a line, with the number of the tag's line
+abbrev pub line_of : ℕ → Option (List ℕ) → List ℕ
+line_of line None = []
+line_of line (Some link) = decimal line ++ codes " " ++ flat_map kept link ++ codes "\n"
 
 -- what was printed behind a tag
 abbrev pub links_step : List ℕ → TagOf → ℕ → List ℕ
-links_step printed tag line = printed ++ line_where line (link_of tag)
+links_step printed tag line = printed ++ line_of line (link_of tag)

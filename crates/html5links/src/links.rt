@@ -1,9 +1,9 @@
 //! The links of a page, and how they are printed.
-ghost use Rattle.std.specs.Prelude.{◌≡◌, ◌++◌, map, option_map, string_bytes, IfOk, OnOk};
+ghost use Rattle.std.specs.Prelude.{◌≡◌, ◌++◌, map, option_map, string_bytes, Some, IfOk, OnOk};
 ghost use Rattle.std.specs.List.{flat_map};
 ghost use Rattle.html5ever_interface.specs.Token.{tag_of};
 ghost use Rattle.markup5ever.specs.Names.{attribute_of};
-ghost use Rattle.html5links.specs.Links.{value_of, link_attribute, link_of, kept, link_line};
+ghost use Rattle.html5links.specs.Links.{value_of, link_attribute, link_of, kept, line_of};
 
 use devices::Target;
 use html5ever_interface::interface::token::{SinkFault, Tag, TagKind};
@@ -71,7 +71,7 @@ fn push_link<A: Allocator>(line: &mut Vec<u8, A>, link: &[u8]) -> Result<(), All
 
 // The line of a link.
 fn line_of<A: Allocator>(alloc: A, line_number: u64, link: &str) -> Result<Vec<u8, A>, AllocError>
-    ensures { IfOk result (λ line. line.items ≡ link_line line_number link.now) }
+    ensures { IfOk result (λ line. line.items ≡ line_of line_number (Some link.now)) }
 {
     let mut line = Vec::new(alloc);
     line.extend_from_slice(Buffer::new().format(line_number).as_bytes())?;

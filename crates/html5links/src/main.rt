@@ -7,7 +7,6 @@ mod links;
 mod tests;
 
 use crate::links::Links;
-use html5cli::run::given_words;
 use html5filter::{Program, run};
 use std::process::ExitCode;
 
@@ -21,19 +20,9 @@ it is -, standard input is read.
 ";
 
 fn main(rt: HostRuntime) -> ExitCode {
-    let Ok(words) = given_words(&rt) else {
-        return ExitCode::from(2);
-    };
     let program = Program {
         name: "html5links",
         help: HELP,
     };
-    ExitCode::from(run::<Links<_>, _, _, _, _>(
-        &rt,
-        program,
-        &words,
-        rt.stdin(),
-        rt.stdout(),
-        rt.stderr(),
-    ))
+    ExitCode::from(run::<Links<_>, _, _, _, _>(&rt, program, rt.stdin(), rt.stdout(), rt.stderr()))
 }

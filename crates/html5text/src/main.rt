@@ -7,7 +7,6 @@ mod page_text;
 mod tests;
 
 use crate::page_text::PageText;
-use html5cli::run::given_words;
 use html5filter::{Program, run};
 use std::process::ExitCode;
 
@@ -19,9 +18,6 @@ scripts and styles. Without a FILE, or where it is -, standard input is read.
 ";
 
 fn main(rt: HostRuntime) -> ExitCode {
-    let Ok(words) = given_words(&rt) else {
-        return ExitCode::from(2);
-    };
     let program = Program {
         name: "html5text",
         help: HELP,
@@ -29,7 +25,6 @@ fn main(rt: HostRuntime) -> ExitCode {
     ExitCode::from(run::<PageText<_>, _, _, _, _>(
         &rt,
         program,
-        &words,
         rt.stdin(),
         rt.stdout(),
         rt.stderr(),
