@@ -20,9 +20,6 @@ use std::env;
 use std::io::ErrorKind;
 use std::rt::Env;
 
-#[cfg(test)]
-mod tests;
-
 /// How a run ends.
 #[derive(Clone, Copy, Debug, PartialEq, Eq)]
 pub enum Ending {

@@ -9,9 +9,6 @@ use markup5ever::count::Count;
 use std::alloc::{AllocError, Allocator, Global};
 use std::marker::Model;
 
-#[cfg(test)]
-mod tests;
-
 // Appends an entry.
 fn push_entry<A: Allocator>(
     entries: &mut Vec<(Token<A>, u64), A>,

@@ -4,9 +4,6 @@ ghost use Rattle.std.specs.Prelude.{◌≡◌, IfOk};
 use crate::states::State;
 use std::alloc::{AllocError, Allocator, Global};
 
-#[cfg(test)]
-mod tests;
-
 /// How a tokenizer reads.
 #[derive(Drop)]
 #[derive_where(Debug, PartialEq, Eq)]

@@ -1,9 +1,6 @@
 //! The states of the tokenizer, after the standard's.
 ghost use Rattle.std.specs.Prelude.{◌≡◌};
 
-#[cfg(test)]
-mod tests;
-
 /// How far a script in a comment is escaped.
 #[derive(Clone, Copy, Debug, PartialEq, Eq, PartialOrd, Ord, Hash)]
 pub enum ScriptEscapeKind {

@@ -12,9 +12,6 @@ use markup5ever::count::Count;
 use std::alloc::{AllocError, Allocator, Global};
 use std::marker::Model;
 
-#[cfg(test)]
-mod tests;
-
 // Appends what a token adds to a page, and replies to it.
 #[inline(always)]
 fn print_and_reply<A: Allocator + Copy>(

@@ -42,6 +42,4 @@
 
 pub mod replies;
 pub mod tags;
-#[cfg(test)]
-mod tests;
 pub mod text_runs;

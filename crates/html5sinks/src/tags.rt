@@ -10,9 +10,6 @@ use markup5ever::count::Count;
 use std::alloc::Allocator;
 use std::marker::Model;
 
-#[cfg(test)]
-mod tests;
-
 /// What a tag means: the tag that contracts speak of, and the bytes of a text of its own.
 pub trait SaysTag: Drop {
     ghost use Rattle.std.specs.Prelude.{ℕ, List};

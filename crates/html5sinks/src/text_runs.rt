@@ -11,9 +11,6 @@ use markup5ever::count::Count;
 use std::alloc::{AllocError, Allocator, Global};
 use std::marker::Model;
 
-#[cfg(test)]
-mod tests;
-
 /// Takes whole runs of text, each with the token behind it, and leaves it to the standard how the text
 /// behind a tag is read. A handler writes a state, a step and one method:
 /// `impl<A: Allocator> RunHandler<Token<A>> for MyHandler`.

@@ -12,9 +12,6 @@ use std::alloc::{AllocError, Allocator, Global};
 use std::marker::Model;
 use std::mem;
 
-#[cfg(test)]
-mod tests;
-
 /// What `BufferQueue::pop_except_from` took.
 #[derive(Drop)]
 #[derive_where(Debug, PartialEq, Eq)]

@@ -14,9 +14,6 @@ use std::cmp::Ordering;
 use std::marker::Model;
 use thiserror::Error;
 
-#[cfg(test)]
-mod tests;
-
 /// A name, without the ampersand before it, and the one or two characters that it stands for.
 pub type Entry<A> = (String<A>, char, Option<char>);
 

@@ -7,9 +7,6 @@ use crate::states::RawKind;
 use markup5ever::interface::{Attribute, LocalName};
 use std::alloc::{AllocError, Allocator, Global};
 
-#[cfg(test)]
-mod tests;
-
 /// Which of the two kinds a tag is of.
 #[derive(Clone, Copy, Debug, PartialEq, Eq, Hash)]
 pub enum TagKind {

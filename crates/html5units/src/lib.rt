@@ -1,0 +1,29 @@
+//! Worked cases of what the tokenizer stands on, and of the sinks beside it.
+#![tactic(auto)]
+
+#[cfg(test)]
+mod buffer_queue;
+#[cfg(test)]
+mod collector;
+#[cfg(test)]
+mod links;
+#[cfg(test)]
+mod made;
+#[cfg(test)]
+mod names;
+#[cfg(test)]
+mod options;
+#[cfg(test)]
+mod print_sink;
+#[cfg(test)]
+mod references;
+#[cfg(test)]
+mod small_char_set;
+#[cfg(test)]
+mod states;
+#[cfg(test)]
+mod tags_only;
+#[cfg(test)]
+mod text_runs;
+#[cfg(test)]
+mod tokens;

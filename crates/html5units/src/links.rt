@@ -1,0 +1,88 @@
+use crate::made::tag_of;
+use html5ever_interface::interface::sink::TokenSink;
+use html5ever_interface::interface::token::{SinkFault, Tag, TagKind, Token, TokenSinkResult};
+use html5ever_interface::states::RawKind;
+use html5sinks::tags::{TagHandler, TagsOnly, is_start_of};
+use std::alloc::Allocator;
+use std::test::Fail;
+
+// The example of html5sinks' own text, word for word.
+#[derive(Drop)]
+struct Links {
+    count: u64,
+}
+
+impl<A: Allocator> TagHandler<Tag<A>> for Links {
+    ghost use Rattle.std.specs.Prelude.{ℕ, ◌+◌, codes, if◌then◌else◌};
+    ghost use Rattle.html5sinks.specs.Tags.{is_start_of};
+
+    ghost State = { ℕ };
+
+    ghost state = { λ links. links.count };
+
+    ghost step = { λ count tag line. if is_start_of tag (codes "a") then count + 1 else count };
+
+    fn take_tag(&mut self, tag: Tag<A>, _line_number: u64) -> Result<(), SinkFault> {
+        if is_start_of(&tag, "a") {
+            self.count = self.count.checked_add(1).ok_or(SinkFault)?;
+        }
+        Ok(())
+    }
+}
+
+#[test]
+fn counts_links_and_reads_on_as_the_standard_does(rt: HostRuntime) -> Result<(), Fail> {
+    let alloc = rt.alloc();
+    let mut sink = TagsOnly::new(Links { count: 0 });
+    let tags = [
+        (TagKind::StartTag, "a", TokenSinkResult::Continue, 1),
+        (TagKind::EndTag, "a", TokenSinkResult::Continue, 1),
+        (
+            TagKind::StartTag,
+            "title",
+            TokenSinkResult::RawData(RawKind::Rcdata),
+            1,
+        ),
+        (TagKind::EndTag, "title", TokenSinkResult::Continue, 1),
+        (
+            TagKind::StartTag,
+            "style",
+            TokenSinkResult::RawData(RawKind::Rawtext),
+            1,
+        ),
+        (
+            TagKind::StartTag,
+            "script",
+            TokenSinkResult::RawData(RawKind::ScriptData),
+            1,
+        ),
+        (TagKind::StartTag, "a", TokenSinkResult::Continue, 2),
+        (
+            TagKind::StartTag,
+            "plaintext",
+            TokenSinkResult::Plaintext,
+            2,
+        ),
+    ];
+    for (kind, name, reply, count) in tags {
+        let answer = sink.process_token(tag_of(alloc, kind, name)?, 7);
+        assert!(rt; answer == Ok(reply), "{name}");
+        assert_eq!(rt; sink.handler().count, count, "{name}");
+    }
+    let text = Token::CharacterTokens(String::from_str(alloc, "<a>")?);
+    assert!(rt; sink.process_token(text, 8) == Ok(TokenSinkResult::Continue));
+    assert_eq!(rt; sink.into_inner().count, 2);
+    Ok(())
+}
+
+#[test]
+fn a_refused_tag_leaves_the_handler(rt: HostRuntime) -> Result<(), Fail> {
+    let alloc = rt.alloc();
+    let mut sink = TagsOnly::new(Links { count: u64::MAX });
+    let refused = sink.process_token(tag_of(alloc, TagKind::StartTag, "a")?, 1);
+    assert!(rt; refused == Err(SinkFault));
+    let taken = sink.process_token(tag_of(alloc, TagKind::StartTag, "b")?, 1);
+    assert!(rt; taken == Ok(TokenSinkResult::Continue));
+    assert_eq!(rt; sink.handler().count, u64::MAX);
+    Ok(())
+}

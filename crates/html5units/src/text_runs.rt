@@ -1,0 +1,176 @@
+use crate::made::{error_of, says_foreign, tag_of, text_of, told};
+use html5ever_interface::interface::sink::TokenSink;
+use html5ever_interface::interface::token::{SinkFault, TagKind, Token, TokenSinkResult};
+use html5ever_interface::states::RawKind;
+use html5sinks::text_runs::{ReplyingRunHandler, RunHandler, TextRuns};
+use refusing::Refusing;
+use std::alloc::{AllocError, Allocator, Global};
+use std::process::Abort;
+use std::test::Fail;
+
+// Keeps the last run, with what ended it. It takes no end tag.
+#[derive(Drop)]
+struct LastRun<A: Allocator = Global> {
+    last: String<A>,
+}
+
+impl<A: Allocator> LastRun<A> {
+    fn is(&self, text: &str) -> bool {
+        self.last.as_str() == text
+    }
+}
+
+fn mark_of<A: Allocator>(token: &Token<A>) -> &'static str {
+    match token {
+        Token::TagToken(_) => "|tag;",
+        Token::ParseError(_) => "|error;",
+        Token::NullCharacterToken => "|null;",
+        Token::EOFToken => "|end;",
+        _ => "|other;",
+    }
+}
+
+fn is_end_tag<A: Allocator>(token: &Token<A>) -> bool {
+    matches!(token, Token::TagToken(tag) if tag.kind == TagKind::EndTag)
+}
+
+impl<A: Allocator> RunHandler<Token<A>> for LastRun<A> {
+    ghost State = { Unit {0} };
+
+    ghost state = { λ s. tt };
+
+    ghost step = { λ state run told line. tt };
+
+    fn take_run(&mut self, run: &str, token: Token<A>, _line_number: u64) -> Result<(), SinkFault> {
+        if is_end_tag(&token) {
+            return Err(SinkFault);
+        }
+        self.last.clear();
+        match self.last.push_str(run) {
+            Ok(()) => {}
+            Err(AllocError) => return Err(SinkFault),
+        }
+        match self.last.push_str(mark_of(&token)) {
+            Ok(()) => Ok(()),
+            Err(AllocError) => Err(SinkFault),
+        }
+    }
+}
+
+fn token_of<A: Allocator + Copy>(alloc: A, kind: &str, text: &str) -> Result<Token<A>, AllocError> {
+    match kind {
+        "text" => text_of(alloc, text),
+        "error" => error_of(alloc, text),
+        "start" => tag_of(alloc, TagKind::StartTag, text),
+        "end tag" => tag_of(alloc, TagKind::EndTag, text),
+        "null" => Ok(Token::NullCharacterToken),
+        _ => Ok(Token::EOFToken),
+    }
+}
+
+#[test]
+fn hands_whole_runs_on(rt: HostRuntime) -> Result<(), Fail> {
+    let alloc = rt.alloc();
+    let last = String::new(alloc);
+    let mut sink = TextRuns::new(alloc, LastRun { last });
+    let tokens = [
+        ("text", "one ", ""),
+        ("text", "", ""),
+        ("text", "whole ", ""),
+        ("error", "wrong", "|error;"),
+        ("text", "run", "|error;"),
+        ("start", "p", "one whole run|tag;"),
+        ("text", "an", "one whole run|tag;"),
+        ("end tag", "p", "one whole run|tag;"), // refused: the run stays
+        ("text", "d", "one whole run|tag;"),
+        ("null", "", "and|null;"),
+        ("start", "b", "|tag;"),
+        ("text", "last", "|tag;"),
+        ("end", "", "last|end;"),
+    ];
+    let mut row = 0u64;
+    for (kind, text, last) in tokens {
+        let kept_on = told(&mut sink, token_of(alloc, kind, text)?, 1);
+        assert_eq!(rt; kept_on, kind != "end tag", "at row {row}");
+        assert!(rt; sink.handler().is(last), "at row {row}");
+        row = row.wrapping_add(1);
+    }
+    let reply = sink.process_token(tag_of(alloc, TagKind::StartTag, "script")?, 1);
+    assert!(rt; reply == Ok(TokenSinkResult::RawData(RawKind::ScriptData)));
+    Ok(())
+}
+
+// Keeps the length of the last run, and asks to run a script behind each tag.
+#[derive(Drop)]
+struct Length {
+    bytes: usize,
+}
+
+impl<A: Allocator> ReplyingRunHandler<Token<A>> for Length {
+    ghost use Rattle.std.specs.Prelude.{ℕ, length};
+    ghost use Rattle.html5ever_interface.specs.Token.Reply.{RunScript};
+
+    type Handle = u32;
+
+    ghost State = { ℕ };
+
+    ghost state = { λ s. s.bytes };
+
+    ghost step = { λ bytes run told line. length run };
+
+    ghost reply = { λ bytes run tag line. RunScript 7 };
+
+    fn answer_run(
+        &mut self,
+        run: &str,
+        token: Token<A>,
+        _line_number: u64,
+    ) -> Result<TokenSinkResult<u32, String<A>>, SinkFault> {
+        self.bytes = run.len();
+        match token {
+            Token::TagToken(_) => Ok(TokenSinkResult::Script(7)),
+            _ => Ok(TokenSinkResult::Continue),
+        }
+    }
+}
+
+// Hands a sink on a heap that may refuse a request texts, and one on an ample heap those that the first
+// one took: both have the same runs. Answers how many were refused.
+fn refusals<A: Allocator + Copy>(rt: &impl Abort, heap: A, ample: A) -> Result<u64, AllocError> {
+    let mut sink = TextRuns::with_foreign(heap, Length { bytes: 0 }, true);
+    let mut second = TextRuns::new(ample, Length { bytes: 0 });
+    let mut refused = 0u64;
+    for _ in 0..20u64 {
+        if told(&mut sink, text_of(ample, "some text of a run")?, 1) {
+            assert!(rt; told(&mut second, text_of(ample, "some text of a run")?, 1));
+        } else {
+            refused = refused.wrapping_add(1);
+        }
+    }
+    let reply = sink.process_token(tag_of(ample, TagKind::StartTag, "p")?, 1);
+    assert!(rt; reply == Ok(TokenSinkResult::Script(7)));
+    let same = second.process_token(tag_of(ample, TagKind::StartTag, "p")?, 1);
+    assert!(rt; same.is_ok());
+    assert!(rt; sink.handler().bytes > 300);
+    assert_eq!(rt; sink.handler().bytes, second.handler().bytes);
+    assert!(rt; says_foreign(&sink));
+    assert!(rt; !says_foreign(&second));
+    Ok(refused)
+}
+
+#[test]
+fn a_refused_growth_leaves_the_run(rt: HostRuntime) -> Result<(), Fail> {
+    let ample = Refusing::new(rt.alloc(), u64::MAX);
+    let mut refused = 0u64;
+    for admitted in 0..100u64 {
+        let heap = Refusing::new(rt.alloc(), admitted);
+        let count = refusals(&rt, &heap, &ample)?;
+        assert_eq!(rt; count > 0, heap.has_refused(), "after {admitted}");
+        refused = refused.wrapping_add(count);
+        if count == 0 {
+            break;
+        }
+    }
+    assert!(rt; refused > 1);
+    Ok(())
+}
