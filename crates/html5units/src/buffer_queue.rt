@@ -1,4 +1,4 @@
-ghost use Rattle.std.specs.Prelude.{◌≡◌, ◌≢◌, ◌+◌, [], false, length, IsTrue};
+ghost use Rattle.std.specs.Prelude.{◌≢◌, []};
 ghost use Rattle.std.specs.Str.{IsAscii};
 
 use markup5ever::buffer_queue::{BufferQueue, Case, SetResult};
@@ -10,200 +10,278 @@ use std::test::Fail;
 
 type Heap<'h> = &'h Refusing<Global>;
 
-// What `next` takes until the queue is empty.
-fn rest_of<A: Allocator>(alloc: Global, queue: &mut BufferQueue<A>) -> Result<String, AllocError> {
-    let mut rest = String::new(alloc);
-    for _ in 0..64 {
-        match queue.next() {
-            Some(c) => rest.push(c)?,
-            None => return Ok(rest),
-        }
-    }
-    Ok(rest)
+// A call of a queue, and what it must answer. Runs end before `&` and `<`.
+#[derive(Clone, Copy, Debug)]
+enum Step<'a> {
+    Push(&'a str),
+    PushFront(&'a str),
+    GiveBack(&'a str),
+    Next(Option<char>),
+    Peek(Option<char>),
+    Waits(&'a str),
+    Skip(usize),
+    Run(&'a str),
+    Member(char),
+    NoRun,
+    Eat(&'a str, Case, Option<bool>),
 }
 
-// What `pop_except_from` takes until the queue is empty: runs in round brackets, members of the set in square ones.
-fn taken(alloc: Global, queue: &mut BufferQueue, set: SmallCharSet) -> Result<String, AllocError> {
-    let mut all = String::new(alloc);
-    for _ in 0..16 {
-        match queue.pop_except_from(set)? {
-            Some(SetResult::FromSet(c)) => {
-                all.push('[')?;
-                all.push(c)?;
-                all.push(']')?;
-            }
-            Some(SetResult::NotFromSet(run)) => {
-                all.push('(')?;
-                all.push_str(&run)?;
-                all.push(')')?;
-            }
-            None => return Ok(all),
-        }
+// Whether a text was put behind what waits.
+fn pushes<A: Allocator + Copy>(
+    alloc: A,
+    queue: &mut BufferQueue<A>,
+    text: &str,
+) -> Result<bool, AllocError> {
+    let text = String::from_str(alloc, text)?;
+    Ok(queue.push_back(text).is_ok())
+}
+
+// Whether a text was put in front of what waits.
+fn pushes_front<A: Allocator + Copy>(
+    alloc: A,
+    queue: &mut BufferQueue<A>,
+    text: &str,
+) -> Result<bool, AllocError> {
+    let text = String::from_str(alloc, text)?;
+    Ok(queue.push_front(text).is_ok())
+}
+
+// Whether a text was given back.
+fn gives_back<A: Allocator + Copy>(
+    alloc: A,
+    queue: &mut BufferQueue<A>,
+    text: &str,
+) -> Result<bool, AllocError> {
+    let text = String::from_str(alloc, text)?;
+    Ok(queue.give_back(text).is_ok())
+}
+
+// Whether what waits begins with a run of so many bytes, which is skipped.
+fn skips<A: Allocator>(queue: &mut BufferQueue<A>, bytes: usize) -> bool {
+    let run = SmallCharSet::of(b"&<").nonmember_prefix_len(queue.front_text());
+    queue.skip(run);
+    run == bytes
+}
+
+// What is taken first: a run, or a member of the set.
+fn pops<A: Allocator + Copy>(queue: &mut BufferQueue<A>, wanted: Step) -> Result<bool, AllocError> {
+    match (queue.pop_except_from(SmallCharSet::of(b"&<"))?, wanted) {
+        (Some(SetResult::NotFromSet(run)), Step::Run(text)) => Ok(run.as_str() == text),
+        (Some(SetResult::FromSet(c)), Step::Member(member)) => Ok(c == member),
+        (None, Step::NoRun) => Ok(true),
+        _ => Ok(false),
     }
-    Ok(all)
+}
+
+// Whether eating a pattern answers so.
+fn eats<A: Allocator>(
+    queue: &mut BufferQueue<A>,
+    pat: &str,
+    case: Case,
+    answer: Option<bool>,
+) -> bool {
+    if pat.is_empty() || !pat.is_ascii() {
+        return false;
+    }
+    queue.eat(pat, case) == answer
+}
+
+// Whether the call answers so.
+fn plays<A: Allocator + Copy>(
+    alloc: A,
+    queue: &mut BufferQueue<A>,
+    step: Step,
+) -> Result<bool, AllocError> {
+    match step {
+        Step::Push(text) => pushes(alloc, queue, text),
+        Step::PushFront(text) => pushes_front(alloc, queue, text),
+        Step::GiveBack(text) => gives_back(alloc, queue, text),
+        Step::Next(c) => Ok(queue.next() == c),
+        Step::Peek(c) => Ok(queue.peek() == c),
+        Step::Waits(text) => Ok(queue.front_text() == text && queue.is_empty() == text.is_empty()),
+        Step::Skip(bytes) => Ok(skips(queue, bytes)),
+        Step::Eat(pat, case, answer) => Ok(eats(queue, pat, case, answer)),
+        _ => pops(queue, step),
+    }
+}
+
+// Plays steps with a new queue.
+fn play(rt: &impl Abort, alloc: Global, steps: &[Step]) -> Result<(), AllocError> {
+    let mut queue = BufferQueue::new(alloc);
+    for step in steps {
+        assert!(rt; plays(alloc, &mut queue, *step)?, "{step:?} of {steps:?}");
+    }
+    Ok(())
 }
 
 #[test]
 fn takes_runs_and_members(rt: HostRuntime) -> Result<(), Fail> {
-    let alloc = rt.alloc();
-    let set = SmallCharSet::of(b"\0\n\r&<");
-    let mut queue = BufferQueue::new(alloc);
-    for text in ["ab", "c<d", "", "&é&&"] {
-        let text = String::from_str(alloc, text)?;
-        assert!(rt; queue.push_back(text).is_ok());
-    }
-    assert_eq!(rt; queue.next(), Some('a'));
-    assert_eq!(rt;
-        taken(alloc, &mut queue, set)?.as_str(),
-        "(bc)[<](d)[&](é)[&][&]"
-    );
-    assert!(rt; queue.is_empty());
+    use Step::*;
+    let runs = [
+        Push("ab"),
+        Push("c<d"),
+        Push(""),
+        Push("&é&&"),
+        Next(Some('a')),
+        Run("bc"),
+        Member('<'),
+        Run("d"),
+        Member('&'),
+        Run("é"),
+        Member('&'),
+        Member('&'),
+        NoRun,
+        Waits(""),
+    ];
+    play(&rt, rt.alloc(), &runs)?;
+    // A run goes on in the next text.
+    let joined = [
+        Push("ab"),
+        Push("c<d"),
+        Run("abc"),
+        Member('<'),
+        Run("d"),
+        NoRun,
+    ];
+    play(&rt, rt.alloc(), &joined)?;
     Ok(())
 }
 
 #[test]
-fn a_run_goes_on_in_the_next_text(rt: HostRuntime) -> Result<(), Fail> {
-    let alloc = rt.alloc();
-    let set = SmallCharSet::of(b"<");
-    let mut queue = BufferQueue::new(alloc);
-    assert!(rt; queue.push_back(String::from_str(alloc, "ab")?).is_ok());
-    assert!(rt; queue.push_back(String::from_str(alloc, "c<d")?).is_ok());
-    let first = SetResult::NotFromSet(String::from_str(alloc, "abc")?);
-    let last = SetResult::NotFromSet(String::from_str(alloc, "d")?);
-    assert_eq!(rt; queue.pop_except_from(set)?, Some(first));
-    assert_eq!(rt; queue.pop_except_from(set)?, Some(SetResult::FromSet('<')));
-    assert_eq!(rt; queue.pop_except_from(set)?, Some(last));
-    assert_eq!(rt; queue.pop_except_from(set)?, None);
-    Ok(())
-}
-
-#[test]
-fn next_goes_on_in_the_next_text(rt: HostRuntime) -> Result<(), Fail> {
-    let alloc = rt.alloc();
-    let mut queue = BufferQueue::new(alloc);
-    assert!(rt; queue.is_empty());
-    for text in ["aé", "", "€𝄞"] {
-        let text = String::from_str(alloc, text)?;
-        assert!(rt; queue.push_back(text).is_ok());
-    }
-    for c in ['a', 'é', '€', '𝄞'] {
-        assert!(rt; !queue.is_empty());
-        assert_eq!(rt; queue.next(), Some(c));
-    }
-    assert_eq!(rt; queue.next(), None);
-    Ok(())
-}
-
-#[test]
-fn peek_leaves_the_first_character(rt: HostRuntime) -> Result<(), Fail> {
-    let alloc = rt.alloc();
-    let mut queue = BufferQueue::new(alloc);
-    assert_eq!(rt; queue.peek(), None);
-    assert!(rt; queue.push_back(String::from_str(alloc, "é€")?).is_ok());
-    assert!(rt; queue.push_back(String::from_str(alloc, "b")?).is_ok());
-    for c in ['é', '€', 'b'] {
-        assert_eq!(rt; queue.peek(), Some(c));
-        assert_eq!(rt; queue.peek(), Some(c));
-        assert_eq!(rt; queue.next(), Some(c));
-    }
-    assert_eq!(rt; queue.peek(), None);
+fn takes_characters(rt: HostRuntime) -> Result<(), Fail> {
+    use Step::*;
+    let steps = [
+        Waits(""),
+        Peek(None),
+        Push("aé"),
+        Push(""),
+        Push("€𝄞"),
+        Next(Some('a')),
+        Peek(Some('é')),
+        Peek(Some('é')),
+        Next(Some('é')),
+        Next(Some('€')),
+        Waits("𝄞"),
+        Next(Some('𝄞')),
+        Peek(None),
+        Next(None),
+    ];
+    play(&rt, rt.alloc(), &steps)?;
     Ok(())
 }
 
 #[test]
 fn push_back_after_less_and_more_than_half_was_taken(rt: HostRuntime) -> Result<(), Fail> {
-    let alloc = rt.alloc();
-    let mut queue = BufferQueue::new(alloc);
-    assert!(rt; queue.push_back(String::from_str(alloc, "abcdéf")?).is_ok());
-    assert_eq!(rt; queue.next(), Some('a'));
-    assert!(rt; queue.push_back(String::from_str(alloc, "g€")?).is_ok());
-    for c in ['b', 'c', 'd', 'é', 'f'] {
-        assert_eq!(rt; queue.next(), Some(c));
-    }
-    assert!(rt; queue.push_back(String::from_str(alloc, "hi")?).is_ok());
-    assert!(rt; queue.push_back(String::from_str(alloc, "j")?).is_ok());
-    assert_eq!(rt; rest_of(alloc, &mut queue)?.as_str(), "g€hij");
-    assert!(rt; queue.push_back(String::from_str(alloc, "k")?).is_ok());
-    assert_eq!(rt; rest_of(alloc, &mut queue)?.as_str(), "k");
+    use Step::*;
+    let steps = [
+        Push("abcdéf"),
+        Next(Some('a')),
+        Push("g€"),
+        Next(Some('b')),
+        Next(Some('c')),
+        Next(Some('d')),
+        Next(Some('é')),
+        Next(Some('f')),
+        Push("hi"),
+        Push("j"),
+        Run("g€hij"),
+        Waits(""),
+        Push("k"),
+        Run("k"),
+    ];
+    play(&rt, rt.alloc(), &steps)?;
     Ok(())
 }
 
 #[test]
 fn push_front_puts_a_text_before_what_waits(rt: HostRuntime) -> Result<(), Fail> {
-    let alloc = rt.alloc();
-    let set = SmallCharSet::of(b"<");
-    let mut queue = BufferQueue::new(alloc);
-    assert!(rt; queue.push_front(String::new(alloc)).is_ok());
-    assert!(rt; queue.is_empty());
-    assert!(rt; queue.push_front(String::from_str(alloc, "é<")?).is_ok());
-    assert!(rt; queue.push_back(String::from_str(alloc, "€bc")?).is_ok());
-    assert_eq!(rt; taken(alloc, &mut queue, set)?.as_str(), "(é)[<](€bc)");
-    assert!(rt; queue.push_back(String::from_str(alloc, "€bc")?).is_ok());
-    assert_eq!(rt; queue.next(), Some('€'));
-    assert!(rt; queue.push_front(String::new(alloc)).is_ok());
-    let longer = String::from_str(alloc, "<longer than what was read>")?;
-    assert!(rt; queue.push_front(longer).is_ok());
-    assert!(rt; queue.push_front(String::from_str(alloc, "x")?).is_ok());
-    assert!(rt; queue.push_back(String::from_str(alloc, "d")?).is_ok());
-    assert_eq!(rt; queue.next(), Some('x'));
-    assert_eq!(rt;
-        taken(alloc, &mut queue, set)?.as_str(),
-        "[<](longer than what was read>bcd)"
-    );
-    assert!(rt; queue.is_empty());
+    use Step::*;
+    let steps = [
+        PushFront(""),
+        Waits(""),
+        PushFront("é<"),
+        Push("€bc"),
+        Run("é"),
+        Member('<'),
+        Next(Some('€')),
+        PushFront(""),
+        PushFront("<longer than what was read>"),
+        PushFront("x"),
+        Push("d"),
+        Next(Some('x')),
+        Member('<'),
+        Run("longer than what was read>bcd"),
+        Waits(""),
+    ];
+    play(&rt, rt.alloc(), &steps)?;
+    let within_a_run = [
+        Push("éàü<"),
+        Next(Some('é')),
+        PushFront("ñ"),
+        Run("ñàü"),
+        Member('<'),
+    ];
+    play(&rt, rt.alloc(), &within_a_run)?;
     Ok(())
 }
 
 #[test]
 fn a_text_comes_back_before_what_waits(rt: HostRuntime) -> Result<(), Fail> {
-    let alloc = rt.alloc();
-    let mut queue = BufferQueue::new(alloc);
-    assert!(rt; queue.give_back(String::new(alloc)).is_ok());
-    assert!(rt; queue.is_empty());
-    assert!(rt; queue.push_back(String::from_str(alloc, "é<d")?).is_ok());
-    assert_eq!(rt; queue.next(), Some('é'));
-    assert_eq!(rt; queue.next(), Some('<'));
-    assert!(rt; queue.give_back(String::from_str(alloc, "é<")?).is_ok());
-    assert_eq!(rt; queue.next(), Some('é'));
-    assert!(rt; queue.give_back(String::new(alloc)).is_ok());
-    assert_eq!(rt; rest_of(alloc, &mut queue)?.as_str(), "<d");
-    assert!(rt; queue.give_back(String::from_str(alloc, "é")?).is_ok());
-    assert_eq!(rt; queue.next(), Some('é'));
-    assert_eq!(rt; queue.next(), None);
-    Ok(())
-}
-
-#[test]
-fn push_front_in_the_middle_of_a_run(rt: HostRuntime) -> Result<(), Fail> {
-    let alloc = rt.alloc();
-    let set = SmallCharSet::of(b"<");
-    let mut queue = BufferQueue::new(alloc);
-    assert!(rt; queue.push_back(String::from_str(alloc, "éàü<")?).is_ok());
-    assert_eq!(rt; queue.next(), Some('é'));
-    assert!(rt; queue.push_front(String::from_str(alloc, "ñ")?).is_ok());
-    assert_eq!(rt; taken(alloc, &mut queue, set)?.as_str(), "(ñàü)[<]");
+    use Step::*;
+    let steps = [
+        GiveBack(""),
+        Waits(""),
+        Push("é<d"),
+        Next(Some('é')),
+        Next(Some('<')),
+        GiveBack("é<"),
+        Next(Some('é')),
+        GiveBack(""),
+        Waits("<d"),
+        Next(Some('<')),
+        Next(Some('d')),
+        GiveBack("é"),
+        Next(Some('é')),
+        Next(None),
+    ];
+    play(&rt, rt.alloc(), &steps)?;
     Ok(())
 }
 
 #[test]
 fn what_waits_is_lent_and_skipped(rt: HostRuntime) -> Result<(), Fail> {
-    let alloc = rt.alloc();
-    let set = SmallCharSet::of(b"<");
-    let mut queue = BufferQueue::new(alloc);
-    assert_eq!(rt; queue.front_text(), "");
-    for text in ["aé", "€<é", "€"] {
-        assert!(rt; queue.push_back(String::from_str(alloc, text)?).is_ok());
-    }
-    assert_eq!(rt; queue.front_text(), "aé€<é€");
-    let run = set.nonmember_prefix_len(queue.front_text());
-    assert_eq!(rt; run, 6);
-    queue.skip(run);
-    assert_eq!(rt; queue.front_text(), "<é€");
-    assert_eq!(rt; queue.next(), Some('<'));
-    let run = set.nonmember_prefix_len(queue.front_text());
-    queue.skip(run);
-    assert_eq!(rt; queue.front_text(), "");
-    assert!(rt; queue.is_empty());
+    use Step::*;
+    let steps = [
+        Waits(""),
+        Push("aé"),
+        Push("€<é"),
+        Push("€"),
+        Waits("aé€<é€"),
+        Skip(6),
+        Waits("<é€"),
+        Next(Some('<')),
+        Skip(5),
+        Waits(""),
+    ];
+    play(&rt, rt.alloc(), &steps)?;
+    Ok(())
+}
+
+#[test]
+fn a_pattern_is_eaten_once_all_of_it_waits(rt: HostRuntime) -> Result<(), Fail> {
+    use Step::*;
+    let steps = [
+        Push("éDo"),
+        Next(Some('é')),
+        Eat("doctype", Case::IgnoreAscii, None),
+        Push("cType€"),
+        Eat("doctype", Case::Exact, Some(false)),
+        Eat("doctype", Case::IgnoreAscii, Some(true)),
+        Eat("doctype", Case::IgnoreAscii, Some(false)),
+        Next(Some('€')),
+        Eat("-", Case::Exact, None),
+    ];
+    play(&rt, rt.alloc(), &steps)?;
     Ok(())
 }
 
@@ -211,18 +289,27 @@ fn what_waits_is_lent_and_skipped(rt: HostRuntime) -> Result<(), Fail> {
 fn a_whole_text_is_moved_in_and_out(rt: HostRuntime) -> Result<(), Fail> {
     let heap = Refusing::new(rt.alloc(), 1);
     let mut queue: BufferQueue<Heap> = BufferQueue::new(&heap);
-    assert!(rt;
-        queue
-            .push_back(String::from_str(&heap, "a whole text")?)
-            .is_ok()
-    );
-    let popped = queue.pop_except_from(SmallCharSet::of(b"<"))?;
-    assert!(rt;
-        matches!(&popped, Some(SetResult::NotFromSet(run)) if run.as_str() == "a whole text")
-    );
+    assert!(rt; plays(&heap, &mut queue, Step::Push("a whole text"))?);
+    assert!(rt; plays(&heap, &mut queue, Step::Run("a whole text"))?);
     assert!(rt; !heap.has_refused());
-    assert!(rt; queue.is_empty());
     Ok(())
+}
+
+// The next character.
+fn next<A: Allocator>(queue: &mut BufferQueue<A>) -> Option<char> {
+    queue.next()
+}
+
+// What `next` takes until the queue is empty.
+fn rest_of<A: Allocator>(alloc: Global, queue: &mut BufferQueue<A>) -> Result<String, AllocError> {
+    let mut rest = String::new(alloc);
+    for _ in 0..64 {
+        match next(queue) {
+            Some(c) => rest.push(c)?,
+            None => return Ok(rest),
+        }
+    }
+    Ok(rest)
 }
 
 // Hands in texts at both ends and takes a run, on a heap that refuses one request. What is refused comes back, and the
@@ -355,41 +442,5 @@ fn a_pattern_is_eaten_in_any_case(rt: HostRuntime) -> Result<(), Fail> {
     // As far from one another as a letter's cases.
     let bracket = [("{", Some(false), "{"), ("[", Some(true), "")];
     expect_eaten(&rt, alloc, "[", Case::IgnoreAscii, &bracket)?;
-    Ok(())
-}
-
-#[test]
-fn a_pattern_is_eaten_once_all_of_it_waits(rt: HostRuntime) -> Result<(), Fail> {
-    let alloc = rt.alloc();
-    let mut queue = BufferQueue::new(alloc);
-    assert!(rt; queue.push_back(String::from_str(alloc, "éDo")?).is_ok());
-    assert_eq!(rt; queue.next(), Some('é'));
-    assert_eq!(rt; queue.eat("doctype", Case::IgnoreAscii), None);
-    assert!(rt; queue.push_back(String::from_str(alloc, "cType€")?).is_ok());
-    assert_eq!(rt; queue.eat("doctype", Case::Exact), Some(false));
-    assert_eq!(rt; queue.eat("doctype", Case::IgnoreAscii), Some(true));
-    assert_eq!(rt; queue.eat("doctype", Case::IgnoreAscii), Some(false));
-    assert_eq!(rt; queue.next(), Some('€'));
-    assert_eq!(rt; queue.eat("-", Case::Exact), None);
-    Ok(())
-}
-
-// Whether the pattern was eaten. Its characters count as taken only then.
-fn is_eaten(queue: &mut BufferQueue, pat: &str, case: Case) -> bool
-    requires filled { pat.now ≢ [] }
-    requires ascii { IsAscii pat.now }
-    ensures eaten { IsTrue result → queue.new.taken ≡ queue.old.taken + length pat.now }
-    ensures left { result ≡ false → queue.new.taken ≡ queue.old.taken }
-{
-    queue.eat(pat, case) == Some(true)
-}
-
-#[test]
-fn what_is_eaten_counts_as_taken(rt: HostRuntime) -> Result<(), Fail> {
-    let alloc = rt.alloc();
-    let mut queue = BufferQueue::new(alloc);
-    assert!(rt; queue.push_back(String::from_str(alloc, "--x")?).is_ok());
-    assert!(rt; is_eaten(&mut queue, "--", Case::Exact));
-    assert!(rt; !is_eaten(&mut queue, "--", Case::Exact));
     Ok(())
 }
