@@ -1,6 +1,5 @@
 use crate::made::{error_of, tag_of, text_of, told};
 use html5ever_interface::collect::Collector;
-use html5ever_interface::interface::sink::TokenSink;
 use html5ever_interface::interface::token::{TagKind, Token};
 use refusing::Refusing;
 use std::alloc::{AllocError, Allocator};
@@ -21,32 +20,6 @@ fn some_tokens<A: Allocator + Copy>(alloc: A) -> Result<Vec<Token<A>, A>, AllocE
     tokens.push(text_of(alloc, " text")?)?;
     tokens.push(Token::EOFToken)?;
     Ok(tokens)
-}
-
-#[test]
-fn keeps_tokens_and_joins_adjacent_texts(rt: HostRuntime) -> Result<(), Fail> {
-    let alloc = rt.alloc();
-    let mut sink = Collector::new(alloc, true);
-    assert!(rt; sink.adjusted_current_node_present_but_not_in_html_namespace());
-    assert!(rt; sink.entries().is_empty());
-    for token in some_tokens(alloc)? {
-        assert!(rt; told(&mut sink, token, 7));
-    }
-    let expected = [
-        (text_of(alloc, "one text that is longer than the first")?, 0),
-        (tag_of(alloc, TagKind::StartTag, "p")?, 7),
-        (Token::NullCharacterToken, 7),
-        (text_of(alloc, "another")?, 0),
-        (error_of(alloc, "an error")?, 7),
-        (text_of(alloc, " text")?, 0),
-        (Token::EOFToken, 7),
-    ];
-    assert!(rt; sink.entries() == expected.as_slice());
-    assert!(rt; !sink.is_finished());
-    assert!(rt; sink.end().is_ok());
-    assert!(rt; sink.is_finished());
-    assert_eq!(rt; sink.entries().len(), expected.len());
-    Ok(())
 }
 
 // Tells a sink on a heap that may refuse a request tokens, and a second sink on an ample heap those

@@ -1,22 +1,7 @@
 use crate::made::{attribute_of, bare_tag};
-use html5ever_interface::interface::token::{Doctype, Tag, TagKind, Token};
+use html5ever_interface::interface::token::{Doctype, Tag, TagKind};
 use std::alloc::{AllocError, Allocator, Global};
 use std::test::Fail;
-
-fn text<A: Allocator>(alloc: A, text: &str) -> Result<String<A>, AllocError> {
-    String::from_str(alloc, text)
-}
-
-// An end tag with all that a tag may have.
-fn full_tag<A: Allocator + Copy>(alloc: A) -> Result<Tag<A>, AllocError> {
-    let mut tag = bare_tag(alloc, TagKind::EndTag, "a")?;
-    tag.attrs.push(attribute_of(alloc, None, "href", "#a")?)?;
-    tag.attrs
-        .push(attribute_of(alloc, Some("xlink"), "href", "")?)?;
-    tag.self_closing = true;
-    tag.had_duplicate_attributes = true;
-    Ok(tag)
-}
 
 // A start tag with these names and values of attributes.
 fn start_tag<A: Allocator + Copy>(
@@ -29,34 +14,6 @@ fn start_tag<A: Allocator + Copy>(
         tag.attrs.push(attribute_of(alloc, None, name, value)?)?;
     }
     Ok(tag)
-}
-
-#[test]
-fn clones_are_equal(rt: HostRuntime) -> Result<(), Fail> {
-    let alloc = rt.alloc();
-    let tag = full_tag(alloc)?;
-    assert!(rt; tag.try_clone()? == tag);
-    assert_eq!(rt; tag.try_clone()?.attrs.len(), 2);
-    let doctype = Doctype {
-        name: Some(text(alloc, "html")?),
-        public_id: None,
-        system_id: Some(text(alloc, "about:legacy-compat")?),
-        force_quirks: true,
-    };
-    assert!(rt; doctype.try_clone()? == doctype);
-    let tokens = [
-        Token::DoctypeToken(doctype),
-        Token::TagToken(tag),
-        Token::CommentToken(text(alloc, " a comment ")?),
-        Token::CharacterTokens(text(alloc, "a text")?),
-        Token::NullCharacterToken,
-        Token::EOFToken,
-        Token::ParseError(text(alloc, "Saw a character")?),
-    ];
-    for token in &tokens {
-        assert!(rt; token.try_clone()? == *token);
-    }
-    Ok(())
 }
 
 #[test]
