@@ -5,13 +5,7 @@ use std::test::Fail;
 fn refuses_input_that_is_no_text(rt: HostRuntime) -> Result<(), Fail> {
     for input in [b"\xff".as_slice(), b"a\xc3", b"\xed\xa0\x80"] {
         let ran = run_over(rt.alloc(), &PLAIN, input)?;
-        assert_eq!(rt; ran.status, 3, "{input:?}");
-        assert_eq!(rt; ran.output.len(), 0, "{input:?}");
-        assert_eq!(rt;
-            ran.errors.as_slice(),
-            b"input is not UTF-8\n".as_slice(),
-            "{input:?}"
-        );
+        assert!(rt; ran.is(3, "", "input is not UTF-8\n"), "{input:?}");
     }
     Ok(())
 }

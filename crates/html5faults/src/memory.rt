@@ -1,41 +1,26 @@
 use crate::arguments::Arguments;
-use crate::running::{MIXED, MIXED_LINES, status_of_run, words_of};
-use devices::{Fault, ReadSource, WriteTarget};
+use crate::running::{MIXED, MIXED_LINES, run_from, words_of};
+use devices::{Fault, ReadSource};
 use html5cli::run::{Ending, given_words};
 use refusing::Refusing;
 use std::test::Fail;
 
 #[test]
 fn tells_that_memory_ran_out(rt: HostRuntime) -> Result<(), Fail> {
+    let said = ["--state", "plaintext", "--cut", "2", "--last", "title"];
     let mut refused = 0u64;
     for admitted in 0..1000u64 {
         let heap = Refusing::new(rt.alloc(), admitted);
-        let said = ["--state", "plaintext", "--cut", "2", "--last", "title"];
         let Ok(words) = words_of(&heap, &said) else {
             continue;
         };
-        let mut reader = ReadSource::new(MIXED);
-        let mut writer = WriteTarget::new(Vec::new(rt.alloc()));
-        let mut errors = WriteTarget::new(Vec::new(rt.alloc()));
-        let status = status_of_run(&heap, words, &mut reader, &mut writer, &mut errors);
-        let output: Vec<u8> = writer.into_inner();
-        let errors: Vec<u8> = errors.into_inner();
+        let ran = run_from(rt.alloc(), &heap, words, &mut ReadSource::new(MIXED));
         if !heap.has_refused() {
-            assert_eq!(rt; status, 0);
-            assert_eq!(rt; output.as_slice(), MIXED_LINES.as_bytes());
+            assert!(rt; ran.is(0, MIXED_LINES, ""));
             break;
         }
         refused = refused.wrapping_add(1);
-        assert_eq!(rt; status, 5, "after {admitted}");
-        assert!(rt;
-            MIXED_LINES.as_bytes().starts_with(&output),
-            "after {admitted}"
-        );
-        assert_eq!(rt;
-            errors.as_slice(),
-            b"out of memory\n".as_slice(),
-            "after {admitted}"
-        );
+        assert!(rt; ran.wants_memory(MIXED_LINES), "after {admitted}");
     }
     assert!(rt; refused > 10);
     Ok(())
@@ -49,23 +34,18 @@ fn tells_that_there_is_no_memory_for_a_table(rt: HostRuntime) {
         let Ok(words) = words_of(&heap, &["--table", "a=41,b=42,a=43"]) else {
             continue;
         };
-        let mut reader = ReadSource::new(b"a".as_slice());
-        let mut writer = WriteTarget::new(Vec::new(rt.alloc()));
-        let mut errors = WriteTarget::new(Vec::new(rt.alloc()));
-        let status = status_of_run(&heap, words, &mut reader, &mut writer, &mut errors);
-        let told: Vec<u8> = errors.into_inner();
+        let ran = run_from(
+            rt.alloc(),
+            &heap,
+            words,
+            &mut ReadSource::new(b"a".as_slice()),
+        );
         if !heap.has_refused() {
-            assert_eq!(rt; status, 4);
-            assert_eq!(rt; told.as_slice(), b"table: repeated name at 2\n".as_slice());
+            assert!(rt; ran.is(4, "", "table: repeated name at 2\n"));
             break;
         }
         refused = refused.wrapping_add(1);
-        assert_eq!(rt; status, 5, "after {admitted}");
-        assert_eq!(rt;
-            told.as_slice(),
-            b"out of memory\n".as_slice(),
-            "after {admitted}"
-        );
+        assert!(rt; ran.wants_memory(""), "after {admitted}");
     }
     assert!(rt; refused > 3);
 }

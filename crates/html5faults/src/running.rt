@@ -28,9 +28,25 @@ pub fn words_of<A: Allocator + Copy>(
 /// What a run left.
 #[derive(Drop)]
 pub struct Ran {
-    pub status: u8,
-    pub output: Vec<u8>,
-    pub errors: Vec<u8>,
+    status: u8,
+    output: Vec<u8>,
+    errors: Vec<u8>,
+}
+
+impl Ran {
+    /// Whether the run ended so, with this output and these errors.
+    pub fn is(&self, status: u8, output: &str, errors: &str) -> bool {
+        self.status == status
+            && self.output.as_slice() == output.as_bytes()
+            && self.errors.as_slice() == errors.as_bytes()
+    }
+
+    /// Whether the run ended for want of memory, with a beginning of this output.
+    pub fn wants_memory(&self, output: &str) -> bool {
+        self.status == 5
+            && output.as_bytes().starts_with(&self.output)
+            && self.errors.as_slice() == b"out of memory\n".as_slice()
+    }
 }
 
 /// Runs the program, by as much of its contract as tests need: none. So the proof of a test holds
@@ -45,16 +61,25 @@ pub fn status_of_run<R: Source, W: Target, E: Target, A: Allocator + Copy>(
     run(alloc, words, reader, writer, errors)
 }
 
-/// Runs the program on an input, over devices that don't fail.
-pub fn run_over(alloc: Global, words: &[&str], input: &[u8]) -> Result<Ran, AllocError> {
-    let mut reader = ReadSource::new(input);
-    let mut writer = WriteTarget::new(Vec::new(alloc));
-    let mut errors = WriteTarget::new(Vec::new(alloc));
-    let words = words_of(alloc, words)?;
-    let status = status_of_run(alloc, words, &mut reader, &mut writer, &mut errors);
-    Ok(Ran {
+/// Runs the program on a heap, where it reads from a source. What it writes is kept on an ample one.
+pub fn run_from<R: Source, A: Allocator + Copy>(
+    ample: Global,
+    heap: A,
+    words: Vec<String<A>, A>,
+    reader: &mut R,
+) -> Ran {
+    let mut writer = WriteTarget::new(Vec::new(ample));
+    let mut errors = WriteTarget::new(Vec::new(ample));
+    let status = status_of_run(heap, words, reader, &mut writer, &mut errors);
+    Ran {
         status,
         output: writer.into_inner(),
         errors: errors.into_inner(),
-    })
+    }
+}
+
+/// Runs the program on an input.
+pub fn run_over(alloc: Global, words: &[&str], input: &[u8]) -> Result<Ran, AllocError> {
+    let words = words_of(alloc, words)?;
+    Ok(run_from(alloc, alloc, words, &mut ReadSource::new(input)))
 }
