@@ -1,26 +1,23 @@
-use crate::made::{error_of, tag_of, text_of, told};
+use crate::made::{tokens_of, told};
 use html5ever_interface::collect::Collector;
-use html5ever_interface::interface::token::{TagKind, Token};
 use refusing::Refusing;
 use std::alloc::{AllocError, Allocator};
 use std::process::Abort;
 use std::test::Fail;
 
 // Tokens with adjacent texts, and an empty text by itself.
-fn some_tokens<A: Allocator + Copy>(alloc: A) -> Result<Vec<Token<A>, A>, AllocError> {
-    let mut tokens = Vec::new(alloc);
-    tokens.push(text_of(alloc, "one ")?)?;
-    tokens.push(text_of(alloc, "")?)?;
-    tokens.push(text_of(alloc, "text that is longer than the first")?)?;
-    tokens.push(tag_of(alloc, TagKind::StartTag, "p")?)?;
-    tokens.push(text_of(alloc, "")?)?;
-    tokens.push(Token::NullCharacterToken)?;
-    tokens.push(text_of(alloc, "another")?)?;
-    tokens.push(error_of(alloc, "an error")?)?;
-    tokens.push(text_of(alloc, " text")?)?;
-    tokens.push(Token::EOFToken)?;
-    Ok(tokens)
-}
+const TOKENS: [(&str, &str); 10] = [
+    ("text", "one "),
+    ("text", ""),
+    ("text", "text that is longer than the first"),
+    ("start", "p"),
+    ("text", ""),
+    ("null", ""),
+    ("text", "another"),
+    ("error", "an error"),
+    ("text", " text"),
+    ("end", ""),
+];
 
 // Tells a sink on a heap that may refuse a request tokens, and a second sink on an ample heap those
 // that the first one took: they stay alike. Answers how many were refused, or `None` where the tokens
@@ -30,8 +27,8 @@ fn refusals<A: Allocator + Copy>(
     heap: A,
     ample: A,
 ) -> Result<Option<u64>, AllocError> {
-    let same_tokens = some_tokens(ample)?;
-    let Ok(tokens) = some_tokens(heap) else {
+    let same_tokens = tokens_of(ample, &TOKENS)?;
+    let Ok(tokens) = tokens_of(heap, &TOKENS) else {
         return Ok(None);
     };
     let mut sink = Collector::new(heap, false);

@@ -1,6 +1,6 @@
 //! Tokens, and a sink told of one.
 use html5ever_interface::interface::sink::TokenSink;
-use html5ever_interface::interface::token::{Tag, TagKind, Token, TokenSinkResult};
+use html5ever_interface::interface::token::{Doctype, Tag, TagKind, Token, TokenSinkResult};
 use markup5ever::interface::{Attribute, LocalName, Namespace, Prefix, QualName};
 use std::alloc::{AllocError, Allocator};
 
@@ -19,11 +19,6 @@ pub fn told<A: Allocator + Copy, S: TokenSink<Token<A>>>(
 /// A text.
 pub fn text_of<A: Allocator>(alloc: A, text: &str) -> Result<Token<A>, AllocError> {
     Ok(Token::CharacterTokens(String::from_str(alloc, text)?))
-}
-
-/// An error.
-pub fn error_of<A: Allocator>(alloc: A, message: &str) -> Result<Token<A>, AllocError> {
-    Ok(Token::ParseError(String::from_str(alloc, message)?))
 }
 
 /// An attribute in no namespace.
@@ -69,6 +64,54 @@ pub fn tag_of<A: Allocator + Copy>(
     name: &str,
 ) -> Result<Token<A>, AllocError> {
     Ok(Token::TagToken(bare_tag(alloc, kind, name)?))
+}
+
+/// A token of that kind, with that text: a name, a value, a message or a public identifier.
+pub fn token_of<A: Allocator + Copy>(
+    alloc: A,
+    kind: &str,
+    text: &str,
+) -> Result<Token<A>, AllocError> {
+    match kind {
+        "text" => text_of(alloc, text),
+        "error" => Ok(Token::ParseError(String::from_str(alloc, text)?)),
+        "comment" => Ok(Token::CommentToken(String::from_str(alloc, text)?)),
+        "start" => tag_of(alloc, TagKind::StartTag, text),
+        "end tag" => tag_of(alloc, TagKind::EndTag, text),
+        "meta" => meta_of(alloc, text),
+        "doctype" => doctype_of(alloc, text),
+        "null" => Ok(Token::NullCharacterToken),
+        _ => Ok(Token::EOFToken),
+    }
+}
+
+/// Tokens of these kinds, with these texts.
+pub fn tokens_of<A: Allocator + Copy>(
+    alloc: A,
+    listed: &[(&str, &str)],
+) -> Result<Vec<Token<A>, A>, AllocError> {
+    let mut tokens = Vec::new(alloc);
+    for (kind, text) in listed {
+        let token = token_of(alloc, kind, text)?;
+        tokens.push(token)?;
+    }
+    Ok(tokens)
+}
+
+// A DOCTYPE with no more than a public identifier.
+fn doctype_of<A: Allocator>(alloc: A, id: &str) -> Result<Token<A>, AllocError> {
+    let id = String::from_str(alloc, id)?;
+    let mut doctype = Doctype::default();
+    doctype.public_id = Some(id);
+    Ok(Token::DoctypeToken(doctype))
+}
+
+// A start tag that names the encoding.
+fn meta_of<A: Allocator + Copy>(alloc: A, encoding: &str) -> Result<Token<A>, AllocError> {
+    let charset = attribute_of(alloc, None, "charset", encoding)?;
+    let mut tag = bare_tag(alloc, TagKind::StartTag, "meta")?;
+    tag.attrs.push(charset)?;
+    Ok(Token::TagToken(tag))
 }
 
 /// What the sink answers to the foreign question.

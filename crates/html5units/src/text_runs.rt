@@ -1,4 +1,4 @@
-use crate::made::{error_of, says_foreign, tag_of, text_of, told};
+use crate::made::{says_foreign, tag_of, text_of, token_of, told};
 use html5ever_interface::interface::sink::TokenSink;
 use html5ever_interface::interface::token::{SinkFault, TagKind, Token, TokenSinkResult};
 use html5ever_interface::states::RawKind;
@@ -54,17 +54,6 @@ impl<A: Allocator> RunHandler<Token<A>> for LastRun<A> {
             Ok(()) => Ok(()),
             Err(AllocError) => Err(SinkFault),
         }
-    }
-}
-
-fn token_of<A: Allocator + Copy>(alloc: A, kind: &str, text: &str) -> Result<Token<A>, AllocError> {
-    match kind {
-        "text" => text_of(alloc, text),
-        "error" => error_of(alloc, text),
-        "start" => tag_of(alloc, TagKind::StartTag, text),
-        "end tag" => tag_of(alloc, TagKind::EndTag, text),
-        "null" => Ok(Token::NullCharacterToken),
-        _ => Ok(Token::EOFToken),
     }
 }
 
