@@ -1,13 +1,11 @@
 //! Running the tokenizer on a text that comes in pieces.
-ghost use Rattle.std.specs.Prelude.{◌≡◌, false, IfOk};
+ghost use Rattle.std.specs.Prelude.{◌≡◌, IfOk};
 ghost use Rattle.html5reading.specs.Starting.{CanStart};
 
 use crate::calls::{begin, end, feed};
 use crate::lines::lines_of;
 use html5ever::tokenizer::{Tokenizer, TokenizerResult};
 use html5ever_interface::collect::Collector;
-use html5ever_interface::interface::sink::TokenSink;
-use html5ever_interface::interface::token::Token;
 use html5ever_interface::options::TokenizerOpts;
 use html5ever_interface::states::State;
 use markup5ever::buffer_queue::BufferQueue;
@@ -69,29 +67,18 @@ pub fn push_text<A: Allocator + Copy>(
     }
 }
 
-/// Hands in a text and feeds it. Answers whether the tokenizer took it whole.
-pub fn feeds_whole<S: TokenSink<Token<A>>, A: Allocator + Copy>(
-    alloc: A,
-    tokenizer: &mut Tokenizer<'_, S, A>,
-    queue: &mut BufferQueue<A>,
-    text: &str,
-) -> Result<bool, AllocError>
-    requires going_on { tokenizer.old.ended ≡ false }
-    ensures going_on { tokenizer.new.ended ≡ false }
-{
-    push_text(alloc, queue, text)?;
-    let fed = feed(tokenizer, queue);
-    Ok(matches!(fed, Ok(TokenizerResult::Done)) && queue.is_empty())
-}
-
-/// Compares what a collector holds.
-pub fn expect_lines(
+// Feeds a piece, which is taken whole.
+fn feed_piece(
     rt: &impl Abort,
     alloc: Global,
-    sink: &Collector,
-    lines: &str,
+    tokenizer: &mut Tokenizer<'_, Collector>,
+    queue: &mut BufferQueue,
+    piece: &str,
 ) -> Result<(), AllocError> {
-    assert_eq!(rt; lines_of(alloc, sink.entries())?.as_str(), lines);
+    push_text(alloc, queue, piece)?;
+    assert!(rt; !tokenizer.is_ended());
+    assert_eq!(rt; feed(tokenizer, queue), Ok(TokenizerResult::Done));
+    assert!(rt; queue.is_empty());
     Ok(())
 }
 
@@ -124,11 +111,7 @@ pub fn lines_of_pieces(
     let mut tokenizer = begin(alloc, Collector::new(alloc, foreign), opts, names);
     let mut queue = BufferQueue::new(alloc);
     for piece in pieces {
-        assert!(rt; !tokenizer.is_ended());
-        assert!(rt;
-            feeds_whole(alloc, &mut tokenizer, &mut queue, piece)?,
-            "{piece}"
-        );
+        feed_piece(rt, alloc, &mut tokenizer, &mut queue, piece)?;
     }
     end_of(rt, alloc, tokenizer)
 }
