@@ -1,11 +1,10 @@
 //! Where a sink faults, the tokenizer stops.
 use crate::calls::{begin, end, feed};
 use crate::names::profile;
-use crate::refused::{check_refused, drained};
-use crate::running::{options, push_text};
+use crate::refused::check_refused;
+use crate::running::{feeds_whole, options, push_text};
 use crate::sinks::FaultySink;
 use html5ever::TokenizerError;
-use html5ever::tokenizer::TokenizerResult;
 use markup5ever::buffer_queue::BufferQueue;
 use std::alloc::{AllocError, Global};
 use std::process::Abort;
@@ -55,13 +54,12 @@ fn check_stop(rt: &impl Abort, alloc: Global, stop: Stop) -> Result<(), AllocErr
         "{text} at {taken}"
     );
     check_refused(rt, &mut tokenizer, &mut queue, text);
+    assert_eq!(rt; queue.front_text(), left, "{text} at {taken}");
     assert_eq!(rt;
-        drained(alloc, &mut queue)?.as_str(),
-        left,
+        tokenizer.sink.took_another,
+        took_another,
         "{text} at {taken}"
     );
-    let sink = tokenizer.into_sink();
-    assert_eq!(rt; sink.took_another, took_another, "{text} at {taken}");
     Ok(())
 }
 
@@ -101,13 +99,10 @@ fn check_end(rt: &impl Abort, alloc: Global, stop: EndStop) -> Result<(), AllocE
     let names = profile(alloc)?;
     let mut tokenizer = begin(alloc, FaultySink::new(taken, end_faults), opts, &names);
     let mut queue = BufferQueue::new(alloc);
-    push_text(alloc, &mut queue, text)?;
-    assert_eq!(rt;
-        feed(&mut tokenizer, &mut queue),
-        Ok(TokenizerResult::Done),
+    assert!(rt;
+        feeds_whole(alloc, &mut tokenizer, &mut queue, text)?,
         "{text} at {taken}"
     );
-    assert!(rt; queue.is_empty(), "{text} at {taken}");
     assert_eq!(rt;
         end(&mut tokenizer),
         Err(TokenizerError::Sink),

@@ -1,10 +1,11 @@
 //! Pauses: where a feed stops, what its queue then holds, and text that is put in front of that.
+ghost use Rattle.std.specs.Prelude.{◌≡◌, false};
+
 use crate::calls::{begin, end, feed};
 use crate::lines::lines_of;
 use crate::memory::is_beginning;
 use crate::names::profile;
-use crate::refused::drained;
-use crate::running::{cut, options, push_text};
+use crate::running::{cut, expect_lines, feeds_whole, options, push_text};
 use crate::sinks::{FaultySink, Steering};
 use html5ever::TokenizerError;
 use html5ever::tokenizer::laws::closed;
@@ -95,9 +96,28 @@ fn end_of(
     lines_of(alloc, sink.inner.entries())
 }
 
+// Whether a feed pauses for a script.
+fn pauses(tokenizer: &mut Tokenizer<'_, Steering>, queue: &mut BufferQueue) -> bool
+    requires going_on { tokenizer.old.ended ≡ false }
+    ensures going_on { tokenizer.new.ended ≡ false }
+{
+    matches!(feed(tokenizer, queue), Ok(TokenizerResult::Script(7)))
+}
+
+// Feeds a text with a tag that pauses, and looks at what is left behind that.
+fn check_pause(rt: &impl Abort, alloc: Global, text: &str, left: &str) -> Result<(), AllocError> {
+    let names = profile(alloc)?;
+    let mut tokenizer = begin(alloc, Steering::new(alloc), options(false, false), &names);
+    let mut queue = BufferQueue::new(alloc);
+    push_text(alloc, &mut queue, text)?;
+    assert!(rt; pauses(&mut tokenizer, &mut queue), "{text}");
+    assert!(rt; tokenizer.nothing_pending(), "{text}");
+    assert_eq!(rt; queue.front_text(), left, "{text}");
+    Ok(())
+}
+
 #[test]
 fn pauses_directly_behind_a_tag(rt: HostRuntime) -> Result<(), Fail> {
-    let alloc = rt.alloc();
     // A text, and what follows the tag that pauses.
     let cases = [
         ("<s>x", "x"),
@@ -106,16 +126,7 @@ fn pauses_directly_behind_a_tag(rt: HostRuntime) -> Result<(), Fail> {
         ("<s>", ""),
     ];
     for (text, left) in cases {
-        let opts = options(false, false);
-        let names = profile(alloc)?;
-        let mut tokenizer = begin(alloc, Steering::new(alloc), opts, &names);
-        let mut queue = BufferQueue::new(alloc);
-        push_text(alloc, &mut queue, text)?;
-        let fed = feed(&mut tokenizer, &mut queue);
-        assert_eq!(rt; fed, Ok(TokenizerResult::Script(7)), "{text}");
-        assert!(rt; tokenizer.nothing_pending(), "{text}");
-        assert_eq!(rt; drained(alloc, &mut queue)?.as_str(), left, "{text}");
-        assert!(rt; queue.is_empty(), "{text}");
+        check_pause(&rt, rt.alloc(), text, left)?;
     }
     Ok(())
 }
@@ -127,10 +138,7 @@ fn reads_what_is_put_in_front_at_a_pause(rt: HostRuntime) -> Result<(), Fail> {
     let mut tokenizer = begin(alloc, Steering::new(alloc), options(false, false), &names);
     let mut queue = BufferQueue::new(alloc);
     push_text(alloc, &mut queue, "<s>x")?;
-    assert_eq!(rt;
-        feed(&mut tokenizer, &mut queue),
-        Ok(TokenizerResult::Script(7))
-    );
+    assert!(rt; pauses(&mut tokenizer, &mut queue));
     let front = String::from_str(alloc, "<b>")?;
     assert!(rt; queue.push_front(front).is_ok());
     assert_eq!(rt; feed_until_done(&mut tokenizer, &mut queue), Ok(()));
@@ -149,17 +157,10 @@ fn pauses_twice_in_a_text(rt: HostRuntime) -> Result<(), Fail> {
     let names = profile(alloc)?;
     let mut tokenizer = begin(alloc, Steering::new(alloc), options(false, false), &names);
     let mut queue = BufferQueue::new(alloc);
-    push_text(alloc, &mut queue, "<s><s>x")?;
-    assert_eq!(rt;
-        feed(&mut tokenizer, &mut queue),
-        Ok(TokenizerResult::Script(7))
-    );
-    assert_eq!(rt;
-        feed(&mut tokenizer, &mut queue),
-        Ok(TokenizerResult::Script(7))
-    );
-    assert_eq!(rt; feed(&mut tokenizer, &mut queue), Ok(TokenizerResult::Done));
-    assert!(rt; queue.is_empty());
+    push_text(alloc, &mut queue, "<s><s>")?;
+    assert!(rt; pauses(&mut tokenizer, &mut queue));
+    assert!(rt; pauses(&mut tokenizer, &mut queue));
+    assert!(rt; feeds_whole(alloc, &mut tokenizer, &mut queue, "x")?);
     assert_eq!(rt; end_of(&rt, alloc, tokenizer)?.as_str(), lines);
     assert_eq!(rt; lines_of_whole(&rt, alloc, "<s><s>x")?.as_str(), lines);
     Ok(())
@@ -176,9 +177,7 @@ fn is_done_where_no_reply_pauses(rt: HostRuntime) -> Result<(), Fail> {
         &names,
     );
     let mut queue = BufferQueue::new(alloc);
-    push_text(alloc, &mut queue, "<a><s>")?;
-    assert_eq!(rt; feed(&mut tokenizer, &mut queue), Ok(TokenizerResult::Done));
-    assert!(rt; queue.is_empty());
+    assert!(rt; feeds_whole(alloc, &mut tokenizer, &mut queue, "<a><s>")?);
     Ok(())
 }
 
@@ -269,24 +268,46 @@ fn reads_plain_text_where_it_is_set(rt: HostRuntime) -> Result<(), Fail> {
         &names,
     );
     let mut queue = BufferQueue::new(alloc);
-    push_text(alloc, &mut queue, "<b>")?;
-    assert_eq!(rt; feed(&mut tokenizer, &mut queue), Ok(TokenizerResult::Done));
+    assert!(rt; feeds_whole(alloc, &mut tokenizer, &mut queue, "<b>")?);
     assert!(rt; tokenizer.nothing_pending());
     tokenizer.set_plaintext_state();
-    push_text(alloc, &mut queue, "</b>&")?;
     assert!(rt; !tokenizer.is_ended());
-    assert_eq!(rt; feed(&mut tokenizer, &mut queue), Ok(TokenizerResult::Done));
+    assert!(rt; feeds_whole(alloc, &mut tokenizer, &mut queue, "</b>&")?);
     assert_eq!(rt; end(&mut tokenizer), Ok(()));
-    assert_eq!(rt;
-        lines_of(alloc, tokenizer.sink.entries())?.as_str(),
-        "start 1 \"b\"\ntext \"</b>&\"\neof 1"
+    expect_lines(
+        &rt,
+        alloc,
+        &tokenizer.sink,
+        "start 1 \"b\"\ntext \"</b>&\"\neof 1",
+    )?;
+    Ok(())
+}
+
+// Looks at whether nothing is pending: before a text, behind it, and behind the end.
+fn check_pending(
+    rt: &impl Abort,
+    alloc: Global,
+    text: &str,
+    plain: bool,
+    expected: bool,
+) -> Result<(), AllocError> {
+    let names = profile(alloc)?;
+    let sink = Collector::new(alloc, false);
+    let mut tokenizer = begin(alloc, sink, options(false, plain), &names);
+    let mut queue = BufferQueue::new(alloc);
+    assert!(rt; tokenizer.nothing_pending(), "before {text:?}");
+    assert!(rt;
+        feeds_whole(alloc, &mut tokenizer, &mut queue, text)?,
+        "{text:?}"
     );
+    assert_eq!(rt; tokenizer.nothing_pending(), expected, "{text:?}");
+    assert_eq!(rt; end(&mut tokenizer), Ok(()), "{text:?}");
+    assert!(rt; !tokenizer.nothing_pending(), "behind the end of {text:?}");
     Ok(())
 }
 
 #[test]
 fn says_whether_nothing_is_pending(rt: HostRuntime) -> Result<(), Fail> {
-    let alloc = rt.alloc();
     // A text, whether it is plain, and whether nothing is pending behind it.
     let cases = [
         ("", false, true),
@@ -294,20 +315,7 @@ fn says_whether_nothing_is_pending(rt: HostRuntime) -> Result<(), Fail> {
         ("&", true, true),
     ];
     for (text, plain, expected) in cases {
-        let opts = options(false, plain);
-        let names = profile(alloc)?;
-        let mut tokenizer = begin(alloc, Collector::new(alloc, false), opts, &names);
-        let mut queue = BufferQueue::new(alloc);
-        assert!(rt; tokenizer.nothing_pending(), "before {text:?}");
-        push_text(alloc, &mut queue, text)?;
-        assert_eq!(rt;
-            feed(&mut tokenizer, &mut queue),
-            Ok(TokenizerResult::Done),
-            "{text:?}"
-        );
-        assert_eq!(rt; tokenizer.nothing_pending(), expected, "{text:?}");
-        assert_eq!(rt; end(&mut tokenizer), Ok(()), "{text:?}");
-        assert!(rt; !tokenizer.nothing_pending(), "behind the end of {text:?}");
+        check_pending(&rt, rt.alloc(), text, plain, expected)?;
     }
     Ok(())
 }

@@ -1,10 +1,8 @@
 //! Raw text that comes in two texts, and raw text behind a tag that asks for it.
-use crate::calls::{begin, feed};
-use crate::lines::lines_of;
+use crate::calls::begin;
 use crate::names::profile;
-use crate::running::{Start, options, options_from, push_text};
+use crate::running::{Start, expect_lines, feeds_whole, options, options_from};
 use crate::sinks::Steering;
-use html5ever::tokenizer::TokenizerResult;
 use html5ever_interface::collect::Collector;
 use html5ever_interface::states::{RawKind, State};
 use markup5ever::buffer_queue::BufferQueue;
@@ -31,17 +29,11 @@ fn check_two(
     let names = profile(alloc)?;
     let mut tokenizer = begin(alloc, Collector::new(alloc, false), opts, &names);
     let mut queue = BufferQueue::new(alloc);
-    push_text(alloc, &mut queue, texts.0)?;
-    assert_eq!(rt; feed(&mut tokenizer, &mut queue), Ok(TokenizerResult::Done));
+    assert!(rt; feeds_whole(alloc, &mut tokenizer, &mut queue, texts.0)?);
     assert_eq!(rt; tokenizer.nothing_pending(), clean);
-    let told = lines_of(alloc, tokenizer.sink.entries())?;
-    assert_eq!(rt; told.as_str(), lines.0);
-    push_text(alloc, &mut queue, texts.1)?;
-    assert!(rt; !tokenizer.is_ended());
-    assert_eq!(rt; feed(&mut tokenizer, &mut queue), Ok(TokenizerResult::Done));
-    let told = lines_of(alloc, tokenizer.sink.entries())?;
-    assert_eq!(rt; told.as_str(), lines.1);
-    Ok(())
+    expect_lines(rt, alloc, &tokenizer.sink, lines.0)?;
+    assert!(rt; feeds_whole(alloc, &mut tokenizer, &mut queue, texts.1)?);
+    expect_lines(rt, alloc, &tokenizer.sink, lines.1)
 }
 
 #[test]
@@ -71,10 +63,29 @@ fn tells_of_raw_text_what_is_decided(rt: HostRuntime) -> Result<(), Fail> {
     Ok(())
 }
 
+// Feeds two texts to a sink that asks for raw text behind some tags.
+fn check_steered(
+    rt: &impl Abort,
+    alloc: Global,
+    texts: (&str, &str),
+    lines: &str,
+) -> Result<(), AllocError> {
+    let names = profile(alloc)?;
+    let mut tokenizer = begin(alloc, Steering::new(alloc), options(false, false), &names);
+    let mut queue = BufferQueue::new(alloc);
+    assert!(rt;
+        feeds_whole(alloc, &mut tokenizer, &mut queue, texts.0)?,
+        "{lines}"
+    );
+    assert!(rt;
+        feeds_whole(alloc, &mut tokenizer, &mut queue, texts.1)?,
+        "{lines}"
+    );
+    expect_lines(rt, alloc, &tokenizer.sink.inner, lines)
+}
+
 #[test]
 fn reads_raw_text_behind_a_tag_that_asks_for_it(rt: HostRuntime) -> Result<(), Fail> {
-    let alloc = rt.alloc();
-    let names = profile(alloc)?;
     // Texts that are fed one behind the other, and what is told of both.
     let cases = [
         (
@@ -91,16 +102,7 @@ fn reads_raw_text_behind_a_tag_that_asks_for_it(rt: HostRuntime) -> Result<(), F
         ),
     ];
     for (texts, lines) in cases {
-        let opts = options(false, false);
-        let mut tokenizer = begin(alloc, Steering::new(alloc), opts, &names);
-        let mut queue = BufferQueue::new(alloc);
-        push_text(alloc, &mut queue, texts.0)?;
-        assert_eq!(rt; feed(&mut tokenizer, &mut queue), Ok(TokenizerResult::Done));
-        push_text(alloc, &mut queue, texts.1)?;
-        assert!(rt; !tokenizer.is_ended(), "{lines}");
-        assert_eq!(rt; feed(&mut tokenizer, &mut queue), Ok(TokenizerResult::Done));
-        let told = lines_of(alloc, tokenizer.sink.inner.entries())?;
-        assert_eq!(rt; told.as_str(), lines);
+        check_steered(&rt, rt.alloc(), texts, lines)?;
     }
     Ok(())
 }

@@ -5,7 +5,7 @@ use html5ever::tokenizer::Tokenizer;
 use html5ever_interface::interface::sink::TokenSink;
 use html5ever_interface::interface::token::Token;
 use markup5ever::buffer_queue::BufferQueue;
-use std::alloc::{AllocError, Allocator, Global};
+use std::alloc::Allocator;
 use std::process::Abort;
 
 /// Every further call of a tokenizer that was refused is refused, too.
@@ -24,16 +24,4 @@ pub fn check_refused<S: TokenSink<Token<A>>, A: Allocator + Copy>(
     assert!(rt; ended, "{name}");
     assert!(rt; tokenizer.has_failed(), "{name}");
     assert!(rt; !tokenizer.is_ended(), "{name}");
-}
-
-/// What waits in a queue, up to 16 characters.
-pub fn drained(alloc: Global, queue: &mut BufferQueue) -> Result<String, AllocError> {
-    let mut text = String::new(alloc);
-    for _ in 0..16 {
-        match queue.next() {
-            Some(c) => text.push(c)?,
-            None => break,
-        }
-    }
-    Ok(text)
 }

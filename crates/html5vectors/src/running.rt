@@ -1,11 +1,13 @@
 //! Running the tokenizer on a text that comes in pieces.
-ghost use Rattle.std.specs.Prelude.{◌≡◌, IfOk};
+ghost use Rattle.std.specs.Prelude.{◌≡◌, false, IfOk};
 ghost use Rattle.html5reading.specs.Starting.{CanStart};
 
 use crate::calls::{begin, end, feed};
 use crate::lines::lines_of;
 use html5ever::tokenizer::{Tokenizer, TokenizerResult};
 use html5ever_interface::collect::Collector;
+use html5ever_interface::interface::sink::TokenSink;
+use html5ever_interface::interface::token::Token;
 use html5ever_interface::options::TokenizerOpts;
 use html5ever_interface::states::State;
 use markup5ever::buffer_queue::BufferQueue;
@@ -67,18 +69,29 @@ pub fn push_text<A: Allocator + Copy>(
     }
 }
 
-// Feeds a piece, which is taken whole.
-fn feed_piece(
+/// Hands in a text and feeds it. Answers whether the tokenizer took it whole.
+pub fn feeds_whole<S: TokenSink<Token<A>>, A: Allocator + Copy>(
+    alloc: A,
+    tokenizer: &mut Tokenizer<'_, S, A>,
+    queue: &mut BufferQueue<A>,
+    text: &str,
+) -> Result<bool, AllocError>
+    requires going_on { tokenizer.old.ended ≡ false }
+    ensures going_on { tokenizer.new.ended ≡ false }
+{
+    push_text(alloc, queue, text)?;
+    let fed = feed(tokenizer, queue);
+    Ok(matches!(fed, Ok(TokenizerResult::Done)) && queue.is_empty())
+}
+
+/// Compares what a collector holds.
+pub fn expect_lines(
     rt: &impl Abort,
     alloc: Global,
-    tokenizer: &mut Tokenizer<'_, Collector>,
-    queue: &mut BufferQueue,
-    piece: &str,
+    sink: &Collector,
+    lines: &str,
 ) -> Result<(), AllocError> {
-    push_text(alloc, queue, piece)?;
-    assert!(rt; !tokenizer.is_ended());
-    assert_eq!(rt; feed(tokenizer, queue), Ok(TokenizerResult::Done));
-    assert!(rt; queue.is_empty());
+    assert_eq!(rt; lines_of(alloc, sink.entries())?.as_str(), lines);
     Ok(())
 }
 
@@ -111,7 +124,11 @@ pub fn lines_of_pieces(
     let mut tokenizer = begin(alloc, Collector::new(alloc, foreign), opts, names);
     let mut queue = BufferQueue::new(alloc);
     for piece in pieces {
-        feed_piece(rt, alloc, &mut tokenizer, &mut queue, piece)?;
+        assert!(rt; !tokenizer.is_ended());
+        assert!(rt;
+            feeds_whole(alloc, &mut tokenizer, &mut queue, piece)?,
+            "{piece}"
+        );
     }
     end_of(rt, alloc, tokenizer)
 }

@@ -1,15 +1,31 @@
 //! Runs that are read at once.
-use crate::calls::{begin, feed};
+use crate::calls::begin;
 use crate::names::profile;
-use crate::running::{options, push_text};
+use crate::running::{feeds_whole, options};
 use crate::sinks::FaultySink;
-use html5ever::tokenizer::TokenizerResult;
 use markup5ever::buffer_queue::BufferQueue;
 use refusing::Refusing;
+use std::alloc::{AllocError, Global};
+use std::process::Abort;
 use std::test::Fail;
 
 // A thousand times the letter a.
 const LETTERS: usize = 1000;
+
+// Reads a run of letters on a heap that refuses the fourth request.
+fn check_run(rt: &impl Abort, alloc: Global, text: &str) -> Result<(), AllocError> {
+    // Each of the two texts is a request, and so is the stream's first character, which is read alone.
+    let heap = Refusing::new(alloc, 3);
+    let sink = FaultySink::new(LETTERS, false);
+    let ample = Refusing::new(alloc, u64::MAX);
+    let names = profile(&ample)?;
+    let mut tokenizer = begin(&heap, sink, options(false, false), &names);
+    let mut queue = BufferQueue::new(&heap);
+    assert!(rt; feeds_whole(&heap, &mut tokenizer, &mut queue, "b")?);
+    assert!(rt; feeds_whole(&heap, &mut tokenizer, &mut queue, text)?);
+    assert!(rt; !heap.has_refused());
+    Ok(())
+}
 
 #[test]
 fn a_run_that_is_all_that_waits_takes_no_memory(rt: HostRuntime) -> Result<(), Fail> {
@@ -17,18 +33,6 @@ fn a_run_that_is_all_that_waits_takes_no_memory(rt: HostRuntime) -> Result<(), F
     for _ in 0..LETTERS {
         text.push('a')?;
     }
-    // Each of the two texts is a request, and so is the stream's first character, which is read alone.
-    let heap = Refusing::new(rt.alloc(), 3);
-    let sink = FaultySink::new(LETTERS, false);
-    let ample = Refusing::new(rt.alloc(), u64::MAX);
-    let names = profile(&ample)?;
-    let mut tokenizer = begin(&heap, sink, options(false, false), &names);
-    let mut queue = BufferQueue::new(&heap);
-    push_text(&heap, &mut queue, "b")?;
-    assert!(rt; matches!(feed(&mut tokenizer, &mut queue), Ok(TokenizerResult::Done)));
-    push_text(&heap, &mut queue, &text)?;
-    assert!(rt; matches!(feed(&mut tokenizer, &mut queue), Ok(TokenizerResult::Done)));
-    assert!(rt; queue.is_empty());
-    assert!(rt; !heap.has_refused());
+    check_run(&rt, rt.alloc(), &text)?;
     Ok(())
 }
