@@ -9,6 +9,3 @@ mod writing;
 pub use crate::fault::Fault;
 pub use crate::reading::{ReadSource, Source, read_to_end};
 pub use crate::writing::{Target, WriteTarget, write_all};
-
-#[cfg(test)]
-mod tests;

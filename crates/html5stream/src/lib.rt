@@ -8,6 +8,3 @@ mod source;
 pub use crate::error::StreamError;
 pub use crate::page::{read_runs, read_tags};
 pub use crate::source::read_source;
-
-#[cfg(test)]
-mod tests;

@@ -9,9 +9,6 @@ use crate::entry::parts_of;
 use markup5ever::data::Entry;
 use std::alloc::{AllocError, Allocator};
 
-#[cfg(test)]
-mod tests;
-
 /// Whether the list is empty, or entries joined by commas, each `NAME=HEX` or `NAME=HEX+HEX`. NAME is
 /// whatever stands before the first `=`, and HEX one to six hexadecimal digits of a Unicode scalar value.
 pub fn has_form(list: &str) -> bool

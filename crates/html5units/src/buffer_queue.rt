@@ -4,9 +4,8 @@ ghost use Rattle.std.specs.Str.{IsAscii};
 use markup5ever::buffer_queue::{BufferQueue, Case, SetResult};
 use markup5ever::small_char_set::SmallCharSet;
 use refusing::Refusing;
-use std::alloc::{AllocError, Allocator, Global};
+use std::alloc::{Allocator, Global};
 use std::process::Abort;
-use std::test::Fail;
 
 type Heap<'h> = &'h Refusing<Global>;
 
@@ -26,34 +25,9 @@ enum Step<'a> {
     Eat(&'a str, Case, Option<bool>),
 }
 
-// Whether a text was put behind what waits.
-fn pushes<A: Allocator + Copy>(
-    alloc: A,
-    queue: &mut BufferQueue<A>,
-    text: &str,
-) -> Result<bool, AllocError> {
-    let text = String::from_str(alloc, text)?;
-    Ok(queue.push_back(text).is_ok())
-}
-
-// Whether a text was put in front of what waits.
-fn pushes_front<A: Allocator + Copy>(
-    alloc: A,
-    queue: &mut BufferQueue<A>,
-    text: &str,
-) -> Result<bool, AllocError> {
-    let text = String::from_str(alloc, text)?;
-    Ok(queue.push_front(text).is_ok())
-}
-
-// Whether a text was given back.
-fn gives_back<A: Allocator + Copy>(
-    alloc: A,
-    queue: &mut BufferQueue<A>,
-    text: &str,
-) -> Result<bool, AllocError> {
-    let text = String::from_str(alloc, text)?;
-    Ok(queue.give_back(text).is_ok())
+// A text on a heap that has memory for it.
+fn made<A: Allocator>(rt: &impl Abort, alloc: A, text: &str) -> String<A> {
+    String::from_str(alloc, text).expect(rt, "memory for a text")
 }
 
 // Whether what waits begins with a run of so many bytes, which is skipped.
@@ -63,13 +37,14 @@ fn skips<A: Allocator>(queue: &mut BufferQueue<A>, bytes: usize) -> bool {
     run == bytes
 }
 
-// What is taken first: a run, or a member of the set.
-fn pops<A: Allocator + Copy>(queue: &mut BufferQueue<A>, wanted: Step) -> Result<bool, AllocError> {
-    match (queue.pop_except_from(SmallCharSet::of(b"&<"))?, wanted) {
-        (Some(SetResult::NotFromSet(run)), Step::Run(text)) => Ok(run.as_str() == text),
-        (Some(SetResult::FromSet(c)), Step::Member(member)) => Ok(c == member),
-        (None, Step::NoRun) => Ok(true),
-        _ => Ok(false),
+// Whether this is taken first: a run, a member of the set, or nothing.
+fn pops<A: Allocator + Copy>(rt: &impl Abort, queue: &mut BufferQueue<A>, wanted: Step) -> bool {
+    let popped = queue.pop_except_from(SmallCharSet::of(b"&<"));
+    match (popped.expect(rt, "memory for a run"), wanted) {
+        (Some(SetResult::NotFromSet(run)), Step::Run(text)) => run.as_str() == text,
+        (Some(SetResult::FromSet(c)), Step::Member(member)) => c == member,
+        (None, Step::NoRun) => true,
+        _ => false,
     }
 }
 
@@ -88,34 +63,37 @@ fn eats<A: Allocator>(
 
 // Whether the call answers so.
 fn plays<A: Allocator + Copy>(
+    rt: &impl Abort,
     alloc: A,
     queue: &mut BufferQueue<A>,
     step: Step,
-) -> Result<bool, AllocError> {
+) -> bool {
     match step {
-        Step::Push(text) => pushes(alloc, queue, text),
-        Step::PushFront(text) => pushes_front(alloc, queue, text),
-        Step::GiveBack(text) => gives_back(alloc, queue, text),
-        Step::Next(c) => Ok(queue.next() == c),
-        Step::Peek(c) => Ok(queue.peek() == c),
-        Step::Waits(text) => Ok(queue.front_text() == text && queue.is_empty() == text.is_empty()),
-        Step::Skip(bytes) => Ok(skips(queue, bytes)),
-        Step::Eat(pat, case, answer) => Ok(eats(queue, pat, case, answer)),
-        _ => pops(queue, step),
+        Step::Push(text) => queue.push_back(made(rt, alloc, text)).is_ok(),
+        Step::PushFront(text) => queue.push_front(made(rt, alloc, text)).is_ok(),
+        Step::GiveBack(text) => queue.give_back(made(rt, alloc, text)).is_ok(),
+        Step::Next(c) => queue.next() == c,
+        Step::Peek(c) => queue.peek() == c,
+        Step::Waits(text) => queue.front_text() == text && queue.is_empty() == text.is_empty(),
+        Step::Skip(bytes) => skips(queue, bytes),
+        Step::Eat(pat, case, answer) => eats(queue, pat, case, answer),
+        _ => pops(rt, queue, step),
     }
 }
 
 // Plays steps with a new queue.
-fn play(rt: &impl Abort, alloc: Global, steps: &[Step]) -> Result<(), AllocError> {
+fn play(rt: &impl Abort, alloc: Global, steps: &[Step]) {
     let mut queue = BufferQueue::new(alloc);
     for step in steps {
-        assert!(rt; plays(alloc, &mut queue, *step)?, "{step:?} of {steps:?}");
+        assert!(rt;
+            plays(rt, alloc, &mut queue, *step),
+            "{step:?} of {steps:?}"
+        );
     }
-    Ok(())
 }
 
 #[test]
-fn takes_runs_and_members(rt: HostRuntime) -> Result<(), Fail> {
+fn takes_runs_and_members(rt: HostRuntime) {
     use Step::*;
     let runs = [
         Push("ab"),
@@ -133,7 +111,7 @@ fn takes_runs_and_members(rt: HostRuntime) -> Result<(), Fail> {
         NoRun,
         Waits(""),
     ];
-    play(&rt, rt.alloc(), &runs)?;
+    play(&rt, rt.alloc(), &runs);
     // A run goes on in the next text.
     let joined = [
         Push("ab"),
@@ -143,12 +121,11 @@ fn takes_runs_and_members(rt: HostRuntime) -> Result<(), Fail> {
         Run("d"),
         NoRun,
     ];
-    play(&rt, rt.alloc(), &joined)?;
-    Ok(())
+    play(&rt, rt.alloc(), &joined);
 }
 
 #[test]
-fn takes_characters(rt: HostRuntime) -> Result<(), Fail> {
+fn takes_characters(rt: HostRuntime) {
     use Step::*;
     let steps = [
         Waits(""),
@@ -166,12 +143,11 @@ fn takes_characters(rt: HostRuntime) -> Result<(), Fail> {
         Peek(None),
         Next(None),
     ];
-    play(&rt, rt.alloc(), &steps)?;
-    Ok(())
+    play(&rt, rt.alloc(), &steps);
 }
 
 #[test]
-fn push_back_after_less_and_more_than_half_was_taken(rt: HostRuntime) -> Result<(), Fail> {
+fn push_back_after_less_and_more_than_half_was_taken(rt: HostRuntime) {
     use Step::*;
     let steps = [
         Push("abcdéf"),
@@ -189,12 +165,11 @@ fn push_back_after_less_and_more_than_half_was_taken(rt: HostRuntime) -> Result<
         Push("k"),
         Run("k"),
     ];
-    play(&rt, rt.alloc(), &steps)?;
-    Ok(())
+    play(&rt, rt.alloc(), &steps);
 }
 
 #[test]
-fn push_front_puts_a_text_before_what_waits(rt: HostRuntime) -> Result<(), Fail> {
+fn push_front_puts_a_text_before_what_waits(rt: HostRuntime) {
     use Step::*;
     let steps = [
         PushFront(""),
@@ -213,7 +188,7 @@ fn push_front_puts_a_text_before_what_waits(rt: HostRuntime) -> Result<(), Fail>
         Run("longer than what was read>bcd"),
         Waits(""),
     ];
-    play(&rt, rt.alloc(), &steps)?;
+    play(&rt, rt.alloc(), &steps);
     let within_a_run = [
         Push("éàü<"),
         Next(Some('é')),
@@ -221,12 +196,11 @@ fn push_front_puts_a_text_before_what_waits(rt: HostRuntime) -> Result<(), Fail>
         Run("ñàü"),
         Member('<'),
     ];
-    play(&rt, rt.alloc(), &within_a_run)?;
-    Ok(())
+    play(&rt, rt.alloc(), &within_a_run);
 }
 
 #[test]
-fn a_text_comes_back_before_what_waits(rt: HostRuntime) -> Result<(), Fail> {
+fn a_text_comes_back_before_what_waits(rt: HostRuntime) {
     use Step::*;
     let steps = [
         GiveBack(""),
@@ -244,12 +218,11 @@ fn a_text_comes_back_before_what_waits(rt: HostRuntime) -> Result<(), Fail> {
         Next(Some('é')),
         Next(None),
     ];
-    play(&rt, rt.alloc(), &steps)?;
-    Ok(())
+    play(&rt, rt.alloc(), &steps);
 }
 
 #[test]
-fn what_waits_is_lent_and_skipped(rt: HostRuntime) -> Result<(), Fail> {
+fn what_waits_is_lent_and_skipped(rt: HostRuntime) {
     use Step::*;
     let steps = [
         Waits(""),
@@ -263,12 +236,11 @@ fn what_waits_is_lent_and_skipped(rt: HostRuntime) -> Result<(), Fail> {
         Skip(5),
         Waits(""),
     ];
-    play(&rt, rt.alloc(), &steps)?;
-    Ok(())
+    play(&rt, rt.alloc(), &steps);
 }
 
 #[test]
-fn a_pattern_is_eaten_once_all_of_it_waits(rt: HostRuntime) -> Result<(), Fail> {
+fn a_pattern_is_eaten_once_all_of_it_waits(rt: HostRuntime) {
     use Step::*;
     let steps = [
         Push("éDo"),
@@ -281,18 +253,16 @@ fn a_pattern_is_eaten_once_all_of_it_waits(rt: HostRuntime) -> Result<(), Fail> 
         Next(Some('€')),
         Eat("-", Case::Exact, None),
     ];
-    play(&rt, rt.alloc(), &steps)?;
-    Ok(())
+    play(&rt, rt.alloc(), &steps);
 }
 
 #[test]
-fn a_whole_text_is_moved_in_and_out(rt: HostRuntime) -> Result<(), Fail> {
+fn a_whole_text_is_moved_in_and_out(rt: HostRuntime) {
     let heap = Refusing::new(rt.alloc(), 1);
     let mut queue: BufferQueue<Heap> = BufferQueue::new(&heap);
-    assert!(rt; plays(&heap, &mut queue, Step::Push("a whole text"))?);
-    assert!(rt; plays(&heap, &mut queue, Step::Run("a whole text"))?);
+    assert!(rt; plays(&rt, &heap, &mut queue, Step::Push("a whole text")));
+    assert!(rt; plays(&rt, &heap, &mut queue, Step::Run("a whole text")));
     assert!(rt; !heap.has_refused());
-    Ok(())
 }
 
 // The next character.
@@ -300,77 +270,67 @@ fn next<A: Allocator>(queue: &mut BufferQueue<A>) -> Option<char> {
     queue.next()
 }
 
-// What `next` takes until the queue is empty.
-fn rest_of<A: Allocator>(alloc: Global, queue: &mut BufferQueue<A>) -> Result<String, AllocError> {
-    let mut rest = String::new(alloc);
-    for _ in 0..64 {
-        match next(queue) {
-            Some(c) => rest.push(c)?,
-            None => return Ok(rest),
-        }
+// Compares what `next` takes until the queue is empty.
+fn expect_rest<A: Allocator>(rt: &impl Abort, queue: &mut BufferQueue<A>, rest: &str) {
+    for c in rest.chars() {
+        assert_eq!(rt; next(queue), Some(c), "{rest}");
     }
-    Ok(rest)
+    assert_eq!(rt; next(queue), None, "{rest}");
 }
 
-// Hands in texts at both ends and takes a run, on a heap that refuses one request. What is refused comes back, and the
-// queue still gives what it held. Answers whether the queue was refused a growth; `None` where a text could not be made.
-fn refused_growth(
+const BACK: &str = "longer than was taken";
+
+const FRONT: &str = "x<é";
+
+// Hands in texts at both ends and takes a run. What is refused comes back. Answers whether the queue
+// was refused a growth, and what it must then hold.
+fn grow<'h>(
     rt: &impl Abort,
-    alloc: Global,
-    heap: Heap,
-    set: SmallCharSet,
-) -> Result<Option<bool>, AllocError> {
-    let Ok(first) = String::from_str(heap, "abéd") else {
-        return Ok(None);
-    };
-    let Ok(back) = String::from_str(heap, "longer than was taken") else {
-        return Ok(None);
-    };
-    let Ok(front) = String::from_str(heap, "x<é") else {
-        return Ok(None);
-    };
+    queue: &mut BufferQueue<Heap<'h>>,
+    back: String<Heap<'h>>,
+    front: String<Heap<'h>>,
+) -> (bool, &'static str) {
+    if let Err(back) = queue.push_back(back) {
+        assert_eq!(rt; back.as_str(), BACK);
+        return (true, "d");
+    }
+    if let Err(front) = queue.push_front(front) {
+        assert_eq!(rt; front.as_str(), FRONT);
+        return (true, "dlonger than was taken");
+    }
+    match queue.pop_except_from(SmallCharSet::of(b"<")) {
+        Ok(Some(SetResult::NotFromSet(run))) => {
+            assert_eq!(rt; run.as_str(), "x");
+            (false, "<édlonger than was taken")
+        }
+        Ok(_) => panic!(rt; "no run"),
+        Err(_) => (true, "x<édlonger than was taken"),
+    }
+}
+
+// Lets a queue grow on a heap that refuses one request, but has memory for the texts. Whatever is
+// refused, the queue still gives what it held. Answers whether it was refused a growth.
+fn refused_growth(rt: &impl Abort, heap: Heap) -> bool {
+    let first = made(rt, heap, "abéd");
+    let back = made(rt, heap, BACK);
+    let front = made(rt, heap, FRONT);
     let mut queue: BufferQueue<Heap> = BufferQueue::new(heap);
     assert!(rt; queue.push_back(first).is_ok());
     for c in ['a', 'b', 'é'] {
-        assert_eq!(rt; queue.next(), Some(c));
+        assert_eq!(rt; next(&mut queue), Some(c));
     }
-    if let Err(back) = queue.push_back(back) {
-        assert_eq!(rt; back.as_str(), "longer than was taken");
-        assert_eq!(rt; rest_of(alloc, &mut queue)?.as_str(), "d");
-        return Ok(Some(true));
-    }
-    if let Err(front) = queue.push_front(front) {
-        assert_eq!(rt; front.as_str(), "x<é");
-        assert_eq!(rt;
-            rest_of(alloc, &mut queue)?.as_str(),
-            "dlonger than was taken"
-        );
-        return Ok(Some(true));
-    }
-    let Ok(popped) = queue.pop_except_from(set) else {
-        assert_eq!(rt;
-            rest_of(alloc, &mut queue)?.as_str(),
-            "x<édlonger than was taken"
-        );
-        return Ok(Some(true));
-    };
-    assert!(rt; matches!(&popped, Some(SetResult::NotFromSet(run)) if run.as_str() == "x"));
-    assert_eq!(rt;
-        rest_of(alloc, &mut queue)?.as_str(),
-        "<édlonger than was taken"
-    );
-    Ok(Some(false))
+    let (is_refused, rest) = grow(rt, &mut queue, back, front);
+    expect_rest(rt, &mut queue, rest);
+    is_refused
 }
 
 #[test]
-fn a_refused_growth_leaves_the_queue(rt: HostRuntime) -> Result<(), Fail> {
-    let set = SmallCharSet::of(b"<");
+fn a_refused_growth_leaves_the_queue(rt: HostRuntime) {
     let mut refused = 0u64;
-    for admitted in 0..64u64 {
+    // Three requests are the texts.
+    for admitted in 3..64u64 {
         let heap = Refusing::new(rt.alloc(), admitted);
-        let Some(is_refused) = refused_growth(&rt, rt.alloc(), &heap, set)? else {
-            continue;
-        };
+        let is_refused = refused_growth(&rt, &heap);
         assert_eq!(rt; is_refused, heap.has_refused(), "after {admitted}");
         if !is_refused {
             break;
@@ -379,7 +339,6 @@ fn a_refused_growth_leaves_the_queue(rt: HostRuntime) -> Result<(), Fail> {
     }
     // A push at each end, and a run.
     assert_eq!(rt; refused, 3);
-    Ok(())
 }
 
 // Eats a pattern from each text, and compares the answer and what waits then.
@@ -389,21 +348,20 @@ fn expect_eaten(
     pat: &str,
     case: Case,
     wanted: &[(&str, Option<bool>, &str)],
-) -> Result<(), AllocError>
+)
     requires filled { pat.now ≢ [] }
     requires ascii { IsAscii pat.now }
 {
     for (text, answer, rest) in wanted {
         let mut queue = BufferQueue::new(alloc);
-        assert!(rt; queue.push_back(String::from_str(alloc, text)?).is_ok());
+        assert!(rt; queue.push_back(made(rt, alloc, text)).is_ok());
         assert_eq!(rt; queue.eat(pat, case), *answer, "{pat} from {text}");
         assert_eq!(rt; queue.front_text(), *rest, "{pat} from {text}");
     }
-    Ok(())
 }
 
 #[test]
-fn a_pattern_is_eaten_as_it_is(rt: HostRuntime) -> Result<(), Fail> {
+fn a_pattern_is_eaten_as_it_is(rt: HostRuntime) {
     let alloc = rt.alloc();
     let dashes = [
         ("", None, ""),
@@ -414,19 +372,18 @@ fn a_pattern_is_eaten_as_it_is(rt: HostRuntime) -> Result<(), Fail> {
         ("--x", Some(true), "x"),
         ("---é", Some(true), "-é"),
     ];
-    expect_eaten(&rt, alloc, "--", Case::Exact, &dashes)?;
+    expect_eaten(&rt, alloc, "--", Case::Exact, &dashes);
     let cdata = [
         ("[CDATA", None, "[CDATA"),
         ("[cdata[", Some(false), "[cdata["),
         ("[c", Some(false), "[c"),
         ("[CDATA[é", Some(true), "é"),
     ];
-    expect_eaten(&rt, alloc, "[CDATA[", Case::Exact, &cdata)?;
-    Ok(())
+    expect_eaten(&rt, alloc, "[CDATA[", Case::Exact, &cdata);
 }
 
 #[test]
-fn a_pattern_is_eaten_in_any_case(rt: HostRuntime) -> Result<(), Fail> {
+fn a_pattern_is_eaten_in_any_case(rt: HostRuntime) {
     let alloc = rt.alloc();
     let doctype = [
         ("DocTYPE h", Some(true), " h"),
@@ -435,12 +392,11 @@ fn a_pattern_is_eaten_in_any_case(rt: HostRuntime) -> Result<(), Fail> {
         ("DOX", Some(false), "DOX"),
         ("doé", Some(false), "doé"),
     ];
-    expect_eaten(&rt, alloc, "doctype", Case::IgnoreAscii, &doctype)?;
+    expect_eaten(&rt, alloc, "doctype", Case::IgnoreAscii, &doctype);
     // U+212A, which is a k in lower case but no letter of ASCII.
     let letter = [("K", Some(true), ""), ("\u{212a}", Some(false), "\u{212a}")];
-    expect_eaten(&rt, alloc, "k", Case::IgnoreAscii, &letter)?;
+    expect_eaten(&rt, alloc, "k", Case::IgnoreAscii, &letter);
     // As far from one another as a letter's cases.
     let bracket = [("{", Some(false), "{"), ("[", Some(true), "")];
-    expect_eaten(&rt, alloc, "[", Case::IgnoreAscii, &bracket)?;
-    Ok(())
+    expect_eaten(&rt, alloc, "[", Case::IgnoreAscii, &bracket);
 }

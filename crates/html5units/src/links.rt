@@ -1,10 +1,9 @@
-use crate::made::tag_of;
+use crate::made::{tag_of, text_of};
 use html5ever_interface::interface::sink::TokenSink;
-use html5ever_interface::interface::token::{SinkFault, Tag, TagKind, Token, TokenSinkResult};
+use html5ever_interface::interface::token::{SinkFault, Tag, TagKind, TokenSinkResult};
 use html5ever_interface::states::RawKind;
 use html5sinks::tags::{TagHandler, TagsOnly, is_start_of};
 use std::alloc::Allocator;
-use std::test::Fail;
 
 // The example of html5sinks' own text, word for word.
 #[derive(Drop)]
@@ -31,7 +30,7 @@ impl<A: Allocator> TagHandler<Tag<A>> for Links {
 }
 
 #[test]
-fn counts_links_and_reads_on_as_the_standard_does(rt: HostRuntime) -> Result<(), Fail> {
+fn counts_links_and_reads_on_as_the_standard_does(rt: HostRuntime) {
     let alloc = rt.alloc();
     let mut sink = TagsOnly::new(Links { count: 0 });
     let tags = [
@@ -65,24 +64,29 @@ fn counts_links_and_reads_on_as_the_standard_does(rt: HostRuntime) -> Result<(),
         ),
     ];
     for (kind, name, reply, count) in tags {
-        let answer = sink.process_token(tag_of(alloc, kind, name)?, 7);
+        let tag = tag_of(alloc, kind, name).expect(&rt, "memory");
+        let answer = sink.process_token(tag, 7);
         assert!(rt; answer == Ok(reply), "{name}");
         assert_eq!(rt; sink.handler().count, count, "{name}");
     }
-    let text = Token::CharacterTokens(String::from_str(alloc, "<a>")?);
-    assert!(rt; sink.process_token(text, 8) == Ok(TokenSinkResult::Continue));
     assert_eq!(rt; sink.into_inner().count, 2);
-    Ok(())
 }
 
 #[test]
-fn a_refused_tag_leaves_the_handler(rt: HostRuntime) -> Result<(), Fail> {
+fn a_text_counts_no_link(rt: HostRuntime) {
+    let mut sink = TagsOnly::new(Links { count: 1 });
+    let text = text_of(rt.alloc(), "<a>").expect(&rt, "memory");
+    assert!(rt; sink.process_token(text, 8) == Ok(TokenSinkResult::Continue));
+    assert_eq!(rt; sink.handler().count, 1);
+}
+
+#[test]
+fn a_refused_tag_leaves_the_handler(rt: HostRuntime) {
     let alloc = rt.alloc();
     let mut sink = TagsOnly::new(Links { count: u64::MAX });
-    let refused = sink.process_token(tag_of(alloc, TagKind::StartTag, "a")?, 1);
-    assert!(rt; refused == Err(SinkFault));
-    let taken = sink.process_token(tag_of(alloc, TagKind::StartTag, "b")?, 1);
-    assert!(rt; taken == Ok(TokenSinkResult::Continue));
+    for (name, reply) in [("a", Err(SinkFault)), ("b", Ok(TokenSinkResult::Continue))] {
+        let tag = tag_of(alloc, TagKind::StartTag, name).expect(&rt, "memory");
+        assert!(rt; sink.process_token(tag, 1) == reply, "{name}");
+    }
     assert_eq!(rt; sink.handler().count, u64::MAX);
-    Ok(())
 }

@@ -1,7 +1,6 @@
 use html5ever_interface::options::TokenizerOpts;
 use html5ever_interface::states::State;
 use std::alloc::Global;
-use std::test::Fail;
 
 #[test]
 fn options_drop_a_byte_order_mark_where_none_are_chosen(rt: HostRuntime) {
@@ -13,13 +12,13 @@ fn options_drop_a_byte_order_mark_where_none_are_chosen(rt: HostRuntime) {
 }
 
 #[test]
-fn clones_are_equal(rt: HostRuntime) -> Result<(), Fail> {
+fn clones_are_equal(rt: HostRuntime) {
+    let name = String::from_str(rt.alloc(), "textarea").expect(&rt, "memory");
     let opts = TokenizerOpts {
         exact_errors: true,
         discard_bom: false,
         initial_state: Some(State::CdataSection),
-        last_start_tag_name: Some(String::from_str(rt.alloc(), "textarea")?),
+        last_start_tag_name: Some(name),
     };
-    assert!(rt; opts.try_clone()? == opts);
-    Ok(())
+    assert!(rt; opts.try_clone().expect(&rt, "memory") == opts);
 }

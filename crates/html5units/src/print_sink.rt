@@ -3,9 +3,8 @@ use html5ever_interface::interface::sink::TokenSink;
 use html5ever_interface::interface::token::Token;
 use html5print::print_sink::PrintSink;
 use refusing::Refusing;
-use std::alloc::{AllocError, Allocator, Global};
+use std::alloc::{Allocator, Global};
 use std::process::Abort;
-use std::test::Fail;
 
 #[test]
 fn prints_the_last_line_of_all(rt: HostRuntime) {
@@ -41,16 +40,16 @@ fn is_printed<A: Allocator + Copy>(
     ample: Global,
     sink: &mut PrintSink<A>,
     token: Token<A>,
-) -> Result<bool, AllocError> {
-    let before = Vec::from_slice(ample, sink.page())?;
+) -> bool {
+    let before = Vec::from_slice(ample, sink.page()).expect(rt, "memory");
     let printed = sink.process_token(token, 10).is_ok();
     assert_eq!(rt; before.len() < sink.page().len(), printed);
     assert!(rt; sink.page().starts_with(&before));
-    Ok(printed)
+    printed
 }
 
 #[test]
-fn a_refused_growth_leaves_no_part_of_a_line(rt: HostRuntime) -> Result<(), Fail> {
+fn a_refused_growth_leaves_no_part_of_a_line(rt: HostRuntime) {
     let mut refused = 0u64;
     for admitted in 0..1000u64 {
         let heap = Refusing::new(rt.alloc(), admitted);
@@ -59,7 +58,7 @@ fn a_refused_growth_leaves_no_part_of_a_line(rt: HostRuntime) -> Result<(), Fail
         };
         let mut sink: PrintSink<&Refusing<Global>> = PrintSink::new(&heap, false);
         for token in tokens {
-            if !is_printed(&rt, rt.alloc(), &mut sink, token)? {
+            if !is_printed(&rt, rt.alloc(), &mut sink, token) {
                 refused = refused.wrapping_add(1);
                 assert!(rt; heap.has_refused(), "after {admitted}");
             }
@@ -69,5 +68,4 @@ fn a_refused_growth_leaves_no_part_of_a_line(rt: HostRuntime) -> Result<(), Fail
         }
     }
     assert!(rt; refused > 5);
-    Ok(())
 }

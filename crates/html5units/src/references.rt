@@ -1,7 +1,7 @@
 use markup5ever::data::{Entry, NamedReferences, TableError, c1_replacement};
 use refusing::Refusing;
 use std::alloc::{AllocError, Allocator, Global};
-use std::test::Fail;
+use std::process::Abort;
 
 type Heap<'h> = &'h Refusing<Global>;
 
@@ -33,92 +33,89 @@ fn entries_of<A: Allocator + Copy>(
     Ok(entries)
 }
 
-// The fault of these entries, if they have one.
-fn fault_of(alloc: Global, given: &[Given]) -> Result<Option<TableError>, AllocError> {
-    let entries = entries_of(alloc, given)?;
-    Ok(NamedReferences::check(alloc, entries).err())
+// Entries, and their first fault.
+type Row<'a> = (&'a [Given<'a>], Option<TableError>);
+
+// Compares the fault of each row's entries.
+fn expect_faults(rt: &impl Abort, alloc: Global, rows: &[Row]) {
+    for (given, fault) in rows {
+        let entries = entries_of(alloc, given).expect(rt, "memory");
+        let checked = NamedReferences::check(alloc, entries);
+        assert_eq!(rt; checked.err(), *fault, "{given:?}");
+    }
 }
 
 #[test]
-fn a_bad_name_is_found(rt: HostRuntime) -> Result<(), Fail> {
-    let alloc = rt.alloc();
+fn a_bad_name_is_found(rt: HostRuntime) {
     let bad_at = |place| Some(TableError::BadName(place));
-    assert_eq!(rt;
-        fault_of(alloc, &[("a", 'x', None), ("a;b", 'x', None)])?,
-        bad_at(1)
-    );
-    assert_eq!(rt; fault_of(alloc, &[("", 'x', None)])?, bad_at(0));
-    assert_eq!(rt; fault_of(alloc, &[(";", 'x', None)])?, bad_at(0));
-    assert_eq!(rt; fault_of(alloc, &[("a;;", 'x', None)])?, bad_at(0));
-    assert_eq!(rt; fault_of(alloc, &[("é", 'x', None)])?, bad_at(0));
-    assert_eq!(rt; fault_of(alloc, &[("&amp", 'x', None)])?, bad_at(0));
-    Ok(())
+    let rows: [Row; 6] = [
+        (&[("a", 'x', None), ("a;b", 'x', None)], bad_at(1)),
+        (&[("", 'x', None)], bad_at(0)),
+        (&[(";", 'x', None)], bad_at(0)),
+        (&[("a;;", 'x', None)], bad_at(0)),
+        (&[("é", 'x', None)], bad_at(0)),
+        (&[("&amp", 'x', None)], bad_at(0)),
+    ];
+    expect_faults(&rt, rt.alloc(), &rows);
 }
 
 #[test]
-fn a_character_zero_is_found(rt: HostRuntime) -> Result<(), Fail> {
-    let alloc = rt.alloc();
+fn a_character_zero_is_found(rt: HostRuntime) {
     let zero_at = |place| Some(TableError::ZeroCharacter(place));
-    assert_eq!(rt; fault_of(alloc, &[("a", '\0', None)])?, zero_at(0));
-    assert_eq!(rt; fault_of(alloc, &[("a", 'x', Some('\0'))])?, zero_at(0));
-    assert_eq!(rt;
-        fault_of(alloc, &[("a", 'x', Some('0')), ("b;", '\0', Some('x'))])?,
-        zero_at(1)
-    );
-    Ok(())
+    let rows: [Row; 3] = [
+        (&[("a", '\0', None)], zero_at(0)),
+        (&[("a", 'x', Some('\0'))], zero_at(0)),
+        (
+            &[("a", 'x', Some('0')), ("b;", '\0', Some('x'))],
+            zero_at(1),
+        ),
+    ];
+    expect_faults(&rt, rt.alloc(), &rows);
 }
 
 #[test]
-fn a_repeated_name_is_found(rt: HostRuntime) -> Result<(), Fail> {
-    let alloc = rt.alloc();
+fn a_repeated_name_is_found(rt: HostRuntime) {
     let repeated_at = |place| Some(TableError::RepeatedName(place));
-    assert_eq!(rt;
-        fault_of(alloc, &[("a", 'x', None), ("a", 'y', None)])?,
-        repeated_at(1)
-    );
-    assert_eq!(rt;
-        fault_of(
-            alloc,
-            &[("b", 'x', None), ("a", 'x', None), ("b", 'x', None)]
-        )?,
-        repeated_at(2)
-    );
-    assert_eq!(rt;
-        fault_of(
-            alloc,
-            &[("a", 'x', None), ("a;", 'x', None), ("A", 'x', None)]
-        )?,
-        None
-    );
-    assert_eq!(rt; fault_of(alloc, &[])?, None);
-    Ok(())
+    let rows: [Row; 4] = [
+        (&[("a", 'x', None), ("a", 'y', None)], repeated_at(1)),
+        (
+            &[("b", 'x', None), ("a", 'x', None), ("b", 'x', None)],
+            repeated_at(2),
+        ),
+        (
+            &[("a", 'x', None), ("a;", 'x', None), ("A", 'x', None)],
+            None,
+        ),
+        (&[], None),
+    ];
+    expect_faults(&rt, rt.alloc(), &rows);
 }
 
 #[test]
-fn the_first_fault_is_answered(rt: HostRuntime) -> Result<(), Fail> {
-    let alloc = rt.alloc();
-    assert_eq!(rt;
-        fault_of(alloc, &[("a;b", '\0', None)])?,
-        Some(TableError::BadName(0))
-    );
-    assert_eq!(rt;
-        fault_of(alloc, &[("a", 'x', None), ("a", '\0', None)])?,
-        Some(TableError::ZeroCharacter(1))
-    );
-    assert_eq!(rt;
-        fault_of(
-            alloc,
-            &[("a", 'x', None), ("a", 'x', None), ("", 'x', None)]
-        )?,
-        Some(TableError::RepeatedName(1))
-    );
-    Ok(())
+fn the_first_fault_is_answered(rt: HostRuntime) {
+    let rows: [Row; 3] = [
+        (&[("a;b", '\0', None)], Some(TableError::BadName(0))),
+        (
+            &[("a", 'x', None), ("a", '\0', None)],
+            Some(TableError::ZeroCharacter(1)),
+        ),
+        (
+            &[("a", 'x', None), ("a", 'x', None), ("", 'x', None)],
+            Some(TableError::RepeatedName(1)),
+        ),
+    ];
+    expect_faults(&rt, rt.alloc(), &rows);
+}
+
+// The table of these entries, which have no fault.
+fn table_of(rt: &impl Abort, alloc: Global, given: &[Given]) -> NamedReferences {
+    let entries = entries_of(alloc, given).expect(rt, "memory");
+    NamedReferences::check(alloc, entries).expect(rt, "a table")
 }
 
 #[test]
-fn a_name_gives_its_characters(rt: HostRuntime) -> Result<(), Fail> {
-    let alloc = rt.alloc();
-    let table = NamedReferences::check(alloc, entries_of(alloc, &PROFILE)?)?;
+fn a_name_gives_its_characters(rt: HostRuntime) {
+    let table = table_of(&rt, rt.alloc(), &PROFILE);
     for (name, first, second) in PROFILE {
         assert_eq!(rt; table.get(name), Some((first, second)), "{name}");
     }
@@ -127,27 +124,28 @@ fn a_name_gives_its_characters(rt: HostRuntime) -> Result<(), Fail> {
     for name in ["noti", "notin", "", "nGt", "ngt;", "amp;x", "z"] {
         assert_eq!(rt; table.get(name), None, "{name}");
     }
-    Ok(())
 }
 
 #[test]
-fn a_beginning_of_a_name_is_known(rt: HostRuntime) -> Result<(), Fail> {
-    let alloc = rt.alloc();
-    let table = NamedReferences::check(alloc, entries_of(alloc, &PROFILE)?)?;
+fn a_beginning_of_a_name_is_known(rt: HostRuntime) {
+    let table = table_of(&rt, rt.alloc(), &PROFILE);
     for text in ["", "a", "amp", "amp;", "noti", "n", "nG", "quot;"] {
         assert!(rt; table.is_prefix(text), "{text}");
     }
     for text in ["notx", "amp;x", "b", "nH", "z", ";", "é"] {
         assert!(rt; !table.is_prefix(text), "{text}");
     }
-    let empty = NamedReferences::check(alloc, Vec::new(alloc))?;
-    assert!(rt; !empty.is_prefix(""));
-    assert_eq!(rt; empty.get(""), None);
-    Ok(())
 }
 
 #[test]
-fn a_refused_growth_is_told(rt: HostRuntime) -> Result<(), Fail> {
+fn an_empty_table_has_no_name(rt: HostRuntime) {
+    let empty = table_of(&rt, rt.alloc(), &[]);
+    assert!(rt; !empty.is_prefix(""));
+    assert_eq!(rt; empty.get(""), None);
+}
+
+#[test]
+fn a_refused_growth_is_told(rt: HostRuntime) {
     let alloc = rt.alloc();
     let mut refused = 0u64;
     for admitted in 0..64u64 {
@@ -171,18 +169,21 @@ fn a_refused_growth_is_told(rt: HostRuntime) -> Result<(), Fail> {
     }
     // The table's memory is taken at once.
     assert_eq!(rt; refused, 1);
-    Ok(())
 }
 
 #[test]
-fn some_controls_stand_for_other_characters(rt: HostRuntime) -> Result<(), Fail> {
-    assert_eq!(rt; c1_replacement(0x80), Some('€'));
-    assert_eq!(rt; c1_replacement(0x81), None);
-    assert_eq!(rt; c1_replacement(0x8A), Some('Š'));
-    assert_eq!(rt; c1_replacement(0x9D), None);
-    assert_eq!(rt; c1_replacement(0x9F), Some('Ÿ'));
-    assert_eq!(rt; c1_replacement(0x7F), None);
-    assert_eq!(rt; c1_replacement(0xA0), None);
-    assert_eq!(rt; c1_replacement(0), None);
-    Ok(())
+fn some_controls_stand_for_other_characters(rt: HostRuntime) {
+    let rows = [
+        (0x80, Some('€')),
+        (0x81, None),
+        (0x8A, Some('Š')),
+        (0x9D, None),
+        (0x9F, Some('Ÿ')),
+        (0x7F, None),
+        (0xA0, None),
+        (0, None),
+    ];
+    for (number, c) in rows {
+        assert_eq!(rt; c1_replacement(number), c, "{number:x}");
+    }
 }

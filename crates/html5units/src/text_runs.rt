@@ -6,7 +6,6 @@ use html5sinks::text_runs::{ReplyingRunHandler, RunHandler, TextRuns};
 use refusing::Refusing;
 use std::alloc::{AllocError, Allocator, Global};
 use std::process::Abort;
-use std::test::Fail;
 
 // Keeps the last run, with what ended it. It takes no end tag.
 #[derive(Drop)]
@@ -58,7 +57,7 @@ impl<A: Allocator> RunHandler<Token<A>> for LastRun<A> {
 }
 
 #[test]
-fn hands_whole_runs_on(rt: HostRuntime) -> Result<(), Fail> {
+fn hands_whole_runs_on(rt: HostRuntime) {
     let alloc = rt.alloc();
     let last = String::new(alloc);
     let mut sink = TextRuns::new(alloc, LastRun { last });
@@ -79,14 +78,22 @@ fn hands_whole_runs_on(rt: HostRuntime) -> Result<(), Fail> {
     ];
     let mut row = 0u64;
     for (kind, text, last) in tokens {
-        let kept_on = told(&mut sink, token_of(alloc, kind, text)?, 1);
+        let token = token_of(alloc, kind, text).expect(&rt, "memory");
+        let kept_on = told(&mut sink, token, 1);
         assert_eq!(rt; kept_on, kind != "end tag", "at row {row}");
         assert!(rt; sink.handler().is(last), "at row {row}");
         row = row.wrapping_add(1);
     }
-    let reply = sink.process_token(tag_of(alloc, TagKind::StartTag, "script")?, 1);
+}
+
+#[test]
+fn replies_as_the_standard_does(rt: HostRuntime) {
+    let alloc = rt.alloc();
+    let last = String::new(alloc);
+    let mut sink = TextRuns::new(alloc, LastRun { last });
+    let tag = tag_of(alloc, TagKind::StartTag, "script").expect(&rt, "memory");
+    let reply = sink.process_token(tag, 1);
     assert!(rt; reply == Ok(TokenSinkResult::RawData(RawKind::ScriptData)));
-    Ok(())
 }
 
 // Keeps the length of the last run, and asks to run a script behind each tag.
@@ -123,37 +130,55 @@ impl<A: Allocator> ReplyingRunHandler<Token<A>> for Length {
     }
 }
 
+// Hands a sink a text, made on an ample heap. Answers whether it took it.
+fn takes_text<A: Allocator + Copy>(
+    rt: &impl Abort,
+    ample: A,
+    sink: &mut TextRuns<Length, A>,
+) -> bool {
+    told(
+        sink,
+        text_of(ample, "some text of a run").expect(rt, "memory"),
+        1,
+    )
+}
+
+// Hands a sink a start tag, which asks to run a script.
+fn take_tag<A: Allocator + Copy>(rt: &impl Abort, ample: A, sink: &mut TextRuns<Length, A>) {
+    let tag = tag_of(ample, TagKind::StartTag, "p").expect(rt, "memory");
+    let reply = sink.process_token(tag, 1);
+    assert!(rt; reply == Ok(TokenSinkResult::Script(7)));
+}
+
 // Hands a sink on a heap that may refuse a request texts, and one on an ample heap those that the first
 // one took: both have the same runs. Answers how many were refused.
-fn refusals<A: Allocator + Copy>(rt: &impl Abort, heap: A, ample: A) -> Result<u64, AllocError> {
+fn refusals<A: Allocator + Copy>(rt: &impl Abort, heap: A, ample: A) -> u64 {
     let mut sink = TextRuns::with_foreign(heap, Length { bytes: 0 }, true);
     let mut second = TextRuns::new(ample, Length { bytes: 0 });
     let mut refused = 0u64;
     for _ in 0..20u64 {
-        if told(&mut sink, text_of(ample, "some text of a run")?, 1) {
-            assert!(rt; told(&mut second, text_of(ample, "some text of a run")?, 1));
+        if takes_text(rt, ample, &mut sink) {
+            assert!(rt; takes_text(rt, ample, &mut second));
         } else {
             refused = refused.wrapping_add(1);
         }
     }
-    let reply = sink.process_token(tag_of(ample, TagKind::StartTag, "p")?, 1);
-    assert!(rt; reply == Ok(TokenSinkResult::Script(7)));
-    let same = second.process_token(tag_of(ample, TagKind::StartTag, "p")?, 1);
-    assert!(rt; same.is_ok());
+    take_tag(rt, ample, &mut sink);
+    take_tag(rt, ample, &mut second);
     assert!(rt; sink.handler().bytes > 300);
     assert_eq!(rt; sink.handler().bytes, second.handler().bytes);
     assert!(rt; says_foreign(&sink));
     assert!(rt; !says_foreign(&second));
-    Ok(refused)
+    refused
 }
 
 #[test]
-fn a_refused_growth_leaves_the_run(rt: HostRuntime) -> Result<(), Fail> {
+fn a_refused_growth_leaves_the_run(rt: HostRuntime) {
     let ample = Refusing::new(rt.alloc(), u64::MAX);
     let mut refused = 0u64;
     for admitted in 0..100u64 {
         let heap = Refusing::new(rt.alloc(), admitted);
-        let count = refusals(&rt, &heap, &ample)?;
+        let count = refusals(&rt, &heap, &ample);
         assert_eq!(rt; count > 0, heap.has_refused(), "after {admitted}");
         refused = refused.wrapping_add(count);
         if count == 0 {
@@ -161,5 +186,4 @@ fn a_refused_growth_leaves_the_run(rt: HostRuntime) -> Result<(), Fail> {
         }
     }
     assert!(rt; refused > 1);
-    Ok(())
 }

@@ -1,15 +1,14 @@
 use crate::made::{attribute_of, bare_tag};
 use html5ever_interface::interface::token::{Doctype, Tag, TagKind};
-use std::alloc::{AllocError, Allocator, Global};
-use std::test::Fail;
+use std::alloc::{AllocError, Global};
+use std::process::Abort;
 
-// A start tag with these names and values of attributes.
-fn start_tag<A: Allocator + Copy>(
-    alloc: A,
-    name: &str,
-    attributes: &[(&str, &str)],
-) -> Result<Tag<A>, AllocError> {
-    let mut tag = bare_tag(alloc, TagKind::StartTag, name)?;
+// A tag as it is listed: its kind, its name, and its attributes by name and value.
+type Listed<'a> = (TagKind, &'a str, &'a [(&'a str, &'a str)]);
+
+fn tag_of(alloc: Global, listed: Listed) -> Result<Tag, AllocError> {
+    let (kind, name, attributes) = listed;
+    let mut tag = bare_tag(alloc, kind, name)?;
     for (name, value) in attributes {
         tag.attrs.push(attribute_of(alloc, None, name, value)?)?;
     }
@@ -25,44 +24,74 @@ fn a_doctype_is_empty_at_first(rt: HostRuntime) {
     assert!(rt; !doctype.force_quirks);
 }
 
+const TAG: Listed<'static> = (TagKind::StartTag, "a", &[("x", "1"), ("y", "2")]);
+
+const TURNED: Listed<'static> = (TagKind::StartTag, "a", &[("y", "2"), ("x", "1")]);
+
+// Compares two tags in both orders.
+fn check_pair(rt: &impl Abort, alloc: Global, pair: (Listed, Listed), expected: bool) {
+    let tag = tag_of(alloc, pair.0).expect(rt, "memory");
+    let other = tag_of(alloc, pair.1).expect(rt, "memory");
+    assert_eq!(rt; tag.equiv_modulo_attr_order(&other), expected);
+    assert_eq!(rt; other.equiv_modulo_attr_order(&tag), expected);
+}
+
 #[test]
-fn the_order_of_attributes_and_the_flags_are_neglected(rt: HostRuntime) -> Result<(), Fail> {
-    let alloc = rt.alloc();
-    let tag = start_tag(alloc, "a", &[("x", "1"), ("y", "2")])?;
-    let mut other = start_tag(alloc, "a", &[("y", "2"), ("x", "1")])?;
+fn the_flags_are_neglected(rt: HostRuntime) {
+    let tag = tag_of(rt.alloc(), TAG).expect(&rt, "memory");
+    let mut other = tag_of(rt.alloc(), TURNED).expect(&rt, "memory");
     other.self_closing = true;
     assert!(rt; tag.equiv_modulo_attr_order(&other));
     other.had_duplicate_attributes = true;
     assert!(rt; tag.equiv_modulo_attr_order(&other));
-    let empty = start_tag(alloc, "a", &[])?;
-    assert!(rt; empty.equiv_modulo_attr_order(&start_tag(alloc, "a", &[])?));
-    Ok(())
 }
 
 #[test]
-fn all_else_of_a_tag_counts(rt: HostRuntime) -> Result<(), Fail> {
-    let alloc = rt.alloc();
-    let tag = start_tag(alloc, "a", &[("x", "1"), ("y", "2")])?;
-    let name = start_tag(alloc, "b", &[("x", "1"), ("y", "2")])?;
-    assert!(rt; !tag.equiv_modulo_attr_order(&name));
-    let mut kind = start_tag(alloc, "a", &[("x", "1"), ("y", "2")])?;
-    kind.kind = TagKind::EndTag;
-    assert!(rt; !tag.equiv_modulo_attr_order(&kind));
-    let more = start_tag(alloc, "a", &[("x", "1"), ("y", "2"), ("z", "3")])?;
-    assert!(rt; !tag.equiv_modulo_attr_order(&more));
-    assert!(rt; !more.equiv_modulo_attr_order(&tag));
-    let value = start_tag(alloc, "a", &[("x", "1"), ("y", "3")])?;
-    assert!(rt; !tag.equiv_modulo_attr_order(&value));
-    Ok(())
+fn the_order_of_attributes_is_neglected(rt: HostRuntime) {
+    let empty: Listed = (TagKind::StartTag, "a", &[]);
+    let repeated: Listed = (
+        TagKind::StartTag,
+        "a",
+        &[("x", "1"), ("x", "1"), ("y", "2")],
+    );
+    let turned: Listed = (
+        TagKind::StartTag,
+        "a",
+        &[("y", "2"), ("x", "1"), ("x", "1")],
+    );
+    for pair in [(TAG, TURNED), (empty, empty), (repeated, turned)] {
+        check_pair(&rt, rt.alloc(), pair, true);
+    }
 }
 
 #[test]
-fn each_attribute_counts_as_often_as_it_stands(rt: HostRuntime) -> Result<(), Fail> {
-    let alloc = rt.alloc();
-    let first_twice = start_tag(alloc, "a", &[("x", "1"), ("x", "1"), ("y", "2")])?;
-    let second_twice = start_tag(alloc, "a", &[("x", "1"), ("y", "2"), ("y", "2")])?;
-    assert!(rt; !first_twice.equiv_modulo_attr_order(&second_twice));
-    let turned = start_tag(alloc, "a", &[("y", "2"), ("x", "1"), ("x", "1")])?;
-    assert!(rt; first_twice.equiv_modulo_attr_order(&turned));
-    Ok(())
+fn all_else_of_a_tag_counts(rt: HostRuntime) {
+    let others: [Listed; 4] = [
+        (TagKind::StartTag, "b", &[("x", "1"), ("y", "2")]),
+        (TagKind::EndTag, "a", &[("x", "1"), ("y", "2")]),
+        (
+            TagKind::StartTag,
+            "a",
+            &[("x", "1"), ("y", "2"), ("z", "3")],
+        ),
+        (TagKind::StartTag, "a", &[("x", "1"), ("y", "3")]),
+    ];
+    for other in others {
+        check_pair(&rt, rt.alloc(), (TAG, other), false);
+    }
+}
+
+#[test]
+fn each_attribute_counts_as_often_as_it_stands(rt: HostRuntime) {
+    let first_twice: Listed = (
+        TagKind::StartTag,
+        "a",
+        &[("x", "1"), ("x", "1"), ("y", "2")],
+    );
+    let second_twice: Listed = (
+        TagKind::StartTag,
+        "a",
+        &[("x", "1"), ("y", "2"), ("y", "2")],
+    );
+    check_pair(&rt, rt.alloc(), (first_twice, second_twice), false);
 }

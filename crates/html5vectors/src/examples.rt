@@ -1,37 +1,23 @@
 //! What README.md shows of the library.
-use crate::lines::lines_of;
+use crate::running::expect_finished;
 use crate::sinks::Steering;
 use html5examples::{few_names, read_with_script, tokens_of};
-use markup5ever::data::NamedReferences;
-use std::alloc::{AllocError, Global};
-use std::test::Fail;
 
-// The example's table, which has no fault.
-fn names_of(alloc: Global) -> Result<NamedReferences, AllocError> {
-    match few_names(alloc) {
-        Ok(names) => Ok(names),
-        Err(_) => Err(AllocError),
-    }
+#[test]
+fn tells_what_two_pieces_tell(rt: HostRuntime) {
+    let alloc = rt.alloc();
+    let first = String::from_str(alloc, "<p cla").expect(&rt, "memory");
+    let second = String::from_str(alloc, "ss=a>1 &lt; 2").expect(&rt, "memory");
+    let names = few_names(alloc).expect(&rt, "the table");
+    let sink = tokens_of(alloc, &names, first, second).expect(&rt, "the tokens");
+    let lines = "start 1 \"p\" \"class\"=\"a\"\ntext \"1 < 2\"\neof 1";
+    expect_finished(&rt, alloc, &sink, lines);
 }
 
 #[test]
-fn tells_what_two_pieces_tell(rt: HostRuntime) -> Result<(), Fail> {
+fn puts_in_what_a_script_wrote(rt: HostRuntime) {
     let alloc = rt.alloc();
-    let first = String::from_str(alloc, "<p cla")?;
-    let second = String::from_str(alloc, "ss=a>1 &lt; 2")?;
-    let names = names_of(alloc)?;
-    let sink = tokens_of(alloc, &names, first, second)?;
-    assert!(rt; sink.is_finished());
-    assert_eq!(rt;
-        lines_of(alloc, sink.entries())?.as_str(),
-        "start 1 \"p\" \"class\"=\"a\"\ntext \"1 < 2\"\neof 1"
-    );
-    Ok(())
-}
-
-#[test]
-fn puts_in_what_a_script_wrote(rt: HostRuntime) -> Result<(), Fail> {
-    let alloc = rt.alloc();
+    let names = few_names(alloc).expect(&rt, "the table");
     let cases = [
         (
             "a<s>\r\nx<s>y",
@@ -40,12 +26,9 @@ fn puts_in_what_a_script_wrote(rt: HostRuntime) -> Result<(), Fail> {
         ("a", "text \"a\"\neof 1"),
     ];
     for (text, lines) in cases {
-        let text = String::from_str(alloc, text)?;
-        let written = String::from_str(alloc, "<b>")?;
-        let names = names_of(alloc)?;
-        let sink = read_with_script(alloc, Steering::new(alloc), &names, text, written)?;
-        assert!(rt; sink.inner.is_finished(), "{lines}");
-        assert_eq!(rt; lines_of(alloc, sink.inner.entries())?.as_str(), lines);
+        let text = String::from_str(alloc, text).expect(&rt, "memory");
+        let written = String::from_str(alloc, "<b>").expect(&rt, "memory");
+        let sink = read_with_script(alloc, Steering::new(alloc), &names, text, written);
+        expect_finished(&rt, alloc, &sink.expect(&rt, "the tokens").inner, lines);
     }
-    Ok(())
 }

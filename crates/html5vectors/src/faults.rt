@@ -2,13 +2,13 @@
 use crate::calls::{begin, end, feed};
 use crate::names::profile;
 use crate::refused::check_refused;
-use crate::running::{feeds_whole, options, push_text};
+use crate::running::{feed_whole, options, push_text};
 use crate::sinks::FaultySink;
 use html5ever::TokenizerError;
 use markup5ever::buffer_queue::BufferQueue;
-use std::alloc::{AllocError, Global};
+use markup5ever::data::NamedReferences;
+use std::alloc::Global;
 use std::process::Abort;
-use std::test::Fail;
 
 // A text and whether it is plain, how many of its tokens are taken, whether one of them is no text,
 // and what the queue keeps.
@@ -41,34 +41,26 @@ const STOPS: [Stop<'static>; 23] = [
 ];
 
 // Feeds a text to a sink that faults.
-fn check_stop(rt: &impl Abort, alloc: Global, stop: Stop) -> Result<(), AllocError> {
+fn check_stop(rt: &impl Abort, alloc: Global, names: &NamedReferences, stop: Stop) {
     let (text, plain, taken, took_another, left) = stop;
-    let opts = options(false, plain);
-    let names = profile(alloc)?;
-    let mut tokenizer = begin(alloc, FaultySink::new(taken, false), opts, &names);
+    let sink = FaultySink::new(taken, false);
+    let mut tokenizer = begin(alloc, sink, options(false, plain), names);
     let mut queue = BufferQueue::new(alloc);
-    push_text(alloc, &mut queue, text)?;
-    assert_eq!(rt;
-        feed(&mut tokenizer, &mut queue),
-        Err(TokenizerError::Sink),
-        "{text} at {taken}"
-    );
+    push_text(alloc, &mut queue, text).expect(rt, "memory");
+    let fed = feed(&mut tokenizer, &mut queue);
+    assert_eq!(rt; fed, Err(TokenizerError::Sink), "{text} at {taken}");
     check_refused(rt, &mut tokenizer, &mut queue, text);
     assert_eq!(rt; queue.front_text(), left, "{text} at {taken}");
-    assert_eq!(rt;
-        tokenizer.sink.took_another,
-        took_another,
-        "{text} at {taken}"
-    );
-    Ok(())
+    let took = tokenizer.sink.took_another;
+    assert_eq!(rt; took, took_another, "{text} at {taken}");
 }
 
 #[test]
-fn stops_where_the_sink_faults(rt: HostRuntime) -> Result<(), Fail> {
+fn stops_where_the_sink_faults(rt: HostRuntime) {
+    let names = profile(rt.alloc()).expect(&rt, "memory");
     for stop in STOPS {
-        check_stop(&rt, rt.alloc(), stop)?;
+        check_stop(&rt, rt.alloc(), &names, stop);
     }
-    Ok(())
 }
 
 // A text and whether it is plain, how many of its tokens are taken, whether one of them is no text,
@@ -93,34 +85,23 @@ const END_STOPS: [EndStop<'static>; 14] = [
 ];
 
 // Feeds a text whole. At its end the sink faults.
-fn check_end(rt: &impl Abort, alloc: Global, stop: EndStop) -> Result<(), AllocError> {
+fn check_end(rt: &impl Abort, alloc: Global, names: &NamedReferences, stop: EndStop) {
     let (text, plain, taken, took_another, end_faults) = stop;
-    let opts = options(false, plain);
-    let names = profile(alloc)?;
-    let mut tokenizer = begin(alloc, FaultySink::new(taken, end_faults), opts, &names);
+    let sink = FaultySink::new(taken, end_faults);
+    let mut tokenizer = begin(alloc, sink, options(false, plain), names);
     let mut queue = BufferQueue::new(alloc);
-    assert!(rt;
-        feeds_whole(alloc, &mut tokenizer, &mut queue, text)?,
-        "{text} at {taken}"
-    );
-    assert_eq!(rt;
-        end(&mut tokenizer),
-        Err(TokenizerError::Sink),
-        "{text} at {taken}"
-    );
+    feed_whole(rt, alloc, &mut tokenizer, &mut queue, text);
+    let ended = end(&mut tokenizer);
+    assert_eq!(rt; ended, Err(TokenizerError::Sink), "{text} at {taken}");
     check_refused(rt, &mut tokenizer, &mut queue, text);
-    assert_eq!(rt;
-        tokenizer.sink.took_another,
-        took_another,
-        "{text} at {taken}"
-    );
-    Ok(())
+    let took = tokenizer.sink.took_another;
+    assert_eq!(rt; took, took_another, "{text} at {taken}");
 }
 
 #[test]
-fn stops_where_the_sink_faults_at_the_end(rt: HostRuntime) -> Result<(), Fail> {
+fn stops_where_the_sink_faults_at_the_end(rt: HostRuntime) {
+    let names = profile(rt.alloc()).expect(&rt, "memory");
     for stop in END_STOPS {
-        check_end(&rt, rt.alloc(), stop)?;
+        check_end(&rt, rt.alloc(), &names, stop);
     }
-    Ok(())
 }

@@ -13,16 +13,16 @@ use markup5ever::buffer_queue::BufferQueue;
 use refusing::Refusing;
 use std::alloc::{AllocError, Global};
 use std::process::Abort;
-use std::test::Fail;
 
-// A heap that refuses a request, and a tokenizer on it.
-type Heap<'h> = &'h Refusing<Global>;
+/// A heap that refuses a request.
+pub type Heap<'h> = &'h Refusing<Global>;
 
-type TokenizerOn<'t, 'h> = Tokenizer<'t, Collector<Heap<'h>>, Heap<'h>>;
+/// What was told, and why a call was refused.
+pub type Told = (String, Option<TokenizerError>);
 
 // Reads the text that waits, and its end.
 fn read_all<'h>(
-    tokenizer: &mut TokenizerOn<'_, 'h>,
+    tokenizer: &mut Tokenizer<'_, Collector<Heap<'h>>, Heap<'h>>,
     queue: &mut BufferQueue<Heap<'h>>,
 ) -> Result<(), TokenizerError>
     requires going_on { tokenizer.old.ended ≡ false }
@@ -31,32 +31,29 @@ fn read_all<'h>(
     end(tokenizer)
 }
 
-// Reads a text on the heap. Answers what was told, and why a call was refused; `None` where the text
-// itself could not be handed in.
-fn told_on(
+// Reads a text on the heap, which has memory for the text itself.
+fn told_on<'h>(
     rt: &impl Abort,
-    ample: Global,
-    heap: Heap,
+    alloc: Global,
+    heap: Heap<'h>,
+    ample: Heap<'h>,
     text: &str,
-) -> Result<Option<(String, Option<TokenizerError>)>, AllocError> {
+) -> Told {
+    let names = profile(ample).expect(rt, "memory");
     let mut queue = BufferQueue::new(heap);
-    if push_text(heap, &mut queue, text).is_err() {
-        return Ok(None);
-    }
-    let opts = options(false, false);
-    let Ok(names) = profile(heap) else {
-        return Ok(None);
-    };
-    let mut tokenizer = begin(heap, Collector::new(heap, true), opts, &names);
+    push_text(heap, &mut queue, text).expect(rt, "memory for the text");
+    let sink = Collector::new(heap, true);
+    let mut tokenizer = begin(heap, sink, options(false, false), &names);
     let refused = read_all(&mut tokenizer, &mut queue).err();
     if refused.is_some() {
         check_refused(rt, &mut tokenizer, &mut queue, text);
     }
-    Ok(Some((lines_of(ample, tokenizer.sink.entries())?, refused)))
+    let told = lines_of(alloc, tokenizer.sink.entries()).expect(rt, "memory");
+    (told, refused)
 }
 
-/// Whether the lines are the first ones of others.
-pub fn is_beginning(alloc: Global, lines: &str, others: &str) -> Result<bool, AllocError> {
+// Whether the lines are the first ones of others.
+fn is_beginning(alloc: Global, lines: &str, others: &str) -> Result<bool, AllocError> {
     let mut ended = String::from_str(alloc, lines)?;
     if !lines.is_empty() {
         ended.push('\n')?;
@@ -66,49 +63,37 @@ pub fn is_beginning(alloc: Global, lines: &str, others: &str) -> Result<bool, Al
     Ok(whole.as_str().starts_with(ended.as_str()))
 }
 
-// Refuses each request of a reading in turn, until none is left: some in the tokenizer, some in its
-// sink.
-fn check_refusals(
-    rt: &impl Abort,
-    alloc: Global,
-    text: &str,
-    lines: &str,
-) -> Result<(), AllocError> {
+/// Compares what was told with the lines of the whole: all of them, or a beginning where a request was
+/// refused.
+pub fn expect_beginning(rt: &impl Abort, alloc: Global, heap: Heap, told: &Told, lines: &str) {
+    let (told, refused) = told;
+    assert_eq!(rt; refused.is_some(), heap.has_refused(), "{lines}");
+    if refused.is_none() {
+        assert_eq!(rt; told.as_str(), lines);
+    }
+    let begins = is_beginning(alloc, told, lines).expect(rt, "memory");
+    assert!(rt; begins, "{told}");
+}
+
+// Refuses each request of a reading in turn, until none is left. Answers how many of them the tokenizer
+// made, and how many its sink.
+fn refusals_of(rt: &impl Abort, alloc: Global, text: &str, lines: &str) -> (u64, u64) {
     let mut in_tokenizer = 0u64;
     let mut in_sink = 0u64;
-    let mut is_whole = false;
-    for admitted in 0..1000u64 {
+    // The first request is the text itself.
+    for admitted in 1..1000u64 {
         let heap = Refusing::new(alloc, admitted);
-        let Some((told, refused)) = told_on(rt, alloc, &heap, text)? else {
-            continue;
-        };
-        assert_eq!(rt;
-            refused.is_some(),
-            heap.has_refused(),
-            "{text} after {admitted}"
-        );
-        assert!(rt;
-            is_beginning(alloc, &told, lines)?,
-            "{text} after {admitted}: {told}"
-        );
-        match refused {
+        let ample = Refusing::new(alloc, u64::MAX);
+        let told = told_on(rt, alloc, &heap, &ample, text);
+        expect_beginning(rt, alloc, &heap, &told, lines);
+        match told.1 {
             Some(TokenizerError::Memory) => in_tokenizer = in_tokenizer.wrapping_add(1),
-            Some(error) => {
-                assert_eq!(rt; error, TokenizerError::Sink, "{text} after {admitted}");
-                in_sink = in_sink.wrapping_add(1);
-            }
-            None => {
-                assert_eq!(rt; told.as_str(), lines, "{text}");
-                is_whole = true;
-                break;
-            }
+            Some(TokenizerError::Sink) => in_sink = in_sink.wrapping_add(1),
+            Some(error) => panic!(rt; "{error:?} after {admitted} of {text}"),
+            None => return (in_tokenizer, in_sink),
         }
     }
-    assert!(rt; is_whole, "{text}");
-    // Each of the two makes more than one request.
-    assert!(rt; in_tokenizer > 1, "{text}");
-    assert!(rt; in_sink > 1, "{text}");
-    Ok(())
+    panic!(rt; "{text} is never read whole")
 }
 
 // A text, and what it tells.
@@ -176,9 +161,11 @@ const REFUSED: [(&str, &str); 6] = [
 ];
 
 #[test]
-fn a_refused_request_leaves_a_beginning(rt: HostRuntime) -> Result<(), Fail> {
+fn a_refused_request_leaves_a_beginning(rt: HostRuntime) {
     for (text, lines) in REFUSED {
-        check_refusals(&rt, rt.alloc(), text, lines)?;
+        let (in_tokenizer, in_sink) = refusals_of(&rt, rt.alloc(), text, lines);
+        // Each of the two makes more than one request.
+        assert!(rt; in_tokenizer > 1, "{text}");
+        assert!(rt; in_sink > 1, "{text}");
     }
-    Ok(())
 }

@@ -9,7 +9,7 @@ use html5ever_interface::collect::Collector;
 use html5ever_interface::interface::sink::TokenSink;
 use html5ever_interface::interface::token::Token;
 use html5ever_interface::options::TokenizerOpts;
-use html5ever_interface::states::State;
+use html5ever_interface::states::{RawKind, State};
 use markup5ever::buffer_queue::BufferQueue;
 use markup5ever::data::NamedReferences;
 use std::alloc::{AllocError, Allocator, Global};
@@ -27,33 +27,15 @@ pub fn options<A: Allocator>(exact_errors: bool, plain: bool) -> TokenizerOpts<A
     }
 }
 
-/// Where a stream starts: its state, where it is not `Data`, the name of the start tag before it, and
-/// what the sink says of foreign content.
-#[derive(Clone, Copy)]
-pub struct Start<'a> {
-    pub state: Option<State>,
-    pub last: Option<&'a str>,
-    pub foreign: bool,
-}
-
-/// The default options, but for the errors and the start.
-pub fn options_from<A: Allocator>(
-    alloc: A,
-    exact_errors: bool,
-    start: Start,
-) -> Result<TokenizerOpts<A>, AllocError>
-    requires starts { CanStart start.state }
+/// The default options of raw text of that kind, behind a start tag `script`.
+pub fn raw_options<A: Allocator>(alloc: A, kind: RawKind) -> Result<TokenizerOpts<A>, AllocError>
     ensures starts { IfOk result (λ opts. CanStart opts.initial_state) }
 {
-    let last_start_tag_name = match start.last {
-        None => None,
-        Some(name) => Some(String::from_str(alloc, name)?),
-    };
     Ok(TokenizerOpts {
-        exact_errors,
+        exact_errors: false,
         discard_bom: true,
-        initial_state: start.state,
-        last_start_tag_name,
+        initial_state: Some(State::RawData(kind)),
+        last_start_tag_name: Some(String::from_str(alloc, "script")?),
     })
 }
 
@@ -69,68 +51,65 @@ pub fn push_text<A: Allocator + Copy>(
     }
 }
 
-/// Hands in a text and feeds it. Answers whether the tokenizer took it whole.
-pub fn feeds_whole<S: TokenSink<Token<A>>, A: Allocator + Copy>(
+/// Hands in a text and feeds it. The tokenizer has to take it whole.
+pub fn feed_whole<S: TokenSink<Token<A>>, A: Allocator + Copy>(
+    rt: &impl Abort,
     alloc: A,
     tokenizer: &mut Tokenizer<'_, S, A>,
     queue: &mut BufferQueue<A>,
     text: &str,
-) -> Result<bool, AllocError>
+)
     requires going_on { tokenizer.old.ended ≡ false }
     ensures going_on { tokenizer.new.ended ≡ false }
 {
-    push_text(alloc, queue, text)?;
+    push_text(alloc, queue, text).expect(rt, "memory");
     let fed = feed(tokenizer, queue);
-    Ok(matches!(fed, Ok(TokenizerResult::Done)) && queue.is_empty())
+    assert!(rt; matches!(fed, Ok(TokenizerResult::Done)), "{text}");
+    assert!(rt; queue.is_empty(), "{text}");
+}
+
+/// Ends the text.
+pub fn end_text<S: TokenSink<Token<A>>, A: Allocator + Copy>(
+    rt: &impl Abort,
+    tokenizer: &mut Tokenizer<'_, S, A>,
+) {
+    assert!(rt; !tokenizer.is_ended());
+    assert_eq!(rt; end(tokenizer), Ok(()));
+    assert!(rt; tokenizer.is_ended());
+    assert!(rt; !tokenizer.has_failed());
 }
 
 /// Compares what a collector holds.
-pub fn expect_lines(
-    rt: &impl Abort,
-    alloc: Global,
-    sink: &Collector,
-    lines: &str,
-) -> Result<(), AllocError> {
-    assert_eq!(rt; lines_of(alloc, sink.entries())?.as_str(), lines);
-    Ok(())
+pub fn expect_lines(rt: &impl Abort, alloc: Global, sink: &Collector, lines: &str) {
+    let told = lines_of(alloc, sink.entries()).expect(rt, "memory");
+    assert_eq!(rt; told.as_str(), lines);
 }
 
-// Ends the text. Answers the lines that were told.
-fn end_of(
-    rt: &impl Abort,
-    alloc: Global,
-    mut tokenizer: Tokenizer<'_, Collector>,
-) -> Result<String, AllocError> {
-    assert!(rt; !tokenizer.is_ended());
-    assert_eq!(rt; end(&mut tokenizer), Ok(()));
-    assert!(rt; tokenizer.is_ended());
-    assert!(rt; !tokenizer.has_failed());
-    let sink = tokenizer.into_sink();
-    assert!(rt; sink.is_finished());
-    lines_of(alloc, sink.entries())
+/// Compares what a collector holds behind the end of a text.
+pub fn expect_finished(rt: &impl Abort, alloc: Global, sink: &Collector, lines: &str) {
+    assert!(rt; sink.is_finished(), "{lines}");
+    expect_lines(rt, alloc, sink, lines);
 }
 
-/// The lines that the pieces tell, by a table of names.
-pub fn lines_of_pieces(
+/// Reads the pieces, and compares what they tell.
+pub fn expect_of_pieces(
     rt: &impl Abort,
     alloc: Global,
     opts: TokenizerOpts,
-    foreign: bool,
     names: &NamedReferences,
     pieces: &[&str],
-) -> Result<String, AllocError>
+    lines: &str,
+)
     requires starts { CanStart opts.initial_state }
 {
-    let mut tokenizer = begin(alloc, Collector::new(alloc, foreign), opts, names);
+    let mut tokenizer = begin(alloc, Collector::new(alloc, false), opts, names);
     let mut queue = BufferQueue::new(alloc);
     for piece in pieces {
         assert!(rt; !tokenizer.is_ended());
-        assert!(rt;
-            feeds_whole(alloc, &mut tokenizer, &mut queue, piece)?,
-            "{piece}"
-        );
+        feed_whole(rt, alloc, &mut tokenizer, &mut queue, piece);
     }
-    end_of(rt, alloc, tokenizer)
+    end_text(rt, &mut tokenizer);
+    expect_finished(rt, alloc, &tokenizer.sink, lines);
 }
 
 /// A text in two parts, the first with so many characters.

@@ -1,9 +1,8 @@
 //! Long texts are read where there is memory for them.
 use crate::names::profile;
-use crate::running::{cut, lines_of_pieces, options};
+use crate::running::{cut, expect_of_pieces, options};
 use std::alloc::{AllocError, Global};
 use std::process::Abort;
-use std::test::Fail;
 
 // A text of three hundred letters.
 fn long_text(alloc: Global) -> Result<String, AllocError> {
@@ -14,29 +13,38 @@ fn long_text(alloc: Global) -> Result<String, AllocError> {
     Ok(text)
 }
 
-// Looks at what a text tells, cut in two at its middle.
-fn check_long(rt: &impl Abort, alloc: Global, text: &str, lines: &str) -> Result<(), AllocError> {
-    let names = profile(alloc)?;
-    let (first, second) = cut(alloc, text, text.len() / 2)?;
+// Compares what a text tells, cut in two at its middle.
+fn check_long(rt: &impl Abort, alloc: Global, text: &str, lines: &str) {
+    let names = profile(alloc).expect(rt, "memory");
+    let (first, second) = cut(alloc, text, text.len() / 2).expect(rt, "memory");
     let pieces = [first.as_str(), second.as_str()];
-    let told = lines_of_pieces(rt, alloc, options(false, false), false, &names, &pieces)?;
-    assert_eq!(rt; told.as_str(), lines);
-    Ok(())
+    expect_of_pieces(rt, alloc, options(false, false), &names, &pieces, lines);
 }
 
 #[test]
-fn tells_long_texts(rt: HostRuntime) -> Result<(), Fail> {
+fn tells_a_long_text(rt: HostRuntime) {
     let alloc = rt.alloc();
-    let long = long_text(alloc)?;
-    let lines = format!(in alloc; "text \"{long}\"\neof 1")?;
-    check_long(&rt, alloc, &long, &lines)?;
-    let tag = format!(in alloc; "<{long} {long}='{long}'>")?;
-    let lines = format!(in alloc; "start 1 \"{long}\" \"{long}\"=\"{long}\"\neof 1")?;
-    check_long(&rt, alloc, &tag, &lines)?;
-    let comment = format!(in alloc; "<!--{long}-->")?;
-    let lines = format!(in alloc; "comment 1 \"{long}\"\neof 1")?;
-    check_long(&rt, alloc, &comment, &lines)?;
-    Ok(())
+    let long = long_text(alloc).expect(&rt, "memory");
+    let lines = format!(in alloc; "text \"{long}\"\neof 1").expect(&rt, "memory");
+    check_long(&rt, alloc, &long, &lines);
+}
+
+#[test]
+fn tells_a_long_tag(rt: HostRuntime) {
+    let alloc = rt.alloc();
+    let long = long_text(alloc).expect(&rt, "memory");
+    let tag = format!(in alloc; "<{long} {long}='{long}'>").expect(&rt, "memory");
+    let lines = format!(in alloc; "start 1 \"{long}\" \"{long}\"=\"{long}\"\neof 1");
+    check_long(&rt, alloc, &tag, &lines.expect(&rt, "memory"));
+}
+
+#[test]
+fn tells_a_long_comment(rt: HostRuntime) {
+    let alloc = rt.alloc();
+    let long = long_text(alloc).expect(&rt, "memory");
+    let comment = format!(in alloc; "<!--{long}-->").expect(&rt, "memory");
+    let lines = format!(in alloc; "comment 1 \"{long}\"\neof 1").expect(&rt, "memory");
+    check_long(&rt, alloc, &comment, &lines);
 }
 
 // So many times a part, with text around it.
@@ -55,22 +63,31 @@ fn repeated(
     Ok(text)
 }
 
-#[test]
-fn tells_a_hundred_thousand_ampersands(rt: HostRuntime) -> Result<(), Fail> {
-    let alloc = rt.alloc();
-    let names = profile(alloc)?;
-    let text = repeated(alloc, "", "&&&&&&&&&&", 10_000, "")?;
-    let lines = repeated(alloc, "text \"", "&&&&&&&&&&", 10_000, "\"\neof 1")?;
-    let told = lines_of_pieces(&rt, alloc, options(false, false), false, &names, &[&text])?;
-    assert!(rt; told == lines);
-    Ok(())
+// Compares what a text of repeated parts tells with repeated parts between two texts.
+fn check_repeated(
+    rt: &impl Abort,
+    alloc: Global,
+    text: Result<String, AllocError>,
+    lines: Result<String, AllocError>,
+) {
+    let names = profile(alloc).expect(rt, "memory");
+    let text = text.expect(rt, "memory");
+    let lines = lines.expect(rt, "memory");
+    expect_of_pieces(rt, alloc, options(false, false), &names, &[&text], &lines);
 }
 
 #[test]
-fn tells_a_comment_of_dashes(rt: HostRuntime) -> Result<(), Fail> {
+fn tells_a_hundred_thousand_ampersands(rt: HostRuntime) {
     let alloc = rt.alloc();
-    let names = profile(alloc)?;
-    let text = repeated(alloc, "<!--", "----------", 10_000, ">")?;
+    let text = repeated(alloc, "", "&&&&&&&&&&", 10_000, "");
+    let lines = repeated(alloc, "text \"", "&&&&&&&&&&", 10_000, "\"\neof 1");
+    check_repeated(&rt, alloc, text, lines);
+}
+
+#[test]
+fn tells_a_comment_of_dashes(rt: HostRuntime) {
+    let alloc = rt.alloc();
+    let text = repeated(alloc, "<!--", "----------", 10_000, ">");
     // Two of the dashes end the comment.
     let lines = repeated(
         alloc,
@@ -78,22 +95,21 @@ fn tells_a_comment_of_dashes(rt: HostRuntime) -> Result<(), Fail> {
         "----------",
         9_999,
         "\"\neof 1",
-    )?;
-    let told = lines_of_pieces(&rt, alloc, options(false, false), false, &names, &[&text])?;
-    assert!(rt; told == lines);
-    Ok(())
+    );
+    check_repeated(&rt, alloc, text, lines);
 }
 
 #[test]
-fn tells_a_number_of_many_digits(rt: HostRuntime) -> Result<(), Fail> {
+fn tells_a_number_of_many_digits(rt: HostRuntime) {
     let alloc = rt.alloc();
-    let names = profile(alloc)?;
-    let text = repeated(alloc, "&#x", "0000000000", 10_000, "41;")?;
-    let told = lines_of_pieces(&rt, alloc, options(false, false), false, &names, &[&text])?;
-    assert_eq!(rt; told.as_str(), "text \"A\"\neof 1");
-    let text = repeated(alloc, "&#", "9999999999", 10_000, ";")?;
-    let told = lines_of_pieces(&rt, alloc, options(false, false), false, &names, &[&text])?;
+    let text = repeated(alloc, "&#x", "0000000000", 10_000, "41;");
+    check_repeated(
+        &rt,
+        alloc,
+        text,
+        String::from_str(alloc, "text \"A\"\neof 1"),
+    );
+    let text = repeated(alloc, "&#", "9999999999", 10_000, ";");
     let lines = "error 1 \"Invalid numeric character reference\"\ntext \"\u{fffd}\"\neof 1";
-    assert_eq!(rt; told.as_str(), lines);
-    Ok(())
+    check_repeated(&rt, alloc, text, String::from_str(alloc, lines));
 }

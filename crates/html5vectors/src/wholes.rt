@@ -1,31 +1,16 @@
 //! Texts that one call reads whole.
-use crate::lines::lines_of;
 use crate::names::profile;
-use crate::running::{Start, options, options_from};
+use crate::running::{expect_finished, options, raw_options};
 use crate::sinks::FaultySink;
 use html5ever::TokenizerError;
 use html5ever::tokenizer::laws::{cdata, closed, comment, doctype, raw, reference, tag};
 use html5ever_interface::collect::Collector;
-use html5ever_interface::states::{RawKind, State};
-use std::alloc::{AllocError, Global};
-use std::process::Abort;
-use std::test::Fail;
-
-// Looks at what a collector holds, and at clones of it.
-fn check_collected(
-    rt: &impl Abort,
-    alloc: Global,
-    sink: &Collector,
-    lines: &str,
-) -> Result<(), AllocError> {
-    assert!(rt; sink.is_finished(), "{lines}");
-    assert_eq!(rt; lines_of(alloc, sink.entries())?.as_str(), lines);
-    Ok(())
-}
+use html5ever_interface::states::RawKind;
 
 #[test]
-fn reads_a_whole_text(rt: HostRuntime) -> Result<(), Fail> {
+fn reads_a_whole_text(rt: HostRuntime) {
     let alloc = rt.alloc();
+    let names = profile(alloc).expect(&rt, "memory");
     let cases = [
         ("<a b=1>x", "start 1 \"a\" \"b\"=\"1\"\ntext \"x\"\neof 1"),
         ("", "eof 1"),
@@ -39,30 +24,28 @@ fn reads_a_whole_text(rt: HostRuntime) -> Result<(), Fail> {
     ];
     for (text, lines) in cases {
         let sink = Collector::new(alloc, false);
-        let text = String::from_str(alloc, text)?;
-        let names = profile(alloc)?;
+        let text = String::from_str(alloc, text).expect(&rt, "memory");
         let (sink, read) = closed(alloc, sink, options(false, false), &names, text);
         assert_eq!(rt; read, Ok(()), "{lines}");
-        check_collected(&rt, alloc, &sink, lines)?;
+        expect_finished(&rt, alloc, &sink, lines);
     }
-    Ok(())
 }
 
 #[test]
-fn hands_the_sink_back_behind_a_refusal(rt: HostRuntime) -> Result<(), Fail> {
+fn hands_the_sink_back_behind_a_refusal(rt: HostRuntime) {
     let alloc = rt.alloc();
-    let names = profile(alloc)?;
-    let text = String::from_str(alloc, "<b><c>")?;
+    let names = profile(alloc).expect(&rt, "memory");
+    let text = String::from_str(alloc, "<b><c>").expect(&rt, "memory");
     let sink = FaultySink::new(1, false);
     let (sink, read) = closed(alloc, sink, options(false, false), &names, text);
     assert_eq!(rt; read, Err(TokenizerError::Sink));
     assert!(rt; sink.took_another);
-    Ok(())
 }
 
 #[test]
-fn reads_one_tag(rt: HostRuntime) -> Result<(), Fail> {
+fn reads_one_tag(rt: HostRuntime) {
     let alloc = rt.alloc();
+    let names = profile(alloc).expect(&rt, "memory");
     let cases = [
         ("<b>", "start 1 \"b\"\neof 1"),
         (
@@ -80,17 +63,19 @@ fn reads_one_tag(rt: HostRuntime) -> Result<(), Fail> {
         ),
     ];
     for (text, lines) in cases {
-        let text = String::from_str(alloc, text)?;
-        let names = profile(alloc)?;
-        let sink = tag(alloc, options(false, false), false, &names, text)?;
-        check_collected(&rt, alloc, &sink, lines)?;
+        let text = String::from_str(alloc, text).expect(&rt, "memory");
+        let sink = tag(alloc, options(false, false), false, &names, text).expect(
+            &rt,
+            "the text is read",
+        );
+        expect_finished(&rt, alloc, &sink, lines);
     }
-    Ok(())
 }
 
 #[test]
-fn reads_one_comment(rt: HostRuntime) -> Result<(), Fail> {
+fn reads_one_comment(rt: HostRuntime) {
     let alloc = rt.alloc();
+    let names = profile(alloc).expect(&rt, "memory");
     let cases = [
         ("<!--a--!-->", "comment 1 \"a--!\"\neof 1"),
         (
@@ -127,17 +112,19 @@ fn reads_one_comment(rt: HostRuntime) -> Result<(), Fail> {
         ),
     ];
     for (text, lines) in cases {
-        let text = String::from_str(alloc, text)?;
-        let names = profile(alloc)?;
-        let sink = comment(alloc, options(false, false), false, &names, text)?;
-        check_collected(&rt, alloc, &sink, lines)?;
+        let text = String::from_str(alloc, text).expect(&rt, "memory");
+        let sink = comment(alloc, options(false, false), false, &names, text).expect(
+            &rt,
+            "the text is read",
+        );
+        expect_finished(&rt, alloc, &sink, lines);
     }
-    Ok(())
 }
 
 #[test]
-fn reads_one_section(rt: HostRuntime) -> Result<(), Fail> {
+fn reads_one_section(rt: HostRuntime) {
     let alloc = rt.alloc();
+    let names = profile(alloc).expect(&rt, "memory");
     let cases = [
         (
             "<![CDATA[a\0]]]>",
@@ -157,17 +144,19 @@ fn reads_one_section(rt: HostRuntime) -> Result<(), Fail> {
         ),
     ];
     for (text, lines) in cases {
-        let text = String::from_str(alloc, text)?;
-        let names = profile(alloc)?;
-        let sink = cdata(alloc, options(false, false), true, &names, text)?;
-        check_collected(&rt, alloc, &sink, lines)?;
+        let text = String::from_str(alloc, text).expect(&rt, "memory");
+        let sink = cdata(alloc, options(false, false), true, &names, text).expect(
+            &rt,
+            "the text is read",
+        );
+        expect_finished(&rt, alloc, &sink, lines);
     }
-    Ok(())
 }
 
 #[test]
-fn reads_raw_text(rt: HostRuntime) -> Result<(), Fail> {
+fn reads_raw_text(rt: HostRuntime) {
     let alloc = rt.alloc();
+    let names = profile(alloc).expect(&rt, "memory");
     let cases = [
         (
             "<!--<script></script>--></script>",
@@ -187,23 +176,17 @@ fn reads_raw_text(rt: HostRuntime) -> Result<(), Fail> {
         ("<!-->x", "text \"<!-->x\"\neof 1"),
     ];
     for (text, lines) in cases {
-        let text = String::from_str(alloc, text)?;
-        let names = profile(alloc)?;
-        let start = Start {
-            state: Some(State::RawData(RawKind::ScriptData)),
-            last: Some("script"),
-            foreign: false,
-        };
-        let opts = options_from(alloc, false, start)?;
-        let sink = raw(alloc, opts, false, &names, text)?;
-        check_collected(&rt, alloc, &sink, lines)?;
+        let text = String::from_str(alloc, text).expect(&rt, "memory");
+        let opts = raw_options(alloc, RawKind::ScriptData).expect(&rt, "memory");
+        let sink = raw(alloc, opts, false, &names, text).expect(&rt, "the text is read");
+        expect_finished(&rt, alloc, &sink, lines);
     }
-    Ok(())
 }
 
 #[test]
-fn reads_one_doctype(rt: HostRuntime) -> Result<(), Fail> {
+fn reads_one_doctype(rt: HostRuntime) {
     let alloc = rt.alloc();
+    let names = profile(alloc).expect(&rt, "memory");
     let cases = [
         (
             "<!doctypehtml>",
@@ -233,17 +216,19 @@ fn reads_one_doctype(rt: HostRuntime) -> Result<(), Fail> {
         ),
     ];
     for (text, lines) in cases {
-        let text = String::from_str(alloc, text)?;
-        let names = profile(alloc)?;
-        let sink = doctype(alloc, options(false, false), false, &names, text)?;
-        check_collected(&rt, alloc, &sink, lines)?;
+        let text = String::from_str(alloc, text).expect(&rt, "memory");
+        let sink = doctype(alloc, options(false, false), false, &names, text).expect(
+            &rt,
+            "the text is read",
+        );
+        expect_finished(&rt, alloc, &sink, lines);
     }
-    Ok(())
 }
 
 #[test]
-fn reads_one_reference(rt: HostRuntime) -> Result<(), Fail> {
+fn reads_one_reference(rt: HostRuntime) {
     let alloc = rt.alloc();
+    let names = profile(alloc).expect(&rt, "memory");
     let cases = [
         (
             "&#x80;",
@@ -261,25 +246,28 @@ fn reads_one_reference(rt: HostRuntime) -> Result<(), Fail> {
         ("&", "text \"&\"\neof 1"),
     ];
     for (text, lines) in cases {
-        let text = String::from_str(alloc, text)?;
-        let names = profile(alloc)?;
-        let sink = reference(alloc, options(false, false), false, &names, text)?;
-        check_collected(&rt, alloc, &sink, lines)?;
+        let text = String::from_str(alloc, text).expect(&rt, "memory");
+        let sink = reference(alloc, options(false, false), false, &names, text).expect(
+            &rt,
+            "the text is read",
+        );
+        expect_finished(&rt, alloc, &sink, lines);
     }
-    Ok(())
 }
 
 #[test]
-fn reads_a_text_that_is_no_tag(rt: HostRuntime) -> Result<(), Fail> {
+fn reads_a_text_that_is_no_tag(rt: HostRuntime) {
     let alloc = rt.alloc();
-    let text = String::from_str(alloc, "<b>x</b>")?;
-    let names = profile(alloc)?;
-    let sink = tag(alloc, options(false, false), true, &names, text)?;
-    check_collected(
+    let names = profile(alloc).expect(&rt, "memory");
+    let text = String::from_str(alloc, "<b>x</b>").expect(&rt, "memory");
+    let sink = tag(alloc, options(false, false), true, &names, text).expect(
+        &rt,
+        "the text is read",
+    );
+    expect_finished(
         &rt,
         alloc,
         &sink,
         "start 1 \"b\"\ntext \"x\"\nend 1 \"b\"\neof 1",
-    )?;
-    Ok(())
+    );
 }

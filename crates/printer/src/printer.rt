@@ -8,9 +8,6 @@ use devices::{Fault, Target, write_all};
 use std::alloc::{Allocator, Global};
 use std::marker::Model;
 
-#[cfg(test)]
-mod tests;
-
 /// How many bytes wait on a page before it is written.
 const PAGE: usize = 4096;
 

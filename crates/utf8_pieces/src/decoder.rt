@@ -8,9 +8,6 @@ use std::alloc::Allocator;
 use std::marker::Model;
 use std::str::from_utf8_unchecked;
 
-#[cfg(test)]
-mod tests;
-
 /// Makes texts of bytes that arrive in pieces. Between two pieces it holds back at most three bytes,
 /// which begin a character that the next piece may complete.
 #[derive(Drop)]

@@ -1,0 +1,14 @@
+//! Worked cases of what brings bytes in and text out: devices, pages, texts from bytes, lists of
+//! references, and streams.
+#![tactic(auto)]
+
+#[cfg(test)]
+mod carried_bytes;
+#[cfg(test)]
+mod decoder;
+#[cfg(test)]
+mod pages;
+#[cfg(test)]
+mod stream;
+#[cfg(test)]
+mod table_list;
