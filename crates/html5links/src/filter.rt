@@ -1,6 +1,7 @@
 //! Pages whose links are printed as they arrive.
-ghost use Rattle.std.specs.Prelude.{OnOk};
-ghost use Rattle.html5stream.specs.Pages.{ReadsPage, tags_behind};
+ghost use Rattle.std.specs.Prelude.{◌≡◌, ℕ, ◌+◌, Err, OnOk, OnErr};
+ghost use Rattle.html5stream.specs.Pages.{ReadsPage, StopsPage, tags_page, tags_handed, tags_behind};
+ghost use Rattle.html5stream.specs.Streams.{GivesNoText, failed_reads};
 ghost use Rattle.html5links.specs.Links.{links_step};
 
 use crate::links::Links;
@@ -18,8 +19,15 @@ pub fn read_links<R: Source, W: Target, A: Allocator + Copy>(
     links: Links<W, A>,
     names: &NamedReferences<A>,
 ) -> (Links<W, A>, Result<(), StreamError>)
-    ensures { OnOk result.1 (ReadsPage (tags_behind links_step names.now)
-        (R.remaining source.old) (R.remaining source.new) links.printer.printed result.0.printer.printed) }
+    ensures finishes { OnOk result.1 (ReadsPage (tags_behind links_step names.now)
+        (R.remaining source.old) (R.remaining source.new)
+        links.printer.printed result.0.printer.printed) }
+    ensures beginning { OnErr result.1 (StopsPage (tags_page links_step names.now) (tags_handed links_step)
+        (R.remaining source.old) (R.remaining source.new)
+        links.printer.printed result.0.printer.printed) }
+    ensures not_utf8 { (place : ℕ) → result.1 ≡ Err (StreamError.NotUtf8 place)
+        → GivesNoText place (R.remaining source.old) (R.remaining source.new) }
+    ensures read { R.failures source.new ≡ R.failures source.old + failed_reads result.1 }
 {
     read_tags(alloc, source, links, names)
 }

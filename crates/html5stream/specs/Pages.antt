@@ -1,10 +1,10 @@
 -- What a handler of tags, or of runs of text, makes of a page: by the default options, from a source that is read to its end.
-use Rattle.std.specs.Prelude.{◌≡◌, ℕ, false, List, [], Option}
+use Rattle.std.specs.Prelude.{◌≡◌, ℕ, false, List, [], ◌++◌, Option}
 use Rattle.std.specs.Io.KnownBytes.{Consumes, IsAtEnd}
 use Rattle.std.specs.Str.{IsUtf8, chars}
 use Rattle.markup5ever.specs.NamedReferences.{NamedReference}
 use Rattle.html5ever_interface.specs.Options.{default_options}
-use Rattle.html5ever_interface.specs.Sink.{stepped}
+use Rattle.html5ever_interface.specs.Sink.{Message, stepped}
 use Rattle.html5ever_interface.specs.Token.{TagOf, Told}
 use Rattle.html5grammar.specs.Reading.{reading, messages}
 use Rattle.html5grammar.specs.Start.{start_of}
@@ -21,19 +21,51 @@ pub record ReadsPage {S : Type 0} (behind : S → List ℕ → S) (unread left :
   pub utf8 : IsUtf8 bytes
   pub told : after ≡ behind before bytes
 
-module _ {S : Type 0} where
-  -- a handler of tags behind a page, whose bytes are given: it was handed each tag of its reading
-  unfoldable pub tags_behind : (S → TagOf → ℕ → S) → List NamedReference → S → List ℕ → S
-  tags_behind step names s bytes =
-      let start : Tagged S = record { handler = s; foreign = false } in
-      (stepped (tags_step step) start
-      (messages (reading (tags_step step) (tags_reply (λ state tag line. standard_reply tag)) (λ s. s.foreign)
-      (rules_of default_options names) (start_of default_options) start (chars bytes)))).handler
+-- the source gave a text first, and a state became what a beginning of that text's messages makes of it
+pub record StopsPage {S : Type 0} (page : S → List ℕ → List Message) (handed : S → List Message → S)
+    (unread left : Option (List ℕ)) (before after : S) : Type 0 where
+  pub text : List ℕ
+  pub rest : List ℕ
+  pub consumed : Consumes unread left (text ++ rest)
+  pub utf8 : IsUtf8 text
+  pub told : List Message
+  pub untold : List Message
+  pub parts : page before text ≡ told ++ untold
+  pub state : after ≡ handed before told
 
-  -- a handler of runs behind a page: it was handed each whole run of text of its reading, with the token behind it
-  unfoldable pub runs_behind : (S → List ℕ → Told → ℕ → S) → List NamedReference → S → List ℕ → S
-  runs_behind step names s bytes =
-      let start : Running S = record { joined = joined_of s []; foreign = false } in
-      (stepped (runs_step step) start
-      (messages (reading (runs_step step) (runs_reply (λ state run tag line. standard_reply tag)) (λ s. s.foreign)
-      (rules_of default_options names) (start_of default_options) start (chars bytes)))).joined.handler
+module _ {S : Type 0} where
+  -- where a sink of tags starts
+  abbrev pub tags_start : S → Tagged S
+  tags_start s = record { handler = s; foreign = false }
+
+  -- the messages of a page whose bytes are given, where a handler of tags is told
+  unfoldable pub tags_page : (S → TagOf → ℕ → S) → List NamedReference → S → List ℕ → List Message
+  tags_page step names s bytes =
+      messages (reading (tags_step step) (tags_reply (λ state tag line. standard_reply tag)) (λ s. s.foreign)
+      (rules_of default_options names) (start_of default_options) (tags_start s) (chars bytes))
+
+  -- a handler behind some messages: it was handed each tag of them
+  unfoldable pub tags_handed : (S → TagOf → ℕ → S) → S → List Message → S
+  tags_handed step s told = (stepped (tags_step step) (tags_start s) told).handler
+
+  -- and behind a whole page
+  abbrev pub tags_behind : (S → TagOf → ℕ → S) → List NamedReference → S → List ℕ → S
+  tags_behind step names s bytes = tags_handed step s (tags_page step names s bytes)
+
+  -- where a sink of runs starts
+  abbrev pub runs_start : S → Running S
+  runs_start s = record { joined = joined_of s []; foreign = false }
+
+  -- the messages of a page whose bytes are given, where a handler of runs is told
+  unfoldable pub runs_page : (S → List ℕ → Told → ℕ → S) → List NamedReference → S → List ℕ → List Message
+  runs_page step names s bytes =
+      messages (reading (runs_step step) (runs_reply (λ state run tag line. standard_reply tag)) (λ s. s.foreign)
+      (rules_of default_options names) (start_of default_options) (runs_start s) (chars bytes))
+
+  -- a handler behind some messages: it was handed each run of text that another token of them ends, with that token
+  unfoldable pub runs_handed : (S → List ℕ → Told → ℕ → S) → S → List Message → S
+  runs_handed step s told = (stepped (runs_step step) (runs_start s) told).joined.handler
+
+  -- and behind a whole page
+  abbrev pub runs_behind : (S → List ℕ → Told → ℕ → S) → List NamedReference → S → List ℕ → S
+  runs_behind step names s bytes = runs_handed step s (runs_page step names s bytes)

@@ -1,6 +1,7 @@
 //! Pages whose text is printed as it arrives.
-ghost use Rattle.std.specs.Prelude.{OnOk};
-ghost use Rattle.html5stream.specs.Pages.{ReadsPage, runs_behind};
+ghost use Rattle.std.specs.Prelude.{◌≡◌, ℕ, ◌+◌, Err, OnOk, OnErr};
+ghost use Rattle.html5stream.specs.Pages.{ReadsPage, StopsPage, runs_page, runs_handed, runs_behind};
+ghost use Rattle.html5stream.specs.Streams.{GivesNoText, failed_reads};
 ghost use Rattle.html5text.specs.PageText.{at_start, reading_of, text_step};
 
 use crate::page_text::PageText;
@@ -18,9 +19,15 @@ pub fn read_text<R: Source, W: Target, A: Allocator + Copy>(
     text: PageText<W, A>,
     names: &NamedReferences<A>,
 ) -> (PageText<W, A>, Result<(), StreamError>)
-    ensures { OnOk result.1 (ReadsPage (runs_behind text_step names.now)
+    ensures finishes { OnOk result.1 (ReadsPage (runs_behind text_step names.now)
         (R.remaining source.old) (R.remaining source.new)
         (at_start text.printer.printed) (reading_of result.0)) }
+    ensures beginning { OnErr result.1 (StopsPage (runs_page text_step names.now) (runs_handed text_step)
+        (R.remaining source.old) (R.remaining source.new)
+        (at_start text.printer.printed) (reading_of result.0)) }
+    ensures not_utf8 { (place : ℕ) → result.1 ≡ Err (StreamError.NotUtf8 place)
+        → GivesNoText place (R.remaining source.old) (R.remaining source.new) }
+    ensures read { R.failures source.new ≡ R.failures source.old + failed_reads result.1 }
 {
     read_runs(alloc, source, text.at_start(), names)
 }
