@@ -1,7 +1,7 @@
 #!/usr/bin/env python3
 """Times html5tok beside html5ever itself, and prints tables.
 
-    python3 bench/bench.py [--quick] [--program PATH] [--without-beside]
+    python3 bench/bench.py [--quick] [--real] [--program PATH] [--without-beside]
 
 html5ever is Debian's package of it, behind a program of ours that prints the same lines (beside/main.rs); build.py
 builds it anew in each call. Where it can't be built, html5tok is timed alone. A time is the processor time of a
@@ -75,6 +75,14 @@ def cases(sizes):
     yield Case(f"{sizes.attributes:,} attributes of a tag", corpora.many_attributes(sizes.attributes), [])
 
 
+def real_case():
+    """The pages of Debian's documentation packages, which are fetched."""
+    text = corpora.real_pages()
+    if not text:
+        sys.exit("the packages of real pages can't be fetched: `apt-get update`, and then again")
+    return Case(f"real pages, {len(text) / MB:.0f} MB", text, [], ["--table", corpora.table()])
+
+
 def linear_cases(sizes):
     """The cases of the second table: kinds of input, each in several sizes."""
     for megabytes in sizes.linear:
@@ -145,8 +153,8 @@ def measure_case(programs, case, folder, runs):
             sys.exit(f"{case.name}: what html5tok prints differs by the cut")
 
 
-def compare(programs, sizes, folder):
-    """The first table."""
+def compare(programs, texts, runs, folder):
+    """The first table, of these cases."""
     if len(programs) == 1:
         print()
         print_header("Case", "Setting", "Seconds", "MB/s", "Peak, MB")
@@ -154,8 +162,8 @@ def compare(programs, sizes, folder):
         print(NOTES)
         ours = ["Ours, s", "MB/s", "Ratio", "Our peak, MB"]
         print_header("Case", "Setting", "html5ever, s", "MB/s", *ours, "Lines that differ")
-    for case in cases(sizes):
-        measure_case(programs, case, folder, sizes.runs)
+    for case in texts:
+        measure_case(programs, case, folder, runs)
 
 
 def check_linear(program, sizes, folder):
@@ -176,6 +184,7 @@ def check_linear(program, sizes, folder):
 def options():
     parser = argparse.ArgumentParser(description="Times html5tok beside html5ever.")
     parser.add_argument("--quick", action="store_true", help="small texts, and the best of two runs")
+    parser.add_argument("--real", action="store_true", help="real pages alone, from Debian's documentation packages")
     parser.add_argument("--program", type=pathlib.Path, default=PROGRAM, help="the program to time")
     parser.add_argument("--without-beside", action="store_true", help="time html5tok alone")
     return parser.parse_args()
@@ -205,8 +214,11 @@ def main():
         if not chosen.without_beside:
             programs += beside(folder / "beside")
         print(f"Processor seconds, the best of {sizes.runs} runs.")
-        compare(programs, sizes, folder)
-        check_linear(program, sizes, folder)
+        if chosen.real:
+            compare(programs, [real_case()], sizes.runs, folder)
+        else:
+            compare(programs, cases(sizes), sizes.runs, folder)
+            check_linear(program, sizes, folder)
 
 
 if __name__ == "__main__":

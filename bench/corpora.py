@@ -1,7 +1,11 @@
-"""The texts that are timed. All are made here, from one seed. None has a `meta`; only full pages have comments, doctypes, scripts and styles."""
+"""The texts that are timed. All but the real pages are made here, from one seed. Of those made here none has a `meta`,
+and only full pages have comments, doctypes, scripts and styles."""
 
 import html.entities
+import pathlib
 import random
+import subprocess
+import tempfile
 
 SEED = 20
 MB = 1_000_000
@@ -28,6 +32,8 @@ BLOCKS = [
     '<span data-id="{n}" data-id="{n}" style="color: red; width: {n}px">{word}</span>\r\n',
     "<p>{n} < {n}{n} {some}</p>\n",
 ]
+# The packages whose pages are joined as real pages.
+REAL_PAGES = "python3.11-doc postgresql-doc-15 sqlite3-doc apache2-doc nodejs-doc debian-reference-ja".split()
 # What full pages have besides: a page's head, scripts, styles, and comments.
 FULL_BLOCKS = BLOCKS + [
     "<!DOCTYPE html>\n<html lang=en>\n<head><title>{some} &amp; {word}</title>\n",
@@ -95,6 +101,26 @@ def full_pages(megabytes):
     """Pages with all that a page has: references, comments, doctypes, scripts, styles and titles."""
     chance = random.Random(SEED)
     return filled(MB, lambda: block(chance, WORDS + REFERENCES * 2, FULL_BLOCKS)) * megabytes
+
+
+def real_pages():
+    """The pages of some of Debian's documentation packages, one after another, or nothing where they can't be had."""
+    with tempfile.TemporaryDirectory() as room:
+        fetched = subprocess.run(["apt-get", "download", *REAL_PAGES], cwd=room, capture_output=True)
+        if fetched.returncode != 0:
+            return b""
+        for package in sorted(pathlib.Path(room).glob("*.deb")):
+            subprocess.run(["dpkg-deb", "--extract", package, room], check=True)
+        files = sorted(it for it in pathlib.Path(room).rglob("*.html") if it.is_file() and not it.is_symlink())
+        return b"".join(filter(is_utf8, (it.read_bytes() for it in files)))
+
+
+def is_utf8(text):
+    try:
+        text.decode()
+    except UnicodeDecodeError:
+        return False
+    return True
 
 
 def plain_text(megabytes):

@@ -5,7 +5,7 @@ use html5ever::TokenizerError;
 use html5ever::tokenizer::collect::Collector;
 use html5ever::tokenizer::{
     BufferQueue, NamedReferences, TableError, Token, TokenSink, Tokenizer, TokenizerOpts,
-    TokenizerResult, feed_until_done,
+    TokenizerResult, feed_until_done, read_whole,
 };
 use std::alloc::Allocator;
 
@@ -21,6 +21,18 @@ pub fn few_names<A: Allocator + Copy>(alloc: A) -> Result<NamedReferences<A>, Ta
         }
     }
     NamedReferences::check(alloc, entries) // or the first fault, and where it is
+}
+
+/// The tokens of a text.
+pub fn tokens_of_text<A: Allocator + Copy>(
+    alloc: A,
+    names: &NamedReferences<A>,
+    text: String<A>,
+) -> Result<Collector<A>, TokenizerError> {
+    let sink = Collector::new(alloc, false); // or any lawful sink
+    let (sink, read) = read_whole(alloc, sink, TokenizerOpts::default(), names, text);
+    read?; // or why it stopped; then the sink was sent a beginning
+    Ok(sink)
 }
 
 /// What a text tells that arrives in two pieces.

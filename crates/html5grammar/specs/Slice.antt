@@ -3,7 +3,7 @@ use Rattle.std.specs.Prelude.{ℕ, Bool, List, [], ◌∷◌, ◌++◌, map, if�
 use Rattle.html5ever_interface.specs.Token.{Told, TagOf}
 use Rattle.html5grammar.specs.Start.{Open}
 
--- what is told only when a later character, or the end, decides it
+-- what is told only when a later character, the last one of its own item, or the end decides it
 pub record Late : Type 0 where
   pub token : Told
   -- how many characters before the place behind the deciding one the token stands
@@ -25,7 +25,7 @@ pub data Cell : Type 0 where
 pub data Behind : Type 0 where
   -- first something is told at the next character, and this is open
   Leaves : List Told → Open → Behind
-  -- the next character, or the end, decides what is told before it, and then this is open
+  -- the next character decides what is told before it, and then this is open; what the end decides is said in `EndOfInput`
   Settles : List Late → Open → Behind
   -- behind `<!` and what is held the next character begins no comment and no doctype: whether a CDATA section may begin there is
   -- asked of the sink

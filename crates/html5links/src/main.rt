@@ -1,12 +1,7 @@
 //! Prints the links of pages, a line each.
 #![tactic(auto)]
 
-mod filter;
-mod links;
-#[cfg(test)]
-mod tests;
-
-use crate::links::Links;
+use html5extract::links::Links;
 use html5filter::{Program, run};
 use std::process::ExitCode;
 

@@ -7,11 +7,11 @@ use html5ever_interface::states::State;
 use std::alloc::{Allocator, Global};
 
 /// What is open: the state, and the tag that was begun.
-#[derive(Drop)]
 pub struct Opened<A: Allocator = Global> {
     pub state: State,
     pub tag: CurrentTag<A>,
-    /// The comment that was begun, up to here, or the characters that may begin a keyword.
+    /// The comment that was begun, up to here, the text that is held of a CDATA section, or the
+    /// characters that may begin a keyword.
     pub comment: String<A>,
     /// The DOCTYPE that was begun, up to here.
     pub doctype: Doctype<A>,
@@ -19,6 +19,20 @@ pub struct Opened<A: Allocator = Global> {
     pub letters: String<A>,
     /// The name whose end tag ends raw text, that of the last start tag. The empty name is none.
     pub last_start_tag: String<A>,
+}
+
+// By hand, since a derived drop is written out wherever a value is dropped, and proved there.
+impl<A: Allocator> Drop for Opened<A> {
+    fn drop(self) {
+        let Opened {
+            state: _,
+            tag: _,
+            comment: _,
+            doctype: _,
+            letters: _,
+            last_start_tag: _,
+        } = self;
+    }
 }
 
 /// What a character brings, beside what it tells.

@@ -49,13 +49,24 @@ use std::alloc::{AllocError, Allocator, Global};
 use std::marker::Model;
 
 /// Where a tokenizer stands in its stream: how characters come in, and what is open.
-#[derive(Drop)]
 pub struct Position<A: Allocator = Global> {
     opened: Opened<A>,
     // Whether a reference is open too, of which `held` has what was read.
     in_reference: bool,
     held: CharRef<A>,
     input: Input,
+}
+
+// By hand, as that of `Opened`.
+impl<A: Allocator> Drop for Position<A> {
+    fn drop(self) {
+        let Position {
+            opened: _,
+            in_reference: _,
+            held: _,
+            input: _,
+        } = self;
+    }
 }
 
 impl<A: Allocator> Model for Position<A> {

@@ -1,12 +1,7 @@
 //! Prints the text of pages.
 #![tactic(auto)]
 
-mod filter;
-mod page_text;
-#[cfg(test)]
-mod tests;
-
-use crate::page_text::PageText;
+use html5extract::page_text::PageText;
 use html5filter::{Program, run};
 use std::process::ExitCode;
 

@@ -1,5 +1,5 @@
 //! Worked cases of what brings bytes in and text out: devices, pages, texts from bytes, lists of
-//! references, and streams.
+//! references, streams, and what is taken from pages.
 #![tactic(auto)]
 
 #[cfg(test)]
@@ -7,8 +7,12 @@ mod carried_bytes;
 #[cfg(test)]
 mod decoder;
 #[cfg(test)]
+mod link_pages;
+#[cfg(test)]
 mod pages;
 #[cfg(test)]
 mod stream;
 #[cfg(test)]
 mod table_list;
+#[cfg(test)]
+mod text_pages;

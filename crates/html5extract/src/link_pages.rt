@@ -2,7 +2,7 @@
 ghost use Rattle.std.specs.Prelude.{◌≡◌, ℕ, ◌+◌, Err, OnOk, OnErr};
 ghost use Rattle.html5stream.specs.Pages.{ReadsPage, StopsPage, tags_page, tags_handed, tags_behind};
 ghost use Rattle.html5stream.specs.Streams.{GivesNoText, failed_reads};
-ghost use Rattle.html5links.specs.Links.{links_step};
+ghost use Rattle.html5extract.specs.Links.{links_step};
 
 use crate::links::Links;
 use devices::{Source, Target};

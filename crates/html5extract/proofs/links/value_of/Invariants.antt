@@ -1,7 +1,7 @@
 use Rattle.std.proofs.Common.{◌≡◌, map, drop}
-use Rattle.html5links.specs.Links.{value_of}
+use Rattle.html5extract.specs.Links.{value_of}
 use Rattle.markup5ever.specs.Names.{attribute_of}
-use Rattle.html5links.proofs.links.value_of.Given as goal
+use Rattle.html5extract.proofs.links.value_of.Given as goal
 
 abbrev pub invariant-loop-attribute : goal.invariant-loop-attribute
 invariant-loop-attribute g l =

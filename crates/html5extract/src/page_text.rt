@@ -1,7 +1,7 @@
 //! The text of a page, without its scripts and styles.
 ghost use Rattle.std.specs.Prelude.{◌≡◌, ◌++◌, false, OnOk, OnErr};
 ghost use Rattle.html5ever_interface.specs.Token.{told_by};
-ghost use Rattle.html5text.specs.PageText.{is_skipped, within_behind, shown};
+ghost use Rattle.html5extract.specs.PageText.{is_skipped, within_behind, shown};
 
 use devices::Target;
 use html5ever_interface::interface::token::{SinkFault, TagKind, Token};
@@ -39,7 +39,7 @@ pub struct PageText<W, A: Allocator = Global> {
 }
 
 impl<W, A: Allocator> Model for PageText<W, A> {
-    ghost use Rattle.html5text.specs.PageText.{Showing};
+    ghost use Rattle.html5extract.specs.PageText.{Showing};
 
     ghost Value = { Showing W };
 
@@ -90,7 +90,7 @@ impl<W: Target, A: Allocator> PageText<W, A> {
 }
 
 impl<W: Target, A: Allocator> RunHandler<Token<A>> for PageText<W, A> {
-    ghost use Rattle.html5text.specs.PageText.{Reading, reading_of, text_step};
+    ghost use Rattle.html5extract.specs.PageText.{Reading, reading_of, text_step};
 
     ghost State = { Reading };
 

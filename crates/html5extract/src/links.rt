@@ -3,7 +3,7 @@ ghost use Rattle.std.specs.Prelude.{◌≡◌, ◌++◌, map, option_map, string
 ghost use Rattle.std.specs.List.{flat_map};
 ghost use Rattle.html5ever_interface.specs.Token.{tag_of};
 ghost use Rattle.markup5ever.specs.Names.{attribute_of};
-ghost use Rattle.html5links.specs.Links.{value_of, link_attribute, link_of, kept, line_of};
+ghost use Rattle.html5extract.specs.Links.{value_of, link_attribute, link_of, kept, line_of};
 
 use devices::Target;
 use html5ever_interface::interface::token::{SinkFault, Tag, TagKind};
@@ -91,7 +91,7 @@ pub struct Links<W, A: Allocator = Global> {
 
 impl<W: Target, A: Allocator + Copy> TagHandler<Tag<A>> for Links<W, A> {
     ghost use Rattle.std.specs.Prelude.{ℕ, List};
-    ghost use Rattle.html5links.specs.Links.{links_step};
+    ghost use Rattle.html5extract.specs.Links.{links_step};
 
     ghost State = { List ℕ };
 

@@ -1,4 +1,5 @@
-use crate::links::Links;
+//! The links of pages.
+use html5extract::links::Links;
 use devices::WriteTarget;
 use html5filter::fakes::filtered;
 use html5stream::StreamError;

@@ -2,7 +2,7 @@
 ghost use Rattle.std.specs.Prelude.{◌≡◌, ℕ, ◌+◌, Err, OnOk, OnErr};
 ghost use Rattle.html5stream.specs.Pages.{ReadsPage, StopsPage, runs_page, runs_handed, runs_behind};
 ghost use Rattle.html5stream.specs.Streams.{GivesNoText, failed_reads};
-ghost use Rattle.html5text.specs.PageText.{at_start, reading_of, text_step};
+ghost use Rattle.html5extract.specs.PageText.{at_start, reading_of, text_step};
 
 use crate::page_text::PageText;
 use devices::{Source, Target};

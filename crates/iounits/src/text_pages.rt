@@ -1,4 +1,5 @@
-use crate::page_text::PageText;
+//! The text of pages.
+use html5extract::page_text::PageText;
 use devices::WriteTarget;
 use html5filter::fakes::filtered;
 use html5stream::StreamError;
