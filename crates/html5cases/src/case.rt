@@ -1,5 +1,5 @@
 //! A worked case, as it is written.
-use crate::fault::CaseError;
+use caselines::{CaseError, push_line, push_meant, push_word};
 use std::alloc::Global;
 
 /// A worked case: the words of the command line and an input, and what is told.
@@ -13,78 +13,6 @@ pub struct Case {
     pub status: u8,
     /// Whether nothing is pending behind the input, where this may go on.
     pub clean: Option<bool>,
-}
-
-// How much of an escape was read.
-#[derive(Clone, Copy)]
-enum Escape {
-    None,
-    Begun,
-    Code(u32),
-}
-
-// The escape behind one of its characters.
-fn behind_escaped(text: &mut String, escape: Escape, c: char) -> Result<Escape, CaseError> {
-    let Escape::Code(code) = escape else {
-        let meant = match c {
-            'u' => return Ok(Escape::Code(0)),
-            'n' => '\n',
-            'r' => '\r',
-            't' => '\t',
-            '\\' => '\\',
-            _ => return Err(CaseError::BadLine),
-        };
-        text.push(meant)?;
-        return Ok(Escape::None);
-    };
-    match c {
-        '{' => Ok(escape),
-        '}' => {
-            let Some(meant) = char::from_u32(code) else {
-                return Err(CaseError::BadLine);
-            };
-            text.push(meant)?;
-            Ok(Escape::None)
-        }
-        _ => match c.to_digit(16) {
-            Some(digit) => Ok(Escape::Code(code.wrapping_mul(16).wrapping_add(digit))),
-            None => Err(CaseError::BadLine),
-        },
-    }
-}
-
-// Appends the text that is written with escapes: `\n`, `\r`, `\t`, `\\` and `\u{e9}`.
-fn push_meant(text: &mut String, written: &str) -> Result<(), CaseError> {
-    let mut escape = Escape::None;
-    for c in written.chars() {
-        escape = match escape {
-            Escape::None if c == '\\' => Escape::Begun,
-            Escape::None => {
-                text.push(c)?;
-                Escape::None
-            }
-            begun => behind_escaped(text, begun, c)?,
-        };
-    }
-    match escape {
-        Escape::None => Ok(()),
-        _ => Err(CaseError::BadLine),
-    }
-}
-
-// Appends a line.
-fn push_line(lines: &mut String, line: &str) -> Result<(), CaseError> {
-    lines.push_str(line)?;
-    lines.push('\n')?;
-    Ok(())
-}
-
-// Appends a word.
-fn push_word(alloc: Global, words: &mut Vec<String>, word: &str) -> Result<(), CaseError> {
-    match words.push(String::from_str(alloc, word)?) {
-        Ok(()) => Ok(()),
-        Err(_) => Err(CaseError::Memory),
-    }
 }
 
 // Whether nothing is pending, by its word.

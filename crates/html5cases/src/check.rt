@@ -5,7 +5,7 @@ ghost use Rattle.html5table.specs.Listed.{listed};
 
 use crate::case::Case;
 use crate::clones::check_clones;
-use crate::fault::CaseError;
+use caselines::CaseError;
 use devices::{ReadSource, WriteTarget};
 use html5cli::arguments::settings_of;
 use html5cli::names::names_of;

@@ -1,6 +1,6 @@
 //! Clones of what a case tells: of each token, of tags and doctypes, of attributes and names.
 use crate::case::Case;
-use crate::fault::CaseError;
+use caselines::CaseError;
 use html5cli::arguments::settings_of;
 use html5cli::names::names_of;
 use html5cli::print::options_of;

@@ -4,7 +4,6 @@
 mod case;
 mod check;
 mod clones;
-mod fault;
 
 use crate::check::check_cases;
 use devices::{ReadSource, WriteTarget, read_to_end, write_all};

@@ -1,0 +1,37 @@
+//! What worked cases and scripts share in how they are written: lines, words, texts with escapes.
+#![tactic(auto)]
+
+mod escapes;
+
+pub use crate::escapes::push_meant;
+use std::alloc::{AllocError, Global};
+
+/// Why what is written can't be read or run.
+#[derive(Clone, Copy, Debug, PartialEq, Eq)]
+pub enum CaseError {
+    /// A line that has no meaning where it stands.
+    BadLine,
+    /// Memory ran out.
+    Memory,
+}
+
+impl From<AllocError> for CaseError {
+    fn from(_refused: AllocError) -> CaseError {
+        CaseError::Memory
+    }
+}
+
+/// Appends a line.
+pub fn push_line(lines: &mut String, line: &str) -> Result<(), CaseError> {
+    lines.push_str(line)?;
+    lines.push('\n')?;
+    Ok(())
+}
+
+/// Appends a word.
+pub fn push_word(alloc: Global, words: &mut Vec<String>, word: &str) -> Result<(), CaseError> {
+    match words.push(String::from_str(alloc, word)?) {
+        Ok(()) => Ok(()),
+        Err(_) => Err(CaseError::Memory),
+    }
+}

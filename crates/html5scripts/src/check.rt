@@ -1,0 +1,151 @@
+//! Plays scripts in each way that they ask for, and tells which failed.
+use crate::play::{Played, play};
+use crate::player::Cutting;
+use crate::script::{Script, Step};
+use crate::stop::Stop;
+use crate::sweep::{Swept, sweep};
+use caselines::CaseError;
+use refusing::Refusing;
+use std::alloc::{AllocError, Global};
+
+/// What the scripts tell, a line for each that failed and one for all, and how many failed.
+#[derive(Drop)]
+pub struct Told {
+    pub lines: String,
+    pub failed: u64,
+}
+
+// What a stop says.
+fn words_of(alloc: Global, stop: &Stop) -> Result<String, AllocError> {
+    match stop {
+        Stop::BadStep => String::from_str(alloc, "it can't be taken there"),
+        Stop::Memory => String::from_str(alloc, "no memory"),
+        Stop::Differs { expected, found } => {
+            format!(in alloc; "expected {expected:?}, found {found:?}")
+        }
+    }
+}
+
+// What a play says that failed: the step, counted from 1, and why.
+fn failure_of(alloc: Global, way: &str, played: &Played) -> Result<String, AllocError> {
+    match &played.stop {
+        None => format!(in alloc; "{way}: no error, told {:?}", played.lines),
+        Some((place, stop)) => {
+            let number = place.saturating_add(1);
+            let words = words_of(alloc, stop)?;
+            format!(in alloc; "{way}: step {number}: {words}, told {:?}", played.lines)
+        }
+    }
+}
+
+// Plays a script with memory for all, or for as many requests as it may make. Answers the lines told,
+// or what failed.
+fn play_cut(
+    alloc: Global,
+    script: &Script,
+    cutting: Cutting,
+) -> Result<Result<String, String>, CaseError> {
+    let heap = Refusing::new(alloc, script.requests.unwrap_or(u64::MAX));
+    let played = play(alloc, &heap, script, cutting)?;
+    if played.stop.is_some() {
+        return Ok(Err(failure_of(alloc, &format!(in alloc; "{cutting:?}")?, &played)?));
+    }
+    if heap.has_refused() {
+        return Ok(Err(String::from_str(alloc, "more memory than it may ask for")?));
+    }
+    Ok(Ok(played.lines))
+}
+
+// How many characters the longest piece has.
+fn longest_piece(script: &Script) -> usize {
+    let mut longest = 0;
+    for step in &script.steps {
+        if let Step::Piece(text) = step {
+            longest = longest.max(text.chars().count());
+        }
+    }
+    longest
+}
+
+// Plays a script with its pieces cut, in each way. Answers what failed first, if something did.
+fn play_all_cuts(alloc: Global, script: &Script) -> Result<Option<String>, CaseError> {
+    if let Err(failure) = play_cut(alloc, script, Cutting::Characters)? {
+        return Ok(Some(failure));
+    }
+    for count in 0..=longest_piece(script) {
+        if let Err(failure) = play_cut(alloc, script, Cutting::Two(count))? {
+            return Ok(Some(failure));
+        }
+    }
+    Ok(None)
+}
+
+// Plays a script with each request refused in turn. Answers what failed, if something did.
+fn play_refused(alloc: Global, script: &Script, whole: &str) -> Result<Option<String>, CaseError> {
+    let Some(least) = &script.refusals else {
+        return Ok(None);
+    };
+    match sweep(alloc, script, least, whole)? {
+        Swept::Passed => Ok(None),
+        Swept::Failed(admitted, played) => {
+            let way = format!(in alloc; "request {admitted} refused")?;
+            Ok(Some(failure_of(alloc, &way, &played)?))
+        }
+        Swept::Fewer(found) => {
+            Ok(Some(format!(in alloc; "expected {least:?}, found {found:?}")?))
+        }
+    }
+}
+
+// Plays a script in each way that it asks for. Answers what failed first, if something did.
+fn failure_in(alloc: Global, script: &Script) -> Result<Option<String>, CaseError> {
+    let whole = match play_cut(alloc, script, Cutting::Whole)? {
+        Ok(lines) => lines,
+        Err(failure) => return Ok(Some(failure)),
+    };
+    if script.is_cut {
+        if let Some(failure) = play_all_cuts(alloc, script)? {
+            return Ok(Some(failure));
+        }
+    }
+    play_refused(alloc, script, &whole)
+}
+
+// Plays a script, and tells where it fails.
+fn check_script(alloc: Global, script: &Script, told: &mut Told) -> Result<(), CaseError> {
+    if let Some(failure) = failure_in(alloc, script)? {
+        let line = format!(in alloc; "failed: {}: {failure}\n", script.name)?;
+        told.lines.push_str(&line)?;
+        told.failed = told.failed.wrapping_add(1);
+    }
+    Ok(())
+}
+
+/// Plays the scripts of a text. Each ends at an empty line; a line that begins with `#` is none of a
+/// script.
+pub fn check_scripts(alloc: Global, text: &str) -> Result<Told, CaseError> {
+    let mut told = Told {
+        lines: String::new(alloc),
+        failed: 0,
+    };
+    let mut script = Script::new(alloc);
+    let mut lines = 0u64;
+    let mut scripts = 0u64;
+    for line in text.lines() {
+        if line.starts_with('#') {
+            continue;
+        }
+        if !line.is_empty() {
+            script.read_line(alloc, line)?;
+            lines = lines.wrapping_add(1);
+        } else if lines != 0 {
+            check_script(alloc, &script, &mut told)?;
+            script = Script::new(alloc);
+            lines = 0;
+            scripts = scripts.wrapping_add(1);
+        }
+    }
+    let last = format!(in alloc; "{scripts} scripts, {} failed\n", told.failed)?;
+    told.lines.push_str(&last)?;
+    Ok(told)
+}
