@@ -18,6 +18,7 @@ pub struct Told {
 // What a stop says.
 fn words_of(alloc: Global, stop: &Stop) -> Result<String, AllocError> {
     match stop {
+        Stop::BadWords => String::from_str(alloc, "unknown words, or a table with a fault"),
         Stop::BadStep => String::from_str(alloc, "it can't be taken there"),
         Stop::Memory => String::from_str(alloc, "no memory"),
         Stop::Differs { expected, found } => {
@@ -99,6 +100,9 @@ fn play_refused(alloc: Global, script: &Script, whole: &str) -> Result<Option<St
 
 // Plays a script in each way that it asks for. Answers what failed first, if something did.
 fn failure_in(alloc: Global, script: &Script) -> Result<Option<String>, CaseError> {
+    if let Some(line) = &script.unknown {
+        return Ok(Some(format!(in alloc; "no line of a script: {line:?}")?));
+    }
     let whole = match play_cut(alloc, script, Cutting::Whole)? {
         Ok(lines) => lines,
         Err(failure) => return Ok(Some(failure)),
@@ -136,7 +140,7 @@ pub fn check_scripts(alloc: Global, text: &str) -> Result<Told, CaseError> {
             continue;
         }
         if !line.is_empty() {
-            script.read_line(alloc, line)?;
+            script.read(alloc, line)?;
             lines = lines.wrapping_add(1);
         } else if lines != 0 {
             check_script(alloc, &script, &mut told)?;

@@ -2,7 +2,6 @@
 use crate::player::{Cutting, Player, Stage};
 use crate::script::{Script, SinkKind, Step};
 use crate::stop::Stop;
-use caselines::CaseError;
 use html5cli::arguments::settings_of;
 use html5cli::names::names_of;
 use html5ever_interface::collect::Collector;
@@ -110,13 +109,13 @@ pub fn play(
     heap: &Refusing<Global>,
     script: &Script,
     cutting: Cutting,
-) -> Result<Played, CaseError> {
+) -> Result<Played, AllocError> {
     let Some(settings) = settings_of(&script.words) else {
-        return Err(CaseError::BadLine);
+        return outcome_of(ample, Err(Stop::BadWords), 0);
     };
     let enough = Refusing::new(ample, u64::MAX);
     let Ok(names) = names_of(&enough, settings.table) else {
-        return Err(CaseError::BadLine);
+        return outcome_of(ample, Err(Stop::BadWords), 0);
     };
     let stage = Stage {
         ample,
@@ -126,5 +125,5 @@ pub fn play(
         cutting,
     };
     let outcome = play_on(stage, &script.steps, script.sink);
-    Ok(outcome_of(ample, outcome, script.steps.len())?)
+    outcome_of(ample, outcome, script.steps.len())
 }

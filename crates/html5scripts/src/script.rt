@@ -1,7 +1,7 @@
 //! A script, as it is written.
 use crate::repeated::{Repeated, expanded};
 use caselines::{CaseError, push_line, push_meant, push_word};
-use std::alloc::Global;
+use std::alloc::{AllocError, Global};
 
 /// The sink of a script.
 #[derive(Clone, Copy, Debug, PartialEq, Eq)]
@@ -91,6 +91,8 @@ pub struct Script {
     /// How many requests for memory it may make.
     pub requests: Option<u64>,
     pub steps: Vec<Step>,
+    /// The last line that has no meaning, if one has none.
+    pub unknown: Option<String>,
     defined: Vec<Repeated>,
 }
 
@@ -210,12 +212,25 @@ impl Script {
             refusals: None,
             requests: None,
             steps: Vec::new(alloc),
+            unknown: None,
             defined: Vec::new(alloc),
         }
     }
 
-    /// Reads a line of the script.
-    pub fn read_line(&mut self, alloc: Global, line: &str) -> Result<(), CaseError> {
+    /// Reads a line of the script, or takes note that it has no meaning.
+    pub fn read(&mut self, alloc: Global, line: &str) -> Result<(), AllocError> {
+        match self.read_line(alloc, line) {
+            Ok(()) => Ok(()),
+            Err(CaseError::BadLine) => {
+                self.unknown = Some(String::from_str(alloc, line)?);
+                Ok(())
+            }
+            Err(CaseError::Memory) => Err(AllocError),
+        }
+    }
+
+    // Reads a line of the script.
+    fn read_line(&mut self, alloc: Global, line: &str) -> Result<(), CaseError> {
         if let Some(definition) = line.strip_prefix("define ") {
             let repeated = Repeated::read(alloc, definition)?;
             return self.defined.push(repeated).map_err(|_| CaseError::Memory);

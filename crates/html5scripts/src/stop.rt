@@ -5,6 +5,8 @@ use std::alloc::{AllocError, Global};
 /// Why a play stops.
 #[derive(Debug, Drop)]
 pub enum Stop {
+    /// Words that the program does not know, or a table that has a fault.
+    BadWords,
     /// A step that can't be taken where it stands.
     BadStep,
     /// There was no memory for what the script itself hands in.

@@ -14,7 +14,7 @@ pub enum Swept {
     Passed,
     /// The play failed that had so many requests let through.
     Failed(u64, Played),
-    /// There were less refusals than the script says.
+    /// There were so many refusals, fewer than the script says.
     Fewer(Refusals),
 }
 
