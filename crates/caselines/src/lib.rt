@@ -1,8 +1,10 @@
-//! What worked cases and scripts share in how they are written: lines, words, texts with escapes.
+//! What programs share that run worked cases or scripts: how these are written, and running each.
 #![tactic(auto)]
 
+mod cases;
 mod escapes;
 
+pub use crate::cases::{Case, Told, check_cases};
 pub use crate::escapes::push_meant;
 use std::alloc::{AllocError, Global};
 

@@ -1,10 +1,11 @@
 //! A worked case, as it is written.
-use caselines::{CaseError, push_line, push_meant, push_word};
+use crate::check::failure_of;
+use caselines::{Case, CaseError, push_line, push_meant, push_word};
 use std::alloc::Global;
 
 /// A worked case: the words of the command line and an input, and what is told.
 #[derive(Drop)]
-pub struct Case {
+pub struct WorkedCase {
     pub name: String,
     pub words: Vec<String>,
     pub input: String,
@@ -24,10 +25,9 @@ fn clean_of(word: &str) -> Result<bool, CaseError> {
     }
 }
 
-impl Case {
-    /// A case of which no line was read.
-    pub fn new(alloc: Global) -> Case {
-        Case {
+impl Case for WorkedCase {
+    fn begin(alloc: Global) -> WorkedCase {
+        WorkedCase {
             name: String::new(alloc),
             words: Vec::new(alloc),
             input: String::new(alloc),
@@ -38,8 +38,8 @@ impl Case {
         }
     }
 
-    /// Reads a line of the case: a mark, and what stands behind the space that follows it.
-    pub fn read_line(&mut self, alloc: Global, line: &str) -> Result<(), CaseError> {
+    // A mark, and what stands behind the space that follows it.
+    fn read_line(&mut self, alloc: Global, line: &str) -> Result<(), CaseError> {
         let (mark, text) = line.split_once(' ').unwrap_or((line, ""));
         match mark {
             "*" => self.name.push_str(text)?,
@@ -55,5 +55,9 @@ impl Case {
             _ => return Err(CaseError::BadLine),
         }
         Ok(())
+    }
+
+    fn failure(&self, alloc: Global) -> Result<Option<String>, CaseError> {
+        failure_of(alloc, self)
     }
 }

@@ -1,4 +1,4 @@
-//! Plays scripts in each way that they ask for, and tells which failed.
+//! Plays a script in each way that it asks for, and says where it fails.
 use crate::play::{Played, play};
 use crate::player::Cutting;
 use crate::script::{Script, Step};
@@ -7,13 +7,6 @@ use crate::sweep::{Swept, sweep};
 use caselines::CaseError;
 use refusing::Refusing;
 use std::alloc::{AllocError, Global};
-
-/// What the scripts tell, a line for each that failed and one for all, and how many failed.
-#[derive(Drop)]
-pub struct Told {
-    pub lines: String,
-    pub failed: u64,
-}
 
 // What a stop says.
 fn words_of(alloc: Global, stop: &Stop) -> Result<String, AllocError> {
@@ -28,7 +21,7 @@ fn words_of(alloc: Global, stop: &Stop) -> Result<String, AllocError> {
 }
 
 // What a play says that failed: the step, counted from 1, and why.
-fn failure_of(alloc: Global, way: &str, played: &Played) -> Result<String, AllocError> {
+fn failed_play(alloc: Global, way: &str, played: &Played) -> Result<String, AllocError> {
     match &played.stop {
         None => format!(in alloc; "{way}: no error, told {:?}", played.lines),
         Some((place, stop)) => {
@@ -49,7 +42,7 @@ fn play_cut(
     let heap = Refusing::new(alloc, script.requests.unwrap_or(u64::MAX));
     let played = play(alloc, &heap, script, cutting)?;
     if played.stop.is_some() {
-        return Ok(Err(failure_of(alloc, &format!(in alloc; "{cutting:?}")?, &played)?));
+        return Ok(Err(failed_play(alloc, &format!(in alloc; "{cutting:?}")?, &played)?));
     }
     if heap.has_refused() {
         return Ok(Err(String::from_str(alloc, "more memory than it may ask for")?));
@@ -90,7 +83,7 @@ fn play_refused(alloc: Global, script: &Script, whole: &str) -> Result<Option<St
         Swept::Passed => Ok(None),
         Swept::Failed(admitted, played) => {
             let way = format!(in alloc; "request {admitted} refused")?;
-            Ok(Some(failure_of(alloc, &way, &played)?))
+            Ok(Some(failed_play(alloc, &way, &played)?))
         }
         Swept::Fewer(found) => {
             Ok(Some(format!(in alloc; "expected {least:?}, found {found:?}")?))
@@ -98,8 +91,8 @@ fn play_refused(alloc: Global, script: &Script, whole: &str) -> Result<Option<St
     }
 }
 
-// Plays a script in each way that it asks for. Answers what failed first, if something did.
-fn failure_in(alloc: Global, script: &Script) -> Result<Option<String>, CaseError> {
+/// Plays a script in each way that it asks for. Answers what failed first, if something did.
+pub fn failure_of(alloc: Global, script: &Script) -> Result<Option<String>, CaseError> {
     if let Some(line) = &script.unknown {
         return Ok(Some(format!(in alloc; "no line of a script: {line:?}")?));
     }
@@ -113,43 +106,4 @@ fn failure_in(alloc: Global, script: &Script) -> Result<Option<String>, CaseErro
         }
     }
     play_refused(alloc, script, &whole)
-}
-
-// Plays a script, and tells where it fails.
-fn check_script(alloc: Global, script: &Script, told: &mut Told) -> Result<(), CaseError> {
-    if let Some(failure) = failure_in(alloc, script)? {
-        let line = format!(in alloc; "failed: {}: {failure}\n", script.name)?;
-        told.lines.push_str(&line)?;
-        told.failed = told.failed.wrapping_add(1);
-    }
-    Ok(())
-}
-
-/// Plays the scripts of a text. Each ends at an empty line; a line that begins with `#` is none of a
-/// script.
-pub fn check_scripts(alloc: Global, text: &str) -> Result<Told, CaseError> {
-    let mut told = Told {
-        lines: String::new(alloc),
-        failed: 0,
-    };
-    let mut script = Script::new(alloc);
-    let mut lines = 0u64;
-    let mut scripts = 0u64;
-    for line in text.lines() {
-        if line.starts_with('#') {
-            continue;
-        }
-        if !line.is_empty() {
-            script.read(alloc, line)?;
-            lines = lines.wrapping_add(1);
-        } else if lines != 0 {
-            check_script(alloc, &script, &mut told)?;
-            script = Script::new(alloc);
-            lines = 0;
-            scripts = scripts.wrapping_add(1);
-        }
-    }
-    let last = format!(in alloc; "{scripts} scripts, {} failed\n", told.failed)?;
-    told.lines.push_str(&last)?;
-    Ok(told)
 }

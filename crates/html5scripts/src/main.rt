@@ -11,7 +11,8 @@ mod stop;
 mod sweep;
 mod wholes;
 
-use crate::check::check_scripts;
+use crate::script::Script;
+use caselines::check_cases;
 use devices::{ReadSource, WriteTarget, read_to_end, write_all};
 use std::process::ExitCode;
 
@@ -22,7 +23,7 @@ fn main(rt: HostRuntime) -> ExitCode {
     let Ok(text) = String::from_utf8(bytes) else {
         return ExitCode::from(2);
     };
-    let Ok(told) = check_scripts(rt.alloc(), &text) else {
+    let Ok(told) = check_cases::<Script>(rt.alloc(), &text, "scripts") else {
         return ExitCode::from(2);
     };
     let written = write_all(&mut WriteTarget::new(rt.stdout()), told.lines.as_bytes());

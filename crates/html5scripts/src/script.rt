@@ -1,7 +1,8 @@
 //! A script, as it is written.
+use crate::check::failure_of;
 use crate::repeated::{Repeated, expanded};
-use caselines::{CaseError, push_line, push_meant, push_word};
-use std::alloc::{AllocError, Global};
+use caselines::{Case, CaseError, push_line, push_meant, push_word};
+use std::alloc::Global;
 
 /// The sink of a script.
 #[derive(Clone, Copy, Debug, PartialEq, Eq)]
@@ -201,9 +202,8 @@ fn refusals_of(words: &str) -> Result<Refusals, CaseError> {
     })
 }
 
-impl Script {
-    /// A script of which no line was read.
-    pub fn new(alloc: Global) -> Script {
+impl Case for Script {
+    fn begin(alloc: Global) -> Script {
         Script {
             name: String::new(alloc),
             words: Vec::new(alloc),
@@ -217,20 +217,27 @@ impl Script {
         }
     }
 
-    /// Reads a line of the script, or takes note that it has no meaning.
-    pub fn read(&mut self, alloc: Global, line: &str) -> Result<(), AllocError> {
-        match self.read_line(alloc, line) {
-            Ok(()) => Ok(()),
+    fn read_line(&mut self, alloc: Global, line: &str) -> Result<(), CaseError> {
+        match self.read_mark(alloc, line) {
             Err(CaseError::BadLine) => {
                 self.unknown = Some(String::from_str(alloc, line)?);
                 Ok(())
             }
-            Err(CaseError::Memory) => Err(AllocError),
+            read => read,
         }
     }
 
-    // Reads a line of the script.
-    fn read_line(&mut self, alloc: Global, line: &str) -> Result<(), CaseError> {
+    fn failure(&self, alloc: Global) -> Result<Option<String>, CaseError> {
+        let Some(failure) = failure_of(alloc, self)? else {
+            return Ok(None);
+        };
+        Ok(Some(format!(in alloc; "{}: {failure}", self.name)?))
+    }
+}
+
+impl Script {
+    // Reads a line that has a meaning: a mark, and what stands after the space that follows it.
+    fn read_mark(&mut self, alloc: Global, line: &str) -> Result<(), CaseError> {
         if let Some(definition) = line.strip_prefix("define ") {
             let repeated = Repeated::read(alloc, definition)?;
             return self.defined.push(repeated).map_err(|_| CaseError::Memory);
