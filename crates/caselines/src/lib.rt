@@ -3,9 +3,13 @@
 
 mod cases;
 mod escapes;
+mod stop;
+mod sweep;
 
 pub use crate::cases::{Case, Told, check_cases};
 pub use crate::escapes::push_meant;
+pub use crate::stop::{Stop, compare, compare_flag};
+pub use crate::sweep::{Play, Played, Refusals, sweep};
 use std::alloc::{AllocError, Global};
 
 /// Why what is written can't be read or run.
@@ -36,4 +40,9 @@ pub fn push_word(alloc: Global, words: &mut Vec<String>, word: &str) -> Result<(
         Ok(()) => Ok(()),
         Err(_) => Err(CaseError::Memory),
     }
+}
+
+/// A number in decimal digits.
+pub fn number_of(digits: &str) -> Result<u64, CaseError> {
+    digits.parse::<u64>().map_err(|_| CaseError::BadLine)
 }

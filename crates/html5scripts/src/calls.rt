@@ -3,7 +3,7 @@
 ghost use Rattle.std.specs.Prelude.{IfOk};
 ghost use Rattle.html5reading.specs.Starting.{CanStart};
 
-use crate::stop::Stop;
+use caselines::Stop;
 use html5cli::print::{Settings, options_of};
 use html5ever::TokenizerError;
 use html5ever::tokenizer::steps::feed_until_done;

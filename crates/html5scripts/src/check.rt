@@ -1,34 +1,17 @@
 //! Plays a script in each way that it asks for, and says where it fails.
-use crate::play::{Played, play};
+use crate::play::play;
 use crate::player::Cutting;
 use crate::script::{Script, Step};
-use crate::stop::Stop;
-use crate::sweep::{Swept, sweep};
-use caselines::CaseError;
+use caselines::{CaseError, sweep};
 use refusing::Refusing;
 use std::alloc::{AllocError, Global};
 
-// What a stop says.
-fn words_of(alloc: Global, stop: &Stop) -> Result<String, AllocError> {
-    match stop {
-        Stop::BadWords => String::from_str(alloc, "unknown words, or a table with a fault"),
-        Stop::BadStep => String::from_str(alloc, "it can't be taken there"),
-        Stop::Memory => String::from_str(alloc, "no memory"),
-        Stop::Differs { expected, found } => {
-            format!(in alloc; "expected {expected:?}, found {found:?}")
-        }
-    }
-}
-
-// What a play says that failed: the step, counted from 1, and why.
-fn failed_play(alloc: Global, way: &str, played: &Played) -> Result<String, AllocError> {
-    match &played.stop {
-        None => format!(in alloc; "{way}: no error, told {:?}", played.lines),
-        Some((place, stop)) => {
-            let number = place.saturating_add(1);
-            let words = words_of(alloc, stop)?;
-            format!(in alloc; "{way}: step {number}: {words}, told {:?}", played.lines)
-        }
+// How the pieces are cut, in words.
+fn cutting_words(alloc: Global, cutting: Cutting) -> Result<String, AllocError> {
+    match cutting {
+        Cutting::Whole => String::from_str(alloc, "uncut"),
+        Cutting::Characters => String::from_str(alloc, "in characters"),
+        Cutting::Two(count) => format!(in alloc; "cut at {count}"),
     }
 }
 
@@ -42,7 +25,7 @@ fn play_cut(
     let heap = Refusing::new(alloc, script.requests.unwrap_or(u64::MAX));
     let played = play(alloc, &heap, script, cutting)?;
     if played.stop.is_some() {
-        return Ok(Err(failed_play(alloc, &format!(in alloc; "{cutting:?}")?, &played)?));
+        return Ok(Err(played.failure(alloc, cutting_words(alloc, cutting)?.as_str())?));
     }
     if heap.has_refused() {
         return Ok(Err(String::from_str(alloc, "more memory than it may ask for")?));
@@ -74,23 +57,6 @@ fn play_all_cuts(alloc: Global, script: &Script) -> Result<Option<String>, CaseE
     Ok(None)
 }
 
-// Plays a script with each request refused in turn. Answers what failed, if something did.
-fn play_refused(alloc: Global, script: &Script, whole: &str) -> Result<Option<String>, CaseError> {
-    let Some(least) = &script.refusals else {
-        return Ok(None);
-    };
-    match sweep(alloc, script, least, whole)? {
-        Swept::Passed => Ok(None),
-        Swept::Failed(admitted, played) => {
-            let way = format!(in alloc; "request {admitted} refused")?;
-            Ok(Some(failed_play(alloc, &way, &played)?))
-        }
-        Swept::Fewer(found) => {
-            Ok(Some(format!(in alloc; "expected {least:?}, found {found:?}")?))
-        }
-    }
-}
-
 /// Plays a script in each way that it asks for. Answers what failed first, if something did.
 pub fn failure_of(alloc: Global, script: &Script) -> Result<Option<String>, CaseError> {
     if let Some(line) = &script.unknown {
@@ -105,5 +71,8 @@ pub fn failure_of(alloc: Global, script: &Script) -> Result<Option<String>, Case
             return Ok(Some(failure));
         }
     }
-    play_refused(alloc, script, &whole)
+    match &script.refusals {
+        Some(least) => sweep(alloc, script, least, &whole),
+        None => Ok(None),
+    }
 }

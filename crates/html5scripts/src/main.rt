@@ -7,8 +7,6 @@ mod play;
 mod player;
 mod repeated;
 mod script;
-mod stop;
-mod sweep;
 mod wholes;
 
 use crate::script::Script;

@@ -1,7 +1,7 @@
 //! Plays a script once, on a heap.
 use crate::player::{Cutting, Player, Stage};
 use crate::script::{Script, SinkKind, Step};
-use crate::stop::Stop;
+use caselines::{Play, Played, Stop};
 use html5cli::arguments::settings_of;
 use html5cli::names::names_of;
 use html5ever_interface::collect::Collector;
@@ -16,13 +16,6 @@ use testsinks::steering::Steering;
 
 /// A heap that refuses a request.
 pub type Heap<'h> = &'h Refusing<Global>;
-
-/// What a play came to: the step at which it stopped, if it did, and the lines that were told.
-#[derive(Drop)]
-pub struct Played {
-    pub stop: Option<(usize, Stop)>,
-    pub lines: String,
-}
 
 // Takes the steps, up to one that stops the play.
 fn take_steps<'t, S: TokenSink<Token<Heap<'t>>> + Shown>(
@@ -100,6 +93,12 @@ fn outcome_of(
             stop: Some((steps, stop)),
             lines: String::new(ample),
         }),
+    }
+}
+
+impl Play for Script {
+    fn play(&self, ample: Global, heap: &Refusing<Global>) -> Result<Played, AllocError> {
+        play(ample, heap, self, Cutting::Whole)
     }
 }
 

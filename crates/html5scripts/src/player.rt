@@ -3,8 +3,8 @@ use crate::calls::{
     begin, end, feed, feed_on, finish, is_error, options, set_plain, word_of, word_of_result,
 };
 use crate::script::{Call, Law, Step, Whole};
-use crate::stop::{Stop, compare, compare_flag};
 use crate::wholes::{joined, read, read_item};
+use caselines::{Stop, compare, compare_flag};
 use html5cli::print::Settings;
 use html5ever::tokenizer::{Tokenizer, steps};
 use html5ever_interface::interface::sink::TokenSink;

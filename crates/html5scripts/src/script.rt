@@ -1,7 +1,7 @@
 //! A script, as it is written.
 use crate::check::failure_of;
 use crate::repeated::{Repeated, expanded};
-use caselines::{Case, CaseError, push_line, push_meant, push_word};
+use caselines::{Case, CaseError, Refusals, number_of, push_line, push_meant, push_word};
 use std::alloc::Global;
 
 /// The sink of a script.
@@ -69,14 +69,6 @@ pub enum Step {
     Told(String),
     /// Each further call is refused, and changes nothing.
     Refused,
-}
-
-/// How many requests for memory are refused at least, each in a play of its own.
-#[derive(Clone, Copy, Debug, PartialEq, Eq)]
-pub struct Refusals {
-    pub all: u64,
-    pub in_tokenizer: u64,
-    pub in_sink: u64,
 }
 
 /// A script: how it is played, and its steps.
@@ -162,11 +154,6 @@ fn step_of(alloc: Global, line: &str) -> Result<Step, CaseError> {
     text_step(verb, text)
 }
 
-// A number in decimal digits.
-fn number_of(digits: &str) -> Result<u64, CaseError> {
-    digits.parse::<u64>().map_err(|_| CaseError::BadLine)
-}
-
 // The sink that faults at that call, or at the end.
 fn faulting(call: &str) -> Result<SinkKind, CaseError> {
     if call == "end" {
@@ -190,16 +177,6 @@ fn sink_of(words: &str) -> Result<SinkKind, CaseError> {
             _ => Err(CaseError::BadLine),
         },
     }
-}
-
-// How many requests are refused at least: in all, in the tokenizer, and in its sink.
-fn refusals_of(words: &str) -> Result<Refusals, CaseError> {
-    let mut numbers = words.split(' ');
-    Ok(Refusals {
-        all: number_of(numbers.next().unwrap_or(""))?,
-        in_tokenizer: number_of(numbers.next().unwrap_or(""))?,
-        in_sink: number_of(numbers.next().unwrap_or(""))?,
-    })
 }
 
 impl Case for Script {
@@ -250,7 +227,7 @@ impl Script {
             ">" => return self.read_told(text),
             "sink" => self.sink = sink_of(text)?,
             "cuts" => self.is_cut = true,
-            "refuse" => self.refusals = Some(refusals_of(text)?),
+            "refuse" => self.refusals = Some(Refusals::read(text)?),
             "memory" => self.requests = Some(number_of(text)?),
             _ => return self.read_step(alloc, &line),
         }

@@ -2,7 +2,7 @@
 ghost use Rattle.html5reading.specs.Starting.{CanStart};
 
 use crate::script::{Law, Whole};
-use crate::stop::Stop;
+use caselines::Stop;
 use html5ever::TokenizerError;
 use html5ever::tokenizer::laws::{cdata, comment, doctype, raw, reference, tag};
 use html5ever::tokenizer::steps::{Step, run_steps};

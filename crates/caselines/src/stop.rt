@@ -1,5 +1,5 @@
 //! Why a play stops before its script's end.
-use caselines::CaseError;
+use crate::CaseError;
 use std::alloc::{AllocError, Global};
 
 /// Why a play stops.
@@ -26,6 +26,20 @@ impl From<CaseError> for Stop {
         match error {
             CaseError::BadLine => Stop::BadStep,
             CaseError::Memory => Stop::Memory,
+        }
+    }
+}
+
+impl Stop {
+    /// What the stop says.
+    pub fn words(&self, alloc: Global) -> Result<String, AllocError> {
+        match self {
+            Stop::BadWords => String::from_str(alloc, "unknown words, or a table with a fault"),
+            Stop::BadStep => String::from_str(alloc, "it can't be taken there"),
+            Stop::Memory => String::from_str(alloc, "no memory"),
+            Stop::Differs { expected, found } => {
+                format!(in alloc; "expected {expected:?}, found {found:?}")
+            }
         }
     }
 }
