@@ -3,13 +3,13 @@
 
 mod cases;
 mod escapes;
+mod refusals;
 mod stop;
-mod sweep;
 
 pub use crate::cases::{Case, Told, check_cases};
 pub use crate::escapes::push_meant;
+pub use crate::refusals::{Play, Played, Refusals, sweep};
 pub use crate::stop::{Stop, compare, compare_flag};
-pub use crate::sweep::{Play, Played, Refusals, sweep};
 use std::alloc::{AllocError, Global};
 
 /// Why what is written can't be read or run.
