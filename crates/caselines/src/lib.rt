@@ -8,7 +8,7 @@ mod stop;
 
 pub use crate::cases::{Case, Told, check_cases};
 pub use crate::escapes::push_meant;
-pub use crate::refusals::{Play, Played, Refusals, sweep};
+pub use crate::refusals::{Play, Played, Wanted, sweep};
 pub use crate::stop::{Stop, compare, compare_flag};
 use std::alloc::{AllocError, Global};
 

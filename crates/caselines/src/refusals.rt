@@ -30,7 +30,7 @@ pub trait Play {
     fn play(&self, ample: Global, heap: &Refusing<Global>) -> Result<Played, AllocError>;
 }
 
-/// How many requests for memory are refused, or are at least, each in a play of its own.
+/// How many requests for memory were refused, each in a play of its own.
 #[derive(Clone, Copy, Debug, PartialEq, Eq)]
 pub struct Refusals {
     pub all: u64,
@@ -39,14 +39,46 @@ pub struct Refusals {
 }
 
 impl Refusals {
-    /// Three numbers in decimal digits: in all, in the tokenizer, and in its sink.
-    pub fn read(words: &str) -> Result<Refusals, CaseError> {
+    // Reads three numbers: in all, in the tokenizer, and in its sink.
+    fn read(words: &str) -> Result<Refusals, CaseError> {
         let mut numbers = words.split(' ');
         Ok(Refusals {
             all: number_of(numbers.next().unwrap_or(""))?,
             in_tokenizer: number_of(numbers.next().unwrap_or(""))?,
             in_sink: number_of(numbers.next().unwrap_or(""))?,
         })
+    }
+
+    // Whether none of the numbers is less than the other's.
+    fn reaches(&self, least: &Refusals) -> bool {
+        self.all >= least.all
+            && self.in_tokenizer >= least.in_tokenizer
+            && self.in_sink >= least.in_sink
+    }
+}
+
+/// How many requests for memory must be refused.
+#[derive(Clone, Copy, Debug, PartialEq, Eq)]
+pub enum Wanted {
+    AtLeast(Refusals),
+    Exactly(Refusals),
+}
+
+impl Wanted {
+    /// Reads three numbers: in all, in the tokenizer, and in its sink; before them there may be `exactly`.
+    pub fn read(words: &str) -> Result<Wanted, CaseError> {
+        match words.strip_prefix("exactly ") {
+            Some(numbers) => Ok(Wanted::Exactly(Refusals::read(numbers)?)),
+            None => Ok(Wanted::AtLeast(Refusals::read(words)?)),
+        }
+    }
+
+    // Whether so many may be found.
+    fn allows(&self, found: &Refusals) -> bool {
+        match self {
+            Wanted::AtLeast(least) => found.reaches(least),
+            Wanted::Exactly(number) => found == number,
+        }
     }
 }
 
@@ -77,25 +109,18 @@ fn count(refusals: &mut Refusals, error: &str) {
     refusals.all = refusals.all.wrapping_add(1);
 }
 
-// Whether there were as many refusals as there must be.
-fn are_enough(found: &Refusals, least: &Refusals) -> bool {
-    found.all >= least.all
-        && found.in_tokenizer >= least.in_tokenizer
-        && found.in_sink >= least.in_sink
-}
-
 // What is wrong where a sweep ended with a play that had no refusal.
 fn last_failure(
     alloc: Global,
     last: &Played,
     found: &Refusals,
-    least: &Refusals,
+    wanted: &Wanted,
 ) -> Result<Option<String>, AllocError> {
     if last.stop.is_some() {
         return Ok(Some(last.failure(alloc, "after all refusals")?));
     }
-    if !are_enough(found, least) {
-        return Ok(Some(format!(in alloc; "expected {least:?}, found {found:?}")?));
+    if !wanted.allows(found) {
+        return Ok(Some(format!(in alloc; "expected {wanted:?}, found {found:?}")?));
     }
     Ok(None)
 }
@@ -105,7 +130,7 @@ fn last_failure(
 pub fn sweep<P: Play>(
     alloc: Global,
     played: &P,
-    least: &Refusals,
+    wanted: &Wanted,
     whole: &str,
 ) -> Result<Option<String>, CaseError> {
     let mut found = Refusals {
@@ -117,7 +142,7 @@ pub fn sweep<P: Play>(
         let heap = Refusing::new(alloc, admitted);
         let play = played.play(alloc, &heap)?;
         if !heap.has_refused() {
-            return Ok(last_failure(alloc, &play, &found, least)?);
+            return Ok(last_failure(alloc, &play, &found, wanted)?);
         }
         match error_of(&play) {
             Some(error) if is_beginning(&play.lines, whole) => count(&mut found, error),

@@ -72,7 +72,7 @@ pub fn failure_of(alloc: Global, script: &Script) -> Result<Option<String>, Case
         }
     }
     match &script.refusals {
-        Some(least) => sweep(alloc, script, least, &whole),
+        Some(wanted) => sweep(alloc, script, wanted, &whole),
         None => Ok(None),
     }
 }

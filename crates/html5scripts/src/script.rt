@@ -1,7 +1,7 @@
 //! A script, as it is written.
 use crate::check::failure_of;
 use crate::repeated::{Repeated, expanded};
-use caselines::{Case, CaseError, Refusals, number_of, push_line, push_meant, push_word};
+use caselines::{Case, CaseError, Wanted, number_of, push_line, push_meant, push_word};
 use std::alloc::Global;
 
 /// The sink of a script.
@@ -80,7 +80,7 @@ pub struct Script {
     /// Whether it is played with its pieces cut, too.
     pub is_cut: bool,
     /// Whether it is played with each request for memory refused, too, and how many there are.
-    pub refusals: Option<Refusals>,
+    pub refusals: Option<Wanted>,
     /// How many requests for memory it may make.
     pub requests: Option<u64>,
     pub steps: Vec<Step>,
@@ -222,12 +222,12 @@ impl Script {
         let line = expanded(alloc, line, &self.defined)?;
         let (mark, text) = line.split_once(' ').unwrap_or((&line, ""));
         match mark {
-            "*" => self.name.push_str(text)?,
+            "*" if self.name.is_empty() => self.name.push_str(text)?,
             "$" => push_word(alloc, &mut self.words, text)?,
             ">" => return self.read_told(text),
             "sink" => self.sink = sink_of(text)?,
             "cuts" => self.is_cut = true,
-            "refuse" => self.refusals = Some(Refusals::read(text)?),
+            "refuse" => self.refusals = Some(Wanted::read(text)?),
             "memory" => self.requests = Some(number_of(text)?),
             _ => return self.read_step(alloc, &line),
         }
