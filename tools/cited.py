@@ -11,7 +11,7 @@ pages of docs/ and those of the crates. Checked are:
 - in a table with a column "Contract", or with "Call" and "Clause", each name there: a clause is one of a function,
   or a field of a record, that the row names;
 - each line of Rust in a fenced example, but for comments: some one file of a crate has all of them;
-- in docs/ARCHITECTURE.md, that each module of a crate, and each file of its specs/, is named in the crate's table.
+- in docs/ARCHITECTURE.md, that the table of a crate names each of its modules and files of specs/, and no other.
 """
 
 import pathlib
@@ -182,13 +182,16 @@ def check_examples(page, code):
 
 
 def check_map(page, code):
-    """Yields the modules and the files of specs/ that the map does not name under their crate's name."""
+    """Yields the modules and files of specs/ that the map doesn't name under their crate, and rows of no module or file."""
     heads = rf"^\*\*(`{WORD}`(?:, `{WORD}`)*)\*\*"
     parts = re.split(heads, page.read_text().partition("## Modules")[2], flags=re.M)
     for crates, text in zip(parts[1::2], parts[2::2]):
         named = set(re.findall(NAME, " ".join(CODE.findall(text))))
+        rows = {it for row in re.findall(r"^\|([^|]*)\|", text, re.M) for it in CODE.findall(row) if "/" not in it}
         for crate in re.findall(WORD, crates):
             modules = code.modules.get(crate, set()) - {"lib", "main", "tests"}
+            files = {it.stem for it in (CRATES / crate).glob("*/*.antt")}
+            yield from (f"{crate}: the map names {it}, which is none of its modules" for it in rows - modules - files)
             words = {it.stem for it in (CRATES / crate / "specs").glob("*.antt")} - {"Lib"}
             for missing in sorted((modules | words) - named):
                 if not any(it.startswith(f"{missing}::") for it in modules & named):

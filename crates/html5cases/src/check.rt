@@ -1,11 +1,11 @@
-//! Runs cases, and tells which tell something else.
+//! Runs a case, and says where it tells something else.
 ghost use Rattle.std.specs.Prelude.{IsSome};
 ghost use Rattle.html5reading.specs.Starting.{CanStart};
 ghost use Rattle.html5table.specs.Listed.{listed};
 
-use crate::case::Case;
+use crate::case::WorkedCase;
 use crate::clones::check_clones;
-use crate::fault::CaseError;
+use caselines::CaseError;
 use devices::{ReadSource, WriteTarget};
 use html5cli::arguments::settings_of;
 use html5cli::names::names_of;
@@ -14,13 +14,6 @@ use html5cli::run::run;
 use html5ever::tokenizer::Tokenizer;
 use html5print::print_sink::PrintSink;
 use std::alloc::{AllocError, Global};
-
-/// What the cases tell, a line for each that failed and one for all, and how many failed.
-#[derive(Drop)]
-pub struct Told {
-    pub lines: String,
-    pub failed: u64,
-}
 
 // What a run left.
 #[derive(Drop)]
@@ -31,7 +24,7 @@ struct Ran {
 }
 
 // The words of the case, and those that cut the input.
-fn words_of(alloc: Global, case: &Case, cut: usize) -> Result<Vec<String>, AllocError> {
+fn words_of(alloc: Global, case: &WorkedCase, cut: usize) -> Result<Vec<String>, AllocError> {
     let mut words = Vec::new(alloc);
     for word in &case.words {
         words.push(String::from_str(alloc, word)?)?;
@@ -44,7 +37,7 @@ fn words_of(alloc: Global, case: &Case, cut: usize) -> Result<Vec<String>, Alloc
 }
 
 // Runs the program on the case, cut in pieces of so many characters.
-fn run_case(alloc: Global, case: &Case, cut: usize) -> Result<Ran, AllocError> {
+fn run_case(alloc: Global, case: &WorkedCase, cut: usize) -> Result<Ran, AllocError> {
     let mut writer = WriteTarget::new(Vec::new(alloc));
     let mut errors = WriteTarget::new(Vec::new(alloc));
     let status = run(
@@ -62,7 +55,7 @@ fn run_case(alloc: Global, case: &Case, cut: usize) -> Result<Ran, AllocError> {
 }
 
 // Whether the program tells of the case, cut in pieces of so many characters, what it must tell.
-fn is_told(alloc: Global, case: &Case, cut: usize) -> Result<bool, AllocError> {
+fn is_told(alloc: Global, case: &WorkedCase, cut: usize) -> Result<bool, AllocError> {
     let ran = run_case(alloc, case, cut)?;
     Ok(
         ran.status == case.status
@@ -74,7 +67,7 @@ fn is_told(alloc: Global, case: &Case, cut: usize) -> Result<bool, AllocError> {
 // Whether of an input that may go on, cut in pieces of so many characters, is told what must be.
 fn is_told_so_far(
     alloc: Global,
-    case: &Case,
+    case: &WorkedCase,
     settings: &Settings,
     clean: bool,
 ) -> Result<bool, CaseError>
@@ -98,7 +91,7 @@ fn is_told_so_far(
 }
 
 // Whether the case tells what it must, cut in pieces of so many characters.
-fn passes(alloc: Global, case: &Case, cut: usize) -> Result<bool, CaseError> {
+fn passes(alloc: Global, case: &WorkedCase, cut: usize) -> Result<bool, CaseError> {
     let Some(clean) = case.clean else {
         return Ok(is_told(alloc, case, cut)?);
     };
@@ -110,7 +103,7 @@ fn passes(alloc: Global, case: &Case, cut: usize) -> Result<bool, CaseError> {
 }
 
 // The first cut at which the case does not tell what it must; 0 stands for the whole.
-fn failing_cut(alloc: Global, case: &Case) -> Result<Option<usize>, CaseError> {
+fn failing_cut(alloc: Global, case: &WorkedCase) -> Result<Option<usize>, CaseError> {
     if !passes(alloc, case, 0)? {
         return Ok(Some(0));
     }
@@ -125,49 +118,14 @@ fn failing_cut(alloc: Global, case: &Case) -> Result<Option<usize>, CaseError> {
     Ok(None)
 }
 
-// Runs a case, and tells where it fails.
-fn check_case(alloc: Global, case: &Case, told: &mut Told) -> Result<(), CaseError> {
-    let failing = failing_cut(alloc, case)?;
-    if let Some(cut) = failing {
-        let line = format!(in alloc;
-            "failed: {} {:?} in pieces of {cut}\n",
-            case.name, case.input
-        )?;
-        told.lines.push_str(&line)?;
-    } else if case.status != 0 || check_clones(alloc, case)? {
-        return Ok(());
-    } else {
-        let line = format!(in alloc; "failed: {} {:?}, a clone differs\n", case.name, case.input)?;
-        told.lines.push_str(&line)?;
+/// Runs a case. Answers where it fails, if it does.
+pub fn failure_of(alloc: Global, case: &WorkedCase) -> Result<Option<String>, CaseError> {
+    if let Some(cut) = failing_cut(alloc, case)? {
+        let failure = format!(in alloc; "{} {:?} in pieces of {cut}", case.name, case.input)?;
+        return Ok(Some(failure));
     }
-    told.failed = told.failed.wrapping_add(1);
-    Ok(())
-}
-
-/// Runs the cases of a text. Each ends at an empty line; a line that begins with `#` is none of a case.
-pub fn check_cases(alloc: Global, text: &str) -> Result<Told, CaseError> {
-    let mut told = Told {
-        lines: String::new(alloc),
-        failed: 0,
-    };
-    let mut case = Case::new(alloc);
-    let mut lines = 0u64;
-    let mut cases = 0u64;
-    for line in text.lines() {
-        if line.starts_with('#') {
-            continue;
-        }
-        if !line.is_empty() {
-            case.read_line(alloc, line)?;
-            lines = lines.wrapping_add(1);
-        } else if lines != 0 {
-            check_case(alloc, &case, &mut told)?;
-            case = Case::new(alloc);
-            lines = 0;
-            cases = cases.wrapping_add(1);
-        }
+    if case.status != 0 || check_clones(alloc, case)? {
+        return Ok(None);
     }
-    let last = format!(in alloc; "{cases} cases, {} failed\n", told.failed)?;
-    told.lines.push_str(&last)?;
-    Ok(told)
+    Ok(Some(format!(in alloc; "{} {:?}, a clone differs", case.name, case.input)?))
 }

@@ -1,6 +1,6 @@
 //! Clones of what a case tells: of each token, of tags and doctypes, of attributes and names.
-use crate::case::Case;
-use crate::fault::CaseError;
+use crate::case::WorkedCase;
+use caselines::CaseError;
 use html5cli::arguments::settings_of;
 use html5cli::names::names_of;
 use html5cli::print::options_of;
@@ -47,7 +47,7 @@ fn is_cloned(token: &Token) -> Result<bool, AllocError> {
 }
 
 // What a collector holds of the case.
-fn collected(alloc: Global, case: &Case) -> Result<Collector, CaseError> {
+fn collected(alloc: Global, case: &WorkedCase) -> Result<Collector, CaseError> {
     let Some(settings) = settings_of(&case.words) else {
         return Err(CaseError::BadLine);
     };
@@ -64,7 +64,7 @@ fn collected(alloc: Global, case: &Case) -> Result<Collector, CaseError> {
 }
 
 /// Whether the clones of each entry that a collector holds of the case equal it.
-pub fn check_clones(alloc: Global, case: &Case) -> Result<bool, CaseError> {
+pub fn check_clones(alloc: Global, case: &WorkedCase) -> Result<bool, CaseError> {
     for (token, _) in collected(alloc, case)?.entries() {
         if !is_cloned(token)? {
             return Ok(false);

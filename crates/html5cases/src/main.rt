@@ -4,9 +4,9 @@
 mod case;
 mod check;
 mod clones;
-mod fault;
 
-use crate::check::check_cases;
+use crate::case::WorkedCase;
+use caselines::check_cases;
 use devices::{ReadSource, WriteTarget, read_to_end, write_all};
 use std::process::ExitCode;
 
@@ -17,7 +17,7 @@ fn main(rt: HostRuntime) -> ExitCode {
     let Ok(text) = String::from_utf8(bytes) else {
         return ExitCode::from(2);
     };
-    let Ok(told) = check_cases(rt.alloc(), &text) else {
+    let Ok(told) = check_cases::<WorkedCase>(rt.alloc(), &text, "cases") else {
         return ExitCode::from(2);
     };
     let written = write_all(&mut WriteTarget::new(rt.stdout()), told.lines.as_bytes());

@@ -2,8 +2,6 @@
 #![tactic(auto)]
 
 #[cfg(test)]
-mod buffer_queue;
-#[cfg(test)]
 mod collector;
 #[cfg(test)]
 mod links;
@@ -15,8 +13,6 @@ mod names;
 mod options;
 #[cfg(test)]
 mod print_sink;
-#[cfg(test)]
-mod references;
 #[cfg(test)]
 mod small_char_set;
 #[cfg(test)]

@@ -1,7 +1,26 @@
 //! What README.md shows of the library.
-use crate::running::expect_finished;
-use crate::sinks::Steering;
-use html5examples::{few_names, read_with_script, tokens_of};
+use html5examples::{few_names, read_with_script, tokens_of, tokens_of_text};
+use std::alloc::Global;
+use std::process::Abort;
+use testsinks::shown::Shown;
+use testsinks::steering::Steering;
+
+// Compares what a sink shows.
+fn expect_shown<S: Shown>(rt: &impl Abort, alloc: Global, sink: S, lines: &str) {
+    let mut shown = String::new(alloc);
+    sink.show(alloc, &mut shown).expect(rt, "memory");
+    assert_eq!(rt; shown.as_str(), lines);
+}
+
+#[test]
+fn tells_what_a_whole_text_tells(rt: HostRuntime) {
+    let alloc = rt.alloc();
+    let text = String::from_str(alloc, "<p class=a>1 &lt; 2").expect(&rt, "memory");
+    let names = few_names(alloc).expect(&rt, "the table");
+    let sink = tokens_of_text(alloc, &names, text).expect(&rt, "the tokens");
+    let lines = "start 1 \"p\" \"class\"=\"a\"\ntext \"1 < 2\"\neof 1\nfinished\n";
+    expect_shown(&rt, alloc, sink, lines);
+}
 
 #[test]
 fn tells_what_two_pieces_tell(rt: HostRuntime) {
@@ -10,8 +29,8 @@ fn tells_what_two_pieces_tell(rt: HostRuntime) {
     let second = String::from_str(alloc, "ss=a>1 &lt; 2").expect(&rt, "memory");
     let names = few_names(alloc).expect(&rt, "the table");
     let sink = tokens_of(alloc, &names, first, second).expect(&rt, "the tokens");
-    let lines = "start 1 \"p\" \"class\"=\"a\"\ntext \"1 < 2\"\neof 1";
-    expect_finished(&rt, alloc, &sink, lines);
+    let lines = "start 1 \"p\" \"class\"=\"a\"\ntext \"1 < 2\"\neof 1\nfinished\n";
+    expect_shown(&rt, alloc, sink, lines);
 }
 
 #[test]
@@ -21,14 +40,14 @@ fn puts_in_what_a_script_wrote(rt: HostRuntime) {
     let cases = [
         (
             "a<s>\r\nx<s>y",
-            "text \"a\"\nstart 1 \"s\"\nstart 1 \"b\"\ntext \"\\nx\"\nstart 2 \"s\"\ntext \"y\"\neof 2",
+            "text \"a\"\nstart 1 \"s\"\nstart 1 \"b\"\ntext \"\\nx\"\nstart 2 \"s\"\ntext \"y\"\neof 2\nfinished\n",
         ),
-        ("a", "text \"a\"\neof 1"),
+        ("a", "text \"a\"\neof 1\nfinished\n"),
     ];
     for (text, lines) in cases {
         let text = String::from_str(alloc, text).expect(&rt, "memory");
         let written = String::from_str(alloc, "<b>").expect(&rt, "memory");
         let sink = read_with_script(alloc, Steering::new(alloc), &names, text, written);
-        expect_finished(&rt, alloc, &sink.expect(&rt, "the tokens").inner, lines);
+        expect_shown(&rt, alloc, sink.expect(&rt, "the tokens"), lines);
     }
 }

@@ -135,17 +135,15 @@ fn push_token<A: Allocator>(
     }
 }
 
-/// The entries as lines, joined by LF.
-pub fn lines_of<A: Allocator>(
+/// Appends the entries, a line each.
+pub fn push_lines<A: Allocator>(
     alloc: Global,
+    out: &mut String,
     entries: &[(Token<A>, u64)],
-) -> Result<String, AllocError> {
-    let mut out = String::new(alloc);
+) -> Result<(), AllocError> {
     for (token, line) in entries {
-        if !out.is_empty() {
-            out.push('\n')?;
-        }
-        push_token(alloc, &mut out, token, *line)?;
+        push_token(alloc, out, token, *line)?;
+        out.push('\n')?;
     }
-    Ok(out)
+    Ok(())
 }

@@ -1,0 +1,9 @@
+//! Sinks for tests and scripts: one that faults, one that replies, one to which content is now and then
+//! foreign; and what they were told, as lines.
+#![tactic(auto)]
+
+pub mod alternating;
+pub mod faulty;
+pub mod lines;
+pub mod shown;
+pub mod steering;

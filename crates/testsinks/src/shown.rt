@@ -1,0 +1,77 @@
+//! What sinks show of what they were told, and the numbers of their handles.
+use crate::alternating::Alternating;
+use crate::faulty::FaultySink;
+use crate::lines::push_lines;
+use crate::steering::Steering;
+use html5ever_interface::collect::Collector;
+use std::alloc::{AllocError, Allocator, Global};
+use std::convert::Infallible;
+
+/// A sink that shows, line by line, what it was told.
+pub trait Shown: Drop {
+    /// Appends a line for each entry, and a last line `finished` after the end.
+    fn show(&self, alloc: Global, out: &mut String) -> Result<(), AllocError>;
+}
+
+// Appends what a collector holds.
+fn show_collector<A: Allocator>(
+    sink: &Collector<A>,
+    alloc: Global,
+    out: &mut String,
+) -> Result<(), AllocError> {
+    push_lines(alloc, out, sink.entries())?;
+    if sink.is_finished() {
+        out.push_str("finished\n")?;
+    }
+    Ok(())
+}
+
+impl<A: Allocator> Shown for Collector<A> {
+    fn show(&self, alloc: Global, out: &mut String) -> Result<(), AllocError> {
+        show_collector(self, alloc, out)
+    }
+}
+
+impl<A: Allocator> Shown for Steering<A> {
+    fn show(&self, alloc: Global, out: &mut String) -> Result<(), AllocError> {
+        show_collector(&self.inner, alloc, out)
+    }
+}
+
+impl<A: Allocator> Shown for Alternating<A> {
+    fn show(&self, alloc: Global, out: &mut String) -> Result<(), AllocError> {
+        show_collector(&self.inner, alloc, out)
+    }
+}
+
+impl Shown for FaultySink {
+    fn show(&self, _alloc: Global, out: &mut String) -> Result<(), AllocError> {
+        if self.took_another {
+            out.push_str("another\n")?;
+        }
+        Ok(())
+    }
+}
+
+/// The handle of a script, as a number.
+pub trait Numbered {
+    fn number(&self) -> u32;
+}
+
+impl Numbered for u32 {
+    fn number(&self) -> u32 {
+        *self
+    }
+}
+
+impl Numbered for () {
+    fn number(&self) -> u32 {
+        0
+    }
+}
+
+impl Numbered for Infallible {
+    fn number(&self) -> u32 {
+        match *self {}
+    }
+}
