@@ -9,7 +9,7 @@ mod stop;
 pub use crate::cases::{Case, Told, check_cases};
 pub use crate::escapes::push_meant;
 pub use crate::refusals::{Play, Played, Wanted, sweep};
-pub use crate::stop::{Stop, compare, compare_flag};
+pub use crate::stop::{Stop, compare, compare_answer, compare_flag};
 use std::alloc::{AllocError, Global};
 
 /// Why what is written can't be read or run.

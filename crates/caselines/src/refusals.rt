@@ -91,7 +91,7 @@ fn is_beginning(lines: &str, others: &str) -> bool {
 fn error_of(played: &Played) -> Option<&str> {
     match &played.stop {
         Some((_, Stop::Memory)) => Some("memory of the script"),
-        Some((_, Stop::Differs { expected: _, found })) => match found.as_str() {
+        Some((_, Stop::Answers { expected: _, found })) => match found.as_str() {
             "memory" | "sink" => Some(found.as_str()),
             _ => None,
         },

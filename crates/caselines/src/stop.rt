@@ -11,7 +11,9 @@ pub enum Stop {
     BadStep,
     /// There was no memory for what the script itself hands in.
     Memory,
-    /// Something else than the script says.
+    /// A call with another answer than the script says.
+    Answers { expected: String, found: String },
+    /// Something else than the script says, or than must be after a call.
     Differs { expected: String, found: String },
 }
 
@@ -37,11 +39,25 @@ impl Stop {
             Stop::BadWords => String::from_str(alloc, "unknown words, or a table with a fault"),
             Stop::BadStep => String::from_str(alloc, "it can't be taken there"),
             Stop::Memory => String::from_str(alloc, "no memory"),
+            Stop::Answers { expected, found } => {
+                format!(in alloc; "expected the answer {expected:?}, found {found:?}")
+            }
             Stop::Differs { expected, found } => {
                 format!(in alloc; "expected {expected:?}, found {found:?}")
             }
         }
     }
+}
+
+/// Compares the answer of a call with what the script says.
+pub fn compare_answer(ample: Global, expected: &str, found: &str) -> Result<(), Stop> {
+    if expected == found {
+        return Ok(());
+    }
+    Err(Stop::Answers {
+        expected: String::from_str(ample, expected)?,
+        found: String::from_str(ample, found)?,
+    })
 }
 
 /// Compares what was found with what the script says.

@@ -2,7 +2,7 @@
 use crate::queue::{Place, eat, hand_in, next, peek, pop, skip, waiting};
 use crate::script::{Call, Entry, Script, Step};
 use crate::table::{begins, check, control, get};
-use caselines::{CaseError, Play, Played, Stop, compare, sweep};
+use caselines::{CaseError, Play, Played, Stop, compare_answer, sweep};
 use markup5ever::buffer_queue::{BufferQueue, Case};
 use markup5ever::data::NamedReferences;
 use refusing::Refusing;
@@ -35,7 +35,7 @@ impl<'s, A: Allocator + Copy> Player<'s, A> {
             Step::Entry(entry) => self.entries.push(entry).map_err(|_| Stop::Memory),
             Step::Call(call, answer) => {
                 let found = self.answer(call)?;
-                compare(self.ample, answer, &found)
+                compare_answer(self.ample, answer, &found)
             }
         }
     }

@@ -4,7 +4,7 @@ use crate::calls::{
 };
 use crate::script::{Call, Law, Step, Whole};
 use crate::wholes::{joined, read, read_item};
-use caselines::{Stop, compare, compare_flag};
+use caselines::{Stop, compare, compare_answer, compare_flag};
 use html5cli::print::Settings;
 use html5ever::tokenizer::{Tokenizer, steps};
 use html5ever_interface::interface::sink::TokenSink;
@@ -208,14 +208,14 @@ where
         let before = String::from_str(self.stage.ample, self.queue.front_text())?;
         let found = feed(self.stage.ample, &mut self.tokenizer, &mut self.queue)?;
         self.check_fed(&before, &found)?;
-        compare(self.stage.ample, answer, &found)
+        compare_answer(self.stage.ample, answer, &found)
     }
 
     fn feed_until_done(&mut self, answer: &str) -> Result<(), Stop> {
         let before = String::from_str(self.stage.ample, self.queue.front_text())?;
         let found = feed_on(&mut self.tokenizer, &mut self.queue)?;
         self.check_fed(&before, found)?;
-        compare(self.stage.ample, answer, found)
+        compare_answer(self.stage.ample, answer, found)
     }
 
     // Looks at what each feed leaves: an end of what waited, and nothing where it is done.
@@ -237,7 +237,7 @@ where
     fn end(&mut self, answer: &str) -> Result<(), Stop> {
         let found = end(&mut self.tokenizer)?;
         self.check_state(is_error(found), !is_error(found))?;
-        compare(self.stage.ample, answer, found)
+        compare_answer(self.stage.ample, answer, found)
     }
 
     // Looks at whether the tokenizer has failed, and whether it has ended.
@@ -254,7 +254,7 @@ where
         let tokenizer = mem::replace(&mut self.tokenizer, next);
         let (found, shown) = finish(stage.ample, tokenizer)?;
         self.shown = Some(shown);
-        compare(self.stage.ample, answer, found)
+        compare_answer(self.stage.ample, answer, found)
     }
 
     fn check_pending(&self, answer: &str) -> Result<(), Stop> {
@@ -263,7 +263,7 @@ where
         } else {
             "yes"
         };
-        compare(self.stage.ample, answer, found)
+        compare_answer(self.stage.ample, answer, found)
     }
 
     // Takes the parts of a whole text.
@@ -278,7 +278,7 @@ where
         let opts = options(stage.heap, &stage.settings)?;
         let (sink, read) = read(stage.heap, sink, opts, stage.names, whole, parts)?;
         self.shown = Some(shown_by(stage.ample, &sink)?);
-        compare(self.stage.ample, answer, word_of_result(&read))
+        compare_answer(self.stage.ample, answer, word_of_result(&read))
     }
 
     fn read_item(&mut self, law: Law, answer: &str) -> Result<(), Stop> {
@@ -290,9 +290,9 @@ where
         match read_item(stage.heap, opts, foreign, stage.names, law, text) {
             Ok(sink) => {
                 self.shown = Some(shown_by(stage.ample, &sink)?);
-                compare(self.stage.ample, answer, "ok")
+                compare_answer(self.stage.ample, answer, "ok")
             }
-            Err(error) => compare(stage.ample, answer, word_of(error)),
+            Err(error) => compare_answer(stage.ample, answer, word_of(error)),
         }
     }
 
