@@ -2,7 +2,7 @@
 use crate::stop::Stop;
 use crate::{CaseError, number_of};
 use refusing::Refusing;
-use std::alloc::{AllocError, Global};
+use std::alloc::{AllocError, Allocator, Global};
 
 /// What a play came to: the step at which it stopped, if it did, and the lines that were told.
 #[derive(Drop)]
@@ -25,9 +25,14 @@ impl Played {
     }
 }
 
-/// What can be played on a heap.
+/// What can be played on a heap; `enough` is another one, for what must not be refused.
 pub trait Play {
-    fn play(&self, ample: Global, heap: &Refusing<Global>) -> Result<Played, AllocError>;
+    fn play<A: Allocator + Copy>(
+        &self,
+        ample: Global,
+        heap: A,
+        enough: A,
+    ) -> Result<Played, AllocError>;
 }
 
 /// How many requests for memory were refused, each in a play of its own.
@@ -140,7 +145,8 @@ pub fn sweep<P: Play>(
     };
     for admitted in 0..u64::MAX {
         let heap = Refusing::new(alloc, admitted);
-        let play = played.play(alloc, &heap)?;
+        let enough = Refusing::new(alloc, u64::MAX);
+        let play = played.play(alloc, &heap, &enough)?;
         if !heap.has_refused() {
             return Ok(last_failure(alloc, &play, &found, wanted)?);
         }

@@ -85,7 +85,11 @@ impl<'s, A: Allocator + Copy> Player<'s, A> {
 }
 
 // Takes the steps, up to one that stops the play.
-fn take_steps(ample: Global, heap: &Refusing<Global>, steps: &[Step]) -> Option<(usize, Stop)> {
+fn take_steps<A: Allocator + Copy>(
+    ample: Global,
+    heap: A,
+    steps: &[Step],
+) -> Option<(usize, Stop)> {
     let mut player = Player::new(ample, heap);
     for (place, step) in steps.iter().enumerate() {
         if let Err(stop) = player.take(step) {
@@ -96,7 +100,12 @@ fn take_steps(ample: Global, heap: &Refusing<Global>, steps: &[Step]) -> Option<
 }
 
 impl Play for Script {
-    fn play(&self, ample: Global, heap: &Refusing<Global>) -> Result<Played, AllocError> {
+    fn play<A: Allocator + Copy>(
+        &self,
+        ample: Global,
+        heap: A,
+        _enough: A,
+    ) -> Result<Played, AllocError> {
         Ok(Played {
             stop: take_steps(ample, heap, &self.steps),
             lines: String::new(ample),
@@ -110,7 +119,7 @@ pub fn failure_of(alloc: Global, script: &Script) -> Result<Option<String>, Case
         return Ok(Some(format!(in alloc; "no line of a script: {line:?}")?));
     }
     let heap = Refusing::new(alloc, script.requests.unwrap_or(u64::MAX));
-    let played = script.play(alloc, &heap)?;
+    let played = script.play(alloc, &heap, &heap)?;
     if played.stop.is_some() {
         return Ok(Some(played.failure(alloc, "with memory")?));
     }

@@ -1,6 +1,6 @@
 //! Calls of a tokenizer, which answer by words. Each tests at run time what the call requires, and none
 //! says what was told: the proof of a play holds nothing of the grammar.
-ghost use Rattle.std.specs.Prelude.{IfOk};
+ghost use Rattle.std.specs.Prelude.{◌≡◌, false, IfOk};
 ghost use Rattle.html5reading.specs.Starting.{CanStart};
 
 use caselines::Stop;
@@ -75,6 +75,29 @@ pub fn word_of_result(answer: &Result<(), TokenizerError>) -> &'static str {
     }
 }
 
+// What a feed answers, as words.
+fn words_of<H: Numbered + Drop, A: Allocator>(
+    ample: Global,
+    fed: Result<TokenizerResult<H, String<A>>, TokenizerError>,
+) -> Result<String, AllocError> {
+    match fed {
+        Ok(TokenizerResult::Done) => String::from_str(ample, "done"),
+        Ok(TokenizerResult::Script(handle)) => format!(in ample; "script {}", handle.number()),
+        Ok(TokenizerResult::EncodingIndicator(name)) => format!(in ample; "encoding {name}"),
+        Err(error) => String::from_str(ample, word_of(error)),
+    }
+}
+
+// Feeds a tokenizer what waits, with nothing said of it.
+fn fed<S: TokenSink<Token<A>> + Drop, A: Allocator + Copy>(
+    tokenizer: &mut Tokenizer<'_, S, A>,
+    queue: &mut BufferQueue<A>,
+) -> Result<TokenizerResult<S::Handle, String<A>>, TokenizerError>
+    requires going_on { tokenizer.old.ended ≡ false }
+{
+    tokenizer.feed(queue)
+}
+
 /// Feeds a tokenizer what waits.
 pub fn feed<S: TokenSink<Token<A>> + Drop, A: Allocator + Copy>(
     ample: Global,
@@ -87,14 +110,7 @@ where
     if tokenizer.is_ended() {
         return Err(Stop::BadStep);
     }
-    match tokenizer.feed(queue) {
-        Ok(TokenizerResult::Done) => Ok(String::from_str(ample, "done")?),
-        Ok(TokenizerResult::Script(handle)) => {
-            Ok(format!(in ample; "script {}", handle.number())?)
-        }
-        Ok(TokenizerResult::EncodingIndicator(name)) => Ok(format!(in ample; "encoding {name}")?),
-        Err(error) => Ok(String::from_str(ample, word_of(error))?),
-    }
+    Ok(words_of(ample, fed(tokenizer, queue))?)
 }
 
 /// Feeds a tokenizer until it is done.
@@ -118,6 +134,15 @@ pub fn end<S: TokenSink<Token<A>> + Drop, A: Allocator + Copy>(
     Ok(word_of_result(&tokenizer.end()))
 }
 
+// Tells a tokenizer the end of the input, and takes its sink, with nothing said of it.
+fn finished<S: TokenSink<Token<A>> + Drop, A: Allocator + Copy>(
+    tokenizer: Tokenizer<'_, S, A>,
+) -> (S, Result<(), TokenizerError>)
+    requires going_on { tokenizer.ended ≡ false }
+{
+    tokenizer.finish()
+}
+
 /// Tells a tokenizer the end of the input. Answers, too, what its sink then shows.
 pub fn finish<S: TokenSink<Token<A>> + Shown, A: Allocator + Copy>(
     ample: Global,
@@ -126,7 +151,7 @@ pub fn finish<S: TokenSink<Token<A>> + Shown, A: Allocator + Copy>(
     if tokenizer.is_ended() {
         return Err(Stop::BadStep);
     }
-    let (sink, answer) = tokenizer.finish();
+    let (sink, answer) = finished(tokenizer);
     let mut shown = String::new(ample);
     sink.show(ample, &mut shown)?;
     Ok((word_of_result(&answer), shown))

@@ -23,7 +23,8 @@ fn play_cut(
     cutting: Cutting,
 ) -> Result<Result<String, String>, CaseError> {
     let heap = Refusing::new(alloc, script.requests.unwrap_or(u64::MAX));
-    let played = play(alloc, &heap, script, cutting)?;
+    let enough = Refusing::new(alloc, u64::MAX);
+    let played = play(alloc, &heap, &enough, script, cutting)?;
     if played.stop.is_some() {
         return Ok(Err(played.failure(alloc, cutting_words(alloc, cutting)?.as_str())?));
     }

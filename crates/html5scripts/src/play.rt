@@ -7,19 +7,15 @@ use html5cli::names::names_of;
 use html5ever_interface::collect::Collector;
 use html5ever_interface::interface::sink::TokenSink;
 use html5ever_interface::interface::token::Token;
-use refusing::Refusing;
-use std::alloc::{AllocError, Global};
+use std::alloc::{AllocError, Allocator, Global};
 use testsinks::alternating::Alternating;
 use testsinks::faulty::FaultySink;
 use testsinks::shown::{Numbered, Shown};
 use testsinks::steering::Steering;
 
-/// A heap that refuses a request.
-pub type Heap<'h> = &'h Refusing<Global>;
-
 // Takes the steps, up to one that stops the play.
-fn take_steps<'t, S: TokenSink<Token<Heap<'t>>> + Shown>(
-    player: &mut Player<'t, S, Heap<'t>>,
+fn take_steps<S: TokenSink<Token<A>> + Shown, A: Allocator + Copy>(
+    player: &mut Player<'_, S, A>,
     steps: &[Step],
 ) -> Option<(usize, Stop)>
 where
@@ -34,8 +30,8 @@ where
 }
 
 // Plays the steps with a sink, and looks at what a refused tokenizer does.
-fn play_with<'t, S: TokenSink<Token<Heap<'t>>> + Shown>(
-    stage: Stage<'t, Heap<'t>>,
+fn play_with<S: TokenSink<Token<A>> + Shown, A: Allocator + Copy>(
+    stage: Stage<'_, A>,
     steps: &[Step],
     sink: S,
     spare: S,
@@ -53,8 +49,8 @@ where
 }
 
 // Plays the steps with sinks that fault.
-fn play_with_faults<'t>(
-    stage: Stage<'t, Heap<'t>>,
+fn play_with_faults<A: Allocator + Copy>(
+    stage: Stage<'_, A>,
     steps: &[Step],
     left: usize,
     at_end: bool,
@@ -64,7 +60,11 @@ fn play_with_faults<'t>(
 }
 
 // Plays the steps with sinks of the kind.
-fn play_on<'t>(stage: Stage<'t, Heap<'t>>, steps: &[Step], sink: SinkKind) -> Result<Played, Stop> {
+fn play_on<A: Allocator + Copy>(
+    stage: Stage<'_, A>,
+    steps: &[Step],
+    sink: SinkKind,
+) -> Result<Played, Stop> {
     let heap = stage.heap;
     let foreign = stage.settings.foreign;
     match sink {
@@ -81,40 +81,19 @@ fn play_on<'t>(stage: Stage<'t, Heap<'t>>, steps: &[Step], sink: SinkKind) -> Re
     }
 }
 
-// What a play came to that stopped before its first step, or behind its last one.
-fn outcome_of(
+// Plays a script on a heap, with a table of named references that lies in enough memory.
+fn try_play<A: Allocator + Copy>(
     ample: Global,
-    outcome: Result<Played, Stop>,
-    steps: usize,
-) -> Result<Played, AllocError> {
-    match outcome {
-        Ok(played) => Ok(played),
-        Err(stop) => Ok(Played {
-            stop: Some((steps, stop)),
-            lines: String::new(ample),
-        }),
-    }
-}
-
-impl Play for Script {
-    fn play(&self, ample: Global, heap: &Refusing<Global>) -> Result<Played, AllocError> {
-        play(ample, heap, self, Cutting::Whole)
-    }
-}
-
-/// Plays a script on a heap. The table of named references lies in ample memory.
-pub fn play(
-    ample: Global,
-    heap: &Refusing<Global>,
+    heap: A,
+    enough: A,
     script: &Script,
     cutting: Cutting,
-) -> Result<Played, AllocError> {
+) -> Result<Played, Stop> {
     let Some(settings) = settings_of(&script.words) else {
-        return outcome_of(ample, Err(Stop::BadWords), 0);
+        return Err(Stop::BadWords);
     };
-    let enough = Refusing::new(ample, u64::MAX);
-    let Ok(names) = names_of(&enough, settings.table) else {
-        return outcome_of(ample, Err(Stop::BadWords), 0);
+    let Ok(names) = names_of(enough, settings.table) else {
+        return Err(Stop::BadWords);
     };
     let stage = Stage {
         ample,
@@ -123,6 +102,33 @@ pub fn play(
         names: &names,
         cutting,
     };
-    let outcome = play_on(stage, &script.steps, script.sink);
-    outcome_of(ample, outcome, script.steps.len())
+    play_on(stage, &script.steps, script.sink)
+}
+
+/// Plays a script on a heap, with a table of named references that lies in enough memory.
+pub fn play<A: Allocator + Copy>(
+    ample: Global,
+    heap: A,
+    enough: A,
+    script: &Script,
+    cutting: Cutting,
+) -> Result<Played, AllocError> {
+    match try_play(ample, heap, enough, script, cutting) {
+        Ok(played) => Ok(played),
+        Err(stop) => Ok(Played {
+            stop: Some((script.steps.len(), stop)),
+            lines: String::new(ample),
+        }),
+    }
+}
+
+impl Play for Script {
+    fn play<A: Allocator + Copy>(
+        &self,
+        ample: Global,
+        heap: A,
+        enough: A,
+    ) -> Result<Played, AllocError> {
+        play(ample, heap, enough, self, Cutting::Whole)
+    }
 }

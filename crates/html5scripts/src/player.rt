@@ -296,21 +296,29 @@ where
         }
     }
 
-    /// Looks at whether every further call is refused, and changes nothing.
-    pub fn check_refused(&mut self) -> Result<(), Stop> {
+    // What waits, and the lines that the sink shows.
+    fn left(&self) -> Result<(String, String), AllocError> {
+        let waiting = String::from_str(self.stage.ample, self.queue.front_text())?;
+        Ok((waiting, self.lines()?))
+    }
+
+    // Looks at whether each further call is refused.
+    fn try_again(&mut self) -> Result<(), Stop> {
         let ample = self.stage.ample;
-        let waiting = String::from_str(ample, self.queue.front_text())?;
-        let lines = self.lines()?;
         self.check_state(true, false)?;
-        compare(
-            ample,
-            "failed",
-            &feed(ample, &mut self.tokenizer, &mut self.queue)?,
-        )?;
+        let fed = feed(ample, &mut self.tokenizer, &mut self.queue)?;
+        compare(ample, "failed", &fed)?;
         self.check_state(true, false)?;
         compare(ample, "failed", end(&mut self.tokenizer)?)?;
-        self.check_state(true, false)?;
-        compare(ample, &waiting, self.queue.front_text())?;
-        compare(ample, &lines, &self.lines()?)
+        self.check_state(true, false)
+    }
+
+    /// Looks at whether every further call is refused, and changes nothing.
+    pub fn check_refused(&mut self) -> Result<(), Stop> {
+        let (waiting, lines) = self.left()?;
+        self.try_again()?;
+        let (waiting_then, lines_then) = self.left()?;
+        compare(self.stage.ample, &waiting, &waiting_then)?;
+        compare(self.stage.ample, &lines, &lines_then)
     }
 }

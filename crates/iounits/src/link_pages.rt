@@ -1,6 +1,6 @@
 //! The links of pages.
-use html5extract::links::Links;
 use devices::WriteTarget;
+use html5extract::links::Links;
 use html5filter::fakes::filtered;
 use html5stream::StreamError;
 use std::test::Fail;

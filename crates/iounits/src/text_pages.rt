@@ -1,6 +1,6 @@
 //! The text of pages.
-use html5extract::page_text::PageText;
 use devices::WriteTarget;
+use html5extract::page_text::PageText;
 use html5filter::fakes::filtered;
 use html5stream::StreamError;
 use std::test::Fail;

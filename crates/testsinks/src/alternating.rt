@@ -3,7 +3,6 @@ use html5ever_interface::collect::Collector;
 use html5ever_interface::interface::sink::TokenSink;
 use html5ever_interface::interface::token::{SinkFault, Token, TokenSinkResult};
 use std::alloc::{Allocator, Global};
-use std::convert::Infallible;
 
 /// Collects tokens. To it the content is foreign where it was told an odd number of tags.
 #[derive(Drop)]
@@ -24,7 +23,7 @@ impl<A: Allocator> Alternating<A> {
 impl<A: Allocator + Copy> TokenSink<Token<A>> for Alternating<A> {
     ghost use Rattle.testsinks.specs.Sinks.{Alternated, alternated_step, alternated_reply, alternated_faulted, alternated_finish, alternated_joins, alternated_empty, alternated_any_line, alternated_keeps_on};
 
-    type Handle = Infallible;
+    type Handle = u32;
 
     ghost State = { Alternated };
 
@@ -56,7 +55,7 @@ impl<A: Allocator + Copy> TokenSink<Token<A>> for Alternating<A> {
         &mut self,
         token: Token<A>,
         line_number: u64,
-    ) -> Result<TokenSinkResult<Infallible, String<A>>, SinkFault> {
+    ) -> Result<TokenSinkResult<u32, String<A>>, SinkFault> {
         let is_tag = matches!(token, Token::TagToken(_));
         self.inner.process_token(token, line_number)?;
         if is_tag {

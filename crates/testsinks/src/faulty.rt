@@ -3,7 +3,6 @@ use html5ever_interface::interface::sink::TokenSink;
 use html5ever_interface::interface::token::{SinkFault, Token, TokenSinkResult};
 use markup5ever::count::Count;
 use std::alloc::Allocator;
-use std::convert::Infallible;
 
 /// Takes some tokens and faults at the next, or faults at its end. It knows whether it took a token
 /// that is no text. To it all content is foreign.
@@ -31,7 +30,7 @@ impl<A: Allocator> TokenSink<Token<A>> for FaultySink {
     ghost use Rattle.html5ever_interface.specs.Token.Reply.{KeepOn};
     ghost use Rattle.html5ever_interface.specs.Token.{is_text};
 
-    type Handle = Infallible;
+    type Handle = u32;
 
     ghost State = { Bool };
 
@@ -63,7 +62,7 @@ impl<A: Allocator> TokenSink<Token<A>> for FaultySink {
         &mut self,
         token: Token<A>,
         _line_number: u64,
-    ) -> Result<TokenSinkResult<Infallible, String<A>>, SinkFault> {
+    ) -> Result<TokenSinkResult<u32, String<A>>, SinkFault> {
         if self.left == 0 {
             self.faults.add(1);
             return Err(SinkFault);

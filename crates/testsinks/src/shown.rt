@@ -5,7 +5,6 @@ use crate::lines::push_lines;
 use crate::steering::Steering;
 use html5ever_interface::collect::Collector;
 use std::alloc::{AllocError, Allocator, Global};
-use std::convert::Infallible;
 
 /// A sink that shows, line by line, what it was told.
 pub trait Shown: Drop {
@@ -67,11 +66,5 @@ impl Numbered for u32 {
 impl Numbered for () {
     fn number(&self) -> u32 {
         0
-    }
-}
-
-impl Numbered for Infallible {
-    fn number(&self) -> u32 {
-        match *self {}
     }
 }
