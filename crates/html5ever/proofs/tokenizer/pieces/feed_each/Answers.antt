@@ -35,6 +35,12 @@ loop-piece-preserved g c = (
       omega arith),
 )
 
+pub returns-in_default-clause-stops : goal.returns-in_default-clause-stops
+returns-in_default-clause-stops g c =
+    rw (← c.into_iter-piece-iterator.ensures.into_iter_gives.0)
+    (HasFed-no_room g.S.TokenSink.state g.S.TokenSink.step g.S.TokenSink.reply g.S.TokenSink.foreign g.S.TokenSink.faulted
+    c.args.tokenizer.now c.loop-piece.tokenizer c.args.queue.now c.loop-piece.queue _ _ c.loop-piece.invariant.0)
+
 pub returns-in_err-feed_until_done-clause-stops : goal.returns-in_err-feed_until_done-clause-stops
 returns-in_err-feed_until_done-clause-stops g c =
     let p = err_from_is_err_and c.from_residual.result c.from_residual.ensures.1 in
