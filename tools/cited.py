@@ -26,9 +26,12 @@ FUNCTION = re.compile(rf"\bfn\s+({WORD})")
 CLAUSE = re.compile(rf"\b(?:ensures|requires)\s+({WORD})\s*\{{")
 RECORD = re.compile(rf"^ *(?:pub )?record ({WORD})[^\n]*(?:\n(?! *pub record)[ \t]+[^\n]*)*", re.M)
 FIELD = re.compile(rf"^\s+(?:pub )?({WORD}) :", re.M)
+ITEM = r"\b(?:fn|struct|enum|trait|type|const|mod|ghost|as)\s+"
+VARIANT = r"^    (?=[A-Z][\w()]*,$)"
+MARKS = r"(?:(?:pub|unfoldable|abbrev|opaque|data|mod|module)\s+)*"
 DEFINED = {
-    ".rt": re.compile(rf"(?:\b(?:fn|struct|enum|trait|type|const|mod|ghost|as)\s+|^    (?=[A-Z][\w()]*,$))({WORD})", re.M),
-    ".antt": re.compile(rf"^\s*(?:(?:pub|unfoldable|abbrev|opaque|data|mod|module)\s+)*({WORD})(?= :| [({{][^=\n]* :|$)", re.M),
+    ".rt": re.compile(rf"(?:{ITEM}|{VARIANT})({WORD})", re.M),
+    ".antt": re.compile(rf"^\s*{MARKS}({WORD})(?= :| [({{][^=\n]* :|$)", re.M),
 }
 CODE = re.compile(r"`([^`\n]+)`")
 LINK = re.compile(r"\]\(([^)#\s]+)")
@@ -36,7 +39,10 @@ PATH = re.compile(r"[\w.-]+(?:/[\w.-]+)*/?")
 ENDINGS = (".md", ".antt", ".rt", ".py", ".txt", ".rs")
 PLACES = {"NAME", "CRATE", "MODULE", "FUNCTION", "FILE"}
 # Names of html5ever, of the toolchain and of examples, which the documents speak of too.
-FOREIGN = set("NAMED_ENTITIES C1_REPLACEMENTS MySink RT_JOBS Eq Ord Hash matches_eq respects_eq total unreachable".split())
+FOREIGN = {
+    *"NAMED_ENTITIES C1_REPLACEMENTS RT_JOBS MySink".split(),
+    *"Eq Ord Hash matches_eq respects_eq total unreachable".split(),
+}
 
 
 class Code:
@@ -182,7 +188,7 @@ def check_examples(page, code):
 
 
 def check_map(page, code):
-    """Yields the modules and files of specs/ that the map doesn't name under their crate, and rows of no module or file."""
+    """Yields modules and files of specs/ that the map doesn't name under their crate, and rows of no module or file."""
     heads = rf"^\*\*(`{WORD}`(?:, `{WORD}`)*)\*\*"
     parts = re.split(heads, page.read_text().partition("## Modules")[2], flags=re.M)
     for crates, text in zip(parts[1::2], parts[2::2]):
