@@ -23,12 +23,13 @@ use Rattle.html5grammar.specs.Start.Place.{InValue}
 use Rattle.html5grammar.specs.Start.Stand.{InText, InAttribute}
 use Rattle.html5grammar.proofs.ReadingLemmas.{reading-events}
 use Rattle.html5grammar.proofs.Traces.{messages-append, messages-map}
-use Rattle.html5ever.specs.Tokenizer.{Tokenizing, StandsAt}
+use Rattle.html5ever.specs.Tokenizer.{Tokenizing, StandsAt, rules_of}
 use Rattle.html5print.specs.Page.{Page, Printer, page_step, page_reply, page_foreign, blank_page}
 use Rattle.html5print.proofs.Pages.{lines-stepped}
 use Rattle.devices.specs.Device.{ConsumesBeginning}
 use Rattle.html5cli.specs.Printing.{printed_reading}
-use Rattle.html5cli.specs.Settings.{SettingsOf, rules_said}
+use Rattle.html5cli.specs.Settings.{SettingsOf}
+use Rattle.markup5ever.specs.NamedReferences.{NamedReference}
 
 -- the end is told last
 EndsWithEnd : List Told → Type 0
@@ -89,15 +90,15 @@ module _ (rules : Rules) (K : Start) (p : Page) (X : List ℕ) where
       ∙ sym (append_assoc front (messages late-events ++ on_line line tokens) end)
 
 -- a page that a reading was printed to has its lines
-pub printed-page : (rules : Rules) (settings : SettingsOf) (p : Page) (bytes : List ℕ)
-    → rules ≡ rules_said settings → p ≡ blank_page settings.foreign
-    → (stepped page_step p (messages (reading page_step page_reply page_foreign rules (start_of settings.opts) p (chars bytes)))).lines ≡ printed_reading settings bytes
+pub printed-page : (rules : Rules) (settings : SettingsOf) (names : List NamedReference) (p : Page) (bytes : List ℕ)
+    → rules ≡ rules_of settings.opts names → p ≡ blank_page settings.foreign
+    → (stepped page_step p (messages (reading page_step page_reply page_foreign rules (start_of settings.opts) p (chars bytes)))).lines ≡ printed_reading settings names bytes
 unfolding printed_reading EndsWithEnd
-printed-page rules settings p bytes same blank =
-    let M : List Message = messages (reading page_step page_reply page_foreign (rules_said settings) (start_of settings.opts) (blank_page settings.foreign) (chars bytes)) in
-    let ends = told_at_end_of-ends (rules_said settings) (read page_step page_reply page_foreign (rules_said settings) (start_of settings.opts) (blank_page settings.foreign) (chars bytes)).opened in
+printed-page rules settings names p bytes same blank =
+    let M : List Message = messages (reading page_step page_reply page_foreign (rules_of settings.opts names) (start_of settings.opts) (blank_page settings.foreign) (chars bytes)) in
+    let ends = told_at_end_of-ends (rules_of settings.opts names) (read page_step page_reply page_foreign (rules_of settings.opts names) (start_of settings.opts) (blank_page settings.foreign) (chars bytes)).opened in
     rw (same, blank) (lines-stepped (blank_page settings.foreign) M _ _ refl
-    (reading-ends (rules_said settings) (start_of settings.opts) (blank_page settings.foreign) (chars bytes) ends.0 ends.1))
+    (reading-ends (rules_of settings.opts names) (start_of settings.opts) (blank_page settings.foreign) (chars bytes) ends.0 ends.1))
 
 -- bytes that were read to their end are all that there was
 pub Consumes-whole : (old new : Option (List ℕ)) (bytes : List ℕ) → IfSome old (λ xs. bytes ≡ xs) → IsAtEnd new → ConsumesBeginning old new → Consumes old new bytes

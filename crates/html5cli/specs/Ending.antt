@@ -7,7 +7,7 @@ use Rattle.html5cli.specs.Settings.{settings_said}
 use Rattle.devices.specs.declared.fault.Fault.TheVariants.{NotUtf8, Memory, Device}
 use Rattle.html5cli.specs.declared.run.Ending.{Ending}
 use Rattle.html5cli.specs.declared.run.Ending.TheVariants.{Printed, Usage, NoTable, Faulted}
-use Rattle.markup5ever.specs.NamedReferences.{first_fault}
+use Rattle.markup5ever.specs.NamedReferences.{first_fault, table_of}
 use Rattle.markup5ever.specs.declared.data.TableError.{TableError}
 use Rattle.markup5ever.specs.declared.data.TableError.TheVariants as table
 
@@ -60,12 +60,12 @@ SayFault words error = IsSomeAnd (settings_said words) (λ settings. first_fault
 abbrev pub SayBadTable : List (List ℕ) → Type 0
 SayBadTable words = IsSomeAnd (settings_said words) (λ settings. IsSome (first_fault settings.table))
 
--- the words say some settings, and by these the whole reading was printed
+-- the words say some settings, and by these and their table the whole reading was printed
 abbrev pub PrintsAsSaid : List (List ℕ) → Option (List ℕ) → Option (List ℕ) → Option (List ℕ) → Option (List ℕ) → Type 0
 PrintsAsSaid words unread left written after =
-    IsSomeAnd (settings_said words) (λ settings. PrintsReading settings unread left written after)
+    IsSomeAnd (settings_said words) (λ settings. PrintsReading settings (table_of settings.table) unread left written after)
 
 -- the same, but only a beginning was printed
 abbrev pub PrintsBeginningAsSaid : List (List ℕ) → Option (List ℕ) → Option (List ℕ) → Option (List ℕ) → Option (List ℕ) → Type 0
 PrintsBeginningAsSaid words unread left written after =
-    IsSomeAnd (settings_said words) (λ settings. PrintsBeginning settings unread left written after)
+    IsSomeAnd (settings_said words) (λ settings. PrintsBeginning settings (table_of settings.table) unread left written after)

@@ -7,28 +7,31 @@ use Rattle.html5print.specs.Page.{blank_page, page_step, page_reply, page_foreig
 use Rattle.html5print.specs.Printed.{printed}
 use Rattle.html5grammar.specs.Reading.{reading, messages, after}
 use Rattle.html5grammar.specs.Start.{Open, start_of}
-use Rattle.html5cli.specs.Settings.{SettingsOf, rules_said}
+use Rattle.html5cli.specs.Settings.{SettingsOf}
+use Rattle.html5ever.specs.Tokenizer.{rules_of}
+use Rattle.markup5ever.specs.NamedReferences.{NamedReference}
 
--- the printed lines of the reading of a text, whose bytes are given: the cut is not in it
-unfoldable pub printed_reading : SettingsOf → List ℕ → List ℕ
-printed_reading settings bytes =
-    printed (messages (reading page_step page_reply page_foreign (rules_said settings) (start_of settings.opts) (blank_page settings.foreign) (chars bytes)))
+-- the printed lines of the reading of a text by a table, where the text's bytes are given: the cut is not in it, nor the table
+-- that the settings say
+unfoldable pub printed_reading : SettingsOf → List NamedReference → List ℕ → List ℕ
+printed_reading settings names bytes =
+    printed (messages (reading page_step page_reply page_foreign (rules_of settings.opts names) (start_of settings.opts) (blank_page settings.foreign) (chars bytes)))
 
 -- the reader was read to its end, what it gave is UTF-8, and what was written is its printed reading
-pub record PrintsReading (settings : SettingsOf) (unread left written after : Option (List ℕ)) : Type 0 where
+pub record PrintsReading (settings : SettingsOf) (names : List NamedReference) (unread left written after : Option (List ℕ)) : Type 0 where
   pub bytes : List ℕ
   pub consumed : Consumes unread left bytes
   pub at_end : IsAtEnd left
   pub utf8 : IsUtf8 bytes
-  pub printed : Appends written after (printed_reading settings bytes)
+  pub printed : Appends written after (printed_reading settings names bytes)
 
 -- the same, but only a beginning was written
-pub record PrintsBeginning (settings : SettingsOf) (unread left written after : Option (List ℕ)) : Type 0 where
+pub record PrintsBeginning (settings : SettingsOf) (names : List NamedReference) (unread left written after : Option (List ℕ)) : Type 0 where
   pub bytes : List ℕ
   pub consumed : Consumes unread left bytes
   pub at_end : IsAtEnd left
   pub utf8 : IsUtf8 bytes
-  pub printed : AppendsBeginning written after (printed_reading settings bytes)
+  pub printed : AppendsBeginning written after (printed_reading settings names bytes)
 
 -- the reader was read to its end, what it gave is no UTF-8, and nothing was written
 pub record PrintsNothing (unread left written after : Option (List ℕ)) : Type 0 where

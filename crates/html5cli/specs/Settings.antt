@@ -5,13 +5,11 @@ use Rattle.std.specs.Str.{bytes_eq, all_ascii_digits}
 use Rattle.std.specs.Str.Parse.{digits_value}
 use Rattle.html5table.specs.Listed.{listed, entries_in}
 use Rattle.html5table.specs.Profile.{profile_entries}
-use Rattle.markup5ever.specs.NamedReferences.{NamedReference, table_of}
+use Rattle.markup5ever.specs.NamedReferences.{NamedReference}
 use Rattle.html5ever_interface.specs.Options.{OptionsOf, default_options}
 use Rattle.html5ever_interface.specs.declared.states.State.{State}
 use Rattle.html5ever_interface.specs.declared.states.State.TheVariants.{Data, Plaintext, RawData, CdataSection}
 use Rattle.html5ever_interface.specs.declared.states.RawKind.TheVariants.{Rcdata, Rawtext, ScriptData}
-use Rattle.html5grammar.specs.Start.{Rules}
-use Rattle.html5ever.specs.Tokenizer.{rules_of}
 use Rattle.html5cli.specs.declared.print.Settings.{Settings}
 
 pub record SettingsOf : Type 0 where
@@ -59,10 +57,6 @@ with_cut s cut = record s { cut = cut }
 
 abbrev pub with_table : SettingsOf → List NamedReference → SettingsOf
 with_table s entries = record s { table = entries }
-
--- what the settings make a tokenizer read by
-abbrev pub rules_said : SettingsOf → Rules
-rules_said s = rules_of s.opts (table_of s.table)
 
 -- the state of that name
 unfoldable pub state_said : List ℕ → Option State

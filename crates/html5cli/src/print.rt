@@ -1,4 +1,4 @@
-ghost use Rattle.std.specs.Prelude.{◌≡◌, ◌≢◌, ◌↔◌, ◌+◌, ◌<◌, ◌≤◌, ◌⊎◌, [], true, false, IfOk, IfErr, OnOk, OnErr, length, take, drop, option_map, string_bytes};
+ghost use Rattle.std.specs.Prelude.{◌≡◌, ◌≢◌, ◌↔◌, ◌+◌, ◌<◌, ◌≤◌, ◌⊎◌, [], true, false, IfOk, IfErr, IsErr, OnOk, OnErr, length, take, drop, option_map, string_bytes};
 ghost use Rattle.std.specs.Io.KnownBytes.{Keeps};
 ghost use Rattle.std.specs.Str.{IsUtf8, chars};
 ghost use Rattle.devices.specs.Device.{IsRefusal, reported_failures};
@@ -8,7 +8,6 @@ ghost use Rattle.html5cli.specs.Settings.{options_said, said_by};
 ghost use Rattle.html5cli.specs.Printing.{printed_reading, PrintsReading, PrintsBeginning, PrintsNothing};
 ghost use Rattle.html5reading.specs.Starting.{CanStart};
 ghost use Rattle.html5ever.specs.Tokenizer.{ReadsOn};
-ghost use Rattle.markup5ever.specs.NamedReferences.{table_of};
 
 use devices::{Fault, Source, Target, read_to_end, write_all};
 use html5ever::TokenizerError;
@@ -205,8 +204,7 @@ fn print_text<A: Allocator + Copy>(
     names: &NamedReferences<A>,
 ) -> Result<PrintSink<A>, Fault>
     requires start { CanStart settings.now.initial_state }
-    requires names { names.now ≡ table_of (said_by settings.now).table }
-    ensures ok { IfOk result (λ sink. sink.page.lines ≡ printed_reading (said_by settings.now) (string_bytes text)) }
+    ensures ok { IfOk result (λ sink. sink.page.lines ≡ printed_reading (said_by settings.now) names.now (string_bytes text)) }
     ensures err { IfErr result IsRefusal }
 {
     let sink = PrintSink::new(alloc, settings.foreign);
@@ -219,7 +217,20 @@ fn print_text<A: Allocator + Copy>(
     }
 }
 
-/// Reads the text of a source to its end and prints its reading by the table, a line for each token.
+// The text of these bytes.
+fn text_of<A: Allocator>(bytes: Vec<u8, A>) -> Result<String<A>, Fault>
+    ensures ok { IfOk result (λ text. string_bytes text ≡ bytes.items) }
+    ensures fault { IfErr result (λ fault. fault ≡ Fault.NotUtf8) }
+    ensures not_utf8 { IsErr result ↔ ¬ IsUtf8 bytes.items }
+{
+    match String::from_utf8(bytes) {
+        Ok(text) => Ok(text),
+        Err(_) => Err(Fault::NotUtf8),
+    }
+}
+
+/// Reads the text of a source to its end and prints its reading by the table, a line for each token. The
+/// table is the caller's, whatever list the settings have.
 pub fn print_tokens<R: Source, W: Target, A: Allocator + Copy>(
     alloc: A,
     reader: &mut R,
@@ -228,8 +239,7 @@ pub fn print_tokens<R: Source, W: Target, A: Allocator + Copy>(
     names: &NamedReferences<A>,
 ) -> Result<(), Fault>
     requires start { CanStart settings.now.initial_state }
-    requires names { names.now ≡ table_of (said_by settings.now).table }
-    ensures ok { OnOk result (PrintsReading (said_by settings.now)
+    ensures ok { OnOk result (PrintsReading (said_by settings.now) names.now
         (R.remaining reader.old) (R.remaining reader.new) (W.contents writer.old) (W.contents writer.new)) }
 
     // When each fault comes, and what it leaves.
@@ -237,7 +247,7 @@ pub fn print_tokens<R: Source, W: Target, A: Allocator + Copy>(
         → PrintsNothing
         (R.remaining reader.old) (R.remaining reader.new) (W.contents writer.old) (W.contents writer.new) }
     ensures beginning { OnErr result (Keeps (W.contents writer.old) (W.contents writer.new)
-        ⊎ PrintsBeginning (said_by settings.now)
+        ⊎ PrintsBeginning (said_by settings.now) names.now
         (R.remaining reader.old) (R.remaining reader.new) (W.contents writer.old) (W.contents writer.new)) }
     ensures failed_read { R.failures reader.new ≢ R.failures reader.old
         → Keeps (W.contents writer.old) (W.contents writer.new) }
@@ -245,9 +255,7 @@ pub fn print_tokens<R: Source, W: Target, A: Allocator + Copy>(
         ≡ R.failures reader.old + W.failures writer.old + reported_failures result }
 {
     let bytes = read_to_end(alloc, reader)?;
-    let Ok(text) = String::from_utf8(bytes) else {
-        return Err(Fault::NotUtf8);
-    };
+    let text = text_of(bytes)?;
     let sink = print_text(alloc, text, settings, names)?;
     write_all(writer, sink.page())
 }

@@ -108,7 +108,7 @@ module _ {X S H : Type 0} (state : X → S) (step : S → Told → ℕ → S) (r
 
   module _ (faulted : S → Told → ℕ → S) where
     -- a refused feed stops within all that the queue tells
-    drained-stops : (e : TokenizerError) (s t v : S) (F T L : List Message) → t ≡ stepped step s F
+    pub drained-stops : (e : TokenizerError) (s t v : S) (F T L : List Message) → t ≡ stepped step s F
         → Stops step faulted e t T v → Stops step faulted e s (F ++ (T ++ L)) v
     drained-stops Memory s t v F T L e stop = stops_after step faulted Memory s t v F (T ++ L) e (stops_before step faulted Memory t v T L tt stop)
     drained-stops Sink s t v F T L e stop = stops_after step faulted Sink s t v F (T ++ L) e (stops_before step faulted Sink t v T L tt stop)

@@ -3,3 +3,4 @@ pub mod Wholes
 pub mod Draining
 pub mod StepRuns
 pub mod Handing
+pub mod FeedingPieces

@@ -1,3 +1,4 @@
 pub mod Tokenizer
 pub mod RunSteps
 pub mod Pieces
+pub mod FedPieces

@@ -19,7 +19,7 @@ starts-mode (Some state.Data) at none can = refl
 starts-mode (Some state.Plaintext) at none can = refl
 starts-mode (Some (state.RawData kind)) at none can = refl
 starts-mode (Some state.CdataSection) at none can = ap open_cdata none
-starts-mode (Some other) at none can = absurd can
+starts-mode (Some other) at none can = absurd cc
 
 pub starts-in : {Z : Type 0} → (chosen : Option State) (at : Opened Z) → at.state ≡ unwrap_or chosen state.Data → string_bytes at.comment ≡ [] → CanStart chosen
     → opened_of at ≡ Between (initial_mode chosen (last_name_of at))

@@ -1,13 +1,8 @@
 -- In which states a stream can start.
-use Rattle.std.specs.Prelude.{Option, None, Some}
+use Rattle.std.specs.Prelude.{Option, IfSome, IsTrue}
+use Rattle.html5ever_interface.specs.States.{is_text_state}
 use Rattle.html5ever_interface.specs.declared.states.State.{State}
-use Rattle.html5ever_interface.specs.declared.states.State.TheVariants.{Data, Plaintext, RawData, CdataSection}
 
--- a stream can start in this state: none is chosen, or a text state
+-- a stream can start in this state: none is chosen, or one of which `State::is_text` is true
 abbrev pub CanStart : Option State → Type 0
-CanStart None = Unit {0}
-CanStart (Some Data) = Unit {0}
-CanStart (Some Plaintext) = Unit {0}
-CanStart (Some (RawData kind)) = Unit {0}
-CanStart (Some CdataSection) = Unit {0}
-CanStart (Some other) = ⊥
+CanStart chosen = IfSome chosen (λ state. IsTrue (is_text_state state))

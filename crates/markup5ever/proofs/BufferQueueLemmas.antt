@@ -1,4 +1,4 @@
-use Rattle.std.proofs.Common.{Bool, true, Option, ◌≡◌, ◌↔◌, ℕ, ◌+◌, ◌<◌, ◌≤◌, List, [], ◌∷◌, ◌++◌, length, take, drop, encode_utf8_all, refl, sym, ap, ◌∙◌, arith, length-append, length-drop}
+use Rattle.std.proofs.Common.{Bool, true, false, Option, ◌≡◌, ◌↔◌, ℕ, ◌+◌, ◌<◌, ◌≤◌, List, [], ◌∷◌, ◌++◌, length, take, drop, encode_utf8_all, refl, sym, ap, ◌∙◌, arith, length-append, length-drop}
 use Rattle.std.specs.List.{slice_get, slice_range}
 use Rattle.std.specs.Prelude.{IsNone, IfSome, if◌then◌else◌}
 use Rattle.std.specs.Str.{IsUtf8, IsCharBoundary, chars}
@@ -108,6 +108,11 @@ IsReadTo-append text grown back offset read utf8 e = rw e (record {
   within = omega (arith, read.within, length-append text back);
   rest_utf8 = rw (drop-append-le offset text back read.within) (IsUtf8-append (drop offset text) back read.rest_utf8 utf8);
 })
+
+-- the text may have grown at its back
+pub IsReadTo-pushed : (text new back : List ℕ) (offset : ℕ) (grows : Bool) → IsReadTo text offset → IsUtf8 back → new ≡ (if grows then text ++ back else text) → IsReadTo new offset
+IsReadTo-pushed text new back offset true read utf8 grown = IsReadTo-append text new back offset read utf8 grown
+IsReadTo-pushed text new back offset false read utf8 same = rw same read
 
 pub chars_behind : (text grown back : List ℕ) (offset : ℕ) → IsReadTo text offset → grown ≡ text ++ back → chars (drop offset grown) ≡ chars (drop offset text) ++ chars back
 chars_behind text grown back offset read e =

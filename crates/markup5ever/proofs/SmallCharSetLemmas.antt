@@ -1,9 +1,9 @@
-use Rattle.std.proofs.Common.{Bool, true, false, ◌||◌, set, ◌≡◌, ◌↔◌, ℕ, ◌+◌, ◌-◌, ◌<◌, ◌≤◌, ◌*◌, ◌%◌, ◌^◌, ◌⊎◌, List, [], ◌∷◌, ◌++◌, length, get_or, take, drop, Contains, bit_and, bit_or, encode_utf8, encode_utf8_all, w64, refl, sym, ap, ◌∙◌, inl, inr, arith, length-drop}
+use Rattle.std.proofs.Common.{Bool, true, false, ◌||◌, set, ◌≡◌, ◌↔◌, ℕ, ◌+◌, ◌-◌, ◌<◌, ◌≤◌, ◌*◌, ◌/◌, ◌%◌, ◌^◌, ◌⊎◌, List, [], ◌∷◌, ◌++◌, length, get_or, take, drop, Contains, bit_and, bit_or, count_ones, encode_utf8, encode_utf8_all, w64, refl, sym, ap, ◌∙◌, inl, inr, arith, length-drop}
 use Rattle.std.specs.Int.{IsBitSet, bit_at, bit_not}
 use Rattle.std.specs.List.{slice_index}
 use Rattle.std.specs.Str.{IsUtf8, IsCharBoundary, chars}
 use Rattle.std.proofs.lemmas.Bool.{cases_eq, cases_lt}
-use Rattle.std.proofs.lemmas.Nat.{pow_pos}
+use Rattle.std.proofs.lemmas.Nat.{pow_pos, pow_below, mod_below, div-add-mod', one_shl, and-not, and_comm, ones-le, ones_cat, zero_from_ones}
 use Rattle.std.proofs.lemmas.Nat.Bits.{and_pow, bit_at-lt, bit_at-zero, bit_at_set_same, bit_at_set_other, bit_at_clear_other}
 use Rattle.std.proofs.lemmas.List.{drop_all, drop_at, get_or-drop, get_or-take, length-take-le, take_at, take_more_set}
 use Rattle.std.proofs.lemmas.List.Elements.{All-nil, All-cons, All-head, All-take, All-drop, All-from_get_or, Contains-append_left, Contains-push, Contains-push_cases}
@@ -149,6 +149,36 @@ few_more members rest m k few within small found c member =
         | inr other ↦ inr other
       ]
     ])
+
+no_ones : count_ones 0 ≡ 0
+no_ones = omega (arith, ones-le 0 0 (omega arith))
+
+one_one : count_ones 1 ≡ 1
+one_one =
+    elim (cases_eq (count_ones 1) 0) [
+      | inl none ↦ absurd (omega (arith, zero_from_ones 1 none))
+      | inr some ↦ omega (arith, ones-le 1 1 (omega arith))
+    ]
+
+-- a number without one of its bits has one bit fewer
+pub ones-without : (n k : ℕ) → k < 64 → n < 2 ^ 64 → bit_at n k ≡ 1 → count_ones (bit_and n (bit_not w64 (1 * 2 ^ k % 2 ^ 64))) + 1 ≡ count_ones n
+ones-without n k within fits is_set =
+    let q = n / 2 ^ k in
+    let lo = n % 2 ^ k in
+    let hi = q / 2 in
+    let small : lo < 2 ^ k = mod_below n (2 ^ k) (pow_pos k) in
+    let parts : q * 2 ^ k + lo ≡ n = div-add-mod' n (2 ^ k) in
+    let odd : hi * 2 + 1 ≡ q = omega (arith, div-add-mod' q 2, is_set) in
+    let bit : 1 * 2 ^ k % 2 ^ 64 ≡ 2 ^ k = one_shl k 64 within in
+    let rest = bit_and n (bit_not w64 (1 * 2 ^ k % 2 ^ 64)) in
+    let flipped : rest ≡ bit_and (2 ^ 64 - 1 - 2 ^ k) n = ap (λ b. bit_and n (2 ^ 64 - 1 - b)) bit ∙ and_comm n (2 ^ 64 - 1 - 2 ^ k) in
+    let one : bit_and (2 ^ k) n ≡ 2 ^ k = and_comm (2 ^ k) n ∙ and_pow n k ∙ ap (λ b. b * 2 ^ k) is_set ∙ omega arith in
+    let both : rest + 2 ^ k ≡ n = ap (λ b. b + 2 ^ k) flipped ∙ ap (λ b. bit_and (2 ^ 64 - 1 - 2 ^ k) n + b) (sym one) ∙ and-not 64 (2 ^ k) n (pow_below k 64 within) fits in
+    let whole : (hi * 2 + 1) * 2 ^ k + lo ≡ n = ap (λ x. x * 2 ^ k + lo) odd ∙ parts in
+    let left : rest ≡ (hi * 2 + 0) * 2 ^ k + lo = omega (arith, both, whole) in
+    let ones_left : count_ones rest ≡ count_ones hi + count_ones lo = ap count_ones left ∙ ones_cat k (hi * 2 + 0) lo small ∙ ap (λ x. x + count_ones lo) (ones_cat 1 hi 0 (omega arith)) ∙ omega (arith, no_ones) in
+    let ones_whole : count_ones n ≡ count_ones hi + 1 + count_ones lo = ap count_ones (sym whole) ∙ ones_cat k (hi * 2 + 1) lo small ∙ ap (λ x. x + count_ones lo) (ones_cat 1 hi 1 (omega arith)) ∙ omega (arith, one_one) in
+    omega (arith, ones_left, ones_whole)
 
 or_split : (a b : Bool) → a || b ≡ false → (a ≡ false) × (b ≡ false)
 or_split true b e = absurd cc

@@ -1,9 +1,9 @@
 //! The text that waits to be read.
-ghost use Rattle.std.specs.Prelude.{◌≡◌, ◌≢◌, ℕ, true, false, ◌+◌, ◌<◌, ◌≤◌, ◌↔◌, List, [], ◌∷◌, length, take, drop, encode_utf8_all, IsTrue, IsNone, IsOk, IfOk, IfErr, IfSome, IfNone, OnOk, OnErr};
+ghost use Rattle.std.specs.Prelude.{◌≡◌, ◌≢◌, ℕ, true, false, ◌+◌, ◌<◌, ◌≤◌, ◌↔◌, ◌/◌, List, [], ◌∷◌, ◌++◌, length, take, drop, encode_utf8_all, IsTrue, IsNone, IsOk, IfOk, IfErr, IfSome, IfNone, OnOk, OnErr};
 ghost use Rattle.std.specs.Char.{IsScalar};
 ghost use Rattle.std.specs.Str.{IsAscii, IsUtf8, chars};
 ghost use Rattle.std.specs.String.{string_bytes};
-ghost use Rattle.markup5ever.specs.BufferQueue.{Gains, GainsFront, TakesBack, Takes};
+ghost use Rattle.markup5ever.specs.BufferQueue.{Gains, GainsFront, IsReadTo, TakesBack, Takes};
 ghost use Rattle.markup5ever.specs.SmallCharSet.{IsMember};
 
 use crate::count::Count;
@@ -72,6 +72,30 @@ impl<A: Allocator> Model for BufferQueue<A> {
     ghost invariant = { λ q. IsReadTo (string_bytes q.text) q.offset };
 }
 
+// Appends a text to one of which so many bytes were taken. What is left of it moves to the front of its
+// memory first, once more than half was taken.
+fn append<A: Allocator>(
+    text: &mut String<A>,
+    offset: &mut usize,
+    back: &str,
+) -> Result<(), AllocError>
+    requires { IsReadTo (string_bytes text.old) offset.old }
+    ensures ok { OnOk result (drop offset.new (string_bytes text.new)
+        ≡ drop offset.old (string_bytes text.old) ++ back.now) }
+    ensures err { OnErr result (drop offset.new (string_bytes text.new)
+        ≡ drop offset.old (string_bytes text.old)) }
+    ensures read_to { IsReadTo (string_bytes text.new) offset.new }
+    ensures moved_up { offset.new ≤ length (string_bytes text.new) / 2 }
+{
+    if *offset > text.len() / 2 {
+        match text.replace_range(..*offset, "") {
+            Ok(()) => *offset = 0,
+            Err(_) => unreachable!(),
+        }
+    }
+    text.push_str(back)
+}
+
 impl<A: Allocator> BufferQueue<A> {
     ghost use Rattle.markup5ever.specs.Case.{BeginsLike, Differ, EndsWithin};
 
@@ -112,21 +136,11 @@ impl<A: Allocator> BufferQueue<A> {
             self.handed_in = handed_in;
             return Ok(());
         }
-        self.drop_taken();
-        if self.text.push_str(&text).is_err() {
+        let Ok(()) = append(&mut self.text, &mut self.offset, &text) else {
             return Err(text);
-        }
+        };
         self.handed_in = handed_in;
         Ok(())
-    }
-
-    // Moves what waits to the front of the text's memory, once more than half of the text was taken.
-    fn drop_taken(&mut self)
-        ensures { self.new ≡ self.old }
-    {
-        if self.offset > self.text.len() / 2 && self.text.replace_range(..self.offset, "").is_ok() {
-            self.offset = 0;
-        }
     }
 
     /// Hands in a text in front of what waits. It comes back where there is no memory for it.

@@ -1,5 +1,5 @@
 //! Sets of characters below 64.
-ghost use Rattle.std.specs.Prelude.{◌≡◌, ℕ, ◌+◌, ◌<◌, ◌≤◌, ◌↔◌, List, ◌∷◌, length, drop, false, slice_index, IfSome, IsTrue, All, Contains};
+ghost use Rattle.std.specs.Prelude.{◌≡◌, ℕ, ◌+◌, ◌<◌, ◌≤◌, ◌↔◌, List, ◌∷◌, length, drop, false, slice_index, IfSome, IsTrue, All, Contains, IsNone, count_ones};
 ghost use Rattle.std.specs.Str.{chars};
 ghost use Rattle.markup5ever.specs.SmallCharSet.{IsMember, NoneWithin, BeginsOutside};
 
@@ -111,7 +111,8 @@ impl SmallCharSet {
 
     // Bytes that have each member of the set among them; `None` where it has more than eight.
     fn few_members(&self) -> Option<[u8; 8]>
-        ensures { IfSome result (λ few. (c : ℕ) → IsMember self.now c → Contains few c) }
+        ensures some { IfSome result (λ few. (c : ℕ) → IsMember self.now c → Contains few c) }
+        ensures none { IsNone result → 8 < count_ones self.now }
     {
         let mut few = [0; 8];
         let mut rest = self.bits;

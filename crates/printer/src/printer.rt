@@ -1,5 +1,5 @@
 //! A target behind a page.
-ghost use Rattle.std.specs.Prelude.{◌≡◌, ◌+◌, [], ◌++◌, false, IfErr, OnOk, OnErr, is_err};
+ghost use Rattle.std.specs.Prelude.{◌≡◌, ◌↔◌, ◌+◌, [], ◌++◌, false, true, Err, IfErr, IsErr, OnOk, OnErr, is_err};
 ghost use Rattle.devices.specs.Device.{IsReadFault, reported_failures};
 
 use crate::log::Log;
@@ -67,7 +67,8 @@ impl<W: Target, A: Allocator> Printer<W, A> {
         ensures ok { OnOk result (self.new.printed ≡ self.old.printed ++ bytes.now) }
         ensures err { OnErr result (self.new.printed ≡ self.old.printed) }
         ensures fault { IfErr result IsReadFault }
-        ensures failed { self.new.failed ≡ false → self.old.failed ≡ false }
+        ensures device { (result ≡ Err Fault.Device) ↔ (self.new.failed ≡ true) }
+        ensures failed { self.old.failed ≡ true → self.new ≡ self.old }
         ensures failures { self.old.failed ≡ false
             → W.failures self.new.target.inner ≡ W.failures self.old.target.inner + reported_failures result }
     {
@@ -86,6 +87,7 @@ impl<W: Target, A: Allocator> Printer<W, A> {
     pub fn finish(mut self) -> (Logged<W>, Result<(), Fault>)
         ensures ok { OnOk result.1 (result.0.taken ≡ self.printed) }
         ensures fault { IfErr result.1 (λ fault. fault ≡ Fault.Device) }
+        ensures failed { self.failed ≡ true → IsErr result.1 }
         ensures failures { self.failed ≡ false
             → W.failures result.0.inner ≡ W.failures self.target.inner + reported_failures result.1 }
     {

@@ -19,6 +19,7 @@ ghost use Rattle.html5states.specs.Telling.{IsRefusal, faults_of};
 ghost use Rattle.html5reading.specs.Starting.{CanStart};
 ghost use Rattle.html5ever.specs.Tokenizer.{rules_of, EndStops, collected_of};
 
+pub use crate::tokenizer::pieces::feed_pieces;
 use crate::tokenizer::whole::read_whole;
 pub use crate::tokenizer::whole::read_whole as closed;
 use html5ever_interface::collect::Collector;

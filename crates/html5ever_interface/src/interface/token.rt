@@ -6,6 +6,7 @@ ghost use Rattle.html5ever_interface.specs.Token.{TagOf, IsEquivalent};
 use crate::states::RawKind;
 use markup5ever::interface::{Attribute, LocalName};
 use std::alloc::{AllocError, Allocator, Global};
+use thiserror::Error;
 
 /// Which of the two kinds a tag is of.
 #[derive(Clone, Copy, Debug, PartialEq, Eq, Hash)]
@@ -91,7 +92,8 @@ pub enum ProcessResult<Handle, Text> {
 }
 
 /// A sink's word that it could not take a token. It keeps the reason itself.
-#[derive(Clone, Copy, Debug, PartialEq, Eq)]
+#[derive(Clone, Copy, Debug, PartialEq, Eq, Error)]
+#[error("the sink could not take a token")]
 pub struct SinkFault;
 
 impl<A: Allocator> Default for Doctype<A> {

@@ -23,8 +23,8 @@ returns-in_default-clause-not_utf8 g c = λ _. record {
 pub returns-clause-ok : goal.returns-clause-ok
 returns-clause-ok g c =
     let text : string_bytes c.in-Ok.text ≡ c.in_ok-bytes.bytes.items = ap (λ v. v.items) c.in-Ok.ensures.ok in
-    let page : c.page.result.now ≡ printed_reading (said_by c.args.settings.now) c.in_ok-bytes.bytes.items =
-    c.page.ensures ∙ c.in_ok-sink.ensures.ok ∙ ap (λ (l : List ℕ). printed_reading (said_by c.args.settings.now) l) text in
+    let page : c.page.result.now ≡ printed_reading (said_by c.args.settings.now) c.args.names.now c.in_ok-bytes.bytes.items =
+    c.page.ensures ∙ c.in_ok-sink.ensures.ok ∙ ap (λ (l : List ℕ). printed_reading (said_by c.args.settings.now) c.args.names.now l) text in
     on_ok_weaker c.write_all.result (λ written. record {
       bytes = c.in_ok-bytes.bytes.items;
       consumed = Consumes-whole _ _ c.in_ok-bytes.bytes.items c.in_ok-bytes.ensures.ok c.in_ok-bytes.ensures.end c.in_ok-bytes.ensures.in_order;
@@ -36,8 +36,8 @@ returns-clause-ok g c =
 pub returns-clause-beginning : goal.returns-clause-beginning
 returns-clause-beginning g c =
     let text : string_bytes c.in-Ok.text ≡ c.in_ok-bytes.bytes.items = ap (λ v. v.items) c.in-Ok.ensures.ok in
-    let page : c.page.result.now ≡ printed_reading (said_by c.args.settings.now) c.in_ok-bytes.bytes.items =
-    c.page.ensures ∙ c.in_ok-sink.ensures.ok ∙ ap (λ (l : List ℕ). printed_reading (said_by c.args.settings.now) l) text in
+    let page : c.page.result.now ≡ printed_reading (said_by c.args.settings.now) c.args.names.now c.in_ok-bytes.bytes.items =
+    c.page.ensures ∙ c.in_ok-sink.ensures.ok ∙ ap (λ (l : List ℕ). printed_reading (said_by c.args.settings.now) c.args.names.now l) text in
     on_err_weaker c.write_all.result (λ written. inr (record {
       bytes = c.in_ok-bytes.bytes.items;
       consumed = Consumes-whole _ _ c.in_ok-bytes.bytes.items c.in_ok-bytes.ensures.ok c.in_ok-bytes.ensures.end c.in_ok-bytes.ensures.in_order;

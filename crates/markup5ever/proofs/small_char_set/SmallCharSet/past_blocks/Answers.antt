@@ -7,7 +7,7 @@ loop-at-preserved c =
     let set = c.args.self.now in
     let bytes = c.args.bytes.now in
     let at = c.loop-at.at in
-    let block = NoneWithin-block set c.in-Some.few bytes at 16 c.in-Some.ensures (c.has_any.ensures c.if-has_any.false) in (
+    let block = NoneWithin-block set c.in-Some.few bytes at 16 c.in-Some.ensures.some (c.has_any.ensures c.if-has_any.false) in (
       omega (arith, c.loop-at.invariant.0),
       omega (arith, c.loop-at-test.true, c.loop-at.invariant.1),
       NoneWithin-join set bytes c.args.from at (at + 16) c.loop-at.invariant.2 block,
