@@ -33,6 +33,22 @@ pub fn read_links<R: Source, W: Target, A: Allocator + Copy>(
 }
 
 impl<W: Target + Drop> Filter<W> for Links<W> {
+    ghost use Rattle.std.specs.Prelude.{ℕ, List};
+    ghost use Rattle.html5stream.specs.Pages.{tags_page, tags_handed};
+    ghost use Rattle.html5extract.specs.Links.{links_step};
+
+    ghost State = { List ℕ };
+
+    ghost state = { λ l. l.printer.printed };
+
+    ghost printed = { λ s. s };
+
+    ghost begun = { λ s. s };
+
+    ghost page = { λ names. tags_page links_step names };
+
+    ghost handed = { tags_handed links_step };
+
     fn new(alloc: Global, printer: Printer<W>) -> Links<W> {
         Links { alloc, printer }
     }

@@ -33,6 +33,21 @@ pub fn read_text<R: Source, W: Target, A: Allocator + Copy>(
 }
 
 impl<W: Target + Drop> Filter<W> for PageText<W> {
+    ghost use Rattle.html5stream.specs.Pages.{runs_page, runs_handed};
+    ghost use Rattle.html5extract.specs.PageText.{Reading, at_start, reading_of, text_step};
+
+    ghost State = { Reading };
+
+    ghost state = { reading_of };
+
+    ghost printed = { λ s. s.printed };
+
+    ghost begun = { λ s. at_start s.printed };
+
+    ghost page = { λ names. runs_page text_step names };
+
+    ghost handed = { runs_handed text_step };
+
     fn new(alloc: Global, printer: Printer<W>) -> PageText<W> {
         PageText::new(printer)
     }

@@ -1,46 +1,78 @@
-use crate::running::{MIXED, MIXED_LINES, PLAIN, run_from, status_of_run, words_of};
+use crate::running::{
+    META, META_LINES, MIXED, MIXED_LINES, PLAIN, run_from, status_of_run, words_of,
+};
 use devices::fakes::{FailingSource, FailingTarget, Refusal};
 use devices::{ReadSource, WriteTarget};
 use std::alloc::{AllocError, Global};
 use std::process::Abort;
 use std::test::Fail;
 
+// A text, the words by which it is read, and what is printed for it.
+#[derive(Clone, Copy)]
+struct Page {
+    words: &'static [&'static str],
+    input: &'static [u8],
+    lines: &'static str,
+}
+
+// As plain text, and with a pause for its encoding.
+const PAGES: [Page; 2] = [
+    Page {
+        words: &PLAIN,
+        input: MIXED,
+        lines: MIXED_LINES,
+    },
+    Page {
+        words: &[],
+        input: META,
+        lines: META_LINES,
+    },
+];
+
+// Reads a page whose reads fail after so many.
+fn check_reads(rt: &impl Abort, alloc: Global, page: Page, reads: usize) -> Result<(), AllocError> {
+    let mut reader = FailingSource::new(page.input, reads);
+    let ran = run_from(alloc, alloc, words_of(alloc, page.words)?, &mut reader);
+    // A read for each byte, and one that finds the end.
+    let is_told = if reads <= page.input.len() {
+        ran.is(6, "", "read or write failed\n")
+    } else {
+        ran.is(0, page.lines, "")
+    };
+    assert!(rt; is_told, "after {reads} reads");
+    Ok(())
+}
+
 #[test]
 fn tells_that_a_read_failed(rt: HostRuntime) -> Result<(), Fail> {
-    let alloc = rt.alloc();
-    // A read for each byte, and one that finds the end.
-    for reads in 0..8 {
-        let mut reader = FailingSource::new(MIXED, reads);
-        let ran = run_from(alloc, alloc, words_of(alloc, &PLAIN)?, &mut reader);
-        let is_told = if reads < 7 {
-            ran.is(6, "", "read or write failed\n")
-        } else {
-            ran.is(0, MIXED_LINES, "")
-        };
-        assert!(rt; is_told, "after {reads} reads");
+    for page in PAGES {
+        for reads in 0..=page.input.len() + 1 {
+            check_reads(&rt, rt.alloc(), page, reads)?;
+        }
     }
     Ok(())
 }
 
-// Prints the mixed text on a target that fails behind so many writes of a byte each.
+// Prints a page on a target that fails behind so many writes of a byte each.
 fn check_writes(
     rt: &impl Abort,
     alloc: Global,
+    page: Page,
     writes: usize,
     refusal: Refusal,
 ) -> Result<(), AllocError> {
-    let words = words_of(alloc, &PLAIN)?;
-    let mut reader = ReadSource::new(MIXED);
+    let words = words_of(alloc, page.words)?;
+    let mut reader = ReadSource::new(page.input);
     let mut writer = FailingTarget::new(alloc, writes, refusal);
     let mut errors = WriteTarget::new(Vec::new(alloc));
     let status = status_of_run(alloc, words, &mut reader, &mut writer, &mut errors);
     assert_eq!(rt; writer.taken().len(), writes);
     assert!(rt;
-        MIXED_LINES.as_bytes().starts_with(writer.taken()),
+        page.lines.as_bytes().starts_with(writer.taken()),
         "after {writes} writes"
     );
     let told: Vec<u8> = errors.into_inner();
-    if writes < MIXED_LINES.len() {
+    if writes < page.lines.len() {
         assert_eq!(rt; status, 6, "after {writes} writes");
         assert_eq!(rt; told.as_slice(), b"read or write failed\n".as_slice());
     } else {
@@ -53,8 +85,10 @@ fn check_writes(
 #[test]
 fn tells_that_a_write_failed(rt: HostRuntime) -> Result<(), Fail> {
     for refusal in [Refusal::Error, Refusal::Nothing] {
-        for writes in 0..=MIXED_LINES.len() {
-            check_writes(&rt, rt.alloc(), writes, refusal)?;
+        for page in PAGES {
+            for writes in 0..=page.lines.len() {
+                check_writes(&rt, rt.alloc(), page, writes, refusal)?;
+            }
         }
     }
     Ok(())

@@ -1,29 +1,37 @@
 use crate::arguments::Arguments;
-use crate::running::{MIXED, MIXED_LINES, run_from, words_of};
+use crate::running::{META, META_LINES, MIXED, MIXED_LINES, run_from, words_of};
 use devices::{Fault, ReadSource};
 use html5cli::run::{Ending, given_words};
 use refusing::Refusing;
-use std::test::Fail;
+use std::alloc::Global;
+use std::process::Abort;
 
-#[test]
-fn tells_that_memory_ran_out(rt: HostRuntime) -> Result<(), Fail> {
-    let said = ["--state", "plaintext", "--cut", "2", "--last", "title"];
+// Runs the program with each growth refused in turn, until one run has no refusal. Answers how many
+// were refused.
+fn refusals(rt: &impl Abort, alloc: Global, words: &[&str], input: &[u8], lines: &str) -> u64 {
     let mut refused = 0u64;
     for admitted in 0..1000u64 {
-        let heap = Refusing::new(rt.alloc(), admitted);
-        let Ok(words) = words_of(&heap, &said) else {
+        let heap = Refusing::new(alloc, admitted);
+        let Ok(words) = words_of(&heap, words) else {
             continue;
         };
-        let ran = run_from(rt.alloc(), &heap, words, &mut ReadSource::new(MIXED));
+        let ran = run_from(alloc, &heap, words, &mut ReadSource::new(input));
         if !heap.has_refused() {
-            assert!(rt; ran.is(0, MIXED_LINES, ""));
+            assert!(rt; ran.is(0, lines, ""));
             break;
         }
         refused = refused.wrapping_add(1);
-        assert!(rt; ran.wants_memory(MIXED_LINES), "after {admitted}");
+        assert!(rt; ran.wants_memory(lines), "after {admitted}");
     }
-    assert!(rt; refused > 10);
-    Ok(())
+    refused
+}
+
+#[test]
+fn tells_that_memory_ran_out(rt: HostRuntime) {
+    let words = ["--state", "plaintext", "--cut", "2", "--last", "title"];
+    assert!(rt; refusals(&rt, rt.alloc(), &words, MIXED, MIXED_LINES) > 10);
+    // The input, the names of the tag and of its attribute and their values, the lines.
+    assert!(rt; refusals(&rt, rt.alloc(), &[], META, META_LINES) > 10);
 }
 
 #[test]

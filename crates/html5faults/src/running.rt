@@ -13,6 +13,13 @@ pub const MIXED: &[u8] = b"a\r\nb\0c";
 pub const MIXED_LINES: &str =
     "text \"a\\nb\"\nerror 2 \"Saw \\u{0} in state Plaintext\"\ntext \"\u{fffd}c\"\neof 2\n";
 
+/// A tag that says how a page is encoded, and a text.
+pub const META: &[u8] = b"<meta charset=utf-8>x";
+
+/// What is printed for it.
+pub const META_LINES: &str =
+    "start 1 \"meta\" \"charset\"=\"utf-8\"\npause encoding \"utf-8\"\ntext \"x\"\neof 1\n";
+
 /// The words of a command line.
 pub fn words_of<A: Allocator + Copy>(
     alloc: A,

@@ -1,7 +1,9 @@
+ghost use Rattle.std.specs.Prelude.{◌≡◌, OnOk};
+
 use crate::messages::Messages;
 use crate::names::read_names;
 use crate::output::Output;
-use crate::words::words_of;
+use crate::words::{Words, words_of};
 use devices::{ReadSource, Source, Target, WriteTarget, write_all};
 use html5cli::run::given_words;
 use html5stream::StreamError;
@@ -15,19 +17,48 @@ use thiserror::Error;
 
 /// What a program makes of the pages that it reads: what it prints.
 pub trait Filter<W: Target + Drop>: Drop {
-    /// A filter that has read nothing, and prints to this printer.
-    fn new(alloc: Global, printer: Printer<W>) -> Self;
+    ghost use Rattle.std.specs.Prelude.{◌≡◌, ℕ, ◌+◌, List, OnOk, OnErr};
+    ghost use Rattle.markup5ever.specs.NamedReferences.{NamedReference};
+    ghost use Rattle.html5ever_interface.specs.Sink.{Message};
+    ghost use Rattle.html5stream.specs.Pages.{ReadsPage, StopsPage};
+    ghost use Rattle.html5stream.specs.Streams.{failed_reads};
 
-    /// Reads a page, and prints what it makes of it as it arrives.
+    // The abstract state of a filter, and what was printed in it.
+    ghost State: { Type 0 };
+
+    ghost state: { Self → State };
+
+    ghost printed: { State → List ℕ };
+
+    // Where a page begins, behind what was read before; a page's messages, by a table of names; and a
+    // filter behind some of them.
+    ghost begun: { State → State };
+
+    ghost page: { List NamedReference → State → List ℕ → List Message };
+
+    ghost handed: { State → List Message → State };
+
+    /// A filter that has read nothing, and prints to this printer.
+    fn new(alloc: Global, printer: Printer<W>) -> Self
+        ensures { printed (state result) ≡ printer.printed };
+
+    /// Reads a page, and prints what it makes of it as it arrives: of the whole page, or after an error
+    /// of a beginning of it.
     fn read_page<R: Source>(
         self,
         alloc: Global,
         source: &mut R,
         names: &NamedReferences,
-    ) -> (Self, Result<(), StreamError>);
+    ) -> (Self, Result<(), StreamError>)
+        ensures finishes { OnOk result.1 (ReadsPage (λ s bytes. handed s (page names.now s bytes))
+            (R.remaining source.old) (R.remaining source.new) (begun (state self)) (state result.0)) }
+        ensures beginning { OnErr result.1 (StopsPage (page names.now) handed
+            (R.remaining source.old) (R.remaining source.new) (begun (state self)) (state result.0)) }
+        ensures read { R.failures source.new ≡ R.failures source.old + failed_reads result.1 };
 
     /// The printer, with what was printed.
-    fn into_printer(self) -> Printer<W>;
+    fn into_printer(self) -> Printer<W>
+        ensures { result.printed ≡ printed (state self) };
 }
 
 /// The name of a program, and how it is used.
@@ -73,7 +104,9 @@ fn read_file<F: Filter<W>, W: Target + Drop, R: Files + Alloc<A = Global>, I: So
     names: &NamedReferences,
     stdin: &mut I,
     file: &str,
-) -> (F, Result<(), FileError>) {
+) -> (F, Result<(), FileError>)
+    ensures read { OnOk result.1 (I.failures stdin.new ≡ I.failures stdin.old) }
+{
     let (filter, read) = if file == "-" {
         filter.read_page(rt.alloc(), stdin, names)
     } else {
@@ -96,7 +129,9 @@ fn read_files<F: Filter<W>, W: Target + Drop, R: Files + Alloc<A = Global>, I: S
     stdin: &mut I,
     files: &[&str],
     messages: &mut Messages<'_, E>,
-) -> (F, Outcome) {
+) -> (F, Outcome)
+    ensures read { result.1 ≡ Outcome.Read → I.failures stdin.new ≡ I.failures stdin.old }
+{
     let mut filter = filter;
     let mut outcome = Outcome::Read;
     for file in files {
@@ -154,29 +189,53 @@ pub fn run<
     O: Write + Drop,
     E: Write + Drop,
 >(rt: &R, program: Program, stdin: I, stdout: O, stderr: E) -> u8 {
-    let mut messages = Messages::new(rt.alloc(), program.name, WriteTarget::new(stderr));
     let Ok(words) = given_words(rt) else {
-        messages.say("words", "can't be read");
+        messages_of(rt.alloc(), program, stderr).say("words", "can't be read");
         return WRONG;
     };
-    run_by_words::<F, R, I, O, _>(rt, program, &words, stdin, stdout, &mut messages)
+    run_by_words::<F, R, I, O, E>(rt, program, &words, stdin, stdout, stderr)
 }
 
-// Runs a program by these words.
-fn run_by_words<
+// Says on standard error what goes wrong, in the program's name.
+fn messages_of<'p, E: Write>(
+    alloc: Global,
+    program: Program<'p>,
+    stderr: E,
+) -> Messages<'p, WriteTarget<E>> {
+    Messages::new(alloc, program.name, WriteTarget::new(stderr))
+}
+
+// Reads the files that the words ask for, or else standard input.
+fn filter_asked<
     F: Filter<Output<O>>,
     R: Files + Alloc<A = Global>,
     I: Read + Drop,
     O: Write + Drop,
     E: Target,
->(
-    rt: &R,
-    program: Program,
-    words: &[String],
-    stdin: I,
-    stdout: O,
-    messages: &mut Messages<'_, E>,
-) -> u8 {
+>(rt: &R, asked: &Words<'_>, stdin: I, stdout: O, messages: &mut Messages<'_, E>) -> u8 {
+    let names = match read_names(rt, asked.names) {
+        Ok(names) => names,
+        Err(error) => {
+            messages.say("names", error);
+            return WRONG;
+        }
+    };
+    let stdin = &mut ReadSource::new(stdin);
+    if asked.files.is_empty() {
+        return filter_files::<F, R, _, O, _>(rt, &names, &["-"], stdin, stdout, messages);
+    }
+    filter_files::<F, R, _, O, _>(rt, &names, &asked.files, stdin, stdout, messages)
+}
+
+/// Runs a program by these words, as `run` does by those that the process was given.
+pub fn run_by_words<
+    F: Filter<Output<O>>,
+    R: Files + Alloc<A = Global>,
+    I: Read + Drop,
+    O: Write + Drop,
+    E: Write + Drop,
+>(rt: &R, program: Program, words: &[String], stdin: I, stdout: O, stderr: E) -> u8 {
+    let messages = &mut messages_of(rt.alloc(), program, stderr);
     let Ok(asked) = words_of(rt.alloc(), words) else {
         messages.say("words", "out of memory");
         return FAILED;
@@ -192,16 +251,5 @@ fn run_by_words<
         );
         return WRONG;
     }
-    let names = match read_names(rt, asked.names) {
-        Ok(names) => names,
-        Err(error) => {
-            messages.say("names", error);
-            return WRONG;
-        }
-    };
-    let stdin = &mut ReadSource::new(stdin);
-    if asked.files.is_empty() {
-        return filter_files::<F, R, _, O, _>(rt, &names, &["-"], stdin, stdout, messages);
-    }
-    filter_files::<F, R, _, O, _>(rt, &names, &asked.files, stdin, stdout, messages)
+    filter_asked::<F, R, I, O, _>(rt, &asked, stdin, stdout, messages)
 }

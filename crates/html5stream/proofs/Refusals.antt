@@ -1,5 +1,5 @@
 -- What the refusals of the parts say, by cases.
-use Rattle.std.proofs.Common.{◌≡◌, ℕ, List, ap}
+use Rattle.std.proofs.Common.{◌≡◌, ◌≢◌, ℕ, List, ap, refl}
 use Rattle.html5ever_interface.specs.Sink.{Message}
 use Rattle.html5ever_interface.specs.Token.{Told}
 use Rattle.html5ever.specs.Tokenizer.{EndStops}
@@ -27,6 +27,13 @@ place_in error = elim error [
   | stream.Memory ↦ 0
   | stream.Sink ↦ 0
   | stream.TooLong ↦ 0
+]
+
+-- a refusal of bytes names a place
+pub decoder-named : (e : DecodeError) (error : StreamError) → error ≡ of_decoder e → ((place : ℕ) → error ≢ stream.NotUtf8 place) → e ≢ decoder.Memory → ⊥
+decoder-named e error = elim e as (λ x. error ≡ of_decoder x → ((place : ℕ) → error ≢ stream.NotUtf8 place) → x ≢ decoder.Memory → ⊥) [
+  | decoder.NotUtf8 place ↦ λ is other some. other place is
+  | decoder.Memory ↦ λ is other some. some refl
 ]
 
 pub decoder-place : (e : DecodeError) (place : ℕ) → of_decoder e ≡ stream.NotUtf8 place → e ≡ decoder.NotUtf8 place

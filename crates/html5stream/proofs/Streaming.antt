@@ -8,11 +8,11 @@ use Rattle.std.proofs.lemmas.List.{take_all}
 use Rattle.std.proofs.lemmas.Result.{IfErr-at_err}
 use Rattle.std.proofs.lemmas.Str.{IsUtf8-append, IsUtf8-nil, chars-append, chars-nil}
 use Rattle.devices.proofs.KnownBytes.{Consumes-append}
-use Rattle.utf8_pieces.specs.Pieces.{Decoding, IsCutCharacter, IsFault, IsNeverUtf8, place_behind}
+use Rattle.utf8_pieces.specs.Pieces.{Decoding, IsCutCharacter, IsFault, IsNeverUtf8, IsTextThenCut, place_behind}
 use Rattle.utf8_pieces.specs.declared.error.DecodeError.{DecodeError}
 use Rattle.utf8_pieces.specs.declared.error.DecodeError.TheVariants as decoder
 use Rattle.utf8_pieces.proofs.Cuts.{no_text_within}
-use Rattle.utf8_pieces.proofs.Fronts.{IsCutCharacter-nil, IsNeverUtf8-behind, IsValidUpTo-behind}
+use Rattle.utf8_pieces.proofs.Fronts.{IsCutCharacter-nil, IsNeverUtf8-behind, IsValidUpTo-behind, not_never}
 use Rattle.html5ever_interface.specs.Sink.{Message, stepped}
 use Rattle.html5ever_interface.specs.Token.{Told, Reply}
 use Rattle.html5grammar.specs.Reading.{reading, told, messages}
@@ -29,7 +29,7 @@ use Rattle.html5stream.specs.DecodeErrors.{of_decoder}
 use Rattle.html5stream.specs.Errors.{stream_error}
 use Rattle.html5stream.specs.Streams.{SourceStops, ReadsSource, StopsSource, TellsGiven, GivesNoText, failed_read, failed_reads, sink_fault}
 use Rattle.html5stream.specs.Taking.{TakesBytes, TakesText, FinishesText, StopsTelling, StopsAtEnd, StopsBytes, StopsText}
-use Rattle.html5stream.proofs.Refusals.{decoder-place, place_in, SourceStops-end}
+use Rattle.html5stream.proofs.Refusals.{decoder-place, decoder-named, place_in, SourceStops-end}
 
 -- ---- bytes
 
@@ -57,6 +57,15 @@ IsValidUpTo-cut held cut some =
         | inr within ↦ no_text_within held m text.0 cut more within text.1.1
       ];
     }
+
+-- what may begin a character can go on behind a text
+not_never-cut : (text rest : List ℕ) → IsUtf8 text → IsCutCharacter rest → ¬ (IsNeverUtf8 (text ++ rest))
+not_never-cut text rest utf8 cut = not_never text rest 0 utf8 (record { within = omega arith; text = IsUtf8-nil; cut = cut })
+
+-- nor does a text in front change whether bytes can go on
+not_never-behind : (text bytes : List ℕ) → IsUtf8 text → ¬ (IsNeverUtf8 bytes) → ¬ (IsNeverUtf8 (text ++ bytes))
+not_never-behind text bytes utf8 some never =
+    some (λ later is. never later (rw (append_assoc text bytes later) (IsUtf8-append text (bytes ++ later) utf8 is)))
 
 -- ---- errors
 
@@ -228,6 +237,7 @@ module _ {X S H : Type 0} (state : X → S) (step : S → Told → ℕ → S) (r
           utf8 = stops.utf8;
           stopped = subst (λ b. SourceStops step faulted end_faulted error s (messages (reading step reply foreign b K s (chars stops.text))) v) same
               (stops.stopped K s [] stands);
+          may_go_on = stops.may_go_on;
         }
 
     pub TellsGiven-start : {T : Type 0} (r : Result T StreamError) (rules : Rules) (before after : Option (List ℕ)) (t : Tokenizing X) (K : Start) (s v : S)
@@ -296,9 +306,9 @@ module _ {X S H : Type 0} (state : X → S) (step : S → Told → ℕ → S) (r
     -- a piece that the decoder refused
     pub StopsBytes-decoder : (e : DecodeError) (error : StreamError) (old : Decoding) (t : Tokenizing X) (bytes : List ℕ)
         → (error ≡ of_decoder e) → sink_fault error ≡ 0 → (e ≡ decoder.Memory) ⊎ IsFault old.taken (old.held ++ bytes) e
-        → (e ≢ decoder.Memory → IsNeverUtf8 (old.held ++ bytes))
+        → (e ≢ decoder.Memory → IsNeverUtf8 (old.held ++ bytes)) → (IsNeverUtf8 (old.held ++ bytes) → e ≢ decoder.Memory)
         → StopsBytes state step reply foreign faulted end_faulted error old t bytes (state t.sink)
-    StopsBytes-decoder e error old t bytes is none fault never =
+    StopsBytes-decoder e error old t bytes is none fault never refused =
         record {
           text = [];
           rest = old.held ++ bytes;
@@ -307,13 +317,14 @@ module _ {X S H : Type 0} (state : X → S) (step : S → Told → ℕ → S) (r
           stopped = λ K s front stands.
               SourceStops-within error s (state t.sink) _ none (rw (chars-nil, append-nil front) (stops-here t K s front stands));
           no_text = λ place same. no_text-decoder e place old.taken (old.held ++ bytes) (decoder-place e place (sym is ∙ same)) fault never;
+          may_go_on = λ other no_text. decoder-named e error is other (refused no_text);
         }
 
     -- a piece whose text was refused
     pub StopsBytes-fed : (error : StreamError) (old : Decoding) (t : Tokenizing X) (bytes text rest : List ℕ) (v : S)
         → old.held ++ bytes ≡ text ++ rest → IsUtf8 text → StopsTelling state step reply foreign faulted end_faulted error t (chars text) v
-        → ((place : ℕ) → error ≢ NotUtf8 place) → StopsBytes state step reply foreign faulted end_faulted error old t bytes v
-    StopsBytes-fed error old t bytes text rest v parts utf8 stopped other =
+        → IsCutCharacter rest → ((place : ℕ) → error ≢ NotUtf8 place) → StopsBytes state step reply foreign faulted end_faulted error old t bytes v
+    StopsBytes-fed error old t bytes text rest v parts utf8 stopped cut other =
         record {
           text = text;
           rest = rest;
@@ -321,6 +332,7 @@ module _ {X S H : Type 0} (state : X → S) (step : S → Told → ℕ → S) (r
           utf8 = utf8;
           stopped = stopped;
           no_text = λ place same. absurd (other place same);
+          may_go_on = λ _. subst (λ l. ¬ (IsNeverUtf8 l)) (sym parts) (not_never-cut text rest utf8 cut);
         }
 
     -- nothing more was fed
@@ -338,6 +350,7 @@ module _ {X S H : Type 0} (state : X → S) (step : S → Told → ℕ → S) (r
               (subst (λ b. StopsWithin step faulted s (messages (reading step reply foreign b K s (front ++ chars had.text))) (state t.sink)) had.rules
               (stops-here t K s (front ++ chars had.text) (had.reads K s front stands)));
           no_text = no_text;
+          may_go_on = λ _. not_never-cut had.text held.held had.utf8 had.cut;
           decided = λ _. (
             had.cut,
             λ K s front stands.
@@ -389,6 +402,9 @@ module _ {X S H : Type 0} (state : X → S) (step : S → Told → ℕ → S) (r
               (subst (λ b. SourceStops step faulted end_faulted error s (messages (reading step reply foreign b K s ((front ++ chars had.text) ++ chars stops.text))) v) had.rules
               (stops.stopped K s (front ++ chars had.text) (had.reads K s front stands)));
           no_text = λ place same. GivesNoText-piece before now after first t held more place had given (stops.no_text place same);
+          may_go_on = λ other.
+              subst (λ l. ¬ (IsNeverUtf8 l)) (sym (append_assoc had.text held.held more) ∙ whole)
+              (not_never-behind had.text (held.held ++ more) had.utf8 (stops.may_go_on other));
           decided = λ same. absurd (is_read error none same);
         }
 
@@ -406,6 +422,7 @@ module _ {X S H : Type 0} (state : X → S) (step : S → Told → ℕ → S) (r
               subst (λ b. SourceStops step faulted end_faulted error s (messages (reading step reply foreign b K s (front ++ chars takes.bytes))) v) takes.rules
               (stops K s (front ++ chars takes.bytes) (takes.reads K s front stands));
           no_text = λ place same. absurd (other place same);
+          may_go_on = λ _. not_never-cut takes.bytes [] takes.utf8 IsCutCharacter-nil;
           decided = λ same. absurd (is_read error none same);
         }
 

@@ -1,5 +1,5 @@
 -- What reading a source to its end tells, and what it leaves where it stops.
-use Rattle.std.specs.Prelude.{◌≡◌, ◌⊎◌, ℕ, Bool, List, ◌++◌, Option, Result, Ok, Err}
+use Rattle.std.specs.Prelude.{◌≡◌, ◌≢◌, ◌⊎◌, ℕ, Bool, List, ◌++◌, Option, Result, Ok, Err}
 use Rattle.std.specs.Io.KnownBytes.{Consumes, IsAtEnd}
 use Rattle.std.specs.Str.{IsUtf8, chars}
 use Rattle.html5ever_interface.specs.Sink.{Message, stepped}
@@ -65,7 +65,8 @@ module _ {S H : Type 0} (step : S → Told → ℕ → S) (reply : S → Told �
     pub utf8 : IsUtf8 bytes
     pub told : t ≡ finish (stepped step s (messages (reading step reply foreign rules K s (chars bytes))))
 
-  -- what the source gave begins with a text, and the sink stopped within the reading of that
+  -- what the source gave begins with a text, and the sink stopped within the reading of that; where the error is not of the bytes,
+  -- they can still become a text
   pub record StopsSource (faulted : S → Told → ℕ → S) (end_faulted : S → S) (error : StreamError) (rules : Rules) (K : Start) (s : S)
       (before after : Option (List ℕ)) (t : S) : Type 0 where
     pub text : List ℕ
@@ -73,6 +74,7 @@ module _ {S H : Type 0} (step : S → Told → ℕ → S) (reply : S → Told �
     pub given : Consumes before after (text ++ rest)
     pub utf8 : IsUtf8 text
     pub stopped : SourceStops step faulted end_faulted error s (messages (reading step reply foreign rules K s (chars text))) t
+    pub may_go_on : ((place : ℕ) → error ≢ NotUtf8 place) → ¬ (IsNeverUtf8 (text ++ rest))
 
   -- what the source gave is a text, and behind it at most a beginning of a character: exactly what the text decides was told
   pub record TellsGiven (rules : Rules) (K : Start) (s : S) (before after : Option (List ℕ)) (t : S) : Type 0 where

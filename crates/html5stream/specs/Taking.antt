@@ -1,5 +1,5 @@
 -- A tokenizer that takes its text from a decoder: what each call does to where it stands.
-use Rattle.std.specs.Prelude.{◌≡◌, ℕ, Bool, false, List, ◌++◌, length, Option}
+use Rattle.std.specs.Prelude.{◌≡◌, ◌≢◌, ℕ, Bool, false, List, ◌++◌, length, Option}
 use Rattle.std.specs.Io.KnownBytes.{Consumes, IsAtEnd}
 use Rattle.std.specs.Str.{IsUtf8, chars}
 use Rattle.html5ever_interface.specs.Sink.{stepped}
@@ -70,6 +70,7 @@ module _ {X S H : Type 0} (state : X → S) (step : S → Told → ℕ → S) (r
       pub utf8 : IsUtf8 text
       pub stopped : StopsTelling error t (chars text) v
       pub no_text : (place : ℕ) → error ≡ NotUtf8 place → IsFault old.taken (old.held ++ bytes) (decoder.NotUtf8 place) × IsNeverUtf8 (old.held ++ bytes)
+      pub may_go_on : ((place : ℕ) → error ≢ NotUtf8 place) → ¬ (IsNeverUtf8 (old.held ++ bytes))
 
     -- a source was not read to its end: what it gave begins with a text, and the sink stopped within the reading of that
     pub record StopsText (error : StreamError) (before after : Option (List ℕ)) (t : Tokenizing X) (v : S) : Type 0 where
@@ -79,4 +80,5 @@ module _ {X S H : Type 0} (state : X → S) (step : S → Told → ℕ → S) (r
       pub utf8 : IsUtf8 text
       pub stopped : StopsTelling error t (chars text) v
       pub no_text : (place : ℕ) → error ≡ NotUtf8 place → GivesNoText place before after
+      pub may_go_on : ((place : ℕ) → error ≢ NotUtf8 place) → ¬ (IsNeverUtf8 (text ++ rest))
       pub decided : error ≡ Read → IsCutCharacter rest × TellsDecided t (chars text) v

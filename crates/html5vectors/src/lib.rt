@@ -4,8 +4,6 @@
 #[cfg(test)]
 mod characters;
 #[cfg(test)]
-mod errors;
-#[cfg(test)]
 mod examples;
 #[cfg(test)]
 mod kept_parts;

@@ -7,9 +7,13 @@ mod carried_bytes;
 #[cfg(test)]
 mod decoder;
 #[cfg(test)]
+mod errors;
+#[cfg(test)]
 mod link_pages;
 #[cfg(test)]
 mod pages;
+#[cfg(test)]
+mod programs;
 #[cfg(test)]
 mod stream;
 #[cfg(test)]

@@ -35,11 +35,17 @@ fn told_at_once(rt: &impl Abort, alloc: Global, bytes: &[u8]) -> Outcome {
     told_by(rt, alloc, &mut ReadSource::new(bytes))
 }
 
-fn text_of(alloc: Global, text: &str) -> Result<(Token, u64), AllocError> {
+type Entry<A> = (Token<A>, u64);
+
+fn text_of<A: Allocator + Copy>(alloc: A, text: &str) -> Result<Entry<A>, AllocError> {
     Ok((Token::CharacterTokens(String::from_str(alloc, text)?), 0))
 }
 
-fn tag_of(alloc: Global, kind: TagKind, name: &str) -> Result<(Token, u64), AllocError> {
+fn tag_of<A: Allocator + Copy>(
+    alloc: A,
+    kind: TagKind,
+    name: &str,
+) -> Result<Entry<A>, AllocError> {
     let name = LocalName(String::from_str(alloc, name)?);
     let tag = Tag {
         kind,
@@ -69,7 +75,7 @@ fn first_text_len(sink: &Collector) -> usize {
 // Characters of one, two, three and four bytes.
 const PAGE: &str = "<p>\u{e9}\u{20ac}\u{1f600}z</p>";
 
-fn page_tokens(alloc: Global) -> Result<[(Token, u64); 4], AllocError> {
+fn page_tokens<A: Allocator + Copy>(alloc: A) -> Result<[Entry<A>; 4], AllocError> {
     Ok([
         tag_of(alloc, TagKind::StartTag, "p")?,
         text_of(alloc, "\u{e9}\u{20ac}\u{1f600}z")?,
@@ -162,12 +168,36 @@ fn more_than_one_read_holds(rt: HostRuntime) {
 
 type Heap<'h> = &'h Refusing<Global>;
 
-// What comes of a page where the heap refuses a growth.
+// Whether entries are first ones of others, where the text of the last may be cut.
+fn is_beginning<A: Allocator>(entries: &[Entry<A>], others: &[Entry<A>]) -> bool {
+    for (place, (token, line)) in entries.iter().enumerate() {
+        let Some((other, other_line)) = others.get(place) else {
+            return false;
+        };
+        let is_last = place + 1 == entries.len();
+        let is_begun = match (token, other) {
+            (Token::CharacterTokens(text), Token::CharacterTokens(whole)) if is_last => {
+                whole.starts_with(text.as_str())
+            }
+            _ => token == other,
+        };
+        if !is_begun || line != other_line {
+            return false;
+        }
+    }
+    true
+}
+
+// What comes of a page where the heap refuses a growth. What was told is a beginning of the whole.
 fn outcome_on<'h>(rt: &impl Abort, heap: Heap<'h>, ample: Heap<'h>) -> Result<(), StreamError> {
     let names = no_names(rt, ample);
     let mut source = FailingSource::new(PAGE.as_bytes(), 1000);
     let sink: Collector<Heap> = Collector::new(heap, false);
-    let (_, read) = read_source(heap, &mut source, sink, TokenizerOpts::default(), &names);
+    let (sink, read) = read_source(heap, &mut source, sink, TokenizerOpts::default(), &names);
+    let whole = page_tokens(ample).expect(rt, "memory");
+    assert!(rt; is_beginning(sink.entries(), &whole));
+    assert_eq!(rt; read.is_ok(), sink.is_finished());
+    assert_eq!(rt; read.is_ok(), sink.entries().len() == whole.len());
     read
 }
 
