@@ -9,3 +9,5 @@ mod examples;
 mod kept_parts;
 #[cfg(test)]
 mod keys;
+#[cfg(test)]
+mod lines;
