@@ -238,12 +238,21 @@ impl Script {
             ">" => return self.read_told(text),
             ">>" => return self.read_told_many(alloc, text),
             "define" => return self.define(alloc, text),
+            _ => return self.read_way(alloc, &line),
+        }
+        Ok(())
+    }
+
+    // Reads a line that says how the script is played, or else a step.
+    fn read_way(&mut self, alloc: Global, line: &str) -> Result<(), CaseError> {
+        let (mark, text) = line.split_once(' ').unwrap_or((line, ""));
+        match mark {
             "sink" => self.sink = sink_of(text)?,
             "cuts" => self.cuts = Cuts::All,
             "characters" => self.cuts = Cuts::Characters,
             "refuse" => self.refusals = Some(Wanted::read(text)?),
             "memory" => self.requests = Some(number_of(text)?),
-            _ => return self.read_step(alloc, &line),
+            _ => return self.read_step(alloc, line),
         }
         Ok(())
     }
@@ -256,9 +265,9 @@ impl Script {
 
     // Reads many lines that are told: how many, and the line.
     fn read_told_many(&mut self, alloc: Global, written: &str) -> Result<(), CaseError> {
-        let line = many(alloc, written, "\n")?;
+        let added = many(alloc, written, "\n")?;
         match self.steps.last_mut() {
-            Some(Step::Told(lines)) => Ok(lines.push_str(&line)?),
+            Some(Step::Told(lines)) => Ok(lines.push_str(&added)?),
             _ => Err(CaseError::BadLine),
         }
     }
