@@ -87,9 +87,25 @@ impl Wanted {
     }
 }
 
-// Whether the lines are the first ones of others: each is ended by LF.
+// Whether the lines, the last of which is a text without its quote and LF, are a beginning of others.
+fn is_cut_text(lines: &str, others: &str) -> bool {
+    let last = match lines.rsplit_once('\n') {
+        Some((_, last)) => last,
+        None => lines,
+    };
+    last.starts_with("text \"") && others.starts_with(lines)
+}
+
+// Whether the lines are the first ones of others: each is ended by LF. Of a text in the last of them
+// the end may be missing, since a text grows while it is told.
 fn is_beginning(lines: &str, others: &str) -> bool {
-    others.starts_with(lines)
+    if others.starts_with(lines) {
+        return true;
+    }
+    match lines.strip_suffix("\"\n") {
+        Some(cut) => is_cut_text(cut, others),
+        None => false,
+    }
 }
 
 // The word of the error that a refusal came to, if it came to one.

@@ -6,6 +6,7 @@ ghost use Rattle.html5reading.specs.Starting.{CanStart};
 use caselines::Stop;
 use html5cli::print::{Settings, options_of};
 use html5ever::TokenizerError;
+use html5ever::tokenizer::pieces::feed_pieces;
 use html5ever::tokenizer::steps::feed_until_done;
 use html5ever::tokenizer::{Tokenizer, TokenizerResult};
 use html5ever_interface::interface::sink::TokenSink;
@@ -122,6 +123,18 @@ pub fn feed_on<S: TokenSink<Token<A>> + Drop, A: Allocator + Copy>(
         return Err(Stop::BadStep);
     }
     Ok(word_of_result(&feed_until_done(tokenizer, queue)))
+}
+
+/// Feeds a tokenizer pieces, one after another, each until it is done.
+pub fn feed_parts<S: TokenSink<Token<A>> + Drop, A: Allocator + Copy>(
+    tokenizer: &mut Tokenizer<'_, S, A>,
+    queue: &mut BufferQueue<A>,
+    pieces: Vec<String<A>, A>,
+) -> Result<&'static str, Stop> {
+    if tokenizer.is_ended() {
+        return Err(Stop::BadStep);
+    }
+    Ok(word_of_result(&feed_pieces(tokenizer, queue, pieces)))
 }
 
 /// Tells a tokenizer the end of the input.

@@ -1,7 +1,7 @@
 //! Plays a script in each way that it asks for, and says where it fails.
 use crate::play::play;
 use crate::player::Cutting;
-use crate::script::{Script, Step};
+use crate::script::{Cuts, Script, Step};
 use caselines::{CaseError, sweep};
 use refusing::Refusing;
 use std::alloc::{AllocError, Global};
@@ -45,10 +45,17 @@ fn longest_piece(script: &Script) -> usize {
     longest
 }
 
-// Plays a script with its pieces cut, in each way. Answers what failed first, if something did.
-fn play_all_cuts(alloc: Global, script: &Script) -> Result<Option<String>, CaseError> {
+// Plays a script with its pieces cut, in each way that it asks for. Answers what failed first, if
+// something did.
+fn play_cuts(alloc: Global, script: &Script) -> Result<Option<String>, CaseError> {
+    if script.cuts == Cuts::None {
+        return Ok(None);
+    }
     if let Err(failure) = play_cut(alloc, script, Cutting::Characters)? {
         return Ok(Some(failure));
+    }
+    if script.cuts == Cuts::Characters {
+        return Ok(None);
     }
     for count in 0..=longest_piece(script) {
         if let Err(failure) = play_cut(alloc, script, Cutting::Two(count))? {
@@ -67,10 +74,8 @@ pub fn failure_of(alloc: Global, script: &Script) -> Result<Option<String>, Case
         Ok(lines) => lines,
         Err(failure) => return Ok(Some(failure)),
     };
-    if script.is_cut {
-        if let Some(failure) = play_all_cuts(alloc, script)? {
-            return Ok(Some(failure));
-        }
+    if let Some(failure) = play_cuts(alloc, script)? {
+        return Ok(Some(failure));
     }
     match &script.refusals {
         Some(wanted) => sweep(alloc, script, wanted, &whole),

@@ -7,8 +7,10 @@ use html5cli::names::names_of;
 use html5ever_interface::collect::Collector;
 use html5ever_interface::interface::sink::TokenSink;
 use html5ever_interface::interface::token::Token;
+use html5print::print_sink::PrintSink;
 use std::alloc::{AllocError, Allocator, Global};
 use testsinks::alternating::Alternating;
+use testsinks::counting::Counting;
 use testsinks::faulty::FaultySink;
 use testsinks::shown::{Numbered, Shown};
 use testsinks::steering::Steering;
@@ -75,6 +77,11 @@ fn play_on<A: Allocator + Copy>(
         SinkKind::Steer => play_with(stage, steps, Steering::new(heap), Steering::new(heap)),
         SinkKind::Alternate => {
             play_with(stage, steps, Alternating::new(heap), Alternating::new(heap))
+        }
+        SinkKind::Count => play_with(stage, steps, Counting::new(), Counting::new()),
+        SinkKind::Print => {
+            let sink = PrintSink::new(heap, foreign);
+            play_with(stage, steps, sink, PrintSink::new(heap, foreign))
         }
         SinkKind::FaultAfter(left) => play_with_faults(stage, steps, left, false),
         SinkKind::FaultAtEnd => play_with_faults(stage, steps, usize::MAX, true),

@@ -1,9 +1,10 @@
 //! Plays the steps of a script on a tokenizer.
 use crate::calls::{
-    begin, end, feed, feed_on, finish, is_error, options, set_plain, word_of, word_of_result,
+    begin, end, feed, feed_on, feed_parts, finish, is_error, options, set_plain, word_of,
+    word_of_result,
 };
 use crate::script::{Call, Law, Step, Whole};
-use crate::wholes::{joined, read, read_item};
+use crate::wholes::{joined, pieces_of, read, read_item};
 use caselines::{Stop, compare, compare_answer, compare_flag};
 use html5cli::print::Settings;
 use html5ever::tokenizer::{Tokenizer, steps};
@@ -196,6 +197,7 @@ where
         match call {
             Call::Feed => self.feed(answer),
             Call::UntilDone => self.feed_until_done(answer),
+            Call::FedPieces => self.feed_pieces(answer),
             Call::End => self.end(answer),
             Call::Finish => self.finish(answer),
             Call::IsPending => self.check_pending(answer),
@@ -216,6 +218,27 @@ where
         let found = feed_on(&mut self.tokenizer, &mut self.queue)?;
         self.check_fed(&before, found)?;
         compare_answer(self.stage.ample, answer, found)
+    }
+
+    fn feed_pieces(&mut self, answer: &str) -> Result<(), Stop> {
+        let parts = self.take_parts();
+        let has_pieces = !parts.is_empty();
+        let pieces = pieces_of(self.stage.heap, parts)?;
+        let found = feed_parts(&mut self.tokenizer, &mut self.queue, pieces)?;
+        self.check_fed_pieces(has_pieces, found)?;
+        compare_answer(self.stage.ample, answer, found)
+    }
+
+    // Looks at what is left where pieces were fed: nothing, where there was a piece and all are taken.
+    // Where there was no room for a piece the tokenizer has not failed.
+    fn check_fed_pieces(&self, has_pieces: bool, found: &str) -> Result<(), Stop> {
+        if has_pieces && !is_error(found) {
+            compare(self.stage.ample, "", self.queue.front_text())?;
+        }
+        if found == "memory" && !self.tokenizer.has_failed() {
+            return self.check_state(false, false);
+        }
+        self.check_state(is_error(found), false)
     }
 
     // Looks at what each feed leaves: an end of what waited, and nothing where it is done.

@@ -20,26 +20,32 @@ fn push_part(text: &mut String, part: &str, number: &str) -> Result<(), CaseErro
     Ok(())
 }
 
+/// Reads how many parts there are, and the part: the text of so many, each with its end.
+pub fn many(alloc: Global, written: &str, end: &str) -> Result<String, CaseError> {
+    let Some((count, part)) = written.split_once(' ') else {
+        return Err(CaseError::BadLine);
+    };
+    let Ok(count) = count.parse::<u32>() else {
+        return Err(CaseError::BadLine);
+    };
+    let mut text = String::new(alloc);
+    for place in 0..count {
+        let number = format!(in alloc; "{}", u64::from(place) + 1)?;
+        push_part(&mut text, part, &number)?;
+        text.push_str(end)?;
+    }
+    Ok(text)
+}
+
 impl Repeated {
     /// Reads a definition: a name, how many parts, and the part.
     pub fn read(alloc: Global, written: &str) -> Result<Repeated, CaseError> {
-        let Some((name, rest)) = written.split_once(' ') else {
+        let Some((name, parts)) = written.split_once(' ') else {
             return Err(CaseError::BadLine);
         };
-        let Some((count, part)) = rest.split_once(' ') else {
-            return Err(CaseError::BadLine);
-        };
-        let Ok(count) = count.parse::<u32>() else {
-            return Err(CaseError::BadLine);
-        };
-        let mut text = String::new(alloc);
-        for place in 0..count {
-            let number = format!(in alloc; "{}", u64::from(place) + 1)?;
-            push_part(&mut text, part, &number)?;
-        }
         Ok(Repeated {
             name: String::from_str(alloc, name)?,
-            text,
+            text: many(alloc, parts, "")?,
         })
     }
 }

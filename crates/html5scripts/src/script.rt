@@ -1,6 +1,6 @@
 //! A script, as it is written.
 use crate::check::failure_of;
-use crate::repeated::{Repeated, expanded};
+use crate::repeated::{Repeated, expanded, many};
 use caselines::{Case, CaseError, Wanted, number_of, push_line, push_meant, push_word};
 use std::alloc::Global;
 
@@ -10,9 +10,20 @@ pub enum SinkKind {
     Collect,
     Steer,
     Alternate,
-    /// It faults after so many tokens.
+    Count,
+    Print,
+    /// It faults after so many calls.
     FaultAfter(usize),
     FaultAtEnd,
+}
+
+/// In which cuts a script is played, beside whole pieces.
+#[derive(Clone, Copy, Debug, PartialEq, Eq)]
+pub enum Cuts {
+    None,
+    Characters,
+    /// In characters, and in two at each place.
+    All,
 }
 
 /// How one call reads a whole text that comes in parts.
@@ -39,6 +50,7 @@ pub enum Law {
 pub enum Call {
     Feed,
     UntilDone,
+    FedPieces,
     End,
     Finish,
     IsPending,
@@ -77,8 +89,8 @@ pub struct Script {
     pub name: String,
     pub words: Vec<String>,
     pub sink: SinkKind,
-    /// Whether it is played with its pieces cut, too.
-    pub is_cut: bool,
+    /// How it is played with its pieces cut, too.
+    pub cuts: Cuts,
     /// Whether it is played with each request for memory refused, too, and how many there are.
     pub refusals: Option<Wanted>,
     /// How many requests for memory it may make.
@@ -108,6 +120,7 @@ fn call_of(words: &str) -> Option<Call> {
     match words {
         "feed" => Some(Call::Feed),
         "until done" => Some(Call::UntilDone),
+        "fed pieces" => Some(Call::FedPieces),
         "end" => Some(Call::End),
         "finish" => Some(Call::Finish),
         "pending" => Some(Call::IsPending),
@@ -174,6 +187,8 @@ fn sink_of(words: &str) -> Result<SinkKind, CaseError> {
             "collect" => Ok(SinkKind::Collect),
             "steer" => Ok(SinkKind::Steer),
             "alternate" => Ok(SinkKind::Alternate),
+            "count" => Ok(SinkKind::Count),
+            "print" => Ok(SinkKind::Print),
             _ => Err(CaseError::BadLine),
         },
     }
@@ -185,7 +200,7 @@ impl Case for Script {
             name: String::new(alloc),
             words: Vec::new(alloc),
             sink: SinkKind::Collect,
-            is_cut: false,
+            cuts: Cuts::None,
             refusals: None,
             requests: None,
             steps: Vec::new(alloc),
@@ -215,23 +230,46 @@ impl Case for Script {
 impl Script {
     // Reads a line that has a meaning: a mark, and what stands after the space that follows it.
     fn read_mark(&mut self, alloc: Global, line: &str) -> Result<(), CaseError> {
-        if let Some(definition) = line.strip_prefix("define ") {
-            let repeated = Repeated::read(alloc, definition)?;
-            return self.defined.push(repeated).map_err(|_| CaseError::Memory);
-        }
         let line = expanded(alloc, line, &self.defined)?;
         let (mark, text) = line.split_once(' ').unwrap_or((&line, ""));
         match mark {
             "*" if self.name.is_empty() => self.name.push_str(text)?,
             "$" => push_word(alloc, &mut self.words, text)?,
             ">" => return self.read_told(text),
-            "sink" => self.sink = sink_of(text)?,
-            "cuts" => self.is_cut = true,
-            "refuse" => self.refusals = Some(Wanted::read(text)?),
-            "memory" => self.requests = Some(number_of(text)?),
-            _ => return self.read_step(alloc, &line),
+            ">>" => return self.read_told_many(alloc, text),
+            "define" => return self.define(alloc, text),
+            _ => return self.read_way(alloc, &line),
         }
         Ok(())
+    }
+
+    // Reads a line that says how the script is played, or else a step.
+    fn read_way(&mut self, alloc: Global, line: &str) -> Result<(), CaseError> {
+        let (mark, text) = line.split_once(' ').unwrap_or((line, ""));
+        match mark {
+            "sink" => self.sink = sink_of(text)?,
+            "cuts" => self.cuts = Cuts::All,
+            "characters" => self.cuts = Cuts::Characters,
+            "refuse" => self.refusals = Some(Wanted::read(text)?),
+            "memory" => self.requests = Some(number_of(text)?),
+            _ => return self.read_step(alloc, line),
+        }
+        Ok(())
+    }
+
+    // Reads what a name stands for.
+    fn define(&mut self, alloc: Global, definition: &str) -> Result<(), CaseError> {
+        let repeated = Repeated::read(alloc, definition)?;
+        self.defined.push(repeated).map_err(|_| CaseError::Memory)
+    }
+
+    // Reads many lines that are told: how many, and the line.
+    fn read_told_many(&mut self, alloc: Global, written: &str) -> Result<(), CaseError> {
+        let added = many(alloc, written, "\n")?;
+        match self.steps.last_mut() {
+            Some(Step::Told(lines)) => Ok(lines.push_str(&added)?),
+            _ => Err(CaseError::BadLine),
+        }
     }
 
     // Reads a line that is told: of the step before it.

@@ -26,8 +26,8 @@ pub fn joined<A: Allocator + Copy>(alloc: A, parts: Vec<Step<A>, A>) -> Result<S
     Ok(text)
 }
 
-// The parts as pieces.
-fn pieces_of<A: Allocator + Copy>(
+/// The parts as pieces.
+pub fn pieces_of<A: Allocator + Copy>(
     alloc: A,
     parts: Vec<Step<A>, A>,
 ) -> Result<Vec<String<A>, A>, Stop> {

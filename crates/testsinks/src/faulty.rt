@@ -4,8 +4,9 @@ use html5ever_interface::interface::token::{SinkFault, Token, TokenSinkResult};
 use markup5ever::count::Count;
 use std::alloc::Allocator;
 
-/// Takes some tokens and faults at the next, or faults at its end. It knows whether it took a token
-/// that is no text. To it all content is foreign.
+/// Takes some tokens and faults at the call after them, at the next token or at its end; or takes all
+/// and faults at its end. It knows whether it took a token that is no text. To it all content is
+/// foreign.
 #[derive(Drop)]
 pub struct FaultySink {
     left: usize,
@@ -76,7 +77,7 @@ impl<A: Allocator> TokenSink<Token<A>> for FaultySink {
     }
 
     fn end(&mut self) -> Result<(), SinkFault> {
-        if self.end_faults {
+        if self.end_faults || self.left == 0 {
             self.faults.add(1);
             return Err(SinkFault);
         }

@@ -1,10 +1,13 @@
 //! What sinks show of what they were told, and the numbers of their handles.
 use crate::alternating::Alternating;
+use crate::counting::Counting;
 use crate::faulty::FaultySink;
 use crate::lines::push_lines;
 use crate::steering::Steering;
 use html5ever_interface::collect::Collector;
+use html5print::print_sink::PrintSink;
 use std::alloc::{AllocError, Allocator, Global};
+use std::str::from_utf8;
 
 /// A sink that shows, line by line, what it was told.
 pub trait Shown: Drop {
@@ -40,6 +43,25 @@ impl<A: Allocator> Shown for Steering<A> {
 impl<A: Allocator> Shown for Alternating<A> {
     fn show(&self, alloc: Global, out: &mut String) -> Result<(), AllocError> {
         show_collector(&self.inner, alloc, out)
+    }
+}
+
+// Appends the lines of a page. A text at their end gets its closing quote.
+impl<A: Allocator> Shown for PrintSink<A> {
+    fn show(&self, _alloc: Global, out: &mut String) -> Result<(), AllocError> {
+        let lines = from_utf8(self.page()).unwrap_or("no text\n");
+        out.push_str(lines)?;
+        if !lines.is_empty() && !lines.ends_with('\n') {
+            out.push_str("\"\n")?;
+        }
+        Ok(())
+    }
+}
+
+impl Shown for Counting {
+    fn show(&self, alloc: Global, out: &mut String) -> Result<(), AllocError> {
+        let line = format!(in alloc; "counted {}\n", self.count)?;
+        out.push_str(&line)
     }
 }
 
