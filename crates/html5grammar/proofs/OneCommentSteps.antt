@@ -10,9 +10,9 @@ use Rattle.html5ever_interface.specs.Token.Told.{Comment}
 use Rattle.html5ever_interface.specs.declared.states.State.{State}
 use Rattle.html5ever_interface.specs.declared.states.State.TheVariants as state
 use Rattle.html5grammar.specs.Characters.{greater_than, question_mark, is_letter, shown, value_bytes}
-use Rattle.html5grammar.specs.Comment.{ends_in, without_last, is_lone_dash, comment_state, may_begin_mark, ends_in_mark, mark_error, comment_errors, ends_comment, comment_end_error, comment_content, in_bogus_comment}
+use Rattle.html5grammar.specs.Comment.{ends_in, without_last, is_lone_dash, comment_state, ends_in_mark, mark_error, comment_errors, ends_comment, comment_end_error, comment_content, in_bogus_comment}
 use Rattle.html5grammar.specs.ErrorText.{error_in, where_true}
-use Rattle.html5grammar.specs.OneComment.{Ending, is_written, before_greater_than, begins_with, occurs, is_content, is_empty, can_end_with, behind_one_dash, is_mark_behind, behind_mark_error, null_state, spell_content, ending_errors, spell_end, spell_bogus, spell_odd}
+use Rattle.html5grammar.specs.OneComment.{Ending, is_written, before_greater_than, begins_with, occurs, is_content, is_empty, can_end_with, behind_one_dash, behind_mark_error, null_state, spell_content, ending_errors, spell_end, spell_bogus, spell_odd}
 use Rattle.html5grammar.specs.OneComment.Ending.{Dashes, Bang, AtOnce, AfterDash}
 use Rattle.html5grammar.specs.OneComment.Opening.{Solidus, QuestionMark}
 use Rattle.html5grammar.specs.OneComment.WrittenComment.{Bogus}
@@ -95,18 +95,8 @@ runs_on-content content h = runs_on-rest content [] content h refl
 -- ---- the errors of a place
 
 mark-errors : (exact : Bool) (before : List ℕ) (c : ℕ) → mark_error exact before c ≡ behind_mark_error exact before c
-unfolding mark_error ends_in_mark may_begin_mark behind_mark_error is_mark_behind
-mark-errors exact before c =
-    let front : List ℕ = without_last 4 before in
-    ap (λ t. where_true t (error_in exact state.CommentLessThanSignBangDashDash c))
-    (tests (ends_in before (codes "<!--")) (is_empty front) (behind_one_dash front) (ends_in front (codes "--!")) (not (c == greater_than)))
-  where
-    tests : (mark start dash bang other : Bool) → ((mark && (not start && not dash && not bang)) && other) ≡ (mark && (not (start || dash || bang) && other))
-    tests false start dash bang other = refl
-    tests true true dash bang other = refl
-    tests true false true bang other = refl
-    tests true false false true other = refl
-    tests true false false false other = refl
+unfolding mark_error ends_in_mark behind_mark_error
+mark-errors exact before c = refl
 
 null_state-is : (before : List ℕ) → comment_state state.Comment before ≡ null_state before
 unfolding comment_state null_state

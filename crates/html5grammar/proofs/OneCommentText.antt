@@ -10,7 +10,7 @@ use lib.Utf8.{encode}
 use Rattle.html5ever_interface.specs.declared.states.State.{State}
 use Rattle.html5ever_interface.specs.declared.states.State.TheVariants as state
 use Rattle.html5grammar.specs.Characters.{null, exclamation_mark, hyphen, less_than, shown, value_bytes}
-use Rattle.html5grammar.specs.Comment.{ends_in, without_last, is_lone_dash, comment_state, may_begin_mark, ends_in_mark, mark_error, comment_errors, ends_comment}
+use Rattle.html5grammar.specs.Comment.{ends_in, without_last, is_lone_dash, comment_state, ends_in_mark, mark_error, comment_errors, ends_comment}
 
 abbrev pub bytes_of : List ℕ → List ℕ
 bytes_of text = flat_map value_bytes text
@@ -214,22 +214,9 @@ lone_dash-bytes text = same_test (is_lone_dash (bytes_of text)) (is_lone_dash te
     back : is_lone_dash text ≡ true → is_lone_dash (bytes_of text) ≡ true
     back h = ap (λ l. is_lone_dash (bytes_of l)) (same_text text (codes "-") (sym h))
 
-may_begin_mark-bytes : (text : List ℕ) → may_begin_mark (bytes_of text) ≡ may_begin_mark text
-unfolding may_begin_mark
-may_begin_mark-bytes text = rw (length-bytes text, dash_carries text, dashes_carry text, bang_carries text) refl
-
 ends_in_mark-bytes : (text : List ℕ) → ends_in_mark (bytes_of text) ≡ ends_in_mark text
-unfolding ends_in_mark value_bytes shown encode
-ends_in_mark-bytes text = by (ends_in text (codes "<!--")) refl
-  where
-    by : (t : Bool) → ends_in text (codes "<!--") ≡ t
-        → (ends_in (bytes_of text) (codes "<!--") && may_begin_mark (without_last 4 (bytes_of text))) ≡ (ends_in text (codes "<!--") && may_begin_mark (without_last 4 text))
-    by true e =
-        let front : List ℕ = without_last 4 text in
-        let parts : bytes_of text ≡ bytes_of front ++ codes "<!--" = ap bytes_of (ends_in-front text (codes "<!--") e) ∙ bytes-append front (codes "<!--") in
-        let rest : without_last 4 (bytes_of text) ≡ bytes_of front = ap (without_last 4) parts ∙ without_last-append (bytes_of front) (codes "<!--") in
-        rw (mark_carries text, rest, may_begin_mark-bytes front) refl
-    by false e = rw (mark_carries text, e) refl
+unfolding ends_in_mark
+ends_in_mark-bytes text = mark_carries text
 
 comment_state-bytes : (behind_dashes : State) (text : List ℕ) → comment_state behind_dashes (bytes_of text) ≡ comment_state behind_dashes text
 unfolding comment_state

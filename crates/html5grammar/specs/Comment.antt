@@ -27,10 +27,6 @@ without_last n text = take (length text - n) text
 abbrev pub is_lone_dash : List ℕ → Bool
 is_lone_dash text = bytes_eq text (codes "-")
 
--- exactly one dash stands last
-abbrev pub ends_in_one_dash : List ℕ → Bool
-ends_in_one_dash text = ends_in text (codes "-") && not (ends_in text (codes "--"))
-
 -- ---- errors
 
 -- the state that an error names, where `behind_dashes` is that behind two dashes or more
@@ -43,13 +39,9 @@ comment_state behind_dashes text =
     else if ends_in text (codes "-") then state.CommentEndDash
     else state.Comment
 
--- whether a `<` behind the text may begin a mark: not at the start of the comment, behind exactly one dash, or behind `--!`
-unfoldable pub may_begin_mark : List ℕ → Bool
-may_begin_mark text = not (nat_eq (length text) 0) && not (ends_in_one_dash text) && not (ends_in text (codes "--!"))
-
 -- whether the text ends in a mark, a `<!--` within the comment
 unfoldable pub ends_in_mark : List ℕ → Bool
-ends_in_mark text = ends_in text (codes "<!--") && may_begin_mark (without_last 4 text)
+ends_in_mark text = ends_in text (codes "<!--")
 
 unfoldable pub mark_error : Bool → List ℕ → ℕ → List Told
 mark_error exact text c =

@@ -110,14 +110,10 @@ is_written foreign (Bogus opening content) = can_open foreign opening content &&
 abbrev pub behind_one_dash : List ℕ → Bool
 behind_one_dash before = ends_in before (codes "-") && not (ends_in before (codes "--"))
 
--- whether a `<!--` of the content is a mark, by what stands before it: not at the start, behind exactly one dash, or behind `--!`
-unfoldable pub is_mark_behind : List ℕ → Bool
-is_mark_behind before = not (is_empty before || behind_one_dash before || ends_in before (codes "--!"))
-
--- a mark is an error at the character behind it, unless that is `>`
+-- a `<!--` within the content is an error at the character behind it, unless that is `>`
 unfoldable pub behind_mark_error : Bool → List ℕ → ℕ → List Told
 behind_mark_error exact before c =
-    where_true (ends_in before (codes "<!--") && (is_mark_behind (without_last 4 before) && not (c == greater_than)))
+    where_true (ends_in before (codes "<!--") && not (c == greater_than))
     (error_in exact state.CommentLessThanSignBangDashDash c)
 
 -- the state that the error of a NUL names

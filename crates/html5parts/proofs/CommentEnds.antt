@@ -8,7 +8,7 @@ use Rattle.std.proofs.lemmas.List.{append_assoc, take-append-drop}
 use lib.Dec.{ltb}
 use lib.Utf8.{encode}
 use Rattle.html5grammar.specs.Characters.{null, hyphen, greater_than, value_bytes, shown}
-use Rattle.html5grammar.specs.Comment.{ends_in, ends_in_mark, may_begin_mark, without_last}
+use Rattle.html5grammar.specs.Comment.{ends_in, ends_in_mark, without_last}
 use Rattle.html5parts.specs.Runs.{other_run_ends}
 use Rattle.html5grammar.specs.Start.Open.{InComment}
 
@@ -68,7 +68,7 @@ pub ends_in_mark-none : (text : List ℕ) → ends_in text (codes "-") ≡ false
 unfolding ends_in_mark
 ends_in_mark-none text none =
     let start : List ℕ = take (length text - 4) text in
-    elim (ends_in text (codes "<!--")) as (λ b. ends_in text (codes "<!--") ≡ b → (b && may_begin_mark (without_last 4 text)) ≡ false) [
+    elim (ends_in text (codes "<!--")) as (λ b. ends_in text (codes "<!--") ≡ b → b ≡ false) [
       | true ↦ λ ends.
           let mark : codes "<!--" ≡ drop (length text - 4) text = same_text (codes "<!--") (drop (length text - 4) text) (sym ends) in
           let parts : text ≡ (start ++ codes "<!-") ++ hyphen ∷ [] =

@@ -1,12 +1,12 @@
 //! What the text of a comment says of the next character. The standard's ten comment states are told
 //! by the end of that text.
-#![tactic(auto, unfolding(html5grammar::specs::Comment::comment_state, html5grammar::specs::Comment::may_begin_mark, html5grammar::specs::Comment::ends_in_mark, html5grammar::specs::Comment::ends_comment, html5grammar::specs::Comment::comment_content))]
+#![tactic(auto, unfolding(html5grammar::specs::Comment::comment_state, html5grammar::specs::Comment::ends_in_mark, html5grammar::specs::Comment::ends_comment, html5grammar::specs::Comment::comment_content))]
 
 ghost use Rattle.std.specs.Prelude.{◌≡◌, ◌==◌, ◌&&◌, not, take};
 ghost use Rattle.std.specs.Str.{IsCharBoundary};
 ghost use Rattle.html5grammar.specs.Characters.{greater_than};
 ghost use Rattle.html5parts.specs.CurrentTag.{is_comment_state};
-ghost use Rattle.html5grammar.specs.Comment.{ends_in, comment_state, may_begin_mark, ends_in_mark, ends_comment, comment_content};
+ghost use Rattle.html5grammar.specs.Comment.{ends_in, comment_state, ends_in_mark, ends_comment, comment_content};
 
 use html5ever_interface::states::State;
 
@@ -39,22 +39,11 @@ pub fn state_in_comment(behind_dashes: State, text: &str) -> State
     State::Comment
 }
 
-// Whether a `<` behind the text may begin a mark.
-fn may_begin_mark(text: &[u8]) -> bool
-    ensures { result ≡ may_begin_mark text.now }
-{
-    if text.is_empty() || text.ends_with(b"--!") {
-        return false;
-    }
-    !text.ends_with(b"-") || text.ends_with(b"--")
-}
-
 /// Whether the text ends in a mark: a `<!--` within the comment.
 pub fn ends_in_mark(text: &str) -> bool
     ensures { result ≡ ends_in_mark text.now }
 {
-    let text = text.as_bytes();
-    text.ends_with(b"<!--") && may_begin_mark(&text[..text.len() - 4])
+    ends_in(text, b"<!--")
 }
 
 /// Whether the character stands behind a mark, and is an error there.
