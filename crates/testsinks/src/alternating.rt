@@ -35,7 +35,7 @@ fn reply_at<A: Allocator>(tags: u32, token: &Token<A>) -> TokenSinkResult<u32, S
 }
 
 /// Collects tokens, and counts the tags. To it the content is foreign while their number is odd. It
-/// asks to run script N behind tag N, where N is a multiple of 3, and faults at a tag that it can't
+/// asks to run script N after tag N, where N is a multiple of 3, and faults at a tag that it can't
 /// count.
 #[derive(Drop)]
 pub struct Alternating<A: Allocator = Global> {
