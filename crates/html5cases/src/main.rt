@@ -4,6 +4,9 @@
 mod case;
 mod check;
 mod clones;
+mod cuttings;
+mod pieces;
+mod so_far;
 
 use crate::case::WorkedCase;
 use caselines::check_cases;
