@@ -43,14 +43,6 @@ fn clean_of(word: &str) -> Result<bool, CaseError> {
     }
 }
 
-// Whether the word of a mark is the only one that it can have.
-fn has_word(word: &str, only: &str) -> Result<bool, CaseError> {
-    if word != only {
-        return Err(CaseError::BadLine);
-    }
-    Ok(true)
-}
-
 impl Case for WorkedCase {
     fn begin(alloc: Global) -> WorkedCase {
         WorkedCase {
@@ -80,8 +72,8 @@ impl Case for WorkedCase {
                 Err(_) => return Err(CaseError::BadLine),
             },
             "~" => self.clean = Some(clean_of(text)?),
-            "+" => self.exact_too = has_word(text, "exact")?,
-            "-" => self.steered = has_word(text, "collector")?,
+            "+" if text == "exact" => self.exact_too = true,
+            "-" if text == "collector" => self.steered = true,
             _ => return Err(CaseError::BadLine),
         }
         Ok(())

@@ -18,16 +18,18 @@ use html5print::print_sink::PrintSink;
 use markup5ever::data::NamedReferences;
 use std::alloc::Global;
 
-// The lines of the case that are left with or without those of pauses. Where the input may go on, a text at their end is open.
+// The lines of the case, with those of pauses or without them. Where the input may go on, a text at their
+// end is open.
 fn lines_of(alloc: Global, case: &WorkedCase, pauses: bool) -> Result<String, CaseError> {
     let mut lines = String::new(alloc);
+    let mut ends_in_text = false;
     for line in case.output.lines() {
         if pauses || !line.starts_with("pause ") {
             push_line(&mut lines, line)?;
         }
+        ends_in_text = line.starts_with("text ");
     }
-    let last = case.output.lines().last().unwrap_or("");
-    if case.clean.is_some() && last.starts_with("text ") {
+    if case.clean.is_some() && ends_in_text {
         lines.pop();
     }
     Ok(lines)

@@ -1,5 +1,4 @@
 //! The pieces of an input, fed one after another to a tokenizer, and what must be told behind each.
-ghost use Rattle.std.specs.Prelude.{◌≡◌, false};
 ghost use Rattle.html5reading.specs.Starting.{CanStart};
 
 use crate::so_far::SoFar;
@@ -76,9 +75,12 @@ impl Due {
     }
 }
 
-// The error of a case, for one of a tokenizer: its sinks fail for want of memory alone.
-fn error_of(_refused: TokenizerError) -> CaseError {
-    CaseError::Memory
+// The answer of a call to a tokenizer as one about a case: its sinks fail for want of memory alone.
+fn answered(answer: Result<(), TokenizerError>) -> Result<(), CaseError> {
+    match answer {
+        Ok(()) => Ok(()),
+        Err(_) => Err(CaseError::Memory),
+    }
 }
 
 // Feeds a tokenizer a piece.
@@ -93,7 +95,7 @@ fn feed_piece<S: TokenSink<Token> + SoFar>(
     if tokenizer.is_ended() {
         return Err(CaseError::BadLine);
     }
-    feed_until_done(tokenizer, queue).map_err(error_of)
+    answered(feed_until_done(tokenizer, queue))
 }
 
 // Feeds the pieces. Answers whether behind each a beginning of what is due was told.
@@ -119,7 +121,7 @@ fn end<S: TokenSink<Token> + SoFar>(tokenizer: &mut Tokenizer<'_, S>) -> Result<
     if tokenizer.is_ended() {
         return Err(CaseError::BadLine);
     }
-    tokenizer.end().map_err(error_of)
+    answered(tokenizer.end())
 }
 
 // Whether all that is due was told, and no more.

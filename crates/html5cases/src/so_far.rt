@@ -16,7 +16,10 @@ pub trait SoFar: Drop {
 fn text_of(alloc: Global, bytes: &[u8]) -> Result<String, CaseError> {
     let mut page = Vec::new(alloc);
     page.extend_from_slice(bytes)?;
-    String::from_utf8(page).map_err(|_| CaseError::BadLine)
+    match String::from_utf8(page) {
+        Ok(text) => Ok(text),
+        Err(_) => Err(CaseError::BadLine),
+    }
 }
 
 // The lines of the entries, where a text at their end is open.
