@@ -1,7 +1,7 @@
 //! A worked case, as it is written.
 use crate::check::failure_of;
 use caselines::{Case, CaseError, push_line, push_meant, push_word};
-use std::alloc::Global;
+use std::alloc::{AllocError, Global};
 
 /// A worked case: the words of the command line and an input, and what is told.
 #[derive(Drop)]
@@ -14,6 +14,24 @@ pub struct WorkedCase {
     pub status: u8,
     /// Whether nothing is pending behind the input, where this may go on.
     pub clean: Option<bool>,
+    /// Whether exact errors have the same messages.
+    pub exact_too: bool,
+    /// Whether a reply of the printing sink chooses how the input is read.
+    pub steered: bool,
+}
+
+impl WorkedCase {
+    /// The words of the command line, and that for exact errors, where these are chosen here.
+    pub fn words_of(&self, alloc: Global, exact: bool) -> Result<Vec<String>, AllocError> {
+        let mut words = Vec::new(alloc);
+        for word in &self.words {
+            words.push(String::from_str(alloc, word)?)?;
+        }
+        if exact {
+            words.push(String::from_str(alloc, "--exact")?)?;
+        }
+        Ok(words)
+    }
 }
 
 // Whether nothing is pending, by its word.
@@ -35,6 +53,8 @@ impl Case for WorkedCase {
             errors: String::new(alloc),
             status: 0,
             clean: None,
+            exact_too: false,
+            steered: false,
         }
     }
 
@@ -52,6 +72,8 @@ impl Case for WorkedCase {
                 Err(_) => return Err(CaseError::BadLine),
             },
             "~" => self.clean = Some(clean_of(text)?),
+            "+" if text == "exact" => self.exact_too = true,
+            "-" if text == "collector" => self.steered = true,
             _ => return Err(CaseError::BadLine),
         }
         Ok(())

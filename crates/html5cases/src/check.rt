@@ -4,7 +4,7 @@ ghost use Rattle.html5reading.specs.Starting.{CanStart};
 ghost use Rattle.html5table.specs.Listed.{listed};
 
 use crate::case::WorkedCase;
-use crate::clones::check_clones;
+use crate::cuttings::failing_cutting;
 use caselines::CaseError;
 use devices::{ReadSource, WriteTarget};
 use html5cli::arguments::settings_of;
@@ -23,12 +23,19 @@ struct Ran {
     errors: Vec<u8>,
 }
 
-// The words of the case, and those that cut the input.
-fn words_of(alloc: Global, case: &WorkedCase, cut: usize) -> Result<Vec<String>, AllocError> {
-    let mut words = Vec::new(alloc);
-    for word in &case.words {
-        words.push(String::from_str(alloc, word)?)?;
-    }
+// How the program is run on a case.
+#[derive(Clone, Copy, Debug, PartialEq, Eq)]
+struct Way {
+    // With exact errors, beside the words of the case.
+    exact: bool,
+    // In pieces of so many characters; 0 stands for the whole.
+    cut: usize,
+}
+
+// The words of the case, and those of the way.
+fn words_of(alloc: Global, case: &WorkedCase, way: Way) -> Result<Vec<String>, AllocError> {
+    let mut words = case.words_of(alloc, way.exact)?;
+    let cut = way.cut;
     if cut != 0 {
         words.push(String::from_str(alloc, "--cut")?)?;
         words.push(format!(in alloc; "{cut}")?)?;
@@ -36,13 +43,13 @@ fn words_of(alloc: Global, case: &WorkedCase, cut: usize) -> Result<Vec<String>,
     Ok(words)
 }
 
-// Runs the program on the case, cut in pieces of so many characters.
-fn run_case(alloc: Global, case: &WorkedCase, cut: usize) -> Result<Ran, AllocError> {
+// Runs the program on the case in that way.
+fn run_case(alloc: Global, case: &WorkedCase, way: Way) -> Result<Ran, AllocError> {
     let mut writer = WriteTarget::new(Vec::new(alloc));
     let mut errors = WriteTarget::new(Vec::new(alloc));
     let status = run(
         alloc,
-        words_of(alloc, case, cut)?,
+        words_of(alloc, case, way)?,
         &mut ReadSource::new(case.input.as_bytes()),
         &mut writer,
         &mut errors,
@@ -54,9 +61,9 @@ fn run_case(alloc: Global, case: &WorkedCase, cut: usize) -> Result<Ran, AllocEr
     })
 }
 
-// Whether the program tells of the case, cut in pieces of so many characters, what it must tell.
-fn is_told(alloc: Global, case: &WorkedCase, cut: usize) -> Result<bool, AllocError> {
-    let ran = run_case(alloc, case, cut)?;
+// Whether the program tells of the case, in that way, what it must tell.
+fn is_told(alloc: Global, case: &WorkedCase, way: Way) -> Result<bool, AllocError> {
+    let ran = run_case(alloc, case, way)?;
     Ok(
         ran.status == case.status
             && ran.output.as_slice() == case.output.as_bytes()
@@ -90,12 +97,12 @@ fn is_told_so_far(
     Ok(page.strip_suffix(b"\n").unwrap_or(page) == lines && tokenizer.nothing_pending() == clean)
 }
 
-// Whether the case tells what it must, cut in pieces of so many characters.
-fn passes(alloc: Global, case: &WorkedCase, cut: usize) -> Result<bool, CaseError> {
+// Whether the case tells in that way what it must.
+fn passes(alloc: Global, case: &WorkedCase, way: Way) -> Result<bool, CaseError> {
     let Some(clean) = case.clean else {
-        return Ok(is_told(alloc, case, cut)?);
+        return Ok(is_told(alloc, case, way)?);
     };
-    let words = words_of(alloc, case, cut)?;
+    let words = words_of(alloc, case, way)?;
     let Some(settings) = settings_of(&words) else {
         return Err(CaseError::BadLine);
     };
@@ -103,29 +110,45 @@ fn passes(alloc: Global, case: &WorkedCase, cut: usize) -> Result<bool, CaseErro
 }
 
 // The first cut at which the case does not tell what it must; 0 stands for the whole.
-fn failing_cut(alloc: Global, case: &WorkedCase) -> Result<Option<usize>, CaseError> {
-    if !passes(alloc, case, 0)? {
+fn failing_cut(alloc: Global, case: &WorkedCase, exact: bool) -> Result<Option<usize>, CaseError> {
+    if !passes(alloc, case, Way { exact, cut: 0 })? {
         return Ok(Some(0));
     }
     if case.status != 0 {
         return Ok(None);
     }
     for cut in 1..=case.input.chars().count() {
-        if !passes(alloc, case, cut)? {
+        if !passes(alloc, case, Way { exact, cut })? {
             return Ok(Some(cut));
         }
     }
     Ok(None)
 }
 
-/// Runs a case. Answers where it fails, if it does.
-pub fn failure_of(alloc: Global, case: &WorkedCase) -> Result<Option<String>, CaseError> {
-    if let Some(cut) = failing_cut(alloc, case)? {
-        let failure = format!(in alloc; "{} {:?} in pieces of {cut}", case.name, case.input)?;
-        return Ok(Some(failure));
+// Runs a case in all ways, with exact errors or as its words say. Answers how it fails, if it does.
+fn failing_way(alloc: Global, case: &WorkedCase, exact: bool) -> Result<Option<String>, CaseError> {
+    if let Some(cut) = failing_cut(alloc, case, exact)? {
+        return Ok(Some(format!(in alloc; "in pieces of {cut}")?));
     }
-    if case.status != 0 || check_clones(alloc, case)? {
+    if case.status != 0 {
         return Ok(None);
     }
-    Ok(Some(format!(in alloc; "{} {:?}, a clone differs", case.name, case.input)?))
+    failing_cutting(alloc, case, &case.words_of(alloc, exact)?)
+}
+
+/// Runs a case. Answers where it fails, if it does.
+pub fn failure_of(alloc: Global, case: &WorkedCase) -> Result<Option<String>, CaseError> {
+    if let Some(way) = failing_way(alloc, case, false)? {
+        return Ok(Some(format!(in alloc; "{} {:?} {way}", case.name, case.input)?));
+    }
+    if !case.exact_too {
+        return Ok(None);
+    }
+    match failing_way(alloc, case, true)? {
+        None => Ok(None),
+        Some(way) => {
+            let failure = format!(in alloc; "{} {:?} {way}, exact", case.name, case.input)?;
+            Ok(Some(failure))
+        }
+    }
 }

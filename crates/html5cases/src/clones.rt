@@ -1,14 +1,8 @@
 //! Clones of what a case tells: of each token, of tags and doctypes, of attributes and names.
-use crate::case::WorkedCase;
-use caselines::CaseError;
-use html5cli::arguments::settings_of;
-use html5cli::names::names_of;
-use html5cli::print::options_of;
-use html5ever::tokenizer::laws::closed;
 use html5ever_interface::collect::Collector;
 use html5ever_interface::interface::token::{Tag, Token};
 use markup5ever::interface::{Attribute, QualName};
-use std::alloc::{AllocError, Global};
+use std::alloc::AllocError;
 
 // Whether the clones of a name equal it.
 fn is_cloned_name(name: &QualName) -> Result<bool, AllocError> {
@@ -46,26 +40,9 @@ fn is_cloned(token: &Token) -> Result<bool, AllocError> {
     }
 }
 
-// What a collector holds of the case.
-fn collected(alloc: Global, case: &WorkedCase) -> Result<Collector, CaseError> {
-    let Some(settings) = settings_of(&case.words) else {
-        return Err(CaseError::BadLine);
-    };
-    let Ok(names) = names_of(alloc, settings.table) else {
-        return Err(CaseError::BadLine);
-    };
-    let sink = Collector::new(alloc, settings.foreign);
-    let opts = options_of(alloc, &settings)?;
-    let text = String::from_str(alloc, &case.input)?;
-    match closed(alloc, sink, opts, &names, text) {
-        (sink, Ok(())) => Ok(sink),
-        (_, Err(_)) => Err(CaseError::Memory),
-    }
-}
-
-/// Whether the clones of each entry that a collector holds of the case equal it.
-pub fn check_clones(alloc: Global, case: &WorkedCase) -> Result<bool, CaseError> {
-    for (token, _) in collected(alloc, case)?.entries() {
+/// Whether the clones of each entry that a collector holds equal it.
+pub fn check_clones(sink: &Collector) -> Result<bool, AllocError> {
+    for (token, _) in sink.entries() {
         if !is_cloned(token)? {
             return Ok(false);
         }
