@@ -4,7 +4,7 @@ use Rattle.std.proofs.lemmas.List.{set-get_or}
 use Rattle.html5ever_interface.specs.Collected.{message_of, told_text, from_first_with_text, with_text}
 use Rattle.html5ever_interface.specs.Token.{told_by}
 use Rattle.html5ever_interface.specs.declared.interface.token.Token.{Token}
-use Rattle.html5ever_interface.specs.declared.interface.token.Token.TheVariants.{DoctypeToken, TagToken, CommentToken, CharacterTokens, NullCharacterToken, EOFToken, ParseError}
+use Rattle.html5ever_interface.specs.declared.interface.token.Token.TheVariants.{DoctypeToken, TagToken, CommentToken, ProcessingInstructionToken, CharacterTokens, NullCharacterToken, EOFToken, ParseError}
 
 -- what either outcome leaves
 pub ok_from_if : {T E X : Type 0} (r : Result T E) (left done same : X) → left ≡ (if is_ok r then done else same) → OnOk r (left ≡ done)
@@ -23,6 +23,7 @@ told_text-other : {Z : Type 0} (token : Token Z) → ((text : String Z) → toke
 told_text-other (DoctypeToken doctype) other = refl
 told_text-other (TagToken tag) other = refl
 told_text-other (CommentToken text) other = refl
+told_text-other (ProcessingInstructionToken text) other = refl
 told_text-other (CharacterTokens text) other = elim (other text refl) [ ]
 told_text-other NullCharacterToken other = refl
 told_text-other EOFToken other = refl

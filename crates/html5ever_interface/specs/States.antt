@@ -9,7 +9,7 @@ use Rattle.html5ever_interface.specs.declared.states.RawKind.TheVariants.{Rcdata
 use Rattle.html5ever_interface.specs.declared.states.AttrValueKind.{AttrValueKind}
 use Rattle.html5ever_interface.specs.declared.states.AttrValueKind.TheVariants.{Unquoted, SingleQuoted, DoubleQuoted}
 use Rattle.html5ever_interface.specs.declared.states.State.{State}
-use Rattle.html5ever_interface.specs.declared.states.State.TheVariants.{Data, Plaintext, TagOpen, EndTagOpen, TagName, RawData, RawLessThanSign, RawEndTagOpen, RawEndTagName, ScriptDataEscapeStart, ScriptDataEscapeStartDash, ScriptDataEscapedDash, ScriptDataEscapedDashDash, ScriptDataDoubleEscapeEnd, BeforeAttributeName, AttributeName, AfterAttributeName, BeforeAttributeValue, AttributeValue, AfterAttributeValueQuoted, SelfClosingStartTag, BogusComment, MarkupDeclarationOpen, CommentStart, CommentStartDash, Comment, CommentLessThanSign, CommentLessThanSignBang, CommentLessThanSignBangDash, CommentLessThanSignBangDashDash, CommentEndDash, CommentEnd, CommentEndBang, Doctype, BeforeDoctypeName, DoctypeName, AfterDoctypeName, AfterDoctypeKeyword, BeforeDoctypeIdentifier, DoctypeIdentifierDoubleQuoted, DoctypeIdentifierSingleQuoted, AfterDoctypeIdentifier, BetweenDoctypePublicAndSystemIdentifiers, BogusDoctype, CdataSection, CdataSectionBracket, CdataSectionEnd}
+use Rattle.html5ever_interface.specs.declared.states.State.TheVariants.{Data, Plaintext, TagOpen, EndTagOpen, TagName, RawData, RawLessThanSign, RawEndTagOpen, RawEndTagName, ScriptDataEscapeStart, ScriptDataEscapeStartDash, ScriptDataEscapedDash, ScriptDataEscapedDashDash, ScriptDataDoubleEscapeEnd, BeforeAttributeName, AttributeName, AfterAttributeName, BeforeAttributeValue, AttributeValue, AfterAttributeValueQuoted, SelfClosingStartTag, BogusComment, MarkupDeclarationOpen, CommentStart, CommentStartDash, Comment, CommentLessThanSign, CommentLessThanSignBang, CommentLessThanSignBangDash, CommentLessThanSignBangDashDash, CommentEndDash, CommentEnd, CommentEndBang, Doctype, BeforeDoctypeName, DoctypeName, AfterDoctypeName, AfterDoctypeKeyword, BeforeDoctypeIdentifier, DoctypeIdentifierDoubleQuoted, DoctypeIdentifierSingleQuoted, AfterDoctypeIdentifier, BetweenDoctypePublicAndSystemIdentifiers, BogusDoctype, CdataSection, CdataSectionBracket, CdataSectionEnd, ProcessingInstruction}
 
 abbrev pub script_escape_kind_name : ScriptEscapeKind → List ℕ
 script_escape_kind_name Escaped = codes "Escaped"
@@ -79,6 +79,7 @@ state_name BogusDoctype = codes "BogusDoctype"
 state_name CdataSection = codes "CdataSection"
 state_name CdataSectionBracket = codes "CdataSectionBracket"
 state_name CdataSectionEnd = codes "CdataSectionEnd"
+state_name ProcessingInstruction = codes "ProcessingInstruction"
 
 -- the states in which text is read, where a stream may start
 abbrev pub is_text_state : State → Bool
@@ -129,3 +130,4 @@ is_text_state BogusDoctype = false
 is_text_state CdataSection = true
 is_text_state CdataSectionBracket = false
 is_text_state CdataSectionEnd = false
+is_text_state ProcessingInstruction = false

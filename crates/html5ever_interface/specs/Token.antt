@@ -5,7 +5,7 @@ use Rattle.html5ever_interface.specs.declared.interface.token.TagKind.{TagKind}
 use Rattle.html5ever_interface.specs.declared.interface.token.Tag.{Tag as RustTag}
 use Rattle.html5ever_interface.specs.declared.interface.token.Doctype.{Doctype as RustDoctype}
 use Rattle.html5ever_interface.specs.declared.interface.token.Token.{Token}
-use Rattle.html5ever_interface.specs.declared.interface.token.Token.TheVariants.{DoctypeToken, TagToken, CommentToken, CharacterTokens, NullCharacterToken, EOFToken, ParseError}
+use Rattle.html5ever_interface.specs.declared.interface.token.Token.TheVariants.{DoctypeToken, TagToken, CommentToken, ProcessingInstructionToken, CharacterTokens, NullCharacterToken, EOFToken, ParseError}
 use Rattle.html5ever_interface.specs.declared.interface.token.TokenSinkResult.{TokenSinkResult}
 use Rattle.html5ever_interface.specs.declared.interface.token.TokenSinkResult.TheVariants.{Continue, Script, Plaintext, RawData, EncodingIndicator}
 use Rattle.html5ever_interface.specs.declared.states.RawKind.{RawKind}
@@ -29,6 +29,8 @@ pub data Told : Type 0 where
   Error : List ℕ → Told
   Tag : TagOf → Told
   Comment : List ℕ → Told
+  -- a processing instruction
+  Instruction : List ℕ → Told
   Doctype : DoctypeOf → Told
   End : Told
 
@@ -64,6 +66,7 @@ abbrev pub told_by : {Z : Type 0} → Token Z → Told
 told_by (DoctypeToken doctype) = Doctype (doctype_of doctype)
 told_by (TagToken tag) = Tag (tag_of tag)
 told_by (CommentToken text) = Comment (string_bytes text)
+told_by (ProcessingInstructionToken text) = Instruction (string_bytes text)
 told_by (CharacterTokens text) = Text (string_bytes text)
 told_by NullCharacterToken = Null
 told_by EOFToken = End

@@ -1,4 +1,4 @@
-//! The states of the tokenizer, after the standard's.
+//! The states of the tokenizer, after the standard's, and one for processing instructions.
 ghost use Rattle.std.specs.Prelude.{◌≡◌};
 
 /// How far a script in a comment is escaped.
@@ -82,6 +82,7 @@ pub enum State {
     CdataSection,
     CdataSectionBracket,
     CdataSectionEnd,
+    ProcessingInstruction,
 }
 
 impl State {
@@ -210,6 +211,7 @@ impl State {
             State::CdataSection => "CdataSection",
             State::CdataSectionBracket => "CdataSectionBracket",
             State::CdataSectionEnd => "CdataSectionEnd",
+            State::ProcessingInstruction => "ProcessingInstruction",
         }
     }
 }

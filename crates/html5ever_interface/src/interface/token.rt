@@ -57,6 +57,8 @@ pub enum Token<A: Allocator = Global> {
     TagToken(Tag<A>),
     /// A comment's text, without `<!--` and `-->`, or that of a bogus comment.
     CommentToken(String<A>),
+    /// The content of a processing instruction, as `<?x>`: what stands between `<?` and `>`.
+    ProcessingInstructionToken(String<A>),
     /// Text, never empty: line breaks are LF. A run of text may come in any number of these.
     CharacterTokens(String<A>),
     /// U+0000 in text. In plain text it is U+FFFD, as text.
@@ -222,6 +224,9 @@ impl<A: Allocator + Copy> Token<A> {
             Token::DoctypeToken(doctype) => Ok(Token::DoctypeToken(doctype.try_clone()?)),
             Token::TagToken(tag) => Ok(Token::TagToken(tag.try_clone()?)),
             Token::CommentToken(text) => Ok(Token::CommentToken(text.clone()?)),
+            Token::ProcessingInstructionToken(text) => {
+                Ok(Token::ProcessingInstructionToken(text.clone()?))
+            }
             Token::CharacterTokens(text) => Ok(Token::CharacterTokens(text.clone()?)),
             Token::NullCharacterToken => Ok(Token::NullCharacterToken),
             Token::EOFToken => Ok(Token::EOFToken),
