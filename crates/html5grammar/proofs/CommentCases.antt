@@ -87,10 +87,6 @@ keyword_cut_off : events false (codes "<!doc") ≡ event (Error (codes "Saw ! in
 unfolding reading encode stepped is_bad_character is_letter is_white_space name_bytes shown value_bytes rest_of next_slice slice_at state_at told_at_end_of bad_character saw saw_end normalised with_line_feeds without_dropped_first read read_from here brought last_behind events_at late_events late_at_end_of open_at_end_of end_events line_after behind_run run_of attribute_behind_first behind_attribute_name behind_name_and_space behind_quoted behind_tag_name behind_unquoted closing duplicate_error end_tag_errors first_error has_attribute in_attribute_name in_quoted in_tag_name in_unquoted is_odd_at_name is_odd_in_name is_odd_in_unquoted part place_error quoted_value repeats_attribute tag_name unquoted_error unquoted_value value value_behind_space value_or_next with_last_attribute behind_solidus behind_less_than data_text plain_text declaration declaration_by_answer begins_keyword comment comment_state ends_in_mark mark_error comment_errors ends_comment comment_end_error comment_content in_bogus_comment behind_bogus_comment bogus_comment bogus_comment_from
 keyword_cut_off = refl
 
-question_mark : events false (codes "<?x>") ≡ event (Error (codes "Saw ? in state TagOpen")) (Character 1) (Character 1) 1 ∷ event (Comment (codes "?x")) (Character 3) (Character 3) 1 ∷ event End EndOfInput EndOfInput 1 ∷ []
-unfolding reading encode stepped is_bad_character is_letter is_white_space name_bytes shown value_bytes rest_of next_slice slice_at state_at told_at_end_of bad_character saw saw_end normalised with_line_feeds without_dropped_first read read_from here brought last_behind events_at late_events late_at_end_of open_at_end_of end_events line_after behind_run run_of attribute_behind_first behind_attribute_name behind_name_and_space behind_quoted behind_tag_name behind_unquoted closing duplicate_error end_tag_errors first_error has_attribute in_attribute_name in_quoted in_tag_name in_unquoted is_odd_at_name is_odd_in_name is_odd_in_unquoted part place_error quoted_value repeats_attribute tag_name unquoted_error unquoted_value value value_behind_space value_or_next with_last_attribute behind_solidus behind_less_than data_text plain_text declaration declaration_by_answer begins_keyword comment comment_state ends_in_mark mark_error comment_errors ends_comment comment_end_error comment_content in_bogus_comment behind_bogus_comment bogus_comment bogus_comment_from
-question_mark = refl
-
 line_of_the_declaration : events false (0x3c ∷ 0x21 ∷ 0xa ∷ 0x3e ∷ []) ≡ event (Error (codes "Saw ! in state MarkupDeclarationOpen")) (Character 1) (Character 2) 1 ∷ event (Comment (0xa ∷ [])) (Character 3) (Character 3) 2 ∷ event End EndOfInput EndOfInput 2 ∷ []
 unfolding reading encode stepped is_bad_character is_letter is_white_space name_bytes shown value_bytes rest_of next_slice slice_at state_at told_at_end_of bad_character saw saw_end normalised with_line_feeds without_dropped_first read read_from here brought last_behind events_at late_events late_at_end_of open_at_end_of end_events line_after behind_run run_of attribute_behind_first behind_attribute_name behind_name_and_space behind_quoted behind_tag_name behind_unquoted closing duplicate_error end_tag_errors first_error has_attribute in_attribute_name in_quoted in_tag_name in_unquoted is_odd_at_name is_odd_in_name is_odd_in_unquoted part place_error quoted_value repeats_attribute tag_name unquoted_error unquoted_value value value_behind_space value_or_next with_last_attribute behind_solidus behind_less_than data_text plain_text declaration declaration_by_answer begins_keyword comment comment_state ends_in_mark mark_error comment_errors ends_comment comment_end_error comment_content in_bogus_comment behind_bogus_comment bogus_comment bogus_comment_from
 line_of_the_declaration = refl

@@ -23,11 +23,11 @@ use Rattle.html5grammar.specs.Reading.Here.{Tells, TellsTag}
 use Rattle.html5grammar.specs.Start.{Raw, OpenTag, Place, RawPlace, DoctypePlace, Open, held_len, is_undecided_open}
 use Rattle.html5grammar.specs.Start.Mode.{Data, Plain, RawText, Cdata}
 use Rattle.html5grammar.specs.Start.DoctypePlace.{AfterWord, BeforeName, InDoctypeName, AfterName, AfterKeyword, BeforeIdentifier, InIdentifier, AfterIdentifier, BetweenIdentifiers, Skipped}
-use Rattle.html5grammar.specs.Start.Open.{Between, LessThan, LessThanSolidus, InTag, InRaw, InDeclaration, InComment, InBogusComment, InDoctype, InDoctypeKeyword, InReference, InCdata}
+use Rattle.html5grammar.specs.Start.Open.{Between, LessThan, LessThanSolidus, InTag, InRaw, InDeclaration, InComment, InBogusComment, InInstruction, InDoctype, InDoctypeKeyword, InReference, InCdata}
 use Rattle.html5grammar.specs.Start.Place.{InName, BeforeAttribute, InAttributeName, AfterAttributeName, BeforeValue, InValue, AfterQuotedValue, AfterSolidus}
 use Rattle.html5grammar.specs.Start.RawPlace.{AfterLessThan, InEndName, AfterMark, AfterMarkAndDash, InSwitch}
 use Rattle.html5grammar.specs.Tag.{in_quoted, in_unquoted, in_attribute_name, in_tag_name}
-use Rattle.html5grammar.proofs.Machine.{closing_step, tag_name_step, part_step, attribute_name_step, after_attribute_name_step, quoted_step, unquoted_step, before_value_step, tag_step, data_step, less_than_step, solidus_step, bogus_comment_step, comment_step, skipped_step, wanted_name_step, doctype_name_step, keyword_or_end_step, wanted_identifier_step, system_or_end_step, identifier_step, behind_identifier_step, space_step, doctype_step, raw_step, tag_name_end_step, end_name_step, switch_step, mark_step, mark_and_dash_step, raw_solidus_step, raw_less_than_step, raw_place_step, step_at, cdata_step}
+use Rattle.html5grammar.proofs.Machine.{closing_step, tag_name_step, part_step, attribute_name_step, after_attribute_name_step, quoted_step, unquoted_step, before_value_step, tag_step, data_step, less_than_step, solidus_step, bogus_comment_step, comment_step, instruction_step, skipped_step, wanted_name_step, doctype_name_step, keyword_or_end_step, wanted_identifier_step, system_or_end_step, identifier_step, behind_identifier_step, space_step, doctype_step, raw_step, tag_name_end_step, end_name_step, switch_step, mark_step, mark_and_dash_step, raw_solidus_step, raw_less_than_step, raw_place_step, step_at, cdata_step}
 
 abbrev pub HoldsAtMostOne : Here Open → Type 0
 HoldsAtMostOne (Tells told later) = held_len later ≤ 1
@@ -162,14 +162,14 @@ module _ (exact : Bool) (c : ℕ) where
   holds-doctype Skipped d = holds-skipped [] d
 
   pub holds_at_most_one : (opened : Open) → is_undecided_open opened ≡ false → HoldsAtMostOne (step_at exact opened c)
-  unfolding step_at less_than_step solidus_step comment_step
+  unfolding step_at less_than_step solidus_step comment_step instruction_step
   holds_at_most_one (Between Data) decided = holds-data []
   holds_at_most_one (Between Plain) decided = none
   holds_at_most_one (Between Cdata) decided = holds-cdata []
   holds_at_most_one (Between (RawText raw name)) decided = holds-raw raw name []
   holds_at_most_one LessThan decided =
       holds-if (is_letter c) _ _ (holds-tag_name _) (holds-if (c == solidus) _ _ none
-      (holds-if (c == exclamation_mark) _ _ none (holds-if (c == question_mark) _ _ (holds-bogus_comment [] _) (holds-data _))))
+      (holds-if (c == exclamation_mark) _ _ none (holds-if (c == question_mark) _ _ none (holds-data _))))
   holds_at_most_one LessThanSolidus decided =
       holds-if (is_letter c) _ _ (holds-tag_name _) (holds-if (c == greater_than) _ _ none (holds-bogus_comment [] _))
   holds_at_most_one (InTag place tag) decided = holds-tag place tag
@@ -177,6 +177,7 @@ module _ (exact : Bool) (c : ℕ) where
   holds_at_most_one (InDeclaration held) decided = absurd (false≢true (sym decided))
   holds_at_most_one (InComment before) decided = holds-if ((c == greater_than) && ends_comment before) _ _ none none
   holds_at_most_one (InBogusComment before) decided = holds-bogus_comment before []
+  holds_at_most_one (InInstruction before) decided = holds-if (c == greater_than) _ _ none none
   holds_at_most_one (InDoctype place d) decided = holds-doctype place d
   holds_at_most_one (InDoctypeKeyword held d) decided = absurd (false≢true (sym decided))
   holds_at_most_one (InCdata held) decided = holds-cdata held

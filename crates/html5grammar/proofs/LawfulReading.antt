@@ -27,7 +27,7 @@ use Rattle.html5grammar.specs.Start.Raw.{Rcdata, Rawtext, ScriptData, Escaped, D
 use Rattle.html5grammar.specs.Start.Mode.{Data, Plain, RawText, Cdata}
 use Rattle.html5grammar.specs.Start.RawPlace.{AfterLessThan, InEndName, AfterMark, AfterMarkAndDash, InSwitch}
 use Rattle.html5grammar.specs.Start.DoctypePlace.{Skipped}
-use Rattle.html5grammar.specs.Start.Open.{Between, LessThan, LessThanSolidus, InTag, InRaw, InDeclaration, InComment, InBogusComment, InDoctype, InDoctypeKeyword, InCdata, InReference}
+use Rattle.html5grammar.specs.Start.Open.{Between, LessThan, LessThanSolidus, InTag, InRaw, InDeclaration, InComment, InBogusComment, InInstruction, InDoctype, InDoctypeKeyword, InCdata, InReference}
 use Rattle.html5grammar.proofs.InputLemmas.{line_past}
 use Rattle.html5grammar.proofs.LawfulReferences.{AllLawful, lawful-append, no_null-undecided, lawful-late_tokens}
 use Rattle.html5grammar.proofs.LawfulSteps.{IsFitStand, IsFit, LawfulHere, lawful-bad, lawful-nil, lawful-told_behind, lawful-letters, lawful-step_at, lawful-skipped, lawful-bogus_comment}
@@ -104,6 +104,7 @@ module _ (rules : Rules) (table : IsTable rules.names) where
   lawful-brought foreign (InDeclaration held) c fit = lawful-declaration foreign held c
   lawful-brought foreign (InComment before) c fit = (lawful-nil, lawful-step_at rules.exact c (InComment before) fit)
   lawful-brought foreign (InBogusComment before) c fit = (lawful-nil, lawful-step_at rules.exact c (InBogusComment before) fit)
+  lawful-brought foreign (InInstruction before) c fit = (lawful-nil, lawful-step_at rules.exact c (InInstruction before) fit)
   lawful-brought foreign (InDoctype place d) c fit = (lawful-nil, lawful-step_at rules.exact c (InDoctype place d) fit)
   lawful-brought foreign (InDoctypeKeyword held d) c fit = lawful-doctype_keyword held d c fit
   lawful-brought foreign (InCdata held) c fit = (lawful-nil, lawful-step_at rules.exact c (InCdata held) fit)
@@ -153,6 +154,7 @@ lawful-told_at_end exact (InRaw place name) fit = lawful-append _ _ (lawful-raw_
 lawful-told_at_end exact (InDeclaration held) fit = tt
 lawful-told_at_end exact (InComment text) fit = (tt, (tt, (tt, tt)))
 lawful-told_at_end exact (InBogusComment text) fit = (tt, (tt, tt))
+lawful-told_at_end exact (InInstruction text) fit = (tt, (tt, (tt, tt)))
 lawful-told_at_end exact (InDoctype Skipped d) fit = (fit, (tt, tt))
 lawful-told_at_end exact (InDoctype place d) fit = (tt, (lawful-quirks d fit, (tt, tt)))
 lawful-told_at_end exact (InDoctypeKeyword held d) fit = tt
@@ -217,6 +219,7 @@ fit-clean (InRaw place name) h = absurd (false≢true h)
 fit-clean (InDeclaration held) h = absurd (false≢true h)
 fit-clean (InComment text) h = absurd (false≢true h)
 fit-clean (InBogusComment text) h = absurd (false≢true h)
+fit-clean (InInstruction text) h = absurd (false≢true h)
 fit-clean (InDoctype place d) h = absurd (false≢true h)
 fit-clean (InDoctypeKeyword held d) h = absurd (false≢true h)
 fit-clean (InCdata held) h = absurd (false≢true h)

@@ -30,14 +30,14 @@ use Rattle.html5grammar.specs.Start.Mode.{Data, Plain, RawText, Cdata}
 use Rattle.html5grammar.specs.Start.RawPlace.{AfterLessThan, InEndName, AfterMark, AfterMarkAndDash, InSwitch}
 use Rattle.html5grammar.specs.Start.Place.{InName, BeforeAttribute, InAttributeName, AfterAttributeName, BeforeValue, InValue, AfterQuotedValue, AfterSolidus}
 use Rattle.html5grammar.specs.Start.DoctypePlace.{AfterWord, BeforeName, InDoctypeName, AfterName, AfterKeyword, BeforeIdentifier, InIdentifier, AfterIdentifier, BetweenIdentifiers, Skipped}
-use Rattle.html5grammar.specs.Start.Open.{Between, LessThan, LessThanSolidus, InTag, InRaw, InDeclaration, InComment, InBogusComment, InDoctype, InDoctypeKeyword, InReference, InCdata}
+use Rattle.html5grammar.specs.Start.Open.{Between, LessThan, LessThanSolidus, InTag, InRaw, InDeclaration, InComment, InBogusComment, InInstruction, InDoctype, InDoctypeKeyword, InReference, InCdata}
 use Rattle.html5grammar.specs.Tag.{null_error, duplicate_error, end_tag_errors, with_last_attribute, in_quoted, in_unquoted, unquoted_error, in_attribute_name, place_error, first_error, in_tag_name, with_name}
 use Rattle.html5grammar.specs.Comment.{comment_state, ends_comment, comment_content, comment_end_error, comment_errors, mark_error, without_last}
 use Rattle.html5grammar.specs.Doctype.{with_quirks, in_identifier, begins_doctype_keyword, in_doctype_name, word_error}
 use Rattle.html5grammar.specs.RawText.{ends_name, raw_state, kind_of, is_rcdata, raw_character, ends_raw_text, told_at_less_than, told_behind_less_than, begins_mark, begins_switch, texts}
 use Rattle.html5grammar.specs.Text.{plain_text}
 use Rattle.html5grammar.specs.Lawful.{has_no_null, IsLawfulTag, IsLawfulDoctype}
-use Rattle.html5grammar.proofs.Machine.{closing_step, tag_name_step, part_step, attribute_name_step, after_attribute_name_step, quoted_step, unquoted_step, before_value_step, tag_step, data_step, less_than_step, solidus_step, bogus_comment_step, comment_step, skipped_step, wanted_name_step, doctype_name_step, keyword_or_end_step, wanted_identifier_step, system_or_end_step, identifier_step, behind_identifier_step, space_step, doctype_step, raw_step, tag_name_end_step, end_name_step, switch_step, mark_step, mark_and_dash_step, raw_solidus_step, raw_less_than_step, raw_place_step, step_at, cdata_step}
+use Rattle.html5grammar.proofs.Machine.{closing_step, tag_name_step, part_step, attribute_name_step, after_attribute_name_step, quoted_step, unquoted_step, before_value_step, tag_step, data_step, less_than_step, solidus_step, bogus_comment_step, comment_step, instruction_step, skipped_step, wanted_name_step, doctype_name_step, keyword_or_end_step, wanted_identifier_step, system_or_end_step, identifier_step, behind_identifier_step, space_step, doctype_step, raw_step, tag_name_end_step, end_name_step, switch_step, mark_step, mark_and_dash_step, raw_solidus_step, raw_less_than_step, raw_place_step, step_at, cdata_step}
 use Rattle.html5grammar.proofs.OneTagSteps.{letter-in_tag_name}
 use Rattle.html5grammar.proofs.WrittenRawSteps.{letter-no_null}
 use Rattle.html5grammar.proofs.LawfulBytes.{no_null-append, no_null-encode, letters-no_null, all-append}
@@ -320,7 +320,7 @@ module _ (exact : Bool) (c : ℕ) where
       (λ e. lawful-if (ends_name c) _ _ (λ f. (lawful-one (ends-other f), tt))
       (λ f. lawful-raw (raw_of (raw_kind.ScriptDataEscaped kind)) name [] lawful-nil))
 
-  -- ---- comments and CDATA sections
+  -- ---- comments, processing instructions and CDATA sections
 
   pub lawful-bogus_comment : (before : List ℕ) (first : List Told) → AllLawful first → LawfulHere (bogus_comment_step exact before first c)
   unfolding bogus_comment_step LawfulHere IsFit AllLawful
@@ -332,6 +332,10 @@ module _ (exact : Bool) (c : ℕ) where
   lawful-comment before =
       lawful-if ((c == greater_than) && ends_comment before) _ _ (λ e. (lawful-append (comment_end_error exact before) (Comment (comment_content before) ∷ []) (lawful-where _ _ tt) (tt, tt), tt))
       (λ e. (lawful-append (mark_error exact before c) (null_error exact (comment_state state.Comment before) c) (lawful-where _ _ tt) (lawful-where _ _ tt), tt))
+
+  lawful-instruction : (before : List ℕ) → LawfulHere (instruction_step exact before c)
+  unfolding instruction_step LawfulHere IsFit AllLawful
+  lawful-instruction before = lawful-if (c == greater_than) _ _ (λ e. ((tt, tt), tt)) (λ e. (lawful-where _ _ tt, tt))
 
   lawful-piece : (held : List ℕ) → has_no_null held ≡ true → AllLawful (piece_text held)
   unfolding AllLawful
@@ -422,7 +426,7 @@ module _ (exact : Bool) (c : ℕ) where
       lawful-if (is_letter c) _ _ (λ e. lawful-tag_begun StartTag e)
       (λ e. lawful-if (c == solidus) _ _ (λ f. (tt, tt))
       (λ f. lawful-if (c == exclamation_mark) _ _ (λ g. (tt, tt))
-      (λ g. lawful-if (c == question_mark) _ _ (λ h. lawful-bogus_comment [] _ (tt, tt)) (λ h. lawful-data _ (tt, (no_null-cons less_than [] refl no_null-nil, tt))))))
+      (λ g. lawful-if (c == question_mark) _ _ (λ h. (tt, tt)) (λ h. lawful-data _ (tt, (no_null-cons less_than [] refl no_null-nil, tt))))))
   lawful-step_at LessThanSolidus fit =
       lawful-if (is_letter c) _ _ (λ e. lawful-tag_begun EndTag e)
       (λ e. lawful-if (c == greater_than) _ _ (λ f. ((tt, tt), tt)) (λ f. lawful-bogus_comment [] _ (tt, tt)))
@@ -431,6 +435,7 @@ module _ (exact : Bool) (c : ℕ) where
   lawful-step_at (InDeclaration held) fit = (tt, tt)
   lawful-step_at (InComment before) fit = lawful-comment before
   lawful-step_at (InBogusComment before) fit = lawful-bogus_comment before [] tt
+  lawful-step_at (InInstruction before) fit = lawful-instruction before
   lawful-step_at (InDoctype place d) fit = lawful-doctype place d fit
   lawful-step_at (InDoctypeKeyword held d) fit = (tt, fit)
   lawful-step_at (InCdata held) fit = lawful-cdata held fit

@@ -52,6 +52,7 @@ pub mod LastReply
 pub mod OneReferenceWithin
 mod WrittenRawCases
 mod CommentCases
+mod InstructionCases
 mod DoctypeCases
 mod CdataCases
 mod OneCommentCases

@@ -3,7 +3,7 @@ use Rattle.std.specs.Prelude.{ℕ, Bool, true, false, List, [], ◌∷◌, ◌++
 use Rattle.std.specs.Str.{bytes_eq}
 use Rattle.html5ever_interface.specs.Sink.{Message, stepped, on_line}
 use Rattle.html5ever_interface.specs.Token.{Told, DoctypeOf, Reply, empty_doctype}
-use Rattle.html5ever_interface.specs.Token.Told.{Text, Null, Tag, Comment, Doctype}
+use Rattle.html5ever_interface.specs.Token.Told.{Text, Null, Tag, Comment, Instruction, Doctype}
 use Rattle.html5ever_interface.specs.declared.interface.token.TagKind.TheVariants.{StartTag, EndTag}
 use Rattle.html5ever_interface.specs.declared.states.AttrValueKind.{AttrValueKind}
 use Rattle.html5ever_interface.specs.declared.states.AttrValueKind.TheVariants.{Unquoted, SingleQuoted, DoubleQuoted}
@@ -31,7 +31,7 @@ use Rattle.html5grammar.specs.Start.RawPlace.{AfterLessThan, InEndName, AfterMar
 use Rattle.html5grammar.specs.Start.Place.{InName, BeforeAttribute, InAttributeName, AfterAttributeName, BeforeValue, InValue, AfterQuotedValue, AfterSolidus}
 use Rattle.html5grammar.specs.Start.DoctypePlace.{AfterWord, BeforeName, InDoctypeName, AfterName, AfterKeyword, BeforeIdentifier, InIdentifier, AfterIdentifier, BetweenIdentifiers, Skipped}
 use Rattle.html5grammar.specs.Start.Quotes.{DoubleQuotes, SingleQuotes}
-use Rattle.html5grammar.specs.Start.Open.{Between, LessThan, LessThanSolidus, InTag, InRaw, InDeclaration, InComment, InBogusComment, InDoctype, InDoctypeKeyword, InCdata, InReference}
+use Rattle.html5grammar.specs.Start.Open.{Between, LessThan, LessThanSolidus, InTag, InRaw, InDeclaration, InComment, InBogusComment, InInstruction, InDoctype, InDoctypeKeyword, InCdata, InReference}
 use Rattle.html5grammar.specs.Reference.{Found, in_value, reference, is_undecided, ends_number, late_tokens, opened_behind, with_value}
 use Rattle.html5grammar.specs.Tag.{with_last_attribute, duplicate_error, end_tag_errors, told_tag, null_error, in_quoted, in_unquoted, unquoted_error, in_attribute_name, attribute_name_error, with_last_name, place_error, first_error, is_after_solidus, in_tag_name, with_name}
 use Rattle.html5grammar.specs.RawText.{raw_text_of, texts, ends_name, kind_of, is_rcdata, raw_behind, raw_character, ends_raw_text, switched, told_at_less_than, told_behind_less_than, begins_mark, begins_switch}
@@ -128,6 +128,13 @@ comment_step exact before c =
     if (c == greater_than) && ends_comment before then Tells (comment_end_error exact before ++ Comment (comment_content before) ∷ []) (Between Data)
     else Tells (comment_errors exact before c) (InComment (before ++ value_bytes c))
 
+-- processing instructions
+
+unfoldable pub instruction_step : Bool → List ℕ → ℕ → Here Open
+instruction_step exact before c =
+    if c == greater_than then Tells (Instruction before ∷ []) (Between Data)
+    else Tells (null_error exact state.ProcessingInstruction c) (InInstruction (before ++ value_bytes c))
+
 -- CDATA sections, with the text that is held
 
 unfoldable pub cdata_step : List ℕ → ℕ → Here Open
@@ -207,7 +214,7 @@ less_than_step exact c =
     if is_letter c then tag_name_step exact (begun StartTag) c
     else if c == solidus then Tells [] LessThanSolidus
     else if c == exclamation_mark then Tells [] (InDeclaration [])
-    else if c == question_mark then bogus_comment_step exact [] (error_in exact state.TagOpen c ∷ []) c
+    else if c == question_mark then Tells [] (InInstruction [])
     else data_step exact (error_in exact state.TagOpen c ∷ Text (codes "<") ∷ []) c
 
 unfoldable pub solidus_step : Bool → ℕ → Here Open
@@ -281,6 +288,7 @@ step_at exact LessThanSolidus c = solidus_step exact c
 step_at exact (InTag place tag) c = tag_step exact place tag c
 step_at exact (InComment before) c = comment_step exact before c
 step_at exact (InBogusComment before) c = bogus_comment_step exact before [] c
+step_at exact (InInstruction before) c = instruction_step exact before c
 step_at exact (InDoctype place d) c = doctype_step exact place d c
 step_at exact (InCdata held) c = cdata_step held c
 step_at exact undecided c = Tells [] undecided
@@ -325,6 +333,7 @@ brought_at rules foreign (InDoctypeKeyword held d) c = doctype_keyword_step rule
 brought_at rules foreign (InDoctype place d) c = record { settled = []; here = step_at rules.exact (InDoctype place d) c }
 brought_at rules foreign (InComment before) c = record { settled = []; here = step_at rules.exact (InComment before) c }
 brought_at rules foreign (InBogusComment before) c = record { settled = []; here = step_at rules.exact (InBogusComment before) c }
+brought_at rules foreign (InInstruction before) c = record { settled = []; here = step_at rules.exact (InInstruction before) c }
 brought_at rules foreign (Between mode) c = record { settled = []; here = step_at rules.exact (Between mode) c }
 brought_at rules foreign LessThan c = record { settled = []; here = step_at rules.exact LessThan c }
 brought_at rules foreign LessThanSolidus c = record { settled = []; here = step_at rules.exact LessThanSolidus c }

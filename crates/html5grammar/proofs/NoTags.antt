@@ -27,14 +27,14 @@ use Rattle.html5grammar.specs.Start.Mode.{Data, Plain, RawText, Cdata}
 use Rattle.html5grammar.specs.Start.RawPlace.{AfterLessThan, InEndName, AfterMark, AfterMarkAndDash, InSwitch}
 use Rattle.html5grammar.specs.Start.Place.{InName, BeforeAttribute, InAttributeName, AfterAttributeName, BeforeValue, InValue, AfterQuotedValue, AfterSolidus}
 use Rattle.html5grammar.specs.Start.DoctypePlace.{AfterWord, BeforeName, InDoctypeName, AfterName, AfterKeyword, BeforeIdentifier, InIdentifier, AfterIdentifier, BetweenIdentifiers, Skipped}
-use Rattle.html5grammar.specs.Start.Open.{Between, LessThan, LessThanSolidus, InTag, InRaw, InDeclaration, InComment, InBogusComment, InDoctype, InDoctypeKeyword, InReference, InCdata}
+use Rattle.html5grammar.specs.Start.Open.{Between, LessThan, LessThanSolidus, InTag, InRaw, InDeclaration, InComment, InBogusComment, InInstruction, InDoctype, InDoctypeKeyword, InReference, InCdata}
 use Rattle.html5grammar.specs.Tag.{null_error, duplicate_error, end_tag_errors, with_last_attribute, in_quoted, in_unquoted, unquoted_error, in_attribute_name, place_error, first_error, in_tag_name}
 use Rattle.std.specs.Str.{bytes_eq}
 use Rattle.html5grammar.specs.Comment.{comment_state, ends_comment, comment_content, comment_end_error, comment_errors, mark_error, begins_keyword, without_last, cdata_keyword, begins_cdata}
 use Rattle.html5grammar.specs.Doctype.{with_quirks, in_identifier, is_keyword, begins_doctype_keyword, keyword_error, in_doctype_name, word_error}
 use Rattle.html5grammar.specs.RawText.{ends_name, raw_state, kind_of, is_rcdata, raw_character, ends_raw_text, told_at_less_than, told_behind_less_than, begins_mark, begins_switch}
 use Rattle.html5grammar.specs.Text.{plain_text}
-use Rattle.html5grammar.proofs.Machine.{closing_step, tag_name_step, part_step, attribute_name_step, after_attribute_name_step, quoted_step, unquoted_step, before_value_step, tag_step, data_step, less_than_step, solidus_step, bogus_comment_step, comment_step, skipped_step, wanted_name_step, doctype_name_step, keyword_or_end_step, wanted_identifier_step, system_or_end_step, identifier_step, behind_identifier_step, space_step, doctype_step, declaration_step, doctype_keyword_step, raw_step, tag_name_end_step, end_name_step, switch_step, mark_step, mark_and_dash_step, raw_solidus_step, raw_less_than_step, raw_place_step, step_at, reference_step, brought_at, cdata_step, declaration_answer_step}
+use Rattle.html5grammar.proofs.Machine.{closing_step, tag_name_step, part_step, attribute_name_step, after_attribute_name_step, quoted_step, unquoted_step, before_value_step, tag_step, data_step, less_than_step, solidus_step, bogus_comment_step, comment_step, instruction_step, skipped_step, wanted_name_step, doctype_name_step, keyword_or_end_step, wanted_identifier_step, system_or_end_step, identifier_step, behind_identifier_step, space_step, doctype_step, declaration_step, doctype_keyword_step, raw_step, tag_name_end_step, end_name_step, switch_step, mark_step, mark_and_dash_step, raw_solidus_step, raw_less_than_step, raw_place_step, step_at, reference_step, brought_at, cdata_step, declaration_answer_step}
 
 unfoldable pub NoTags : List Told → Type 0
 NoTags [] = Unit {0}
@@ -281,14 +281,14 @@ module _ (exact : Bool) (c : ℕ) where
       no_tags-if (is_letter c) _ _ (refl, tt) (no_tags-if (ends_name c) _ _ (refl, tt) (no_tags-raw (raw_of (raw_kind.ScriptDataEscaped kind)) name [] tt))
 
   pub no_tags-step_at : (opened : Open) → NoTagsHere (step_at exact opened c)
-  unfolding step_at less_than_step solidus_step NoTagsHere NoTags
+  unfolding step_at less_than_step solidus_step instruction_step NoTagsHere NoTags
   no_tags-step_at (Between Data) = no_tags-data [] tt
   no_tags-step_at (Between Plain) = no_tags-plain_text
   no_tags-step_at (Between Cdata) = no_tags-cdata []
   no_tags-step_at (Between (RawText raw name)) = no_tags-raw raw name [] tt
   no_tags-step_at LessThan =
       no_tags-if (is_letter c) _ _ (no_tags-tag_name _) (no_tags-if (c == solidus) _ _ tt
-      (no_tags-if (c == exclamation_mark) _ _ tt (no_tags-if (c == question_mark) _ _ (no_tags-bogus_comment [] _ (refl, tt)) (no_tags-data _ (refl, (refl, tt))))))
+      (no_tags-if (c == exclamation_mark) _ _ tt (no_tags-if (c == question_mark) _ _ tt (no_tags-data _ (refl, (refl, tt))))))
   no_tags-step_at LessThanSolidus =
       no_tags-if (is_letter c) _ _ (no_tags-tag_name _) (no_tags-if (c == greater_than) _ _ (refl, tt) (no_tags-bogus_comment [] _ (refl, tt)))
   no_tags-step_at (InTag place tag) = no_tags-tag place tag
@@ -296,6 +296,7 @@ module _ (exact : Bool) (c : ℕ) where
   no_tags-step_at (InDeclaration held) = tt
   no_tags-step_at (InComment before) = no_tags-comment before
   no_tags-step_at (InBogusComment before) = no_tags-bogus_comment before [] tt
+  no_tags-step_at (InInstruction before) = no_tags-if (c == greater_than) _ _ (refl, tt) (no_tags-where _ _ refl)
   no_tags-step_at (InDoctype place d) = no_tags-doctype place d
   no_tags-step_at (InDoctypeKeyword held d) = tt
   no_tags-step_at (InCdata held) = no_tags-cdata held
@@ -406,6 +407,7 @@ no_tags-settled rules foreign (InRaw place name) c = tt
 no_tags-settled rules foreign (InDeclaration held) c = no_tags-declaration rules.exact foreign held c
 no_tags-settled rules foreign (InComment before) c = tt
 no_tags-settled rules foreign (InBogusComment before) c = tt
+no_tags-settled rules foreign (InInstruction before) c = tt
 no_tags-settled rules foreign (InDoctype place d) c = tt
 no_tags-settled rules foreign (InDoctypeKeyword held d) c = no_tags-doctype_keyword rules.exact held d c
 no_tags-settled rules foreign (InCdata held) c = tt

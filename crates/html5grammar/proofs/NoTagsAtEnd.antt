@@ -17,7 +17,7 @@ use Rattle.html5grammar.specs.Start.Raw.{Rcdata, Rawtext, ScriptData, Escaped, D
 use Rattle.html5grammar.specs.Start.Mode.{Data, Plain, RawText, Cdata}
 use Rattle.html5grammar.specs.Start.RawPlace.{AfterLessThan, InEndName, AfterMark, AfterMarkAndDash, InSwitch}
 use Rattle.html5grammar.specs.Start.DoctypePlace.{Skipped}
-use Rattle.html5grammar.specs.Start.Open.{Between, LessThan, LessThanSolidus, InTag, InRaw, InDeclaration, InComment, InBogusComment, InDoctype, InDoctypeKeyword, InCdata, InReference}
+use Rattle.html5grammar.specs.Start.Open.{Between, LessThan, LessThanSolidus, InTag, InRaw, InDeclaration, InComment, InBogusComment, InInstruction, InDoctype, InDoctypeKeyword, InCdata, InReference}
 use Rattle.html5grammar.proofs.NoTags.{NoTags, no_tags-append, no_tags-texts, no_tags-told_behind, no_tags-late_tokens, no_tags-keyword_error}
 use Rattle.html5grammar.proofs.ReadingLemmas.{reading-events, messages-at_end}
 use Rattle.html5grammar.proofs.Traces.{messages-append}
@@ -56,6 +56,7 @@ no_tags-told_at_end exact (InRaw place name) = no_tags-append _ _ (no_tags-raw_e
 no_tags-told_at_end exact (InDeclaration held) = tt
 no_tags-told_at_end exact (InComment text) = (refl, (refl, (refl, tt)))
 no_tags-told_at_end exact (InBogusComment text) = (refl, (refl, tt))
+no_tags-told_at_end exact (InInstruction text) = (refl, (refl, (refl, tt)))
 no_tags-told_at_end exact (InDoctype Skipped d) = (refl, (refl, tt))
 no_tags-told_at_end exact (InDoctype place d) = (refl, (refl, (refl, tt)))
 no_tags-told_at_end exact (InDoctypeKeyword held d) = tt

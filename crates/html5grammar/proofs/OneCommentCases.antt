@@ -8,7 +8,7 @@ use Rattle.html5grammar.specs.ErrorText.{bad_character, saw}
 use Rattle.html5grammar.specs.NormalisedText.{normalised, without_dropped_first, with_line_feeds, line_after}
 use Rattle.html5grammar.specs.OneComment.{WrittenComment, written, occurs, is_content, is_written, behind_mark_error, null_state, spell_content, messages_of, comment_messages}
 use Rattle.html5grammar.specs.OneComment.Ending.{Dashes, Bang, AtOnce, AfterDash}
-use Rattle.html5grammar.specs.OneComment.Opening.{Solidus, QuestionMark, ExclamationMark}
+use Rattle.html5grammar.specs.OneComment.Opening.{Solidus, ExclamationMark}
 use Rattle.html5grammar.specs.OneComment.WrittenComment.{Proper, Bogus}
 use Rattle.html5grammar.specs.OneTag.{spelled_messages}
 use Rattle.html5grammar.specs.Slice.{run_while, behind_while}
@@ -84,11 +84,6 @@ bad_character_first : Case true (Bogus Solidus (codes "\u{1}")) (codes "</\u{1}>
 unfolding written normalised without_dropped_first with_line_feeds line_after occurs is_content is_written behind_mark_error null_state spell_content messages_of comment_messages spelled_messages in_bogus_comment begins_keyword run_while behind_while is_letter is_bad_character value_bytes shown encode saw bad_character
 bad_character_first = record { text = refl; is_comment = refl; messages = refl }
 
-question_mark : Case false (Bogus QuestionMark (codes "?x\0")) (codes "<?x\0>")
-    (on_line 1 (Error (codes "Saw ? in state TagOpen") ∷ Error (codes "Saw \0 in state BogusComment") ∷ Comment ((codes "?x") ++ (239 ∷ 191 ∷ 189 ∷ [])) ∷ End ∷ []))
-unfolding written normalised without_dropped_first with_line_feeds line_after occurs is_content is_written behind_mark_error null_state spell_content messages_of comment_messages spelled_messages in_bogus_comment begins_keyword run_while behind_while is_letter is_bad_character value_bytes shown encode saw bad_character
-question_mark = record { text = refl; is_comment = refl; messages = refl }
-
 no_declaration : Case false (Bogus ExclamationMark []) (codes "<!>")
     (on_line 1 (Error (codes "Saw ! in state MarkupDeclarationOpen") ∷ Comment [] ∷ End ∷ []))
 unfolding written normalised without_dropped_first with_line_feeds line_after occurs is_content is_written behind_mark_error null_state spell_content messages_of comment_messages spelled_messages in_bogus_comment begins_keyword run_while behind_while is_letter is_bad_character value_bytes shown encode saw bad_character
@@ -151,10 +146,6 @@ letter = refl
 no_content : NotWritten (Bogus Solidus [])
 unfolding is_written is_content occurs in_bogus_comment is_letter
 no_content = refl
-
-no_question_mark : NotWritten (Bogus QuestionMark (codes "x?"))
-unfolding is_written is_content occurs in_bogus_comment is_letter
-no_question_mark = refl
 
 begins_a_comment : NotWritten (Bogus ExclamationMark (codes "--x"))
 unfolding is_written is_content occurs in_bogus_comment is_letter

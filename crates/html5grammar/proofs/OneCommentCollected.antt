@@ -7,14 +7,13 @@ use Rattle.html5ever_interface.specs.Collected.{Collected, none_collected, colle
 use Rattle.html5ever_interface.specs.Sink.{Message, stepped, on_line}
 use Rattle.html5ever_interface.specs.Token.{Told}
 use Rattle.html5ever_interface.specs.Token.Told.{Comment, End}
-use Rattle.html5ever_interface.specs.declared.states.State.{State}
 use Rattle.html5ever_interface.specs.declared.states.State.TheVariants as state
 use Rattle.html5grammar.specs.Characters.{exclamation_mark, value_bytes}
 use Rattle.html5grammar.specs.ErrorText.{error_in}
 use Rattle.html5grammar.specs.NormalisedText.{line_after}
 use Rattle.html5grammar.specs.OneComment.{Ending, WrittenComment, before_greater_than, written, behind_mark_error, spell_content, ending_errors, spell_end, spell_bogus, spell_odd, messages_of, comment_messages, IsComment}
 use Rattle.html5grammar.specs.OneComment.Ending.{Dashes, Bang, AtOnce, AfterDash}
-use Rattle.html5grammar.specs.OneComment.Opening.{Solidus, QuestionMark, ExclamationMark}
+use Rattle.html5grammar.specs.OneComment.Opening.{Solidus, ExclamationMark}
 use Rattle.html5grammar.specs.OneComment.WrittenComment.{Proper, Bogus}
 use Rattle.html5grammar.specs.OneTag.{Spelled, spell_silent, spelled_messages}
 use Rattle.html5grammar.specs.Reading.{reading, messages}
@@ -51,9 +50,9 @@ module _ (exact : Bool) where
   TellNoText-bogus : (content : List ℕ) → TellNoText (spell_bogus exact content)
   TellNoText-bogus content = TellNoText-spell (null_error exact state.BogusComment) (λ c. HasNoText-where _ _) content
 
-  TellNoText-odd : (expecting : State) (content : List ℕ) → TellNoText (spell_odd exact expecting content)
-  TellNoText-odd expecting [] = tt
-  TellNoText-odd expecting (c ∷ content) = ((refl, HasNoText-where _ _), TellNoText-bogus content)
+  TellNoText-odd : (content : List ℕ) → TellNoText (spell_odd exact content)
+  TellNoText-odd [] = tt
+  TellNoText-odd (c ∷ content) = ((refl, HasNoText-where _ _), TellNoText-bogus content)
 
   -- an opening, what follows it, and the `>`
   keeps-spelled : (input : Input) (opening : List ℕ) (cells : List Spelled) (errors : List Told) (content : List ℕ) → TellNoText cells → HasNoText errors
@@ -69,9 +68,7 @@ module _ (exact : Bool) where
       keeps-spelled input (codes "<!--") (spell_content exact [] (content ++ before_greater_than ending)) (ending_errors exact ending) content
       (TellNoText-content [] (content ++ before_greater_than ending)) (HasNoText-ending ending)
   keeps-comment input (Bogus Solidus content) =
-      keeps-spelled input (codes "</") (spell_odd exact state.EndTagOpen content) [] content (TellNoText-odd state.EndTagOpen content) tt
-  keeps-comment input (Bogus QuestionMark content) =
-      keeps-spelled input (codes "<") (spell_odd exact state.TagOpen content) [] content (TellNoText-odd state.TagOpen content) tt
+      keeps-spelled input (codes "</") (spell_odd exact content) [] content (TellNoText-odd content) tt
   keeps-comment input (Bogus ExclamationMark content) =
       let cells : List Spelled = spell_bogus exact content in
       let line : ℕ = line_after input (codes "<!") in

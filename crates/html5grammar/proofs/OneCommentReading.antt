@@ -7,13 +7,12 @@ use Rattle.std.proofs.lemmas.Bool.{and_parts, not-true}
 use Rattle.std.proofs.lemmas.List.{append_assoc, map-append}
 use Rattle.html5ever_interface.specs.Sink.{Message, stepped}
 use Rattle.html5ever_interface.specs.Token.{Told, Reply}
-use Rattle.html5ever_interface.specs.declared.states.State.{State}
 use Rattle.html5ever_interface.specs.declared.states.State.TheVariants as state
 use Rattle.html5grammar.specs.Characters.{greater_than, is_letter, null, is_bad_character}
 use Rattle.html5grammar.specs.Comment.{in_bogus_comment, begins_keyword}
 use Rattle.html5grammar.specs.NormalisedText.{line_after}
 use Rattle.html5grammar.specs.OneComment.{WrittenComment, before_greater_than, written, can_open, is_written, spell_content, ending_errors, spell_end, spell_bogus, spell_odd, messages_of, comment_messages, IsComment}
-use Rattle.html5grammar.specs.OneComment.Opening.{Solidus, QuestionMark, ExclamationMark}
+use Rattle.html5grammar.specs.OneComment.Opening.{Solidus, ExclamationMark}
 use Rattle.html5grammar.specs.OneComment.WrittenComment.{Proper, Bogus}
 use Rattle.html5grammar.specs.OneTag.{Spelled, spell_silent, spelled_messages, spell}
 use Rattle.html5grammar.specs.Reading.{reading, messages, after}
@@ -25,7 +24,7 @@ use Rattle.html5grammar.specs.Tag.{null_error}
 use Rattle.html5grammar.proofs.HeldWords.{IsPlain, is_good, line-plain, trace-held}
 use Rattle.html5grammar.proofs.Machine.{brought_at, step_at, data_step, less_than_step, declaration_step}
 use Rattle.html5grammar.proofs.Leading.{Leads, leads-goes, trace-leads, trace-ends, trace-text, IsRead, IsReadFrom, after-whole, reading-whole, spelled_messages-append}
-use Rattle.html5grammar.proofs.OneCommentSteps.{goes-proper, goes-bogus_end, goes-solidus, goes-question_mark}
+use Rattle.html5grammar.proofs.OneCommentSteps.{goes-proper, goes-bogus_end, goes-solidus}
 use Rattle.html5grammar.proofs.OneCommentText.{bytes_of}
 use Rattle.html5grammar.proofs.OneCommentHeld.{held_of, behind_held_of, held_of-plain, held-parts, are_held, decides-held, error_on, trace-decides}
 use Rattle.html5grammar.proofs.OneTagReading.{characters, characters-spell, characters-two}
@@ -39,9 +38,9 @@ unfolding spell_content
 characters-content exact before [] = refl
 characters-content exact before (c ∷ content) = ap (λ l. c ∷ l) (characters-content exact (before ++ c ∷ []) content)
 
-characters-odd : (exact : Bool) (expecting : State) (content : List ℕ) → characters (spell_odd exact expecting content) ≡ content
-characters-odd exact expecting [] = refl
-characters-odd exact expecting (c ∷ content) = ap (λ l. c ∷ l) (characters-spell (null_error exact state.BogusComment) content)
+characters-odd : (exact : Bool) (content : List ℕ) → characters (spell_odd exact content) ≡ content
+characters-odd exact [] = refl
+characters-odd exact (c ∷ content) = ap (λ l. c ∷ l) (characters-spell (null_error exact state.BogusComment) content)
 
 -- an opening, what follows it, and the `>`
 characters-three : (opening : List ℕ) (cells : List Spelled) (text : List ℕ) (errors : List Told) (content : List ℕ) → characters cells ≡ text
@@ -153,15 +152,10 @@ module _ {S H : Type 0} (step : S → Told → ℕ → S) (reply : S → Told �
       (characters-three (codes "<!--") (spell_content rules.exact [] front) front (ending_errors rules.exact ending) content (characters-content rules.exact [] front))
       (leads-opening rules cells (Between Data) (leads-goes rules (InComment []) (Between Data) cells refl (goes-proper rules.exact content ending h)))
   reads K s (Bogus Solidus content) h =
-      let cells : List Spelled = spell_odd rules.exact state.EndTagOpen content in
+      let cells : List Spelled = spell_odd rules.exact content in
       trace-whole K s (spell_silent (codes "</") ++ (cells ++ spell_end [] content)) (written (Bogus Solidus content))
-      (characters-three (codes "</") cells content [] content (characters-odd rules.exact state.EndTagOpen content))
+      (characters-three (codes "</") cells content [] content (characters-odd rules.exact content))
       (leads-goes rules (Between Data) (Between Data) (spell_silent (codes "</") ++ (cells ++ spell_end [] content)) refl (goes-solidus rules.exact (foreign s) content h))
-  reads K s (Bogus QuestionMark content) h =
-      let cells : List Spelled = spell_odd rules.exact state.TagOpen content in
-      trace-whole K s (spell_silent (codes "<") ++ (cells ++ spell_end [] content)) (written (Bogus QuestionMark content))
-      (characters-three (codes "<") cells content [] content (characters-odd rules.exact state.TagOpen content))
-      (leads-goes rules (Between Data) (Between Data) (spell_silent (codes "<") ++ (cells ++ spell_end [] content)) refl (goes-question_mark rules.exact (foreign s) content h))
   reads K s (Bogus ExclamationMark content) h =
       let p = and_parts (can_open (foreign s) ExclamationMark content) (list_all in_bogus_comment content) h in
       reads_declaration K s content p.0 p.1

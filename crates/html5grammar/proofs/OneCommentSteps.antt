@@ -1,24 +1,21 @@
 -- What the machine does at the characters of one comment.
 use Rattle.std.proofs.Common.{◌≡◌, ℕ, ◌+◌, Bool, true, false, List, [], ◌∷◌, ◌++◌, length, length-append, refl, ap, sym, ◌∙◌, arith, subst}
-use Rattle.std.specs.Prelude.{◌==◌, ◌&&◌, ◌||◌, not, codes, flat_map, nat_eq, if◌then◌else◌}
+use Rattle.std.specs.Prelude.{◌==◌, ◌&&◌, not, codes, flat_map, nat_eq, if◌then◌else◌}
 use Rattle.std.specs.Cmp.Lexicographic.{same_text}
 use Rattle.std.specs.List.{list_all}
 use Rattle.std.proofs.lemmas.Bool.{false≢true, eqb-true, ne_eqb, and_parts, and_from, or_left, or_right, not-true, false_from_ne_true}
 use Rattle.std.proofs.lemmas.List.{append_assoc, append-nil, nil_from_length}
 use lib.Utf8.{encode}
 use Rattle.html5ever_interface.specs.Token.Told.{Comment}
-use Rattle.html5ever_interface.specs.declared.states.State.{State}
 use Rattle.html5ever_interface.specs.declared.states.State.TheVariants as state
-use Rattle.html5grammar.specs.Characters.{greater_than, question_mark, is_letter, shown, value_bytes}
+use Rattle.html5grammar.specs.Characters.{greater_than, is_letter, shown, value_bytes}
 use Rattle.html5grammar.specs.Comment.{ends_in, without_last, is_lone_dash, comment_state, ends_in_mark, mark_error, comment_errors, ends_comment, comment_end_error, comment_content, in_bogus_comment}
-use Rattle.html5grammar.specs.ErrorText.{error_in, where_true}
-use Rattle.html5grammar.specs.OneComment.{Ending, is_written, before_greater_than, begins_with, occurs, is_content, is_empty, can_end_with, behind_one_dash, behind_mark_error, null_state, spell_content, ending_errors, spell_end, spell_bogus, spell_odd}
+use Rattle.html5grammar.specs.OneComment.{Ending, is_written, before_greater_than, begins_with, occurs, is_content, is_empty, can_end_with, behind_mark_error, null_state, spell_content, ending_errors, spell_end, spell_bogus, spell_odd}
 use Rattle.html5grammar.specs.OneComment.Ending.{Dashes, Bang, AtOnce, AfterDash}
-use Rattle.html5grammar.specs.OneComment.Opening.{Solidus, QuestionMark}
+use Rattle.html5grammar.specs.OneComment.Opening.{Solidus}
 use Rattle.html5grammar.specs.OneComment.WrittenComment.{Bogus}
 use Rattle.html5grammar.specs.OneTag.{spell_silent}
 use Rattle.html5grammar.specs.Reading.Here.{Tells}
-use Rattle.html5grammar.specs.Start.{Open}
 use Rattle.html5grammar.specs.Start.Mode.{Data}
 use Rattle.html5grammar.specs.Start.Open.{Between, LessThan, LessThanSolidus, InComment, InBogusComment}
 use Rattle.html5grammar.specs.Tag.{null_error}
@@ -230,36 +227,23 @@ module _ (exact : Bool) where
       (goes-bogus before text h)
       (Goes-one exact (InBogusComment (bytes_of (before ++ text))) (Between Data) greater_than (Comment (bytes_of (before ++ text)) ∷ []) refl)
 
-  -- one whose first character is an error
-  goes-odd : (expecting : State) (opened : Open) (c : ℕ) (content : List ℕ) → list_all in_bogus_comment (c ∷ content) ≡ true
-      → step_at exact opened c ≡ bogus_comment_step exact [] (error_in exact expecting c ∷ []) c
-      → Goes exact opened (spell_odd exact expecting (c ∷ content) ++ spell_end [] (c ∷ content)) (Between Data)
-  unfolding Goes bogus_comment_step in_bogus_comment
-  goes-odd expecting opened c content h begins =
-      let p = and_parts (not (c == greater_than)) (list_all in_bogus_comment content) h in (
-        InBogusComment (bytes_of (c ∷ [])),
-        begins ∙ rw (not-true (c == greater_than) p.0, append-nil (value_bytes c)) refl,
-        goes-bogus_end (c ∷ []) content p.1,
-      )
-
+  -- one behind `</`, whose first character is an error
   pub goes-solidus : (foreign : Bool) (content : List ℕ) → is_written foreign (Bogus Solidus content) ≡ true
-      → Goes exact (Between Data) (spell_silent (codes "</") ++ (spell_odd exact state.EndTagOpen content ++ spell_end [] content)) (Between Data)
-  unfolding is_written Goes step_at data_step less_than_step solidus_step is_letter in_bogus_comment
+      → Goes exact (Between Data) (spell_silent (codes "</") ++ (spell_odd exact content ++ spell_end [] content)) (Between Data)
+  unfolding is_written Goes step_at data_step less_than_step solidus_step bogus_comment_step is_letter in_bogus_comment
   goes-solidus foreign [] h = absurd (false≢true h)
   goes-solidus foreign (c ∷ content) h =
       let p = and_parts (not (is_letter c)) (list_all in_bogus_comment (c ∷ content)) h in
       let q = and_parts (not (c == greater_than)) (list_all in_bogus_comment content) p.1 in (
         LessThan,
         refl,
-        (LessThanSolidus, refl, goes-odd state.EndTagOpen LessThanSolidus c content p.1 (rw (not-true (is_letter c) p.0, not-true (c == greater_than) q.0) refl)),
+        (
+          LessThanSolidus,
+          refl,
+          (
+            InBogusComment (bytes_of (c ∷ [])),
+            rw (not-true (is_letter c) p.0, not-true (c == greater_than) q.0, append-nil (value_bytes c)) refl,
+            goes-bogus_end (c ∷ []) content q.1,
+          ),
+        ),
       )
-
-  pub goes-question_mark : (foreign : Bool) (content : List ℕ) → is_written foreign (Bogus QuestionMark content) ≡ true
-      → Goes exact (Between Data) (spell_silent (codes "<") ++ (spell_odd exact state.TagOpen content ++ spell_end [] content)) (Between Data)
-  unfolding is_written Goes step_at data_step less_than_step is_letter in_bogus_comment
-  goes-question_mark foreign [] h = absurd (false≢true h)
-  goes-question_mark foreign (c ∷ content) h =
-      let p = and_parts (c == question_mark) (list_all in_bogus_comment (c ∷ content)) h in
-      let begins : step_at exact LessThan c ≡ bogus_comment_step exact [] (error_in exact state.TagOpen c ∷ []) c =
-      subst (λ d. step_at exact LessThan d ≡ bogus_comment_step exact [] (error_in exact state.TagOpen d ∷ []) d) (sym (eqb-true c question_mark p.0)) refl in
-      (LessThan, refl, goes-odd state.TagOpen LessThan c content p.1 begins)

@@ -21,7 +21,7 @@ use Rattle.html5grammar.specs.Slice.{Slice, Late, cut_off, tokens_of_late}
 use Rattle.html5grammar.specs.Start.{Input, OpenTag, Stand, Start, Open, Rules}
 use Rattle.html5grammar.specs.Start.Mode.{Data, Plain, RawText, Cdata}
 use Rattle.html5grammar.specs.Start.Stand.{InText, InAttribute}
-use Rattle.html5grammar.specs.Start.Open.{Between, LessThan, LessThanSolidus, InTag, InRaw, InDeclaration, InComment, InBogusComment, InDoctype, InDoctypeKeyword, InReference, InCdata}
+use Rattle.html5grammar.specs.Start.Open.{Between, LessThan, LessThanSolidus, InTag, InRaw, InDeclaration, InComment, InBogusComment, InInstruction, InDoctype, InDoctypeKeyword, InReference, InCdata}
 use Rattle.html5grammar.proofs.Machine.{brought_at, messages_here, opened_here, last_here}
 use Rattle.html5grammar.proofs.InputLemmas.{line_past, lines_past, normalised-append, input_after-line_none, input_after-append, input_after-line_one}
 use Rattle.html5grammar.proofs.Traces.{Trace, Traces, with_messages, trace, trace_here, trace_brought, traces, messages-append, messages-map, messages-late}
@@ -65,6 +65,7 @@ decided-told_at_end exact (InRaw place name) f h = none_decided f h _
 decided-told_at_end exact (InDeclaration held) f h = refl
 decided-told_at_end exact (InComment before) f h = none_decided f h (told_at_end_of exact (InComment before))
 decided-told_at_end exact (InBogusComment before) f h = rw (h _) refl
+decided-told_at_end exact (InInstruction before) f h = none_decided f h (told_at_end_of exact (InInstruction before))
 decided-told_at_end exact (InDoctype place d) f h = none_decided f h (told_at_end_of exact (InDoctype place d))
 decided-told_at_end exact (InDoctypeKeyword held d) f h = refl
 decided-told_at_end exact (InCdata held) f h = none_decided f h (told_at_end_of exact (InCdata held))
@@ -133,6 +134,7 @@ module _ (I : Input) (Y : List ℕ) (E : List Event) (none : take_while (λ (e :
   decided-late_at_end rules (InDeclaration held) = refl
   decided-late_at_end rules (InComment before) = none
   decided-late_at_end rules (InBogusComment before) = none
+  decided-late_at_end rules (InInstruction before) = none
   decided-late_at_end rules (InDoctype place d) = none
   decided-late_at_end rules (InDoctypeKeyword [] d) = none
   decided-late_at_end rules (InDoctypeKeyword (c ∷ held) d) = refl

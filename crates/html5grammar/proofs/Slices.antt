@@ -4,7 +4,7 @@ use Rattle.std.specs.Prelude.{◌==◌, ◌&&◌, not, flat_map, drop, codes, Op
 use Rattle.std.proofs.Math.Bool.{and-false}
 use Rattle.std.proofs.lemmas.List.{append_assoc, append-nil}
 use Rattle.html5ever_interface.specs.Token.{Told, DoctypeOf}
-use Rattle.html5ever_interface.specs.Token.Told.{Text, Comment, Doctype}
+use Rattle.html5ever_interface.specs.Token.Told.{Text, Comment, Instruction, Doctype}
 use Rattle.html5ever_interface.specs.declared.interface.token.TagKind.TheVariants.{StartTag, EndTag}
 use Rattle.html5ever_interface.specs.declared.states.AttrValueKind.{AttrValueKind}
 use Rattle.html5ever_interface.specs.declared.states.AttrValueKind.TheVariants.{Unquoted, SingleQuoted, DoubleQuoted}
@@ -23,6 +23,7 @@ use Rattle.html5grammar.specs.Tag.{null_error, in_quoted, in_unquoted, unquoted_
 use Rattle.std.specs.Str.{bytes_eq}
 use Rattle.html5grammar.specs.Comment.{ends_comment, comment, in_bogus_comment, behind_bogus_comment, bogus_comment, bogus_comment_from, begins_keyword, declaration_error, declaration, cdata_keyword, begins_cdata, declaration_by_answer}
 use Rattle.html5grammar.specs.Doctype.{with_quirks, with_more, with_doctype_name, with_identifier, in_skipped_rest, behind_skipped_rest, skipped_rest, skipped_from, identifier_state, in_identifier, behind_in_identifier, identifier, wanted_identifier, system_or_end, behind_space_between, between_identifiers, behind_identifier, behind_keyword_and_space, identifier_behind_space, behind_keyword, is_keyword, begins_doctype_keyword, keyword_error, doctype_keyword, keyword_or_end, behind_doctype_name_and_space, behind_doctype_name, in_doctype_name, doctype_name, wanted_name, behind_word_and_space, before_doctype_name, word_error, doctype}
+use Rattle.html5grammar.specs.Instruction.{in_instruction, behind_instruction, instruction}
 use Rattle.html5grammar.specs.RawText.{raw_text_of, texts, ends_name, is_rcdata, ends_raw_text, behind_end_name, end_name, behind_mark, behind_mark_and_dash, switched, behind_switch, switch, told_behind_less_than, behind_raw_solidus, begins_mark, begins_switch, behind_raw_less_than, raw_text}
 use Rattle.html5grammar.specs.Text.{behind_solidus, behind_less_than, data_text}
 use Rattle.html5grammar.specs.ErrorText.{error_in}
@@ -39,8 +40,8 @@ use Rattle.html5grammar.specs.Start.Mode.{Data, Plain, RawText, Cdata}
 use Rattle.html5grammar.specs.Start.RawPlace.{AfterLessThan, InEndName, AfterMark, AfterMarkAndDash, InSwitch}
 use Rattle.html5grammar.specs.Start.Place.{InName, BeforeAttribute, InAttributeName, AfterAttributeName, BeforeValue, InValue, AfterQuotedValue, AfterSolidus}
 use Rattle.html5grammar.specs.Start.DoctypePlace.{AfterWord, BeforeName, InDoctypeName, AfterName, AfterKeyword, BeforeIdentifier, InIdentifier, AfterIdentifier, BetweenIdentifiers, Skipped}
-use Rattle.html5grammar.specs.Start.Open.{Between, LessThan, LessThanSolidus, InTag, InRaw, InDeclaration, InComment, InBogusComment, InDoctype, InDoctypeKeyword, InCdata, InReference}
-use Rattle.html5grammar.proofs.Machine.{step_at, brought_at, reference_step, closing_step, tag_name_step, part_step, attribute_name_step, after_attribute_name_step, quoted_step, unquoted_step, before_value_step, tag_step, data_step, less_than_step, solidus_step, bogus_comment_step, comment_step, cdata_step, skipped_step, wanted_name_step, doctype_name_step, keyword_or_end_step, wanted_identifier_step, system_or_end_step, identifier_step, behind_identifier_step, space_step, doctype_step, declaration_answer_step, declaration_step, doctype_keyword_step, raw_step, tag_name_end_step, end_name_step, switch_step, mark_step, mark_and_dash_step, raw_solidus_step, raw_less_than_step, raw_place_step}
+use Rattle.html5grammar.specs.Start.Open.{Between, LessThan, LessThanSolidus, InTag, InRaw, InDeclaration, InComment, InBogusComment, InInstruction, InDoctype, InDoctypeKeyword, InCdata, InReference}
+use Rattle.html5grammar.proofs.Machine.{step_at, brought_at, reference_step, closing_step, tag_name_step, part_step, attribute_name_step, after_attribute_name_step, quoted_step, unquoted_step, before_value_step, tag_step, data_step, less_than_step, solidus_step, bogus_comment_step, comment_step, instruction_step, cdata_step, skipped_step, wanted_name_step, doctype_name_step, keyword_or_end_step, wanted_identifier_step, system_or_end_step, identifier_step, behind_identifier_step, space_step, doctype_step, declaration_answer_step, declaration_step, doctype_keyword_step, raw_step, tag_name_end_step, end_name_step, switch_step, mark_step, mark_and_dash_step, raw_solidus_step, raw_less_than_step, raw_place_step}
 
 abbrev pub going : {F G : Type 0} → (F → G) → Here F → Here G
 going f (Tells told goes_on) = Tells told (f goes_on)
@@ -305,12 +306,7 @@ module _ (rules : Rules) (foreign : Bool) (c : ℕ) (text : List ℕ) where
   bogus_comment_step-run : (before : List ℕ) → bogus_comment_step rules.exact before [] c
       ≡ (if in_bogus_comment c then Tells (null_error rules.exact state.BogusComment c) (InBogusComment (before ++ flat_map value_bytes (c ∷ []))) else Tells (Comment before ∷ []) (Between Data))
   unfolding bogus_comment_step in_bogus_comment
-  bogus_comment_step-run before = rw (append-nil (value_bytes c)) (elim (c == greater_than) as (λ b.
-      (if b then Tells (Comment before ∷ []) (Between Data) else Tells (null_error rules.exact state.BogusComment c) (InBogusComment (before ++ value_bytes c)))
-      ≡ (if not b then Tells (null_error rules.exact state.BogusComment c) (InBogusComment (before ++ value_bytes c)) else Tells (Comment before ∷ []) (Between Data))) [
-        | true ↦ refl
-        | false ↦ refl
-      ])
+  bogus_comment_step-run before = rw (append-nil (value_bytes c)) (flipped (c == greater_than) _ _)
 
   follows-bogus_comment : (before : List ℕ) → follows (bogus_comment rules.exact before (c ∷ text)) (bogus_comment_step rules.exact before [] c)
   unfolding bogus_comment rest_of
@@ -320,6 +316,26 @@ module _ (rules : Rules) (foreign : Bool) (c : ℕ) (text : List ℕ) where
       (rw (bytes-cons value_bytes before c (run_of in_bogus_comment text)) refl)
       (rw (append-nil before) (follows-behind_bogus_comment before))
       (in_bogus_comment c) refl)
+
+  -- processing instructions
+
+  follows-behind_instruction : (before : List ℕ) → follows (behind_instruction before (c ∷ text)) (Tells (Instruction before ∷ []) (Between Data))
+  unfolding behind_instruction here slice_at brought rest_of
+  follows-behind_instruction before = (refl, refl)
+
+  instruction_step-run : (before : List ℕ) → instruction_step rules.exact before c
+      ≡ (if in_instruction c then Tells (null_error rules.exact state.ProcessingInstruction c) (InInstruction (before ++ flat_map value_bytes (c ∷ []))) else Tells (Instruction before ∷ []) (Between Data))
+  unfolding instruction_step in_instruction
+  instruction_step-run before = rw (append-nil (value_bytes c)) (flipped (c == greater_than) _ _)
+
+  follows-instruction : (before : List ℕ) → follows (instruction rules.exact before (c ∷ text)) (instruction_step rules.exact before c)
+  unfolding instruction rest_of
+  follows-instruction before =
+      rw (instruction_step-run before)
+      (follows-run in_instruction (null_error rules.exact state.ProcessingInstruction) (λ run later. behind_instruction (before ++ flat_map value_bytes run) later) (InInstruction (before ++ flat_map value_bytes (c ∷ []))) _
+      (rw (bytes-cons value_bytes before c (run_of in_instruction text)) refl)
+      (rw (append-nil before) (follows-behind_instruction before))
+      (in_instruction c) refl)
 
   follows-comment : (before : List ℕ) → follows (comment rules.exact before (c ∷ text)) (comment_step rules.exact before c)
   unfolding comment comment_step here slice_at brought rest_of
@@ -484,7 +500,7 @@ module _ (rules : Rules) (foreign : Bool) (c : ℕ) (text : List ℕ) where
       follows-if (is_letter c) _ _ _ _ (follows-tag_name (begun StartTag))
       (follows-if (c == solidus) _ _ _ _ (refl, refl)
       (follows-if (c == exclamation_mark) _ _ _ _ (refl, refl)
-      (follows-if (c == question_mark) _ _ _ _ (follows-bogus_comment_from [] (error_in rules.exact state.TagOpen c ∷ []))
+      (follows-if (c == question_mark) _ _ _ _ (refl, refl)
       (begins-data_text (error_in rules.exact state.TagOpen c ∷ Text (codes "<") ∷ []), refl))))
 
   -- raw text
@@ -668,6 +684,7 @@ module _ (rules : Rules) (foreign : Bool) (c : ℕ) (text : List ℕ) where
   rest_of-brought_at (InDeclaration held) = brings-declaration held
   rest_of-brought_at (InComment before) = brings-from (rest_of rules (InComment before) (c ∷ text)) _ (follows-comment before)
   rest_of-brought_at (InBogusComment before) = brings-from (rest_of rules (InBogusComment before) (c ∷ text)) _ (follows-bogus_comment before)
+  rest_of-brought_at (InInstruction before) = brings-from (rest_of rules (InInstruction before) (c ∷ text)) _ (follows-instruction before)
   rest_of-brought_at (InDoctype place d) = brings-from (rest_of rules (InDoctype place d) (c ∷ text)) _ (follows-doctype place d)
   rest_of-brought_at (InDoctypeKeyword held d) = brings-doctype_keyword held d
   rest_of-brought_at (InCdata held) = brings-from (rest_of rules (InCdata held) (c ∷ text)) _ (follows-cdata held)

@@ -24,9 +24,10 @@ use Rattle.html5grammar.specs.Slice.{Late, cut_off, run_of, behind_run, run_whil
 use Rattle.html5grammar.specs.Start.{Start, Open, Rules, is_undecided_open}
 use Rattle.html5grammar.specs.Start.Place.{InName, BeforeAttribute, InAttributeName, AfterAttributeName, BeforeValue, InValue, AfterQuotedValue, AfterSolidus}
 use Rattle.html5grammar.specs.Start.DoctypePlace.{AfterWord, BeforeName, InDoctypeName, AfterName, AfterKeyword, BeforeIdentifier, InIdentifier, AfterIdentifier, BetweenIdentifiers, Skipped}
-use Rattle.html5grammar.specs.Start.Open.{Between, LessThan, LessThanSolidus, InTag, InRaw, InDeclaration, InComment, InBogusComment, InDoctype, InDoctypeKeyword, InCdata, InReference}
+use Rattle.html5grammar.specs.Start.Open.{Between, LessThan, LessThanSolidus, InTag, InRaw, InDeclaration, InComment, InBogusComment, InInstruction, InDoctype, InDoctypeKeyword, InCdata, InReference}
 use Rattle.html5grammar.specs.Tag.{tag_name, behind_tag_name, attribute_behind_first, behind_attribute_name, behind_name_and_space, value_or_next, value_behind_space, value, quoted_value, behind_quoted, unquoted_value, behind_unquoted}
 use Rattle.html5grammar.specs.Comment.{begins_cdata, cdata_keyword, declaration, comment, bogus_comment, behind_bogus_comment}
+use Rattle.html5grammar.specs.Instruction.{instruction, behind_instruction}
 use Rattle.html5grammar.specs.Doctype.{doctype, before_doctype_name, behind_word_and_space, doctype_name, behind_doctype_name, behind_doctype_name_and_space, keyword_or_end, doctype_keyword, behind_keyword, identifier_behind_space, behind_keyword_and_space, identifier, behind_in_identifier, between_identifiers, behind_space_between, skipped_rest, behind_skipped_rest}
 use Rattle.html5grammar.specs.RawText.{behind_raw_less_than, end_name, behind_end_name, behind_mark, behind_mark_and_dash, switch, behind_switch}
 use Rattle.html5grammar.specs.Start.RawPlace.{AfterLessThan, InEndName, AfterMark, AfterMarkAndDash, InSwitch}
@@ -79,6 +80,7 @@ brought-step rules foreign (InRaw place name) c h = refl
 brought-step rules foreign (InDeclaration held) c h = absurd (false≢true (sym h))
 brought-step rules foreign (InComment before) c h = refl
 brought-step rules foreign (InBogusComment before) c h = refl
+brought-step rules foreign (InInstruction before) c h = refl
 brought-step rules foreign (InDoctype place d) c h = refl
 brought-step rules foreign (InDoctypeKeyword held d) c h = absurd (false≢true (sym h))
 brought-step rules foreign (InCdata held) c h = refl
@@ -104,7 +106,7 @@ brought-unasked rules foreign other held c h =
 -- what is open where a slice has no more
 
 pub rest_of-nil : (rules : Rules) (opened : Open) → open_behind (rest_of rules opened []).behind ≡ opened
-unfolding rest_of tag_name behind_tag_name attribute_behind_first behind_attribute_name behind_name_and_space value_or_next value_behind_space value quoted_value behind_quoted unquoted_value behind_unquoted behind_less_than behind_solidus behind_raw_less_than end_name behind_end_name behind_mark behind_mark_and_dash switch behind_switch declaration cdata comment bogus_comment behind_bogus_comment doctype before_doctype_name behind_word_and_space doctype_name behind_doctype_name behind_doctype_name_and_space keyword_or_end doctype_keyword behind_keyword identifier_behind_space behind_keyword_and_space identifier behind_in_identifier between_identifiers behind_space_between skipped_rest behind_skipped_rest reference_text behind_held run_while behind_while run_of behind_run
+unfolding rest_of tag_name behind_tag_name attribute_behind_first behind_attribute_name behind_name_and_space value_or_next value_behind_space value quoted_value behind_quoted unquoted_value behind_unquoted behind_less_than behind_solidus behind_raw_less_than end_name behind_end_name behind_mark behind_mark_and_dash switch behind_switch declaration cdata comment bogus_comment behind_bogus_comment instruction behind_instruction doctype before_doctype_name behind_word_and_space doctype_name behind_doctype_name behind_doctype_name_and_space keyword_or_end doctype_keyword behind_keyword identifier_behind_space behind_keyword_and_space identifier behind_in_identifier between_identifiers behind_space_between skipped_rest behind_skipped_rest reference_text behind_held run_while behind_while run_of behind_run
 rest_of-nil rules (Between mode) = refl
 rest_of-nil rules LessThan = refl
 rest_of-nil rules LessThanSolidus = refl
@@ -126,6 +128,7 @@ rest_of-nil rules (InRaw (InSwitch kind letters) name) = ap (λ l. InRaw (InSwit
 rest_of-nil rules (InDeclaration held) = refl
 rest_of-nil rules (InComment before) = refl
 rest_of-nil rules (InBogusComment before) = ap InBogusComment (append-nil before)
+rest_of-nil rules (InInstruction before) = ap InInstruction (append-nil before)
 rest_of-nil rules (InDoctype AfterWord d) = refl
 rest_of-nil rules (InDoctype BeforeName d) = refl
 rest_of-nil rules (InDoctype InDoctypeName d) = ap (InDoctype InDoctypeName) (with_doctype_name-nil d)

@@ -11,9 +11,10 @@ use Rattle.html5grammar.specs.Start.Mode.{Data, Plain, RawText, Cdata}
 use Rattle.html5grammar.specs.Start.RawPlace.{AfterLessThan, InEndName, AfterMark, AfterMarkAndDash, InSwitch}
 use Rattle.html5grammar.specs.Start.Place.{InName, BeforeAttribute, InAttributeName, AfterAttributeName, BeforeValue, InValue, AfterQuotedValue, AfterSolidus}
 use Rattle.html5grammar.specs.Start.DoctypePlace.{AfterWord, BeforeName, InDoctypeName, AfterName, AfterKeyword, BeforeIdentifier, InIdentifier, AfterIdentifier, BetweenIdentifiers, Skipped}
-use Rattle.html5grammar.specs.Start.Open.{Between, LessThan, LessThanSolidus, InTag, InRaw, InDeclaration, InComment, InBogusComment, InDoctype, InDoctypeKeyword, InCdata, InReference}
+use Rattle.html5grammar.specs.Start.Open.{Between, LessThan, LessThanSolidus, InTag, InRaw, InDeclaration, InComment, InBogusComment, InInstruction, InDoctype, InDoctypeKeyword, InCdata, InReference}
 use Rattle.html5grammar.specs.Comment.{declaration, comment, bogus_comment, bogus_comment_from}
 use Rattle.html5grammar.specs.Doctype.{doctype, before_doctype_name, doctype_name, behind_doctype_name_and_space, doctype_keyword, behind_keyword, identifier_behind_space, identifier, behind_identifier, between_identifiers, skipped_rest}
+use Rattle.html5grammar.specs.Instruction.{instruction}
 use Rattle.html5grammar.specs.RawText.{behind_raw_less_than, end_name, behind_mark, behind_mark_and_dash, switch, raw_text}
 use Rattle.html5grammar.specs.Tag.{part, tag_name, attribute_behind_first, behind_name_and_space, value_behind_space, quoted_value, unquoted_value}
 use Rattle.html5grammar.specs.Text.{plain_text, behind_solidus, behind_less_than, data_text}
@@ -40,6 +41,7 @@ rest_of rules (InRaw (InSwitch kind letters) name) text = switch kind name lette
 rest_of rules (InDeclaration held) text = declaration rules.exact held text
 rest_of rules (InComment before) text = comment rules.exact before text
 rest_of rules (InBogusComment before) text = bogus_comment rules.exact before text
+rest_of rules (InInstruction before) text = instruction rules.exact before text
 rest_of rules (InDoctype AfterWord d) text = doctype rules.exact d text
 rest_of rules (InDoctype BeforeName d) text = before_doctype_name rules.exact d text
 rest_of rules (InDoctype InDoctypeName d) text = doctype_name rules.exact d text

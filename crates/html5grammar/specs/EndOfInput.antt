@@ -1,7 +1,7 @@
 -- What the end of input tells, by what is open there.
 use Rattle.std.specs.Prelude.{Bool, List, [], ◌∷◌, ◌++◌, codes, None}
 use Rattle.html5ever_interface.specs.Token.{Told, DoctypeOf}
-use Rattle.html5ever_interface.specs.Token.Told.{Text, Comment, Doctype, End}
+use Rattle.html5ever_interface.specs.Token.Told.{Text, Comment, Instruction, Doctype, End}
 use Rattle.html5ever_interface.specs.declared.states.State.{State}
 use Rattle.html5ever_interface.specs.declared.states.AttrValueKind.TheVariants.{Unquoted}
 use Rattle.html5ever_interface.specs.declared.states.State.TheVariants as state
@@ -19,7 +19,7 @@ use Rattle.html5grammar.specs.Start.Mode.{RawText, Cdata}
 use Rattle.html5grammar.specs.Start.RawPlace.{AfterLessThan, InEndName, AfterMark, AfterMarkAndDash, InSwitch}
 use Rattle.html5grammar.specs.Start.Place.{InName, BeforeAttribute, InAttributeName, AfterAttributeName, BeforeValue, InValue, AfterQuotedValue, AfterSolidus}
 use Rattle.html5grammar.specs.Start.DoctypePlace.{AfterWord, BeforeName, InDoctypeName, AfterName, AfterKeyword, BeforeIdentifier, InIdentifier, AfterIdentifier, BetweenIdentifiers, Skipped}
-use Rattle.html5grammar.specs.Start.Open.{Between, LessThan, LessThanSolidus, InTag, InRaw, InDeclaration, InComment, InBogusComment, InDoctype, InDoctypeKeyword, InCdata, InReference}
+use Rattle.html5grammar.specs.Start.Open.{Between, LessThan, LessThanSolidus, InTag, InRaw, InDeclaration, InComment, InBogusComment, InInstruction, InDoctype, InDoctypeKeyword, InCdata, InReference}
 
 -- the state that the error of a tag without its end names
 unfoldable pub state_at : Place → State
@@ -90,6 +90,7 @@ told_at_end_of exact (InRaw place name) = told_at_raw_end exact place ++ End ∷
 told_at_end_of exact (InDeclaration held) = []
 told_at_end_of exact (InComment text) = end_error_in exact (comment_state state.CommentEnd text) ∷ Comment (comment_content text) ∷ End ∷ []
 told_at_end_of exact (InBogusComment text) = Comment text ∷ End ∷ []
+told_at_end_of exact (InInstruction text) = end_error_in exact state.ProcessingInstruction ∷ Instruction text ∷ End ∷ []
 told_at_end_of exact (InDoctype place d) = told_at_doctype_end exact place d ++ End ∷ []
 told_at_end_of exact (InDoctypeKeyword held d) = []
 told_at_end_of exact (InCdata held) = Text held ∷ end_error_in exact state.CdataSection ∷ End ∷ []

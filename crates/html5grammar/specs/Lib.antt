@@ -8,6 +8,7 @@ pub mod Tag
 pub mod Text
 pub mod Doctype
 pub mod Comment
+pub mod Instruction
 pub mod Cdata
 pub mod RawText
 pub mod EndOfInput

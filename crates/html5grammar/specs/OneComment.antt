@@ -6,8 +6,8 @@ use Rattle.html5ever_interface.specs.Token.{Told}
 use Rattle.html5ever_interface.specs.Token.Told.{Comment, End}
 use Rattle.html5ever_interface.specs.declared.states.State.{State}
 use Rattle.html5ever_interface.specs.declared.states.State.TheVariants as state
-use Rattle.html5grammar.specs.Characters.{exclamation_mark, greater_than, question_mark, is_letter, value_bytes, lower_case}
-use Rattle.html5grammar.specs.Comment.{ends_in, without_last, is_lone_dash, in_bogus_comment}
+use Rattle.html5grammar.specs.Characters.{exclamation_mark, greater_than, is_letter, value_bytes, lower_case}
+use Rattle.html5grammar.specs.Comment.{ends_in, is_lone_dash, in_bogus_comment}
 use Rattle.html5grammar.specs.ErrorText.{error_in, where_true}
 use Rattle.html5grammar.specs.NormalisedText.{normalised, line_after}
 use Rattle.html5grammar.specs.OneTag.{Spelled, spell, spell_silent, spelled_messages}
@@ -33,8 +33,6 @@ pub data Ending : Type 0 where
 pub data Opening : Type 0 where
   -- `</`
   Solidus : Opening
-  -- `<`, where the content begins with `?`
-  QuestionMark : Opening
   -- `<!`
   ExclamationMark : Opening
 
@@ -55,7 +53,6 @@ before_greater_than AfterDash = codes "-"
 
 abbrev pub opening_text : Opening → List ℕ
 opening_text Solidus = codes "</"
-opening_text QuestionMark = codes "<"
 opening_text ExclamationMark = codes "<!"
 
 unfoldable pub written : WrittenComment → List ℕ
@@ -93,8 +90,6 @@ can_end_with content AfterDash = is_empty content
 abbrev pub can_open : Bool → Opening → List ℕ → Bool
 can_open foreign Solidus [] = false
 can_open foreign Solidus (c ∷ content) = not (is_letter c)
-can_open foreign QuestionMark [] = false
-can_open foreign QuestionMark (c ∷ content) = c == question_mark
 can_open foreign ExclamationMark content =
     not (begins_with (codes "--") content)
     && (not (begins_with (codes "doctype") (lower_case content)) && not (foreign && begins_with (codes "[CDATA[") content))
@@ -146,11 +141,11 @@ spell_end errors content = record { character = greater_than; told = errors ++ C
 abbrev pub spell_bogus : Bool → List ℕ → List Spelled
 spell_bogus exact content = spell (null_error exact state.BogusComment) content
 
--- the content of a bogus comment whose first character is an error
-abbrev pub spell_odd : Bool → State → List ℕ → List Spelled
-spell_odd exact expecting [] = []
-spell_odd exact expecting (c ∷ content) =
-    record { character = c; told = error_in exact expecting c ∷ null_error exact state.BogusComment c } ∷ spell_bogus exact content
+-- the content of a bogus comment behind `</`, whose first character is an error
+abbrev pub spell_odd : Bool → List ℕ → List Spelled
+spell_odd exact [] = []
+spell_odd exact (c ∷ content) =
+    record { character = c; told = error_in exact state.EndTagOpen c ∷ null_error exact state.BogusComment c } ∷ spell_bogus exact content
 
 -- the messages of a comment. Where no keyword stands behind `<!`, that is an error on the line of its `!`, and what could have begun
 -- one tells nothing, so the error comes first.
@@ -159,9 +154,7 @@ messages_of exact input (Proper content ending) =
     spelled_messages exact input []
     (spell_silent (codes "<!--") ++ (spell_content exact [] (content ++ before_greater_than ending) ++ spell_end (ending_errors exact ending) content))
 messages_of exact input (Bogus Solidus content) =
-    spelled_messages exact input [] (spell_silent (codes "</") ++ (spell_odd exact state.EndTagOpen content ++ spell_end [] content))
-messages_of exact input (Bogus QuestionMark content) =
-    spelled_messages exact input [] (spell_silent (codes "<") ++ (spell_odd exact state.TagOpen content ++ spell_end [] content))
+    spelled_messages exact input [] (spell_silent (codes "</") ++ (spell_odd exact content ++ spell_end [] content))
 messages_of exact input (Bogus ExclamationMark content) =
     on_line (line_after input (codes "<!")) (error_in exact state.MarkupDeclarationOpen exclamation_mark ∷ [])
     ++ spelled_messages exact input (codes "<!") (spell_bogus exact content ++ spell_end [] content)

@@ -126,6 +126,8 @@ pub data Open : Type 0 where
   -- in a comment, with its text in bytes, and in a bogus one
   InComment : List ℕ → Open
   InBogusComment : List ℕ → Open
+  -- in a processing instruction, with its content so far, in bytes
+  InInstruction : List ℕ → Open
   -- in a doctype, with what it has so far
   InDoctype : DoctypePlace → DoctypeOf → Open
   -- behind a doctype's name and white space, with the characters, at least one, that may begin `public` or `system`

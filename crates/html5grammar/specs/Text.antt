@@ -7,6 +7,7 @@ use Rattle.html5ever_interface.specs.declared.states.State.TheVariants as state
 use Rattle.html5grammar.specs.Characters.{null, replacement_character, exclamation_mark, ampersand, solidus, less_than, greater_than, question_mark, is_letter}
 use Rattle.html5grammar.specs.Comment.{declaration}
 use Rattle.html5grammar.specs.ErrorText.{error_in}
+use Rattle.html5grammar.specs.Instruction.{instruction}
 use Rattle.html5grammar.specs.Reference.{reference_text}
 use Rattle.html5grammar.specs.Slice.{Slice, no_character, cut_off, one_character, with_character}
 use Rattle.html5grammar.specs.Slice.Behind.{Leaves}
@@ -30,15 +31,15 @@ behind_solidus exact (c ∷ text) =
     else if c == greater_than then one_character (error_in exact state.EndTagOpen c ∷ []) (Between Data)
     else no_character (Leaves (error_in exact state.EndTagOpen c ∷ []) (InBogusComment []))
 
--- behind `<`: a letter begins a start tag, `/` and `!` lead on, and `?` begins a bogus comment, with an error; before another
--- character `<` is text, with an error
+-- behind `<`: a letter begins a start tag, `/` and `!` lead on, and `?` begins a processing instruction; before another character `<` is text,
+-- with an error
 unfoldable pub behind_less_than : Bool → List ℕ → Slice
 behind_less_than exact [] = cut_off LessThan
 behind_less_than exact (c ∷ text) =
     if is_letter c then tag_name exact (begun StartTag) (c ∷ text)
     else if c == solidus then with_character [] (behind_solidus exact text)
     else if c == exclamation_mark then with_character [] (declaration exact [] text)
-    else if c == question_mark then no_character (Leaves (error_in exact state.TagOpen c ∷ []) (InBogusComment []))
+    else if c == question_mark then with_character [] (instruction exact [] text)
     else no_character (Leaves (error_in exact state.TagOpen c ∷ Text (codes "<") ∷ []) (Between Data))
 
 -- what begins with c in the mode Data, where `before` is told first

@@ -1,0 +1,23 @@
+-- Processing instructions: a rule of this project's own. The standard has a bogus comment in their place.
+use Rattle.std.specs.Prelude.{ℕ, Bool, List, [], ◌∷◌, ◌++◌, ◌==◌, flat_map, not}
+use Rattle.html5ever_interface.specs.Token.Told.{Instruction}
+use Rattle.html5ever_interface.specs.declared.states.State.TheVariants as state
+use Rattle.html5grammar.specs.Characters.{greater_than, value_bytes}
+use Rattle.html5grammar.specs.Slice.{Slice, cut_off, one_character, with_run, run_of, behind_run}
+use Rattle.html5grammar.specs.Start.Mode.{Data}
+use Rattle.html5grammar.specs.Start.Open.{Between, InInstruction}
+use Rattle.html5grammar.specs.Tag.{null_error}
+
+unfoldable pub in_instruction : ℕ → Bool
+in_instruction c = not (c == greater_than)
+
+unfoldable pub behind_instruction : List ℕ → List ℕ → Slice
+behind_instruction content [] = cut_off (InInstruction content)
+behind_instruction content (c ∷ text) = one_character (Instruction content ∷ []) (Between Data)
+
+-- a processing instruction, of which `before` was read behind its `<?`, runs to `>`
+unfoldable pub instruction : Bool → List ℕ → List ℕ → Slice
+instruction exact before text =
+    let run : List ℕ = run_of in_instruction text in
+    with_run (null_error exact state.ProcessingInstruction) run
+    (behind_instruction (before ++ flat_map value_bytes run) (behind_run in_instruction text))
