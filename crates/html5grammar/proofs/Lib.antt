@@ -35,6 +35,8 @@ pub mod OneCommentSteps
 pub mod OneCommentHeld
 pub mod OneCommentReading
 pub mod OneCommentCollected
+pub mod OneInstructionReading
+pub mod OneInstructionCollected
 pub mod OneDoctypeSteps
 pub mod OneDoctypeParts
 pub mod OneDoctypeHeld
@@ -56,5 +58,6 @@ mod InstructionCases
 mod DoctypeCases
 mod CdataCases
 mod OneCommentCases
+mod OneInstructionCases
 mod OneDoctypeCases
 mod OneCdataCases

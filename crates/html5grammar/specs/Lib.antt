@@ -18,6 +18,7 @@ pub mod OneTag
 pub mod OneReference
 pub mod WrittenRaw
 pub mod OneComment
+pub mod OneInstruction
 pub mod OneDoctype
 pub mod OneCdata
 pub mod Lawful

@@ -12,6 +12,8 @@ ghost use Rattle.html5grammar.specs.OneComment as one_comment;
 ghost use Rattle.html5grammar.specs.OneComment.{WrittenComment, IsComment};
 ghost use Rattle.html5grammar.specs.OneDoctype as one_doctype;
 ghost use Rattle.html5grammar.specs.OneDoctype.{WrittenDoctype, IsDoctype};
+ghost use Rattle.html5grammar.specs.OneInstruction as one_instruction;
+ghost use Rattle.html5grammar.specs.OneInstruction.{WrittenInstruction, IsInstruction, open_behind_instruction};
 ghost use Rattle.html5grammar.specs.OneReference.{WrittenReference, IsReference};
 ghost use Rattle.html5grammar.specs.OneReference.WrittenReference.{Number};
 ghost use Rattle.html5grammar.specs.OneTag.{WrittenTag, IsTag, tag_told, spelled, spelled_messages};
@@ -64,6 +66,13 @@ pub fn comment<S: TokenSink<Token<A>>, A: Allocator>()
     ensures { (rules : Rules) (K : Start) (s : S.State) (Y : List ℕ) (comment : WrittenComment) → IsComment K (S.foreign s) Y comment
         → TellsByItself S.step S.reply S.foreign rules K s Y (one_comment.messages_of rules.exact K.input comment)
         (start_behind K Y (Between Data) K.last_start_tag) }
+{}
+
+/// A processing instruction, also one without its `>`: then it is open behind it, and is not told yet.
+pub fn instruction<S: TokenSink<Token<A>>, A: Allocator>()
+    ensures { (rules : Rules) (K : Start) (s : S.State) (Y : List ℕ) (instruction : WrittenInstruction) → IsInstruction K Y instruction
+        → TellsByItself S.step S.reply S.foreign rules K s Y (one_instruction.messages_of rules.exact K.input instruction)
+        (start_behind K Y (open_behind_instruction instruction) K.last_start_tag) }
 {}
 
 /// A doctype.

@@ -1,0 +1,10 @@
+use Rattle.html5grammar.specs.OneInstruction as one_instruction
+use Rattle.html5grammar.specs.OneInstruction.{open_behind_instruction}
+use Rattle.html5grammar.proofs.ByItself.{trace-by_itself}
+use Rattle.html5grammar.proofs.OneInstructionReading.{reads}
+use Rattle.html5grammar.proofs.anywhere.instruction.Goals as goal
+
+pub returns : goal.returns
+returns g c = λ rules K s Y instruction one.
+    trace-by_itself g.S.TokenSink.step g.S.TokenSink.reply g.S.TokenSink.foreign rules K s Y (one_instruction.messages_of rules.exact K.input instruction) (open_behind_instruction instruction) K.last_start_tag
+    (reads g.S.TokenSink.step g.S.TokenSink.reply g.S.TokenSink.foreign rules K s Y instruction one)
