@@ -12,14 +12,14 @@ use Rattle.html5grammar.specs.Start.Dashes.{NoDash, OneDash, TwoDashes}
 use Rattle.html5grammar.specs.Start.Raw.{Rcdata, Rawtext, ScriptData, Escaped, DoubleEscaped}
 use Rattle.html5grammar.specs.Start.Mode.{Data, Plain, RawText, Cdata}
 use Rattle.html5grammar.specs.Start.Place.{InName, BeforeAttribute, InAttributeName, AfterAttributeName, BeforeValue, InValue, AfterQuotedValue, AfterSolidus}
-use Rattle.html5grammar.specs.Start.Open.{Between, LessThan, LessThanSolidus, InTag, InRaw, InDeclaration, InComment, InBogusComment, InDoctype, InDoctypeKeyword, InCdata, InReference}
+use Rattle.html5grammar.specs.Start.Open.{Between, LessThan, LessThanSolidus, InTag, InRaw, InDeclaration, InComment, InBogusComment, InInstruction, InDoctype, InDoctypeKeyword, InCdata, InReference}
 use Rattle.html5grammar.specs.Tag.{in_tag_name, in_attribute_name, in_quoted, in_unquoted, unquoted_error, is_odd_in_name}
 use Rattle.std.proofs.lemmas.List.{append-nil}
 use Rattle.html5grammar.specs.Comment.{ends_in, comment_errors, mark_error}
 use Rattle.html5parts.proofs.CommentEnds.{NoDashLast, comment_ends, ends_in_dash-none, ends_in_mark-none, value_bytes-last}
 use Rattle.html5grammar.specs.RawText.{raw_character, raw_behind, dashes_behind}
 use Rattle.html5grammar.specs.Text.{plain_text}
-use Rattle.html5grammar.proofs.Machine.{step_at, tag_step, data_step, raw_step, comment_step, bogus_comment_step, cdata_step, tag_name_step, attribute_name_step, quoted_step, unquoted_step}
+use Rattle.html5grammar.proofs.Machine.{step_at, tag_step, data_step, raw_step, comment_step, bogus_comment_step, instruction_step, cdata_step, tag_name_step, attribute_name_step, quoted_step, unquoted_step}
 use Rattle.html5grammar.proofs.Slices.{with_name-nil, with_last_name-nil, with_value-nil, with_name-cons, with_last_name-cons, with_value-cons, bytes-cons}
 use Rattle.html5parts.specs.Runs.{other_run_ends, run_ends, opened_after_run, run_tokens}
 
@@ -50,6 +50,7 @@ opened_after_run-nil (InRaw place name) = refl
 opened_after_run-nil (InDeclaration held) = refl
 opened_after_run-nil (InComment text) = ap InComment (append-nil text)
 opened_after_run-nil (InBogusComment text) = ap InBogusComment (append-nil text)
+opened_after_run-nil (InInstruction content) = ap InInstruction (append-nil content)
 opened_after_run-nil (InDoctype place doctype) = refl
 opened_after_run-nil (InDoctypeKeyword held doctype) = refl
 opened_after_run-nil (InCdata text) = ap InCdata (append-nil text)
@@ -72,6 +73,7 @@ opened_after_run-cons (InRaw place name) c run = refl
 opened_after_run-cons (InDeclaration held) c run = refl
 opened_after_run-cons (InComment text) c run = ap InComment (bytes-cons value_bytes text c run)
 opened_after_run-cons (InBogusComment text) c run = ap InBogusComment (bytes-cons value_bytes text c run)
+opened_after_run-cons (InInstruction content) c run = ap InInstruction (bytes-cons value_bytes content c run)
 opened_after_run-cons (InDoctype place doctype) c run = refl
 opened_after_run-cons (InDoctypeKeyword held doctype) c run = refl
 opened_after_run-cons (InCdata text) c run = ap InCdata (bytes-cons encode_utf8 text c run)
@@ -98,6 +100,7 @@ other_run_ends-after (InComment text) others c has out =
     let ordinary : ¬ Contains (run_ends (hyphen ∷ greater_than ∷ [])) c = subst (λ l. ¬ Contains (run_ends l) c) known_ends.0 out in
     rw (known_ends.1, ends_in_dash-none text (flat_map value_bytes (c ∷ [])) (subst NoDashLast (sym (append-nil (value_bytes c))) (value_bytes-last c (λ e. ordinary (3, lit< tt, sym e))))) refl
 other_run_ends-after (InBogusComment text) others c has out = refl
+other_run_ends-after (InInstruction content) others c has out = refl
 other_run_ends-after (InDoctype place doctype) others c has out = refl
 other_run_ends-after (InDoctypeKeyword held doctype) others c has out = refl
 other_run_ends-after (InCdata text) others c has out = refl
@@ -121,6 +124,7 @@ run_tokens-cons (InRaw place name) c run = refl
 run_tokens-cons (InDeclaration held) c run = refl
 run_tokens-cons (InComment text) c run = refl
 run_tokens-cons (InBogusComment text) c run = refl
+run_tokens-cons (InInstruction content) c run = refl
 run_tokens-cons (InDoctype place doctype) c run = refl
 run_tokens-cons (InDoctypeKeyword held doctype) c run = refl
 run_tokens-cons (InCdata text) c run = refl
@@ -135,6 +139,7 @@ run_tokens-nil (InRaw place name) = refl
 run_tokens-nil (InDeclaration held) = refl
 run_tokens-nil (InComment text) = refl
 run_tokens-nil (InBogusComment text) = refl
+run_tokens-nil (InInstruction content) = refl
 run_tokens-nil (InDoctype place doctype) = refl
 run_tokens-nil (InDoctypeKeyword held doctype) = refl
 run_tokens-nil (InCdata text) = refl
@@ -159,7 +164,7 @@ no_carriage_return others c other = λ same. other (2, omega arith, sym same)
 -- a character that ends no run tells itself alone, or is put to the open name or value
 pub step-run : (opened : Open) (others : List ℕ) (c : ℕ) → other_run_ends opened ≡ Some others → ¬ Contains (run_ends others) c
     → step_at false opened c ≡ Tells (run_tokens opened (c ∷ [])) (opened_after_run opened (c ∷ []))
-unfolding step_at tag_step data_step plain_text raw_step raw_character raw_behind dashes_behind comment_step comment_errors mark_error bogus_comment_step cdata_step tag_name_step attribute_name_step quoted_step unquoted_step in_tag_name in_attribute_name in_quoted in_unquoted unquoted_error is_odd_in_name is_white_space
+unfolding step_at tag_step data_step plain_text raw_step raw_character raw_behind dashes_behind comment_step comment_errors mark_error bogus_comment_step instruction_step cdata_step tag_name_step attribute_name_step quoted_step unquoted_step in_tag_name in_attribute_name in_quoted in_unquoted unquoted_error is_odd_in_name is_white_space
 step-run (Between Data) others c has other =
     let out : ¬ Contains (run_ends (less_than ∷ ampersand ∷ [])) c = known (less_than ∷ ampersand ∷ []) others c has other in
     rw (no (less_than ∷ ampersand ∷ []) c out 3 less_than (lit< tt) refl, no (less_than ∷ ampersand ∷ []) c out 4 ampersand (lit< tt) refl, no (less_than ∷ ampersand ∷ []) c out 0 null (lit< tt) refl) refl
@@ -213,6 +218,9 @@ step-run (InComment text) others c has other =
     let out : ¬ Contains (run_ends (hyphen ∷ greater_than ∷ [])) c = subst (λ l. ¬ Contains (run_ends l) c) ends.0 other in
     rw (no (hyphen ∷ greater_than ∷ []) c out 4 greater_than (lit< tt) refl, no (hyphen ∷ greater_than ∷ []) c out 0 null (lit< tt) refl, ends_in_mark-none text ends.1, append-nil (value_bytes c)) refl
 step-run (InBogusComment text) others c has other =
+    let out : ¬ Contains (run_ends (greater_than ∷ [])) c = known (greater_than ∷ []) others c has other in
+    rw (no (greater_than ∷ []) c out 3 greater_than (lit< tt) refl, no (greater_than ∷ []) c out 0 null (lit< tt) refl, append-nil (value_bytes c)) refl
+step-run (InInstruction content) others c has other =
     let out : ¬ Contains (run_ends (greater_than ∷ [])) c = known (greater_than ∷ []) others c has other in
     rw (no (greater_than ∷ []) c out 3 greater_than (lit< tt) refl, no (greater_than ∷ []) c out 0 null (lit< tt) refl, append-nil (value_bytes c)) refl
 step-run (InDoctype place doctype) others c has other = absurd (none≢some has)

@@ -12,7 +12,7 @@ use Rattle.html5grammar.specs.Start.Mode.{Data, Plain, RawText}
 use Rattle.html5grammar.specs.Start.RawPlace.{AfterLessThan, InEndName, AfterMark, AfterMarkAndDash, InSwitch}
 use Rattle.html5grammar.specs.Start.Place.{InName, BeforeAttribute, InAttributeName, AfterAttributeName, BeforeValue, InValue, AfterQuotedValue, AfterSolidus}
 use Rattle.html5grammar.specs.Start.DoctypePlace.{AfterWord, BeforeName, InDoctypeName, AfterName, AfterKeyword, BeforeIdentifier, InIdentifier, AfterIdentifier, BetweenIdentifiers, Skipped}
-use Rattle.html5grammar.specs.Start.Open.{Between, LessThan, LessThanSolidus, InTag, InRaw, InDeclaration, InComment, InBogusComment, InDoctype, InDoctypeKeyword}
+use Rattle.html5grammar.specs.Start.Open.{Between, LessThan, LessThanSolidus, InTag, InRaw, InDeclaration, InComment, InBogusComment, InInstruction, InDoctype, InDoctypeKeyword}
 use Rattle.html5grammar.specs.Start.Quotes.{DoubleQuotes, SingleQuotes}
 use Rattle.html5parts.specs.declared.current_tag.CurrentTag.{CurrentTag}
 use Rattle.html5parts.specs.declared.opened.Opened.{Opened}
@@ -68,6 +68,7 @@ open_of (state.ScriptDataEscapedDashDash kind) at = Between (RawText (escaped ki
 open_of state.ScriptDataDoubleEscapeEnd at = InRaw (InSwitch escape_kind.DoubleEscaped (letters_of at)) (last_name_of at)
 open_of state.MarkupDeclarationOpen at = InDeclaration (string_bytes at.comment)
 open_of state.BogusComment at = InBogusComment (string_bytes at.comment)
+open_of state.ProcessingInstruction at = InInstruction (string_bytes at.comment)
 open_of state.Doctype at = InDoctype AfterWord (doctype_of at.doctype)
 open_of state.BeforeDoctypeName at = InDoctype BeforeName (doctype_of at.doctype)
 open_of state.DoctypeName at = InDoctype InDoctypeName (doctype_of at.doctype)

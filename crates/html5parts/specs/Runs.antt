@@ -9,7 +9,7 @@ use Rattle.html5grammar.specs.Start.{Open}
 use Rattle.html5grammar.specs.Start.Dashes.{NoDash}
 use Rattle.html5grammar.specs.Start.Raw.{Rcdata, Rawtext, ScriptData, Escaped, DoubleEscaped}
 use Rattle.html5grammar.specs.Start.Mode.{Data, Plain, RawText}
-use Rattle.html5grammar.specs.Start.Open.{Between, InTag, InComment, InBogusComment, InCdata}
+use Rattle.html5grammar.specs.Start.Open.{Between, InTag, InComment, InBogusComment, InInstruction, InCdata}
 use Rattle.html5grammar.specs.Start.Place.{InName, InAttributeName, InValue}
 use Rattle.html5grammar.specs.Comment.{ends_in}
 use Rattle.html5grammar.specs.Reference.{with_value}
@@ -36,6 +36,7 @@ other_run_ends (InTag InAttributeName tag) =
 other_run_ends (InTag (InValue kind) tag) = Some (other_value_ends kind)
 other_run_ends (InComment text) = if ends_in text (codes "-") then None else Some (hyphen ∷ greater_than ∷ [])
 other_run_ends (InBogusComment text) = Some (greater_than ∷ [])
+other_run_ends (InInstruction content) = Some (greater_than ∷ [])
 other_run_ends (InCdata text) = Some (greater_than ∷ [])
 other_run_ends other = None
 
@@ -57,6 +58,7 @@ opened_after_run (InTag InAttributeName tag) run = InTag InAttributeName (with_l
 opened_after_run (InTag (InValue kind) tag) run = InTag (InValue kind) (with_value tag run)
 opened_after_run (InComment text) run = InComment (text ++ flat_map value_bytes run)
 opened_after_run (InBogusComment text) run = InBogusComment (text ++ flat_map value_bytes run)
+opened_after_run (InInstruction content) run = InInstruction (content ++ flat_map value_bytes run)
 opened_after_run (InCdata text) run = InCdata (text ++ flat_map encode_utf8 run)
 opened_after_run other run = other
 

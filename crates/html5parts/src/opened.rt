@@ -10,8 +10,8 @@ use std::alloc::{Allocator, Global};
 pub struct Opened<A: Allocator = Global> {
     pub state: State,
     pub tag: CurrentTag<A>,
-    /// The comment that was begun, up to here, the text that is held of a CDATA section, or the
-    /// characters that may begin a keyword.
+    /// The comment or the processing instruction that was begun, up to here, the text that is held
+    /// of a CDATA section, or the characters that may begin a keyword.
     pub comment: String<A>,
     /// The DOCTYPE that was begun, up to here.
     pub doctype: Doctype<A>,

@@ -85,6 +85,7 @@ pub fn run_ends<A: Allocator>(at: &Opened<A>) -> Option<SmallCharSet>
         State::AttributeValue(kind) => Some(value_ends(kind)),
         State::RawData(kind) => Some(raw_ends(kind)),
         State::BogusComment => Some(SmallCharSet::of(b"\0\n\r>")),
+        State::ProcessingInstruction => Some(SmallCharSet::of(b"\0\n\r>")),
         State::CdataSection => section_ends(&at.comment),
         state if is_comment_state(state) => comment_ends(&at.comment),
         _ => None,
@@ -102,7 +103,7 @@ pub fn push_names<A: Allocator>(name: &mut String<A>, run: &str) -> Result<(), A
     Ok(())
 }
 
-/// Puts a run to the open name or value, or to the text of a comment or a section.
+/// Puts a run to the open name or value, or to the text of a comment, an instruction or a section.
 #[inline(always)]
 pub fn push_run<A: Allocator>(at: &mut Opened<A>, run: &str) -> Result<(), AllocError>
     requires is_run { IsRunAt (opened_of at.old) (chars run.now) }
@@ -117,6 +118,7 @@ pub fn push_run<A: Allocator>(at: &mut Opened<A>, run: &str) -> Result<(), Alloc
         State::AttributeName => push_names(&mut at.tag.attr_name, run)?,
         State::AttributeValue(_) => at.tag.attr_value.push_str(run)?,
         State::BogusComment => at.comment.push_str(run)?,
+        State::ProcessingInstruction => at.comment.push_str(run)?,
         State::CdataSection => at.comment.push_str(run)?,
         state if is_comment_state(state) => at.comment.push_str(run)?,
         _ => unreachable!(),

@@ -6,7 +6,7 @@ use Rattle.std.proofs.lemmas.Str.{encodes-chars}
 use Rattle.html5grammar.specs.Characters.{null, value_bytes}
 use Rattle.html5grammar.specs.Cdata.{open_cdata}
 use Rattle.html5grammar.specs.Start.{is_clean, held_len}
-use Rattle.html5grammar.specs.Start.Open.{InTag, InComment, InBogusComment}
+use Rattle.html5grammar.specs.Start.Open.{InTag, InComment, InBogusComment, InInstruction}
 use Rattle.html5grammar.specs.Start.Place.{InValue}
 use Rattle.html5parts.specs.CurrentTag.{open_tag}
 use Rattle.html5parts.specs.Runs.{run_ends, opened_after_run}
@@ -51,6 +51,13 @@ returns-in_ok-push_str-in-BogusComment-clause-run g c =
     let value : flat_map value_bytes run ≡ c.args.run.now =
     value_bytes-run run (All-weaker (λ d. ¬ Contains (run_ends c.requires.is_run.others) d) (λ d. d ≢ null) (no_null c.requires.is_run.others) run c.requires.is_run.ordinary) ∙ encodes-chars c.args.run.now c.utf8.run in
     rw c.in-BogusComment.is (ap InBogusComment (c.in_ok-push_str-in-BogusComment.ensures.bytes ∙ ap (λ l. string_bytes c.args.at.now.comment ++ l) (sym value)))
+
+pub returns-in_ok-push_str-in-ProcessingInstruction-clause-run : goal.returns-in_ok-push_str-in-ProcessingInstruction-clause-run
+returns-in_ok-push_str-in-ProcessingInstruction-clause-run g c =
+    let run = chars c.args.run.now in
+    let value : flat_map value_bytes run ≡ c.args.run.now =
+    value_bytes-run run (All-weaker (λ d. ¬ Contains (run_ends c.requires.is_run.others) d) (λ d. d ≢ null) (no_null c.requires.is_run.others) run c.requires.is_run.ordinary) ∙ encodes-chars c.args.run.now c.utf8.run in
+    rw c.in-ProcessingInstruction.is (ap InInstruction (c.in_ok-push_str-in-ProcessingInstruction.ensures.bytes ∙ ap (λ l. string_bytes c.args.at.now.comment ++ l) (sym value)))
 
 pub returns-in_ok-push_str-in-CdataSection-clause-run : goal.returns-in_ok-push_str-in-CdataSection-clause-run
 returns-in_ok-push_str-in-CdataSection-clause-run g c =
