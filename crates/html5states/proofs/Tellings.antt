@@ -24,7 +24,7 @@ use Rattle.html5states.specs.declared.teller.Teller.{Teller}
 use Rattle.html5parts.specs.declared.error.TokenizerError.{TokenizerError}
 use Rattle.html5parts.specs.declared.error.TokenizerError.TheVariants.{Memory, Sink, Failed}
 use Rattle.html5ever_interface.specs.declared.interface.token.Token.{Token}
-use Rattle.html5ever_interface.specs.declared.interface.token.Token.TheVariants.{DoctypeToken, TagToken, CommentToken, CharacterTokens, NullCharacterToken, EOFToken, ParseError}
+use Rattle.html5ever_interface.specs.declared.interface.token.Token.TheVariants.{DoctypeToken, TagToken, CommentToken, ProcessingInstructionToken, CharacterTokens, NullCharacterToken, EOFToken, ParseError}
 use Rattle.html5ever_interface.specs.Token.{Told, told_by}
 use Rattle.html5ever_interface.specs.Token.Told.{Text}
 
@@ -56,6 +56,7 @@ pub says-token : {Z : Type 0} → (token : Token Z) (line : ℕ) → tokens_in (
 says-token (DoctypeToken doctype) line filled = inl refl
 says-token (TagToken tag) line filled = inl refl
 says-token (CommentToken text) line filled = inl refl
+says-token (ProcessingInstructionToken text) line filled = inl refl
 says-token (CharacterTokens text) line filled =
     inr (
       map encode_utf8 (chars (string_bytes text)),
@@ -94,6 +95,7 @@ module _ {S : Type 0} (step faulted : S → Told → ℕ → S) where
   stepped-token joins empty s (DoctypeToken doctype) line = refl
   stepped-token joins empty s (TagToken tag) line = refl
   stepped-token joins empty s (CommentToken text) line = refl
+  stepped-token joins empty s (ProcessingInstructionToken text) line = refl
   stepped-token joins empty s (CharacterTokens text) line =
       stepped-utf8 joins empty s (string_bytes text) line (IsUtf8-string_bytes text)
   stepped-token joins empty s NullCharacterToken line = refl

@@ -180,6 +180,7 @@ impl<S: TokenSink<Token<A>>, A: Allocator + Copy> Teller<'_, S, A> {
             State::ScriptDataEscapeStart(ScriptEscapeKind::Escaped)
             | State::ScriptDataEscapeStartDash => self.tell(Token::EOFToken),
             State::BogusComment => self.end_behind_comment(&at.comment),
+            State::ProcessingInstruction => self.end_in_instruction(&at.comment),
             State::CdataSection => self.end_in_cdata(&at.comment),
             State::MarkupDeclarationOpen => unreachable!(),
             State::ScriptDataEscapeStart(ScriptEscapeKind::DoubleEscaped)

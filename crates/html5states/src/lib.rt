@@ -10,6 +10,7 @@ mod doctype_states;
 mod emit_tag;
 mod end_of_input;
 mod identifier_states;
+mod instruction_states;
 mod raw_states;
 mod references;
 mod step;

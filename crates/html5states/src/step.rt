@@ -50,6 +50,7 @@ impl<S: TokenSink<Token<A>>, A: Allocator + Copy> Teller<'_, S, A> {
             ),
             State::ScriptDataDoubleEscapeEnd => self.script_data_double_escape_end_state(at, c),
             State::BogusComment => self.bogus_comment_state(at, c),
+            State::ProcessingInstruction => self.processing_instruction_state(at, c),
             State::CdataSection => self.cdata_section_state(at, c),
             state if is_doctype_state(state) => self.step_in_doctype(at, c),
             State::MarkupDeclarationOpen => unreachable!(),

@@ -124,7 +124,11 @@ impl<S: TokenSink<Token<A>>, A: Allocator + Copy> Teller<'_, S, A> {
                 at.comment.clear();
                 Ok(Progress::Continues)
             }
-            '?' => self.create_bogus_comment(at, c, State::TagOpen),
+            '?' => {
+                at.state = State::ProcessingInstruction;
+                at.comment.clear();
+                Ok(Progress::Continues)
+            }
             _ => self.read_in_data(at, c),
         }
     }

@@ -1,0 +1,72 @@
+//! The state of processing instructions, which the standard doesn't have.
+#![tactic(auto, using(crate::proofs::Tellings::tells_from_memory), unfolding(html5grammar::proofs::Machine::instruction_step, html5parts::specs::Steps::tokens_of, html5parts::specs::Steps::behind, html5ever_interface::specs::Sink::stepped))]
+
+ghost use Rattle.std.specs.Prelude.{◌≡◌, ◌∷◌, [], string_bytes};
+ghost use Rattle.html5ever_interface.specs.Token.Told.{Instruction, End};
+ghost use Rattle.html5grammar.proofs.Machine.{instruction_step};
+ghost use Rattle.html5grammar.specs.ErrorText.{end_error_in};
+ghost use Rattle.html5states.specs.Telling.{Emits, Reads};
+
+use crate::teller::Teller;
+use html5ever_interface::interface::sink::TokenSink;
+use html5ever_interface::interface::token::Token;
+use html5ever_interface::states::State;
+use html5parts::current_tag::push_value;
+use html5parts::error::TokenizerError;
+use html5parts::opened::{Opened, Progress, Step};
+use std::alloc::Allocator;
+use std::mem;
+
+impl<S: TokenSink<Token<A>>, A: Allocator + Copy> Teller<'_, S, A> {
+    /// Reads a character of a processing instruction. Its `>` ends it; a `?` before that belongs to it.
+    pub fn processing_instruction_state(&mut self, at: &mut Opened<A>, c: char) -> Step
+        requires { at.old.state ≡ State.ProcessingInstruction }
+        ensures { Reads S.state S.faults S.step S.faulted result self.old self.new
+            (instruction_step self.old.exact_errors (string_bytes at.old.comment) c) at.old at.new }
+    {
+        if c == '>' {
+            let content = mem::replace(&mut at.comment, String::new(self.alloc));
+            at.state = State::Data;
+            self.emit_instruction(content)?;
+            return Ok(Progress::Continues);
+        }
+        push_value(&mut at.comment, c)?;
+        self.emit_unexpected_where(c == '\0', c, State::ProcessingInstruction)?;
+        Ok(Progress::Continues)
+    }
+
+    // Tells a processing instruction.
+    fn emit_instruction(&mut self, content: String<A>) -> Result<(), TokenizerError>
+        ensures { Emits S.state S.faults S.step S.faulted result self.old self.new
+            (Instruction (string_bytes content) ∷ []) }
+    {
+        self.tell(Token::ProcessingInstructionToken(content))
+    }
+
+    // Tells a processing instruction with that content.
+    fn emit_instruction_text(&mut self, content: &str) -> Result<(), TokenizerError>
+        ensures { Emits S.state S.faults S.step S.faulted result self.old self.new
+            (Instruction content.now ∷ []) }
+    {
+        self.emit_instruction(String::from_str(self.alloc, content)?)
+    }
+
+    // Ends behind a processing instruction with that content.
+    fn end_behind_instruction(&mut self, content: &str) -> Result<(), TokenizerError>
+        ensures { Emits S.state S.faults S.step S.faulted result self.old self.new
+            (Instruction content.now ∷ End ∷ []) }
+    {
+        self.emit_instruction_text(content)?;
+        self.tell(Token::EOFToken)
+    }
+
+    /// Ends in a processing instruction, which is told as far as it goes.
+    pub fn end_in_instruction(&mut self, content: &str) -> Result<(), TokenizerError>
+        ensures { Emits S.state S.faults S.step S.faulted result self.old self.new
+            (end_error_in self.old.exact_errors State.ProcessingInstruction
+            ∷ Instruction content.now ∷ End ∷ []) }
+    {
+        self.emit_end_error(State::ProcessingInstruction)?;
+        self.end_behind_instruction(content)
+    }
+}
