@@ -103,6 +103,7 @@ data-any_tag state.ScriptDataDoubleEscapeEnd at later e = cc
 data-any_tag state.MarkupDeclarationOpen at later e = cc
 data-any_tag state.Comment at later e = cc
 data-any_tag state.BogusComment at later e = cc
+data-any_tag state.ProcessingInstruction at later e = cc
 data-any_tag state.Doctype at later e = cc
 data-any_tag state.BeforeDoctypeName at later e = cc
 data-any_tag state.DoctypeName at later e = cc

@@ -9,7 +9,7 @@ use Rattle.html5ever_interface.specs.declared.states.State.TheVariants as state
 use Rattle.html5grammar.specs.Cdata.{open_cdata}
 use Rattle.html5grammar.specs.Start.{Open, is_undecided_open, held_len}
 use Rattle.html5grammar.specs.Start.Mode.{Data}
-use Rattle.html5grammar.specs.Start.Open.{Between, LessThan, LessThanSolidus, InTag, InRaw, InDeclaration, InComment, InBogusComment, InDoctype, InDoctypeKeyword, InCdata, InReference}
+use Rattle.html5grammar.specs.Start.Open.{Between, LessThan, LessThanSolidus, InTag, InRaw, InDeclaration, InComment, InBogusComment, InInstruction, InDoctype, InDoctypeKeyword, InCdata, InReference}
 use Rattle.html5parts.specs.CharRef.{HasStand, begun_reference, with_reference}
 use Rattle.html5parts.specs.CurrentTag.{open_of, behind_doctype_name}
 use Rattle.html5parts.specs.Runs.{IsRunAt}
@@ -31,6 +31,7 @@ is_decided (InRaw place name) h = record { no_reference = refl; no_keyword = ref
 is_decided (InDeclaration held) h = absurd (false≢true (sym h))
 is_decided (InComment text) h = record { no_reference = refl; no_keyword = refl; nothing_held = refl }
 is_decided (InBogusComment text) h = record { no_reference = refl; no_keyword = refl; nothing_held = refl }
+is_decided (InInstruction content) h = record { no_reference = refl; no_keyword = refl; nothing_held = refl }
 is_decided (InCdata text) h = record { no_reference = refl; no_keyword = refl; nothing_held = refl }
 is_decided (InDoctype place doctype) h = record { no_reference = refl; no_keyword = refl; nothing_held = refl }
 is_decided (InDoctypeKeyword held doctype) h = absurd (false≢true (sym h))
@@ -85,6 +86,7 @@ state-holds state.ScriptDataDoubleEscapeEnd at = (refl, refl)
 state-holds state.MarkupDeclarationOpen at = (refl, refl)
 state-holds state.Comment at = (refl, refl)
 state-holds state.BogusComment at = (refl, refl)
+state-holds state.ProcessingInstruction at = (refl, refl)
 state-holds state.Doctype at = (refl, refl)
 state-holds state.BeforeDoctypeName at = (refl, refl)
 state-holds state.DoctypeName at = (refl, refl)
@@ -115,6 +117,7 @@ keyword-undecided (InRaw place name) none = refl
 keyword-undecided (InDeclaration held) none = refl
 keyword-undecided (InComment text) none = refl
 keyword-undecided (InBogusComment text) none = refl
+keyword-undecided (InInstruction content) none = refl
 keyword-undecided (InCdata text) none = refl
 keyword-undecided (InDoctype place doctype) none = refl
 keyword-undecided (InDoctypeKeyword held doctype) none = refl

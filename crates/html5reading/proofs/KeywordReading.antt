@@ -10,7 +10,7 @@ use Rattle.html5grammar.specs.EndOfInput.{late_at_end_of, open_at_end_of}
 use Rattle.html5grammar.specs.Reading.{Brought}
 use Rattle.html5grammar.specs.Reading.Here.{Tells}
 use Rattle.html5grammar.specs.Start.{Open, Rules, is_undecided_open, held_len}
-use Rattle.html5grammar.specs.Start.Open.{Between, LessThan, LessThanSolidus, InTag, InRaw, InDeclaration, InComment, InBogusComment, InDoctype, InDoctypeKeyword, InCdata, InReference}
+use Rattle.html5grammar.specs.Start.Open.{Between, LessThan, LessThanSolidus, InTag, InRaw, InDeclaration, InComment, InBogusComment, InInstruction, InDoctype, InDoctypeKeyword, InCdata, InReference}
 use Rattle.html5parts.proofs.Keywords.{keyword-good, doctype_keyword-good}
 use Rattle.html5parts.specs.CharRef.{with_reference}
 use Rattle.html5reading.specs.Undecided.{GoesOn, EndsKeyword, asks, is_keyword_open}
@@ -85,6 +85,7 @@ brought-asked rules foreign (InTag place tag) c = refl
 brought-asked rules foreign (InRaw place name) c = refl
 brought-asked rules foreign (InComment text) c = refl
 brought-asked rules foreign (InBogusComment text) c = refl
+brought-asked rules foreign (InInstruction content) c = refl
 brought-asked rules foreign (InDoctype place doctype) c = refl
 brought-asked rules foreign (InDoctypeKeyword held doctype) c = refl
 brought-asked rules foreign (InCdata text) c = refl

@@ -7,7 +7,7 @@ use Rattle.html5grammar.specs.Reading.{told, messages, after}
 use Rattle.html5reading.specs.Runs.{ReadsRun}
 use Rattle.html5ever_interface.specs.Sink.{Message, stepped}
 use Rattle.html5grammar.specs.Start.{Start, Open, is_clean, Rules}
-use Rattle.html5grammar.specs.Start.Open.{Between, LessThan, LessThanSolidus, InTag, InRaw, InDeclaration, InComment, InBogusComment, InDoctype, InDoctypeKeyword, InCdata, InReference}
+use Rattle.html5grammar.specs.Start.Open.{Between, LessThan, LessThanSolidus, InTag, InRaw, InDeclaration, InComment, InBogusComment, InInstruction, InDoctype, InDoctypeKeyword, InCdata, InReference}
 use Rattle.html5states.specs.Telling.{Stops, IsRefusal}
 use Rattle.html5grammar.specs.NormalisedText.{input_after}
 use Rattle.std.specs.Result.{IsErrAnd}
@@ -40,6 +40,7 @@ opened_after_run-clean (InRaw place name) run clean = absurd (false≢true clean
 opened_after_run-clean (InDeclaration held) run clean = absurd (false≢true clean)
 opened_after_run-clean (InComment text) run clean = absurd (false≢true clean)
 opened_after_run-clean (InBogusComment text) run clean = absurd (false≢true clean)
+opened_after_run-clean (InInstruction content) run clean = absurd (false≢true clean)
 opened_after_run-clean (InCdata text) run clean = absurd (false≢true clean)
 opened_after_run-clean (InDoctype place doctype) run clean = absurd (false≢true clean)
 opened_after_run-clean (InDoctypeKeyword held doctype) run clean = absurd (false≢true clean)
@@ -54,6 +55,7 @@ run_tokens-clean (InRaw place name) run clean = absurd (false≢true clean)
 run_tokens-clean (InDeclaration held) run clean = absurd (false≢true clean)
 run_tokens-clean (InComment text) run clean = absurd (false≢true clean)
 run_tokens-clean (InBogusComment text) run clean = absurd (false≢true clean)
+run_tokens-clean (InInstruction content) run clean = absurd (false≢true clean)
 run_tokens-clean (InCdata text) run clean = absurd (false≢true clean)
 run_tokens-clean (InDoctype place doctype) run clean = absurd (false≢true clean)
 run_tokens-clean (InDoctypeKeyword held doctype) run clean = absurd (false≢true clean)
@@ -69,6 +71,7 @@ run_tokens-open (InRaw place name) run not_clean = refl
 run_tokens-open (InDeclaration held) run not_clean = refl
 run_tokens-open (InComment text) run not_clean = refl
 run_tokens-open (InBogusComment text) run not_clean = refl
+run_tokens-open (InInstruction content) run not_clean = refl
 run_tokens-open (InCdata text) run not_clean = refl
 run_tokens-open (InDoctype place doctype) run not_clean = refl
 run_tokens-open (InDoctypeKeyword held doctype) run not_clean = refl

@@ -19,7 +19,7 @@ use Rattle.html5grammar.specs.Characters.{null, line_feed, carriage_return}
 use Rattle.html5grammar.specs.NormalisedText.{with_line_feeds, without_dropped_first, normalised, line_after, input_after, ends_with_carriage_return}
 use Rattle.html5grammar.specs.Reading.{told, messages, after}
 use Rattle.html5grammar.specs.Start.{Input, Start, Open, Rules, is_undecided_open}
-use Rattle.html5grammar.specs.Start.Open.{Between, LessThan, LessThanSolidus, InTag, InRaw, InDeclaration, InComment, InBogusComment, InDoctype, InDoctypeKeyword, InCdata, InReference}
+use Rattle.html5grammar.specs.Start.Open.{Between, LessThan, LessThanSolidus, InTag, InRaw, InDeclaration, InComment, InBogusComment, InInstruction, InDoctype, InDoctypeKeyword, InCdata, InReference}
 use Rattle.html5grammar.proofs.InputLemmas.{line_past, line_after-none}
 use Rattle.html5grammar.proofs.NoTags.{NoTags}
 use Rattle.html5grammar.proofs.ReadingLemmas.{told-trace, after-opened, after-last}
@@ -151,6 +151,7 @@ no_tags-run (InRaw place name) run = tt
 no_tags-run (InDeclaration held) run = tt
 no_tags-run (InComment text) run = tt
 no_tags-run (InBogusComment text) run = tt
+no_tags-run (InInstruction content) run = tt
 no_tags-run (InCdata text) run = tt
 no_tags-run (InDoctype place doctype) run = tt
 no_tags-run (InDoctypeKeyword held doctype) run = tt

@@ -26,7 +26,7 @@ use Rattle.html5grammar.specs.Reading.{Brought, told, messages, after}
 use Rattle.html5grammar.specs.Reading.Here.{Tells}
 use Rattle.html5grammar.specs.Reference.{in_value, reference, is_undecided, ends_number, has_digits, late_tokens, opened_in, opened_behind}
 use Rattle.html5grammar.specs.Start.{Stand, Start, Open, Rules, is_undecided_open, held_len}
-use Rattle.html5grammar.specs.Start.Open.{Between, LessThan, LessThanSolidus, InTag, InRaw, InDeclaration, InComment, InBogusComment, InDoctype, InDoctypeKeyword, InCdata, InReference}
+use Rattle.html5grammar.specs.Start.Open.{Between, LessThan, LessThanSolidus, InTag, InRaw, InDeclaration, InComment, InBogusComment, InInstruction, InDoctype, InDoctypeKeyword, InCdata, InReference}
 use Rattle.html5grammar.specs.Start.Stand.{InText, InAttribute}
 use Rattle.html5parts.specs.CharRef.{stand_of, with_reference}
 use Rattle.html5parts.specs.Steps.{Leads}
@@ -128,6 +128,7 @@ end-none rules (InRaw place name) none = (refl, refl)
 end-none rules (InDeclaration held) none = absurd (false≢true (sym none))
 end-none rules (InComment text) none = (refl, refl)
 end-none rules (InBogusComment text) none = (refl, refl)
+end-none rules (InInstruction content) none = (refl, refl)
 end-none rules (InDoctype place doctype) none = (refl, refl)
 end-none rules (InDoctypeKeyword held doctype) none = absurd (false≢true (sym none))
 end-none rules (InCdata text) none = (refl, refl)
