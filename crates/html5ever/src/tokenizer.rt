@@ -32,7 +32,8 @@ pub use crate::tokenizer::whole::{read_pieces, read_whole};
 pub use html5ever_interface::interface::sink::{Says, TokenSink};
 pub use html5ever_interface::interface::token::TagKind::{EndTag, StartTag};
 pub use html5ever_interface::interface::token::Token::{
-    CharacterTokens, CommentToken, DoctypeToken, EOFToken, NullCharacterToken, ParseError, TagToken,
+    CharacterTokens, CommentToken, DoctypeToken, EOFToken, NullCharacterToken, ParseError,
+    ProcessingInstructionToken, TagToken,
 };
 pub use html5ever_interface::interface::token::{
     Doctype, ProcessResult, SinkFault, Tag, TagKind, Token, TokenSinkResult,

@@ -8,6 +8,7 @@ ghost use Rattle.html5ever_interface.specs.Sink.{stepped};
 ghost use Rattle.html5grammar.specs.OneCdata.{WrittenCdata, IsCdata, kept_messages};
 ghost use Rattle.html5grammar.specs.OneComment.{WrittenComment, IsComment, comment_messages};
 ghost use Rattle.html5grammar.specs.OneDoctype.{WrittenDoctype, IsDoctype, doctype_messages};
+ghost use Rattle.html5grammar.specs.OneInstruction.{WrittenInstruction, IsInstruction, instruction_messages};
 ghost use Rattle.html5grammar.specs.OneReference.{WrittenReference, IsReference, reference_messages};
 ghost use Rattle.html5grammar.specs.OneTag.{WrittenTag, IsTag, tag_messages};
 ghost use Rattle.html5grammar.specs.WrittenRaw.{WrittenRaw, IsRawText, raw_messages};
@@ -137,6 +138,31 @@ pub fn comment<A: Allocator + Copy>(
         IsComment (start_of (options_of opts)) foreign (chars (string_bytes text)) comment →
         sink.collected ≡ record {
           messages = comment_messages opts.exact_errors (start_of (options_of opts)).input comment;
+          finished = true;
+          foreign = foreign;
+        }) }
+    ensures no_fault { IfOk result (λ sink. sink.faults ≡ 0) }
+    ensures refusal { IfErr result IsRefusal }
+{
+    collect(alloc, opts, foreign, names, text)
+}
+
+/// Reads a whole text by a collector. Where the text is one processing instruction, written out, also
+/// one without its `>`, the collector then holds its errors, each at its character or at the end, the
+/// instruction, and the end.
+pub fn instruction<A: Allocator + Copy>(
+    alloc: A,
+    opts: TokenizerOpts<A>,
+    foreign: bool,
+    names: &NamedReferences<A>,
+    text: String<A>,
+) -> Result<Collector<A>, TokenizerError>
+    requires { CanStart opts.initial_state }
+    ensures reads { IfOk result (λ sink. sink.collected ≡ collected_of (options_of opts) names.now foreign (chars (string_bytes text))) }
+    ensures instruction { IfOk result (λ sink. (instruction : WrittenInstruction) →
+        IsInstruction (start_of (options_of opts)) (chars (string_bytes text)) instruction →
+        sink.collected ≡ record {
+          messages = instruction_messages opts.exact_errors (start_of (options_of opts)).input instruction;
           finished = true;
           foreign = foreign;
         }) }

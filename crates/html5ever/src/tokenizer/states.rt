@@ -1,4 +1,4 @@
-//! The standard's states, with their variants.
+//! The states: the standard's, and that of processing instructions, with their variants.
 pub use html5ever_interface::states::AttrValueKind::{DoubleQuoted, SingleQuoted, Unquoted};
 pub use html5ever_interface::states::DoctypeIdKind::{Public, System};
 pub use html5ever_interface::states::RawKind::{Rawtext, Rcdata, ScriptData, ScriptDataEscaped};
@@ -11,9 +11,10 @@ pub use html5ever_interface::states::State::{
     CommentEnd, CommentEndBang, CommentEndDash, CommentLessThanSign, CommentLessThanSignBang,
     CommentLessThanSignBangDash, CommentLessThanSignBangDashDash, CommentStart, CommentStartDash,
     Data, Doctype, DoctypeIdentifierDoubleQuoted, DoctypeIdentifierSingleQuoted, DoctypeName,
-    EndTagOpen, MarkupDeclarationOpen, Plaintext, RawData, RawEndTagName, RawEndTagOpen,
-    RawLessThanSign, ScriptDataDoubleEscapeEnd, ScriptDataEscapeStart, ScriptDataEscapeStartDash,
-    ScriptDataEscapedDash, ScriptDataEscapedDashDash, SelfClosingStartTag, TagName, TagOpen,
+    EndTagOpen, MarkupDeclarationOpen, Plaintext, ProcessingInstruction, RawData, RawEndTagName,
+    RawEndTagOpen, RawLessThanSign, ScriptDataDoubleEscapeEnd, ScriptDataEscapeStart,
+    ScriptDataEscapeStartDash, ScriptDataEscapedDash, ScriptDataEscapedDashDash,
+    SelfClosingStartTag, TagName, TagOpen,
 };
 pub use html5ever_interface::states::{
     AttrValueKind, DoctypeIdKind, RawKind, ScriptEscapeKind, State,
