@@ -6,7 +6,7 @@ use Rattle.markup5ever.specs.Names.{AttributeOf}
 use Rattle.html5print.specs.Replies.{reply_to_tag}
 use Rattle.html5ever_interface.specs.Sink.{Message}
 use Rattle.html5ever_interface.specs.Token.{is_text, Told, TagOf, DoctypeOf, Reply}
-use Rattle.html5ever_interface.specs.Token.Told.{Text, Null, Error, Tag, Comment, Doctype, End}
+use Rattle.html5ever_interface.specs.Token.Told.{Text, Null, Error, Tag, Comment, Instruction, Doctype, End}
 use Rattle.html5ever_interface.specs.Token.Reply.{RunScript, SwitchEncoding}
 use Rattle.html5ever_interface.specs.declared.interface.token.TagKind.{TagKind}
 use Rattle.html5ever_interface.specs.declared.interface.token.TagKind.TheVariants.{StartTag, EndTag}
@@ -106,6 +106,7 @@ printed_line Null line = line_with_number (codes "null ") line
 printed_line (Error message) line = line_with_text (codes "error ") line message
 printed_line (Tag tag) line = tag_line tag line ++ pause_line (reply_to_tag tag)
 printed_line (Comment text) line = line_with_text (codes "comment ") line text
+printed_line (Instruction content) line = line_with_text (codes "pi ") line content
 printed_line (Doctype doctype) line = doctype_line doctype line
 printed_line End line = line_with_number (codes "eof ") line
 

@@ -188,6 +188,9 @@ pub fn push_token<A: Allocator + Copy>(
         Token::CommentToken(text) => {
             push_line_with_text(page, in_text, "comment ", line, text.as_bytes())
         }
+        Token::ProcessingInstructionToken(content) => {
+            push_line_with_text(page, in_text, "pi ", line, content.as_bytes())
+        }
         Token::CharacterTokens(text) => push_text(page, in_text, text.as_bytes()),
         Token::NullCharacterToken => push_line_with_number(page, in_text, "null ", line),
         Token::EOFToken => push_line_with_number(page, in_text, "eof ", line),
