@@ -6,7 +6,7 @@ use Rattle.std.specs.Str.{chars}
 use Rattle.std.proofs.lemmas.List.{append-nil, append_assoc, map-append}
 use Rattle.html5ever_interface.specs.Sink.{Message, stepped, on_line}
 use Rattle.html5ever_interface.specs.Token.{Told, Reply}
-use Rattle.html5ever_interface.specs.Token.Told.{Text, Comment, End}
+use Rattle.html5ever_interface.specs.Token.Told.{Text, Comment, Instruction, End}
 use Rattle.html5ever_interface.specs.declared.states.State.TheVariants as state
 use Rattle.html5grammar.specs.Comment.{comment_content, comment_state}
 use Rattle.html5grammar.specs.Doctype.{with_quirks}
@@ -18,7 +18,7 @@ use Rattle.html5grammar.specs.Reading.TextPlace.{EndOfInput}
 use Rattle.html5grammar.specs.Start.{Start, Mode, Open, Rules, start_of}
 use Rattle.html5grammar.specs.Start.Mode.{Data, Plain, RawText, Cdata}
 use Rattle.html5grammar.specs.Start.DoctypePlace.{Skipped}
-use Rattle.html5grammar.specs.Start.Open.{Between, LessThan, LessThanSolidus, InTag, InRaw, InDeclaration, InComment, InBogusComment, InDoctype, InDoctypeKeyword, InCdata, InReference}
+use Rattle.html5grammar.specs.Start.Open.{Between, LessThan, LessThanSolidus, InTag, InRaw, InDeclaration, InComment, InBogusComment, InInstruction, InDoctype, InDoctypeKeyword, InCdata, InReference}
 use Rattle.html5grammar.specs.Start.Place.{InValue}
 use Rattle.html5grammar.specs.Start.Stand.{InText, InAttribute}
 use Rattle.html5grammar.proofs.ReadingLemmas.{reading-events}
@@ -52,6 +52,7 @@ told_at_end_of-ends rules (InRaw place name) = (told_at_raw_end rules.exact plac
 told_at_end_of-ends rules (InDeclaration held) = (Comment held ∷ [], refl)
 told_at_end_of-ends rules (InComment text) = (end_error_in rules.exact (comment_state state.CommentEnd text) ∷ Comment (comment_content text) ∷ [], refl)
 told_at_end_of-ends rules (InBogusComment text) = (Comment text ∷ [], refl)
+told_at_end_of-ends rules (InInstruction content) = (end_error_in rules.exact state.ProcessingInstruction ∷ Instruction content ∷ [], refl)
 told_at_end_of-ends rules (InDoctype place doctype) = (told_at_doctype_end rules.exact place doctype, refl)
 told_at_end_of-ends rules (InDoctypeKeyword held doctype) = (told_at_doctype_end rules.exact Skipped (with_quirks doctype), refl)
 told_at_end_of-ends rules (InCdata text) = (Text text ∷ end_error_in rules.exact state.CdataSection ∷ [], refl)
