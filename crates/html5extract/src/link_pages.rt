@@ -49,7 +49,9 @@ impl<W: Target + Drop> Filter<W> for Links<W> {
 
     ghost handed = { tags_handed links_step };
 
-    fn new(alloc: Global, printer: Printer<W>) -> Links<W> {
+    fn new(alloc: Global, printer: Printer<W>) -> Links<W>
+        ensures { result.printer.printed ≡ printer.printed }
+    {
         Links { alloc, printer }
     }
 
@@ -62,7 +64,9 @@ impl<W: Target + Drop> Filter<W> for Links<W> {
         read_links(alloc, source, self, names)
     }
 
-    fn into_printer(self) -> Printer<W> {
+    fn into_printer(self) -> Printer<W>
+        ensures { result.printed ≡ self.printer.printed }
+    {
         self.printer
     }
 }

@@ -48,7 +48,9 @@ impl<W: Target + Drop> Filter<W> for PageText<W> {
 
     ghost handed = { runs_handed text_step };
 
-    fn new(alloc: Global, printer: Printer<W>) -> PageText<W> {
+    fn new(alloc: Global, printer: Printer<W>) -> PageText<W>
+        ensures { result.printer.printed ≡ printer.printed }
+    {
         PageText::new(printer)
     }
 
@@ -61,7 +63,9 @@ impl<W: Target + Drop> Filter<W> for PageText<W> {
         read_text(alloc, source, self, names)
     }
 
-    fn into_printer(self) -> Printer<W> {
+    fn into_printer(self) -> Printer<W>
+        ensures { result.printed ≡ self.printer.printed }
+    {
         self.into_inner()
     }
 }

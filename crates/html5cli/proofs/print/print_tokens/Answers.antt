@@ -1,7 +1,6 @@
-use Rattle.std.proofs.Common.{◌≡◌, ℕ, List, inr, ap, subst, ◌∙◌, string_bytes, Err}
+use Rattle.std.proofs.Common.{◌≡◌, ℕ, List, inr, ap, refl, subst, ◌∙◌, string_bytes}
 use Rattle.std.specs.Io.KnownBytes.{Appends}
 use Rattle.std.specs.Str.{IsUtf8}
-use Rattle.std.proofs.lemmas.Bool.{false≢true}
 use Rattle.std.proofs.lemmas.Result.{on_ok_weaker, on_err_weaker}
 use Rattle.std.proofs.lemmas.Str.{IsUtf8-string_bytes}
 use Rattle.devices.specs.Device.{AppendsBeginning}
@@ -11,37 +10,37 @@ use Rattle.html5cli.specs.Settings.{said_by}
 use Rattle.html5cli.proofs.PrintedPages.{Consumes-whole, Keeps-same}
 use Rattle.html5cli.proofs.print.print_tokens.Goals as goal
 
-pub returns-in_default-clause-not_utf8 : goal.returns-in_default-clause-not_utf8
-returns-in_default-clause-not_utf8 g c = λ _. record {
+pub returns-in_err-text-clause-not_utf8 : goal.returns-in_err-text-clause-not_utf8
+returns-in_err-text-clause-not_utf8 g c = λ _. record {
   bytes = c.in_ok-bytes.bytes.items;
   consumed = Consumes-whole _ _ c.in_ok-bytes.bytes.items c.in_ok-bytes.ensures.ok c.in_ok-bytes.ensures.end c.in_ok-bytes.ensures.in_order;
   at_end = c.in_ok-bytes.ensures.end;
-  no_utf8 = λ utf8. false≢true (c.in_default.ensures.succeeds utf8);
+  no_utf8 = c.in_err-text.ensures.not_utf8.0 refl;
   kept = Keeps-same _;
 }
 
 pub returns-clause-ok : goal.returns-clause-ok
 returns-clause-ok g c =
-    let text : string_bytes c.in-Ok.text ≡ c.in_ok-bytes.bytes.items = ap (λ v. v.items) c.in-Ok.ensures.ok in
+    let text : string_bytes c.in_ok-text.text ≡ c.in_ok-bytes.bytes.items = c.in_ok-text.ensures.ok in
     let page : c.page.result.now ≡ printed_reading (said_by c.args.settings.now) c.args.names.now c.in_ok-bytes.bytes.items =
     c.page.ensures ∙ c.in_ok-sink.ensures.ok ∙ ap (λ (l : List ℕ). printed_reading (said_by c.args.settings.now) c.args.names.now l) text in
     on_ok_weaker c.write_all.result (λ written. record {
       bytes = c.in_ok-bytes.bytes.items;
       consumed = Consumes-whole _ _ c.in_ok-bytes.bytes.items c.in_ok-bytes.ensures.ok c.in_ok-bytes.ensures.end c.in_ok-bytes.ensures.in_order;
       at_end = c.in_ok-bytes.ensures.end;
-      utf8 = subst (λ (l : List ℕ). IsUtf8 l) text (IsUtf8-string_bytes c.in-Ok.text);
+      utf8 = subst (λ (l : List ℕ). IsUtf8 l) text (IsUtf8-string_bytes c.in_ok-text.text);
       printed = subst (λ (l : List ℕ). Appends (g.W.Target.contents c.args.writer.now) (g.W.Target.contents c.write_all.new.target) l) page written;
     }) c.write_all.ensures.ok
 
 pub returns-clause-beginning : goal.returns-clause-beginning
 returns-clause-beginning g c =
-    let text : string_bytes c.in-Ok.text ≡ c.in_ok-bytes.bytes.items = ap (λ v. v.items) c.in-Ok.ensures.ok in
+    let text : string_bytes c.in_ok-text.text ≡ c.in_ok-bytes.bytes.items = c.in_ok-text.ensures.ok in
     let page : c.page.result.now ≡ printed_reading (said_by c.args.settings.now) c.args.names.now c.in_ok-bytes.bytes.items =
     c.page.ensures ∙ c.in_ok-sink.ensures.ok ∙ ap (λ (l : List ℕ). printed_reading (said_by c.args.settings.now) c.args.names.now l) text in
     on_err_weaker c.write_all.result (λ written. inr (record {
       bytes = c.in_ok-bytes.bytes.items;
       consumed = Consumes-whole _ _ c.in_ok-bytes.bytes.items c.in_ok-bytes.ensures.ok c.in_ok-bytes.ensures.end c.in_ok-bytes.ensures.in_order;
       at_end = c.in_ok-bytes.ensures.end;
-      utf8 = subst (λ (l : List ℕ). IsUtf8 l) text (IsUtf8-string_bytes c.in-Ok.text);
+      utf8 = subst (λ (l : List ℕ). IsUtf8 l) text (IsUtf8-string_bytes c.in_ok-text.text);
       printed = subst (λ (l : List ℕ). AppendsBeginning (g.W.Target.contents c.args.writer.now) (g.W.Target.contents c.write_all.new.target) l) page written;
     })) c.write_all.ensures.err
