@@ -4,7 +4,7 @@ ghost use Rattle.html5reading.specs.Starting.{CanStart};
 use crate::script::{Law, Whole};
 use caselines::Stop;
 use html5ever::TokenizerError;
-use html5ever::tokenizer::laws::{cdata, comment, doctype, raw, reference, tag};
+use html5ever::tokenizer::laws::{cdata, comment, doctype, instruction, raw, reference, tag};
 use html5ever::tokenizer::steps::{Step, run_steps};
 use html5ever::tokenizer::whole::{read_pieces, read_whole};
 use html5ever_interface::collect::Collector;
@@ -80,6 +80,7 @@ pub fn read_item<A: Allocator + Copy>(
         Law::Tag => tag(alloc, opts, foreign, names, text),
         Law::Reference => reference(alloc, opts, foreign, names, text),
         Law::Comment => comment(alloc, opts, foreign, names, text),
+        Law::Instruction => instruction(alloc, opts, foreign, names, text),
         Law::Doctype => doctype(alloc, opts, foreign, names, text),
         Law::Cdata => cdata(alloc, opts, foreign, names, text),
         Law::Raw => raw(alloc, opts, foreign, names, text),

@@ -76,6 +76,7 @@ pub fn token_of<A: Allocator + Copy>(
         "text" => text_of(alloc, text),
         "error" => Ok(Token::ParseError(String::from_str(alloc, text)?)),
         "comment" => Ok(Token::CommentToken(String::from_str(alloc, text)?)),
+        "pi" => Ok(Token::ProcessingInstructionToken(String::from_str(alloc, text)?)),
         "start" => tag_of(alloc, TagKind::StartTag, text),
         "end tag" => tag_of(alloc, TagKind::EndTag, text),
         "meta" => meta_of(alloc, text),

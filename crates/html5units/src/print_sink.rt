@@ -16,7 +16,7 @@ fn prints_the_last_line_of_all(rt: HostRuntime) {
 }
 
 // Tokens of each kind. Most are behind a text, so they close it.
-const TOKENS: [(&str, &str); 12] = [
+const TOKENS: [(&str, &str); 14] = [
     ("text", "a text with \u{1} and \" in it"),
     ("error", "an error with\nlines in it"),
     ("doctype", "a \"quoted\" place"),
@@ -31,6 +31,8 @@ const TOKENS: [(&str, &str); 12] = [
     ),
     ("null", ""),
     ("comment", "a comment with \u{1f} in it"),
+    ("text", "b"),
+    ("pi", "an \"instruction\"?"),
     ("end", ""),
 ];
 

@@ -39,6 +39,7 @@ fn states_have_their_names(rt: HostRuntime) {
             "DoctypeIdentifierDoubleQuoted(System)",
         ),
         (State::CdataSectionEnd, "CdataSectionEnd"),
+        (State::ProcessingInstruction, "ProcessingInstruction"),
     ];
     for (state, name) in names {
         assert_eq!(rt; state.name(), name);
@@ -70,6 +71,7 @@ fn four_kinds_of_states_read_text(rt: HostRuntime) {
 #[test]
 fn states_are_ordered_as_declared(rt: HostRuntime) {
     assert!(rt; State::Data < State::CdataSectionEnd);
+    assert!(rt; State::CdataSectionEnd < State::ProcessingInstruction);
     assert!(rt; State::RawData(RawKind::ScriptData) < State::RawLessThanSign(RawKind::Rcdata));
     assert!(rt;
         State::AttributeValue(AttrValueKind::Unquoted)

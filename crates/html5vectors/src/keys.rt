@@ -34,6 +34,7 @@ fn states_are_keys_in_their_order(rt: HostRuntime) -> Result<(), Fail> {
     let alloc = rt.alloc();
     let escaped = RawKind::ScriptDataEscaped(ScriptEscapeKind::Escaped);
     let states = [
+        State::ProcessingInstruction,
         State::CdataSectionEnd,
         State::RawData(escaped),
         State::Data,
@@ -46,9 +47,9 @@ fn states_are_keys_in_their_order(rt: HostRuntime) -> Result<(), Fail> {
         assert!(rt; hashed.insert(state).is_ok());
         assert!(rt; ordered.insert(state).is_ok());
     }
-    assert_eq!(rt; hashed.len(), 4);
+    assert_eq!(rt; hashed.len(), 5);
     assert!(rt; ordered.first() == Some(&State::Data));
-    assert!(rt; ordered.last() == Some(&State::CdataSectionEnd));
+    assert!(rt; ordered.last() == Some(&State::ProcessingInstruction));
     assert!(rt; State::RawData(RawKind::Rcdata) < State::RawData(escaped));
     Ok(())
 }

@@ -125,6 +125,9 @@ fn push_token<A: Allocator>(
         Token::DoctypeToken(doctype) => push_doctype(alloc, out, doctype, line),
         Token::TagToken(tag) => push_tag(alloc, out, tag, line),
         Token::CommentToken(text) => push_message(alloc, out, "comment", line, text.as_str()),
+        Token::ProcessingInstructionToken(content) => {
+            push_message(alloc, out, "pi", line, content.as_str())
+        }
         Token::CharacterTokens(text) => {
             out.push_str("text ")?;
             push_quoted(alloc, out, text.as_str())
