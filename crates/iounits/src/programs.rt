@@ -111,20 +111,20 @@ fn run_on<R: Files + Alloc<A = Global>, I: Read + Drop>(
     (status, said)
 }
 
-// A page, what a program prints of it, and how much of that stands fast behind so many of its bytes.
+// A page, what a program prints of it, and what of that after so many of its bytes.
 #[derive(Clone, Copy)]
 struct Page {
     taken: Taken,
     bytes: &'static [u8],
     printed: &'static str,
-    fast: &'static [(usize, usize)],
+    after: &'static [(usize, &'static str)],
 }
 
 const LINKS: Page = Page {
     taken: Taken::Links,
     bytes: b"<a href=x>y<a href=z>",
     printed: "1 x\n1 z\n",
-    fast: &[(0, 0), (10, 4), (21, 8)],
+    after: &[(0, ""), (10, "1 x\n"), (21, "1 x\n1 z\n")],
 };
 
 // The last run of text ends at the end of the page.
@@ -132,15 +132,15 @@ const TEXT: Page = Page {
     taken: Taken::Text,
     bytes: b"a<p>bc",
     printed: "abc",
-    fast: &[(0, 0), (4, 1), (7, 3)],
+    after: &[(0, ""), (4, "a"), (7, "abc")],
 };
 
-// How many bytes are printed of the page where so many reads went well.
-fn printed_after(page: Page, reads: usize) -> usize {
-    let mut printed = 0;
-    for (from, count) in page.fast {
+// What is printed of the page where so many reads went well.
+fn printed_after(page: Page, reads: usize) -> &'static str {
+    let mut printed = "";
+    for (from, lines) in page.after {
         if *from <= reads {
-            printed = *count;
+            printed = lines;
         }
     }
     printed
@@ -162,8 +162,12 @@ fn check_reads(rt: &(impl Abort + Files + Alloc<A = Global>), page: Page, reads:
     };
     assert_eq!(rt; status, if is_whole { 0 } else { 1 }, "after {reads}");
     assert_eq!(rt; said.as_slice(), wanted.as_bytes(), "after {reads}");
-    let printed = &page.printed.as_bytes()[..printed_after(page, reads)];
-    assert_eq!(rt; stdout.taken.as_slice(), printed, "after {reads}");
+    let printed = printed_after(page, reads);
+    assert_eq!(rt;
+        stdout.taken.as_slice(),
+        printed.as_bytes(),
+        "after {reads}"
+    );
 }
 
 #[test]
