@@ -84,7 +84,7 @@ impl<'t, Sink: TokenSink<Token<A>>, A: Allocator + Copy> Tokenizer<'t, Sink, A> 
         names: &'t NamedReferences<A>,
     ) -> Tokenizer<'t, Sink, A>
         requires { CanStart opts.initial_state }
-        ensures stands { StandsAt Sink.state Sink.step Sink.reply Sink.foreign result (start_of (options_of opts)) (Sink.state sink) [] }
+        ensures stands { StandsAt Sink.means.state Sink.means.step Sink.means.reply Sink.means.foreign result (start_of (options_of opts)) (Sink.means.state sink) [] }
         ensures rules { result.rules ≡ rules_of (options_of opts) names.now }
         ensures sink { result.sink ≡ sink }
     {
@@ -114,11 +114,11 @@ impl<'t, Sink: TokenSink<Token<A>>, A: Allocator + Copy> Tokenizer<'t, Sink, A> 
         // What an `Ok` says: a beginning of the queue's text was taken, and exactly what it decides
         // was told; the rest waits, and the answer is the reply that pauses.
         ensures reads { OnOk result
-            (FeedsOn Sink.state Sink.step Sink.reply Sink.foreign self.old self.new queue.old.text) }
-        ensures answer { IfOk result (λ answer. HandsOn Sink.state Sink.step Sink.reply Sink.foreign self.old queue.old.text
+            (FeedsOn Sink.means.state Sink.means.step Sink.means.reply Sink.means.foreign self.old self.new queue.old.text) }
+        ensures answer { IfOk result (λ answer. HandsOn Sink.means.state Sink.means.step Sink.means.reply Sink.means.foreign self.old queue.old.text
             (reply_in string_bytes answer)) }
         ensures left { OnOk result
-            (LeavesWaiting Sink.state Sink.step Sink.reply Sink.foreign self.old queue.old.text queue.new.text) }
+            (LeavesWaiting Sink.means.state Sink.means.step Sink.means.reply Sink.means.foreign self.old queue.old.text queue.new.text) }
         ensures done { result ≡ Ok TokenizerResult.Done → queue.new.text ≡ [] }
         ensures shorter { IfOk result (λ answer. answer ≢ TokenizerResult.Done
             → length queue.new.text < length queue.old.text) }
@@ -127,10 +127,10 @@ impl<'t, Sink: TokenSink<Token<A>>, A: Allocator + Copy> Tokenizer<'t, Sink, A> 
         ensures failed_before { (result ≡ Err TokenizerError.Failed) ↔ (self.old.failed ≡ true) }
         ensures unchanged { self.old.failed ≡ true
             → (self.new ≡ self.old) × (queue.new ≡ queue.old) }
-        ensures stops { IfErr result (λ error. StopsFeeding Sink.state Sink.step Sink.reply Sink.foreign Sink.faulted
-            error self.old queue.old.text (Sink.state self.new.sink)) }
-        ensures refused { IfErr result (λ error. error ≢ TokenizerError.Failed → LeavesRefused Sink.state Sink.step Sink.reply Sink.foreign
-            Sink.faulted error self.old queue.old.text queue.new.text (Sink.state self.new.sink)) }
+        ensures stops { IfErr result (λ error. StopsFeeding Sink.means.state Sink.means.step Sink.means.reply Sink.means.foreign Sink.means.faulted
+            error self.old queue.old.text (Sink.means.state self.new.sink)) }
+        ensures refused { IfErr result (λ error. error ≢ TokenizerError.Failed → LeavesRefused Sink.means.state Sink.means.step Sink.means.reply Sink.means.foreign
+            Sink.means.faulted error self.old queue.old.text queue.new.text (Sink.means.state self.new.sink)) }
         ensures faults { Sink.faults self.new.sink ≡ Sink.faults self.old.sink + faults_of result }
         ensures failed { self.new.failed ≡ is_err result }
         ensures end_of_queue { IsEndOf queue.new.text queue.old.text }
@@ -163,13 +163,13 @@ impl<'t, Sink: TokenSink<Token<A>>, A: Allocator + Copy> Tokenizer<'t, Sink, A> 
 
         // What an `Ok` says: the whole reading was told, and the sink has finished.
         ensures finishes { OnOk result
-            (Finishes Sink.state Sink.step Sink.reply Sink.foreign Sink.finish self.old (Sink.state self.new.sink)) }
+            (Finishes Sink.means.state Sink.means.step Sink.means.reply Sink.means.foreign Sink.means.finish self.old (Sink.means.state self.new.sink)) }
 
         // When each error comes, and what it leaves.
         ensures failed_before { (result ≡ Err TokenizerError.Failed) ↔ (self.old.failed ≡ true) }
         ensures unchanged { self.old.failed ≡ true → self.new ≡ self.old }
-        ensures stops { IfErr result (λ error. StopsEnding Sink.state Sink.step Sink.reply Sink.foreign Sink.faulted
-            Sink.end_faulted error self.old (Sink.state self.new.sink)) }
+        ensures stops { IfErr result (λ error. StopsEnding Sink.means.state Sink.means.step Sink.means.reply Sink.means.foreign Sink.means.faulted
+            Sink.means.end_faulted error self.old (Sink.means.state self.new.sink)) }
         ensures faults { Sink.faults self.new.sink ≡ Sink.faults self.old.sink + faults_of result }
         ensures failed { self.new.failed ≡ is_err result }
         ensures ended { self.new.ended ≡ is_ok result }
@@ -187,11 +187,11 @@ impl<'t, Sink: TokenSink<Token<A>>, A: Allocator + Copy> Tokenizer<'t, Sink, A> 
     pub fn finish(mut self) -> (Sink, Result<(), TokenizerError>)
         requires { self.ended ≡ false }
         ensures finishes { OnOk result.1
-            (Finishes Sink.state Sink.step Sink.reply Sink.foreign Sink.finish self.entry (Sink.state result.0)) }
+            (Finishes Sink.means.state Sink.means.step Sink.means.reply Sink.means.foreign Sink.means.finish self.entry (Sink.means.state result.0)) }
         ensures failed_before { (result.1 ≡ Err TokenizerError.Failed) ↔ (self.entry.failed ≡ true) }
         ensures unchanged { self.entry.failed ≡ true → result.0 ≡ self.entry.sink }
-        ensures stops { IfErr result.1 (λ error. StopsEnding Sink.state Sink.step Sink.reply Sink.foreign Sink.faulted
-            Sink.end_faulted error self.entry (Sink.state result.0)) }
+        ensures stops { IfErr result.1 (λ error. StopsEnding Sink.means.state Sink.means.step Sink.means.reply Sink.means.foreign Sink.means.faulted
+            Sink.means.end_faulted error self.entry (Sink.means.state result.0)) }
         ensures faults { Sink.faults result.0 ≡ Sink.faults self.entry.sink + faults_of result.1 }
     {
         let result = self.end();
@@ -204,10 +204,10 @@ impl<'t, Sink: TokenSink<Token<A>>, A: Allocator + Copy> Tokenizer<'t, Sink, A> 
     pub fn nothing_pending(&self) -> bool
         ensures exact { result ≡ (is_clean self.now.position.opened && not self.now.failed && not self.now.ended) }
         ensures clean { (K : Start) (s : Sink.State) (text : List ℕ)
-            → StandsAt Sink.state Sink.step Sink.reply Sink.foreign self.now K s text
-            → result ≡ is_clean (after Sink.step Sink.reply Sink.foreign self.now.rules K s text).opened }
+            → StandsAt Sink.means.state Sink.means.step Sink.means.reply Sink.means.foreign self.now K s text
+            → result ≡ is_clean (after Sink.means.step Sink.means.reply Sink.means.foreign self.now.rules K s text).opened }
         ensures anew { result ≡ true → (x : Sink)
-            → StandsAt Sink.state Sink.step Sink.reply Sink.foreign (record self.now { sink = x }) self.now.position (Sink.state x) [] }
+            → StandsAt Sink.means.state Sink.means.step Sink.means.reply Sink.means.foreign (record self.now { sink = x }) self.now.position (Sink.means.state x) [] }
     {
         if self.failed || self.ended {
             return false;
@@ -220,8 +220,8 @@ impl<'t, Sink: TokenSink<Token<A>>, A: Allocator + Copy> Tokenizer<'t, Sink, A> 
         requires clean { is_clean self.old.position.opened ≡ true }
         requires not_failed { self.old.failed ≡ false }
         requires going_on { self.old.ended ≡ false }
-        ensures anew { (x : Sink) → StandsAt Sink.state Sink.step Sink.reply Sink.foreign (record self.new { sink = x })
-            (record self.old.position { opened = Between Plain }) (Sink.state x) [] }
+        ensures anew { (x : Sink) → StandsAt Sink.means.state Sink.means.step Sink.means.reply Sink.means.foreign (record self.new { sink = x })
+            (record self.old.position { opened = Between Plain }) (Sink.means.state x) [] }
         ensures sink { self.new.sink ≡ self.old.sink }
         ensures rules { self.new.rules ≡ self.old.rules }
     {
@@ -258,10 +258,10 @@ fn tell_end<S: TokenSink<Token<A>>, A: Allocator + Copy>(
     position: &mut Position<A>,
 ) -> Result<(), TokenizerError>
     ensures ok { OnOk result
-        (S.state sink.new ≡ S.finish (stepped S.step (S.state sink.old)
+        (S.means.state sink.new ≡ S.means.finish (stepped S.means.step (S.means.state sink.old)
         (on_line position.old.input.line (tokens_at_end rules.now position.old.opened)))) }
-    ensures err { IfErr result (λ error. EndStops S.step S.faulted S.end_faulted error
-        (S.state sink.old) (on_line position.old.input.line (tokens_at_end rules.now position.old.opened)) (S.state sink.new)) }
+    ensures err { IfErr result (λ error. EndStops S.means.step S.means.faulted S.means.end_faulted error
+        (S.means.state sink.old) (on_line position.old.input.line (tokens_at_end rules.now position.old.opened)) (S.means.state sink.new)) }
     ensures faults { S.faults sink.new ≡ S.faults sink.old + faults_of result }
     ensures fits { position.old.input.line < 2 ^ 64 }
 {

@@ -1,6 +1,22 @@
--- The messages that a sink is told, and the state that telling them leaves.
-use Rattle.std.specs.Prelude.{ℕ, List, [], ◌∷◌, map}
-use Rattle.html5ever_interface.specs.Token.{Told}
+-- What a sink makes of what it is told: messages, and the state that telling them leaves.
+use Rattle.std.specs.Prelude.{ℕ, Bool, List, [], ◌∷◌, map}
+use Rattle.html5ever_interface.specs.Token.{Told, Reply}
+
+-- what a sink of the type X, with the states S and the scripts H, makes of what it is told
+pub record Means (X S H : Type 0) : Type 0 where
+  -- the state that a sink has
+  pub state : X → S
+  -- what a token, handed with a line, makes of the state
+  pub step : S → Told → ℕ → S
+  -- what is replied to it
+  pub reply : S → Told → ℕ → Reply H
+  -- the answer about foreign content
+  pub foreign : S → Bool
+  -- what the end makes of the state
+  pub finish : S → S
+  -- what a fault at a token leaves, and a fault at the end
+  pub faulted : S → Told → ℕ → S
+  pub end_faulted : S → S
 
 -- a token with the line that is handed with it
 pub record Message : Type 0 where

@@ -131,21 +131,17 @@ impl<A: Allocator + Copy> TokenSink<Token<A>> for Collector<A> {
 
     ghost State = { Collected };
 
-    ghost state = { λ c. c.collected };
+    ghost means = { record {
+      state = λ c. c.collected;
+      step = collected_step;
+      reply = collected_reply;
+      foreign = collected_foreign;
+      finish = collected_finish;
+      faulted = collected_faulted;
+      end_faulted = λ c. c;
+    } };
 
     ghost faults = { λ c. c.faults };
-
-    ghost step = { collected_step };
-
-    ghost reply = { collected_reply };
-
-    ghost foreign = { collected_foreign };
-
-    ghost finish = { collected_finish };
-
-    ghost faulted = { collected_faulted };
-
-    ghost end_faulted = { λ c. c };
 
     ghost joins = { collected_joins };
 

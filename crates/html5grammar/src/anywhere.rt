@@ -32,19 +32,19 @@ use std::alloc::Allocator;
 pub fn tag<S: TokenSink<Token<A>>, A: Allocator>()
     ensures { (rules : Rules) (K : Start) (s : S.State) (Y : List ℕ) (tag : WrittenTag) → IsTag K Y tag
         → let M : List Message = spelled_messages rules.exact K.input [] (spelled rules.exact tag) in
-        TellsByItself S.step S.reply S.foreign rules K s Y M (start_behind_tag S.step S.reply K s Y (tag_told tag) M) }
+        TellsByItself S.means.step S.means.reply S.means.foreign rules K s Y M (start_behind_tag S.means.step S.means.reply K s Y (tag_told tag) M) }
 {}
 
 /// A character reference, before a text whose first character decides it and is no part of it; a
 /// number with its semicolon is decided before any text.
 pub fn reference<S: TokenSink<Token<A>>, A: Allocator>()
     ensures number { (rules : Rules) (K : Start) (s : S.State) (Y : List ℕ) (x : Option ℕ) (digits : List ℕ) → IsReference rules.names K Y (Number x digits true)
-        → TellsByItself S.step S.reply S.foreign rules K s Y (messages_within rules.exact K.input (Number x digits true))
+        → TellsByItself S.means.step S.means.reply S.means.foreign rules K s Y (messages_within rules.exact K.input (Number x digits true))
         (start_behind K Y (Between Data) K.last_start_tag) }
     ensures decided { (rules : Rules) (K : Start) (s : S.State) (Y Z : List ℕ) (reference : WrittenReference) (c : ℕ) (rest : List ℕ)
         → IsTable rules.names → IsReference rules.names K Y reference
         → normalised (input_after K.input Y) Z ≡ c ∷ rest → is_decided_by rules.names reference c ≡ true
-        → TellsBefore S.step S.reply S.foreign rules Z K s Y (messages_within rules.exact K.input reference)
+        → TellsBefore S.means.step S.means.reply S.means.foreign rules Z K s Y (messages_within rules.exact K.input reference)
         (start_behind K Y (Between Data) K.last_start_tag) }
 {}
 
@@ -54,39 +54,39 @@ pub fn raw<S: TokenSink<Token<A>>, A: Allocator>()
     ensures ended { (rules : Rules) (K : Start) (s : S.State) (Y : List ℕ) (raw : Raw) (name : List ℕ) (written_as : WrittenRaw) (tag : WrittenTag)
         → written_as.end_tag ≡ Some tag → IsRawText K Y raw name written_as
         → let M : List Message = spelled_messages rules.exact K.input [] (spell_raw rules.exact raw written_as) in
-        TellsByItself S.step S.reply S.foreign rules K s Y M (start_behind_tag S.step S.reply K s Y (tag_told tag) M) }
+        TellsByItself S.means.step S.means.reply S.means.foreign rules K s Y M (start_behind_tag S.means.step S.means.reply K s Y (tag_told tag) M) }
     ensures open { (rules : Rules) (K : Start) (s : S.State) (Y : List ℕ) (raw : Raw) (name : List ℕ) (written_as : WrittenRaw)
         → written_as.end_tag ≡ None → IsRawText K Y raw name written_as
-        → TellsByItself S.step S.reply S.foreign rules K s Y (spelled_messages rules.exact K.input [] (spell_raw rules.exact raw written_as))
-        (after S.step S.reply S.foreign rules K s Y) }
+        → TellsByItself S.means.step S.means.reply S.means.foreign rules K s Y (spelled_messages rules.exact K.input [] (spell_raw rules.exact raw written_as))
+        (after S.means.step S.means.reply S.means.foreign rules K s Y) }
 {}
 
 /// A comment, proper or bogus.
 pub fn comment<S: TokenSink<Token<A>>, A: Allocator>()
-    ensures { (rules : Rules) (K : Start) (s : S.State) (Y : List ℕ) (comment : WrittenComment) → IsComment K (S.foreign s) Y comment
-        → TellsByItself S.step S.reply S.foreign rules K s Y (one_comment.messages_of rules.exact K.input comment)
+    ensures { (rules : Rules) (K : Start) (s : S.State) (Y : List ℕ) (comment : WrittenComment) → IsComment K (S.means.foreign s) Y comment
+        → TellsByItself S.means.step S.means.reply S.means.foreign rules K s Y (one_comment.messages_of rules.exact K.input comment)
         (start_behind K Y (Between Data) K.last_start_tag) }
 {}
 
 /// A processing instruction, also one without its `>`: then it is open behind it, and is not told yet.
 pub fn instruction<S: TokenSink<Token<A>>, A: Allocator>()
     ensures { (rules : Rules) (K : Start) (s : S.State) (Y : List ℕ) (instruction : WrittenInstruction) → IsInstruction K Y instruction
-        → TellsByItself S.step S.reply S.foreign rules K s Y (one_instruction.messages_of rules.exact K.input instruction)
+        → TellsByItself S.means.step S.means.reply S.means.foreign rules K s Y (one_instruction.messages_of rules.exact K.input instruction)
         (start_behind K Y (open_behind_instruction instruction) K.last_start_tag) }
 {}
 
 /// A doctype.
 pub fn doctype<S: TokenSink<Token<A>>, A: Allocator>()
     ensures { (rules : Rules) (K : Start) (s : S.State) (Y : List ℕ) (doctype : WrittenDoctype) → IsDoctype K Y doctype
-        → TellsByItself S.step S.reply S.foreign rules K s Y (one_doctype.messages_of rules.exact K.input doctype.word doctype.space doctype.content)
+        → TellsByItself S.means.step S.means.reply S.means.foreign rules K s Y (one_doctype.messages_of rules.exact K.input doctype.word doctype.space doctype.content)
         (start_behind K Y (Between Data) K.last_start_tag) }
 {}
 
 /// A CDATA section, also one that is open already or doesn't end: then what is open behind it is the
 /// section with its last piece, of which nothing is told yet.
 pub fn cdata<S: TokenSink<Token<A>>, A: Allocator>()
-    ensures { (rules : Rules) (K : Start) (s : S.State) (Y : List ℕ) (cdata : WrittenCdata) → IsCdata K (S.foreign s) Y cdata
-        → TellsByItself S.step S.reply S.foreign rules K s Y
+    ensures { (rules : Rules) (K : Start) (s : S.State) (Y : List ℕ) (cdata : WrittenCdata) → IsCdata K (S.means.foreign s) Y cdata
+        → TellsByItself S.means.step S.means.reply S.means.foreign rules K s Y
         (spelled_messages rules.exact K.input (opening_text cdata.has_opening) (spell_cdata cdata))
         (start_behind K Y (open_behind_cdata cdata) K.last_start_tag) }
 {}

@@ -32,30 +32,30 @@ use std::alloc::Allocator;
 /// forget all but that start, wherever a text is cut.
 pub fn forgetting<S: TokenSink<Token<A>>, A: Allocator>()
     ensures told { (rules : Rules) (K : Start) (s : S.State) (text rest : List ℕ) →
-        messages (told S.step S.reply S.foreign rules K s (text ++ rest))
-        ≡ messages (told S.step S.reply S.foreign rules K s text)
-        ++ messages (told S.step S.reply S.foreign rules (after S.step S.reply S.foreign rules K s text)
-        (stepped S.step s (messages (told S.step S.reply S.foreign rules K s text))) rest) }
+        messages (told S.means.step S.means.reply S.means.foreign rules K s (text ++ rest))
+        ≡ messages (told S.means.step S.means.reply S.means.foreign rules K s text)
+        ++ messages (told S.means.step S.means.reply S.means.foreign rules (after S.means.step S.means.reply S.means.foreign rules K s text)
+        (stepped S.means.step s (messages (told S.means.step S.means.reply S.means.foreign rules K s text))) rest) }
     ensures after { (rules : Rules) (K : Start) (s : S.State) (text rest : List ℕ) →
-        after S.step S.reply S.foreign rules K s (text ++ rest)
-        ≡ after S.step S.reply S.foreign rules (after S.step S.reply S.foreign rules K s text)
-        (stepped S.step s (messages (told S.step S.reply S.foreign rules K s text))) rest }
+        after S.means.step S.means.reply S.means.foreign rules K s (text ++ rest)
+        ≡ after S.means.step S.means.reply S.means.foreign rules (after S.means.step S.means.reply S.means.foreign rules K s text)
+        (stepped S.means.step s (messages (told S.means.step S.means.reply S.means.foreign rules K s text))) rest }
 {}
 
 /// What is told of a text is a beginning of what is told of it and more.
 pub fn beginning<S: TokenSink<Token<A>>, A: Allocator>()
     ensures { (rules : Rules) (K : Start) (s : S.State) (text rest : List ℕ) → (later : List Message)
-        × (messages (told S.step S.reply S.foreign rules K s (text ++ rest))
-        ≡ messages (told S.step S.reply S.foreign rules K s text) ++ later) }
+        × (messages (told S.means.step S.means.reply S.means.foreign rules K s (text ++ rest))
+        ≡ messages (told S.means.step S.means.reply S.means.foreign rules K s text) ++ later) }
 {}
 
 /// What is told of a text, however it goes on: the events of the reading of the whole before the first
 /// that a character behind the text decides, or the end.
 pub fn told_of_a_split<S: TokenSink<Token<A>>, A: Allocator>()
     ensures { (rules : Rules) (K : Start) (s : S.State) (text more : List ℕ) →
-        told S.step S.reply S.foreign rules K s text
+        told S.means.step S.means.reply S.means.foreign rules K s text
         ≡ take_while (λ e. is_among (length (normalised K.input text)) e.decided_by)
-        (reading S.step S.reply S.foreign rules K s (text ++ more)) }
+        (reading S.means.step S.means.reply S.means.foreign rules K s (text ++ more)) }
 {}
 
 /// Names behind an `&` that no `#` follows: the longest name that begins what is held when a reference
@@ -89,7 +89,7 @@ pub fn each_cdata()
 /// A tag that the end of input cuts off is never told: what the end decides and tells has no tag.
 pub fn tags_cut_off<S: TokenSink<Token<A>>, A: Allocator>()
     ensures { (rules : Rules) (K : Start) (s : S.State) (text : List ℕ) →
-        TellsNoTagBehind (messages (told S.step S.reply S.foreign rules K s text)) (messages (reading S.step S.reply S.foreign rules K s text)) }
+        TellsNoTagBehind (messages (told S.means.step S.means.reply S.means.foreign rules K s text)) (messages (reading S.means.step S.means.reply S.means.foreign rules K s text)) }
 {}
 
 /// By a table of names each token that a text tells is lawful, where nothing was open before it: text
@@ -97,5 +97,5 @@ pub fn tags_cut_off<S: TokenSink<Token<A>>, A: Allocator>()
 /// twice, a doctype whose name has no capital.
 pub fn lawful_tokens<S: TokenSink<Token<A>>, A: Allocator>()
     ensures { (rules : Rules) (K : Start) (s : S.State) (text : List ℕ) → IsTable rules.names → is_clean K.opened ≡ true →
-        All (λ m. IsLawful m.token) (messages (reading S.step S.reply S.foreign rules K s text)) }
+        All (λ m. IsLawful m.token) (messages (reading S.means.step S.means.reply S.means.foreign rules K s text)) }
 {}

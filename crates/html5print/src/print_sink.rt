@@ -87,21 +87,17 @@ impl<A: Allocator + Copy> TokenSink<Token<A>> for PrintSink<A> {
 
     ghost State = { Page };
 
-    ghost state = { λ s. s.page };
+    ghost means = { record {
+      state = λ s. s.page;
+      step = page_step;
+      reply = page_reply;
+      foreign = page_foreign;
+      finish = λ p. p;
+      faulted = page_faulted;
+      end_faulted = λ p. p;
+    } };
 
     ghost faults = { λ s. s.faults };
-
-    ghost step = { page_step };
-
-    ghost reply = { page_reply };
-
-    ghost foreign = { page_foreign };
-
-    ghost finish = { λ p. p };
-
-    ghost faulted = { page_faulted };
-
-    ghost end_faulted = { λ p. p };
 
     ghost joins = { page_joins };
 

@@ -46,7 +46,7 @@ pub fn asked_about_foreign<S: TokenSink<Token<A>>, A: Allocator>(
     c: char,
 ) -> bool
     requires { is_keyword_open (opened_of opened.now) ≡ true }
-    ensures { result ≡ (asks (opened_of opened.now) c && S.foreign (S.state sink.now)) }
+    ensures { result ≡ (asks (opened_of opened.now) c && S.means.foreign (S.means.state sink.now)) }
 {
     match opened.state {
         State::MarkupDeclarationOpen => {
@@ -85,8 +85,8 @@ fn finish_declaration<S: TokenSink<Token<A>>, A: Allocator + Copy>(
     opened: &mut Opened<A>,
     line: u64,
 ) -> Result<(), TokenizerError>
-    ensures tells { Tells S.step S.faulted result (S.state sink.old)
-        (on_line line (tokens_of_late (declaration_error rules.now.exact (string_bytes opened.old.comment)))) (S.state sink.new) }
+    ensures tells { Tells S.means.step S.means.faulted result (S.means.state sink.old)
+        (on_line line (tokens_of_late (declaration_error rules.now.exact (string_bytes opened.old.comment)))) (S.means.state sink.new) }
     ensures opened { opened_of opened.new ≡ InBogusComment (string_bytes opened.old.comment) }
     ensures last { last_name_of opened.new ≡ last_name_of opened.old }
     ensures faults { S.faults sink.new ≡ S.faults sink.old + faults_of result }
@@ -109,8 +109,8 @@ fn finish_doctype_keyword<S: TokenSink<Token<A>>, A: Allocator + Copy>(
     opened: &mut Opened<A>,
     line: u64,
 ) -> Result<(), TokenizerError>
-    ensures tells { Tells S.step S.faulted result (S.state sink.old)
-        (on_line line (tokens_of_late (keyword_error rules.now.exact (string_bytes opened.old.comment)))) (S.state sink.new) }
+    ensures tells { Tells S.means.step S.means.faulted result (S.means.state sink.old)
+        (on_line line (tokens_of_late (keyword_error rules.now.exact (string_bytes opened.old.comment)))) (S.means.state sink.new) }
     ensures opened { opened_of opened.new ≡ InDoctype Skipped (with_quirks (doctype_of opened.old.doctype)) }
     ensures last { last_name_of opened.new ≡ last_name_of opened.old }
     ensures faults { S.faults sink.new ≡ S.faults sink.old + faults_of result }
@@ -134,8 +134,8 @@ pub fn finish_keyword<S: TokenSink<Token<A>>, A: Allocator + Copy>(
     line: u64,
 ) -> Result<(), TokenizerError>
     requires { is_keyword_open (opened_of opened.old) ≡ true }
-    ensures tells { Tells S.step S.faulted result (S.state sink.old)
-        (on_line line (tokens_of_late (late_at_end_of rules.now (opened_of opened.old)))) (S.state sink.new) }
+    ensures tells { Tells S.means.step S.means.faulted result (S.means.state sink.old)
+        (on_line line (tokens_of_late (late_at_end_of rules.now (opened_of opened.old)))) (S.means.state sink.new) }
     ensures opened { opened_of opened.new ≡ open_at_end_of rules.now (opened_of opened.old) }
     ensures last { last_name_of opened.new ≡ last_name_of opened.old }
     ensures faults { S.faults sink.new ≡ S.faults sink.old + faults_of result }

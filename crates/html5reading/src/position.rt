@@ -132,8 +132,8 @@ impl<A: Allocator + Copy> Position<A> {
         sink: &mut S,
         rules: &Rules<'_, A>,
     ) -> Result<(), TokenizerError>
-        ensures tells { Tells S.step S.faulted result (S.state sink.old)
-            (on_line self.old.input.line (tokens_at_end rules.now self.old.opened)) (S.state sink.new) }
+        ensures tells { Tells S.means.step S.means.faulted result (S.means.state sink.old)
+            (on_line self.old.input.line (tokens_at_end rules.now self.old.opened)) (S.means.state sink.new) }
         ensures faults { S.faults sink.new ≡ S.faults sink.old + faults_of result }
         ensures refusal { IfErr result IsRefusal }
         ensures fits { self.old.input.line < 2 ^ 64 }
@@ -151,8 +151,8 @@ impl<A: Allocator + Copy> Position<A> {
         rules: &Rules<'_, A>,
         line: u64,
     ) -> Result<(), TokenizerError>
-        ensures tells { Tells S.step S.faulted result (S.state sink.old)
-            (on_line line (tokens_of_late (late_at_end_of rules.now self.old.opened))) (S.state sink.new) }
+        ensures tells { Tells S.means.step S.means.faulted result (S.means.state sink.old)
+            (on_line line (tokens_of_late (late_at_end_of rules.now self.old.opened))) (S.means.state sink.new) }
         ensures opened { OnOk result (self.new.opened ≡ open_at_end_of rules.now self.old.opened) }
         ensures decided { OnOk result (is_undecided_open self.new.opened ≡ false) }
         ensures faults { S.faults sink.new ≡ S.faults sink.old + faults_of result }
@@ -260,8 +260,8 @@ impl<A: Allocator + Copy> Position<A> {
         run: String<A>,
     ) -> Result<(), TokenizerError>
         requires { chars (string_bytes run) ≢ [] }
-        ensures tells { Tells S.step S.faulted result (S.state sink.old)
-            (on_line self.now.input.line (tokens_in (Text (string_bytes run)))) (S.state sink.new) }
+        ensures tells { Tells S.means.step S.means.faulted result (S.means.state sink.old)
+            (on_line self.now.input.line (tokens_in (Text (string_bytes run)))) (S.means.state sink.new) }
         ensures faults { S.faults sink.new ≡ S.faults sink.old + faults_of result }
         ensures refusal { IfErr result IsRefusal }
     {
@@ -337,8 +337,8 @@ fn report_bad_character<S: TokenSink<Token<A>>, A: Allocator + Copy>(
     c: char,
     line: u64,
 ) -> Result<(), TokenizerError>
-    ensures tells { Tells S.step S.faulted result (S.state sink.old)
-        (on_line line (bad_character_error exact_errors c)) (S.state sink.new) }
+    ensures tells { Tells S.means.step S.means.faulted result (S.means.state sink.old)
+        (on_line line (bad_character_error exact_errors c)) (S.means.state sink.new) }
     ensures faults { S.faults sink.new ≡ S.faults sink.old + faults_of result }
     ensures refusal { IfErr result IsRefusal }
 {
@@ -362,8 +362,8 @@ fn step<S: TokenSink<Token<A>>, A: Allocator + Copy>(
     line: u64,
 ) -> Step
     requires { is_undecided_open (opened_of opened.old) ≡ false }
-    ensures tells { Tells S.step S.faulted result (S.state sink.old)
-        (on_line line (tokens_of (step_at exact_errors (opened_of opened.old) c))) (S.state sink.new) }
+    ensures tells { Tells S.means.step S.means.faulted result (S.means.state sink.old)
+        (on_line line (tokens_of (step_at exact_errors (opened_of opened.old) c))) (S.means.state sink.new) }
     ensures leads { Ends result opened.new (behind (step_at exact_errors (opened_of opened.old) c)) }
     ensures last { last_name_of opened.new ≡ last_name_of opened.old }
     ensures held { IfErr result (λ error. held_len (opened_of opened.new) ≡ 0) }
@@ -392,14 +392,14 @@ fn tell_tag<S: TokenSink<Token<A>>, A: Allocator + Copy>(
     line: u64,
 ) -> Result<TokenizerResult<S::Handle, String<A>>, TokenizerError>
     requires { position.old.opened ≡ Between Data }
-    ensures tells { Tells S.step S.faulted result (S.state sink.old)
-        (on_line line (Told.Tag (tag_of tag) ∷ [])) (S.state sink.new) }
+    ensures tells { Tells S.means.step S.means.faulted result (S.means.state sink.old)
+        (on_line line (Told.Tag (tag_of tag) ∷ [])) (S.means.state sink.new) }
     ensures leads { Leads result position.new.opened
-        (open_after_reply (last_behind position.old.last_start_tag (tag_of tag)) (S.reply (S.state sink.old) (Told.Tag (tag_of tag)) line)) }
+        (open_after_reply (last_behind position.old.last_start_tag (tag_of tag)) (S.means.reply (S.means.state sink.old) (Told.Tag (tag_of tag)) line)) }
     ensures last { OnOk result
         (position.new.last_start_tag ≡ last_behind position.old.last_start_tag (tag_of tag)) }
     ensures answer { IfOk result (λ answer. reply_in string_bytes answer
-        ≡ first_pause S.step S.reply (S.state sink.old) (on_line line (Told.Tag (tag_of tag) ∷ []))) }
+        ≡ first_pause S.means.step S.means.reply (S.means.state sink.old) (on_line line (Told.Tag (tag_of tag) ∷ []))) }
     ensures input { position.new.input ≡ position.old.input }
     ensures held { held_len position.new.opened ≡ 0 }
     ensures faults { S.faults sink.new ≡ S.faults sink.old + faults_of result }
@@ -433,15 +433,15 @@ fn read_opened<S: TokenSink<Token<A>>, A: Allocator + Copy>(
     c: char,
 ) -> Result<TokenizerResult<S::Handle, String<A>>, TokenizerError>
     requires { is_undecided_open position.old.opened ≡ false }
-    ensures tells { Tells S.step S.faulted result (S.state sink.old)
-        (messages_here S.step S.reply rules.now position.old.input.line c (step_at rules.now.exact position.old.opened c)) (S.state sink.new) }
+    ensures tells { Tells S.means.step S.means.faulted result (S.means.state sink.old)
+        (messages_here S.means.step S.means.reply rules.now position.old.input.line c (step_at rules.now.exact position.old.opened c)) (S.means.state sink.new) }
     ensures leads { Leads result position.new.opened
-        (opened_here S.step S.reply rules.now (S.state sink.old) position.old.input.line position.old.last_start_tag c (step_at rules.now.exact position.old.opened c)) }
+        (opened_here S.means.step S.means.reply rules.now (S.means.state sink.old) position.old.input.line position.old.last_start_tag c (step_at rules.now.exact position.old.opened c)) }
     ensures last { OnOk result (position.new.last_start_tag
         ≡ last_here position.old.last_start_tag (step_at rules.now.exact position.old.opened c)) }
     ensures answer { IfOk result (λ answer. reply_in string_bytes answer
-        ≡ first_pause S.step S.reply (S.state sink.old)
-        (messages_here S.step S.reply rules.now position.old.input.line c (step_at rules.now.exact position.old.opened c))) }
+        ≡ first_pause S.means.step S.means.reply (S.means.state sink.old)
+        (messages_here S.means.step S.means.reply rules.now position.old.input.line c (step_at rules.now.exact position.old.opened c))) }
     ensures input { position.new.input ≡ position.old.input }
     ensures held { held_len position.new.opened ≤ 1 }
     ensures faults { S.faults sink.new ≡ S.faults sink.old + faults_of result }
@@ -477,8 +477,8 @@ fn tell_end<S: TokenSink<Token<A>>, A: Allocator + Copy>(
     line: u64,
 ) -> Result<(), TokenizerError>
     requires decided { is_undecided_open (opened_of opened.now) ≡ false }
-    ensures tells { Tells S.step S.faulted result (S.state sink.old)
-        (on_line line (told_at_end_of rules.now.exact (opened_of opened.now))) (S.state sink.new) }
+    ensures tells { Tells S.means.step S.means.faulted result (S.means.state sink.old)
+        (on_line line (told_at_end_of rules.now.exact (opened_of opened.now))) (S.means.state sink.new) }
     ensures faults { S.faults sink.new ≡ S.faults sink.old + faults_of result }
     ensures refusal { IfErr result IsRefusal }
 {
@@ -503,9 +503,9 @@ fn finish_reference<S: TokenSink<Token<A>>, A: Allocator + Copy>(
     line: u64,
 ) -> Result<bool, TokenizerError>
     requires { HasStand (opened_of opened.old) }
-    ensures tells { Tells S.step S.faulted result (S.state sink.old)
+    ensures tells { Tells S.means.step S.means.faulted result (S.means.state sink.old)
         (on_line line (tokens_of_late (late_tokens (stand_of (opened_of opened.old))
-        (found_at rules.now.exact rules.now.names (stand_of (opened_of opened.old)) held.now next) held.now))) (S.state sink.new) }
+        (found_at rules.now.exact rules.now.names (stand_of (opened_of opened.old)) held.now next) held.now))) (S.means.state sink.new) }
     ensures leads { OnOk result (opened_of opened.new ≡ opened_behind (stand_of (opened_of opened.old))
         (found_at rules.now.exact rules.now.names (stand_of (opened_of opened.old)) held.now next) held.now) }
     ensures ends { IfOk result (λ ends. (c : ℕ) → next ≡ Some c → ends ≡ ends_number held.now c) }
@@ -534,10 +534,10 @@ fn read_reference<S: TokenSink<Token<A>>, A: Allocator + Copy>(
     c: char,
 ) -> Result<bool, TokenizerError>
     requires { is_reference position.old.opened ≡ true }
-    ensures tells { Tells S.step S.faulted result (S.state sink.old)
-        (on_line line (tokens_of_late (brought_at rules.now (S.foreign (S.state sink.old)) position.old.opened c).settled)) (S.state sink.new) }
-    ensures taken { result ≡ Ok true → BelongsTo rules.now (S.foreign (S.state sink.old)) position.old.opened c position.new.opened }
-    ensures decided { result ≡ Ok false → Decides rules.now (S.foreign (S.state sink.old)) position.old.opened c position.new.opened }
+    ensures tells { Tells S.means.step S.means.faulted result (S.means.state sink.old)
+        (on_line line (tokens_of_late (brought_at rules.now (S.means.foreign (S.means.state sink.old)) position.old.opened c).settled)) (S.means.state sink.new) }
+    ensures taken { result ≡ Ok true → BelongsTo rules.now (S.means.foreign (S.means.state sink.old)) position.old.opened c position.new.opened }
+    ensures decided { result ≡ Ok false → Decides rules.now (S.means.foreign (S.means.state sink.old)) position.old.opened c position.new.opened }
     ensures last { position.new.last_start_tag ≡ position.old.last_start_tag }
     ensures refusal { IfErr result IsRefusal }
     ensures input { position.new.input ≡ position.old.input }
@@ -564,10 +564,10 @@ fn read_keyword<S: TokenSink<Token<A>>, A: Allocator + Copy>(
     c: char,
 ) -> Result<bool, TokenizerError>
     requires { is_keyword_open position.old.opened ≡ true }
-    ensures tells { Tells S.step S.faulted result (S.state sink.old)
-        (on_line line (tokens_of_late (brought_at rules.now (S.foreign (S.state sink.old)) position.old.opened c).settled)) (S.state sink.new) }
-    ensures taken { result ≡ Ok true → BelongsTo rules.now (S.foreign (S.state sink.old)) position.old.opened c position.new.opened }
-    ensures decided { result ≡ Ok false → Decides rules.now (S.foreign (S.state sink.old)) position.old.opened c position.new.opened }
+    ensures tells { Tells S.means.step S.means.faulted result (S.means.state sink.old)
+        (on_line line (tokens_of_late (brought_at rules.now (S.means.foreign (S.means.state sink.old)) position.old.opened c).settled)) (S.means.state sink.new) }
+    ensures taken { result ≡ Ok true → BelongsTo rules.now (S.means.foreign (S.means.state sink.old)) position.old.opened c position.new.opened }
+    ensures decided { result ≡ Ok false → Decides rules.now (S.means.foreign (S.means.state sink.old)) position.old.opened c position.new.opened }
     ensures last { position.new.last_start_tag ≡ position.old.last_start_tag }
     ensures refusal { IfErr result IsRefusal }
     ensures input { position.new.input ≡ position.old.input }
@@ -593,10 +593,10 @@ fn read_undecided<S: TokenSink<Token<A>>, A: Allocator + Copy>(
     c: char,
 ) -> Result<bool, TokenizerError>
     requires { is_undecided_open position.old.opened ≡ true }
-    ensures tells { Tells S.step S.faulted result (S.state sink.old)
-        (on_line line (tokens_of_late (brought_at rules.now (S.foreign (S.state sink.old)) position.old.opened c).settled)) (S.state sink.new) }
-    ensures taken { result ≡ Ok true → BelongsTo rules.now (S.foreign (S.state sink.old)) position.old.opened c position.new.opened }
-    ensures decided { result ≡ Ok false → Decides rules.now (S.foreign (S.state sink.old)) position.old.opened c position.new.opened }
+    ensures tells { Tells S.means.step S.means.faulted result (S.means.state sink.old)
+        (on_line line (tokens_of_late (brought_at rules.now (S.means.foreign (S.means.state sink.old)) position.old.opened c).settled)) (S.means.state sink.new) }
+    ensures taken { result ≡ Ok true → BelongsTo rules.now (S.means.foreign (S.means.state sink.old)) position.old.opened c position.new.opened }
+    ensures decided { result ≡ Ok false → Decides rules.now (S.means.foreign (S.means.state sink.old)) position.old.opened c position.new.opened }
     ensures last { position.new.last_start_tag ≡ position.old.last_start_tag }
     ensures refusal { IfErr result IsRefusal }
     ensures input { position.new.input ≡ position.old.input }
@@ -618,15 +618,15 @@ pub fn read_character<S: TokenSink<Token<A>>, A: Allocator + Copy>(
     position: &mut Position<A>,
     c: char,
 ) -> Result<TokenizerResult<S::Handle, String<A>>, TokenizerError>
-    ensures tells { Tells S.step S.faulted result (S.state sink.old)
-        (messages (told S.step S.reply S.foreign rules.now position.old (S.state sink.old) (c ∷ []))) (S.state sink.new) }
+    ensures tells { Tells S.means.step S.means.faulted result (S.means.state sink.old)
+        (messages (told S.means.step S.means.reply S.means.foreign rules.now position.old (S.means.state sink.old) (c ∷ []))) (S.means.state sink.new) }
     ensures leads { Leads result position.new.opened
-        (after S.step S.reply S.foreign rules.now position.old (S.state sink.old) (c ∷ [])).opened }
+        (after S.means.step S.means.reply S.means.foreign rules.now position.old (S.means.state sink.old) (c ∷ [])).opened }
     ensures last { OnOk result (position.new.last_start_tag
-        ≡ (after S.step S.reply S.foreign rules.now position.old (S.state sink.old) (c ∷ [])).last_start_tag) }
+        ≡ (after S.means.step S.means.reply S.means.foreign rules.now position.old (S.means.state sink.old) (c ∷ [])).last_start_tag) }
     ensures answer { IfOk result (λ answer. reply_in string_bytes answer
-        ≡ first_pause S.step S.reply (S.state sink.old)
-        (messages (told S.step S.reply S.foreign rules.now position.old (S.state sink.old) (c ∷ [])))) }
+        ≡ first_pause S.means.step S.means.reply (S.means.state sink.old)
+        (messages (told S.means.step S.means.reply S.means.foreign rules.now position.old (S.means.state sink.old) (c ∷ [])))) }
     ensures input { position.new.input ≡ input_after position.old.input (c ∷ []) }
     ensures held { held_len position.new.opened ≤ held_len position.old.opened + 1 }
     ensures faults { S.faults sink.new ≡ S.faults sink.old + faults_of result }

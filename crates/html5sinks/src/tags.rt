@@ -186,21 +186,17 @@ impl<H: ReplyingTagHandler<Tag<A>>, A: Allocator> TokenSink<Token<A>> for TagsOn
 
     ghost State = { Tagged H.State };
 
-    ghost state = { λ s. record { handler = H.state s.handler; foreign = s.foreign } };
+    ghost means = { record {
+      state = λ s. record { handler = H.state s.handler; foreign = s.foreign };
+      step = tags_step H.step;
+      reply = tags_reply H.reply;
+      foreign = λ s. s.foreign;
+      finish = λ s. s;
+      faulted = tags_faulted;
+      end_faulted = λ s. s;
+    } };
 
     ghost faults = { λ s. s.faults };
-
-    ghost step = { tags_step H.step };
-
-    ghost reply = { tags_reply H.reply };
-
-    ghost foreign = { λ s. s.foreign };
-
-    ghost finish = { λ s. s };
-
-    ghost faulted = { tags_faulted };
-
-    ghost end_faulted = { λ s. s };
 
     ghost joins = { λ s a b line. refl };
 

@@ -233,21 +233,17 @@ impl<H: ReplyingRunHandler<Token<A>>, A: Allocator> TokenSink<Token<A>> for Text
 
     ghost State = { Running H.State };
 
-    ghost state = { λ s. record { joined = joined_of (H.state s.handler) s.run; foreign = s.foreign } };
+    ghost means = { record {
+      state = λ s. record { joined = joined_of (H.state s.handler) s.run; foreign = s.foreign };
+      step = runs_step H.step;
+      reply = runs_reply H.reply;
+      foreign = λ s. s.foreign;
+      finish = λ s. s;
+      faulted = runs_faulted;
+      end_faulted = λ s. s;
+    } };
 
     ghost faults = { λ s. s.faults };
-
-    ghost step = { runs_step H.step };
-
-    ghost reply = { runs_reply H.reply };
-
-    ghost foreign = { λ s. s.foreign };
-
-    ghost finish = { λ s. s };
-
-    ghost faulted = { runs_faulted };
-
-    ghost end_faulted = { λ s. s };
 
     ghost joins = { runs_join H.step };
 

@@ -18,7 +18,7 @@ impl<S: TokenSink<Token<A>>, A: Allocator + Copy> Teller<'_, S, A> {
     /// Ends the last attribute, where there is one: it is dropped, with an error, where its name
     /// stands in the tag already.
     pub fn finish_attribute(&mut self, tag: &mut CurrentTag<A>) -> Result<(), TokenizerError>
-        ensures emits { Emits S.state S.faults S.step S.faulted result self.old self.new
+        ensures emits { Emits S.means.state S.faults S.means.step S.means.faulted result self.old self.new
             (duplicate_error (open_tag tag.old)) }
         ensures finished { OnOk result (open_tag tag.new ≡ with_last_attribute (open_tag tag.old)) }
     {

@@ -173,7 +173,7 @@ impl<S: TokenSink<Token<A>>, A: Allocator + Copy> Teller<'_, S, A> {
     #[tactic(auto, using(crate::proofs::Tellings::tells_from_memory), unfolding(html5grammar::specs::Reference::number_reference, html5ever_interface::specs::Sink::stepped))]
     fn resolve_number(&mut self, number: &str, next: Option<char>) -> Result<Found, TokenizerError>
         requires { is_number number.now ≡ true }
-        ensures emits { Emits S.state S.faults S.step S.faulted result self.old self.new
+        ensures emits { Emits S.means.state S.faults S.means.step S.means.faulted result self.old self.new
             (number_reference self.old.exact_errors number.now next).errors }
         ensures found { IfOk result (λ found. IsFound found (number_reference self.old.exact_errors number.now next)) }
     {
@@ -194,7 +194,7 @@ impl<S: TokenSink<Token<A>>, A: Allocator + Copy> Teller<'_, S, A> {
     // Tells the error of a number behind which no semicolon stands.
     #[tactic(auto, using(crate::proofs::Tellings::tells_from_memory), unfolding(html5grammar::specs::Reference::unended_number, html5ever_interface::specs::Sink::stepped))]
     fn emit_unended_number(&mut self, next: Option<char>) -> Result<(), TokenizerError>
-        ensures { Emits S.state S.faults S.step S.faulted result self.old self.new (unended_number next) }
+        ensures { Emits S.means.state S.faults S.means.step S.means.faulted result self.old self.new (unended_number next) }
     {
         match next {
             None => self.emit_message("EOF in numeric character reference"),
@@ -208,7 +208,7 @@ impl<S: TokenSink<Token<A>>, A: Allocator + Copy> Teller<'_, S, A> {
     // Tells the error of a number that no character should have, where it is one.
     #[tactic(auto, using(crate::proofs::Tellings::tells_from_memory), unfolding(html5grammar::specs::Reference::invalid_number, html5ever_interface::specs::Sink::stepped))]
     fn emit_invalid_number(&mut self, is_invalid: bool, low_bits: u32) -> Result<(), TokenizerError>
-        ensures { Emits S.state S.faults S.step S.faulted result self.old self.new
+        ensures { Emits S.means.state S.faults S.means.step S.means.faulted result self.old self.new
             (where_true is_invalid (Error (invalid_number self.old.exact_errors low_bits))) }
     {
         if !is_invalid {
@@ -230,7 +230,7 @@ impl<S: TokenSink<Token<A>>, A: Allocator + Copy> Teller<'_, S, A> {
         next: Option<char>,
     ) -> Result<Found, TokenizerError>
         requires { IsAscii held.now }
-        ensures emits { Emits S.state S.faults S.step S.faulted result self.old self.new
+        ensures emits { Emits S.means.state S.faults S.means.step S.means.faulted result self.old self.new
             (named_reference self.old.exact_errors in_value held.now next (longest_name names.now held.now)).errors }
         ensures found { IfOk result (λ found. IsFound found
             (named_reference self.old.exact_errors in_value held.now next (longest_name names.now held.now))) }
@@ -257,7 +257,7 @@ impl<S: TokenSink<Token<A>>, A: Allocator + Copy> Teller<'_, S, A> {
     #[tactic(auto, using(crate::proofs::Tellings::tells_from_memory), unfolding(html5grammar::specs::Reference::no_name, html5ever_interface::specs::Sink::stepped))]
     fn emit_unknown_name(&mut self, held: &str, next: Option<char>) -> Result<(), TokenizerError>
         requires { IsAscii held.now }
-        ensures { Emits S.state S.faults S.step S.faulted result self.old self.new
+        ensures { Emits S.means.state S.faults S.means.step S.means.faulted result self.old self.new
             (no_name self.old.exact_errors held.now next).errors }
     {
         if held.is_empty() || next != Some(';') {
@@ -274,7 +274,7 @@ impl<S: TokenSink<Token<A>>, A: Allocator + Copy> Teller<'_, S, A> {
         held: &CharRef<A>,
         next: Option<char>,
     ) -> Result<Found, TokenizerError>
-        ensures emits { Emits S.state S.faults S.step S.faulted result self.old self.new
+        ensures emits { Emits S.means.state S.faults S.means.step S.means.faulted result self.old self.new
             (decided self.old.exact_errors names.now in_value held.now next).errors }
         ensures found { IfOk result (λ found. IsFound found (decided self.old.exact_errors names.now in_value held.now next)) }
         ensures ends { IfOk result (λ found. (c : ℕ) → next ≡ Some c → nat_lt (length held.now) found.taken ≡ ends_number held.now c) }
@@ -297,7 +297,7 @@ impl<S: TokenSink<Token<A>>, A: Allocator + Copy> Teller<'_, S, A> {
     ) -> Result<(), TokenizerError>
         requires stand { HasStand (opened_of at.old) }
         requires plain { All (λ c. (number_sign ≤ c) × (c ≤ 0x7A)) rest.now }
-        ensures emits { Emits S.state S.faults S.step S.faulted result self.old self.new
+        ensures emits { Emits S.means.state S.faults S.means.step S.means.faulted result self.old self.new
             (text_in (stand_of (opened_of at.old)) (found.now.first ∷ (more_of found.now.second ++ rest.now))) }
         ensures leads { OnOk result (opened_of at.new ≡ opened_in (stand_of (opened_of at.old)) (found.now.first ∷ (more_of found.now.second ++ rest.now))) }
         ensures stays { HasStand (opened_of at.new) }
@@ -319,7 +319,7 @@ impl<S: TokenSink<Token<A>>, A: Allocator + Copy> Teller<'_, S, A> {
         next: Option<char>,
     ) -> Result<bool, TokenizerError>
         requires { HasStand (opened_of at.old) }
-        ensures emits { Emits S.state S.faults S.step S.faulted result self.old self.new
+        ensures emits { Emits S.means.state S.faults S.means.step S.means.faulted result self.old self.new
             (tokens_of_late (late_tokens (stand_of (opened_of at.old)) (found_at self.old.exact_errors names.now
             (stand_of (opened_of at.old)) held.now next) held.now)) }
         ensures leads { OnOk result (opened_of at.new ≡ opened_behind (stand_of (opened_of at.old))

@@ -79,11 +79,11 @@ fn feed_text<S: TokenSink<Token<A>>, A: Allocator + Copy>(
     requires waiting { queue.old.text ≡ [] }
     requires going_on { tokenizer.old.ended ≡ false }
     requires not_failed { tokenizer.old.failed ≡ false }
-    ensures reads { OnOk result (ReadsOn S.state S.step S.reply S.foreign
+    ensures reads { OnOk result (ReadsOn S.means.state S.means.step S.means.reply S.means.foreign
         tokenizer.old tokenizer.new (chars (string_bytes text))) }
     ensures taken { OnOk result (queue.new.text ≡ []) }
-    ensures stops { IfErr result (λ error. StopsTelling S.state S.step S.reply S.foreign S.faulted S.end_faulted
-        error tokenizer.old (chars (string_bytes text)) (S.state tokenizer.new.sink)) }
+    ensures stops { IfErr result (λ error. StopsTelling S.means.state S.means.step S.means.reply S.means.foreign S.means.faulted S.means.end_faulted
+        error tokenizer.old (chars (string_bytes text)) (S.means.state tokenizer.new.sink)) }
     ensures text_error { IfErr result (λ error. (place : ℕ) → error ≢ StreamError.NotUtf8 place) }
     ensures read { failed_reads result ≡ 0 }
     ensures faults { S.faults tokenizer.new.sink ≡ S.faults tokenizer.old.sink + sink_faults result }
@@ -109,11 +109,11 @@ fn take_bytes<S: TokenSink<Token<A>>, A: Allocator + Copy>(
     requires waiting { queue.old.text ≡ [] }
     requires going_on { tokenizer.old.ended ≡ false }
     requires not_failed { tokenizer.old.failed ≡ false }
-    ensures takes { OnOk result (TakesBytes S.state S.step S.reply S.foreign
+    ensures takes { OnOk result (TakesBytes S.means.state S.means.step S.means.reply S.means.foreign
         decoder.old decoder.new tokenizer.old tokenizer.new bytes.now) }
     ensures taken { OnOk result (queue.new.text ≡ []) }
-    ensures stops { IfErr result (λ error. StopsBytes S.state S.step S.reply S.foreign S.faulted S.end_faulted
-        error decoder.old tokenizer.old bytes.now (S.state tokenizer.new.sink)) }
+    ensures stops { IfErr result (λ error. StopsBytes S.means.state S.means.step S.means.reply S.means.foreign S.means.faulted S.means.end_faulted
+        error decoder.old tokenizer.old bytes.now (S.means.state tokenizer.new.sink)) }
     ensures read { failed_reads result ≡ 0 }
     ensures faults { S.faults tokenizer.new.sink ≡ S.faults tokenizer.old.sink + sink_faults result }
 {
@@ -130,10 +130,10 @@ fn read_text<R: Source, S: TokenSink<Token<A>>, A: Allocator + Copy>(
 ) -> Result<(), StreamError>
     requires going_on { tokenizer.old.ended ≡ false }
     requires not_failed { tokenizer.old.failed ≡ false }
-    ensures takes { OnOk result (TakesText S.state S.step S.reply S.foreign
+    ensures takes { OnOk result (TakesText S.means.state S.means.step S.means.reply S.means.foreign
         (R.remaining source.old) (R.remaining source.new) tokenizer.old tokenizer.new) }
-    ensures stops { IfErr result (λ error. StopsText S.state S.step S.reply S.foreign S.faulted S.end_faulted
-        error (R.remaining source.old) (R.remaining source.new) tokenizer.old (S.state tokenizer.new.sink)) }
+    ensures stops { IfErr result (λ error. StopsText S.means.state S.means.step S.means.reply S.means.foreign S.means.faulted S.means.end_faulted
+        error (R.remaining source.old) (R.remaining source.new) tokenizer.old (S.means.state tokenizer.new.sink)) }
     ensures read { R.failures source.new ≡ R.failures source.old + failed_reads result }
     ensures faults { S.faults tokenizer.new.sink ≡ S.faults tokenizer.old.sink + sink_faults result }
     ensures going_on { OnOk result (tokenizer.new.ended ≡ false) }
@@ -160,10 +160,10 @@ fn tell_end<S: TokenSink<Token<A>>, A: Allocator + Copy>(
 ) -> Result<(), StreamError>
     requires going_on { tokenizer.old.ended ≡ false }
     requires not_failed { tokenizer.old.failed ≡ false }
-    ensures finishes { OnOk result (Finishes S.state S.step S.reply S.foreign S.finish
-        tokenizer.old (S.state tokenizer.new.sink)) }
-    ensures stops { IfErr result (λ error. StopsAtEnd S.state S.step S.reply S.foreign S.faulted S.end_faulted
-        error tokenizer.old (S.state tokenizer.new.sink)) }
+    ensures finishes { OnOk result (Finishes S.means.state S.means.step S.means.reply S.means.foreign S.means.finish
+        tokenizer.old (S.means.state tokenizer.new.sink)) }
+    ensures stops { IfErr result (λ error. StopsAtEnd S.means.state S.means.step S.means.reply S.means.foreign S.means.faulted S.means.end_faulted
+        error tokenizer.old (S.means.state tokenizer.new.sink)) }
     ensures text_error { IfErr result (λ error. (place : ℕ) → error ≢ StreamError.NotUtf8 place) }
     ensures read { failed_reads result ≡ 0 }
     ensures faults { S.faults tokenizer.new.sink ≡ S.faults tokenizer.old.sink + sink_faults result }
@@ -182,10 +182,10 @@ fn read_all<R: Source, S: TokenSink<Token<A>>, A: Allocator + Copy>(
 ) -> Result<(), StreamError>
     requires going_on { tokenizer.old.ended ≡ false }
     requires not_failed { tokenizer.old.failed ≡ false }
-    ensures finishes { OnOk result (FinishesText S.state S.step S.reply S.foreign S.finish
-        (R.remaining source.old) (R.remaining source.new) tokenizer.old (S.state tokenizer.new.sink)) }
-    ensures stops { IfErr result (λ error. StopsText S.state S.step S.reply S.foreign S.faulted S.end_faulted
-        error (R.remaining source.old) (R.remaining source.new) tokenizer.old (S.state tokenizer.new.sink)) }
+    ensures finishes { OnOk result (FinishesText S.means.state S.means.step S.means.reply S.means.foreign S.means.finish
+        (R.remaining source.old) (R.remaining source.new) tokenizer.old (S.means.state tokenizer.new.sink)) }
+    ensures stops { IfErr result (λ error. StopsText S.means.state S.means.step S.means.reply S.means.foreign S.means.faulted S.means.end_faulted
+        error (R.remaining source.old) (R.remaining source.new) tokenizer.old (S.means.state tokenizer.new.sink)) }
     ensures read { R.failures source.new ≡ R.failures source.old + failed_reads result }
     ensures faults { S.faults tokenizer.new.sink ≡ S.faults tokenizer.old.sink + sink_faults result }
 {
@@ -206,19 +206,19 @@ pub fn read_source<R: Source, S: TokenSink<Token<A>>, A: Allocator + Copy>(
     requires { CanStart opts.initial_state }
 
     // What an `Ok` says: the source is at its end, and the whole reading of its text was told.
-    ensures finishes { OnOk result.1 (ReadsSource S.step S.reply S.foreign S.finish
-        (rules_of (options_of opts) names.now) (start_of (options_of opts)) (S.state sink)
-        (R.remaining source.old) (R.remaining source.new) (S.state result.0)) }
+    ensures finishes { OnOk result.1 (ReadsSource S.means.step S.means.reply S.means.foreign S.means.finish
+        (rules_of (options_of opts) names.now) (start_of (options_of opts)) (S.means.state sink)
+        (R.remaining source.old) (R.remaining source.new) (S.means.state result.0)) }
 
     // When each error comes, and what it leaves.
-    ensures decided { result.1 ≡ Err StreamError.Read → TellsGiven S.step S.reply S.foreign
-        (rules_of (options_of opts) names.now) (start_of (options_of opts)) (S.state sink)
-        (R.remaining source.old) (R.remaining source.new) (S.state result.0) }
+    ensures decided { result.1 ≡ Err StreamError.Read → TellsGiven S.means.step S.means.reply S.means.foreign
+        (rules_of (options_of opts) names.now) (start_of (options_of opts)) (S.means.state sink)
+        (R.remaining source.old) (R.remaining source.new) (S.means.state result.0) }
     ensures not_utf8 { (place : ℕ) → result.1 ≡ Err (StreamError.NotUtf8 place)
         → GivesNoText place (R.remaining source.old) (R.remaining source.new) }
-    ensures beginning { IfErr result.1 (λ error. StopsSource S.step S.reply S.foreign S.faulted S.end_faulted
-        error (rules_of (options_of opts) names.now) (start_of (options_of opts)) (S.state sink)
-        (R.remaining source.old) (R.remaining source.new) (S.state result.0)) }
+    ensures beginning { IfErr result.1 (λ error. StopsSource S.means.step S.means.reply S.means.foreign S.means.faulted S.means.end_faulted
+        error (rules_of (options_of opts) names.now) (start_of (options_of opts)) (S.means.state sink)
+        (R.remaining source.old) (R.remaining source.new) (S.means.state result.0)) }
     ensures read { R.failures source.new ≡ R.failures source.old + failed_reads result.1 }
     ensures faults { S.faults result.0 ≡ S.faults sink + sink_faults result.1 }
 {

@@ -62,21 +62,17 @@ impl<A: Allocator + Copy> TokenSink<Token<A>> for Alternating<A> {
 
     ghost State = { Alternated };
 
-    ghost state = { λ s. record { collected = s.inner.collected; tags = s.tags } };
+    ghost means = { record {
+      state = λ s. record { collected = s.inner.collected; tags = s.tags };
+      step = alternated_step;
+      reply = alternated_reply;
+      foreign = λ s. s.tags % 2 == 1;
+      finish = alternated_finish;
+      faulted = alternated_faulted;
+      end_faulted = λ s. s;
+    } };
 
     ghost faults = { λ s. s.inner.faults + s.faults.total };
-
-    ghost step = { alternated_step };
-
-    ghost reply = { alternated_reply };
-
-    ghost foreign = { λ s. s.tags % 2 == 1 };
-
-    ghost finish = { alternated_finish };
-
-    ghost faulted = { alternated_faulted };
-
-    ghost end_faulted = { λ s. s };
 
     ghost joins = { alternated_joins };
 

@@ -42,21 +42,17 @@ impl<A: Allocator> TokenSink<Token<A>> for Counting {
 
     ghost State = { ℕ };
 
-    ghost state = { λ s. s.count };
+    ghost means = { record {
+      state = λ s. s.count;
+      step = counted_step;
+      reply = counted_reply;
+      foreign = λ count. false;
+      finish = λ count. count;
+      faulted = λ count told line. count;
+      end_faulted = λ count. count;
+    } };
 
     ghost faults = { λ s. s.faults.total };
-
-    ghost step = { counted_step };
-
-    ghost reply = { counted_reply };
-
-    ghost foreign = { λ count. false };
-
-    ghost finish = { λ count. count };
-
-    ghost faulted = { λ count told line. count };
-
-    ghost end_faulted = { λ count. count };
 
     ghost joins = { counted_joins };
 

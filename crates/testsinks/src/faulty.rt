@@ -35,21 +35,17 @@ impl<A: Allocator> TokenSink<Token<A>> for FaultySink {
 
     ghost State = { Bool };
 
-    ghost state = { λ s. s.took_another };
+    ghost means = { record {
+      state = λ s. s.took_another;
+      step = λ took_another told line. if is_text told then took_another else true;
+      reply = λ took_another told line. KeepOn;
+      foreign = λ took_another. true;
+      finish = λ took_another. took_another;
+      faulted = λ took_another told line. took_another;
+      end_faulted = λ took_another. took_another;
+    } };
 
     ghost faults = { λ s. s.faults.total };
-
-    ghost step = { λ took_another told line. if is_text told then took_another else true };
-
-    ghost reply = { λ took_another told line. KeepOn };
-
-    ghost foreign = { λ took_another. true };
-
-    ghost finish = { λ took_another. took_another };
-
-    ghost faulted = { λ took_another told line. took_another };
-
-    ghost end_faulted = { λ took_another. took_another };
 
     ghost joins = { λ took_another a b line. refl };
 

@@ -61,21 +61,17 @@ impl<A: Allocator + Copy> TokenSink<Token<A>> for Steering<A> {
 
     ghost State = { Collected };
 
-    ghost state = { λ s. s.inner.collected };
+    ghost means = { record {
+      state = λ s. s.inner.collected;
+      step = collected_step;
+      reply = steering_reply;
+      foreign = λ c. c.foreign;
+      finish = collected_finish;
+      faulted = collected_faulted;
+      end_faulted = λ c. c;
+    } };
 
     ghost faults = { λ s. s.inner.faults };
-
-    ghost step = { collected_step };
-
-    ghost reply = { steering_reply };
-
-    ghost foreign = { λ c. c.foreign };
-
-    ghost finish = { collected_finish };
-
-    ghost faulted = { collected_faulted };
-
-    ghost end_faulted = { λ c. c };
 
     ghost joins = { collected_joins };
 

@@ -225,11 +225,11 @@ pub fn cdata<A: Allocator + Copy>(
 /// equal options and equal states and both answer `Ok`.
 pub fn cutting<S: TokenSink<Token<A>>, A: Allocator>()
     ensures text { (rules : Rules) (K : Start) (s : S.State) (pieces : List (List ℕ)) →
-        run_text S.step S.reply S.foreign rules K s [] [] (map AtBack pieces) ≡ concat pieces }
+        run_text S.means.step S.means.reply S.means.foreign rules K s [] [] (map AtBack pieces) ≡ concat pieces }
     ensures states { (rules : Rules) (K : Start) (s : S.State) (pieces others : List (List ℕ)) →
         concat pieces ≡ concat others →
-        S.finish (stepped S.step s (messages (reading S.step S.reply S.foreign rules K s
-        (run_text S.step S.reply S.foreign rules K s [] [] (map AtBack pieces)))))
-        ≡ S.finish (stepped S.step s (messages (reading S.step S.reply S.foreign rules K s
-        (run_text S.step S.reply S.foreign rules K s [] [] (map AtBack others))))) }
+        S.means.finish (stepped S.means.step s (messages (reading S.means.step S.means.reply S.means.foreign rules K s
+        (run_text S.means.step S.means.reply S.means.foreign rules K s [] [] (map AtBack pieces)))))
+        ≡ S.means.finish (stepped S.means.step s (messages (reading S.means.step S.means.reply S.means.foreign rules K s
+        (run_text S.means.step S.means.reply S.means.foreign rules K s [] [] (map AtBack others))))) }
 {}

@@ -29,13 +29,13 @@ pub fn feed_until_done<S: TokenSink<Token<A>>, A: Allocator + Copy>(
     requires { tokenizer.old.ended ≡ false }
 
     // What an `Ok` says: all that waited was taken, and exactly what it decides was told.
-    ensures reads { OnOk result (ReadsOn S.state S.step S.reply S.foreign tokenizer.old tokenizer.new queue.old.text) }
+    ensures reads { OnOk result (ReadsOn S.means.state S.means.step S.means.reply S.means.foreign tokenizer.old tokenizer.new queue.old.text) }
     ensures taken { OnOk result (queue.new.text ≡ []) }
 
     // When each error comes, and what it leaves.
     ensures failed_before { (result ≡ Err TokenizerError.Failed) ↔ (tokenizer.old.failed ≡ true) }
-    ensures stops { IfErr result (λ error. StopsReading S.state S.step S.reply S.foreign S.faulted
-        error tokenizer.old queue.old.text (S.state tokenizer.new.sink)) }
+    ensures stops { IfErr result (λ error. StopsReading S.means.state S.means.step S.means.reply S.means.foreign S.means.faulted
+        error tokenizer.old queue.old.text (S.means.state tokenizer.new.sink)) }
     ensures faults { S.faults tokenizer.new.sink ≡ S.faults tokenizer.old.sink + faults_of result }
     ensures failed { tokenizer.new.failed ≡ is_err result }
     ensures end_of_queue { IsEndOf queue.new.text queue.old.text }
@@ -87,10 +87,10 @@ fn feed_once<S: TokenSink<Token<A>>, A: Allocator + Copy>(
 ) -> Result<(), TokenizerError>
     requires going_on { tokenizer.old.ended ≡ false }
     requires not_failed { tokenizer.old.failed ≡ false }
-    ensures reads { OnOk result (FeedsOn S.state S.step S.reply S.foreign tokenizer.old tokenizer.new queue.old.text) }
-    ensures left { OnOk result (LeavesWaiting S.state S.step S.reply S.foreign tokenizer.old queue.old.text queue.new.text) }
-    ensures stops { IfErr result (λ error. StopsFeeding S.state S.step S.reply S.foreign S.faulted
-        error tokenizer.old queue.old.text (S.state tokenizer.new.sink)) }
+    ensures reads { OnOk result (FeedsOn S.means.state S.means.step S.means.reply S.means.foreign tokenizer.old tokenizer.new queue.old.text) }
+    ensures left { OnOk result (LeavesWaiting S.means.state S.means.step S.means.reply S.means.foreign tokenizer.old queue.old.text queue.new.text) }
+    ensures stops { IfErr result (λ error. StopsFeeding S.means.state S.means.step S.means.reply S.means.foreign S.means.faulted
+        error tokenizer.old queue.old.text (S.means.state tokenizer.new.sink)) }
     ensures faults { S.faults tokenizer.new.sink ≡ S.faults tokenizer.old.sink + faults_of result }
     ensures end_of_queue { IsEndOf queue.new.text queue.old.text }
     ensures rules { tokenizer.new.rules ≡ tokenizer.old.rules }
@@ -111,10 +111,10 @@ fn take_steps<S: TokenSink<Token<A>>, A: Allocator + Copy>(
 ) -> Result<(), TokenizerError>
     requires going_on { tokenizer.old.ended ≡ false }
     requires not_failed { tokenizer.old.failed ≡ false }
-    ensures finishes { OnOk result (FinishesRun S.state S.step S.reply S.foreign S.finish tokenizer.old
-        (map step_of steps.items) (S.state tokenizer.new.sink)) }
-    ensures stops { IfErr result (λ error. StopsRun S.state S.step S.reply S.foreign S.faulted S.end_faulted
-        error tokenizer.old (map step_of steps.items) (S.state tokenizer.new.sink)) }
+    ensures finishes { OnOk result (FinishesRun S.means.state S.means.step S.means.reply S.means.foreign S.means.finish tokenizer.old
+        (map step_of steps.items) (S.means.state tokenizer.new.sink)) }
+    ensures stops { IfErr result (λ error. StopsRun S.means.state S.means.step S.means.reply S.means.foreign S.means.faulted S.means.end_faulted
+        error tokenizer.old (map step_of steps.items) (S.means.state tokenizer.new.sink)) }
     ensures faults { S.faults tokenizer.new.sink ≡ S.faults tokenizer.old.sink + faults_of result }
 {
     let mut queue = BufferQueue::new(alloc);
@@ -137,13 +137,13 @@ pub fn run_steps<S: TokenSink<Token<A>>, A: Allocator + Copy>(
     steps: Vec<Step<A>, A>,
 ) -> (S, Result<(), TokenizerError>)
     requires { CanStart opts.initial_state }
-    ensures finishes { OnOk result.1 (S.state result.0 ≡ S.finish (stepped S.step (S.state sink)
-        (messages (reading S.step S.reply S.foreign (rules_of (options_of opts) names.now) (start_of (options_of opts)) (S.state sink)
-        (run_text S.step S.reply S.foreign (rules_of (options_of opts) names.now) (start_of (options_of opts)) (S.state sink) [] [] (map step_of steps.items)))))) }
-    ensures stops { IfErr result.1 (λ error. EndStops S.step S.faulted S.end_faulted error (S.state sink)
-        (messages (reading S.step S.reply S.foreign (rules_of (options_of opts) names.now) (start_of (options_of opts)) (S.state sink)
-        (run_text S.step S.reply S.foreign (rules_of (options_of opts) names.now) (start_of (options_of opts)) (S.state sink) [] [] (map step_of steps.items))))
-        (S.state result.0)) }
+    ensures finishes { OnOk result.1 (S.means.state result.0 ≡ S.means.finish (stepped S.means.step (S.means.state sink)
+        (messages (reading S.means.step S.means.reply S.means.foreign (rules_of (options_of opts) names.now) (start_of (options_of opts)) (S.means.state sink)
+        (run_text S.means.step S.means.reply S.means.foreign (rules_of (options_of opts) names.now) (start_of (options_of opts)) (S.means.state sink) [] [] (map step_of steps.items)))))) }
+    ensures stops { IfErr result.1 (λ error. EndStops S.means.step S.means.faulted S.means.end_faulted error (S.means.state sink)
+        (messages (reading S.means.step S.means.reply S.means.foreign (rules_of (options_of opts) names.now) (start_of (options_of opts)) (S.means.state sink)
+        (run_text S.means.step S.means.reply S.means.foreign (rules_of (options_of opts) names.now) (start_of (options_of opts)) (S.means.state sink) [] [] (map step_of steps.items))))
+        (S.means.state result.0)) }
     ensures faults { S.faults result.0 ≡ S.faults sink + faults_of result.1 }
 {
     let mut tokenizer = Tokenizer::new(alloc, sink, opts, names);

@@ -27,10 +27,10 @@ fn read_waiting<S: TokenSink<Token<A>>, A: Allocator + Copy>(
 ) -> Result<(), TokenizerError>
     requires going_on { tokenizer.old.ended ≡ false }
     requires not_failed { tokenizer.old.failed ≡ false }
-    ensures finishes { OnOk result (ReadsWhole S.state S.step S.reply S.foreign S.finish tokenizer.old
-        queue.old.text (S.state tokenizer.new.sink)) }
-    ensures stops { IfErr result (λ error. StopsWhole S.state S.step S.reply S.foreign S.faulted S.end_faulted
-        error tokenizer.old queue.old.text (S.state tokenizer.new.sink)) }
+    ensures finishes { OnOk result (ReadsWhole S.means.state S.means.step S.means.reply S.means.foreign S.means.finish tokenizer.old
+        queue.old.text (S.means.state tokenizer.new.sink)) }
+    ensures stops { IfErr result (λ error. StopsWhole S.means.state S.means.step S.means.reply S.means.foreign S.means.faulted S.means.end_faulted
+        error tokenizer.old queue.old.text (S.means.state tokenizer.new.sink)) }
     ensures faults { S.faults tokenizer.new.sink ≡ S.faults tokenizer.old.sink + faults_of result }
 {
     feed_until_done(tokenizer, queue)?;
@@ -46,12 +46,12 @@ fn read_from_start<S: TokenSink<Token<A>>, A: Allocator + Copy>(
     queue: &mut BufferQueue<A>,
 ) -> (S, Result<(), TokenizerError>)
     requires { CanStart opts.initial_state }
-    ensures finishes { OnOk result.1 (S.state result.0 ≡ S.finish (stepped S.step (S.state sink)
-        (messages (reading S.step S.reply S.foreign (rules_of (options_of opts) names.now) (start_of (options_of opts)) (S.state sink)
+    ensures finishes { OnOk result.1 (S.means.state result.0 ≡ S.means.finish (stepped S.means.step (S.means.state sink)
+        (messages (reading S.means.step S.means.reply S.means.foreign (rules_of (options_of opts) names.now) (start_of (options_of opts)) (S.means.state sink)
         queue.old.text)))) }
-    ensures stops { IfErr result.1 (λ error. EndStops S.step S.faulted S.end_faulted error (S.state sink)
-        (messages (reading S.step S.reply S.foreign (rules_of (options_of opts) names.now) (start_of (options_of opts)) (S.state sink)
-        queue.old.text)) (S.state result.0)) }
+    ensures stops { IfErr result.1 (λ error. EndStops S.means.step S.means.faulted S.means.end_faulted error (S.means.state sink)
+        (messages (reading S.means.step S.means.reply S.means.foreign (rules_of (options_of opts) names.now) (start_of (options_of opts)) (S.means.state sink)
+        queue.old.text)) (S.means.state result.0)) }
     ensures faults { S.faults result.0 ≡ S.faults sink + faults_of result.1 }
 {
     let mut tokenizer = Tokenizer::new(alloc, sink, opts, names);
@@ -85,12 +85,12 @@ pub fn read_whole<S: TokenSink<Token<A>>, A: Allocator + Copy>(
     text: String<A>,
 ) -> (S, Result<(), TokenizerError>)
     requires { CanStart opts.initial_state }
-    ensures finishes { OnOk result.1 (S.state result.0 ≡ S.finish (stepped S.step (S.state sink)
-        (messages (reading S.step S.reply S.foreign (rules_of (options_of opts) names.now) (start_of (options_of opts)) (S.state sink)
+    ensures finishes { OnOk result.1 (S.means.state result.0 ≡ S.means.finish (stepped S.means.step (S.means.state sink)
+        (messages (reading S.means.step S.means.reply S.means.foreign (rules_of (options_of opts) names.now) (start_of (options_of opts)) (S.means.state sink)
         (chars (string_bytes text)))))) }
-    ensures stops { IfErr result.1 (λ error. EndStops S.step S.faulted S.end_faulted error (S.state sink)
-        (messages (reading S.step S.reply S.foreign (rules_of (options_of opts) names.now) (start_of (options_of opts)) (S.state sink)
-        (chars (string_bytes text)))) (S.state result.0)) }
+    ensures stops { IfErr result.1 (λ error. EndStops S.means.step S.means.faulted S.means.end_faulted error (S.means.state sink)
+        (messages (reading S.means.step S.means.reply S.means.foreign (rules_of (options_of opts) names.now) (start_of (options_of opts)) (S.means.state sink)
+        (chars (string_bytes text)))) (S.means.state result.0)) }
     ensures faults { S.faults result.0 ≡ S.faults sink + faults_of result.1 }
 {
     let mut queue = BufferQueue::new(alloc);
@@ -110,12 +110,12 @@ pub fn read_pieces<S: TokenSink<Token<A>>, A: Allocator + Copy>(
     pieces: Vec<String<A>, A>,
 ) -> (S, Result<(), TokenizerError>)
     requires { CanStart opts.initial_state }
-    ensures finishes { OnOk result.1 (S.state result.0 ≡ S.finish (stepped S.step (S.state sink)
-        (messages (reading S.step S.reply S.foreign (rules_of (options_of opts) names.now) (start_of (options_of opts)) (S.state sink)
+    ensures finishes { OnOk result.1 (S.means.state result.0 ≡ S.means.finish (stepped S.means.step (S.means.state sink)
+        (messages (reading S.means.step S.means.reply S.means.foreign (rules_of (options_of opts) names.now) (start_of (options_of opts)) (S.means.state sink)
         (text_of (map string_bytes pieces.items)))))) }
-    ensures stops { IfErr result.1 (λ error. EndStops S.step S.faulted S.end_faulted error (S.state sink)
-        (messages (reading S.step S.reply S.foreign (rules_of (options_of opts) names.now) (start_of (options_of opts)) (S.state sink)
-        (text_of (map string_bytes pieces.items)))) (S.state result.0)) }
+    ensures stops { IfErr result.1 (λ error. EndStops S.means.step S.means.faulted S.means.end_faulted error (S.means.state sink)
+        (messages (reading S.means.step S.means.reply S.means.foreign (rules_of (options_of opts) names.now) (start_of (options_of opts)) (S.means.state sink)
+        (text_of (map string_bytes pieces.items)))) (S.means.state result.0)) }
     ensures faults { S.faults result.0 ≡ S.faults sink + faults_of result.1 }
 {
     let mut queue = BufferQueue::new(alloc);

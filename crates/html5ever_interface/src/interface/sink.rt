@@ -28,33 +28,19 @@ impl<A: Allocator> Says for Token<A> {
 /// Takes the tokens of a text, in order. A sink's contract names a state that the tokens step.
 pub trait TokenSink<T: Says> {
     ghost use Rattle.std.specs.Prelude.{◌≡◌, ℕ, ◌+◌, Bool, false, List, [], ◌++◌, IfOk, OnOk, OnErr};
-    ghost use Rattle.html5ever_interface.specs.Token.{Told, Reply, reply_of, is_tag};
+    ghost use Rattle.html5ever_interface.specs.Sink.{Means};
+    ghost use Rattle.html5ever_interface.specs.Token.{Told, reply_of, is_tag};
     ghost use Rattle.html5ever_interface.specs.Token.Told.{Text};
     ghost use Rattle.html5ever_interface.specs.Token.Reply.{KeepOn};
 
     type Handle: Drop;
 
-    // The abstract state of a sink, and how often it faulted.
+    // The abstract state of a sink, what it makes of what it is told, and how often it faulted.
     ghost State: { Type 0 };
 
-    ghost state: { Self → State };
+    ghost means: { Means Self State Self.Handle };
 
     ghost faults: { Self → ℕ };
-
-    // What a token, handed with a line, makes of the state, and what is replied to it.
-    ghost step: { State → Told → ℕ → State };
-
-    ghost reply: { State → Told → ℕ → Reply Self.Handle };
-
-    // The answer about foreign content.
-    ghost foreign: { State → Bool };
-
-    // What the end makes of the state, and what a fault leaves, at a token and at the end.
-    ghost finish: { State → State };
-
-    ghost faulted: { State → Told → ℕ → State };
-
-    ghost end_faulted: { State → State };
 
     /// Takes a token, with the number of the line that the tokenizer has reached. It counts from 1,
     /// and stays at the largest `u64`. With a text it says nothing.
@@ -63,35 +49,35 @@ pub trait TokenSink<T: Says> {
         token: T,
         line_number: u64,
     ) -> Result<TokenSinkResult<Self::Handle, T::Text>, SinkFault>
-        ensures steps { OnOk result (state self.new ≡ step (state self.old) (T.told token) line_number) }
+        ensures steps { OnOk result (means.state self.new ≡ means.step (means.state self.old) (T.told token) line_number) }
         ensures replies { IfOk result
-            (λ answer. reply_of T.text_bytes answer ≡ reply (state self.old) (T.told token) line_number) }
+            (λ answer. reply_of T.text_bytes answer ≡ means.reply (means.state self.old) (T.told token) line_number) }
         ensures fault { OnErr result
-            (state self.new ≡ faulted (state self.old) (T.told token) line_number) }
+            (means.state self.new ≡ means.faulted (means.state self.old) (T.told token) line_number) }
         ensures no_fault { OnOk result (faults self.new ≡ faults self.old) }
         ensures one_fault { OnErr result (faults self.new ≡ faults self.old + 1) };
 
     /// Takes note that no token follows.
     fn end(&mut self) -> Result<(), SinkFault>
-        ensures finished { OnOk result (state self.new ≡ finish (state self.old)) }
-        ensures fault { OnErr result (state self.new ≡ end_faulted (state self.old)) }
+        ensures finished { OnOk result (means.state self.new ≡ means.finish (means.state self.old)) }
+        ensures fault { OnErr result (means.state self.new ≡ means.end_faulted (means.state self.old)) }
         ensures no_fault { OnOk result (faults self.new ≡ faults self.old) }
         ensures one_fault { OnErr result (faults self.new ≡ faults self.old + 1) };
 
     /// Whether the tree's current node is outside the HTML namespace, so that `<![CDATA[` begins a
     /// section.
     fn adjusted_current_node_present_but_not_in_html_namespace(&self) -> bool
-        ensures { result ≡ foreign (state self.now) };
+        ensures { result ≡ means.foreign (means.state self.now) };
 
     // Two adjacent texts are as one, an empty text is as none, and the line of a text is neglected.
     ghost joins: { (s : State) (a b : List ℕ) (line : ℕ)
-        → step (step s (Text a) line) (Text b) line ≡ step s (Text (a ++ b)) line };
+        → means.step (means.step s (Text a) line) (Text b) line ≡ means.step s (Text (a ++ b)) line };
 
-    ghost empty: { (s : State) (line : ℕ) → step s (Text []) line ≡ s };
+    ghost empty: { (s : State) (line : ℕ) → means.step s (Text []) line ≡ s };
 
     ghost any_line: { (s : State) (a : List ℕ) (line other : ℕ)
-        → step s (Text a) line ≡ step s (Text a) other };
+        → means.step s (Text a) line ≡ means.step s (Text a) other };
     // Only a tag gets another reply than to keep on.
     ghost keeps_on: { (s : State) (told : Told) (line : ℕ)
-        → is_tag told ≡ false → reply s told line ≡ KeepOn };
+        → is_tag told ≡ false → means.reply s told line ≡ KeepOn };
 }

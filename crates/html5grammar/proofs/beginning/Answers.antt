@@ -2,4 +2,4 @@ use Rattle.html5grammar.proofs.ReadingLemmas.{told-append}
 use Rattle.html5grammar.proofs.beginning.Goals as goal
 
 pub returns : goal.returns
-returns g c = λ exact K s text rest. (_, told-append g.S.TokenSink.step g.S.TokenSink.reply g.S.TokenSink.foreign exact K s text rest)
+returns g c = λ exact K s text rest. (_, told-append g.S.TokenSink.means.step g.S.TokenSink.means.reply g.S.TokenSink.means.foreign exact K s text rest)

@@ -29,7 +29,7 @@ unfolding stepped
 returns-then-branch-clause-tells g c =
     let same = beside c.position.inside.in_reference c.position.inside.held (opened_of c.position.inside.opened) (rw (← c.position.view_is) at c.requires) in
     let goes =
-    goes_on-asked (g.S.TokenSink.foreign (g.S.TokenSink.state c.args.sink.now)) (opened_of c.position.inside.opened) c.args.c (opened_of c.hold_keyword.new.opened)
+    goes_on-asked (g.S.TokenSink.means.foreign (g.S.TokenSink.means.state c.args.sink.now)) (opened_of c.position.inside.opened) c.args.c (opened_of c.hold_keyword.new.opened)
     (rw c.asked_about_foreign-foreign.ensures at c.in_ok-hold_keyword.ensures.taken (ap Ok c.if-branch.true)) in
     rw (← c.position.view_is, same (opened_of c.position.inside.opened), goes.settled c.args.rules.now) refl
 
@@ -37,7 +37,7 @@ pub returns-then-branch-clause-taken : goal.returns-then-branch-clause-taken
 returns-then-branch-clause-taken g c = λ yes.
     let same = beside c.position.inside.in_reference c.position.inside.held (opened_of c.position.inside.opened) (rw (← c.position.view_is) at c.requires) in
     let goes =
-    goes_on-asked (g.S.TokenSink.foreign (g.S.TokenSink.state c.args.sink.now)) (opened_of c.position.inside.opened) c.args.c (opened_of c.hold_keyword.new.opened)
+    goes_on-asked (g.S.TokenSink.means.foreign (g.S.TokenSink.means.state c.args.sink.now)) (opened_of c.position.inside.opened) c.args.c (opened_of c.hold_keyword.new.opened)
     (rw c.asked_about_foreign-foreign.ensures at c.in_ok-hold_keyword.ensures.taken (ap Ok c.if-branch.true)) in
     rw (← c.position.view_is, same (opened_of c.position.inside.opened), same (opened_of c.hold_keyword.new.opened)) (goes.belongs c.args.rules.now)
 
@@ -57,7 +57,7 @@ pub returns-in_err-finish_keyword-clause-tells : goal.returns-in_err-finish_keyw
 returns-in_err-finish_keyword-clause-tells g c =
     let same = beside c.position.inside.in_reference c.position.inside.held (opened_of c.position.inside.opened) (rw (← c.position.view_is) at c.requires) in
     let ends =
-    ends-asked (g.S.TokenSink.foreign (g.S.TokenSink.state c.args.sink.now)) (opened_of c.position.inside.opened) c.args.c
+    ends-asked (g.S.TokenSink.means.foreign (g.S.TokenSink.means.state c.args.sink.now)) (opened_of c.position.inside.opened) c.args.c
     (rw c.asked_about_foreign-foreign.ensures at c.in_ok-hold_keyword.ensures.decided (ap Ok c.if-branch.false)) in
     rw (← c.position.view_is, same (opened_of c.position.inside.opened), ends.settled c.args.rules.now)
     (tells_stop _ _ _ _ _ _ _ c.from_residual-in_err-finish_keyword.ensures.1
@@ -77,7 +77,7 @@ pub returns-clause-tells : goal.returns-clause-tells
 returns-clause-tells g c =
     let same = beside c.position.inside.in_reference c.position.inside.held (opened_of c.position.inside.opened) (rw (← c.position.view_is) at c.requires) in
     let ends =
-    ends-asked (g.S.TokenSink.foreign (g.S.TokenSink.state c.args.sink.now)) (opened_of c.position.inside.opened) c.args.c
+    ends-asked (g.S.TokenSink.means.foreign (g.S.TokenSink.means.state c.args.sink.now)) (opened_of c.position.inside.opened) c.args.c
     (rw c.asked_about_foreign-foreign.ensures at c.in_ok-hold_keyword.ensures.decided (ap Ok c.if-branch.false)) in
     rw (← c.position.view_is, same (opened_of c.position.inside.opened), ends.settled c.args.rules.now)
     (rw (c.in_ok-hold_keyword.ensures.kept (ap Ok c.if-branch.false)) at c.in_ok-finish_keyword.ensures.tells)
@@ -86,7 +86,7 @@ pub returns-clause-decided : goal.returns-clause-decided
 returns-clause-decided g c = λ no.
     let same = beside c.position.inside.in_reference c.position.inside.held (opened_of c.position.inside.opened) (rw (← c.position.view_is) at c.requires) in
     let ends =
-    ends-asked (g.S.TokenSink.foreign (g.S.TokenSink.state c.args.sink.now)) (opened_of c.position.inside.opened) c.args.c
+    ends-asked (g.S.TokenSink.means.foreign (g.S.TokenSink.means.state c.args.sink.now)) (opened_of c.position.inside.opened) c.args.c
     (rw c.asked_about_foreign-foreign.ensures at c.in_ok-hold_keyword.ensures.decided (ap Ok c.if-branch.false)) in
     rw (← c.position.view_is, same (opened_of c.position.inside.opened), same (opened_of c.finish_keyword.new.opened), (rw (c.in_ok-hold_keyword.ensures.kept (ap Ok c.if-branch.false)) at c.in_ok-finish_keyword.ensures.opened))
     (ends.decides c.args.rules.now)

@@ -12,14 +12,14 @@ pub returns-clause-finishes : goal.returns-clause-finishes
 returns-clause-finishes g c =
     rw c.into_sink.ensures
     (on_ok_weaker c.take_steps-result.result
-    (λ finishes. subst (λ b. g.S.TokenSink.state c.take_steps-result.new.tokenizer.sink ≡ g.S.TokenSink.finish (stepped g.S.TokenSink.step (g.S.TokenSink.state c.args.sink) (messages (reading g.S.TokenSink.step g.S.TokenSink.reply g.S.TokenSink.foreign b (start_of (options_of c.args.opts)) (g.S.TokenSink.state c.args.sink) (run_text g.S.TokenSink.step g.S.TokenSink.reply g.S.TokenSink.foreign b (start_of (options_of c.args.opts)) (g.S.TokenSink.state c.args.sink) [] [] (map step_of c.args.steps.items))))))
-    c.new-tokenizer.ensures.rules (finishes (start_of (options_of c.args.opts)) (g.S.TokenSink.state c.args.sink) c.new-tokenizer.ensures.stands))
+    (λ finishes. subst (λ b. g.S.TokenSink.means.state c.take_steps-result.new.tokenizer.sink ≡ g.S.TokenSink.means.finish (stepped g.S.TokenSink.means.step (g.S.TokenSink.means.state c.args.sink) (messages (reading g.S.TokenSink.means.step g.S.TokenSink.means.reply g.S.TokenSink.means.foreign b (start_of (options_of c.args.opts)) (g.S.TokenSink.means.state c.args.sink) (run_text g.S.TokenSink.means.step g.S.TokenSink.means.reply g.S.TokenSink.means.foreign b (start_of (options_of c.args.opts)) (g.S.TokenSink.means.state c.args.sink) [] [] (map step_of c.args.steps.items))))))
+    c.new-tokenizer.ensures.rules (finishes (start_of (options_of c.args.opts)) (g.S.TokenSink.means.state c.args.sink) c.new-tokenizer.ensures.stands))
     c.take_steps-result.ensures.finishes)
 
 pub returns-clause-stops : goal.returns-clause-stops
 returns-clause-stops g c =
     rw c.into_sink.ensures
     (IfErr-weaker c.take_steps-result.result _ _
-    (λ e stops. subst (λ b. EndStops g.S.TokenSink.step g.S.TokenSink.faulted g.S.TokenSink.end_faulted e (g.S.TokenSink.state c.args.sink) (messages (reading g.S.TokenSink.step g.S.TokenSink.reply g.S.TokenSink.foreign b (start_of (options_of c.args.opts)) (g.S.TokenSink.state c.args.sink) (run_text g.S.TokenSink.step g.S.TokenSink.reply g.S.TokenSink.foreign b (start_of (options_of c.args.opts)) (g.S.TokenSink.state c.args.sink) [] [] (map step_of c.args.steps.items)))) (g.S.TokenSink.state c.take_steps-result.new.tokenizer.sink))
-    c.new-tokenizer.ensures.rules (stops (start_of (options_of c.args.opts)) (g.S.TokenSink.state c.args.sink) c.new-tokenizer.ensures.stands))
+    (λ e stops. subst (λ b. EndStops g.S.TokenSink.means.step g.S.TokenSink.means.faulted g.S.TokenSink.means.end_faulted e (g.S.TokenSink.means.state c.args.sink) (messages (reading g.S.TokenSink.means.step g.S.TokenSink.means.reply g.S.TokenSink.means.foreign b (start_of (options_of c.args.opts)) (g.S.TokenSink.means.state c.args.sink) (run_text g.S.TokenSink.means.step g.S.TokenSink.means.reply g.S.TokenSink.means.foreign b (start_of (options_of c.args.opts)) (g.S.TokenSink.means.state c.args.sink) [] [] (map step_of c.args.steps.items)))) (g.S.TokenSink.means.state c.take_steps-result.new.tokenizer.sink))
+    c.new-tokenizer.ensures.rules (stops (start_of (options_of c.args.opts)) (g.S.TokenSink.means.state c.args.sink) c.new-tokenizer.ensures.stands))
     c.take_steps-result.ensures.stops)

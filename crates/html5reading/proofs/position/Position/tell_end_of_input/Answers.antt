@@ -9,7 +9,7 @@ use Rattle.html5reading.proofs.position.Position.tell_end_of_input.Goals as goal
 pub returns-in_err-decide_at_end-clause-tells : goal.returns-in_err-decide_at_end-clause-tells
 returns-in_err-decide_at_end-clause-tells g c =
     rw (← (c.line-line.ensures.line ∙ ap (λ (P : Start). P.input.line) c.self.view_is))
-    (told_stop g.S.TokenSink.step g.S.TokenSink.faulted _ _ _ _ _ _ _ c.from_residual.ensures.1 c.in_err-decide_at_end.ensures.refusal c.in_err-decide_at_end.ensures.tells)
+    (told_stop g.S.TokenSink.means.step g.S.TokenSink.means.faulted _ _ _ _ _ _ _ c.from_residual.ensures.1 c.in_err-decide_at_end.ensures.refusal c.in_err-decide_at_end.ensures.tells)
 
 pub returns-clause-tells : goal.returns-clause-tells
 returns-clause-tells g c =
@@ -19,4 +19,4 @@ returns-clause-tells g c =
     sym (with_reference-none now.in_reference now.held (opened_of now.opened) none (opened_of now.opened)) ∙ ap (λ (P : Start). P.opened) c.self-2.view_is
     ∙ c.in_ok-decide_at_end.ensures.opened in
     rw (← (c.line-line.ensures.line ∙ ap (λ (P : Start). P.input.line) c.self.view_is))
-    (told_then g.S.TokenSink.step g.S.TokenSink.faulted _ _ _ _ _ _ _ c.in_ok-decide_at_end.ensures.tells (rw later at c.tell_end.ensures.tells))
+    (told_then g.S.TokenSink.means.step g.S.TokenSink.means.faulted _ _ _ _ _ _ _ c.in_ok-decide_at_end.ensures.tells (rw later at c.tell_end.ensures.tells))
