@@ -6,7 +6,7 @@ use Rattle.std.proofs.Math.Bool.{and-false}
 use Rattle.std.proofs.Math.ListN.{drop_of_length-le}
 use Rattle.std.proofs.lemmas.Bool.{and_parts, not-true}
 use Rattle.std.proofs.lemmas.List.{append-nil}
-use Rattle.html5ever_interface.specs.Sink.{stepped, on_line}
+use Rattle.html5ever_interface.specs.Sink.{Means, stepped, on_line}
 use Rattle.html5ever_interface.specs.Token.{Told, Reply}
 use Rattle.html5ever_interface.specs.Token.Told.{Error}
 use Rattle.html5grammar.specs.Anywhere.{TellsBefore, TellsByItself, start_behind, is_decided_by, errors_within, told_within, messages_within}
@@ -57,13 +57,13 @@ found-unended : (exact : Bool) (x : Option ℕ) (digits : List ℕ) (c : ℕ) �
 unfolding unended_number
 found-unended exact x digits c e = rw e refl
 
-module _ {S H : Type 0} (step : S → Told → ℕ → S) (reply : S → Told → ℕ → Reply H) (foreign : S → Bool) (rules : Rules) where
+module _ {X S H : Type 0} (means : Means X S H) (rules : Rules) where
   -- the character that decides a reference is read as behind it
   trace-decided : (s : S) (line : ℕ) (last held : List ℕ) (c : ℕ) (more : List ℕ) (found : Found)
       → is_undecided rules.names (held ++ c ∷ []) ≡ false → ends_number held c ≡ false
       → reference rules false held (Some c) ≡ found → drop found.taken held ≡ []
-      → trace step reply foreign rules s line last (InReference (InText Data) held) (c ∷ more)
-      ≡ with_messages (on_line line (tokens_in found)) (trace step reply foreign rules (stepped step s (on_line line (tokens_in found))) line last (Between Data) (c ∷ more))
+      → trace means.step means.reply means.foreign rules s line last (InReference (InText Data) held) (c ∷ more)
+      ≡ with_messages (on_line line (tokens_in found)) (trace means.step means.reply means.foreign rules (stepped means.step s (on_line line (tokens_in found))) line last (Between Data) (c ∷ more))
   unfolding trace trace_brought brought_at reference_step stepped
   trace-decided s line last held c more found decides ends is taken =
       rw (decides, ends, is, tokens-taken found held taken) refl
@@ -73,19 +73,19 @@ module _ {S H : Type 0} (step : S → Told → ℕ → S) (reply : S → Told �
       → K.opened ≡ Between Data → normalised K.input Y ≡ ampersand ∷ run → normalised (input_after K.input Y) Z ≡ c ∷ more → Holds rules.names [] run
       → is_undecided rules.names (run ++ c ∷ []) ≡ false → ends_number run c ≡ false
       → reference rules false run (Some c) ≡ found → drop found.taken run ≡ []
-      → TellsBefore step reply foreign rules Z K s Y (on_line (line_after K.input (ampersand ∷ run)) (tokens_in found)) (start_behind K Y (Between Data) K.last_start_tag)
+      → TellsBefore means rules Z K s Y (on_line (line_after K.input (ampersand ∷ run)) (tokens_in found)) (start_behind K Y (Between Data) K.last_start_tag)
   before-held Z K s Y run c more found starts text next holds decides ends is taken =
       let line : ℕ = line_after K.input (ampersand ∷ run) in
       let same : line_after (input_after K.input Y) [] ≡ line =
       input_after-line_none K.input Y ∙ sym (line_after-lines_past K.input [] (normalised K.input Y)) ∙ ap (line_after K.input) text in
-      trace-before step reply foreign rules Z K s Y (on_line line (tokens_in found)) (Between Data)
-      (trace-run step reply foreign rules K s (Y ++ Z) run (c ∷ more) starts (normalised-append K.input Y Z ∙ ap (λ l. l ++ normalised (input_after K.input Y) Z) text ∙ ap (λ l. (ampersand ∷ run) ++ l) next) holds
+      trace-before means rules Z K s Y (on_line line (tokens_in found)) (Between Data)
+      (trace-run means.step means.reply means.foreign rules K s (Y ++ Z) run (c ∷ more) starts (normalised-append K.input Y Z ∙ ap (λ l. l ++ normalised (input_after K.input Y) Z) text ∙ ap (λ l. (ampersand ∷ run) ++ l) next) holds
       ∙ trace-decided s line K.last_start_tag run c more found decides ends is taken
       ∙ rw (same, next) refl)
 
   -- a number that has its semicolon is decided
   pub number-by_itself : (K : Start) (s : S) (Y : List ℕ) (x : Option ℕ) (digits : List ℕ) → IsReference rules.names K Y (Number x digits true)
-      → TellsByItself step reply foreign rules K s Y (messages_within rules.exact K.input (Number x digits true)) (start_behind K Y (Between Data) K.last_start_tag)
+      → TellsByItself means rules K s Y (messages_within rules.exact K.input (Number x digits true)) (start_behind K Y (Between Data) K.last_start_tag)
   unfolding written errors_within reference_characters reference is_undecided ends_number unended_number line_past
   number-by_itself K s Y x digits one =
       let p = and_parts (is_base x) _ one.is_reference in
@@ -95,15 +95,15 @@ module _ {S H : Type 0} (step : S → Told → ℕ → S) (reply : S → Told �
       let line : ℕ = line_after K.input (ampersand ∷ held) in
       let last : line_after K.input ((ampersand ∷ held) ++ semicolon ∷ []) ≡ line =
       line_after-past K.input (ampersand ∷ held) semicolon ∙ line_after-last K.input (ampersand ∷ held) in
-      trace-by_itself step reply foreign rules K s Y (messages_within rules.exact K.input (Number x digits true)) (Between Data) K.last_start_tag
-      (trace-run step reply foreign rules K s Y held (semicolon ∷ []) one.starts one.text (Holds-number rules.names x digits p.0 q.1)
-      ∙ trace-ended step reply foreign rules s line K.last_start_tag held found (is_number-ended x digits p.0 q.0 q.1) (rw (has_digits-written x digits p.0 q.0 q.1) refl)
+      trace-by_itself means rules K s Y (messages_within rules.exact K.input (Number x digits true)) (Between Data) K.last_start_tag
+      (trace-run means.step means.reply means.foreign rules K s Y held (semicolon ∷ []) one.starts one.text (Holds-number rules.names x digits p.0 q.1)
+      ∙ trace-ended means.step means.reply means.foreign rules s line K.last_start_tag held found (is_number-ended x digits p.0 q.0 q.1) (rw (has_digits-written x digits p.0 q.0 q.1) refl)
       (number-found rules.exact x digits (Some semicolon) p.0 q.0 q.1) (number-taken x digits (Some semicolon))
       ∙ ap (λ n. record { messages = on_line n (tokens_in found); opened = Between Data; last_start_tag = K.last_start_tag }) (sym last))
 
   pub reference-before : (Z : List ℕ) (K : Start) (s : S) (Y : List ℕ) (written_as : WrittenReference) (c : ℕ) (more : List ℕ) → IsTable rules.names → IsReference rules.names K Y written_as
       → normalised (input_after K.input Y) Z ≡ c ∷ more → is_decided_by rules.names written_as c ≡ true
-      → TellsBefore step reply foreign rules Z K s Y (messages_within rules.exact K.input written_as) (start_behind K Y (Between Data) K.last_start_tag)
+      → TellsBefore means rules Z K s Y (messages_within rules.exact K.input written_as) (start_behind K Y (Between Data) K.last_start_tag)
   unfolding written errors_within reference_errors reference_characters reference is_decided_by unended_number Holds ends_number
   reference-before Z K s Y Ampersand c more table one next decides =
       before-held Z K s Y [] c more (record { taken = 0; errors = []; first = ampersand; more = [] }) one.starts one.text next tt (not-true (is_undecided rules.names (c ∷ [])) decides) refl refl refl
@@ -114,7 +114,7 @@ module _ {S H : Type 0} (step : S → Told → ℕ → S) (reply : S → Told �
       let held : List ℕ = number_sign ∷ (x_text x ++ digits) in
       let d = and_parts (not (is_undecided rules.names (held ++ c ∷ []))) (not (c == semicolon)) decides in
       let other : (c == semicolon) ≡ false = not-true (c == semicolon) d.1 in
-      subst (λ l. TellsBefore step reply foreign rules Z K s Y (on_line (line_after K.input l) (told_within rules.exact (Number x digits false))) (start_behind K Y (Between Data) K.last_start_tag))
+      subst (λ l. TellsBefore means rules Z K s Y (on_line (line_after K.input l) (told_within rules.exact (Number x digits false))) (start_behind K Y (Between Data) K.last_start_tag))
       (sym (append-nil (ampersand ∷ held)))
       (before-held Z K s Y held c more (found_unended rules.exact x digits) one.starts (one.text ∙ append-nil (ampersand ∷ held)) next (Holds-number rules.names x digits p.0 q.1)
       (not-true (is_undecided rules.names (held ++ c ∷ [])) d.0) (unended (x_text x ++ digits) c other)

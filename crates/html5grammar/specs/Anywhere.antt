@@ -1,6 +1,6 @@
 -- What an item of a text tells by itself: behind any text that leads to where it is read, and before any text.
 use Rattle.std.specs.Prelude.{◌≡◌, ◌==◌, ◌&&◌, ℕ, Bool, true, false, not, List, [], ◌∷◌, ◌++◌, map, codes, encode_utf8}
-use Rattle.html5ever_interface.specs.Sink.{Message, stepped, on_line}
+use Rattle.html5ever_interface.specs.Sink.{Means, Message, stepped, on_line}
 use Rattle.html5ever_interface.specs.Token.{Told, TagOf, Reply}
 use Rattle.html5ever_interface.specs.Token.Reply.{KeepOn}
 use Rattle.html5ever_interface.specs.Token.Told.{Text, Error}
@@ -10,7 +10,7 @@ use Rattle.html5grammar.specs.NormalisedText.{line_after, input_after}
 use Rattle.html5grammar.specs.OneReference.{WrittenReference, x_text, written, value_of, reference_errors, reference_characters}
 use Rattle.html5grammar.specs.OneReference.WrittenReference.{Ampersand, Number, Named}
 use Rattle.html5grammar.specs.Reference.{is_undecided, is_invalid_number, invalid_number}
-use Rattle.html5grammar.specs.Reading.{told, messages, after, last_behind, open_after_reply}
+use Rattle.html5grammar.specs.Reading.{last_behind, open_after_reply, messages_so_far, state_after, start_after}
 use Rattle.html5grammar.specs.Start.{Input, Start, Open, Rules}
 use Rattle.markup5ever.specs.NamedReferences.{NamedReference}
 
@@ -25,27 +25,26 @@ module _ {S H : Type 0} (step : S → Told → ℕ → S) (reply : S → Told �
   last_reply s (m ∷ []) = reply s m.token m.line
   last_reply s (m ∷ n ∷ more) = last_reply (step s m.token m.line) (n ∷ more)
 
+module _ {X S H : Type 0} (means : Means X S H) where
   -- the start behind the text Y, whose last message is this tag: the sink's reply to it says what is open
   abbrev pub start_behind_tag : Start → S → List ℕ → TagOf → List Message → Start
   start_behind_tag K s Y tag M =
-      start_behind K Y (open_after_reply (last_behind K.last_start_tag tag) (last_reply s M)) (last_behind K.last_start_tag tag)
+      let last : List ℕ = last_behind K.last_start_tag tag in
+      start_behind K Y (open_after_reply last (last_reply means.step means.reply s M)) last
 
-module _ {S H : Type 0} (step : S → Told → ℕ → S) (reply : S → Told → ℕ → Reply H) (foreign : S → Bool) (rules : Rules) where
-  -- read from K in the sink's state s and before the text Z, the text Y tells the messages M, and Z is read from `later`: behind any
-  -- text X that leads there
-  pub record TellsBefore (Z : List ℕ) (K : Start) (s : S) (Y : List ℕ) (M : List Message) (later : Start) : Type 0 where
-    pub tells : (L : Start) (t : S) (X : List ℕ) → after step reply foreign rules L t X ≡ K
-        → stepped step t (messages (told step reply foreign rules L t X)) ≡ s
-        → messages (told step reply foreign rules L t (X ++ (Y ++ Z)))
-        ≡ messages (told step reply foreign rules L t X)
-        ++ (M ++ messages (told step reply foreign rules later (stepped step s M) Z))
-    pub leads : (L : Start) (t : S) (X : List ℕ) → after step reply foreign rules L t X ≡ K
-        → stepped step t (messages (told step reply foreign rules L t X)) ≡ s
-        → after step reply foreign rules L t (X ++ (Y ++ Z)) ≡ after step reply foreign rules later (stepped step s M) Z
+  module _ (rules : Rules) where
+    -- read from K in the sink's state s and before the text Z, the text Y tells the messages M, and Z is read from `later`: behind
+    -- any text X that leads there
+    pub record TellsBefore (Z : List ℕ) (K : Start) (s : S) (Y : List ℕ) (M : List Message) (later : Start) : Type 0 where
+      pub tells : (L : Start) (t : S) (X : List ℕ) → start_after means rules L t X ≡ K → state_after means rules L t X ≡ s
+          → messages_so_far means rules L t (X ++ (Y ++ Z))
+          ≡ messages_so_far means rules L t X ++ (M ++ messages_so_far means rules later (stepped means.step s M) Z)
+      pub leads : (L : Start) (t : S) (X : List ℕ) → start_after means rules L t X ≡ K → state_after means rules L t X ≡ s
+          → start_after means rules L t (X ++ (Y ++ Z)) ≡ start_after means rules later (stepped means.step s M) Z
 
-  -- the same before any text
-  abbrev pub TellsByItself : Start → S → List ℕ → List Message → Start → Type 0
-  TellsByItself K s Y M later = (Z : List ℕ) → TellsBefore Z K s Y M later
+    -- the same before any text
+    abbrev pub TellsByItself : Start → S → List ℕ → List Message → Start → Type 0
+    TellsByItself K s Y M later = (Z : List ℕ) → TellsBefore Z K s Y M later
 
 -- ---- references, which what follows them decides
 

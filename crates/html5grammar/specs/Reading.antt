@@ -1,6 +1,6 @@
 -- The reading of a text: its events, which of them its characters decide, and the start behind it.
 use Rattle.std.specs.Prelude.{ℕ, suc, leb, ◌-◌, Bool, true, false, List, [], ◌∷◌, ◌++◌, length, map, take_while, if◌then◌else◌}
-use Rattle.html5ever_interface.specs.Sink.{Message, stepped, on_line}
+use Rattle.html5ever_interface.specs.Sink.{Means, Message, stepped, on_line}
 use Rattle.html5ever_interface.specs.Token.{Told, TagOf, Reply}
 use Rattle.html5ever_interface.specs.Token.Told.{Tag}
 use Rattle.html5ever_interface.specs.Token.Reply.{KeepOn, ReadPlainText, ReadRawData, RunScript, SwitchEncoding}
@@ -187,3 +187,21 @@ module _ {S H : Type 0} (step : S → Told → ℕ → S) (reply : S → Told �
 
 abbrev pub messages : List Event → List Message
 messages E = map (λ e. e.message) E
+
+-- the same for a sink, from the start K and the sink's state s
+module _ {X S H : Type 0} (means : Means X S H) (rules : Rules) (K : Start) (s : S) where
+  -- the messages of a text's reading
+  abbrev pub all_messages : List ℕ → List Message
+  all_messages text = messages (reading means.step means.reply means.foreign rules K s text)
+
+  -- the messages that the characters of a text decide
+  abbrev pub messages_so_far : List ℕ → List Message
+  messages_so_far text = messages (told means.step means.reply means.foreign rules K s text)
+
+  -- the sink's state where it was sent those
+  abbrev pub state_after : List ℕ → S
+  state_after text = stepped means.step s (messages_so_far text)
+
+  -- the start of what follows a text
+  abbrev pub start_after : List ℕ → Start
+  start_after text = after means.step means.reply means.foreign rules K s text

@@ -7,8 +7,8 @@ ghost use Rattle.std.specs.List.{list_all};
 ghost use Rattle.std.specs.Str.{bytes_eq};
 ghost use Rattle.std.specs.Char.{is_ascii_alphanumeric};
 ghost use Rattle.std.specs.Option.{is_none};
-ghost use Rattle.html5ever_interface.specs.Sink.{Message, stepped};
-ghost use Rattle.html5grammar.specs.Reading.{reading, told, messages, after, is_among};
+ghost use Rattle.html5ever_interface.specs.Sink.{Message};
+ghost use Rattle.html5grammar.specs.Reading.{reading, told, is_among, all_messages, messages_so_far, state_after, start_after};
 ghost use Rattle.html5grammar.specs.Lawful.{IsLawful, TellsNoTagBehind};
 ghost use Rattle.html5grammar.specs.Characters.{lower_case, number_sign};
 ghost use Rattle.html5grammar.specs.Doctype.{in_skipped_rest};
@@ -32,21 +32,20 @@ use std::alloc::Allocator;
 /// forget all but that start, wherever a text is cut.
 pub fn forgetting<S: TokenSink<Token<A>>, A: Allocator>()
     ensures told { (rules : Rules) (K : Start) (s : S.State) (text rest : List ℕ) →
-        messages (told S.means.step S.means.reply S.means.foreign rules K s (text ++ rest))
-        ≡ messages (told S.means.step S.means.reply S.means.foreign rules K s text)
-        ++ messages (told S.means.step S.means.reply S.means.foreign rules (after S.means.step S.means.reply S.means.foreign rules K s text)
-        (stepped S.means.step s (messages (told S.means.step S.means.reply S.means.foreign rules K s text))) rest) }
+        messages_so_far S.means rules K s (text ++ rest)
+        ≡ messages_so_far S.means rules K s text
+        ++ messages_so_far S.means rules (start_after S.means rules K s text) (state_after S.means rules K s text) rest }
     ensures after { (rules : Rules) (K : Start) (s : S.State) (text rest : List ℕ) →
-        after S.means.step S.means.reply S.means.foreign rules K s (text ++ rest)
-        ≡ after S.means.step S.means.reply S.means.foreign rules (after S.means.step S.means.reply S.means.foreign rules K s text)
-        (stepped S.means.step s (messages (told S.means.step S.means.reply S.means.foreign rules K s text))) rest }
+        start_after S.means rules K s (text ++ rest)
+        ≡ start_after S.means rules (start_after S.means rules K s text)
+        (state_after S.means rules K s text) rest }
 {}
 
 /// What is told of a text is a beginning of what is told of it and more.
 pub fn beginning<S: TokenSink<Token<A>>, A: Allocator>()
     ensures { (rules : Rules) (K : Start) (s : S.State) (text rest : List ℕ) → (later : List Message)
-        × (messages (told S.means.step S.means.reply S.means.foreign rules K s (text ++ rest))
-        ≡ messages (told S.means.step S.means.reply S.means.foreign rules K s text) ++ later) }
+        × (messages_so_far S.means rules K s (text ++ rest)
+        ≡ messages_so_far S.means rules K s text ++ later) }
 {}
 
 /// What is told of a text, however it goes on: the events of the reading of the whole before the first
@@ -89,7 +88,7 @@ pub fn each_cdata()
 /// A tag that the end of input cuts off is never told: what the end decides and tells has no tag.
 pub fn tags_cut_off<S: TokenSink<Token<A>>, A: Allocator>()
     ensures { (rules : Rules) (K : Start) (s : S.State) (text : List ℕ) →
-        TellsNoTagBehind (messages (told S.means.step S.means.reply S.means.foreign rules K s text)) (messages (reading S.means.step S.means.reply S.means.foreign rules K s text)) }
+        TellsNoTagBehind (messages_so_far S.means rules K s text) (all_messages S.means rules K s text) }
 {}
 
 /// By a table of names each token that a text tells is lawful, where nothing was open before it: text
@@ -97,5 +96,5 @@ pub fn tags_cut_off<S: TokenSink<Token<A>>, A: Allocator>()
 /// twice, a doctype whose name has no capital.
 pub fn lawful_tokens<S: TokenSink<Token<A>>, A: Allocator>()
     ensures { (rules : Rules) (K : Start) (s : S.State) (text : List ℕ) → IsTable rules.names → is_clean K.opened ≡ true →
-        All (λ m. IsLawful m.token) (messages (reading S.means.step S.means.reply S.means.foreign rules K s text)) }
+        All (λ m. IsLawful m.token) (all_messages S.means rules K s text) }
 {}

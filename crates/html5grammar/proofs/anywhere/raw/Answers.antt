@@ -12,12 +12,12 @@ use Rattle.html5grammar.proofs.anywhere.raw.Goals as goal
 pub returns-clause-ended : goal.returns-clause-ended
 returns-clause-ended g c = λ rules K s Y raw name written_as tag e one.
     let M : List Message = spelled_messages rules.exact K.input [] (spell_raw rules.exact raw written_as) in
-    trace-by_itself g.S.TokenSink.means.step g.S.TokenSink.means.reply g.S.TokenSink.means.foreign rules K s Y M
+    trace-by_itself g.S.TokenSink.means rules K s Y M
     (open_after_reply (last_behind K.last_start_tag (tag_told tag)) (last_reply g.S.TokenSink.means.step g.S.TokenSink.means.reply s M)) (last_behind K.last_start_tag (tag_told tag))
     (reads_raw_reply g.S.TokenSink.means.step g.S.TokenSink.means.reply g.S.TokenSink.means.foreign rules K s Y raw name written_as tag e one)
 
 pub returns-clause-open : goal.returns-clause-open
 returns-clause-open g c = λ rules K s Y raw name written_as e one.
-    tells-by_itself g.S.TokenSink.means.step g.S.TokenSink.means.reply g.S.TokenSink.means.foreign rules K s Y (spelled_messages rules.exact K.input [] (spell_raw rules.exact raw written_as))
+    tells-by_itself g.S.TokenSink.means rules K s Y (spelled_messages rules.exact K.input [] (spell_raw rules.exact raw written_as))
     (after g.S.TokenSink.means.step g.S.TokenSink.means.reply g.S.TokenSink.means.foreign rules K s Y)
     (told-raw_open g.S.TokenSink.means.step g.S.TokenSink.means.reply g.S.TokenSink.means.foreign rules K s Y raw name written_as e one) refl
