@@ -7,7 +7,7 @@ use Rattle.std.proofs.Math.Seq.{take-add}
 use Rattle.std.proofs.lemmas.List.{append-nil, append_assoc}
 use Rattle.std.proofs.lemmas.Str.{chars-append, chars-nil}
 use Rattle.markup5ever.specs.BufferQueue.{TextQueue}
-use Rattle.html5print.specs.Page.{Printer, page_step, page_reply, page_foreign}
+use Rattle.token_printer.specs.Page.{Printer, page_step, page_reply, page_foreign}
 use Rattle.html5ever.specs.Tokenizer.{Tokenizing, ReadsOn}
 use Rattle.html5grammar.specs.Reading.{after}
 use Rattle.html5grammar.specs.Start.{Start}

@@ -24,8 +24,8 @@ use Rattle.html5grammar.specs.Start.Stand.{InText, InAttribute}
 use Rattle.html5grammar.proofs.ReadingLemmas.{reading-events}
 use Rattle.html5grammar.proofs.Traces.{messages-append, messages-map}
 use Rattle.html5ever.specs.Tokenizer.{Tokenizing, StandsAt, rules_of}
-use Rattle.html5print.specs.Page.{Page, Printer, page_step, page_reply, page_foreign, blank_page}
-use Rattle.html5print.proofs.Pages.{lines-stepped}
+use Rattle.token_printer.specs.Page.{Page, Printer, page_step, page_reply, page_foreign, blank_page}
+use Rattle.token_printer.proofs.Pages.{lines-stepped}
 use Rattle.devices.specs.Device.{ConsumesBeginning}
 use Rattle.html5cli.specs.Printing.{printed_reading}
 use Rattle.html5cli.specs.Settings.{SettingsOf}

@@ -3,8 +3,8 @@ use Rattle.std.specs.Prelude.{◌≡◌, ℕ, List, Option}
 use Rattle.std.specs.Io.KnownBytes.{Appends, Consumes, IsAtEnd, Keeps}
 use Rattle.std.specs.Str.{IsUtf8, chars}
 use Rattle.devices.specs.Device.{AppendsBeginning}
-use Rattle.html5print.specs.Page.{blank_page, page_step, page_reply, page_foreign}
-use Rattle.html5print.specs.Printed.{printed}
+use Rattle.token_printer.specs.Page.{blank_page, page_step, page_reply, page_foreign}
+use Rattle.token_printer.specs.Printed.{printed}
 use Rattle.html5grammar.specs.Reading.{reading, messages, after}
 use Rattle.html5grammar.specs.Start.{Open, start_of}
 use Rattle.html5cli.specs.Settings.{SettingsOf}

@@ -1,7 +1,7 @@
 //! The words of the command line.
 ghost use Rattle.std.specs.Prelude.{◌≡◌, ◌<◌, ◌^◌, ◌↔◌, IfSome, IsSome, map, string_bytes};
 ghost use Rattle.std.specs.Option.{option_map};
-ghost use Rattle.html5reading.specs.Starting.{CanStart};
+ghost use Rattle.html5feed.specs.Starting.{CanStart};
 ghost use Rattle.html5table.specs.Listed.{listed};
 ghost use Rattle.html5cli.specs.Settings.{said_by, unsaid, state_said, cut_said, settings_said};
 

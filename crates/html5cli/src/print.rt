@@ -2,11 +2,11 @@ ghost use Rattle.std.specs.Prelude.{◌≡◌, ◌≢◌, ◌↔◌, ◌+◌, �
 ghost use Rattle.std.specs.Io.KnownBytes.{Keeps};
 ghost use Rattle.std.specs.Str.{IsUtf8, chars};
 ghost use Rattle.devices.specs.Device.{IsRefusal, reported_failures};
-ghost use Rattle.html5print.specs.Page.{page_step, page_reply, page_foreign};
+ghost use Rattle.token_printer.specs.Page.{page_step, page_reply, page_foreign};
 ghost use Rattle.html5ever_interface.specs.Options.{options_of};
 ghost use Rattle.html5cli.specs.Settings.{options_said, said_by};
 ghost use Rattle.html5cli.specs.Printing.{printed_reading, PrintsReading, PrintsBeginning, PrintsNothing};
-ghost use Rattle.html5reading.specs.Starting.{CanStart};
+ghost use Rattle.html5feed.specs.Starting.{CanStart};
 ghost use Rattle.html5ever.specs.Tokenizer.{ReadsOn};
 
 use devices::{Fault, Source, Target, read_to_end, write_all};
@@ -15,7 +15,7 @@ use html5ever::tokenizer::Tokenizer;
 use html5ever::tokenizer::steps::feed_until_done;
 use html5ever_interface::options::TokenizerOpts;
 use html5ever_interface::states::State;
-use html5print::print_sink::PrintSink;
+use token_printer::print_sink::PrintSink;
 use markup5ever::buffer_queue::BufferQueue;
 use markup5ever::data::NamedReferences;
 use std::alloc::{AllocError, Allocator};

@@ -7,13 +7,13 @@ use Rattle.html5grammar.proofs.ReadingLemmas.{state_behind, told-append, after-a
 use Rattle.html5grammar.specs.Reading.{told, messages, after}
 use Rattle.html5grammar.specs.Start.{Start, Rules, held_len}
 use Rattle.markup5ever.specs.BufferQueue.{TextQueue}
-use Rattle.html5reading.specs.Feed.{Feed, feed, told_beyond, IsEndOf, IsLinear}
+use Rattle.html5feed.specs.Feed.{Feed, feed, told_beyond, IsEndOf, IsLinear}
 use Rattle.html5states.specs.Telling.{Stops}
 use Rattle.html5ever.specs.Tokenizer.{Tokenizing, StandsAt, ReadsOn, FeedsOn, LeavesWaiting, StopsReading, StopsFeeding}
-use Rattle.html5parts.specs.declared.error.TokenizerError.{TokenizerError}
-use Rattle.html5parts.specs.declared.error.TokenizerError.TheVariants.{Memory, Sink, Failed}
-use Rattle.html5reading.proofs.Pauses.{told_beyond-behind, state_behind-append, feed-parts}
-use Rattle.html5reading.proofs.QueueReading.{no_error}
+use Rattle.html5opened.specs.declared.error.TokenizerError.{TokenizerError}
+use Rattle.html5opened.specs.declared.error.TokenizerError.TheVariants.{Memory, Sink, Failed}
+use Rattle.html5feed.proofs.Pauses.{told_beyond-behind, state_behind-append, feed-parts}
+use Rattle.html5feed.proofs.QueueReading.{no_error}
 use Rattle.html5states.proofs.Tellings.{stops_after, stops_before}
 use Rattle.std.proofs.Common.{Result, Ok, Err, true, ◌↔◌}
 

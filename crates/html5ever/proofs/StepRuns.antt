@@ -7,14 +7,14 @@ use Rattle.html5ever_interface.specs.Sink.{stepped}
 use Rattle.html5ever_interface.specs.Token.{Told, Reply}
 use Rattle.html5grammar.specs.Reading.{reading, messages}
 use Rattle.html5grammar.specs.Start.{Start, Rules}
-use Rattle.html5reading.specs.Feed.{Feed, feed, told_beyond, IsEndOf}
+use Rattle.html5feed.specs.Feed.{Feed, feed, told_beyond, IsEndOf}
 use Rattle.html5ever.specs.RunSteps.StepOf.{AtBack}
-use Rattle.html5reading.proofs.Pauses.{feed-parts}
+use Rattle.html5feed.proofs.Pauses.{feed-parts}
 use Rattle.html5ever.specs.RunSteps.{StepOf, waiting_with, run_text, FinishesRun, StopsRun}
 use Rattle.html5states.specs.Telling.{Stops}
 use Rattle.html5ever.specs.Tokenizer.{Tokenizing, StandsAt, ReadsOn, FeedsOn, LeavesWaiting, Finishes, StopsFeeding, StopsReading, StopsEnding, EndStops}
-use Rattle.html5parts.specs.declared.error.TokenizerError.{TokenizerError}
-use Rattle.html5parts.specs.declared.error.TokenizerError.TheVariants.{Memory}
+use Rattle.html5opened.specs.declared.error.TokenizerError.{TokenizerError}
+use Rattle.html5opened.specs.declared.error.TokenizerError.TheVariants.{Memory}
 use Rattle.html5ever.proofs.Draining.{taken-is}
 use Rattle.html5states.proofs.Tellings.{Memory-at_once}
 use Rattle.html5ever.proofs.Wholes.{whole-within_stops, whole-end_stops}

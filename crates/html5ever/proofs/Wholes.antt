@@ -13,11 +13,11 @@ use Rattle.html5grammar.specs.Start.{Start, Rules}
 use Rattle.html5grammar.proofs.ReadingLemmas.{told-nil, reading-events}
 use Rattle.html5ever.proofs.Draining.{told-beyond}
 use Rattle.html5grammar.proofs.Traces.{messages-append}
-use Rattle.html5reading.specs.Feed.{told_beyond, told_at_end}
+use Rattle.html5feed.specs.Feed.{told_beyond, told_at_end}
 use Rattle.html5states.specs.Telling.{Stops, StopsWithin, IsRefusal}
 use Rattle.html5ever.specs.Tokenizer.{Tokenizing, StandsAt, EndStops}
-use Rattle.html5parts.specs.declared.error.TokenizerError.{TokenizerError}
-use Rattle.html5parts.specs.declared.error.TokenizerError.TheVariants.{Memory, Sink, Failed}
+use Rattle.html5opened.specs.declared.error.TokenizerError.{TokenizerError}
+use Rattle.html5opened.specs.declared.error.TokenizerError.TheVariants.{Memory, Sink, Failed}
 use Rattle.html5states.proofs.Tellings.{stops_before, stops_after}
 use Rattle.std.proofs.Math.Seq.{drop-append_seam}
 use Rattle.std.proofs.lemmas.List.{length-map}

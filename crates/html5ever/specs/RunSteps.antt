@@ -6,9 +6,9 @@ use Rattle.html5ever_interface.specs.Sink.{stepped}
 use Rattle.html5ever_interface.specs.Token.{Told, Reply}
 use Rattle.html5grammar.specs.Reading.{reading, messages}
 use Rattle.html5grammar.specs.Start.{Start, Rules}
-use Rattle.html5reading.specs.Feed.{Feed, feed}
+use Rattle.html5feed.specs.Feed.{Feed, feed}
 use Rattle.html5ever.specs.Tokenizer.{Tokenizing, StandsAt, EndStops}
-use Rattle.html5parts.specs.declared.error.TokenizerError.{TokenizerError}
+use Rattle.html5opened.specs.declared.error.TokenizerError.{TokenizerError}
 use Rattle.html5ever.specs.declared.tokenizer.steps.Step.{Step}
 use Rattle.html5ever.specs.declared.tokenizer.steps.Step.TheVariants.{Push, Insert}
 

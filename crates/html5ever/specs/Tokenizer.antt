@@ -7,11 +7,11 @@ use Rattle.html5ever_interface.specs.Sink.{Message, stepped}
 use Rattle.html5ever_interface.specs.Token.{Told, Reply}
 use Rattle.html5grammar.specs.Reading.{reading, told, messages, after}
 use Rattle.html5grammar.specs.Start.{Start, Rules, start_of}
-use Rattle.html5reading.specs.Feed.{told_beyond, told_at_end, feed}
-use Rattle.html5reading.specs.Refused.{RefusedBehind}
+use Rattle.html5feed.specs.Feed.{told_beyond, told_at_end, feed}
+use Rattle.html5feed.specs.Refused.{RefusedBehind}
 use Rattle.html5states.specs.Telling.{Stops, StopsWithin, FaultsWithin}
-use Rattle.html5parts.specs.declared.error.TokenizerError.{TokenizerError}
-use Rattle.html5parts.specs.declared.error.TokenizerError.TheVariants.{Memory, Sink, Failed}
+use Rattle.html5opened.specs.declared.error.TokenizerError.{TokenizerError}
+use Rattle.html5opened.specs.declared.error.TokenizerError.TheVariants.{Memory, Sink, Failed}
 
 -- what contracts see of a tokenizer
 pub record Tokenizing (X : Type 0) : Type 0 where

@@ -7,15 +7,15 @@ ghost use Rattle.html5grammar.specs.Reading.{after};
 ghost use Rattle.html5grammar.specs.Start.{Start, start_of, is_clean, held_len};
 ghost use Rattle.html5grammar.specs.Start.Mode.{Plain};
 ghost use Rattle.html5grammar.specs.Start.Open.{Between};
-ghost use Rattle.html5reading.specs.Feed.{reply_in, IsEndOf, IsLinear};
+ghost use Rattle.html5feed.specs.Feed.{reply_in, IsEndOf, IsLinear};
 ghost use Rattle.html5states.specs.Telling.{faults_of};
-ghost use Rattle.html5reading.specs.Starting.{CanStart};
+ghost use Rattle.html5feed.specs.Starting.{CanStart};
 ghost use Rattle.html5ever.specs.Tokenizer.{rules_of, StandsAt, FeedsOn, HandsOn, LeavesWaiting};
 ghost use Rattle.html5ever.specs.Tokenizer.{StopsFeeding, LeavesRefused, Finishes, StopsEnding, EndStops};
 
-use html5reading::position::Position;
-use html5reading::reading::read_queue;
-use html5reading::rules::Rules;
+use html5feed::position::Position;
+use html5feed::reading::read_queue;
+use html5feed::rules::Rules;
 use std::alloc::{Allocator, Global};
 use std::marker::Model;
 
@@ -39,7 +39,7 @@ pub use html5ever_interface::interface::token::{
     Doctype, ProcessResult, SinkFault, Tag, TagKind, Token, TokenSinkResult,
 };
 pub use html5ever_interface::options::TokenizerOpts;
-pub use html5parts::error::TokenizerError;
+pub use html5opened::error::TokenizerError;
 pub use html5sinks::replies;
 pub use html5sinks::tags::{ReplyingTagHandler, SaysTag, TagHandler, TagsOnly};
 pub use html5sinks::text_runs::{ReplyingRunHandler, RunHandler, TextRuns};

@@ -6,7 +6,7 @@ ghost use Rattle.html5extract.specs.Links.{links_step};
 
 use crate::links::Links;
 use devices::{Source, Target};
-use html5filter::Filter;
+use html5programs::Filter;
 use html5stream::{StreamError, read_tags};
 use markup5ever::data::NamedReferences;
 use printer::Printer;

@@ -6,7 +6,7 @@ ghost use Rattle.html5extract.specs.PageText.{at_start, reading_of, text_step};
 
 use crate::page_text::PageText;
 use devices::{Source, Target};
-use html5filter::Filter;
+use html5programs::Filter;
 use html5stream::{StreamError, read_runs};
 use markup5ever::data::NamedReferences;
 use printer::Printer;

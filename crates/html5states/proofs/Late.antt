@@ -12,8 +12,8 @@ use Rattle.html5grammar.specs.Reference.{first_or, has_digits, number_reference,
 use Rattle.html5grammar.specs.Slice.{Late, tokens_of_late}
 use Rattle.html5grammar.specs.Start.{Stand}
 use Rattle.html5grammar.specs.Start.Stand.{InText, InAttribute}
-use Rattle.html5parts.specs.CharRef.{IsFound, decided, found_at, more_of}
-use Rattle.html5parts.specs.declared.char_ref.Found.{Found}
+use Rattle.html5opened.specs.CharRef.{IsFound, decided, found_at, more_of}
+use Rattle.html5opened.specs.declared.char_ref.Found.{Found}
 use Rattle.html5grammar.proofs.TableNames.{longest-nil}
 use Rattle.html5states.proofs.Resolving.{number-none, number-some}
 use Rattle.markup5ever.specs.NamedReferences.{NamedReference, IsTable}

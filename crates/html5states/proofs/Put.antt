@@ -6,8 +6,8 @@ use Rattle.std.proofs.lemmas.List.Concat.{flat_map-append}
 use Rattle.std.proofs.lemmas.List.Elements.{All-weaker}
 use Rattle.std.proofs.lemmas.Str.{encodes-append, encodes-IsAscii, chars_from_encodes}
 use Rattle.html5grammar.specs.Characters.{number_sign, null, value_bytes}
-use Rattle.html5parts.proofs.Held.{IsAscii-plain}
-use Rattle.html5parts.proofs.RunSteps.{value_bytes-run}
+use Rattle.html5opened.proofs.Held.{IsAscii-plain}
+use Rattle.html5opened.proofs.RunSteps.{value_bytes-run}
 
 -- plain text is put to a value as it stands
 value_bytes-plain : (rest : List ℕ) → All (λ c. (number_sign ≤ c) × (c ≤ 0x7A)) rest → flat_map value_bytes rest ≡ rest

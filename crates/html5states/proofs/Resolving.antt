@@ -10,14 +10,14 @@ use Rattle.html5grammar.specs.Characters.{ampersand, semicolon}
 use Rattle.html5grammar.specs.ErrorText.{where_true}
 use Rattle.html5grammar.specs.Reference as grammar
 use Rattle.html5grammar.specs.Reference.{number_reference, named_reference, no_name, no_reference, error, has_digits, number_value, without_digits, semicolon_len, unended_number, is_invalid_number, invalid_number, character_of_number, longest_name, is_ended, goes_on, first_or, second_of}
-use Rattle.html5parts.specs.CharRef.{IsFound, IsNamed, more_of}
+use Rattle.html5opened.specs.CharRef.{IsFound, IsNamed, more_of}
 use Rattle.html5states.specs.Telling.{Emits}
 use Rattle.html5states.specs.declared.teller.Teller.{Teller}
-use Rattle.html5parts.specs.declared.char_ref.Found.{Found}
-use Rattle.html5parts.specs.declared.char_ref.Named.{Named}
+use Rattle.html5opened.specs.declared.char_ref.Found.{Found}
+use Rattle.html5opened.specs.declared.char_ref.Named.{Named}
 use Rattle.markup5ever.specs.NamedReferences.{NamedReference}
-use Rattle.html5parts.proofs.LongestName.{upto}
-use Rattle.html5parts.proofs.Numbers.{character-limited, is_invalid-limited, invalid-last_bits}
+use Rattle.html5opened.proofs.LongestName.{upto}
+use Rattle.html5opened.proofs.Numbers.{character-limited, is_invalid-limited, invalid-last_bits}
 
 -- ---- numbers
 

@@ -3,14 +3,14 @@
 
 ghost use Rattle.std.specs.Prelude.{◌≡◌, OnOk};
 ghost use Rattle.html5grammar.specs.Tag.{with_last_attribute, duplicate_error};
-ghost use Rattle.html5parts.specs.CurrentTag.{open_tag};
+ghost use Rattle.html5opened.specs.CurrentTag.{open_tag};
 ghost use Rattle.html5states.specs.Telling.{Emits};
 
 use crate::teller::Teller;
 use html5ever_interface::interface::sink::TokenSink;
 use html5ever_interface::interface::token::Token;
-use html5parts::current_tag::{CurrentTag, has_attribute, push_attribute};
-use html5parts::error::TokenizerError;
+use html5opened::current_tag::{CurrentTag, has_attribute, push_attribute};
+use html5opened::error::TokenizerError;
 use std::alloc::Allocator;
 use std::mem;
 

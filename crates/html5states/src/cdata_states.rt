@@ -1,6 +1,6 @@
 //! The states of CDATA sections, the standard's "CDATA section state", "CDATA section bracket state" and
 //! "CDATA section end state": which of them is open is told by the end of the text that is held.
-#![tactic(auto, using(crate::proofs::Tellings::tells_from_memory), unfolding(html5grammar::proofs::Machine::cdata_step, html5parts::specs::Steps::tokens_of, html5parts::specs::Steps::behind, html5ever_interface::specs::Sink::stepped))]
+#![tactic(auto, using(crate::proofs::Tellings::tells_from_memory), unfolding(html5grammar::proofs::Machine::cdata_step, html5opened::specs::Steps::tokens_of, html5opened::specs::Steps::behind, html5ever_interface::specs::Sink::stepped))]
 
 ghost use Rattle.std.specs.Prelude.{◌≡◌, ◌∷◌, [], ◌++◌, true, string_bytes};
 ghost use Rattle.html5ever_interface.specs.Token.Told.{Null, End};
@@ -16,9 +16,9 @@ use crate::teller::Teller;
 use html5ever_interface::interface::sink::TokenSink;
 use html5ever_interface::interface::token::Token;
 use html5ever_interface::states::State;
-use html5parts::cdata::{ends_section, push_text, section_len};
-use html5parts::error::TokenizerError;
-use html5parts::opened::{Opened, Progress, Step};
+use html5opened::cdata::{ends_section, push_text, section_len};
+use html5opened::error::TokenizerError;
+use html5opened::opened::{Opened, Progress, Step};
 use std::alloc::Allocator;
 use std::mem;
 

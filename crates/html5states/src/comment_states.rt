@@ -1,5 +1,5 @@
 //! The states of comments.
-#![tactic(auto, using(crate::proofs::Tellings::tells_from_memory), unfolding(html5grammar::proofs::Machine::comment_step, html5grammar::proofs::Machine::bogus_comment_step, html5grammar::specs::Comment::comment_errors, html5grammar::specs::Comment::mark_error, html5grammar::specs::Comment::comment_end_error, html5parts::specs::Steps::tokens_of, html5parts::specs::Steps::behind, html5ever_interface::specs::Sink::stepped))]
+#![tactic(auto, using(crate::proofs::Tellings::tells_from_memory), unfolding(html5grammar::proofs::Machine::comment_step, html5grammar::proofs::Machine::bogus_comment_step, html5grammar::specs::Comment::comment_errors, html5grammar::specs::Comment::mark_error, html5grammar::specs::Comment::comment_end_error, html5opened::specs::Steps::tokens_of, html5opened::specs::Steps::behind, html5ever_interface::specs::Sink::stepped))]
 
 ghost use Rattle.std.specs.Prelude.{◌≡◌, ◌∷◌, [], ◌++◌, string_bytes};
 ghost use Rattle.html5ever_interface.specs.Token.Told.{Comment};
@@ -16,10 +16,10 @@ use crate::teller::Teller;
 use html5ever_interface::interface::sink::TokenSink;
 use html5ever_interface::interface::token::Token;
 use html5ever_interface::states::State;
-use html5parts::comments::{content_len, ends_comment, ends_in, is_behind_mark, state_in_comment};
-use html5parts::current_tag::push_value;
-use html5parts::error::TokenizerError;
-use html5parts::opened::{Opened, Progress, Step};
+use html5opened::comments::{content_len, ends_comment, ends_in, is_behind_mark, state_in_comment};
+use html5opened::current_tag::push_value;
+use html5opened::error::TokenizerError;
+use html5opened::opened::{Opened, Progress, Step};
 use std::alloc::Allocator;
 use std::mem;
 

@@ -9,15 +9,15 @@ ghost use Rattle.html5grammar.specs.Reading.Here.{Tells};
 ghost use Rattle.html5grammar.specs.Slice.{tokens_of_late};
 ghost use Rattle.html5grammar.specs.Start.DoctypePlace.{Skipped};
 ghost use Rattle.html5grammar.specs.Start.Open.{InDoctype};
-ghost use Rattle.html5parts.specs.CurrentTag.{opened_of, last_name_of};
+ghost use Rattle.html5opened.specs.CurrentTag.{opened_of, last_name_of};
 ghost use Rattle.html5states.specs.Telling.{Emits};
 
 use crate::teller::Teller;
 use html5ever_interface::interface::sink::TokenSink;
 use html5ever_interface::interface::token::Token;
 use html5ever_interface::states::State;
-use html5parts::error::TokenizerError;
-use html5parts::opened::Opened;
+use html5opened::error::TokenizerError;
+use html5opened::opened::Opened;
 use std::alloc::Allocator;
 
 impl<S: TokenSink<Token<A>>, A: Allocator + Copy> Teller<'_, S, A> {

@@ -1,5 +1,5 @@
 //! The states of DOCTYPEs up to their name and keyword, and what ends or skips a DOCTYPE.
-#![tactic(auto, using(crate::proofs::Tellings::tells_from_memory), unfolding(html5grammar::proofs::Machine::doctype_step, html5grammar::proofs::Machine::space_step, html5grammar::proofs::Machine::skipped_step, html5grammar::proofs::Machine::wanted_name_step, html5grammar::proofs::Machine::doctype_name_step, html5grammar::proofs::Machine::keyword_or_end_step, html5grammar::specs::Doctype::in_doctype_name, html5parts::specs::Steps::tokens_of, html5parts::specs::Steps::behind, html5ever_interface::specs::Sink::stepped))]
+#![tactic(auto, using(crate::proofs::Tellings::tells_from_memory), unfolding(html5grammar::proofs::Machine::doctype_step, html5grammar::proofs::Machine::space_step, html5grammar::proofs::Machine::skipped_step, html5grammar::proofs::Machine::wanted_name_step, html5grammar::proofs::Machine::doctype_name_step, html5grammar::proofs::Machine::keyword_or_end_step, html5grammar::specs::Doctype::in_doctype_name, html5opened::specs::Steps::tokens_of, html5opened::specs::Steps::behind, html5ever_interface::specs::Sink::stepped))]
 
 ghost use Rattle.std.specs.Prelude.{◌≡◌, ◌∷◌, [], string_bytes};
 ghost use Rattle.html5ever_interface.specs.Token.{doctype_of};
@@ -17,10 +17,10 @@ use crate::teller::Teller;
 use html5ever_interface::interface::sink::TokenSink;
 use html5ever_interface::interface::token::{Doctype, Token};
 use html5ever_interface::states::State;
-use html5parts::characters::is_white_space;
-use html5parts::doctype_keyword::begins_doctype_keyword;
-use html5parts::doctypes::{begin_name, push_doctype_name};
-use html5parts::opened::{Opened, Progress, Step};
+use html5opened::characters::is_white_space;
+use html5opened::doctype_keyword::begins_doctype_keyword;
+use html5opened::doctypes::{begin_name, push_doctype_name};
+use html5opened::opened::{Opened, Progress, Step};
 use std::alloc::Allocator;
 use std::mem;
 

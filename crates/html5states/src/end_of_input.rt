@@ -13,7 +13,7 @@ ghost use Rattle.html5grammar.specs.ErrorText.{end_error_in};
 ghost use Rattle.html5grammar.specs.RawText.{texts, told_behind_less_than};
 ghost use Rattle.html5grammar.specs.Comment.{comment_state, comment_content};
 ghost use Rattle.html5grammar.specs.Start.{raw_of, is_undecided_open};
-ghost use Rattle.html5parts.specs.CurrentTag.{opened_of};
+ghost use Rattle.html5opened.specs.CurrentTag.{opened_of};
 ghost use Rattle.html5states.specs.Telling.{Emits};
 
 use crate::teller::Teller;
@@ -21,10 +21,10 @@ use html5ever_interface::interface::sink::TokenSink;
 use html5ever_interface::interface::token::{Doctype, Token};
 use html5ever_interface::states::AttrValueKind::Unquoted;
 use html5ever_interface::states::{RawKind, ScriptEscapeKind, State};
-use html5parts::comments::{content_len, is_comment_state, state_in_comment};
-use html5parts::doctypes::is_doctype_state;
-use html5parts::error::TokenizerError;
-use html5parts::opened::Opened;
+use html5opened::comments::{content_len, is_comment_state, state_in_comment};
+use html5opened::doctypes::is_doctype_state;
+use html5opened::error::TokenizerError;
+use html5opened::opened::Opened;
 use std::alloc::Allocator;
 
 // The state that the error of the end names behind letters that may switch.

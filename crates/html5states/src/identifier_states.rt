@@ -1,12 +1,12 @@
 //! The states of a DOCTYPE's identifiers.
-#![tactic(auto, using(crate::proofs::Tellings::tells_from_memory), unfolding(html5grammar::proofs::Machine::doctype_step, html5grammar::proofs::Machine::space_step, html5grammar::proofs::Machine::skipped_step, html5grammar::proofs::Machine::wanted_identifier_step, html5grammar::proofs::Machine::system_or_end_step, html5grammar::proofs::Machine::identifier_step, html5grammar::proofs::Machine::behind_identifier_step, html5grammar::specs::Doctype::in_identifier, html5parts::specs::Steps::tokens_of, html5parts::specs::Steps::behind, html5ever_interface::specs::Sink::stepped))]
+#![tactic(auto, using(crate::proofs::Tellings::tells_from_memory), unfolding(html5grammar::proofs::Machine::doctype_step, html5grammar::proofs::Machine::space_step, html5grammar::proofs::Machine::skipped_step, html5grammar::proofs::Machine::wanted_identifier_step, html5grammar::proofs::Machine::system_or_end_step, html5grammar::proofs::Machine::identifier_step, html5grammar::proofs::Machine::behind_identifier_step, html5grammar::specs::Doctype::in_identifier, html5opened::specs::Steps::tokens_of, html5opened::specs::Steps::behind, html5ever_interface::specs::Sink::stepped))]
 
 ghost use Rattle.std.specs.Prelude.{◌≡◌, true, false};
 ghost use Rattle.html5ever_interface.specs.Token.{doctype_of};
 ghost use Rattle.html5grammar.proofs.Machine.{doctype_step, wanted_identifier_step};
 ghost use Rattle.html5grammar.specs.Doctype.{identifier_state};
 ghost use Rattle.html5grammar.specs.Start.DoctypePlace.{AfterKeyword, BeforeIdentifier, InIdentifier, AfterIdentifier, BetweenIdentifiers};
-ghost use Rattle.html5parts.specs.Doctypes.{quotes_of};
+ghost use Rattle.html5opened.specs.Doctypes.{quotes_of};
 ghost use Rattle.html5states.specs.Telling.{Reads};
 
 use crate::teller::Teller;
@@ -14,9 +14,9 @@ use html5ever_interface::interface::sink::TokenSink;
 use html5ever_interface::interface::token::Token;
 use html5ever_interface::states::DoctypeIdKind::{Public, System};
 use html5ever_interface::states::{DoctypeIdKind, State};
-use html5parts::characters::{is_quote, is_white_space};
-use html5parts::doctypes::{Quotes, begin_identifier, push_identifier};
-use html5parts::opened::{Opened, Progress, Step};
+use html5opened::characters::{is_quote, is_white_space};
+use html5opened::doctypes::{Quotes, begin_identifier, push_identifier};
+use html5opened::opened::{Opened, Progress, Step};
 use std::alloc::Allocator;
 
 impl<S: TokenSink<Token<A>>, A: Allocator + Copy> Teller<'_, S, A> {
@@ -92,7 +92,7 @@ impl<S: TokenSink<Token<A>>, A: Allocator + Copy> Teller<'_, S, A> {
     }
 
     /// The standard's states of a quoted identifier.
-    #[tactic(auto, using(crate::proofs::Tellings::tells_from_memory), unfolding(html5grammar::proofs::Machine::doctype_step, html5grammar::proofs::Machine::identifier_step, html5grammar::proofs::Machine::skipped_step, html5grammar::specs::Doctype::in_identifier, html5parts::specs::Steps::tokens_of, html5parts::specs::Steps::behind, html5ever_interface::specs::Sink::stepped))]
+    #[tactic(auto, using(crate::proofs::Tellings::tells_from_memory), unfolding(html5grammar::proofs::Machine::doctype_step, html5grammar::proofs::Machine::identifier_step, html5grammar::proofs::Machine::skipped_step, html5grammar::specs::Doctype::in_identifier, html5opened::specs::Steps::tokens_of, html5opened::specs::Steps::behind, html5ever_interface::specs::Sink::stepped))]
     pub fn doctype_identifier_state(
         &mut self,
         at: &mut Opened<A>,

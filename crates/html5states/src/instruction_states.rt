@@ -1,5 +1,5 @@
 //! The state of processing instructions, which the standard doesn't have.
-#![tactic(auto, using(crate::proofs::Tellings::tells_from_memory), unfolding(html5grammar::proofs::Machine::instruction_step, html5parts::specs::Steps::tokens_of, html5parts::specs::Steps::behind, html5ever_interface::specs::Sink::stepped))]
+#![tactic(auto, using(crate::proofs::Tellings::tells_from_memory), unfolding(html5grammar::proofs::Machine::instruction_step, html5opened::specs::Steps::tokens_of, html5opened::specs::Steps::behind, html5ever_interface::specs::Sink::stepped))]
 
 ghost use Rattle.std.specs.Prelude.{◌≡◌, ◌∷◌, [], string_bytes};
 ghost use Rattle.html5ever_interface.specs.Token.Told.{Instruction, End};
@@ -11,9 +11,9 @@ use crate::teller::Teller;
 use html5ever_interface::interface::sink::TokenSink;
 use html5ever_interface::interface::token::Token;
 use html5ever_interface::states::State;
-use html5parts::current_tag::push_value;
-use html5parts::error::TokenizerError;
-use html5parts::opened::{Opened, Progress, Step};
+use html5opened::current_tag::push_value;
+use html5opened::error::TokenizerError;
+use html5opened::opened::{Opened, Progress, Step};
 use std::alloc::Allocator;
 use std::mem;
 

@@ -1,5 +1,5 @@
 //! The states of raw text, one function for each.
-#![tactic(auto, using(crate::proofs::Tellings::tells_from_memory), unfolding(html5grammar::proofs::Machine::step_at, html5grammar::proofs::Machine::raw_place_step, html5grammar::proofs::Machine::tag_name_end_step, html5grammar::proofs::Machine::raw_step, html5grammar::proofs::Machine::raw_less_than_step, html5grammar::proofs::Machine::raw_solidus_step, html5grammar::proofs::Machine::end_name_step, html5grammar::proofs::Machine::switch_step, html5grammar::proofs::Machine::mark_step, html5grammar::proofs::Machine::mark_and_dash_step, html5grammar::specs::RawText::raw_character, html5grammar::specs::RawText::raw_state, html5grammar::specs::RawText::escaped_state, html5grammar::specs::RawText::raw_behind, html5grammar::specs::RawText::dashes_behind, html5grammar::specs::RawText::kind_of, html5grammar::specs::RawText::begins_mark, html5grammar::specs::RawText::begins_switch, html5parts::specs::Steps::tokens_of, html5parts::specs::Steps::behind, html5ever_interface::specs::Sink::stepped))]
+#![tactic(auto, using(crate::proofs::Tellings::tells_from_memory), unfolding(html5grammar::proofs::Machine::step_at, html5grammar::proofs::Machine::raw_place_step, html5grammar::proofs::Machine::tag_name_end_step, html5grammar::proofs::Machine::raw_step, html5grammar::proofs::Machine::raw_less_than_step, html5grammar::proofs::Machine::raw_solidus_step, html5grammar::proofs::Machine::end_name_step, html5grammar::proofs::Machine::switch_step, html5grammar::proofs::Machine::mark_step, html5grammar::proofs::Machine::mark_and_dash_step, html5grammar::specs::RawText::raw_character, html5grammar::specs::RawText::raw_state, html5grammar::specs::RawText::escaped_state, html5grammar::specs::RawText::raw_behind, html5grammar::specs::RawText::dashes_behind, html5grammar::specs::RawText::kind_of, html5grammar::specs::RawText::begins_mark, html5grammar::specs::RawText::begins_switch, html5opened::specs::Steps::tokens_of, html5opened::specs::Steps::behind, html5ever_interface::specs::Sink::stepped))]
 
 ghost use Rattle.std.specs.Prelude.{◌≡◌, ◌∷◌, [], ◌++◌, true, string_bytes};
 ghost use Rattle.std.specs.Str.{chars};
@@ -12,18 +12,18 @@ ghost use Rattle.html5grammar.specs.Start.{begun, escaped, raw_of};
 ghost use Rattle.html5grammar.specs.Start.Dashes.{NoDash, OneDash, TwoDashes};
 ghost use Rattle.html5grammar.specs.Start.Open.{InRaw};
 ghost use Rattle.html5grammar.specs.Start.RawPlace.{AfterMark, InSwitch};
-ghost use Rattle.html5parts.specs.CurrentTag.{last_name_of, opened_of};
+ghost use Rattle.html5opened.specs.CurrentTag.{last_name_of, opened_of};
 ghost use Rattle.html5states.specs.Telling.{Emits, Reads};
 
 use crate::teller::Teller;
 use html5ever_interface::interface::sink::TokenSink;
 use html5ever_interface::interface::token::{TagKind, Token};
 use html5ever_interface::states::{RawKind, ScriptEscapeKind, State};
-use html5parts::characters::{ends_name, is_letter};
-use html5parts::current_tag::CurrentTag;
-use html5parts::error::TokenizerError;
-use html5parts::letters::{clear_letters, end_tag_name, push_letter, switched};
-use html5parts::opened::{Opened, Progress, Step};
+use html5opened::characters::{ends_name, is_letter};
+use html5opened::current_tag::CurrentTag;
+use html5opened::error::TokenizerError;
+use html5opened::letters::{clear_letters, end_tag_name, push_letter, switched};
+use html5opened::opened::{Opened, Progress, Step};
 use std::alloc::Allocator;
 
 impl<S: TokenSink<Token<A>>, A: Allocator + Copy> Teller<'_, S, A> {

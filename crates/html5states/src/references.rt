@@ -10,18 +10,18 @@ ghost use Rattle.html5grammar.specs.Characters.{number_sign, semicolon, value_by
 ghost use Rattle.html5grammar.specs.ErrorText.{where_true};
 ghost use Rattle.html5grammar.specs.Reference.{number_reference, named_reference, no_name, is_number, has_digits, number_value, invalid_number, unended_number, without_digits, semicolon_len, unknown_name, longest_name, is_ended, goes_on, first_or, ends_number, in_value, text_in, opened_in, late_tokens, opened_behind};
 ghost use Rattle.html5grammar.specs.Slice.{tokens_of_late};
-ghost use Rattle.html5parts.specs.CharRef.{HasStand, stand_of, IsFound, more_of, decided, found_at};
-ghost use Rattle.html5parts.specs.CurrentTag.{opened_of, last_name_of};
+ghost use Rattle.html5opened.specs.CharRef.{HasStand, stand_of, IsFound, more_of, decided, found_at};
+ghost use Rattle.html5opened.specs.CurrentTag.{opened_of, last_name_of};
 ghost use Rattle.html5states.specs.Telling.{Emits};
 
 use crate::teller::Teller;
 use html5ever_interface::interface::sink::TokenSink;
 use html5ever_interface::interface::token::Token;
 use html5ever_interface::states::State;
-use html5parts::char_ref::{CharRef, Found, has_digits, longest_name, number_value};
-use html5parts::current_tag::push_value;
-use html5parts::error::TokenizerError;
-use html5parts::opened::Opened;
+use html5opened::char_ref::{CharRef, Found, has_digits, longest_name, number_value};
+use html5opened::current_tag::push_value;
+use html5opened::error::TokenizerError;
+use html5opened::opened::Opened;
 use markup5ever::data::NamedReferences;
 use std::alloc::{AllocError, Allocator};
 

@@ -1,5 +1,5 @@
 //! The states within a tag but those of values, one function for each.
-#![tactic(auto, using(crate::proofs::Tellings::tells_from_memory, crate::proofs::Tellings::tells_memory), unfolding(html5grammar::proofs::Machine::tag_name_step, html5grammar::proofs::Machine::part_step, html5grammar::proofs::Machine::attribute_name_step, html5grammar::proofs::Machine::after_attribute_name_step, html5grammar::specs::Tag::in_tag_name, html5grammar::specs::Tag::in_attribute_name, html5grammar::specs::Tag::place_error, html5grammar::specs::Tag::first_error, html5parts::specs::Steps::tokens_of, html5parts::specs::Steps::behind, html5ever_interface::specs::Sink::stepped))]
+#![tactic(auto, using(crate::proofs::Tellings::tells_from_memory, crate::proofs::Tellings::tells_memory), unfolding(html5grammar::proofs::Machine::tag_name_step, html5grammar::proofs::Machine::part_step, html5grammar::proofs::Machine::attribute_name_step, html5grammar::proofs::Machine::after_attribute_name_step, html5grammar::specs::Tag::in_tag_name, html5grammar::specs::Tag::in_attribute_name, html5grammar::specs::Tag::place_error, html5grammar::specs::Tag::first_error, html5opened::specs::Steps::tokens_of, html5opened::specs::Steps::behind, html5ever_interface::specs::Sink::stepped))]
 
 ghost use Rattle.std.specs.Prelude.{◌≡◌, ◌∷◌, [], ◌++◌, OnOk};
 ghost use Rattle.html5grammar.proofs.Machine.{told_first, tag_name_step, attribute_name_step};
@@ -8,22 +8,22 @@ ghost use Rattle.html5grammar.specs.ErrorText.{error_in, where_true};
 ghost use Rattle.html5grammar.specs.Start.Place.{BeforeAttribute, AfterSolidus};
 ghost use Rattle.html5grammar.specs.Tag.{is_odd_at_name, duplicate_error};
 ghost use Rattle.html5grammar.specs.Tag.{with_last_attribute, with_last_name};
-ghost use Rattle.html5parts.specs.CurrentTag.{open_tag, last_name_of};
+ghost use Rattle.html5opened.specs.CurrentTag.{open_tag, last_name_of};
 ghost use Rattle.html5states.specs.Telling.{Emits, Reads};
 
 use crate::teller::Teller;
 use html5ever_interface::interface::sink::TokenSink;
 use html5ever_interface::interface::token::Token;
 use html5ever_interface::states::State;
-use html5parts::characters::{is_odd_at_name, is_odd_in_name, is_white_space};
-use html5parts::current_tag::{CurrentTag, push_name};
-use html5parts::error::TokenizerError;
-use html5parts::opened::{Opened, Progress, Step};
+use html5opened::characters::{is_odd_at_name, is_odd_in_name, is_white_space};
+use html5opened::current_tag::{CurrentTag, push_name};
+use html5opened::error::TokenizerError;
+use html5opened::opened::{Opened, Progress, Step};
 use std::alloc::Allocator;
 
 impl<S: TokenSink<Token<A>>, A: Allocator + Copy> Teller<'_, S, A> {
     /// The standard's "tag name state".
-    #[tactic(auto, using(crate::proofs::Tellings::tells_from_memory, crate::proofs::Tellings::tells_memory), unfolding(html5grammar::proofs::Machine::tag_name_step, html5grammar::specs::Tag::in_tag_name, html5parts::specs::Steps::tokens_of, html5parts::specs::Steps::behind, html5ever_interface::specs::Sink::stepped))]
+    #[tactic(auto, using(crate::proofs::Tellings::tells_from_memory, crate::proofs::Tellings::tells_memory), unfolding(html5grammar::proofs::Machine::tag_name_step, html5grammar::specs::Tag::in_tag_name, html5opened::specs::Steps::tokens_of, html5opened::specs::Steps::behind, html5ever_interface::specs::Sink::stepped))]
     pub fn tag_name_state(&mut self, at: &mut Opened<A>, c: char) -> Step
         requires { at.old.state ≡ State.TagName }
         ensures { Reads S.means.state S.faults S.means.step S.means.faulted result self.old self.new
@@ -64,7 +64,7 @@ impl<S: TokenSink<Token<A>>, A: Allocator + Copy> Teller<'_, S, A> {
     }
 
     /// The standard's "attribute name state".
-    #[tactic(auto, using(crate::proofs::Tellings::tells_from_memory, crate::proofs::Tellings::tells_memory), unfolding(html5grammar::proofs::Machine::attribute_name_step, html5grammar::specs::Tag::in_attribute_name, html5parts::specs::Steps::tokens_of, html5parts::specs::Steps::behind, html5ever_interface::specs::Sink::stepped))]
+    #[tactic(auto, using(crate::proofs::Tellings::tells_from_memory, crate::proofs::Tellings::tells_memory), unfolding(html5grammar::proofs::Machine::attribute_name_step, html5grammar::specs::Tag::in_attribute_name, html5opened::specs::Steps::tokens_of, html5opened::specs::Steps::behind, html5ever_interface::specs::Sink::stepped))]
     pub fn attribute_name_state(&mut self, at: &mut Opened<A>, c: char) -> Step
         requires { at.old.state ≡ State.AttributeName }
         ensures { Reads S.means.state S.faults S.means.step S.means.faulted result self.old self.new

@@ -10,8 +10,8 @@ ghost use Rattle.html5states.specs.Telling.{Emits, tokens_in};
 use html5ever_interface::interface::sink::TokenSink;
 use html5ever_interface::interface::token::{SinkFault, Token, TokenSinkResult};
 use html5ever_interface::states::State;
-use html5parts::error::TokenizerError;
-use html5parts::message::{bad_character_message, is_bad, saw_end_message, saw_message, text_of};
+use html5opened::error::TokenizerError;
+use html5opened::message::{bad_character_message, is_bad, saw_end_message, saw_message, text_of};
 use std::alloc::Allocator;
 
 /// The sink that is told, the line of what it is told, and whether errors are exact.

@@ -1,5 +1,5 @@
 //! The states between tags, and those that a `<` opens, one function for each.
-#![tactic(auto, using(crate::proofs::Tellings::tells_from_memory), unfolding(html5grammar::proofs::Machine::step_at, html5grammar::proofs::Machine::data_step, html5grammar::proofs::Machine::less_than_step, html5grammar::proofs::Machine::solidus_step, html5grammar::specs::Text::plain_text, html5parts::specs::Steps::tokens_of, html5parts::specs::Steps::behind, html5ever_interface::specs::Sink::stepped))]
+#![tactic(auto, using(crate::proofs::Tellings::tells_from_memory), unfolding(html5grammar::proofs::Machine::step_at, html5grammar::proofs::Machine::data_step, html5grammar::proofs::Machine::less_than_step, html5grammar::proofs::Machine::solidus_step, html5grammar::specs::Text::plain_text, html5opened::specs::Steps::tokens_of, html5opened::specs::Steps::behind, html5ever_interface::specs::Sink::stepped))]
 
 ghost use Rattle.std.specs.Prelude.{◌≡◌, ◌∷◌, [], ◌==◌, codes, encode_utf8, if◌then◌else◌};
 ghost use Rattle.html5grammar.specs.Characters.{null, replacement_character};
@@ -15,10 +15,10 @@ use crate::teller::Teller;
 use html5ever_interface::interface::sink::TokenSink;
 use html5ever_interface::interface::token::{TagKind, Token};
 use html5ever_interface::states::State;
-use html5parts::characters::is_letter;
-use html5parts::current_tag::CurrentTag;
-use html5parts::error::TokenizerError;
-use html5parts::opened::{Opened, Progress, Step};
+use html5opened::characters::is_letter;
+use html5opened::current_tag::CurrentTag;
+use html5opened::error::TokenizerError;
+use html5opened::opened::{Opened, Progress, Step};
 use std::alloc::Allocator;
 
 impl<S: TokenSink<Token<A>>, A: Allocator + Copy> Teller<'_, S, A> {

@@ -1,5 +1,5 @@
 //! The states of an attribute's value, one function for each.
-#![tactic(auto, using(crate::proofs::Tellings::tells_from_memory), unfolding(html5grammar::proofs::Machine::before_value_step, html5grammar::proofs::Machine::quoted_step, html5grammar::proofs::Machine::unquoted_step, html5grammar::proofs::Machine::part_step, html5grammar::specs::Tag::in_quoted, html5grammar::specs::Tag::in_unquoted, html5grammar::specs::Tag::unquoted_error, html5grammar::specs::Tag::place_error, html5parts::specs::Steps::tokens_of, html5parts::specs::Steps::behind, html5ever_interface::specs::Sink::stepped))]
+#![tactic(auto, using(crate::proofs::Tellings::tells_from_memory), unfolding(html5grammar::proofs::Machine::before_value_step, html5grammar::proofs::Machine::quoted_step, html5grammar::proofs::Machine::unquoted_step, html5grammar::proofs::Machine::part_step, html5grammar::specs::Tag::in_quoted, html5grammar::specs::Tag::in_unquoted, html5grammar::specs::Tag::unquoted_error, html5grammar::specs::Tag::place_error, html5opened::specs::Steps::tokens_of, html5opened::specs::Steps::behind, html5ever_interface::specs::Sink::stepped))]
 
 ghost use Rattle.std.specs.Prelude.{◌≡◌, ◌∷◌, [], false};
 ghost use Rattle.html5grammar.proofs.Machine.{closing_step, before_value_step, quoted_step};
@@ -7,16 +7,16 @@ ghost use Rattle.html5grammar.proofs.Machine.{unquoted_step, part_step};
 ghost use Rattle.html5grammar.specs.Characters.{equals_sign};
 ghost use Rattle.html5grammar.specs.ErrorText.{error_in};
 ghost use Rattle.html5grammar.specs.Start.Place.{AfterQuotedValue};
-ghost use Rattle.html5parts.specs.CurrentTag.{open_tag};
+ghost use Rattle.html5opened.specs.CurrentTag.{open_tag};
 ghost use Rattle.html5states.specs.Telling.{Reads};
 
 use crate::teller::Teller;
 use html5ever_interface::interface::sink::TokenSink;
 use html5ever_interface::interface::token::Token;
 use html5ever_interface::states::{AttrValueKind as Kind, State};
-use html5parts::characters::{is_unquoted_error, is_white_space, quote_of};
-use html5parts::current_tag::push_value;
-use html5parts::opened::{Opened, Progress, Step};
+use html5opened::characters::{is_unquoted_error, is_white_space, quote_of};
+use html5opened::current_tag::push_value;
+use html5opened::opened::{Opened, Progress, Step};
 use std::alloc::Allocator;
 
 impl<S: TokenSink<Token<A>>, A: Allocator + Copy> Teller<'_, S, A> {

@@ -17,9 +17,9 @@ use Rattle.html5ever_interface.specs.Sink.{Message, stepped}
 use Rattle.html5ever_interface.specs.Token.{Told, Reply}
 use Rattle.html5grammar.specs.Reading.{reading, told, messages}
 use Rattle.html5grammar.specs.Start.{Start, Rules}
-use Rattle.html5parts.specs.declared.error.TokenizerError.{TokenizerError}
-use Rattle.html5parts.specs.declared.error.TokenizerError.TheVariants as tokenizer
-use Rattle.html5reading.specs.Feed.{told_beyond, told_at_end}
+use Rattle.html5opened.specs.declared.error.TokenizerError.{TokenizerError}
+use Rattle.html5opened.specs.declared.error.TokenizerError.TheVariants as tokenizer
+use Rattle.html5feed.specs.Feed.{told_beyond, told_at_end}
 use Rattle.html5states.specs.Telling.{StopsWithin}
 use Rattle.html5ever.specs.Tokenizer.{Tokenizing, StandsAt, ReadsOn, Finishes, StopsReading, StopsEnding, EndStops}
 use Rattle.html5ever.proofs.Wholes.{whole-within_stops, whole-end_stops}

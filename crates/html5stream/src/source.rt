@@ -5,7 +5,7 @@ ghost use Rattle.std.specs.Str.{chars};
 ghost use Rattle.html5ever_interface.specs.Options.{options_of};
 ghost use Rattle.html5grammar.specs.Start.{start_of};
 ghost use Rattle.html5states.specs.Telling.{faults_of};
-ghost use Rattle.html5reading.specs.Starting.{CanStart};
+ghost use Rattle.html5feed.specs.Starting.{CanStart};
 ghost use Rattle.html5ever.specs.Tokenizer.{rules_of, ReadsOn, Finishes};
 ghost use Rattle.html5stream.specs.Errors.{stream_error};
 ghost use Rattle.html5stream.specs.Streams.{ReadsSource, StopsSource, TellsGiven, GivesNoText, failed_read, failed_reads, sink_fault, sink_faults};

@@ -2,7 +2,7 @@
 #![tactic(auto)]
 
 use html5extract::page_text::PageText;
-use html5filter::{Program, run};
+use html5programs::{Program, run};
 use std::process::ExitCode;
 
 const HELP: &str = "usage: html5text [--names FILE] [FILE...]

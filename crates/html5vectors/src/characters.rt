@@ -1,5 +1,5 @@
 //! Kinds of characters.
-use html5parts::characters::lower_ascii_letter;
+use html5opened::characters::lower_ascii_letter;
 
 #[test]
 fn lowers_ascii_letters_alone(rt: HostRuntime) {

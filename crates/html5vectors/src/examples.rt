@@ -2,8 +2,8 @@
 use html5examples::{few_names, read_with_script, tokens_of, tokens_of_text};
 use std::alloc::Global;
 use std::process::Abort;
-use testsinks::shown::Shown;
-use testsinks::steering::Steering;
+use test_sinks::shown::Shown;
+use test_sinks::steering::Steering;
 
 // Compares what a sink shows.
 fn expect_shown<S: Shown>(rt: &impl Abort, alloc: Global, sink: S, lines: &str) {

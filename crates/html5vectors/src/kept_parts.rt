@@ -1,5 +1,5 @@
 //! What the states keep of doctypes, by itself.
-use html5parts::doctypes::option_push;
+use html5opened::doctypes::option_push;
 use std::alloc::{AllocError, Global};
 
 // The text after pushing an `x` to it.

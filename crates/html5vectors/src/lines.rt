@@ -2,7 +2,7 @@
 use html5ever_interface::collect::Collector;
 use html5ever_interface::interface::token::Token;
 use html5ever_interface::states::State;
-use html5parts::error::TokenizerError;
+use html5opened::error::TokenizerError;
 use html5states::teller::Teller;
 use std::alloc::Global;
 use std::process::Abort;

@@ -17,7 +17,7 @@ ghost use Rattle.html5grammar.specs.Start.{Raw, Start, Rules, start_of};
 ghost use Rattle.html5ever.specs.RunSteps.{run_text};
 ghost use Rattle.html5ever.specs.RunSteps.StepOf.{AtBack};
 ghost use Rattle.html5states.specs.Telling.{IsRefusal, faults_of};
-ghost use Rattle.html5reading.specs.Starting.{CanStart};
+ghost use Rattle.html5feed.specs.Starting.{CanStart};
 ghost use Rattle.html5ever.specs.Tokenizer.{rules_of, EndStops, collected_of};
 
 pub use crate::tokenizer::pieces::feed_pieces;
@@ -27,7 +27,7 @@ use html5ever_interface::collect::Collector;
 use html5ever_interface::interface::sink::TokenSink;
 use html5ever_interface::interface::token::Token;
 use html5ever_interface::options::TokenizerOpts;
-use html5parts::error::TokenizerError;
+use html5opened::error::TokenizerError;
 use markup5ever::data::NamedReferences;
 use std::alloc::Allocator;
 

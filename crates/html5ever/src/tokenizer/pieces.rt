@@ -10,7 +10,7 @@ use crate::tokenizer::Tokenizer;
 use crate::tokenizer::steps::feed_until_done;
 use html5ever_interface::interface::sink::TokenSink;
 use html5ever_interface::interface::token::Token;
-use html5parts::error::TokenizerError;
+use html5opened::error::TokenizerError;
 use markup5ever::buffer_queue::BufferQueue;
 use std::alloc::Allocator;
 

@@ -6,7 +6,7 @@ ghost use Rattle.html5ever_interface.specs.Sink.{stepped};
 ghost use Rattle.html5grammar.specs.Reading.{reading, messages};
 ghost use Rattle.html5grammar.specs.Start.{start_of};
 ghost use Rattle.html5states.specs.Telling.{faults_of};
-ghost use Rattle.html5reading.specs.Starting.{CanStart};
+ghost use Rattle.html5feed.specs.Starting.{CanStart};
 ghost use Rattle.html5ever.specs.Pieces.{text_of};
 ghost use Rattle.html5ever.specs.Tokenizer.{rules_of, ReadsWhole, StopsWhole, EndStops};
 
@@ -15,7 +15,7 @@ use crate::tokenizer::steps::feed_until_done;
 use html5ever_interface::interface::sink::TokenSink;
 use html5ever_interface::interface::token::Token;
 use html5ever_interface::options::TokenizerOpts;
-use html5parts::error::TokenizerError;
+use html5opened::error::TokenizerError;
 use markup5ever::buffer_queue::BufferQueue;
 use markup5ever::data::NamedReferences;
 use std::alloc::Allocator;

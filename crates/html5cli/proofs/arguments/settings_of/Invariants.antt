@@ -3,7 +3,7 @@ use Rattle.std.specs.Prelude.{IsSome}
 use Rattle.std.specs.Slice.Iter.{iter_rest}
 use Rattle.html5table.specs.Listed.{listed}
 use Rattle.html5cli.specs.Settings.{said_by, said_after, settings_said}
-use Rattle.html5reading.specs.Starting.{CanStart}
+use Rattle.html5feed.specs.Starting.{CanStart}
 use Rattle.html5cli.proofs.arguments.settings_of.Given as goal
 
 abbrev pub invariant-loop-word : goal.invariant-loop-word

@@ -5,7 +5,7 @@ use Rattle.html5ever.specs.Tokenizer.{StandsAt, rules_of}
 use Rattle.html5grammar.specs.Reading.{reading, messages}
 use Rattle.html5grammar.specs.Start.{Start, start_of}
 use Rattle.html5ever_interface.specs.Options.{OptionsOf, options_of}
-use Rattle.html5print.specs.Page.{Page, Printer, page_step, page_reply, page_foreign}
+use Rattle.token_printer.specs.Page.{Page, Printer, page_step, page_reply, page_foreign}
 use Rattle.html5cli.specs.Settings.{options_said, said_by}
 use Rattle.html5cli.proofs.PrintedPages.{printed-page}
 use Rattle.html5cli.proofs.print.print_text.Goals as goal

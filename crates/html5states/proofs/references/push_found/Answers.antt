@@ -1,5 +1,5 @@
 use Rattle.std.proofs.Common.{string_bytes}
-use Rattle.html5parts.specs.CharRef.{more_of}
+use Rattle.html5opened.specs.CharRef.{more_of}
 use Rattle.html5states.proofs.Put.{put_in_value}
 use Rattle.html5states.proofs.references.push_found.Goals as goal
 

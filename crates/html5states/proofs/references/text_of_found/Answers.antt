@@ -1,6 +1,6 @@
 use Rattle.std.proofs.Common.{◌++◌, string_bytes, encode_utf8, ap, ◌∙◌}
 use Rattle.std.proofs.lemmas.Str.{IsUtf8-string_bytes}
-use Rattle.html5parts.specs.CharRef.{more_of}
+use Rattle.html5opened.specs.CharRef.{more_of}
 use Rattle.html5states.proofs.Put.{put_in_text}
 use Rattle.html5states.proofs.references.text_of_found.Goals as goal
 

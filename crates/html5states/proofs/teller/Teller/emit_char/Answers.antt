@@ -1,7 +1,7 @@
 use Rattle.std.proofs.Common.{◌∙◌, [], ap}
 use Rattle.html5ever_interface.specs.Token.Told.{Text}
 use Rattle.html5states.specs.Telling.{tokens_in}
-use Rattle.html5parts.proofs.Keywords.{cons≢nil}
+use Rattle.html5opened.proofs.Keywords.{cons≢nil}
 use Rattle.html5states.proofs.Tellings.{tokens_in-char}
 use Rattle.html5states.proofs.teller.Teller.emit_char.Goals as goal
 

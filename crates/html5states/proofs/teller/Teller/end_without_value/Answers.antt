@@ -1,6 +1,6 @@
 use Rattle.std.proofs.Common.{[], refl, false}
 use Rattle.html5grammar.proofs.Machine.{closing_step}
-use Rattle.html5parts.specs.CurrentTag.{open_tag}
+use Rattle.html5opened.specs.CurrentTag.{open_tag}
 use Rattle.html5states.proofs.Tellings.{reads_then, reads_stop}
 use Rattle.html5states.proofs.teller.Teller.end_without_value.Goals as goal
 

@@ -1,6 +1,6 @@
 use Rattle.std.proofs.Common.{◌≡◌, rules, refl, true, false, nat_eq, length, ◌&&◌}
 use Rattle.html5grammar.specs.Tag.{has_last, repeats_attribute}
-use Rattle.html5parts.specs.CurrentTag.{open_tag}
+use Rattle.html5opened.specs.CurrentTag.{open_tag}
 use Rattle.html5states.proofs.Tellings.{where_true-true}
 use Rattle.html5states.proofs.teller.Teller.finish_attribute.Goals as goal
 

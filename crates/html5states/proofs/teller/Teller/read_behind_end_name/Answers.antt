@@ -5,7 +5,7 @@ use Rattle.html5grammar.specs.RawText.{texts}
 use Rattle.html5grammar.specs.Start.{raw_of}
 use Rattle.html5grammar.proofs.Machine.{raw_step}
 use Rattle.html5grammar.proofs.Steps.{raw_step-before}
-use Rattle.html5parts.specs.CurrentTag.{last_name_of}
+use Rattle.html5opened.specs.CurrentTag.{last_name_of}
 use Rattle.html5states.proofs.Tellings.{reads_then, reads_stop}
 use Rattle.html5states.proofs.teller.Teller.read_behind_end_name.Goals as goal
 

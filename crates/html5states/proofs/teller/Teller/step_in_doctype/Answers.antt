@@ -4,7 +4,7 @@ use Rattle.html5ever_interface.specs.Token.{DoctypeOf, doctype_of}
 use Rattle.html5grammar.proofs.Machine.{step_at, doctype_step}
 use Rattle.html5grammar.specs.Start.{is_undecided_open}
 use Rattle.html5grammar.specs.Start.DoctypePlace.{AfterName}
-use Rattle.html5parts.specs.CurrentTag.{behind_doctype_name}
+use Rattle.html5opened.specs.CurrentTag.{behind_doctype_name}
 use Rattle.html5states.proofs.Tellings.{reads_as}
 use Rattle.html5states.proofs.teller.Teller.step_in_doctype.Goals as goal
 

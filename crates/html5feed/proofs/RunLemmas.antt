@@ -1,0 +1,213 @@
+-- A run tells its characters on the line that is reached, and leaves the tokenizer where it stands.
+use Rattle.html5grammar.specs.Reading.Here.{Tells}
+use Rattle.html5grammar.proofs.Machine.{step_at}
+use Rattle.std.proofs.Common.{◌≡◌, ◌≢◌, ℕ, ◌<◌, ◌^◌, Bool, false, cond, List, [], ◌∷◌, ◌++◌, refl, ap, sym, ◌∙◌, arith, Option, None, Some, true, zero, suc, length, length-take-le, take, drop, subst, ◌↔◌}
+use Rattle.std.specs.Prelude.{map, ◌==◌, All, Contains, encode_utf8, is_some, IfSome}
+use Rattle.std.specs.Str.{IsUtf8, chars}
+use Rattle.std.proofs.lemmas.Bool.{ne_eqb, false≢true}
+use Rattle.std.proofs.lemmas.Str.{IsUtf8-take, IsCharBoundary-from_drop}
+use Rattle.markup5ever.specs.SmallCharSet.{IsMember, BeginsOutside}
+use Rattle.markup5ever.proofs.TextLemmas.{filled_chars}
+use Rattle.std.proofs.lemmas.List.{append_assoc, append-nil, map-append}
+use Rattle.std.proofs.lemmas.List.Elements.{All-head, All-tail, All-weaker}
+use Rattle.std.proofs.lemmas.List.Sums.{sum_by-append}
+use Rattle.html5ever_interface.specs.Sink.{Message, stepped, on_line}
+use Rattle.html5ever_interface.specs.Token.{Told, Reply, is_tag}
+use Rattle.html5ever_interface.specs.Token.Reply.{KeepOn}
+use Rattle.html5ever_interface.specs.Token.Told.{Text}
+use Rattle.html5grammar.specs.Characters.{null, line_feed, carriage_return}
+use Rattle.html5grammar.specs.NormalisedText.{with_line_feeds, without_dropped_first, normalised, line_after, input_after, ends_with_carriage_return}
+use Rattle.html5grammar.specs.Reading.{told, messages, after}
+use Rattle.html5grammar.specs.Start.{Input, Start, Open, Rules, is_undecided_open}
+use Rattle.html5grammar.specs.Start.Open.{Between, LessThan, LessThanSolidus, InTag, InRaw, InDeclaration, InComment, InBogusComment, InInstruction, InDoctype, InDoctypeKeyword, InCdata, InReference}
+use Rattle.html5grammar.proofs.InputLemmas.{line_past, line_after-none}
+use Rattle.html5grammar.proofs.NoTags.{NoTags}
+use Rattle.html5grammar.proofs.ReadingLemmas.{told-trace, after-opened, after-last}
+use Rattle.html5grammar.proofs.Traces.{Trace, trace, trace_here, with_messages, brought-tells, trace_brought}
+use Rattle.html5opened.specs.Runs.{other_run_ends, run_ends, run_tokens, opened_after_run}
+use Rattle.html5opened.proofs.RunSteps.{step-run, run_tokens-nil, run_tokens-cons, opened_after_run-nil, opened_after_run-cons, other_run_ends-after, no_null, no_line_feed, no_carriage_return}
+use Rattle.html5feed.specs.Feed.{first_pause}
+use Rattle.html5feed.specs.Refused.{IsRun}
+use Rattle.html5feed.proofs.Pauses.{first_pause-no_tags, no_tag_messages}
+
+-- a character that is neither NUL nor part of a line break
+pub record IsOrdinary (c : ℕ) : Type 0 where
+  pub no_null : c ≢ null
+  pub no_line_feed : c ≢ line_feed
+  pub no_carriage_return : c ≢ carriage_return
+
+positive : (n : ℕ) → n ≢ 0 → 0 < n
+positive zero some = absurd (some refl)
+positive (suc n) some = omega arith
+
+ordinary : (others : List ℕ) (c : ℕ) → ¬ Contains (run_ends others) c → IsOrdinary c
+ordinary others c out = record {
+  no_null = no_null others c out;
+  no_line_feed = no_line_feed others c out;
+  no_carriage_return = no_carriage_return others c out;
+}
+
+all_ordinary : (rules : Rules) (K : Start) (run : List ℕ) → IsRun rules K run → All IsOrdinary run
+all_ordinary rules K run r = All-weaker (λ c. ¬ Contains (run_ends r.is_run.others) c) IsOrdinary (ordinary r.is_run.others) run r.is_run.ordinary
+
+with_line_feeds-run : (run : List ℕ) → All IsOrdinary run → with_line_feeds false run ≡ run
+unfolding with_line_feeds
+with_line_feeds-run [] all = refl
+with_line_feeds-run (c ∷ run) all =
+    rw (ne_eqb c carriage_return (All-head IsOrdinary c run all).no_carriage_return)
+    (ap (λ l. c ∷ l) (with_line_feeds-run run (All-tail IsOrdinary c run all)))
+
+normalised-run : (rules : Rules) (K : Start) (run : List ℕ) → IsRun rules K run → normalised K.input run ≡ run
+unfolding normalised without_dropped_first
+normalised-run rules K [] r = with_line_feeds-run [] (all_ordinary rules K [] r)
+normalised-run rules K (c ∷ run) r = rw (r.past_line_break, r.past_stream_start) (with_line_feeds-run (c ∷ run) (all_ordinary rules K (c ∷ run) r))
+
+ends-run : (b : Bool) (run : List ℕ) → b ≡ false → All IsOrdinary run → ends_with_carriage_return b run ≡ false
+unfolding ends_with_carriage_return
+ends-run b [] e all = e
+ends-run b (c ∷ run) e all =
+    ends-run (c == carriage_return) run (ne_eqb c carriage_return (All-head IsOrdinary c run all).no_carriage_return) (All-tail IsOrdinary c run all)
+
+-- the line stays
+line_after-ordinary : (I : Input) (before : List ℕ) (c : ℕ) → IsOrdinary c → line_after I (before ++ c ∷ []) ≡ line_after I before
+unfolding line_after
+line_after-ordinary I before c o =
+    rw (sum_by-append (λ (x : ℕ). cond (x == line_feed) 1 0) before (c ∷ []), ne_eqb c line_feed o.no_line_feed) (omega arith)
+
+line_after-run : (I : Input) (before run : List ℕ) → All IsOrdinary run → line_after I (before ++ run) ≡ line_after I before
+line_after-run I before [] all = rw append-nil refl
+line_after-run I before (c ∷ run) all =
+    ap (line_after I) (sym (append_assoc before (c ∷ []) run))
+    ∙ line_after-run I (before ++ c ∷ []) run (All-tail IsOrdinary c run all)
+    ∙ line_after-ordinary I before c (All-head IsOrdinary c run all)
+
+line_past-ordinary : (line c : ℕ) → IsOrdinary c → line < 2 ^ 64 → line_past line c ≡ line
+unfolding line_past
+line_past-ordinary line c o h = rw (ne_eqb c line_feed o.no_line_feed) (omega (arith, h))
+
+input_after-run : (rules : Rules) (K : Start) (run : List ℕ) → IsRun rules K run → K.input.line < 2 ^ 64 → input_after K.input run ≡ K.input
+unfolding input_after
+input_after-run rules K [] r h = refl
+input_after-run rules K (c ∷ run) r h =
+    let same : (line : ℕ) (b d : Bool) → line ≡ K.input.line → b ≡ K.input.after_carriage_return → d ≡ K.input.drops_byte_order_mark
+    → record { line = line; after_carriage_return = b; drops_byte_order_mark = d } ≡ K.input =
+    λ line b d l e f. rw (l, e, f) refl in
+    same (line_after K.input (normalised K.input (c ∷ run))) (ends_with_carriage_return false (c ∷ run)) false
+    (ap (line_after K.input) (normalised-run rules K (c ∷ run) r) ∙ line_after-run K.input [] (c ∷ run) (all_ordinary rules K (c ∷ run) r) ∙ line_after-none K.input h)
+    (ends-run false (c ∷ run) refl (all_ordinary rules K (c ∷ run) r) ∙ sym r.past_line_break)
+    (sym r.past_stream_start)
+
+-- the beginning of a text that is outside the set is a run, where the set has what ends one
+some_of : {X : Type 0} (o : Option X) → is_some o ≡ true → (x : X) × (o ≡ Some x)
+some_of (Some x) has = (x, refl)
+some_of None has = absurd (false≢true has)
+
+pub run-begins : (rules : Rules) (K : Start) (set : ℕ) (text : List ℕ) (len : ℕ) → rules.exact ≡ false
+    → (K.input.after_carriage_return ≡ false) × (K.input.drops_byte_order_mark ≡ false)
+    → is_some (other_run_ends K.opened) ≡ true
+    → IfSome (other_run_ends K.opened) (λ others. (c : ℕ) → IsMember set c ↔ Contains (run_ends others) c)
+    → IsUtf8 text → BeginsOutside set text len → len ≢ 0 → IsRun rules K (chars (take len text))
+run-begins rules K set text len not_exact past has ends utf8 begins some =
+    let found = some_of (other_run_ends K.opened) has in
+    let same : (c : ℕ) → IsMember set c ↔ Contains (run_ends found.0) c = rw found.1 at ends in
+    let run_utf8 : IsUtf8 (take len text) = IsUtf8-take text len utf8 (IsCharBoundary-from_drop text len begins.within begins.rest_utf8) in
+    let width : length (take len text) ≡ len = length-take-le len text begins.within in
+    record {
+      not_exact = not_exact;
+      past_line_break = past.0;
+      past_stream_start = past.1;
+      is_run = record {
+        others = found.0;
+        has_runs = found.1;
+        filled = λ none. absurd (omega (arith, filled_chars (take len text) run_utf8 (rw width (positive len some)), ap length none));
+        ordinary = All-weaker (λ c. ¬ IsMember set c) (λ c. ¬ Contains (run_ends found.0) c) (λ c out. λ contained. out ((same c).1 contained)) (chars (take len text)) begins.outside;
+      };
+    }
+
+-- where the first character of a text ends no run, a run is found
+pub run-found : (K : Start) (set : ℕ) (text : List ℕ) (len : ℕ)
+    → is_some (other_run_ends K.opened) ≡ true
+    → IfSome (other_run_ends K.opened) (λ others. (c : ℕ) → IsMember set c ↔ Contains (run_ends others) c)
+    → ((c : ℕ) (rest : List ℕ) → chars (drop len text) ≡ c ∷ rest → IsMember set c)
+    → IfSome (other_run_ends K.opened) (λ others. (c : ℕ) (rest : List ℕ) → chars text ≡ c ∷ rest → ¬ Contains (run_ends others) c → len ≢ 0)
+run-found K set text len has ends stops =
+    let found = some_of (other_run_ends K.opened) has in
+    let same : (c : ℕ) → IsMember set c ↔ Contains (run_ends found.0) c = rw found.1 at ends in
+    rw found.1 (λ c rest first out. λ zero. out ((same c).0 (stops c rest (subst (λ n. chars (drop n text) ≡ c ∷ rest) (sym zero) first))))
+
+-- no tag is told in a run
+no_tags-texts : (cs : List ℕ) → NoTags (map (λ (c : ℕ). Text (encode_utf8 c)) cs)
+unfolding NoTags
+no_tags-texts [] = tt
+no_tags-texts (c ∷ cs) = (refl, no_tags-texts cs)
+
+no_tags-run : (opened : Open) (run : List ℕ) → NoTags (run_tokens opened run)
+unfolding NoTags
+no_tags-run (Between mode) run = no_tags-texts run
+no_tags-run LessThan run = tt
+no_tags-run LessThanSolidus run = tt
+no_tags-run (InTag place tag) run = tt
+no_tags-run (InRaw place name) run = tt
+no_tags-run (InDeclaration held) run = tt
+no_tags-run (InComment text) run = tt
+no_tags-run (InBogusComment text) run = tt
+no_tags-run (InInstruction content) run = tt
+no_tags-run (InCdata text) run = tt
+no_tags-run (InDoctype place doctype) run = tt
+no_tags-run (InDoctypeKeyword held doctype) run = tt
+no_tags-run (InReference stand held) run = tt
+
+trace_is : {M N : List Message} {o p : Open} {last : List ℕ} → M ≡ N → o ≡ p
+    → ◌≡◌ {A = Trace} (record { messages = M; opened = o; last_start_tag = last }) (record { messages = N; opened = p; last_start_tag = last })
+trace_is e f = rw (e, f) refl
+
+-- nothing is undecided where runs are read
+run-decided : (opened : Open) (others : List ℕ) → other_run_ends opened ≡ Some others → is_undecided_open opened ≡ false
+run-decided (InReference stand held) others has = cc
+run-decided (InDeclaration held) others has = cc
+run-decided (InDoctypeKeyword held d) others has = cc
+run-decided opened others has = refl
+
+module _ {S H : Type 0} (step : S → Told → ℕ → S) (reply : S → Told → ℕ → Reply H) (foreign : S → Bool) where
+  trace-run : (rules : Rules) → rules.exact ≡ false → (s : S) (line : ℕ) (last : List ℕ) (opened : Open) (others run : List ℕ) → line < 2 ^ 64 → other_run_ends opened ≡ Some others
+      → All (λ c. ¬ Contains (run_ends others) c) run
+      → trace step reply foreign rules s line last opened run ≡ record { messages = on_line line (run_tokens opened run); opened = opened_after_run opened run; last_start_tag = last }
+  unfolding trace trace_brought trace_here stepped
+  trace-run rules not_exact s line last opened others [] h has all = rw (run_tokens-nil opened, opened_after_run-nil opened) refl
+  trace-run rules not_exact s line last opened others (c ∷ run) h has all =
+      let out : ¬ Contains (run_ends others) c = All-head (λ d. ¬ Contains (run_ends others) d) c run all in
+      let M : List Message = on_line line (run_tokens opened (c ∷ [])) in
+      let later : Open = opened_after_run opened (c ∷ []) in
+      let here : step_at rules.exact opened c ≡ Tells (run_tokens opened (c ∷ [])) later = ap (λ b. step_at b opened c) not_exact ∙ step-run opened others c has out in
+      rw (brought-tells rules (foreign s) opened c (Tells (run_tokens opened (c ∷ [])) later) (run-decided opened others has) here, line_past-ordinary line c (ordinary others c out) h, not_exact)
+      (ap (with_messages M) (trace-run rules not_exact (stepped step s M) line last later others run h (other_run_ends-after opened others c has out ∙ has) (All-tail (λ d. ¬ Contains (run_ends others) d) c run all))
+      ∙ trace_is (sym (map-append (λ (token : Told). record { token = token; line = line }) (run_tokens opened (c ∷ [])) (run_tokens later run)) ∙ ap (on_line line) (sym (run_tokens-cons opened c run)))
+      (sym (opened_after_run-cons opened c run)))
+
+  run-trace : (rules : Rules) (K : Start) (s : S) (run : List ℕ) → IsRun rules K run → K.input.line < 2 ^ 64
+      → trace step reply foreign rules s (line_after K.input []) K.last_start_tag K.opened (normalised K.input run)
+      ≡ record { messages = on_line K.input.line (run_tokens K.opened run); opened = opened_after_run K.opened run; last_start_tag = K.last_start_tag }
+  run-trace rules K s run r h =
+      rw (line_after-none K.input h, normalised-run rules K run r) (trace-run rules r.not_exact s K.input.line K.last_start_tag K.opened r.is_run.others run h r.is_run.has_runs r.is_run.ordinary)
+
+  pub told-run : (rules : Rules) (K : Start) (s : S) (run : List ℕ) → IsRun rules K run → K.input.line < 2 ^ 64
+      → messages (told step reply foreign rules K s run) ≡ on_line K.input.line (run_tokens K.opened run)
+  told-run rules K s run r h =
+      told-trace step reply foreign rules K s run ∙ ap (λ (t : Trace). t.messages) (run-trace rules K s run r h)
+
+  pub after-run : (rules : Rules) (K : Start) (s : S) (run : List ℕ) → IsRun rules K run → K.input.line < 2 ^ 64
+      → after step reply foreign rules K s run ≡ record K { opened = opened_after_run K.opened run }
+  after-run rules K s run r h =
+      let opened : (after step reply foreign rules K s run).opened ≡ opened_after_run K.opened run =
+      after-opened step reply foreign rules K s run ∙ ap (λ (t : Trace). t.opened) (run-trace rules K s run r h) in
+      let last : (after step reply foreign rules K s run).last_start_tag ≡ K.last_start_tag =
+      after-last step reply foreign rules K s run ∙ ap (λ (t : Trace). t.last_start_tag) (run-trace rules K s run r h) in
+      rw (opened, last, input_after-run rules K run r h) refl
+
+  -- nothing pauses in a run
+  pub run-quiet : ((s : S) (told : Told) (line : ℕ) → is_tag told ≡ false → reply s told line ≡ KeepOn)
+      → (rules : Rules) (K : Start) (s : S) (run : List ℕ) → IsRun rules K run → K.input.line < 2 ^ 64
+      → first_pause step reply s (messages (told step reply foreign rules K s run)) ≡ KeepOn
+  run-quiet keeps_on rules K s run r h =
+      ap (first_pause step reply s) (told-run rules K s run r h)
+      ∙ first_pause-no_tags step reply keeps_on s _ (no_tag_messages K.input.line (run_tokens K.opened run) (no_tags-run K.opened run))

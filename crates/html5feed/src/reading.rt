@@ -1,0 +1,117 @@
+//! Reading the queue.
+ghost use Rattle.std.specs.Prelude.{◌≡◌, ◌^◌, ◌+◌, ◌<◌, ◌≤◌, [], true, IsOk, IfOk, IfErr, OnOk, length, take, drop, encode_utf8_all, string_bytes};
+ghost use Rattle.std.specs.Str.{IsUtf8, chars};
+ghost use Rattle.html5grammar.specs.Reading.{told, messages, after};
+ghost use Rattle.html5grammar.specs.Start.{is_clean, held_len};
+ghost use Rattle.html5feed.specs.Feed.{IsEndOf, reply_in, feed};
+ghost use Rattle.html5feed.specs.Refused.{IsRun, RefusedBehind};
+ghost use Rattle.html5feed.specs.Runs.{ReadsRun};
+ghost use Rattle.html5states.specs.Telling.{Tells, IsRefusal, faults_of};
+
+use crate::position::{Position, read_character};
+use crate::rules::Rules;
+use html5ever_interface::interface::sink::TokenSink;
+use html5ever_interface::interface::token::Token;
+use html5opened::error::TokenizerError;
+use markup5ever::buffer_queue::BufferQueue;
+use markup5ever::tokenizer_result::TokenizerResult;
+use std::alloc::Allocator;
+
+// Tells the run of text with which the queue's text begins, and that takes so many bytes. Where it
+// is all of the queue's text it is moved, not copied. It leaves the queue also where it is refused.
+#[inline(always)]
+fn tell_waiting_run<S: TokenSink<Token<A>>, A: Allocator + Copy>(
+    alloc: A,
+    sink: &mut S,
+    rules: &Rules<'_, A>,
+    position: &Position<A>,
+    queue: &mut BufferQueue<A>,
+    bytes: usize,
+) -> Result<(), TokenizerError>
+    requires clean { is_clean position.now.opened ≡ true }
+    requires within { bytes ≤ length (encode_utf8_all queue.old.text) }
+    requires rest_utf8 { IsUtf8 (drop bytes (encode_utf8_all queue.old.text)) }
+    requires is_run { IsRun rules.now position.now (chars (take bytes (encode_utf8_all queue.old.text))) }
+    requires fits { position.now.input.line < 2 ^ 64 }
+    ensures reads { ReadsRun S.means.step S.means.reply S.means.foreign S.means.faulted rules.now result position.now position.now
+        queue.old queue.new (S.means.state sink.old) (S.means.state sink.new) }
+    ensures refusal { IfErr result IsRefusal }
+    ensures faults { S.faults sink.new ≡ S.faults sink.old + faults_of result }
+{
+    let Ok(run) = queue.take_text(bytes) else {
+        queue.skip(bytes);
+        return Err(TokenizerError::Memory);
+    };
+    position.tell_run(alloc, sink, run)
+}
+
+// Reads the run with which the queue's text begins, where it begins with one that can be read at
+// once. It leaves the queue also where it is refused.
+#[inline(always)]
+fn read_waiting_run<S: TokenSink<Token<A>>, A: Allocator + Copy>(
+    alloc: A,
+    sink: &mut S,
+    rules: &Rules<'_, A>,
+    position: &mut Position<A>,
+    queue: &mut BufferQueue<A>,
+) -> Result<(), TokenizerError>
+    ensures reads { ReadsRun S.means.step S.means.reply S.means.foreign S.means.faulted rules.now result position.old position.new
+        queue.old queue.new (S.means.state sink.old) (S.means.state sink.new) }
+    ensures refusal { IfErr result IsRefusal }
+    ensures faults { S.faults sink.new ≡ S.faults sink.old + faults_of result }
+    ensures held { held_len position.new.opened + length queue.new.text
+        ≤ held_len position.old.opened + length queue.old.text }
+    ensures empty { queue.old.text ≡ [] → IsOk result }
+{
+    let bytes = position.run_len(rules, queue.front_text());
+    if bytes == 0 {
+        return Ok(());
+    }
+    if position.is_clean() {
+        return tell_waiting_run(alloc, sink, rules, position, queue, bytes);
+    }
+    let read = position.push_run(&queue.front_text()[..bytes]);
+    queue.skip(bytes);
+    read
+}
+
+/// Reads what waits in the queue, up to the first tag whose reply pauses.
+pub fn read_queue<S: TokenSink<Token<A>>, A: Allocator + Copy>(
+    alloc: A,
+    sink: &mut S,
+    rules: &Rules<'_, A>,
+    position: &mut Position<A>,
+    queue: &mut BufferQueue<A>,
+) -> Result<TokenizerResult<S::Handle, String<A>>, TokenizerError>
+    ensures tells { Tells S.means.step S.means.faulted result (S.means.state sink.old)
+        (messages (told S.means.step S.means.reply S.means.foreign rules.now position.old (S.means.state sink.old)
+        (feed S.means.step S.means.reply S.means.foreign rules.now position.old (S.means.state sink.old) [] queue.old.text).taken)) (S.means.state sink.new) }
+    ensures moves { OnOk result
+        (position.new ≡ after S.means.step S.means.reply S.means.foreign rules.now position.old (S.means.state sink.old)
+        (feed S.means.step S.means.reply S.means.foreign rules.now position.old (S.means.state sink.old) [] queue.old.text).taken) }
+    ensures answer { IfOk result (λ answer. reply_in string_bytes answer
+        ≡ (feed S.means.step S.means.reply S.means.foreign rules.now position.old (S.means.state sink.old) [] queue.old.text).answer) }
+    ensures left { OnOk result
+        (queue.new.text ≡ (feed S.means.step S.means.reply S.means.foreign rules.now position.old (S.means.state sink.old) [] queue.old.text).left) }
+    ensures refusal { IfErr result IsRefusal }
+    ensures refused { IfErr result (λ error. RefusedBehind S.means.step S.means.reply S.means.foreign S.means.faulted rules.now error
+        position.old (S.means.state sink.old) [] queue.old.text queue.new.text (S.means.state sink.new)) }
+    ensures end_of_queue { IsEndOf queue.new.text queue.old.text }
+    ensures taken { queue.new.taken + length queue.new.text ≡ queue.old.taken + length queue.old.text }
+    ensures handed_in { queue.new.handed_in ≡ queue.old.handed_in }
+    ensures held { held_len position.new.opened + length queue.new.text
+        ≤ held_len position.old.opened + length queue.old.text }
+    ensures faults { S.faults sink.new ≡ S.faults sink.old + faults_of result }
+    ensures empty { queue.old.text ≡ [] → IsOk result }
+{
+    loop {
+        read_waiting_run(alloc, sink, rules, position, queue)?;
+        let Some(c) = queue.next() else {
+            return Ok(TokenizerResult::Done);
+        };
+        match read_character(alloc, sink, rules, position, c)? {
+            TokenizerResult::Done => {}
+            pause => return Ok(pause),
+        }
+    }
+}

@@ -1,0 +1,231 @@
+-- A run is read as its characters are, one by one.
+use Rattle.std.proofs.Common.{◌≡◌, ◌≢◌, ℕ, false, List, [], ◌∷◌, ◌++◌, refl, ap, sym, ◌∙◌, None, Some, lit<, length, get_or, ◌<◌, arith, subst}
+use Rattle.std.specs.Prelude.{All, Contains, flat_map, encode_utf8, encode_utf8_all, codes, ◌==◌}
+use Rattle.std.proofs.lemmas.Bool.{ne_eqb}
+use Rattle.std.proofs.Math.Bool.{and-false}
+use Rattle.std.proofs.lemmas.List.Elements.{All-head, All-tail}
+use Rattle.html5ever_interface.specs.declared.states.AttrValueKind.TheVariants.{Unquoted, SingleQuoted, DoubleQuoted}
+use Rattle.html5grammar.specs.Characters.{null, tab, line_feed, form_feed, carriage_return, space, quotation_mark, ampersand, apostrophe, hyphen, solidus, less_than, equals_sign, greater_than, value_bytes, shown, is_white_space}
+use Rattle.html5grammar.specs.Reading.Here.{Tells}
+use Rattle.html5grammar.specs.Start.{Open}
+use Rattle.html5grammar.specs.Start.Dashes.{NoDash, OneDash, TwoDashes}
+use Rattle.html5grammar.specs.Start.Raw.{Rcdata, Rawtext, ScriptData, Escaped, DoubleEscaped}
+use Rattle.html5grammar.specs.Start.Mode.{Data, Plain, RawText, Cdata}
+use Rattle.html5grammar.specs.Start.Place.{InName, BeforeAttribute, InAttributeName, AfterAttributeName, BeforeValue, InValue, AfterQuotedValue, AfterSolidus}
+use Rattle.html5grammar.specs.Start.Open.{Between, LessThan, LessThanSolidus, InTag, InRaw, InDeclaration, InComment, InBogusComment, InInstruction, InDoctype, InDoctypeKeyword, InCdata, InReference}
+use Rattle.html5grammar.specs.Tag.{in_tag_name, in_attribute_name, in_quoted, in_unquoted, unquoted_error, is_odd_in_name}
+use Rattle.std.proofs.lemmas.List.{append-nil}
+use Rattle.html5grammar.specs.Comment.{ends_in, comment_errors, mark_error}
+use Rattle.html5opened.proofs.CommentEnds.{NoDashLast, comment_ends, ends_in_dash-none, ends_in_mark-none, value_bytes-last}
+use Rattle.html5grammar.specs.RawText.{raw_character, raw_behind, dashes_behind}
+use Rattle.html5grammar.specs.Text.{plain_text}
+use Rattle.html5grammar.proofs.Machine.{step_at, tag_step, data_step, raw_step, comment_step, bogus_comment_step, instruction_step, cdata_step, tag_name_step, attribute_name_step, quoted_step, unquoted_step}
+use Rattle.html5grammar.proofs.Slices.{with_name-nil, with_last_name-nil, with_value-nil, with_name-cons, with_last_name-cons, with_value-cons, bytes-cons}
+use Rattle.html5opened.specs.Runs.{other_run_ends, run_ends, opened_after_run, run_tokens}
+
+none≢some : {X : Type 0} {x : X} → None ≡ Some x → ⊥
+none≢some e = cc
+
+-- a run is put to a value as it stands
+pub value_bytes-run : (run : List ℕ) → All (λ c. c ≢ null) run → flat_map value_bytes run ≡ encode_utf8_all run
+unfolding value_bytes shown
+value_bytes-run [] all = refl
+value_bytes-run (c ∷ run) all =
+    rw (ne_eqb c null (All-head (λ c. c ≢ null) c run all))
+    (ap (λ l. encode_utf8 c ++ l) (value_bytes-run run (All-tail (λ c. c ≢ null) c run all)))
+
+pub opened_after_run-nil : (opened : Open) → opened_after_run opened [] ≡ opened
+opened_after_run-nil (Between mode) = refl
+opened_after_run-nil LessThan = refl
+opened_after_run-nil LessThanSolidus = refl
+opened_after_run-nil (InTag InName tag) = ap (InTag InName) (with_name-nil tag)
+opened_after_run-nil (InTag BeforeAttribute tag) = refl
+opened_after_run-nil (InTag InAttributeName tag) = ap (InTag InAttributeName) (with_last_name-nil tag)
+opened_after_run-nil (InTag AfterAttributeName tag) = refl
+opened_after_run-nil (InTag BeforeValue tag) = refl
+opened_after_run-nil (InTag (InValue kind) tag) = ap (InTag (InValue kind)) (with_value-nil tag)
+opened_after_run-nil (InTag AfterQuotedValue tag) = refl
+opened_after_run-nil (InTag AfterSolidus tag) = refl
+opened_after_run-nil (InRaw place name) = refl
+opened_after_run-nil (InDeclaration held) = refl
+opened_after_run-nil (InComment text) = ap InComment (append-nil text)
+opened_after_run-nil (InBogusComment text) = ap InBogusComment (append-nil text)
+opened_after_run-nil (InInstruction content) = ap InInstruction (append-nil content)
+opened_after_run-nil (InDoctype place doctype) = refl
+opened_after_run-nil (InDoctypeKeyword held doctype) = refl
+opened_after_run-nil (InCdata text) = ap InCdata (append-nil text)
+opened_after_run-nil (InReference stand held) = refl
+
+pub opened_after_run-cons : (opened : Open) (c : ℕ) (run : List ℕ)
+    → opened_after_run opened (c ∷ run) ≡ opened_after_run (opened_after_run opened (c ∷ [])) run
+opened_after_run-cons (Between mode) c run = refl
+opened_after_run-cons LessThan c run = refl
+opened_after_run-cons LessThanSolidus c run = refl
+opened_after_run-cons (InTag InName tag) c run = ap (InTag InName) (with_name-cons tag c run)
+opened_after_run-cons (InTag BeforeAttribute tag) c run = refl
+opened_after_run-cons (InTag InAttributeName tag) c run = ap (InTag InAttributeName) (with_last_name-cons tag c run)
+opened_after_run-cons (InTag AfterAttributeName tag) c run = refl
+opened_after_run-cons (InTag BeforeValue tag) c run = refl
+opened_after_run-cons (InTag (InValue kind) tag) c run = ap (InTag (InValue kind)) (with_value-cons tag c run)
+opened_after_run-cons (InTag AfterQuotedValue tag) c run = refl
+opened_after_run-cons (InTag AfterSolidus tag) c run = refl
+opened_after_run-cons (InRaw place name) c run = refl
+opened_after_run-cons (InDeclaration held) c run = refl
+opened_after_run-cons (InComment text) c run = ap InComment (bytes-cons value_bytes text c run)
+opened_after_run-cons (InBogusComment text) c run = ap InBogusComment (bytes-cons value_bytes text c run)
+opened_after_run-cons (InInstruction content) c run = ap InInstruction (bytes-cons value_bytes content c run)
+opened_after_run-cons (InDoctype place doctype) c run = refl
+opened_after_run-cons (InDoctypeKeyword held doctype) c run = refl
+opened_after_run-cons (InCdata text) c run = ap InCdata (bytes-cons encode_utf8 text c run)
+opened_after_run-cons (InReference stand held) c run = refl
+
+-- behind a character of a run the same characters end it
+pub other_run_ends-after : (opened : Open) (others : List ℕ) (c : ℕ) → other_run_ends opened ≡ Some others → ¬ Contains (run_ends others) c
+    → other_run_ends (opened_after_run opened (c ∷ [])) ≡ other_run_ends opened
+other_run_ends-after (Between mode) others c has out = refl
+other_run_ends-after LessThan others c has out = refl
+other_run_ends-after LessThanSolidus others c has out = refl
+other_run_ends-after (InTag InName tag) others c has out = refl
+other_run_ends-after (InTag BeforeAttribute tag) others c has out = refl
+other_run_ends-after (InTag InAttributeName tag) others c has out = refl
+other_run_ends-after (InTag AfterAttributeName tag) others c has out = refl
+other_run_ends-after (InTag BeforeValue tag) others c has out = refl
+other_run_ends-after (InTag (InValue kind) tag) others c has out = refl
+other_run_ends-after (InTag AfterQuotedValue tag) others c has out = refl
+other_run_ends-after (InTag AfterSolidus tag) others c has out = refl
+other_run_ends-after (InRaw place name) others c has out = refl
+other_run_ends-after (InDeclaration held) others c has out = refl
+other_run_ends-after (InComment text) others c has out =
+    let known_ends : (others ≡ hyphen ∷ greater_than ∷ []) × (ends_in text (codes "-") ≡ false) = comment_ends text others has in
+    let ordinary : ¬ Contains (run_ends (hyphen ∷ greater_than ∷ [])) c = subst (λ l. ¬ Contains (run_ends l) c) known_ends.0 out in
+    rw (known_ends.1, ends_in_dash-none text (flat_map value_bytes (c ∷ [])) (subst NoDashLast (sym (append-nil (value_bytes c))) (value_bytes-last c (λ e. ordinary (3, lit< tt, sym e))))) refl
+other_run_ends-after (InBogusComment text) others c has out = refl
+other_run_ends-after (InInstruction content) others c has out = refl
+other_run_ends-after (InDoctype place doctype) others c has out = refl
+other_run_ends-after (InDoctypeKeyword held doctype) others c has out = refl
+other_run_ends-after (InCdata text) others c has out = refl
+other_run_ends-after (InReference stand held) others c has out = refl
+
+-- what the run tells is what its characters tell
+pub run_tokens-cons : (opened : Open) (c : ℕ) (run : List ℕ)
+    → run_tokens opened (c ∷ run) ≡ run_tokens opened (c ∷ []) ++ run_tokens (opened_after_run opened (c ∷ [])) run
+run_tokens-cons (Between mode) c run = refl
+run_tokens-cons LessThan c run = refl
+run_tokens-cons LessThanSolidus c run = refl
+run_tokens-cons (InTag InName tag) c run = refl
+run_tokens-cons (InTag BeforeAttribute tag) c run = refl
+run_tokens-cons (InTag InAttributeName tag) c run = refl
+run_tokens-cons (InTag AfterAttributeName tag) c run = refl
+run_tokens-cons (InTag BeforeValue tag) c run = refl
+run_tokens-cons (InTag (InValue kind) tag) c run = refl
+run_tokens-cons (InTag AfterQuotedValue tag) c run = refl
+run_tokens-cons (InTag AfterSolidus tag) c run = refl
+run_tokens-cons (InRaw place name) c run = refl
+run_tokens-cons (InDeclaration held) c run = refl
+run_tokens-cons (InComment text) c run = refl
+run_tokens-cons (InBogusComment text) c run = refl
+run_tokens-cons (InInstruction content) c run = refl
+run_tokens-cons (InDoctype place doctype) c run = refl
+run_tokens-cons (InDoctypeKeyword held doctype) c run = refl
+run_tokens-cons (InCdata text) c run = refl
+run_tokens-cons (InReference stand held) c run = refl
+
+pub run_tokens-nil : (opened : Open) → run_tokens opened [] ≡ []
+run_tokens-nil (Between mode) = refl
+run_tokens-nil LessThan = refl
+run_tokens-nil LessThanSolidus = refl
+run_tokens-nil (InTag place tag) = refl
+run_tokens-nil (InRaw place name) = refl
+run_tokens-nil (InDeclaration held) = refl
+run_tokens-nil (InComment text) = refl
+run_tokens-nil (InBogusComment text) = refl
+run_tokens-nil (InInstruction content) = refl
+run_tokens-nil (InDoctype place doctype) = refl
+run_tokens-nil (InDoctypeKeyword held doctype) = refl
+run_tokens-nil (InCdata text) = refl
+run_tokens-nil (InReference stand held) = refl
+
+-- a character that ends no run is none of the characters that end one
+no : (others : List ℕ) (c : ℕ) → ¬ Contains (run_ends others) c → (k e : ℕ) → k < length (run_ends others) → get_or (run_ends others) k c ≡ e → (c == e) ≡ false
+no others c out k e within is = ne_eqb c e (λ same. out (k, within, is ∙ sym same))
+
+known : (a b : List ℕ) (c : ℕ) → Some a ≡ Some b → ¬ Contains (run_ends b) c → ¬ Contains (run_ends a) c
+known a b c e out = let same : b ≡ a = cc in subst (λ l. ¬ Contains (run_ends l) c) same out
+
+pub no_null : (others : List ℕ) (c : ℕ) → ¬ Contains (run_ends others) c → c ≢ null
+no_null others c other = λ same. other (0, omega arith, sym same)
+
+pub no_line_feed : (others : List ℕ) (c : ℕ) → ¬ Contains (run_ends others) c → c ≢ line_feed
+no_line_feed others c other = λ same. other (1, omega arith, sym same)
+
+pub no_carriage_return : (others : List ℕ) (c : ℕ) → ¬ Contains (run_ends others) c → c ≢ carriage_return
+no_carriage_return others c other = λ same. other (2, omega arith, sym same)
+
+-- a character that ends no run tells itself alone, or is put to the open name or value
+pub step-run : (opened : Open) (others : List ℕ) (c : ℕ) → other_run_ends opened ≡ Some others → ¬ Contains (run_ends others) c
+    → step_at false opened c ≡ Tells (run_tokens opened (c ∷ [])) (opened_after_run opened (c ∷ []))
+unfolding step_at tag_step data_step plain_text raw_step raw_character raw_behind dashes_behind comment_step comment_errors mark_error bogus_comment_step instruction_step cdata_step tag_name_step attribute_name_step quoted_step unquoted_step in_tag_name in_attribute_name in_quoted in_unquoted unquoted_error is_odd_in_name is_white_space
+step-run (Between Data) others c has other =
+    let out : ¬ Contains (run_ends (less_than ∷ ampersand ∷ [])) c = known (less_than ∷ ampersand ∷ []) others c has other in
+    rw (no (less_than ∷ ampersand ∷ []) c out 3 less_than (lit< tt) refl, no (less_than ∷ ampersand ∷ []) c out 4 ampersand (lit< tt) refl, no (less_than ∷ ampersand ∷ []) c out 0 null (lit< tt) refl) refl
+step-run (Between Cdata) others c has other = absurd (none≢some has)
+step-run (Between Plain) others c has other = rw (no others c other 0 null (omega arith) refl) refl
+step-run (Between (RawText Rcdata name)) others c has other =
+    let out : ¬ Contains (run_ends (less_than ∷ ampersand ∷ [])) c = known (less_than ∷ ampersand ∷ []) others c has other in
+    rw (no (less_than ∷ ampersand ∷ []) c out 3 less_than (lit< tt) refl, no (less_than ∷ ampersand ∷ []) c out 4 ampersand (lit< tt) refl, no (less_than ∷ ampersand ∷ []) c out 0 null (lit< tt) refl) refl
+step-run (Between (RawText Rawtext name)) others c has other =
+    let out : ¬ Contains (run_ends (less_than ∷ [])) c = known (less_than ∷ []) others c has other in
+    rw (no (less_than ∷ []) c out 3 less_than (lit< tt) refl, no (less_than ∷ []) c out 0 null (lit< tt) refl) refl
+step-run (Between (RawText ScriptData name)) others c has other =
+    let out : ¬ Contains (run_ends (less_than ∷ [])) c = known (less_than ∷ []) others c has other in
+    rw (no (less_than ∷ []) c out 3 less_than (lit< tt) refl, no (less_than ∷ []) c out 0 null (lit< tt) refl) refl
+step-run (Between (RawText (Escaped NoDash) name)) others c has other =
+    let out : ¬ Contains (run_ends (hyphen ∷ less_than ∷ [])) c = known (hyphen ∷ less_than ∷ []) others c has other in
+    rw (no (hyphen ∷ less_than ∷ []) c out 4 less_than (lit< tt) refl, no (hyphen ∷ less_than ∷ []) c out 0 null (lit< tt) refl, and-false (c == greater_than), no (hyphen ∷ less_than ∷ []) c out 3 hyphen (lit< tt) refl) refl
+step-run (Between (RawText (DoubleEscaped NoDash) name)) others c has other =
+    let out : ¬ Contains (run_ends (hyphen ∷ less_than ∷ [])) c = known (hyphen ∷ less_than ∷ []) others c has other in
+    rw (no (hyphen ∷ less_than ∷ []) c out 4 less_than (lit< tt) refl, no (hyphen ∷ less_than ∷ []) c out 0 null (lit< tt) refl, and-false (c == greater_than), no (hyphen ∷ less_than ∷ []) c out 3 hyphen (lit< tt) refl) refl
+step-run (Between (RawText (Escaped OneDash) name)) others c has other = absurd (none≢some has)
+step-run (Between (RawText (Escaped TwoDashes) name)) others c has other = absurd (none≢some has)
+step-run (Between (RawText (DoubleEscaped OneDash) name)) others c has other = absurd (none≢some has)
+step-run (Between (RawText (DoubleEscaped TwoDashes) name)) others c has other = absurd (none≢some has)
+step-run LessThan others c has other = absurd (none≢some has)
+step-run LessThanSolidus others c has other = absurd (none≢some has)
+step-run (InTag InName tag) others c has other =
+    let out : ¬ Contains (run_ends (tab ∷ form_feed ∷ space ∷ solidus ∷ greater_than ∷ [])) c = known (tab ∷ form_feed ∷ space ∷ solidus ∷ greater_than ∷ []) others c has other in
+    rw (no (tab ∷ form_feed ∷ space ∷ solidus ∷ greater_than ∷ []) c out 3 tab (lit< tt) refl, no (tab ∷ form_feed ∷ space ∷ solidus ∷ greater_than ∷ []) c out 1 line_feed (lit< tt) refl, no (tab ∷ form_feed ∷ space ∷ solidus ∷ greater_than ∷ []) c out 4 form_feed (lit< tt) refl, no (tab ∷ form_feed ∷ space ∷ solidus ∷ greater_than ∷ []) c out 5 space (lit< tt) refl, no (tab ∷ form_feed ∷ space ∷ solidus ∷ greater_than ∷ []) c out 6 solidus (lit< tt) refl, no (tab ∷ form_feed ∷ space ∷ solidus ∷ greater_than ∷ []) c out 7 greater_than (lit< tt) refl, no (tab ∷ form_feed ∷ space ∷ solidus ∷ greater_than ∷ []) c out 0 null (lit< tt) refl) refl
+step-run (InTag BeforeAttribute tag) others c has other = absurd (none≢some has)
+step-run (InTag InAttributeName tag) others c has other =
+    let out : ¬ Contains (run_ends (tab ∷ form_feed ∷ space ∷ solidus ∷ greater_than ∷ equals_sign ∷ quotation_mark ∷ apostrophe ∷ less_than ∷ [])) c = known (tab ∷ form_feed ∷ space ∷ solidus ∷ greater_than ∷ equals_sign ∷ quotation_mark ∷ apostrophe ∷ less_than ∷ []) others c has other in
+    rw (no (tab ∷ form_feed ∷ space ∷ solidus ∷ greater_than ∷ equals_sign ∷ quotation_mark ∷ apostrophe ∷ less_than ∷ []) c out 3 tab (lit< tt) refl, no (tab ∷ form_feed ∷ space ∷ solidus ∷ greater_than ∷ equals_sign ∷ quotation_mark ∷ apostrophe ∷ less_than ∷ []) c out 1 line_feed (lit< tt) refl, no (tab ∷ form_feed ∷ space ∷ solidus ∷ greater_than ∷ equals_sign ∷ quotation_mark ∷ apostrophe ∷ less_than ∷ []) c out 4 form_feed (lit< tt) refl, no (tab ∷ form_feed ∷ space ∷ solidus ∷ greater_than ∷ equals_sign ∷ quotation_mark ∷ apostrophe ∷ less_than ∷ []) c out 5 space (lit< tt) refl, no (tab ∷ form_feed ∷ space ∷ solidus ∷ greater_than ∷ equals_sign ∷ quotation_mark ∷ apostrophe ∷ less_than ∷ []) c out 6 solidus (lit< tt) refl, no (tab ∷ form_feed ∷ space ∷ solidus ∷ greater_than ∷ equals_sign ∷ quotation_mark ∷ apostrophe ∷ less_than ∷ []) c out 7 greater_than (lit< tt) refl, no (tab ∷ form_feed ∷ space ∷ solidus ∷ greater_than ∷ equals_sign ∷ quotation_mark ∷ apostrophe ∷ less_than ∷ []) c out 8 equals_sign (lit< tt) refl, no (tab ∷ form_feed ∷ space ∷ solidus ∷ greater_than ∷ equals_sign ∷ quotation_mark ∷ apostrophe ∷ less_than ∷ []) c out 0 null (lit< tt) refl, no (tab ∷ form_feed ∷ space ∷ solidus ∷ greater_than ∷ equals_sign ∷ quotation_mark ∷ apostrophe ∷ less_than ∷ []) c out 9 quotation_mark (lit< tt) refl, no (tab ∷ form_feed ∷ space ∷ solidus ∷ greater_than ∷ equals_sign ∷ quotation_mark ∷ apostrophe ∷ less_than ∷ []) c out 10 apostrophe (lit< tt) refl, no (tab ∷ form_feed ∷ space ∷ solidus ∷ greater_than ∷ equals_sign ∷ quotation_mark ∷ apostrophe ∷ less_than ∷ []) c out 11 less_than (lit< tt) refl) refl
+step-run (InTag AfterAttributeName tag) others c has other = absurd (none≢some has)
+step-run (InTag BeforeValue tag) others c has other = absurd (none≢some has)
+step-run (InTag (InValue DoubleQuoted) tag) others c has other =
+    let out : ¬ Contains (run_ends (quotation_mark ∷ ampersand ∷ [])) c = known (quotation_mark ∷ ampersand ∷ []) others c has other in
+    rw (no (quotation_mark ∷ ampersand ∷ []) c out 3 quotation_mark (lit< tt) refl, no (quotation_mark ∷ ampersand ∷ []) c out 4 ampersand (lit< tt) refl, no (quotation_mark ∷ ampersand ∷ []) c out 0 null (lit< tt) refl) refl
+step-run (InTag (InValue SingleQuoted) tag) others c has other =
+    let out : ¬ Contains (run_ends (apostrophe ∷ ampersand ∷ [])) c = known (apostrophe ∷ ampersand ∷ []) others c has other in
+    rw (no (apostrophe ∷ ampersand ∷ []) c out 3 apostrophe (lit< tt) refl, no (apostrophe ∷ ampersand ∷ []) c out 4 ampersand (lit< tt) refl, no (apostrophe ∷ ampersand ∷ []) c out 0 null (lit< tt) refl) refl
+step-run (InTag (InValue Unquoted) tag) others c has other =
+    let out : ¬ Contains (run_ends (tab ∷ form_feed ∷ space ∷ ampersand ∷ greater_than ∷ [])) c = known (tab ∷ form_feed ∷ space ∷ ampersand ∷ greater_than ∷ []) others c has other in
+    rw (no (tab ∷ form_feed ∷ space ∷ ampersand ∷ greater_than ∷ []) c out 3 tab (lit< tt) refl, no (tab ∷ form_feed ∷ space ∷ ampersand ∷ greater_than ∷ []) c out 1 line_feed (lit< tt) refl, no (tab ∷ form_feed ∷ space ∷ ampersand ∷ greater_than ∷ []) c out 4 form_feed (lit< tt) refl, no (tab ∷ form_feed ∷ space ∷ ampersand ∷ greater_than ∷ []) c out 5 space (lit< tt) refl, no (tab ∷ form_feed ∷ space ∷ ampersand ∷ greater_than ∷ []) c out 7 greater_than (lit< tt) refl, no (tab ∷ form_feed ∷ space ∷ ampersand ∷ greater_than ∷ []) c out 6 ampersand (lit< tt) refl, no (tab ∷ form_feed ∷ space ∷ ampersand ∷ greater_than ∷ []) c out 0 null (lit< tt) refl) refl
+step-run (InTag AfterQuotedValue tag) others c has other = absurd (none≢some has)
+step-run (InTag AfterSolidus tag) others c has other = absurd (none≢some has)
+step-run (InRaw place name) others c has other = absurd (none≢some has)
+step-run (InDeclaration held) others c has other = absurd (none≢some has)
+step-run (InComment text) others c has other =
+    let ends : (others ≡ hyphen ∷ greater_than ∷ []) × (ends_in text (codes "-") ≡ false) = comment_ends text others has in
+    let out : ¬ Contains (run_ends (hyphen ∷ greater_than ∷ [])) c = subst (λ l. ¬ Contains (run_ends l) c) ends.0 other in
+    rw (no (hyphen ∷ greater_than ∷ []) c out 4 greater_than (lit< tt) refl, no (hyphen ∷ greater_than ∷ []) c out 0 null (lit< tt) refl, ends_in_mark-none text ends.1, append-nil (value_bytes c)) refl
+step-run (InBogusComment text) others c has other =
+    let out : ¬ Contains (run_ends (greater_than ∷ [])) c = known (greater_than ∷ []) others c has other in
+    rw (no (greater_than ∷ []) c out 3 greater_than (lit< tt) refl, no (greater_than ∷ []) c out 0 null (lit< tt) refl, append-nil (value_bytes c)) refl
+step-run (InInstruction content) others c has other =
+    let out : ¬ Contains (run_ends (greater_than ∷ [])) c = known (greater_than ∷ []) others c has other in
+    rw (no (greater_than ∷ []) c out 3 greater_than (lit< tt) refl, no (greater_than ∷ []) c out 0 null (lit< tt) refl, append-nil (value_bytes c)) refl
+step-run (InDoctype place doctype) others c has other = absurd (none≢some has)
+step-run (InDoctypeKeyword held doctype) others c has other = absurd (none≢some has)
+step-run (InCdata text) others c has other =
+    let out : ¬ Contains (run_ends (greater_than ∷ [])) c = known (greater_than ∷ []) others c has other in
+    rw (no (greater_than ∷ []) c out 3 greater_than (lit< tt) refl, no (greater_than ∷ []) c out 0 null (lit< tt) refl, append-nil (encode_utf8 c)) refl
+step-run (InReference stand held) others c has other = absurd (none≢some has)

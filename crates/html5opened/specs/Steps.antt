@@ -1,0 +1,55 @@
+-- What reading one character tells, and what is behind it.
+use Rattle.std.specs.Prelude.{◌≡◌, List, Result, Ok, Err}
+use Rattle.html5ever_interface.specs.Token.{Told, TagOf}
+use Rattle.html5grammar.specs.Reading.{Here}
+use Rattle.html5grammar.specs.Reading.Here.{Tells, TellsTag}
+use Rattle.html5grammar.specs.Start.{Open}
+use Rattle.html5grammar.specs.Start.Mode.{Data}
+use Rattle.html5grammar.specs.Start.Open.{Between}
+use Rattle.html5grammar.specs.Tag.{told_tag}
+use Rattle.html5opened.specs.CharRef.{HasStand, begun_reference}
+use Rattle.html5opened.specs.CurrentTag.{open_tag, opened_of}
+use Rattle.html5opened.specs.declared.opened.Opened.{Opened}
+use Rattle.html5opened.specs.declared.opened.Progress.{Progress}
+use Rattle.html5opened.specs.declared.opened.Progress.TheVariants.{Continues, BeginsReference, EndsTag}
+use Rattle.html5opened.specs.declared.error.TokenizerError.{TokenizerError}
+use Rattle.html5opened.specs.declared.error.TokenizerError.TheVariants.{Memory, Sink, Failed}
+
+-- the tokens that are told at a character, before the tag that it ends
+unfoldable pub tokens_of : Here Open → List Told
+tokens_of (Tells told later) = told
+tokens_of (TellsTag told tag) = told
+
+-- what is behind a character: something is open; or a tag has ended, and this is open unless the sink's reply chooses
+pub data Next : Type 0 where
+  Opens : Open → Next
+  Closes : TagOf → Open → Next
+
+unfoldable pub behind : Here Open → Next
+behind (Tells told later) = Opens later
+behind (TellsTag told tag) = Closes tag (Between Data)
+
+-- where a call that reads a character leads
+abbrev pub Leads : {T : Type 0} → Result T TokenizerError → Open → Open → Type 0
+Leads (Ok x) now later = now ≡ later
+Leads (Err Memory) now later = Unit {0}
+Leads (Err Sink) now later = Unit {0}
+Leads (Err Failed) now later = ⊥
+
+-- what is behind a character, where a call answers so and leaves this open
+abbrev pub next_of : {Z : Type 0} → Progress → Opened Z → Next
+next_of Continues at = Opens (opened_of at)
+next_of BeginsReference at = Opens (begun_reference (opened_of at))
+next_of (EndsTag self_closing) at = Closes (told_tag (open_tag at.tag) self_closing) (opened_of at)
+
+-- a reference begins only where one can stand
+abbrev pub BeginsWhereItCan : Progress → Open → Type 0
+BeginsWhereItCan BeginsReference opened = HasStand opened
+BeginsWhereItCan progress opened = Unit {0}
+
+-- where a call leads that may end a tag
+abbrev pub Ends : {Z : Type 0} → Result Progress TokenizerError → Opened Z → Next → Type 0
+Ends (Ok progress) at next = (next_of progress at ≡ next) × BeginsWhereItCan progress (opened_of at)
+Ends (Err Memory) at next = Unit {0}
+Ends (Err Sink) at next = Unit {0}
+Ends (Err Failed) at next = ⊥

@@ -1,0 +1,98 @@
+//! The tag that is open, and what the standard does with it.
+#![tactic(auto, unfolding(html5grammar::specs::Characters::name_bytes, html5grammar::specs::Characters::value_bytes, html5grammar::specs::Characters::shown, html5grammar::specs::Characters::is_letter, html5grammar::specs::Tag::has_attribute, html5grammar::specs::Tag::with_last_attribute, html5grammar::specs::Tag::duplicate_error, html5grammar::specs::Tag::repeats_attribute))]
+
+ghost use Rattle.std.specs.Prelude.{◌≡◌, ◌∷◌, [], ◌++◌, map, OnOk, string_bytes};
+ghost use Rattle.html5grammar.specs.Characters.{name_bytes, value_bytes};
+ghost use Rattle.html5grammar.specs.Start.{begun};
+ghost use Rattle.html5grammar.specs.Tag.{attribute, has_attribute, told_tag};
+ghost use Rattle.html5opened.specs.CurrentTag.{open_tag};
+ghost use Rattle.html5ever_interface.specs.Token.{tag_of};
+ghost use Rattle.markup5ever.specs.Names.{attribute_of};
+
+use crate::characters::{name_character, shown};
+use html5ever_interface::interface::token::{Tag, TagKind};
+use markup5ever::interface::{Attribute, LocalName, Namespace, QualName};
+use std::alloc::{AllocError, Allocator, Global};
+use std::mem;
+
+/// The tag that is open. Its last attribute is still being read; without a name there is none.
+#[derive(Drop)]
+pub struct CurrentTag<A: Allocator = Global> {
+    pub kind: TagKind,
+    pub name: String<A>,
+    pub attrs: Vec<Attribute<A>, A>,
+    pub had_duplicate_attributes: bool,
+    pub attr_name: String<A>,
+    pub attr_value: String<A>,
+}
+
+impl<A: Allocator + Copy> CurrentTag<A> {
+    /// A tag of which nothing was read.
+    pub fn new(alloc: A, kind: TagKind) -> CurrentTag<A>
+        ensures { open_tag result ≡ begun kind }
+    {
+        CurrentTag {
+            kind,
+            name: String::new(alloc),
+            attrs: Vec::new(alloc),
+            had_duplicate_attributes: false,
+            attr_name: String::new(alloc),
+            attr_value: String::new(alloc),
+        }
+    }
+
+    /// Ends the tag behind its last attribute, and answers it. What it leaves says nothing until the
+    /// next tag begins.
+    pub fn end(&mut self, alloc: A, self_closing: bool) -> Tag<A>
+        ensures { tag_of result ≡ told_tag (open_tag self.old) self_closing }
+    {
+        Tag {
+            kind: self.kind,
+            name: LocalName(mem::replace(&mut self.name, String::new(alloc))),
+            self_closing,
+            attrs: mem::replace(&mut self.attrs, Vec::new(alloc)),
+            had_duplicate_attributes: self.had_duplicate_attributes,
+        }
+    }
+}
+
+/// Appends a character to a name, a letter in lower case.
+pub fn push_name<A: Allocator>(name: &mut String<A>, c: char) -> Result<(), AllocError>
+    ensures { OnOk result (string_bytes name.new ≡ string_bytes name.old ++ name_bytes c) }
+{
+    name.push(name_character(c))
+}
+
+/// Appends a character to a value.
+pub fn push_value<A: Allocator>(value: &mut String<A>, c: char) -> Result<(), AllocError>
+    ensures { OnOk result (string_bytes value.new ≡ string_bytes value.old ++ value_bytes c) }
+{
+    value.push(shown(c))
+}
+
+/// Whether one of the attributes has the name.
+pub fn has_attribute<A: Allocator>(attrs: &[Attribute<A>], name: &str) -> bool
+    ensures { result ≡ has_attribute (map attribute_of attrs.now) name.now }
+{
+    for attr in attrs {
+        if attr.name.local.0.as_str() == name {
+            return true;
+        }
+    }
+    false
+}
+
+/// Appends an attribute with no prefix, in no namespace.
+pub fn push_attribute<A: Allocator + Copy>(
+    alloc: A,
+    attrs: &mut Vec<Attribute<A>, A>,
+    name: String<A>,
+    value: String<A>,
+) -> Result<(), AllocError>
+    ensures { OnOk result (map attribute_of attrs.new.items
+        ≡ map attribute_of attrs.old.items ++ attribute (string_bytes name) (string_bytes value) ∷ []) }
+{
+    let name = QualName::new(None, Namespace(String::new(alloc)), LocalName(name));
+    attrs.push(Attribute { name, value })?;
+    Ok(())
+}

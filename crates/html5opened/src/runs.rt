@@ -1,0 +1,127 @@
+//! Runs: characters that are read at once. A state that reads runs names here the characters that
+//! end one, and where a run within a tag goes. A run between tags is told as one text.
+ghost use Rattle.std.specs.Prelude.{◌≡◌, ℕ, [], false, ◌↔◌, ◌++◌, Contains, OnOk, IfSome, is_some, string_bytes, flat_map};
+ghost use Rattle.std.specs.Str.{chars};
+ghost use Rattle.html5grammar.specs.Cdata.{open_cdata};
+ghost use Rattle.html5grammar.specs.Characters.{name_bytes};
+ghost use Rattle.html5grammar.specs.Start.{is_clean, held_len};
+ghost use Rattle.html5grammar.specs.Start.{raw_of};
+ghost use Rattle.html5grammar.specs.Start.Mode.{RawText};
+ghost use Rattle.html5grammar.specs.Start.Open.{Between, InComment};
+ghost use Rattle.html5opened.specs.CurrentTag.{opened_of, last_name_of};
+ghost use Rattle.html5opened.specs.Runs.{IsRunAt, other_value_ends, other_run_ends, run_ends, opened_after_run};
+ghost use Rattle.markup5ever.specs.SmallCharSet.{IsMember};
+
+use crate::comments::{ends_in, is_comment_state};
+use crate::current_tag::push_name;
+use crate::opened::Opened;
+use html5ever_interface::states::{AttrValueKind, RawKind, State};
+use markup5ever::small_char_set::SmallCharSet;
+use std::alloc::{AllocError, Allocator};
+
+// The characters that end a run in a value.
+#[inline(always)]
+fn value_ends(kind: AttrValueKind) -> SmallCharSet
+    ensures { (c : ℕ) → IsMember result c ↔ Contains (run_ends (other_value_ends kind)) c }
+{
+    match kind {
+        AttrValueKind::DoubleQuoted => SmallCharSet::of(b"\0\n\r\"&"),
+        AttrValueKind::SingleQuoted => SmallCharSet::of(b"\0\n\r'&"),
+        AttrValueKind::Unquoted => SmallCharSet::of(b"\0\n\r\t\x0C &>"),
+    }
+}
+
+// The characters that end a run in raw text.
+#[inline(always)]
+fn raw_ends(kind: RawKind) -> SmallCharSet
+    ensures { IfSome (other_run_ends (Between (RawText (raw_of kind) []))) (λ others.
+        (c : ℕ) → IsMember result c ↔ Contains (run_ends others) c) }
+{
+    match kind {
+        RawKind::Rcdata => SmallCharSet::of(b"\0\n\r<&"),
+        RawKind::Rawtext | RawKind::ScriptData => SmallCharSet::of(b"\0\n\r<"),
+        RawKind::ScriptDataEscaped(_) => SmallCharSet::of(b"\0\n\r-<"),
+    }
+}
+
+// The characters that end a run in a CDATA section, where text of it is held.
+#[inline(always)]
+fn section_ends(text: &str) -> Option<SmallCharSet>
+    ensures has_runs { is_some result ≡ is_some (other_run_ends (open_cdata text.now)) }
+    ensures ends { IfSome result (λ set. IfSome (other_run_ends (open_cdata text.now)) (λ others.
+        (c : ℕ) → IsMember set c ↔ Contains (run_ends others) c)) }
+{
+    if text.is_empty() {
+        return None;
+    }
+    Some(SmallCharSet::of(b"\0\n\r>"))
+}
+
+// The characters that end a run in a comment, unless its text so far ends in a dash.
+#[inline(always)]
+fn comment_ends(text: &str) -> Option<SmallCharSet>
+    ensures has_runs { is_some result ≡ is_some (other_run_ends (InComment text.now)) }
+    ensures ends { IfSome result (λ set. IfSome (other_run_ends (InComment text.now)) (λ others.
+        (c : ℕ) → IsMember set c ↔ Contains (run_ends others) c)) }
+{
+    if ends_in(text, b"-") {
+        return None;
+    }
+    Some(SmallCharSet::of(b"\0\n\r->"))
+}
+
+/// The characters that end a run, where the state reads runs.
+#[inline(always)]
+pub fn run_ends<A: Allocator>(at: &Opened<A>) -> Option<SmallCharSet>
+    ensures has_runs { is_some result ≡ is_some (other_run_ends (opened_of at.now)) }
+    ensures ends { IfSome result (λ set. IfSome (other_run_ends (opened_of at.now)) (λ others.
+        (c : ℕ) → IsMember set c ↔ Contains (run_ends others) c)) }
+{
+    match at.state {
+        State::Data => Some(SmallCharSet::of(b"\0\n\r<&")),
+        State::Plaintext => Some(SmallCharSet::of(b"\0\n\r")),
+        State::TagName => Some(SmallCharSet::of(b"\0\n\r\t\x0C />")),
+        State::AttributeName => Some(SmallCharSet::of(b"\0\n\r\t\x0C />=\"'<")),
+        State::AttributeValue(kind) => Some(value_ends(kind)),
+        State::RawData(kind) => Some(raw_ends(kind)),
+        State::BogusComment => Some(SmallCharSet::of(b"\0\n\r>")),
+        State::ProcessingInstruction => Some(SmallCharSet::of(b"\0\n\r>")),
+        State::CdataSection => section_ends(&at.comment),
+        state if is_comment_state(state) => comment_ends(&at.comment),
+        _ => None,
+    }
+}
+
+/// Appends a run to a name, its letters in lower case.
+pub fn push_names<A: Allocator>(name: &mut String<A>, run: &str) -> Result<(), AllocError>
+    ensures { OnOk result (string_bytes name.new
+        ≡ string_bytes name.old ++ flat_map name_bytes (chars run.now)) }
+{
+    for c in run.chars() {
+        push_name(name, c)?;
+    }
+    Ok(())
+}
+
+/// Puts a run to the open name or value, or to the text of a comment, an instruction or a section.
+#[inline(always)]
+pub fn push_run<A: Allocator>(at: &mut Opened<A>, run: &str) -> Result<(), AllocError>
+    requires is_run { IsRunAt (opened_of at.old) (chars run.now) }
+    requires not_clean { is_clean (opened_of at.old) ≡ false }
+    ensures run { OnOk result
+        (opened_of at.new ≡ opened_after_run (opened_of at.old) (chars run.now)) }
+    ensures last { last_name_of at.new ≡ last_name_of at.old }
+    ensures held { held_len (opened_of at.new) ≡ 0 }
+{
+    match at.state {
+        State::TagName => push_names(&mut at.tag.name, run)?,
+        State::AttributeName => push_names(&mut at.tag.attr_name, run)?,
+        State::AttributeValue(_) => at.tag.attr_value.push_str(run)?,
+        State::BogusComment => at.comment.push_str(run)?,
+        State::ProcessingInstruction => at.comment.push_str(run)?,
+        State::CdataSection => at.comment.push_str(run)?,
+        state if is_comment_state(state) => at.comment.push_str(run)?,
+        _ => unreachable!(),
+    }
+    Ok(())
+}

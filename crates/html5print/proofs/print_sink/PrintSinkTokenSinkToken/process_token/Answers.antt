@@ -1,8 +1,0 @@
-use Rattle.std.proofs.Common.{refl}
-use Rattle.html5print.specs.Page.{page_step}
-use Rattle.html5print.proofs.print_sink.PrintSinkTokenSinkToken.process_token.Goals as goal
-
-pub returns-in-Ok-clause-steps : goal.returns-in-Ok-clause-steps
-unfolding page_step
-returns-in-Ok-clause-steps g c =
-    rw (← c.self.view_is, c.in-Ok.ensures.ok, c.is_open_behind-self-inside.ensures) refl

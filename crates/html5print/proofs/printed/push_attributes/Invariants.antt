@@ -1,8 +1,0 @@
-use Rattle.std.proofs.Common.{◌≡◌, ◌++◌, map, take}
-use Rattle.html5print.specs.Printed.{printed_attributes}
-use Rattle.markup5ever.specs.Names.{attribute_of}
-use Rattle.html5print.proofs.printed.push_attributes.Given as goal
-
-abbrev pub invariant-loop-attribute : goal.invariant-loop-attribute
-invariant-loop-attribute g l =
-    l.page.items ≡ l.fn.page.items ++ printed_attributes (map attribute_of (take l.attribute-index l.attributes))

@@ -1,8 +1,0 @@
-use Rattle.std.proofs.Common.{◌≡◌, map, drop}
-use Rattle.html5print.specs.Replies.{charset_of}
-use Rattle.markup5ever.specs.Names.{attribute_of}
-use Rattle.html5print.proofs.replies.charset_of.Given as goal
-
-abbrev pub invariant-loop-attribute : goal.invariant-loop-attribute
-invariant-loop-attribute g l =
-    charset_of (map attribute_of l.attributes) ≡ charset_of (map attribute_of (drop l.attribute-index l.attributes))

@@ -1,0 +1,188 @@
+//! A script, as it is written.
+use crate::play::failure_of;
+use test_lines::{Case, CaseError, Wanted, number_of, push_meant};
+use markup5ever::buffer_queue::Case as Letters;
+use std::alloc::Global;
+
+/// A call of which a script says the answer.
+#[derive(Drop)]
+pub enum Call {
+    /// Hands a text in, after what waits.
+    Push(String),
+    /// Hands a text in, in front of what waits.
+    Insert(String),
+    /// Puts a text back in front of what waits.
+    GiveBack(String),
+    Next,
+    Peek,
+    /// What waits.
+    Waits,
+    /// Takes a run, or the member of the set that stands first.
+    Pop,
+    /// Skips a run, and answers how many bytes it has.
+    Skip,
+    Eat(String, Letters),
+    /// Makes a table of the entries so far.
+    Check,
+    /// What the table has by that name.
+    Get(String),
+    /// Whether a name of the table begins so.
+    IsPrefix(String),
+    /// What the number of a C1 control stands for.
+    Control(u8),
+}
+
+/// An entry of a table: a name, and one character or two.
+#[derive(Drop)]
+pub struct Entry {
+    pub name: String,
+    pub first: char,
+    pub second: Option<char>,
+}
+
+/// A step of a script.
+#[derive(Drop)]
+pub enum Step {
+    Call(Call, String),
+    Entry(Entry),
+}
+
+/// A script: how it is played, and its steps.
+#[derive(Drop)]
+pub struct Script {
+    name: String,
+    /// How many requests for memory it may make.
+    pub requests: Option<u64>,
+    /// Whether it is played with each request refused, too, and how many there are.
+    pub refusals: Option<Wanted>,
+    pub steps: Vec<Step>,
+    /// The last line that has no meaning, if one has none.
+    pub unknown: Option<String>,
+}
+
+// The text that is written with escapes.
+fn meant(alloc: Global, written: &str) -> Result<String, CaseError> {
+    let mut text = String::new(alloc);
+    push_meant(&mut text, written)?;
+    Ok(text)
+}
+
+// The entry: a name, a space, and one character or two.
+fn entry_of(alloc: Global, written: &str) -> Result<Entry, CaseError> {
+    let Some((name, characters)) = written.split_once(' ') else {
+        return Err(CaseError::BadLine);
+    };
+    let characters = meant(alloc, characters)?;
+    let mut characters = characters.chars();
+    let Some(first) = characters.next() else {
+        return Err(CaseError::BadLine);
+    };
+    Ok(Entry {
+        name: meant(alloc, name)?,
+        first,
+        second: characters.next(),
+    })
+}
+
+// The call of one word.
+fn bare_call(word: &str) -> Option<Call> {
+    match word {
+        "next" => Some(Call::Next),
+        "peek" => Some(Call::Peek),
+        "waits" => Some(Call::Waits),
+        "pop" => Some(Call::Pop),
+        "skip" => Some(Call::Skip),
+        "check" => Some(Call::Check),
+        _ => None,
+    }
+}
+
+// The call of a number in hexadecimal digits.
+fn control_call(digits: &str) -> Result<Call, CaseError> {
+    match u8::from_str_radix(digits, 16) {
+        Ok(number) => Ok(Call::Control(number)),
+        Err(_) => Err(CaseError::BadLine),
+    }
+}
+
+// The call of a text.
+fn text_call(verb: &str, text: String) -> Result<Call, CaseError> {
+    match verb {
+        "push" => Ok(Call::Push(text)),
+        "insert" => Ok(Call::Insert(text)),
+        "give_back" => Ok(Call::GiveBack(text)),
+        "eat" => Ok(Call::Eat(text, Letters::Exact)),
+        "eat_any_case" => Ok(Call::Eat(text, Letters::IgnoreAscii)),
+        "get" => Ok(Call::Get(text)),
+        "begins" => Ok(Call::IsPrefix(text)),
+        "control" => control_call(&text),
+        _ => Err(CaseError::BadLine),
+    }
+}
+
+// The call that is written so.
+fn call_of(alloc: Global, words: &str) -> Result<Call, CaseError> {
+    if let Some(call) = bare_call(words) {
+        return Ok(call);
+    }
+    let (verb, written) = words.split_once(' ').unwrap_or((words, ""));
+    text_call(verb, meant(alloc, written)?)
+}
+
+impl Case for Script {
+    fn begin(alloc: Global) -> Script {
+        Script {
+            name: String::new(alloc),
+            requests: None,
+            refusals: None,
+            steps: Vec::new(alloc),
+            unknown: None,
+        }
+    }
+
+    fn read_line(&mut self, alloc: Global, line: &str) -> Result<(), CaseError> {
+        match self.read_mark(alloc, line) {
+            Err(CaseError::BadLine) => {
+                self.unknown = Some(String::from_str(alloc, line)?);
+                Ok(())
+            }
+            read => read,
+        }
+    }
+
+    fn failure(&self, alloc: Global) -> Result<Option<String>, CaseError> {
+        let Some(failure) = failure_of(alloc, self)? else {
+            return Ok(None);
+        };
+        Ok(Some(format!(in alloc; "{}: {failure}", self.name)?))
+    }
+}
+
+impl Script {
+    // Reads a line that has a meaning.
+    fn read_mark(&mut self, alloc: Global, line: &str) -> Result<(), CaseError> {
+        let (mark, text) = line.split_once(' ').unwrap_or((line, ""));
+        match mark {
+            "*" if self.name.is_empty() => self.name.push_str(text)?,
+            "memory" => self.requests = Some(number_of(text)?),
+            "refuse" => self.refusals = Some(Wanted::read(text)?),
+            "entry" => return self.push_step(Step::Entry(entry_of(alloc, text)?)),
+            _ => return self.read_call(alloc, line),
+        }
+        Ok(())
+    }
+
+    // Reads a call and its answer.
+    fn read_call(&mut self, alloc: Global, line: &str) -> Result<(), CaseError> {
+        let Some((words, answer)) = line.rsplit_once(" ->") else {
+            return Err(CaseError::BadLine);
+        };
+        let call = call_of(alloc, words)?;
+        let answer = meant(alloc, answer.strip_prefix(' ').unwrap_or(answer))?;
+        self.push_step(Step::Call(call, answer))
+    }
+
+    fn push_step(&mut self, step: Step) -> Result<(), CaseError> {
+        self.steps.push(step).map_err(|_| CaseError::Memory)
+    }
+}

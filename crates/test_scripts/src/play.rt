@@ -1,0 +1,141 @@
+//! Plays a script once, on a heap.
+use crate::player::{Cutting, Player, Stage};
+use crate::script::{Script, SinkKind, Step};
+use test_lines::{Play, Played, Stop};
+use html5cli::arguments::settings_of;
+use html5cli::names::names_of;
+use html5ever_interface::collect::Collector;
+use html5ever_interface::interface::sink::TokenSink;
+use html5ever_interface::interface::token::Token;
+use token_printer::print_sink::PrintSink;
+use std::alloc::{AllocError, Allocator, Global};
+use test_sinks::alternating::Alternating;
+use test_sinks::counting::Counting;
+use test_sinks::faulty::FaultySink;
+use test_sinks::shown::{Numbered, Shown};
+use test_sinks::steering::Steering;
+
+// Takes the steps, up to one that stops the play.
+fn take_steps<S: TokenSink<Token<A>> + Shown, A: Allocator + Copy>(
+    player: &mut Player<'_, S, A>,
+    steps: &[Step],
+) -> Option<(usize, Stop)>
+where
+    S::Handle: Numbered,
+{
+    for (place, step) in steps.iter().enumerate() {
+        if let Err(stop) = player.take(step) {
+            return Some((place, stop));
+        }
+    }
+    None
+}
+
+// Plays the steps with a sink, and looks at what a refused tokenizer does.
+fn play_with<S: TokenSink<Token<A>> + Shown, A: Allocator + Copy>(
+    stage: Stage<'_, A>,
+    steps: &[Step],
+    sink: S,
+    spare: S,
+) -> Result<Played, Stop>
+where
+    S::Handle: Numbered,
+{
+    let mut player = Player::new(stage, sink, spare)?;
+    let stop = take_steps(&mut player, steps);
+    if player.has_failed() {
+        player.check_refused()?;
+    }
+    let lines = player.lines()?;
+    Ok(Played { stop, lines })
+}
+
+// Plays the steps with sinks that fault.
+fn play_with_faults<A: Allocator + Copy>(
+    stage: Stage<'_, A>,
+    steps: &[Step],
+    left: usize,
+    at_end: bool,
+) -> Result<Played, Stop> {
+    let sink = FaultySink::new(left, at_end);
+    play_with(stage, steps, sink, FaultySink::new(left, at_end))
+}
+
+// Plays the steps with sinks of the kind.
+fn play_on<A: Allocator + Copy>(
+    stage: Stage<'_, A>,
+    steps: &[Step],
+    sink: SinkKind,
+) -> Result<Played, Stop> {
+    let heap = stage.heap;
+    let foreign = stage.settings.foreign;
+    match sink {
+        SinkKind::Collect => {
+            let sink = Collector::new(heap, foreign);
+            play_with(stage, steps, sink, Collector::new(heap, foreign))
+        }
+        SinkKind::Steer => play_with(stage, steps, Steering::new(heap), Steering::new(heap)),
+        SinkKind::Alternate => {
+            play_with(stage, steps, Alternating::new(heap), Alternating::new(heap))
+        }
+        SinkKind::Count => play_with(stage, steps, Counting::new(), Counting::new()),
+        SinkKind::Print => {
+            let sink = PrintSink::new(heap, foreign);
+            play_with(stage, steps, sink, PrintSink::new(heap, foreign))
+        }
+        SinkKind::FaultAfter(left) => play_with_faults(stage, steps, left, false),
+        SinkKind::FaultAtEnd => play_with_faults(stage, steps, usize::MAX, true),
+    }
+}
+
+// Plays a script on a heap, with a table of named references that lies in enough memory.
+fn try_play<A: Allocator + Copy>(
+    ample: Global,
+    heap: A,
+    enough: A,
+    script: &Script,
+    cutting: Cutting,
+) -> Result<Played, Stop> {
+    let Some(settings) = settings_of(&script.words) else {
+        return Err(Stop::BadWords);
+    };
+    let Ok(names) = names_of(enough, settings.table) else {
+        return Err(Stop::BadWords);
+    };
+    let stage = Stage {
+        ample,
+        heap,
+        settings,
+        names: &names,
+        cutting,
+    };
+    play_on(stage, &script.steps, script.sink)
+}
+
+/// Plays a script on a heap, with a table of named references that lies in enough memory.
+pub fn play<A: Allocator + Copy>(
+    ample: Global,
+    heap: A,
+    enough: A,
+    script: &Script,
+    cutting: Cutting,
+) -> Result<Played, AllocError> {
+    match try_play(ample, heap, enough, script, cutting) {
+        Ok(played) => Ok(played),
+        Err(stop) => Ok(Played {
+            stop: Some((script.steps.len(), stop)),
+            lines: String::new(ample),
+        }),
+    }
+}
+
+impl Play for Script {
+    fn play<A: Allocator + Copy>(
+        &self,
+        ample: Global,
+        heap: A,
+        enough: A,
+    ) -> Result<Played, AllocError> {
+        play(ample, heap, enough, self, Cutting::Whole)
+    }
+}

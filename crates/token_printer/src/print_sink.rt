@@ -1,0 +1,137 @@
+//! A sink that prints what it is told.
+ghost use Rattle.std.specs.Prelude.{◌≡◌, ◌++◌, string_bytes, IfOk, OnOk, OnErr};
+ghost use Rattle.token_printer.specs.Page.{BeginsWith, blank_page, added_by};
+ghost use Rattle.token_printer.specs.Replies.{reply_to};
+ghost use Rattle.html5ever_interface.specs.Token.{told_by, reply_of};
+
+use crate::page::{is_open_behind, push_token};
+use crate::replies::reply_to;
+use html5ever_interface::interface::sink::TokenSink;
+use html5ever_interface::interface::token::{SinkFault, Token, TokenSinkResult};
+use markup5ever::count::Count;
+use std::alloc::{AllocError, Allocator, Global};
+use std::marker::Model;
+
+// Appends what a token adds to a page, and replies to it.
+#[inline(always)]
+fn print_and_reply<A: Allocator + Copy>(
+    page: &mut Vec<u8, A>,
+    in_text: bool,
+    token: &Token<A>,
+    line: u64,
+) -> Result<TokenSinkResult<(), String<A>>, AllocError>
+    ensures ok { OnOk result
+        (page.new.items ≡ page.old.items ++ added_by in_text (told_by token.now) line) }
+    ensures replies { IfOk result
+        (λ reply. reply_of string_bytes reply ≡ reply_to (told_by token.now)) }
+    ensures err { OnErr result (BeginsWith page.new.items page.old.items) }
+{
+    let reply = reply_to(token)?;
+    push_token(page, in_text, token, line, &reply)?;
+    Ok(reply)
+}
+
+/// Prints what it is told: a line for each token, where adjacent texts share one and an empty text
+/// has none, and a line for each pause. A token that could not be printed leaves no part of a line.
+///
+/// It replies to the start tag `plaintext` to read plain text, to the start tags of eight names to
+/// read raw text, such as `title`, `style` and `script`, to a start tag `meta` with an attribute
+/// `charset` to switch the encoding, and to the end tag `script` to run the script.
+#[derive(Drop)]
+pub struct PrintSink<A: Allocator = Global> {
+    page: Vec<u8, A>,
+    in_text: bool,
+    foreign: bool,
+    faults: Count,
+}
+
+impl<A: Allocator> Model for PrintSink<A> {
+    ghost use Rattle.token_printer.specs.Page.{Page, Printer};
+
+    ghost Value = { Printer };
+
+    ghost view = { λ s. record {
+      page = record { lines = s.page.items; in_text = s.in_text; foreign = s.foreign };
+      faults = s.faults.total;
+    } };
+}
+
+impl<A: Allocator> PrintSink<A> {
+    /// A sink that has printed nothing. `foreign` is its answer about the current node, at each call.
+    pub fn new(alloc: A, foreign: bool) -> PrintSink<A>
+        ensures page { result.page ≡ blank_page foreign }
+        ensures faults { result.faults ≡ 0 }
+    {
+        PrintSink {
+            page: Vec::new(alloc),
+            in_text: false,
+            foreign,
+            faults: Count::new(),
+        }
+    }
+
+    /// The bytes printed so far. A text at their end is open: its line has no closing quote yet.
+    pub fn page(&self) -> &[u8]
+        ensures { result.now ≡ self.now.page.lines }
+    {
+        self.page.as_slice()
+    }
+}
+
+impl<A: Allocator + Copy> TokenSink<Token<A>> for PrintSink<A> {
+    ghost use Rattle.std.specs.Prelude.{◌≡◌};
+    ghost use Rattle.token_printer.specs.Page.{Page, page_step, page_reply, page_foreign, page_faulted};
+    ghost use Rattle.token_printer.specs.PageLaws.{page_joins, page_empty, page_any_line, page_keeps_on};
+
+    type Handle = ();
+
+    ghost State = { Page };
+
+    ghost means = { record {
+      state = λ s. s.page;
+      step = page_step;
+      reply = page_reply;
+      foreign = page_foreign;
+      finish = λ p. p;
+      faulted = page_faulted;
+      end_faulted = λ p. p;
+    } };
+
+    ghost faults = { λ s. s.faults };
+
+    ghost joins = { page_joins };
+
+    ghost empty = { page_empty };
+
+    ghost any_line = { page_any_line };
+
+    ghost keeps_on = { page_keeps_on };
+
+    #[inline(always)]
+    fn process_token(
+        &mut self,
+        token: Token<A>,
+        line_number: u64,
+    ) -> Result<TokenSinkResult<(), String<A>>, SinkFault> {
+        let printed = self.page.len();
+        match print_and_reply(&mut self.page, self.in_text, &token, line_number) {
+            Ok(reply) => {
+                self.in_text = is_open_behind(self.in_text, &token);
+                Ok(reply)
+            }
+            Err(AllocError) => {
+                self.page.truncate(printed);
+                self.faults.add(1);
+                Err(SinkFault)
+            }
+        }
+    }
+
+    fn end(&mut self) -> Result<(), SinkFault> {
+        Ok(())
+    }
+
+    fn adjusted_current_node_present_but_not_in_html_namespace(&self) -> bool {
+        self.foreign
+    }
+}

@@ -1,0 +1,319 @@
+//! The parts of printed lines: texts in quotes, marks, attributes, pause lines.
+ghost use Rattle.std.specs.Prelude.{◌≡◌, ◌+◌, ◌<◌, ◌≤◌, ◌++◌, true, false, length, slice_index, map, option_map, string_bytes, OnOk, OnErr};
+ghost use Rattle.std.specs.Fmt.{digits, digit_glyph};
+ghost use Rattle.token_printer.specs.Page.{BeginsWith};
+ghost use Rattle.token_printer.specs.Printed.{needs_escape, IsPlainWithin, escape, quoted_byte, quoted_bytes, quoted, kind_word, mark_where, printed_attribute, printed_attributes, printed_option, tag_marks, pause_line};
+ghost use Rattle.html5ever_interface.specs.Token.{tag_of, reply_of};
+ghost use Rattle.html5ever_interface.specs.Token.Reply.{SwitchEncoding};
+ghost use Rattle.markup5ever.specs.Names.{attribute_of};
+
+use html5ever_interface::interface::token::{Tag, TagKind, TokenSinkResult};
+use markup5ever::interface::Attribute;
+use std::alloc::{AllocError, Allocator};
+
+// The lower-case hexadecimal digit of a number below 16.
+fn hex_digit(value: u8) -> u8
+    requires { value < 16 }
+    ensures { result ≡ digit_glyph false value }
+{
+    if value < 10 {
+        b'0' + value
+    } else {
+        b'a' + (value - 10)
+    }
+}
+
+// Appends a byte in hexadecimal, without leading zeros.
+#[tactic(auto, using(std::proofs::lemmas::Fmt::hex_one_digit))]
+fn push_hex<A: Allocator>(page: &mut Vec<u8, A>, byte: u8) -> Result<(), AllocError>
+    ensures ok { OnOk result (page.new.items ≡ page.old.items ++ digits 16 false byte) }
+    ensures err { OnErr result (BeginsWith page.new.items page.old.items) }
+{
+    if byte < 16 {
+        page.push(hex_digit(byte))?;
+        return Ok(());
+    }
+    page.push(hex_digit(byte / 16))?;
+    page.push(hex_digit(byte % 16))?;
+    Ok(())
+}
+
+// How many bytes are looked at in one step, where a run is long, and at its end.
+const BLOCK: usize = 16;
+
+const HALF: usize = 8;
+
+#[inline(always)]
+#[tactic(auto, unfolding(crate::specs::Printed::needs_escape))]
+fn needs_escape(byte: u8) -> bool
+    ensures { result ≡ needs_escape byte }
+{
+    (byte < 0x20) | (byte == b'"') | (byte == b'\\') | (byte == 0x7F)
+}
+
+// Whether one of so many bytes from this place on needs an escape. It looks at each of them, so that the compiler makes
+// it one step over all, where it knows how many they are.
+#[inline(always)]
+fn has_end(bytes: &[u8], from: usize, count: usize) -> bool
+    requires { from + count ≤ length bytes.now }
+    ensures { result ≡ false → IsPlainWithin bytes.now from (from + count) }
+{
+    let mut found = false;
+    for k in 0..count {
+        found |= needs_escape(bytes[from + k]);
+    }
+    found
+}
+
+// Goes on over blocks in which no byte needs an escape.
+#[inline(always)]
+fn past_blocks(bytes: &[u8], from: usize) -> usize
+    requires { from ≤ length bytes.now }
+    ensures low { from ≤ result }
+    ensures high { result ≤ length bytes.now }
+    ensures plain { IsPlainWithin bytes.now from result }
+{
+    let mut at = from;
+    while BLOCK <= bytes.len() - at {
+        if has_end(bytes, at, BLOCK) {
+            return at;
+        }
+        at += BLOCK;
+    }
+    at
+}
+
+// Whether none of the next half of a block needs an escape, or fewer bytes are left.
+#[inline(always)]
+fn has_plain_half(bytes: &[u8], from: usize) -> bool
+    requires { from ≤ length bytes.now }
+    ensures { result ≡ true → from + HALF ≤ length bytes.now
+        → IsPlainWithin bytes.now from (from + HALF) }
+{
+    if bytes.len() - from < HALF {
+        return true;
+    }
+    !has_end(bytes, from, HALF)
+}
+
+// Whether it is seen in two steps that none of the bytes that are left needs an escape: the next half of a block, and
+// the last one.
+#[inline(always)]
+fn has_plain_end(bytes: &[u8], from: usize) -> bool
+    requires { from ≤ length bytes.now }
+    ensures { result ≡ true → IsPlainWithin bytes.now from (length bytes.now) }
+{
+    let len = bytes.len();
+    if from == len || len < HALF || BLOCK <= len - from {
+        return false;
+    }
+    if !has_plain_half(bytes, from) {
+        return false;
+    }
+    !has_end(bytes, len - HALF, HALF)
+}
+
+// The place of the first byte from this one on that needs an escape, or the end.
+fn run_end(bytes: &[u8], from: usize) -> usize
+    requires { from ≤ length bytes.now }
+    ensures low { from ≤ result }
+    ensures high { result ≤ length bytes.now }
+    ensures plain { IsPlainWithin bytes.now from result }
+    ensures stops { result < length bytes.now → needs_escape (slice_index bytes.now result) ≡ true }
+{
+    let near = past_blocks(bytes, from);
+    if has_plain_end(bytes, near) {
+        return bytes.len();
+    }
+    for at in near..bytes.len() {
+        if needs_escape(bytes[at]) {
+            return at;
+        }
+    }
+    bytes.len()
+}
+
+// Appends what stands in quotes for a byte that may not stand there as it is.
+#[tactic(auto, unfolding(crate::specs::Printed::escape))]
+fn push_escape<A: Allocator>(page: &mut Vec<u8, A>, byte: u8) -> Result<(), AllocError>
+    ensures ok { OnOk result (page.new.items ≡ page.old.items ++ escape byte) }
+    ensures err { OnErr result (BeginsWith page.new.items page.old.items) }
+{
+    match byte {
+        b'\\' => page.extend_from_slice(b"\\\\"),
+        b'"' => page.extend_from_slice(b"\\\""),
+        b'\n' => page.extend_from_slice(b"\\n"),
+        _ => {
+            page.extend_from_slice(b"\\u{")?;
+            push_hex(page, byte)?;
+            page.extend_from_slice(b"}")
+        }
+    }
+}
+
+// Appends what stands in quotes for a byte.
+#[inline(always)]
+#[tactic(auto, unfolding(crate::specs::Printed::quoted_byte))]
+fn push_quoted_byte<A: Allocator>(page: &mut Vec<u8, A>, byte: u8) -> Result<(), AllocError>
+    ensures ok { OnOk result (page.new.items ≡ page.old.items ++ quoted_byte byte) }
+    ensures err { OnErr result (BeginsWith page.new.items page.old.items) }
+{
+    if needs_escape(byte) {
+        return push_escape(page, byte);
+    }
+    page.push(byte)?;
+    Ok(())
+}
+
+// Appends what stands for a text in quotes: runs of bytes that stand as they are go at once.
+fn push_quoted_runs<A: Allocator>(page: &mut Vec<u8, A>, text: &[u8]) -> Result<(), AllocError>
+    ensures ok { OnOk result (page.new.items ≡ page.old.items ++ quoted_bytes text.now) }
+    ensures err { OnErr result (BeginsWith page.new.items page.old.items) }
+{
+    let mut start = 0;
+    let mut end = run_end(text, 0);
+    while end < text.len() {
+        page.extend_from_slice(&text[start..end])?;
+        push_escape(page, text[end])?;
+        start = end + 1;
+        end = run_end(text, start);
+    }
+    page.extend_from_slice(&text[start..])
+}
+
+/// Appends what stands for a text in quotes, straight to the page.
+#[inline(always)]
+pub fn push_quoted_bytes<A: Allocator>(page: &mut Vec<u8, A>, text: &[u8]) -> Result<(), AllocError>
+    ensures ok { OnOk result (page.new.items ≡ page.old.items ++ quoted_bytes text.now) }
+    ensures err { OnErr result (BeginsWith page.new.items page.old.items) }
+{
+    if text.len() == 1 {
+        return push_quoted_byte(page, text[0]);
+    }
+    push_quoted_runs(page, text)
+}
+
+#[tactic(auto, unfolding(crate::specs::Printed::quoted))]
+pub fn push_quoted<A: Allocator>(page: &mut Vec<u8, A>, text: &[u8]) -> Result<(), AllocError>
+    ensures ok { OnOk result (page.new.items ≡ page.old.items ++ quoted text.now) }
+    ensures err { OnErr result (BeginsWith page.new.items page.old.items) }
+{
+    page.extend_from_slice(b"\"")?;
+    push_quoted_bytes(page, text)?;
+    page.extend_from_slice(b"\"")
+}
+
+/// Appends a mark, where it is set.
+#[tactic(auto, unfolding(crate::specs::Printed::mark_where))]
+pub fn push_mark<A: Allocator>(
+    page: &mut Vec<u8, A>,
+    is_set: bool,
+    mark: &str,
+) -> Result<(), AllocError>
+    ensures ok { OnOk result (page.new.items ≡ page.old.items ++ mark_where is_set mark.now) }
+    ensures err { OnErr result (BeginsWith page.new.items page.old.items) }
+{
+    if is_set {
+        page.extend_from_slice(mark.as_bytes())?;
+    }
+    Ok(())
+}
+
+pub fn kind_word(kind: TagKind) -> &'static str
+    ensures { result.now ≡ kind_word kind }
+{
+    match kind {
+        TagKind::StartTag => "start ",
+        TagKind::EndTag => "end ",
+    }
+}
+
+#[tactic(auto, unfolding(crate::specs::Printed::printed_attribute))]
+fn push_attribute<A: Allocator>(
+    page: &mut Vec<u8, A>,
+    attribute: &Attribute<A>,
+) -> Result<(), AllocError>
+    ensures ok { OnOk result
+        (page.new.items ≡ page.old.items ++ printed_attribute (attribute_of attribute.now)) }
+    ensures err { OnErr result (BeginsWith page.new.items page.old.items) }
+{
+    page.extend_from_slice(b" ")?;
+    push_quoted(page, attribute.name.local.0.as_bytes())?;
+    page.extend_from_slice(b"=")?;
+    push_quoted(page, attribute.value.as_bytes())
+}
+
+pub fn push_attributes<A: Allocator>(
+    page: &mut Vec<u8, A>,
+    attributes: &[Attribute<A>],
+) -> Result<(), AllocError>
+    ensures ok { OnOk result
+        (page.new.items ≡ page.old.items ++ printed_attributes (map attribute_of attributes.now)) }
+    ensures err { OnErr result (BeginsWith page.new.items page.old.items) }
+{
+    for attribute in attributes {
+        push_attribute(page, attribute)?;
+    }
+    Ok(())
+}
+
+/// Appends the marks of a tag that are set.
+pub fn push_tag_marks<A: Allocator>(page: &mut Vec<u8, A>, tag: &Tag<A>) -> Result<(), AllocError>
+    ensures ok { OnOk result (page.new.items ≡ page.old.items ++ tag_marks (tag_of tag.now)) }
+    ensures err { OnErr result (BeginsWith page.new.items page.old.items) }
+{
+    push_mark(page, tag.self_closing, " self-closing")?;
+    push_mark(page, tag.had_duplicate_attributes, " duplicates")
+}
+
+// Appends the line of a pause at which the encoding is switched.
+#[tactic(auto, unfolding(crate::specs::Printed::pause_line))]
+fn push_encoding_pause<A: Allocator>(
+    page: &mut Vec<u8, A>,
+    charset: &[u8],
+) -> Result<(), AllocError>
+    ensures ok { OnOk result
+        (page.new.items ≡ page.old.items ++ pause_line (SwitchEncoding charset.now)) }
+    ensures err { OnErr result (BeginsWith page.new.items page.old.items) }
+{
+    page.extend_from_slice(b"pause encoding ")?;
+    push_quoted(page, charset)?;
+    page.extend_from_slice(b"\n")
+}
+
+/// Appends the pause line, where the reply pauses.
+#[tactic(auto, unfolding(crate::specs::Printed::pause_line))]
+pub fn push_pause<A: Allocator>(
+    page: &mut Vec<u8, A>,
+    reply: &TokenSinkResult<(), String<A>>,
+) -> Result<(), AllocError>
+    ensures ok { OnOk result
+        (page.new.items ≡ page.old.items ++ pause_line (reply_of string_bytes reply.now)) }
+    ensures err { OnErr result (BeginsWith page.new.items page.old.items) }
+{
+    match reply {
+        TokenSinkResult::Script(()) => page.extend_from_slice(b"pause script\n"),
+        TokenSinkResult::EncodingIndicator(charset) => {
+            push_encoding_pause(page, charset.as_bytes())
+        }
+        _ => Ok(()),
+    }
+}
+
+/// Appends a part of a DOCTYPE, which it may lack.
+pub fn push_option<A: Allocator>(
+    page: &mut Vec<u8, A>,
+    text: &Option<String<A>>,
+) -> Result<(), AllocError>
+    ensures ok { OnOk result
+        (page.new.items ≡ page.old.items ++ printed_option (option_map string_bytes text.now)) }
+    ensures err { OnErr result (BeginsWith page.new.items page.old.items) }
+{
+    match text {
+        None => page.extend_from_slice(b" -"),
+        Some(text) => {
+            page.extend_from_slice(b" ")?;
+            push_quoted(page, text.as_bytes())
+        }
+    }
+}
