@@ -2,7 +2,7 @@
 ghost use Rattle.std.specs.Prelude.{◌≡◌, Some};
 
 use super::{Source, Target};
-use markup5ever::count::Count;
+use ghost_counts::Count;
 use std::alloc::Global;
 use std::io;
 use std::io::{ErrorKind, Read};

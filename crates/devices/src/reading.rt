@@ -5,7 +5,7 @@ ghost use Rattle.std.specs.Io.KnownBytes.{ReadConsumes, Consumes, IsAtEnd};
 ghost use Rattle.devices.specs.Device.{Metered, IsReadFault, reported_failures, ConsumesBeginning};
 
 use crate::fault::Fault;
-use markup5ever::count::Count;
+use ghost_counts::Count;
 use std::alloc::Allocator;
 use std::io;
 use std::io::Read;

@@ -5,7 +5,7 @@ ghost use Rattle.std.specs.Io.KnownBytes.{WriteAppends, Appends};
 ghost use Rattle.devices.specs.Device.{Metered, failed_writes, reported_failures, AppendsBeginning};
 
 use crate::fault::Fault;
-use markup5ever::count::Count;
+use ghost_counts::Count;
 use std::io;
 use std::io::Write;
 use std::marker::Model;

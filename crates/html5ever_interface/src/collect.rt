@@ -5,7 +5,7 @@ ghost use Rattle.html5ever_interface.specs.Token.{told_by};
 
 use crate::interface::sink::TokenSink;
 use crate::interface::token::{SinkFault, Token, TokenSinkResult};
-use markup5ever::count::Count;
+use ghost_counts::Count;
 use std::alloc::{AllocError, Allocator, Global};
 use std::marker::Model;
 

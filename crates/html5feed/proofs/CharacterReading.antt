@@ -15,7 +15,7 @@ use Rattle.html5grammar.specs.Start.{Open, Rules, held_len}
 use Rattle.html5grammar.specs.Start.Mode.{Data}
 use Rattle.html5grammar.specs.Start.Open.{Between}
 use Rattle.html5grammar.proofs.Holding.{HoldsAtMostOne}
-use Rattle.html5grammar.proofs.Machine.{step_at, messages_here, opened_here, last_here}
+use Rattle.html5grammar.specs.Machine.{step_at, messages_here, opened_here, last_here}
 use Rattle.html5ever_interface.proofs.Steppings.{stepped-append}
 use Rattle.html5ever_interface.specs.Token.{DoctypeOf}
 use Rattle.std.proofs.Common.{◌≤◌, ◌≢◌}

@@ -2,7 +2,7 @@
 use Rattle.std.proofs.Common.{◌≡◌, ◌≢◌, ℕ, Bool, true, false, ◌&&◌, List, [], ◌∷◌, ◌++◌, refl, ap, sym, ◌∙◌}
 use Rattle.std.proofs.lemmas.Bool.{false≢true}
 use Rattle.html5ever_interface.specs.Token.{DoctypeOf}
-use Rattle.html5grammar.proofs.Machine.{step_at, brought_at, declaration_step, bogus_comment_step, doctype_step, doctype_keyword_step, skipped_step}
+use Rattle.html5grammar.specs.Machine.{step_at, brought_at, declaration_step, bogus_comment_step, doctype_step, doctype_keyword_step, skipped_step}
 use Rattle.html5grammar.proofs.Traces.{brought-unasked}
 use Rattle.html5grammar.specs.Comment.{begins_cdata, declaration_error}
 use Rattle.html5grammar.specs.Doctype.{keyword_error, with_quirks}

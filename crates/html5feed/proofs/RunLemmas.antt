@@ -1,6 +1,6 @@
 -- A run tells its characters on the line that is reached, and leaves the tokenizer where it stands.
 use Rattle.html5grammar.specs.Reading.Here.{Tells}
-use Rattle.html5grammar.proofs.Machine.{step_at}
+use Rattle.html5grammar.specs.Machine.{step_at}
 use Rattle.std.proofs.Common.{◌≡◌, ◌≢◌, ℕ, ◌<◌, ◌^◌, Bool, false, cond, List, [], ◌∷◌, ◌++◌, refl, ap, sym, ◌∙◌, arith, Option, None, Some, true, zero, suc, length, length-take-le, take, drop, subst, ◌↔◌}
 use Rattle.std.specs.Prelude.{map, ◌==◌, All, Contains, encode_utf8, is_some, IfSome}
 use Rattle.std.specs.Str.{IsUtf8, chars}

@@ -20,7 +20,7 @@ use Rattle.html5states.specs.Telling as telling
 use Rattle.html5opened.specs.declared.error.TokenizerError.{TokenizerError}
 use Rattle.html5feed.specs.Feed.{first_pause}
 use Rattle.html5feed.proofs.Pauses.{first_pause-append, first_pause-no_tags, no_tag_messages}
-use Rattle.html5grammar.proofs.Machine.{step_at, brought_at, reference_step, messages_here, opened_here, last_here}
+use Rattle.html5grammar.specs.Machine.{step_at, brought_at, reference_step, messages_here, opened_here, last_here}
 use Rattle.html5grammar.specs.Characters.{number_sign, semicolon, is_bad_character}
 use Rattle.html5grammar.specs.Reading.{Brought, told, messages, after}
 use Rattle.html5grammar.specs.Reading.Here.{Tells}

@@ -2,7 +2,7 @@
 use Rattle.std.specs.Prelude.{◌≡◌, ℕ, Bool, true, false, List, [], ◌∷◌, ◌++◌, ◌==◌, length, not}
 use Rattle.html5ever_interface.specs.declared.states.State.{State}
 use Rattle.html5ever_interface.specs.declared.states.State.TheVariants as state
-use Rattle.html5grammar.proofs.Machine.{step_at, brought_at}
+use Rattle.html5grammar.specs.Machine.{step_at, brought_at}
 use Rattle.html5grammar.specs.Characters.{is_bad_character}
 use Rattle.html5grammar.specs.Comment.{begins_cdata}
 use Rattle.html5grammar.specs.EndOfInput.{late_at_end_of, open_at_end_of}

@@ -23,7 +23,7 @@ ghost use Rattle.html5feed.specs.Feed.{reply_in, first_pause};
 ghost use Rattle.html5feed.specs.Refused.{IsRun};
 ghost use Rattle.html5opened.specs.Runs.{IsRunAt, other_run_ends, run_ends, opened_after_run};
 ghost use Rattle.std.specs.Str.{IsUtf8, chars};
-ghost use Rattle.html5grammar.proofs.Machine.{step_at, brought_at, messages_here, opened_here, last_here};
+ghost use Rattle.html5grammar.specs.Machine.{step_at, brought_at, messages_here, opened_here, last_here};
 ghost use Rattle.html5opened.specs.Steps.{Leads, Ends, tokens_of, behind};
 ghost use Rattle.html5states.specs.Telling.{Tells, IsRefusal, tokens_in, faults_of};
 ghost use Rattle.html5feed.specs.Starting.{CanStart};

@@ -23,7 +23,7 @@ use Rattle.html5grammar.specs.WrittenRaw.{next_is}
 use Rattle.html5grammar.proofs.GoodCharacters.{good_between}
 use Rattle.html5grammar.proofs.InputLemmas.{line_after-past}
 use Rattle.html5grammar.proofs.Leading.{Leads}
-use Rattle.html5grammar.proofs.Machine.{step_at, brought_at}
+use Rattle.html5grammar.specs.Machine.{step_at, brought_at}
 use Rattle.html5grammar.proofs.OneCommentText.{bytes_of}
 use Rattle.html5grammar.proofs.Traces.{trace_brought, trace, with_messages, trace_here}
 

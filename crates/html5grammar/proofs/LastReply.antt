@@ -17,7 +17,7 @@ use Rattle.html5grammar.specs.Start.Mode.{Data}
 use Rattle.html5grammar.specs.Start.Open.{Between}
 use Rattle.html5grammar.proofs.InputLemmas.{line_after-past}
 use Rattle.html5grammar.proofs.Leading.{trace-goes, spelled_messages-append}
-use Rattle.html5grammar.proofs.Machine.{step_at}
+use Rattle.html5grammar.specs.Machine.{step_at}
 use Rattle.html5grammar.proofs.OneTagReading.{ReadsTag, reads-tag, characters, body, characters-body}
 use Rattle.html5grammar.proofs.OneTagSteps.{Goes, tag-decided}
 use Rattle.html5grammar.proofs.Traces.{brought-tells, trace_brought, trace, trace_here, with_messages}

@@ -32,7 +32,7 @@ use Rattle.html5grammar.proofs.InputLemmas.{line_past}
 use Rattle.html5grammar.proofs.LawfulReferences.{AllLawful, lawful-append, no_null-undecided, lawful-late_tokens}
 use Rattle.html5grammar.proofs.LawfulSteps.{IsFitStand, IsFit, LawfulHere, lawful-bad, lawful-nil, lawful-told_behind, lawful-letters, lawful-step_at, lawful-skipped, lawful-bogus_comment}
 use Rattle.html5grammar.proofs.LawfulTags.{fit-value, lawful-empty, lawful-quirks}
-use Rattle.html5grammar.proofs.Machine.{brought_at, reference_step, declaration_step, declaration_answer_step, doctype_keyword_step}
+use Rattle.html5grammar.specs.Machine.{brought_at, reference_step, declaration_step, declaration_answer_step, doctype_keyword_step}
 use Rattle.html5grammar.proofs.ReadingLemmas.{reading-events, messages-at_end, told-trace, after-opened}
 use Rattle.html5grammar.proofs.Traces.{Trace, trace, trace_here, trace_brought, with_messages, messages-append}
 use Rattle.markup5ever.specs.NamedReferences.{IsTable}

@@ -37,7 +37,7 @@ use Rattle.html5grammar.specs.Doctype.{with_quirks, in_identifier, begins_doctyp
 use Rattle.html5grammar.specs.RawText.{ends_name, raw_state, kind_of, is_rcdata, raw_character, ends_raw_text, told_at_less_than, told_behind_less_than, begins_mark, begins_switch, texts}
 use Rattle.html5grammar.specs.Text.{plain_text}
 use Rattle.html5grammar.specs.Lawful.{has_no_null, IsLawfulTag, IsLawfulDoctype}
-use Rattle.html5grammar.proofs.Machine.{closing_step, tag_name_step, part_step, attribute_name_step, after_attribute_name_step, quoted_step, unquoted_step, before_value_step, tag_step, data_step, less_than_step, solidus_step, bogus_comment_step, comment_step, instruction_step, skipped_step, wanted_name_step, doctype_name_step, keyword_or_end_step, wanted_identifier_step, system_or_end_step, identifier_step, behind_identifier_step, space_step, doctype_step, raw_step, tag_name_end_step, end_name_step, switch_step, mark_step, mark_and_dash_step, raw_solidus_step, raw_less_than_step, raw_place_step, step_at, cdata_step}
+use Rattle.html5grammar.specs.Machine.{closing_step, tag_name_step, part_step, attribute_name_step, after_attribute_name_step, quoted_step, unquoted_step, before_value_step, tag_step, data_step, less_than_step, solidus_step, bogus_comment_step, comment_step, instruction_step, skipped_step, wanted_name_step, doctype_name_step, keyword_or_end_step, wanted_identifier_step, system_or_end_step, identifier_step, behind_identifier_step, space_step, doctype_step, raw_step, tag_name_end_step, end_name_step, switch_step, mark_step, mark_and_dash_step, raw_solidus_step, raw_less_than_step, raw_place_step, step_at, cdata_step}
 use Rattle.html5grammar.proofs.OneTagSteps.{letter-in_tag_name}
 use Rattle.html5grammar.proofs.WrittenRawSteps.{letter-no_null}
 use Rattle.html5grammar.proofs.LawfulBytes.{no_null-append, no_null-encode, letters-no_null, all-append}

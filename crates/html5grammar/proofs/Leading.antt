@@ -15,7 +15,7 @@ use Rattle.html5grammar.specs.Start.{Input, Open, Start, Rules, is_undecided_ope
 use Rattle.html5grammar.specs.Start.Mode.{Data}
 use Rattle.html5grammar.specs.Start.Open.{Between}
 use Rattle.html5grammar.proofs.InputLemmas.{line_after-past}
-use Rattle.html5grammar.proofs.Machine.{brought_at}
+use Rattle.html5grammar.specs.Machine.{brought_at}
 use Rattle.html5grammar.proofs.OneTagReading.{characters}
 use Rattle.html5grammar.proofs.OneTagSteps.{Goes, Goes-decided}
 use Rattle.html5grammar.proofs.ReadingLemmas.{told-trace, after-opened, reading-events, messages-at_end}

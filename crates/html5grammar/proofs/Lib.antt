@@ -1,4 +1,3 @@
-pub mod Machine
 pub mod Slices
 pub mod InputLemmas
 pub mod Traces

@@ -34,7 +34,7 @@ use Rattle.html5grammar.specs.Comment.{comment_state, ends_comment, comment_cont
 use Rattle.html5grammar.specs.Doctype.{with_quirks, in_identifier, is_keyword, begins_doctype_keyword, keyword_error, in_doctype_name, word_error}
 use Rattle.html5grammar.specs.RawText.{ends_name, raw_state, kind_of, is_rcdata, raw_character, ends_raw_text, told_at_less_than, told_behind_less_than, begins_mark, begins_switch}
 use Rattle.html5grammar.specs.Text.{plain_text}
-use Rattle.html5grammar.proofs.Machine.{closing_step, tag_name_step, part_step, attribute_name_step, after_attribute_name_step, quoted_step, unquoted_step, before_value_step, tag_step, data_step, less_than_step, solidus_step, bogus_comment_step, comment_step, instruction_step, skipped_step, wanted_name_step, doctype_name_step, keyword_or_end_step, wanted_identifier_step, system_or_end_step, identifier_step, behind_identifier_step, space_step, doctype_step, declaration_step, doctype_keyword_step, raw_step, tag_name_end_step, end_name_step, switch_step, mark_step, mark_and_dash_step, raw_solidus_step, raw_less_than_step, raw_place_step, step_at, reference_step, brought_at, cdata_step, declaration_answer_step}
+use Rattle.html5grammar.specs.Machine.{closing_step, tag_name_step, part_step, attribute_name_step, after_attribute_name_step, quoted_step, unquoted_step, before_value_step, tag_step, data_step, less_than_step, solidus_step, bogus_comment_step, comment_step, instruction_step, skipped_step, wanted_name_step, doctype_name_step, keyword_or_end_step, wanted_identifier_step, system_or_end_step, identifier_step, behind_identifier_step, space_step, doctype_step, declaration_step, doctype_keyword_step, raw_step, tag_name_end_step, end_name_step, switch_step, mark_step, mark_and_dash_step, raw_solidus_step, raw_less_than_step, raw_place_step, step_at, reference_step, brought_at, cdata_step, declaration_answer_step}
 
 unfoldable pub NoTags : List Told → Type 0
 NoTags [] = Unit {0}

@@ -26,7 +26,7 @@ use Rattle.html5grammar.specs.Start.Open.{Between, InDeclaration}
 use Rattle.html5grammar.proofs.HeldWords.{AreHeld, trace-held}
 use Rattle.html5grammar.proofs.InputLemmas.{line_after-past}
 use Rattle.html5grammar.proofs.Leading.{leads-goes, trace-ends}
-use Rattle.html5grammar.proofs.Machine.{brought_at, declaration_step, declaration_answer_step}
+use Rattle.html5grammar.specs.Machine.{brought_at, declaration_step, declaration_answer_step}
 use Rattle.html5grammar.proofs.OneCdataSteps.{goes-cdata}
 use Rattle.html5grammar.proofs.OneCommentReading.{trace-mark}
 use Rattle.html5grammar.proofs.OneTagReading.{characters, characters-spell, characters-two}

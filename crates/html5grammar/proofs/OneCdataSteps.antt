@@ -14,7 +14,7 @@ use Rattle.html5grammar.specs.OneTag.{spell_silent}
 use Rattle.html5grammar.specs.Reading.Here.{Tells}
 use Rattle.html5grammar.specs.Start.Mode.{Data, Cdata}
 use Rattle.html5grammar.specs.Start.Open.{Between, InCdata}
-use Rattle.html5grammar.proofs.Machine.{step_at, cdata_step}
+use Rattle.html5grammar.specs.Machine.{step_at, cdata_step}
 use Rattle.html5grammar.proofs.OneCommentSteps.{occurs-append}
 use Rattle.html5grammar.proofs.OneCommentText.{bytes_of, bytes-push, ends_in-front, ends_in-append, without_last-append, LastByte, encode-last, Carries, carries-none, carries-push}
 use Rattle.html5grammar.proofs.OneTagSteps.{Goes, Goes-append, Goes-one}

@@ -23,7 +23,7 @@ use Rattle.html5grammar.specs.Start.{Rules}
 use Rattle.html5grammar.specs.Start.Open.{InDeclaration, InBogusComment}
 use Rattle.html5grammar.specs.WrittenRaw.{next_is}
 use Rattle.html5grammar.proofs.HeldWords.{IsPlain, plain-beginning, plain-word, no_beginning, none_with, while-parts, begins-while, decides-while, trace-settles, IsPlainCharacter, plain-between, IsHeldBy, AreHeld, held-while}
-use Rattle.html5grammar.proofs.Machine.{step_at, brought_at, declaration_step, declaration_answer_step}
+use Rattle.html5grammar.specs.Machine.{step_at, brought_at, declaration_step, declaration_answer_step}
 use Rattle.html5grammar.proofs.Traces.{trace_brought, trace, with_messages, none_without_beginning}
 
 -- whether a text is a beginning of a keyword, by the sink's answer

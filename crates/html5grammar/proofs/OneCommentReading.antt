@@ -22,7 +22,7 @@ use Rattle.html5grammar.specs.Start.Mode.{Data}
 use Rattle.html5grammar.specs.Start.Open.{Between, LessThan, InDeclaration, InComment, InBogusComment}
 use Rattle.html5grammar.specs.Tag.{null_error}
 use Rattle.html5grammar.proofs.HeldWords.{IsPlain, is_good, line-plain, trace-held}
-use Rattle.html5grammar.proofs.Machine.{brought_at, step_at, data_step, less_than_step, declaration_step}
+use Rattle.html5grammar.specs.Machine.{brought_at, step_at, data_step, less_than_step, declaration_step}
 use Rattle.html5grammar.proofs.Leading.{Leads, leads-goes, trace-leads, trace-ends, trace-text, IsRead, IsReadFrom, after-whole, reading-whole, spelled_messages-append}
 use Rattle.html5grammar.proofs.OneCommentSteps.{goes-proper, goes-bogus_end, goes-solidus}
 use Rattle.html5grammar.proofs.OneCommentText.{bytes_of}

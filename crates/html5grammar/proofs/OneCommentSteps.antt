@@ -19,7 +19,7 @@ use Rattle.html5grammar.specs.Reading.Here.{Tells}
 use Rattle.html5grammar.specs.Start.Mode.{Data}
 use Rattle.html5grammar.specs.Start.Open.{Between, LessThan, LessThanSolidus, InComment, InBogusComment}
 use Rattle.html5grammar.specs.Tag.{null_error}
-use Rattle.html5grammar.proofs.Machine.{step_at, data_step, less_than_step, solidus_step, comment_step, bogus_comment_step}
+use Rattle.html5grammar.specs.Machine.{step_at, data_step, less_than_step, solidus_step, comment_step, bogus_comment_step}
 use Rattle.html5grammar.proofs.OneCommentText.{bytes_of, bytes-push, bytes-append, ends_in-front, ends_in-append, ends_in-other, without_last-append, comment_errors-bytes, ends_comment-bytes}
 use Rattle.html5grammar.proofs.OneTagSteps.{Goes, Goes-append, Goes-one}
 

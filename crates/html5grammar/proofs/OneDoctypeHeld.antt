@@ -25,7 +25,7 @@ use Rattle.html5grammar.specs.Start.Open.{InDeclaration, InDoctype, InDoctypeKey
 use Rattle.html5grammar.specs.WrittenRaw.{next_is}
 use Rattle.html5grammar.proofs.HeldWords.{IsPlain, plain-word, begins-word, no_whole, no_beginning, none_with, begins-while, decides-while, IsHeld, leads-while, leads-word, trace-settles}
 use Rattle.html5grammar.proofs.Leading.{Leads}
-use Rattle.html5grammar.proofs.Machine.{step_at, brought_at, declaration_step, doctype_keyword_step, doctype_step, space_step, keyword_or_end_step}
+use Rattle.html5grammar.specs.Machine.{step_at, brought_at, declaration_step, doctype_keyword_step, doctype_step, space_step, keyword_or_end_step}
 use Rattle.html5grammar.proofs.OneDoctypeSteps.{IsNeither}
 use Rattle.html5grammar.proofs.OneTagSteps.{is_not}
 use Rattle.html5grammar.proofs.Traces.{trace, with_messages}

@@ -20,7 +20,7 @@ use Rattle.html5grammar.specs.Start.Mode.{Data}
 use Rattle.html5grammar.specs.Start.Open.{Between, LessThan, InDeclaration, InDoctype}
 use Rattle.html5grammar.specs.Tag.{null_error}
 use Rattle.html5grammar.proofs.Leading.{Leads, Leads-append, leads-goes}
-use Rattle.html5grammar.proofs.Machine.{step_at, brought_at, data_step, less_than_step, doctype_step, space_step, wanted_name_step, doctype_name_step}
+use Rattle.html5grammar.specs.Machine.{step_at, brought_at, data_step, less_than_step, doctype_step, space_step, wanted_name_step, doctype_name_step}
 use Rattle.html5grammar.proofs.OneDoctypeHeld.{leads-doctype_word}
 use Rattle.html5grammar.proofs.OneDoctypeSteps.{named_doctype, white-no_end, goes-space}
 use Rattle.html5grammar.proofs.OneTagSteps.{Goes, Goes-append, goes-run}

@@ -18,7 +18,7 @@ use Rattle.html5grammar.specs.Start.DoctypePlace.{AfterKeyword, BeforeIdentifier
 use Rattle.html5grammar.specs.Start.Mode.{Data}
 use Rattle.html5grammar.specs.Start.Open.{Between, InDoctype}
 use Rattle.html5grammar.specs.Start.Quotes.{DoubleQuotes, SingleQuotes}
-use Rattle.html5grammar.proofs.Machine.{step_at, doctype_step, space_step, wanted_identifier_step, system_or_end_step, behind_identifier_step}
+use Rattle.html5grammar.specs.Machine.{step_at, doctype_step, space_step, wanted_identifier_step, system_or_end_step, behind_identifier_step}
 use Rattle.html5grammar.proofs.OneDoctypeSteps.{IsNeither, named_doctype, goes-space, Wants, goes-odd_none, goes-missing, goes-unclosed, goes-closed, goes-behind_system}
 use Rattle.html5grammar.proofs.OneTagSteps.{Goes, Goes-append, Goes-one, no_or}
 

@@ -29,7 +29,7 @@ use Rattle.html5grammar.specs.Start.Open.{Between, InDoctype, InDoctypeKeyword}
 use Rattle.html5grammar.specs.WrittenRaw.{next_is}
 use Rattle.html5grammar.proofs.HeldWords.{line-plain, while-parts}
 use Rattle.html5grammar.proofs.Leading.{Leads, Leads-append, leads-goes, trace-leads, trace-ends, trace-text, IsRead, IsReadFrom, after-whole, reading-whole}
-use Rattle.html5grammar.proofs.Machine.{step_at, doctype_step, space_step, doctype_name_step, keyword_or_end_step}
+use Rattle.html5grammar.specs.Machine.{step_at, doctype_step, space_step, doctype_name_step, keyword_or_end_step}
 use Rattle.html5grammar.proofs.OneDoctypeHeld.{leads-keyword, held-plain, held_of-plain, decides-held, leads-held, trace-decides, first_error}
 use Rattle.html5grammar.proofs.OneDoctypeName.{behind_word, leads-opening, step-no_name, behind_name, named, leads-name}
 use Rattle.html5grammar.proofs.OneDoctypeParts.{goes-public_keyword, goes-system_keyword}

@@ -21,7 +21,7 @@ use Rattle.html5grammar.specs.Start.Mode.{Data}
 use Rattle.html5grammar.specs.Start.Open.{Between, InDoctype}
 use Rattle.html5grammar.specs.Start.Quotes.{DoubleQuotes, SingleQuotes}
 use Rattle.html5grammar.specs.Tag.{null_error}
-use Rattle.html5grammar.proofs.Machine.{step_at, doctype_step, skipped_step, wanted_identifier_step, identifier_step, behind_identifier_step}
+use Rattle.html5grammar.specs.Machine.{step_at, doctype_step, skipped_step, wanted_identifier_step, identifier_step, behind_identifier_step}
 use Rattle.html5grammar.proofs.OneTagSteps.{Goes, Goes-append, Goes-one, goes-run, no_or, is_not}
 use Rattle.html5grammar.proofs.Slices.{with_identifier-nil, with_identifier-cons}
 

@@ -19,7 +19,7 @@ use Rattle.html5grammar.specs.Start.Mode.{Data}
 use Rattle.html5grammar.specs.Start.Open.{Between, LessThan, InInstruction}
 use Rattle.html5grammar.specs.Tag.{null_error}
 use Rattle.html5grammar.proofs.Leading.{leads-goes, trace-text}
-use Rattle.html5grammar.proofs.Machine.{step_at, data_step, less_than_step, instruction_step}
+use Rattle.html5grammar.specs.Machine.{step_at, data_step, less_than_step, instruction_step}
 use Rattle.html5grammar.proofs.OneCommentText.{bytes_of, bytes-push}
 use Rattle.html5grammar.proofs.OneTagReading.{characters, characters-spell, characters-two}
 use Rattle.html5grammar.proofs.OneTagSteps.{Goes, Goes-append, Goes-one}

@@ -27,7 +27,7 @@ use Rattle.html5grammar.specs.Start.Open.{Between, InReference}
 use Rattle.html5grammar.specs.Start.Stand.{InText}
 use Rattle.html5grammar.proofs.GoodCharacters.{good_between}
 use Rattle.html5grammar.proofs.InputLemmas.{line_past, lines_past, line_after-past, line_after-last, line_after-lines_past}
-use Rattle.html5grammar.proofs.Machine.{step_at, data_step, brought_at, reference_step}
+use Rattle.html5grammar.specs.Machine.{step_at, data_step, brought_at, reference_step}
 use Rattle.html5grammar.proofs.OneTagSteps.{is_not}
 use Rattle.html5grammar.proofs.ReadingLemmas.{told-trace, after-opened, reading-events, messages-at_end}
 use Rattle.html5grammar.proofs.TableNames.{is_name_character, named_alone, begins-entry, plain-entry, longest-found}

@@ -22,7 +22,7 @@ use Rattle.html5grammar.specs.Start.Stand.{InText}
 use Rattle.html5grammar.specs.Start.Open.{Between, InReference}
 use Rattle.html5grammar.proofs.ByItself.{trace-by_itself, trace-before}
 use Rattle.html5grammar.proofs.InputLemmas.{line_past, normalised-append, input_after-line_none, line_after-past, line_after-last, line_after-lines_past}
-use Rattle.html5grammar.proofs.Machine.{brought_at, reference_step}
+use Rattle.html5grammar.specs.Machine.{brought_at, reference_step}
 use Rattle.html5grammar.proofs.OneReferenceReading.{Holds, Holds-number, Holds-name, is_number-ended, has_digits-written, tokens_in, tokens-taken, found_number, number-found, number-taken, found_entry, entry_errors, name-found, trace-run, trace-ended}
 use Rattle.html5grammar.proofs.OneTagSteps.{is_not}
 use Rattle.html5grammar.proofs.TableNames.{is_name_character, named_alone, plain-entry}

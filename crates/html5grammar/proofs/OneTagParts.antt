@@ -20,7 +20,7 @@ use Rattle.html5grammar.specs.Start.Place.{InName, BeforeAttribute, InAttributeN
 use Rattle.html5grammar.specs.Start.Open.{InTag}
 use Rattle.html5grammar.specs.Reference.{with_value}
 use Rattle.html5grammar.specs.Tag.{attribute, has_attribute, repeats_attribute, with_last_attribute, duplicate_error, in_quoted, in_unquoted, unquoted_error, in_attribute_name, attribute_name_error, with_last_name, place_error, first_error}
-use Rattle.html5grammar.proofs.Machine.{step_at, tag_step, attribute_name_step, after_attribute_name_step, before_value_step, quoted_step, unquoted_step}
+use Rattle.html5grammar.specs.Machine.{step_at, tag_step, attribute_name_step, after_attribute_name_step, before_value_step, quoted_step, unquoted_step}
 use Rattle.html5grammar.proofs.OneTagSteps.{no_or, can_end, Goes, Goes-append, Goes-one, goes-attribute_name, goes-unquoted, goes-double, goes-single, goes-space_behind_name, goes-space_before_value, step-blank, step-solidus, step-first}
 use Rattle.html5grammar.proofs.Slices.{with_value-nil, with_last_name-cons, with_value-cons}
 use Rattle.markup5ever.specs.Names.{AttributeOf}

@@ -28,7 +28,7 @@ use Rattle.html5grammar.specs.Start.Open.{Between, LessThan, LessThanSolidus, In
 use Rattle.html5grammar.specs.Slice.{silent}
 use Rattle.html5grammar.specs.Tag.{with_name, with_last_attribute, told_tag, end_tag_errors, null_error, unquoted_error, attribute_name_error, in_tag_name, is_after_solidus}
 use Rattle.html5grammar.proofs.InputLemmas.{line_after-past}
-use Rattle.html5grammar.proofs.Machine.{step_at, data_step, less_than_step, solidus_step, tag_name_step}
+use Rattle.html5grammar.specs.Machine.{step_at, data_step, less_than_step, solidus_step, tag_name_step}
 use Rattle.html5grammar.proofs.OneTagParts.{Holds, Holds-none, Led, goes-parts, can_end-parts}
 use Rattle.html5grammar.proofs.OneTagSteps.{can_end, Goes, Goes-append, Goes-decided, tag-decided, goes-name, step-end, letter-in_tag_name}
 use Rattle.html5grammar.proofs.ReadingLemmas.{told-trace, after-opened, reading-events}

@@ -22,7 +22,7 @@ use Rattle.html5grammar.specs.Start.{Input, OpenTag, Stand, Start, Open, Rules}
 use Rattle.html5grammar.specs.Start.Mode.{Data, Plain, RawText, Cdata}
 use Rattle.html5grammar.specs.Start.Stand.{InText, InAttribute}
 use Rattle.html5grammar.specs.Start.Open.{Between, LessThan, LessThanSolidus, InTag, InRaw, InDeclaration, InComment, InBogusComment, InInstruction, InDoctype, InDoctypeKeyword, InReference, InCdata}
-use Rattle.html5grammar.proofs.Machine.{brought_at, messages_here, opened_here, last_here}
+use Rattle.html5grammar.specs.Machine.{brought_at, messages_here, opened_here, last_here}
 use Rattle.html5grammar.proofs.InputLemmas.{line_past, lines_past, normalised-append, input_after-line_none, input_after-append, input_after-line_one}
 use Rattle.html5grammar.proofs.Traces.{Trace, Traces, with_messages, trace, trace_here, trace_brought, traces, messages-append, messages-map, messages-late}
 

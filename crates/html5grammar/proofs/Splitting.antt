@@ -25,7 +25,7 @@ use Rattle.html5grammar.specs.Reference.{Found, in_value, reference, is_undecide
 use Rattle.html5grammar.specs.Start.{Input, Start, Stand, Open, Rules}
 use Rattle.html5grammar.specs.Start.Stand.{InText, InAttribute}
 use Rattle.html5grammar.specs.Start.Open.{InReference, InDeclaration, InDoctypeKeyword}
-use Rattle.html5grammar.proofs.Machine.{step_at, brought_at, reference_step, declaration_step, declaration_answer_step, doctype_keyword_step, bogus_comment_step, skipped_step}
+use Rattle.html5grammar.specs.Machine.{step_at, brought_at, reference_step, declaration_step, declaration_answer_step, doctype_keyword_step, bogus_comment_step, skipped_step}
 use Rattle.html5grammar.proofs.Slices.{going, rest_of-brought_at}
 use Rattle.html5grammar.proofs.InputLemmas.{normalised-append}
 use Rattle.html5grammar.proofs.ReadingLemmas.{take_while-cons, take_while-map, told-events, held_text-in_value}

@@ -14,7 +14,7 @@ use Rattle.html5grammar.specs.Start.{Raw, OpenTag, Open}
 use Rattle.html5grammar.specs.Start.Place.{BeforeAttribute, AfterQuotedValue, AfterSolidus}
 use Rattle.html5grammar.specs.RawText.{is_rcdata}
 use Rattle.html5grammar.specs.Tag.{place_error, first_error}
-use Rattle.html5grammar.proofs.Machine.{told_first, part_step, data_step, raw_step, bogus_comment_step, skipped_step, wanted_name_step, wanted_identifier_step}
+use Rattle.html5grammar.specs.Machine.{told_first, part_step, data_step, raw_step, bogus_comment_step, skipped_step, wanted_name_step, wanted_identifier_step}
 
 told_first-if : (before : List Told) (test : Bool) (p q p2 q2 : Here Open) → p2 ≡ told_first before p → q2 ≡ told_first before q
     → (if test then p2 else q2) ≡ told_first before (if test then p else q)

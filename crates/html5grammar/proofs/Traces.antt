@@ -32,7 +32,7 @@ use Rattle.html5grammar.specs.Doctype.{doctype, before_doctype_name, behind_word
 use Rattle.html5grammar.specs.RawText.{behind_raw_less_than, end_name, behind_end_name, behind_mark, behind_mark_and_dash, switch, behind_switch}
 use Rattle.html5grammar.specs.Start.RawPlace.{AfterLessThan, InEndName, AfterMark, AfterMarkAndDash, InSwitch}
 use Rattle.html5grammar.specs.Text.{behind_less_than, behind_solidus}
-use Rattle.html5grammar.proofs.Machine.{step_at, declaration_answer_step, declaration_step, brought_at}
+use Rattle.html5grammar.specs.Machine.{step_at, declaration_answer_step, declaration_step, brought_at}
 use Rattle.html5grammar.proofs.Slices.{going, rest_of-brought_at, with_name-nil, with_last_name-nil, with_value-nil, with_doctype_name-nil, with_identifier-nil}
 
 -- the messages of a text, and what is open behind it, with the name of the last start tag

@@ -40,7 +40,7 @@ use Rattle.html5grammar.specs.WrittenRaw.{RawItem, WrittenRaw, raw_behind_item, 
 use Rattle.html5grammar.specs.WrittenRaw.RawItem.{Character, LessThan, Letters, Mark, Switch}
 use Rattle.html5grammar.proofs.LastReply.{last_reply-spelled, trace-tag_reply}
 use Rattle.html5grammar.proofs.Leading.{trace-goes, spelled_messages-append}
-use Rattle.html5grammar.proofs.Machine.{step_at, raw_place_step, end_name_step, tag_name_end_step, tag_step, tag_name_step}
+use Rattle.html5grammar.specs.Machine.{step_at, raw_place_step, end_name_step, tag_name_end_step, tag_step, tag_name_step}
 use Rattle.html5grammar.proofs.OneTagParts.{Holds-none, Led, goes-parts, can_end-parts}
 use Rattle.html5grammar.proofs.OneTagReading.{characters, characters-append, characters-spell, characters-two, characters-parts, body, characters-body, ends-tag, trace-tag}
 use Rattle.html5grammar.proofs.OneTagSteps.{Goes, Goes-append}

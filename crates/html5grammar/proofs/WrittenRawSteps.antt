@@ -24,7 +24,7 @@ use Rattle.html5grammar.specs.Start.RawPlace.{AfterLessThan, InEndName, AfterMar
 use Rattle.html5grammar.specs.Tag.{in_tag_name}
 use Rattle.html5grammar.specs.WrittenRaw.{RawItem, switched_kind, raw_behind_item, switch_text, item_text, next_is, begins_dash, begins_dashes, begins_name_and_end, is_alone_before, is_double_escaped, is_script_data, can_switch, can_stand, carried, carried_to, spell_text, spell_behind_less_than, spell_item, ends_in_letters}
 use Rattle.html5grammar.specs.WrittenRaw.RawItem.{Character, LessThan, Letters, Mark, Switch}
-use Rattle.html5grammar.proofs.Machine.{step_at, raw_step, end_name_step, switch_step, mark_step, mark_and_dash_step, raw_solidus_step, raw_less_than_step, raw_place_step}
+use Rattle.html5grammar.specs.Machine.{step_at, raw_step, end_name_step, switch_step, mark_step, mark_and_dash_step, raw_solidus_step, raw_less_than_step, raw_place_step}
 use Rattle.html5grammar.proofs.OneTagSteps.{is_not, letter-in_tag_name, Goes}
 
 -- ---- where the machine stands

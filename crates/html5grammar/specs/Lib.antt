@@ -23,3 +23,4 @@ pub mod OneDoctype
 pub mod OneCdata
 pub mod Lawful
 pub mod Anywhere
+pub mod Machine

@@ -13,7 +13,7 @@ use Rattle.html5grammar.specs.Characters.{less_than, solidus}
 use Rattle.html5grammar.specs.RawText.{ends_name, ends_raw_text, lower}
 use Rattle.html5grammar.specs.Start.{OpenTag}
 use Rattle.html5grammar.specs.Tag.{in_tag_name}
-use Rattle.html5grammar.proofs.Machine.{tag_name_step, tag_name_end_step}
+use Rattle.html5grammar.specs.Machine.{tag_name_step, tag_name_end_step}
 
 pub chars-one : (c : ℕ) → IsScalar c → chars (encode_utf8 c) ≡ c ∷ []
 chars-one c scalar =

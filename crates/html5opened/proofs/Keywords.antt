@@ -12,7 +12,7 @@ use Rattle.std.proofs.lemmas.Option.{slice_get-get_or}
 use Rattle.std.proofs.lemmas.List.Elements.{All-head, All-tail}
 use Rattle.markup5ever.proofs.NameOrder.{bytes_eq-same, begins-itself}
 use Rattle.html5ever_interface.specs.Token.{DoctypeOf}
-use Rattle.html5grammar.proofs.Machine.{declaration_step, declaration_answer_step, bogus_comment_step, doctype_keyword_step, skipped_step}
+use Rattle.html5grammar.specs.Machine.{declaration_step, declaration_answer_step, bogus_comment_step, doctype_keyword_step, skipped_step}
 use Rattle.html5grammar.specs.Doctype.{begins_doctype_keyword, keyword_error, with_quirks}
 use Rattle.html5grammar.proofs.GoodCharacters.{good_between}
 use Rattle.html5grammar.specs.Characters.{is_bad_character, lower_case}

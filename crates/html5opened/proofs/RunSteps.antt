@@ -19,7 +19,7 @@ use Rattle.html5grammar.specs.Comment.{ends_in, comment_errors, mark_error}
 use Rattle.html5opened.proofs.CommentEnds.{NoDashLast, comment_ends, ends_in_dash-none, ends_in_mark-none, value_bytes-last}
 use Rattle.html5grammar.specs.RawText.{raw_character, raw_behind, dashes_behind}
 use Rattle.html5grammar.specs.Text.{plain_text}
-use Rattle.html5grammar.proofs.Machine.{step_at, tag_step, data_step, raw_step, comment_step, bogus_comment_step, instruction_step, cdata_step, tag_name_step, attribute_name_step, quoted_step, unquoted_step}
+use Rattle.html5grammar.specs.Machine.{step_at, tag_step, data_step, raw_step, comment_step, bogus_comment_step, instruction_step, cdata_step, tag_name_step, attribute_name_step, quoted_step, unquoted_step}
 use Rattle.html5grammar.proofs.Slices.{with_name-nil, with_last_name-nil, with_value-nil, with_name-cons, with_last_name-cons, with_value-cons, bytes-cons}
 use Rattle.html5opened.specs.Runs.{other_run_ends, run_ends, opened_after_run, run_tokens}
 

@@ -103,7 +103,7 @@ impl<A: Allocator> CharRef<A> {
             return Ok(true);
         }
         if !is_in_names(c) {
-            names.is_checked();
+            names.table_laws();
             return Ok(false);
         }
         self.hold_name(names, c)
@@ -286,7 +286,7 @@ pub fn longest_name<A: Allocator>(names: &NamedReferences<A>, text: &str) -> Opt
     requires { IsAscii text.now }
     ensures { IsNamed text.now result (longest_name names.now text.now) }
 {
-    names.is_checked();
+    names.table_laws();
     let mut found = None;
     let mut len = 0;
     while len < text.len() && names.is_prefix(&text[..len + 1]) {

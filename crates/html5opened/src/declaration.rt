@@ -5,7 +5,7 @@
 ghost use Rattle.std.specs.Prelude.{◌≡◌, Bool, [], ◌∷◌, ◌++◌, codes, nat_eq, ◌≤◌, ◌+◌, OnOk, Ok, true, false, if◌then◌else◌, string_bytes};
 ghost use Rattle.std.specs.List.{starts_with};
 ghost use Rattle.std.specs.Str.{bytes_eq};
-ghost use Rattle.html5grammar.proofs.Machine.{declaration_step, bogus_comment_step};
+ghost use Rattle.html5grammar.specs.Machine.{declaration_step, bogus_comment_step};
 ghost use Rattle.html5grammar.specs.Characters.{lower_case};
 ghost use Rattle.html5grammar.specs.Comment.{begins_keyword, begins_cdata, cdata_keyword, declaration_error};
 ghost use Rattle.html5grammar.specs.Reading.Here.{Tells};

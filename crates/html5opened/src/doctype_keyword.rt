@@ -4,7 +4,7 @@
 ghost use Rattle.std.specs.Prelude.{◌≡◌, ◌≢◌, Bool, ◌∷◌, [], ◌||◌, nat_eq, ◌<◌, ◌≤◌, ◌+◌, OnOk, Ok, true, false, string_bytes};
 ghost use Rattle.std.specs.List.{starts_with};
 ghost use Rattle.html5ever_interface.specs.Token.{doctype_of};
-ghost use Rattle.html5grammar.proofs.Machine.{doctype_keyword_step, skipped_step};
+ghost use Rattle.html5grammar.specs.Machine.{doctype_keyword_step, skipped_step};
 ghost use Rattle.html5grammar.specs.Characters.{lower_case};
 ghost use Rattle.html5grammar.specs.Doctype.{begins_doctype_keyword, keyword_error, with_quirks};
 ghost use Rattle.html5grammar.specs.Reading.Here.{Tells};

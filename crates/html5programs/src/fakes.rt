@@ -5,7 +5,7 @@ use crate::names::{NamesError, few_names};
 use crate::running::Filter;
 use devices::{Source, Target, WriteTarget};
 use html5stream::StreamError;
-use markup5ever::count::Count;
+use ghost_counts::Count;
 use markup5ever::data::NamedReferences;
 use printer::Printer;
 use std::alloc::Global;

@@ -1,7 +1,7 @@
 ghost use Rattle.std.specs.Prelude.{◌≡◌};
 
 use devices::Target;
-use markup5ever::count::Count;
+use ghost_counts::Count;
 use std::io;
 use std::io::{ErrorKind, Write};
 

@@ -6,7 +6,7 @@ ghost use Rattle.html5sinks.specs.Tags.{is_start_of};
 use crate::replies::standard_reply;
 use html5ever_interface::interface::sink::TokenSink;
 use html5ever_interface::interface::token::{SinkFault, Tag, TagKind, Token, TokenSinkResult};
-use markup5ever::count::Count;
+use ghost_counts::Count;
 use std::alloc::Allocator;
 use std::marker::Model;
 

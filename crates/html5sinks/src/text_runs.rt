@@ -7,7 +7,7 @@ ghost use Rattle.html5sinks.specs.Runs.{joined_of, joined_step, joined_reply, re
 use crate::replies::standard_reply;
 use html5ever_interface::interface::sink::{Says, TokenSink};
 use html5ever_interface::interface::token::{SinkFault, Token, TokenSinkResult};
-use markup5ever::count::Count;
+use ghost_counts::Count;
 use std::alloc::{AllocError, Allocator, Global};
 use std::marker::Model;
 

@@ -17,7 +17,7 @@ use Rattle.html5states.specs.Telling.{IsRefusal, tokens_in, IsToldAs, IsKept, St
 use Rattle.html5grammar.specs.ErrorText.{where_true}
 use Rattle.html5grammar.specs.Reading.{Here}
 use Rattle.html5grammar.specs.Start.{Open}
-use Rattle.html5grammar.proofs.Machine.{told_first}
+use Rattle.html5grammar.specs.Machine.{told_first}
 use Rattle.html5opened.specs.declared.opened.Opened.{Opened}
 use Rattle.html5opened.specs.declared.opened.Progress.{Progress}
 use Rattle.html5states.specs.declared.teller.Teller.{Teller}

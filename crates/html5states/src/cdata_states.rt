@@ -4,7 +4,7 @@
 
 ghost use Rattle.std.specs.Prelude.{◌≡◌, ◌∷◌, [], ◌++◌, true, string_bytes};
 ghost use Rattle.html5ever_interface.specs.Token.Told.{Null, End};
-ghost use Rattle.html5grammar.proofs.Machine.{cdata_step};
+ghost use Rattle.html5grammar.specs.Machine.{cdata_step};
 ghost use Rattle.html5grammar.specs.Cdata.{ends_cdata, piece_text, told_at_end_of_cdata};
 ghost use Rattle.html5grammar.specs.ErrorText.{end_error_in};
 ghost use Rattle.html5grammar.specs.Reading.Here.{Tells};

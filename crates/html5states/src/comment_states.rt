@@ -3,7 +3,7 @@
 
 ghost use Rattle.std.specs.Prelude.{◌≡◌, ◌∷◌, [], ◌++◌, string_bytes};
 ghost use Rattle.html5ever_interface.specs.Token.Told.{Comment};
-ghost use Rattle.html5grammar.proofs.Machine.{comment_step, bogus_comment_step};
+ghost use Rattle.html5grammar.specs.Machine.{comment_step, bogus_comment_step};
 ghost use Rattle.html5grammar.specs.Comment.{ends_comment, comment_errors, comment_end_error, comment_content};
 ghost use Rattle.html5grammar.specs.Characters.{greater_than};
 ghost use Rattle.html5grammar.specs.ErrorText.{error_in, where_true};

@@ -2,7 +2,7 @@
 #![tactic(auto, using(crate::proofs::Tellings::tells_from_memory))]
 
 ghost use Rattle.std.specs.Prelude.{◌≡◌, ◌+◌, string_bytes};
-ghost use Rattle.html5grammar.proofs.Machine.{declaration_step};
+ghost use Rattle.html5grammar.specs.Machine.{declaration_step};
 ghost use Rattle.html5grammar.specs.Comment.{begins_keyword, declaration_error};
 ghost use Rattle.html5grammar.specs.Reading.Here.{Tells};
 ghost use Rattle.html5grammar.specs.Slice.{tokens_of_late};

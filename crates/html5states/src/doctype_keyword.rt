@@ -3,7 +3,7 @@
 
 ghost use Rattle.std.specs.Prelude.{◌≡◌, ◌<◌, ◌+◌, Ok, true, string_bytes};
 ghost use Rattle.html5ever_interface.specs.Token.{doctype_of};
-ghost use Rattle.html5grammar.proofs.Machine.{doctype_keyword_step};
+ghost use Rattle.html5grammar.specs.Machine.{doctype_keyword_step};
 ghost use Rattle.html5grammar.specs.Doctype.{begins_doctype_keyword, keyword_error, with_quirks};
 ghost use Rattle.html5grammar.specs.Reading.Here.{Tells};
 ghost use Rattle.html5grammar.specs.Slice.{tokens_of_late};

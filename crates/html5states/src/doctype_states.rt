@@ -4,7 +4,7 @@
 ghost use Rattle.std.specs.Prelude.{◌≡◌, ◌∷◌, [], string_bytes};
 ghost use Rattle.html5ever_interface.specs.Token.{doctype_of};
 ghost use Rattle.html5ever_interface.specs.Token.{Told};
-ghost use Rattle.html5grammar.proofs.Machine.{doctype_step, skipped_step, wanted_name_step};
+ghost use Rattle.html5grammar.specs.Machine.{doctype_step, skipped_step, wanted_name_step};
 ghost use Rattle.html5grammar.specs.Doctype.{with_quirks};
 ghost use Rattle.html5grammar.specs.ErrorText.{error_in};
 ghost use Rattle.html5grammar.specs.Reading.Here.{Tells};

@@ -2,7 +2,7 @@
 #![tactic(auto, using(crate::proofs::Tellings::tells_from_memory), unfolding(html5grammar::proofs::Machine::closing_step, html5opened::specs::Steps::tokens_of, html5opened::specs::Steps::behind))]
 
 ghost use Rattle.std.specs.Prelude.{◌≡◌, [], ◌++◌, ◌&&◌, not, nat_eq, length, OnOk};
-ghost use Rattle.html5grammar.proofs.Machine.{closing_step};
+ghost use Rattle.html5grammar.specs.Machine.{closing_step};
 ghost use Rattle.html5grammar.specs.Tag.{is_end_tag, duplicate_error, end_tag_errors};
 ghost use Rattle.html5grammar.specs.Tag.{with_last_attribute};
 ghost use Rattle.html5opened.specs.CurrentTag.{open_tag};

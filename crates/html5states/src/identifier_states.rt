@@ -3,7 +3,7 @@
 
 ghost use Rattle.std.specs.Prelude.{◌≡◌, true, false};
 ghost use Rattle.html5ever_interface.specs.Token.{doctype_of};
-ghost use Rattle.html5grammar.proofs.Machine.{doctype_step, wanted_identifier_step};
+ghost use Rattle.html5grammar.specs.Machine.{doctype_step, wanted_identifier_step};
 ghost use Rattle.html5grammar.specs.Doctype.{identifier_state};
 ghost use Rattle.html5grammar.specs.Start.DoctypePlace.{AfterKeyword, BeforeIdentifier, InIdentifier, AfterIdentifier, BetweenIdentifiers};
 ghost use Rattle.html5opened.specs.Doctypes.{quotes_of};

@@ -3,7 +3,7 @@
 
 ghost use Rattle.std.specs.Prelude.{◌≡◌, ◌∷◌, [], string_bytes};
 ghost use Rattle.html5ever_interface.specs.Token.Told.{Instruction, End};
-ghost use Rattle.html5grammar.proofs.Machine.{instruction_step};
+ghost use Rattle.html5grammar.specs.Machine.{instruction_step};
 ghost use Rattle.html5grammar.specs.ErrorText.{end_error_in};
 ghost use Rattle.html5states.specs.Telling.{Emits, Reads};
 

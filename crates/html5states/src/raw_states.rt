@@ -3,8 +3,8 @@
 
 ghost use Rattle.std.specs.Prelude.{◌≡◌, ◌∷◌, [], ◌++◌, true, string_bytes};
 ghost use Rattle.std.specs.Str.{chars};
-ghost use Rattle.html5grammar.proofs.Machine.{raw_step, raw_less_than_step, raw_solidus_step};
-ghost use Rattle.html5grammar.proofs.Machine.{tag_name_end_step, end_name_step, switch_step, mark_step, mark_and_dash_step, step_at};
+ghost use Rattle.html5grammar.specs.Machine.{raw_step, raw_less_than_step, raw_solidus_step};
+ghost use Rattle.html5grammar.specs.Machine.{tag_name_end_step, end_name_step, switch_step, mark_step, mark_and_dash_step, step_at};
 ghost use Rattle.html5grammar.specs.Characters.{exclamation_mark, solidus, less_than};
 ghost use Rattle.html5grammar.specs.RawText.{texts, told_at_less_than, told_behind_less_than, ends_name};
 ghost use Rattle.html5grammar.specs.Reading.Here.{Tells};

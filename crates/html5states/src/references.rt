@@ -282,7 +282,7 @@ impl<S: TokenSink<Token<A>>, A: Allocator + Copy> Teller<'_, S, A> {
         match held.number() {
             Some(number) => self.resolve_number(number, next),
             None => {
-                names.is_checked();
+                names.table_laws();
                 self.resolve_name(names, in_value, held.text(), next)
             }
         }

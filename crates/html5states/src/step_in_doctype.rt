@@ -2,7 +2,7 @@
 #![tactic(auto, using(crate::proofs::Tellings::tells_from_memory), unfolding(html5grammar::proofs::Machine::step_at, html5grammar::proofs::Machine::doctype_step, html5opened::specs::Steps::tokens_of, html5opened::specs::Steps::behind, html5ever_interface::specs::Sink::stepped))]
 
 ghost use Rattle.std.specs.Prelude.{◌≡◌, true, false};
-ghost use Rattle.html5grammar.proofs.Machine.{step_at};
+ghost use Rattle.html5grammar.specs.Machine.{step_at};
 ghost use Rattle.html5grammar.specs.Start.{is_undecided_open};
 ghost use Rattle.html5opened.specs.CurrentTag.{is_doctype_state, opened_of};
 ghost use Rattle.html5states.specs.Telling.{Reads};

@@ -2,8 +2,8 @@
 #![tactic(auto, using(crate::proofs::Tellings::tells_from_memory, crate::proofs::Tellings::tells_memory), unfolding(html5grammar::proofs::Machine::tag_name_step, html5grammar::proofs::Machine::part_step, html5grammar::proofs::Machine::attribute_name_step, html5grammar::proofs::Machine::after_attribute_name_step, html5grammar::specs::Tag::in_tag_name, html5grammar::specs::Tag::in_attribute_name, html5grammar::specs::Tag::place_error, html5grammar::specs::Tag::first_error, html5opened::specs::Steps::tokens_of, html5opened::specs::Steps::behind, html5ever_interface::specs::Sink::stepped))]
 
 ghost use Rattle.std.specs.Prelude.{◌≡◌, ◌∷◌, [], ◌++◌, OnOk};
-ghost use Rattle.html5grammar.proofs.Machine.{told_first, tag_name_step, attribute_name_step};
-ghost use Rattle.html5grammar.proofs.Machine.{after_attribute_name_step, part_step};
+ghost use Rattle.html5grammar.specs.Machine.{told_first, tag_name_step, attribute_name_step};
+ghost use Rattle.html5grammar.specs.Machine.{after_attribute_name_step, part_step};
 ghost use Rattle.html5grammar.specs.ErrorText.{error_in, where_true};
 ghost use Rattle.html5grammar.specs.Start.Place.{BeforeAttribute, AfterSolidus};
 ghost use Rattle.html5grammar.specs.Tag.{is_odd_at_name, duplicate_error};

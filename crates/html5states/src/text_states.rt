@@ -4,7 +4,7 @@
 ghost use Rattle.std.specs.Prelude.{◌≡◌, ◌∷◌, [], ◌==◌, codes, encode_utf8, if◌then◌else◌};
 ghost use Rattle.html5grammar.specs.Characters.{null, replacement_character};
 ghost use Rattle.html5ever_interface.specs.Token.Told.{Text, Null};
-ghost use Rattle.html5grammar.proofs.Machine.{step_at, tag_name_step, data_step};
+ghost use Rattle.html5grammar.specs.Machine.{step_at, tag_name_step, data_step};
 ghost use Rattle.html5grammar.specs.ErrorText.{error_in};
 ghost use Rattle.html5grammar.specs.Start.{begun};
 ghost use Rattle.html5grammar.specs.Start.Mode.{Data, Plain};

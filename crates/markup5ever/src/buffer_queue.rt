@@ -6,8 +6,8 @@ ghost use Rattle.std.specs.String.{string_bytes};
 ghost use Rattle.markup5ever.specs.BufferQueue.{Gains, GainsFront, IsReadTo, TakesBack, Takes};
 ghost use Rattle.markup5ever.specs.SmallCharSet.{IsMember};
 
-use crate::count::Count;
 use crate::small_char_set::SmallCharSet;
+use ghost_counts::Count;
 use std::alloc::{AllocError, Allocator, Global};
 use std::marker::Model;
 use std::mem;

@@ -134,9 +134,9 @@ impl<A: Allocator> NamedReferences<A> {
         }
     }
 
-    /// Does nothing: its contract says what each table is.
+    /// The laws of each table, which its contract says. It does nothing.
     #[inline(always)]
-    pub fn is_checked(&self)
+    pub fn table_laws(&self)
         ensures { IsTable self.now }
     {
         let _ = &self.entries;

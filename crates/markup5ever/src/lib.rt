@@ -1,15 +1,13 @@
-//! What markup tokenizers share: names and attributes, the queue of the text that waits, counts and sets of characters, and what character references stand for.
+//! What markup tokenizers share: names and attributes, the queue of the text that waits, sets of characters, and what character references stand for.
 #![tactic(auto)]
 
 pub mod buffer_queue;
-pub mod count;
 pub mod data;
 pub mod interface;
 pub mod small_char_set;
 pub mod tokenizer_result;
 
 pub use crate::buffer_queue::{BufferQueue, Case, SetResult};
-pub use crate::count::Count;
 pub use crate::data::{NamedReferences, TableError};
 pub use crate::interface::{Attribute, LocalName, Namespace, Prefix, QualName};
 pub use crate::small_char_set::SmallCharSet;

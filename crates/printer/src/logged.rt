@@ -1,7 +1,7 @@
 //! A target of which contracts know what it took.
 ghost use Rattle.std.specs.Prelude.{◌≡◌, [], Some};
 
-use crate::log::Log;
+use ghost_counts::Log;
 use devices::Target;
 use std::io;
 use std::marker::Model;

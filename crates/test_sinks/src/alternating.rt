@@ -6,7 +6,7 @@ ghost use Rattle.test_sinks.specs.Sinks.{tags_with, reply_at};
 use html5ever_interface::collect::Collector;
 use html5ever_interface::interface::sink::TokenSink;
 use html5ever_interface::interface::token::{SinkFault, Token, TokenSinkResult};
-use markup5ever::count::Count;
+use ghost_counts::Count;
 use std::alloc::{Allocator, Global};
 
 // How many tags there are with this token, where so many can be counted.

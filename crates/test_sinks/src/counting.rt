@@ -5,7 +5,7 @@ ghost use Rattle.test_sinks.specs.Sinks.{counted_with};
 
 use html5ever_interface::interface::sink::TokenSink;
 use html5ever_interface::interface::token::{SinkFault, Token, TokenSinkResult};
-use markup5ever::count::Count;
+use ghost_counts::Count;
 use std::alloc::Allocator;
 
 // How many tokens other than text there are with this one, where so many can be counted.

@@ -8,7 +8,7 @@ use crate::page::{is_open_behind, push_token};
 use crate::replies::reply_to;
 use html5ever_interface::interface::sink::TokenSink;
 use html5ever_interface::interface::token::{SinkFault, Token, TokenSinkResult};
-use markup5ever::count::Count;
+use ghost_counts::Count;
 use std::alloc::{AllocError, Allocator, Global};
 use std::marker::Model;
 

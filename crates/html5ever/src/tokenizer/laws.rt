@@ -97,7 +97,7 @@ pub fn reference<A: Allocator + Copy>(
     ensures no_fault { IfOk result (λ sink. sink.faults ≡ 0) }
     ensures refusal { IfErr result IsRefusal }
 {
-    names.is_checked();
+    names.table_laws();
     collect(alloc, opts, foreign, names, text)
 }
 

@@ -3,7 +3,7 @@ use Rattle.html5opened.proofs.LongestName.{named-found, named-push, named-cut, n
 use Rattle.html5opened.proofs.char_ref.longest_name.Goals as goal
 
 pub loop-len-init : goal.loop-len-init
-loop-len-init g c = record { within = omega arith; found = named-none c.args.names.now c.args.text.now c.is_checked.ensures }
+loop-len-init g c = record { within = omega arith; found = named-none c.args.names.now c.args.text.now c.table_laws.ensures }
 
 pub loop-len-preserved-in-Some : goal.loop-len-preserved-in-Some
 loop-len-preserved-in-Some g c = record {

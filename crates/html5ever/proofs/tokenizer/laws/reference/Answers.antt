@@ -16,4 +16,4 @@ returns-clause-reference g c =
     (λ (sink : Collecting). sink.collected) (collected_of (options_of c.args.opts) c.args.names.now c.args.foreign (chars (string_bytes c.args.text)))
     (λ reference. record { messages = reference_messages c.args.opts.exact_errors (start_of (options_of c.args.opts)).input reference; finished = true; foreign = c.args.foreign })
     c.collect.ensures.reads
-    (λ reference one. collects-reference (Unit {0}) (rules_of (options_of c.args.opts) c.args.names.now) (start_of (options_of c.args.opts)) c.args.foreign (chars (string_bytes c.args.text)) reference c.is_checked.ensures one)
+    (λ reference one. collects-reference (Unit {0}) (rules_of (options_of c.args.opts) c.args.names.now) (start_of (options_of c.args.opts)) c.args.foreign (chars (string_bytes c.args.text)) reference c.table_laws.ensures one)

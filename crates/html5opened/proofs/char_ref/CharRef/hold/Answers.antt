@@ -19,4 +19,4 @@ returns-then-begins_number-clause-undecided g c =
 
 pub returns-then-not-is_in_names-clause-undecided : goal.returns-then-not-is_in_names-clause-undecided
 returns-then-not-is_in_names-clause-undecided g c =
-    sym (undecided-odd c.args.names.now c.args.self.now c.args.c c.is_checked.ensures c.in_default.ensures (sym c.begins_number.ensures ∙ c.if-begins_number.false) (sym c.is_in_names.ensures ∙ c.if-not-is_in_names.true))
+    sym (undecided-odd c.args.names.now c.args.self.now c.args.c c.table_laws.ensures c.in_default.ensures (sym c.begins_number.ensures ∙ c.if-begins_number.false) (sym c.is_in_names.ensures ∙ c.if-not-is_in_names.true))

@@ -31,7 +31,7 @@ returns-in-None g c =
     let text = c.text.result.now in
     let next = c.args.next in
     let same =
-    decided-name exact names in_value held next c.is_checked.ensures c.in-None.ensures
+    decided-name exact names in_value held next c.table_laws.ensures c.in-None.ensures
     ∙ ap (λ h. named_reference exact in_value h next (longest_name names h)) (sym c.text.ensures.text) in
     record {
       emits = rw same c.resolve_name.ensures.emits;

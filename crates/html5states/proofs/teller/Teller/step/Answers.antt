@@ -1,7 +1,7 @@
 use Rattle.std.proofs.Common.{◌≡◌, true, refl, ap, sym, ◌∙◌}
 use Rattle.std.proofs.lemmas.Bool.{false≢true}
 use Rattle.html5ever_interface.specs.declared.states.State.TheVariants as state
-use Rattle.html5grammar.proofs.Machine.{step_at}
+use Rattle.html5grammar.specs.Machine.{step_at}
 use Rattle.html5grammar.specs.Start.{is_undecided_open}
 use Rattle.html5opened.proofs.CommentStates.{open-comment}
 use Rattle.html5opened.specs.CurrentTag.{open_of, is_comment_state, is_doctype_state}

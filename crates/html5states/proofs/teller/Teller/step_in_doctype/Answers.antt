@@ -1,7 +1,7 @@
 use Rattle.std.proofs.Common.{◌≡◌, Bool, false, List, [], ◌∷◌, refl, ℕ, sym, string_bytes}
 use Rattle.std.proofs.lemmas.Bool.{false≢true}
 use Rattle.html5ever_interface.specs.Token.{DoctypeOf, doctype_of}
-use Rattle.html5grammar.proofs.Machine.{step_at, doctype_step}
+use Rattle.html5grammar.specs.Machine.{step_at, doctype_step}
 use Rattle.html5grammar.specs.Start.{is_undecided_open}
 use Rattle.html5grammar.specs.Start.DoctypePlace.{AfterName}
 use Rattle.html5opened.specs.CurrentTag.{behind_doctype_name}

@@ -18,10 +18,10 @@ use denote.Signature.{plain, Slot, types_at, type_at}
 use denote.Text.{StrRefOf}
 use denote.Triple.Entry.{alive}
 use denote.Triple.Walked.{says, stay_none_ref, Stays, walk_of, ends_at, Goes-none_ref}
-use Rattle.markup5ever.specs.contracts.count.Count.{the_row as Row}
-use Rattle.markup5ever.specs.contracts.count.Count.raised_by_chars as f
-use Rattle.markup5ever.proofs.count.Count.raised_by_chars.Statement.{statement}
-use Rattle.markup5ever.proofs.count.Count.raised_by_chars.Code as code
+use Rattle.ghost_counts.specs.contracts.count.Count.{the_row as Row}
+use Rattle.ghost_counts.specs.contracts.count.Count.raised_by_chars as f
+use Rattle.ghost_counts.proofs.count.Count.raised_by_chars.Statement.{statement}
+use Rattle.ghost_counts.proofs.count.Count.raised_by_chars.Code as code
 
 -- a `&str` of the third lifetime
 abbrev Text : Slot 3

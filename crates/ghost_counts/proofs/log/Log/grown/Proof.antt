@@ -17,10 +17,10 @@ use denote.Shadow.{pure_i}
 use denote.Signature.{plain, Slot, types_at, type_at}
 use denote.Triple.Entry.{alive}
 use denote.Triple.Walked.{says, stay_none_ref, Stays, walk_of, ends_at, Goes-none_ref}
-use Rattle.printer.specs.contracts.log.Log.{the_row as Row}
-use Rattle.printer.specs.contracts.log.Log.grown as f
-use Rattle.printer.proofs.log.Log.grown.Statement.{statement}
-use Rattle.printer.proofs.log.Log.grown.Code as code
+use Rattle.ghost_counts.specs.contracts.log.Log.{the_row as Row}
+use Rattle.ghost_counts.specs.contracts.log.Log.grown as f
+use Rattle.ghost_counts.proofs.log.Log.grown.Statement.{statement}
+use Rattle.ghost_counts.proofs.log.Log.grown.Code as code
 
 -- a `&[u8]` of the third lifetime
 abbrev Bytes : Slot 3

@@ -12,10 +12,10 @@ use denote.RattleType.{owns}
 use denote.Shadow.{pure_i}
 use denote.Triple.Entry.{alive}
 use denote.Triple.Walked.{says, Stays, walk_of, ends_at}
-use Rattle.printer.specs.contracts.log.Log.{the_row as Row}
-use Rattle.printer.specs.contracts.log.Log.new as f
-use Rattle.printer.proofs.log.Log.new.Statement.{statement}
-use Rattle.printer.proofs.log.Log.new.Code as code
+use Rattle.ghost_counts.specs.contracts.log.Log.{the_row as Row}
+use Rattle.ghost_counts.specs.contracts.log.Log.new as f
+use Rattle.ghost_counts.proofs.log.Log.new.Statement.{statement}
+use Rattle.ghost_counts.proofs.log.Log.new.Code as code
 
 abbrev stayed : Stays f.ended.signature.params f.ended.kept
 stayed = tt

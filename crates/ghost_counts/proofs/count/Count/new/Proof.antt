@@ -12,10 +12,10 @@ use denote.RattleType.{owns}
 use denote.Shadow.{pure_i}
 use denote.Triple.Entry.{alive}
 use denote.Triple.Walked.{says, Stays, walk_of, ends_at}
-use Rattle.markup5ever.specs.contracts.count.Count.{the_row as Row}
-use Rattle.markup5ever.specs.contracts.count.Count.new as f
-use Rattle.markup5ever.proofs.count.Count.new.Statement.{statement}
-use Rattle.markup5ever.proofs.count.Count.new.Code as code
+use Rattle.ghost_counts.specs.contracts.count.Count.{the_row as Row}
+use Rattle.ghost_counts.specs.contracts.count.Count.new as f
+use Rattle.ghost_counts.proofs.count.Count.new.Statement.{statement}
+use Rattle.ghost_counts.proofs.count.Count.new.Code as code
 
 abbrev stayed : Stays f.ended.signature.params f.ended.kept
 stayed = tt

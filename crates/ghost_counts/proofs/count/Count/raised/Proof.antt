@@ -17,10 +17,10 @@ use denote.Shadow.{pure_i}
 use denote.Signature.{plain, types_at}
 use denote.Triple.Entry.{alive}
 use denote.Triple.Walked.{says, stay_none_ref, Stays, walk_of, ends_at, Goes-none_ref}
-use Rattle.markup5ever.specs.contracts.count.Count.{the_row as Row}
-use Rattle.markup5ever.specs.contracts.count.Count.raised as f
-use Rattle.markup5ever.proofs.count.Count.raised.Statement.{statement}
-use Rattle.markup5ever.proofs.count.Count.raised.Code as code
+use Rattle.ghost_counts.specs.contracts.count.Count.{the_row as Row}
+use Rattle.ghost_counts.specs.contracts.count.Count.raised as f
+use Rattle.ghost_counts.proofs.count.Count.raised.Statement.{statement}
+use Rattle.ghost_counts.proofs.count.Count.raised.Code as code
 
 abbrev stayed : Stays f.ended.signature.params f.ended.kept
 stayed = (stay_none_ref (0 ∷ []) tt (plain (λ _. Row)) yes, (stay_none_ref (1 ∷ []) tt (plain (λ _. usize)) yes, tt))
