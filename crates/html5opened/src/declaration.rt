@@ -1,6 +1,6 @@
 //! What stands behind `<!`: the keyword of a comment, of a doctype or, in foreign content, of a CDATA
 //! section, or else a bogus comment.
-#![tactic(auto, unfolding(html5grammar::proofs::Machine::declaration_step, html5grammar::proofs::Machine::declaration_answer_step, html5grammar::specs::Comment::begins_keyword, html5grammar::specs::Comment::begins_cdata))]
+#![tactic(auto, unfolding(html5grammar::specs::Machine::declaration_step, html5grammar::specs::Machine::declaration_answer_step, html5grammar::specs::Comment::begins_keyword, html5grammar::specs::Comment::begins_cdata))]
 
 ghost use Rattle.std.specs.Prelude.{◌≡◌, Bool, [], ◌∷◌, ◌++◌, codes, nat_eq, ◌≤◌, ◌+◌, OnOk, Ok, true, false, if◌then◌else◌, string_bytes};
 ghost use Rattle.std.specs.List.{starts_with};

@@ -1,5 +1,5 @@
 //! What stands behind the name of a DOCTYPE: the keyword of an identifier, or else what is skipped.
-#![tactic(auto, unfolding(html5grammar::proofs::Machine::doctype_keyword_step, html5grammar::specs::Doctype::begins_doctype_keyword, html5grammar::specs::Doctype::keyword_error))]
+#![tactic(auto, unfolding(html5grammar::specs::Machine::doctype_keyword_step, html5grammar::specs::Doctype::begins_doctype_keyword, html5grammar::specs::Doctype::keyword_error))]
 
 ghost use Rattle.std.specs.Prelude.{◌≡◌, ◌≢◌, Bool, ◌∷◌, [], ◌||◌, nat_eq, ◌<◌, ◌≤◌, ◌+◌, OnOk, Ok, true, false, string_bytes};
 ghost use Rattle.std.specs.List.{starts_with};
