@@ -32,7 +32,7 @@ use Rattle.html5opened.specs.CharRef.{stand_of, with_reference}
 use Rattle.html5opened.specs.Steps.{Leads}
 use Rattle.html5opened.specs.declared.error.TokenizerError.TheVariants.{Memory, Sink, Failed}
 use Rattle.std.proofs.lemmas.Result.{err_from_is_err_and}
-use Rattle.html5feed.specs.Undecided.{BelongsTo, Decides}
+use Rattle.html5opened.specs.Undecided.{BelongsTo, Decides}
 
 pub answer-is : {E : Type 0} (b d : Bool) → ◌≡◌ {A = Result Bool E} (Ok b) (Ok d) → b ≡ d
 answer-is b d e = cc

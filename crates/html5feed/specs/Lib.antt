@@ -1,5 +1,4 @@
 pub mod Feed
 pub mod Refused
 pub mod Runs
-pub mod Undecided
 pub mod Starting

@@ -1,8 +1,9 @@
-//! How a queue is read: a character, a run of characters, and the pauses behind tags.
+//! How a queue is read: a character, a run of characters, and the pauses after tags.
 #![tactic(auto)]
 
+pub mod character;
 mod input;
-mod keyword;
 pub mod position;
 pub mod reading;
 pub mod rules;
+mod undecided;

@@ -1,60 +1,49 @@
 //! Where a tokenizer stands in its stream.
 #![tactic(auto, unfolding(html5opened::specs::CharRef::with_reference))]
 
-ghost use Rattle.std.specs.Prelude.{◌≡◌, ◌≢◌, ◌^◌, ◌<◌, ◌≤◌, ◌+◌, ◌&&◌, ℕ, List, ◌∷◌, [], true, false, length, take, drop, Contains, Some, IfOk, IfErr, IfSome, OnOk, option_map, string_bytes};
+ghost use Rattle.std.specs.Prelude.{◌≡◌, ◌≢◌, ◌^◌, ◌<◌, ◌≤◌, ◌+◌, ◌&&◌, ℕ, List, ◌∷◌, [], true, false, length, take, drop, Contains, Some, IfErr, IfSome, OnOk, option_map, string_bytes};
 ghost use Rattle.html5ever_interface.specs.Options.{options_of};
-ghost use Rattle.html5ever_interface.specs.Sink.{stepped, on_line};
-ghost use Rattle.html5ever_interface.specs.Token.{Told, tag_of};
+ghost use Rattle.html5ever_interface.specs.Sink.{on_line};
+ghost use Rattle.html5ever_interface.specs.Token.{tag_of};
 ghost use Rattle.html5ever_interface.specs.Token.Told.{Text};
-ghost use Rattle.html5grammar.specs.Characters.{is_bad_character};
 ghost use Rattle.html5grammar.specs.EndOfInput.{late_at_end_of, open_at_end_of, told_at_end_of, tokens_at_end};
-ghost use Rattle.html5grammar.specs.Reference.{ends_number, late_tokens, opened_behind};
-ghost use Rattle.html5grammar.specs.ErrorText.{bad_character_error};
-ghost use Rattle.html5grammar.specs.NormalisedText.{input_after};
-ghost use Rattle.html5grammar.specs.Reading.{told, messages, after, last_behind, open_after_reply};
+ghost use Rattle.html5grammar.specs.Reading.{last_behind};
 ghost use Rattle.html5grammar.specs.Slice.{tokens_of_late};
 ghost use Rattle.html5grammar.specs.Start.{start_of, initial_name, raw_of, is_clean, is_undecided_open, held_len};
-ghost use Rattle.html5opened.specs.CharRef.{HasStand, stand_of, found_at, begun_reference};
-ghost use Rattle.html5feed.specs.Undecided.{BelongsTo, Decides, is_reference, is_keyword_open};
+ghost use Rattle.html5opened.specs.CharRef.{HasStand, begun_reference};
 ghost use Rattle.html5grammar.specs.Start.Mode.{Data, Plain, RawText};
 ghost use Rattle.html5grammar.specs.Start.Open.{Between};
 ghost use Rattle.html5opened.specs.CurrentTag.{is_between, opened_of, last_name_of};
-ghost use Rattle.html5feed.specs.Feed.{reply_in, first_pause};
 ghost use Rattle.html5feed.specs.Refused.{IsRun};
 ghost use Rattle.html5opened.specs.Runs.{IsRunAt, other_run_ends, run_ends, opened_after_run};
 ghost use Rattle.std.specs.Str.{IsUtf8, chars};
-ghost use Rattle.html5grammar.specs.Machine.{step_at, brought_at, messages_here, opened_here, last_here};
-ghost use Rattle.html5opened.specs.Steps.{Leads, Ends, tokens_of, behind};
 ghost use Rattle.html5states.specs.Telling.{Tells, IsRefusal, tokens_in, faults_of};
 ghost use Rattle.html5feed.specs.Starting.{CanStart};
 
 use crate::input::Input;
-use crate::keyword::{asked_about_foreign, finish_keyword, hold_keyword, holds_keyword};
 use crate::rules::Rules;
+use crate::undecided::{finish_keyword, finish_reference};
 use html5ever_interface::interface::sink::TokenSink;
-use html5ever_interface::interface::token::{
-    Doctype, SinkFault, Tag, TagKind, Token, TokenSinkResult,
-};
+use html5ever_interface::interface::token::{Doctype, Tag, TagKind, Token};
 use html5ever_interface::options::TokenizerOpts;
 use html5ever_interface::states::{RawKind, State};
 use html5opened::char_ref::CharRef;
 use html5opened::current_tag::CurrentTag;
 use html5opened::error::TokenizerError;
-use html5opened::message::is_bad;
-use html5opened::opened::{Opened, Progress, Step};
+use html5opened::keyword::holds_keyword;
+use html5opened::opened::Opened;
 use html5opened::runs::{push_run, run_ends};
 use html5states::teller::Teller;
-use markup5ever::tokenizer_result::TokenizerResult;
 use std::alloc::{AllocError, Allocator, Global};
 use std::marker::Model;
 
 /// Where a tokenizer stands in its stream: how characters come in, and what is open.
 pub struct Position<A: Allocator = Global> {
-    opened: Opened<A>,
+    pub(crate) opened: Opened<A>,
     // Whether a reference is open too, of which `held` has what was read.
-    in_reference: bool,
-    held: CharRef<A>,
-    input: Input,
+    pub(crate) in_reference: bool,
+    pub(crate) held: CharRef<A>,
+    pub(crate) input: Input,
 }
 
 // By hand, as that of `Opened`.
@@ -169,9 +158,9 @@ impl<A: Allocator + Copy> Position<A> {
         finish_keyword(alloc, sink, rules, &mut self.opened, line)
     }
 
-    // Whether a reference is not decided, or what stands behind `<!`.
+    /// Whether a reference is not decided, or what stands behind `<!`.
     #[inline(always)]
-    fn is_undecided(&self) -> bool
+    pub(crate) fn is_undecided(&self) -> bool
         ensures { result ≡ is_undecided_open self.now.opened }
     {
         self.in_reference || holds_keyword(&self.opened)
@@ -195,8 +184,8 @@ impl<A: Allocator + Copy> Position<A> {
         self.in_reference = false;
     }
 
-    // Reads raw text from here on, up to the end tag of the last start tag.
-    fn set_raw_data(&mut self, kind: RawKind)
+    /// Reads raw text from here on, up to the end tag of the last start tag.
+    pub(crate) fn set_raw_data(&mut self, kind: RawKind)
         ensures opened { self.new.opened ≡ Between (RawText (raw_of kind) self.old.last_start_tag) }
         ensures last { self.new.last_start_tag ≡ self.old.last_start_tag }
         ensures input { self.new.input ≡ self.old.input }
@@ -205,8 +194,8 @@ impl<A: Allocator + Copy> Position<A> {
         self.in_reference = false;
     }
 
-    // Keeps the name of a start tag, which is told next, as that of the last one.
-    fn note_tag(&mut self, tag: &Tag<A>) -> Result<(), TokenizerError>
+    /// Keeps the name of a start tag, which is told next, as that of the last one.
+    pub(crate) fn note_tag(&mut self, tag: &Tag<A>) -> Result<(), TokenizerError>
         requires { self.old.opened ≡ Between Data }
         ensures opened { self.new.opened ≡ Between Data }
         ensures last { OnOk result
@@ -218,8 +207,8 @@ impl<A: Allocator + Copy> Position<A> {
         Ok(keep_name(&mut self.opened.last_start_tag, tag)?)
     }
 
-    // Begins a reference where the state is.
-    fn begin_reference(&mut self)
+    /// Begins a reference where the state is.
+    pub(crate) fn begin_reference(&mut self)
         requires decided { is_undecided_open self.old.opened ≡ false }
         requires can_stand { HasStand self.old.opened }
         ensures opened { self.new.opened ≡ begun_reference self.old.opened }
@@ -328,146 +317,6 @@ fn keep_name<A: Allocator>(last_name: &mut String<A>, tag: &Tag<A>) -> Result<()
     }
 }
 
-// Reports a bad character, with exact errors.
-#[inline(always)]
-fn report_bad_character<S: TokenSink<Token<A>>, A: Allocator + Copy>(
-    alloc: A,
-    sink: &mut S,
-    exact_errors: bool,
-    c: char,
-    line: u64,
-) -> Result<(), TokenizerError>
-    ensures tells { Tells S.means.step S.means.faulted result (S.means.state sink.old)
-        (on_line line (bad_character_error exact_errors c)) (S.means.state sink.new) }
-    ensures faults { S.faults sink.new ≡ S.faults sink.old + faults_of result }
-    ensures refusal { IfErr result IsRefusal }
-{
-    let mut teller = Teller {
-        sink,
-        alloc,
-        exact_errors,
-        line,
-    };
-    teller.emit_bad_character(c)
-}
-
-// Reads one character in the state that is open. Where that is refused, nothing is held.
-#[inline(always)]
-fn step<S: TokenSink<Token<A>>, A: Allocator + Copy>(
-    alloc: A,
-    sink: &mut S,
-    exact_errors: bool,
-    opened: &mut Opened<A>,
-    c: char,
-    line: u64,
-) -> Step
-    requires { is_undecided_open (opened_of opened.old) ≡ false }
-    ensures tells { Tells S.means.step S.means.faulted result (S.means.state sink.old)
-        (on_line line (tokens_of (step_at exact_errors (opened_of opened.old) c))) (S.means.state sink.new) }
-    ensures leads { Ends result opened.new (behind (step_at exact_errors (opened_of opened.old) c)) }
-    ensures last { last_name_of opened.new ≡ last_name_of opened.old }
-    ensures held { IfErr result (λ error. held_len (opened_of opened.new) ≡ 0) }
-    ensures faults { S.faults sink.new ≡ S.faults sink.old + faults_of result }
-{
-    let mut teller = Teller {
-        sink,
-        alloc,
-        exact_errors,
-        line,
-    };
-    let step = teller.step(opened, c);
-    if step.is_err() {
-        opened.comment.clear();
-    }
-    step
-}
-
-// Tells the sink a tag, and goes on as it replies.
-#[tactic(auto, unfolding(html5ever_interface::specs::Sink::stepped, crate::specs::Feed::first_pause))]
-#[inline(always)]
-fn tell_tag<S: TokenSink<Token<A>>, A: Allocator + Copy>(
-    sink: &mut S,
-    position: &mut Position<A>,
-    tag: Tag<A>,
-    line: u64,
-) -> Result<TokenizerResult<S::Handle, String<A>>, TokenizerError>
-    requires { position.old.opened ≡ Between Data }
-    ensures tells { Tells S.means.step S.means.faulted result (S.means.state sink.old)
-        (on_line line (Told.Tag (tag_of tag) ∷ [])) (S.means.state sink.new) }
-    ensures leads { Leads result position.new.opened
-        (open_after_reply (last_behind position.old.last_start_tag (tag_of tag)) (S.means.reply (S.means.state sink.old) (Told.Tag (tag_of tag)) line)) }
-    ensures last { OnOk result
-        (position.new.last_start_tag ≡ last_behind position.old.last_start_tag (tag_of tag)) }
-    ensures answer { IfOk result (λ answer. reply_in string_bytes answer
-        ≡ first_pause S.means.step S.means.reply (S.means.state sink.old) (on_line line (Told.Tag (tag_of tag) ∷ []))) }
-    ensures input { position.new.input ≡ position.old.input }
-    ensures held { held_len position.new.opened ≡ 0 }
-    ensures faults { S.faults sink.new ≡ S.faults sink.old + faults_of result }
-{
-    position.note_tag(&tag)?;
-    match sink.process_token(Token::TagToken(tag), line) {
-        Ok(TokenSinkResult::Continue) => Ok(TokenizerResult::Done),
-        Ok(TokenSinkResult::Plaintext) => {
-            position.set_plaintext();
-            Ok(TokenizerResult::Done)
-        }
-        Ok(TokenSinkResult::Script(handle)) => Ok(TokenizerResult::Script(handle)),
-        Ok(TokenSinkResult::EncodingIndicator(text)) => {
-            Ok(TokenizerResult::EncodingIndicator(text))
-        }
-        Ok(TokenSinkResult::RawData(kind)) => {
-            position.set_raw_data(kind);
-            Ok(TokenizerResult::Done)
-        }
-        Err(SinkFault) => Err(TokenizerError::Sink),
-    }
-}
-
-// Reads a character in the state that is open, where nothing is undecided.
-#[inline(always)]
-fn read_opened<S: TokenSink<Token<A>>, A: Allocator + Copy>(
-    alloc: A,
-    sink: &mut S,
-    rules: &Rules<'_, A>,
-    position: &mut Position<A>,
-    c: char,
-) -> Result<TokenizerResult<S::Handle, String<A>>, TokenizerError>
-    requires { is_undecided_open position.old.opened ≡ false }
-    ensures tells { Tells S.means.step S.means.faulted result (S.means.state sink.old)
-        (messages_here S.means.step S.means.reply rules.now position.old.input.line c (step_at rules.now.exact position.old.opened c)) (S.means.state sink.new) }
-    ensures leads { Leads result position.new.opened
-        (opened_here S.means.step S.means.reply rules.now (S.means.state sink.old) position.old.input.line position.old.last_start_tag c (step_at rules.now.exact position.old.opened c)) }
-    ensures last { OnOk result (position.new.last_start_tag
-        ≡ last_here position.old.last_start_tag (step_at rules.now.exact position.old.opened c)) }
-    ensures answer { IfOk result (λ answer. reply_in string_bytes answer
-        ≡ first_pause S.means.step S.means.reply (S.means.state sink.old)
-        (messages_here S.means.step S.means.reply rules.now position.old.input.line c (step_at rules.now.exact position.old.opened c))) }
-    ensures input { position.new.input ≡ position.old.input }
-    ensures held { held_len position.new.opened ≤ 1 }
-    ensures faults { S.faults sink.new ≡ S.faults sink.old + faults_of result }
-{
-    let line = position.input.line();
-    report_bad_character(alloc, sink, rules.exact_errors, c, line)?;
-    match step(
-        alloc,
-        sink,
-        rules.exact_errors,
-        &mut position.opened,
-        c,
-        line,
-    )? {
-        Progress::Continues => Ok(TokenizerResult::Done),
-        Progress::BeginsReference => {
-            position.begin_reference();
-            Ok(TokenizerResult::Done)
-        }
-        Progress::EndsTag { self_closing } => {
-            let tag = position.opened.tag.end(alloc, self_closing);
-            tell_tag(sink, position, tag, line)
-        }
-    }
-}
-
 // Tells what the end of input tells, where nothing is undecided.
 fn tell_end<S: TokenSink<Token<A>>, A: Allocator + Copy>(
     alloc: A,
@@ -489,157 +338,4 @@ fn tell_end<S: TokenSink<Token<A>>, A: Allocator + Copy>(
         line,
     };
     teller.tell_end_of_input(opened)
-}
-
-// Tells what the next character, or the end, decides of a reference, and answers whether that is the
-// semicolon of a number.
-fn finish_reference<S: TokenSink<Token<A>>, A: Allocator + Copy>(
-    alloc: A,
-    sink: &mut S,
-    rules: &Rules<'_, A>,
-    opened: &mut Opened<A>,
-    held: &CharRef<A>,
-    next: Option<char>,
-    line: u64,
-) -> Result<bool, TokenizerError>
-    requires { HasStand (opened_of opened.old) }
-    ensures tells { Tells S.means.step S.means.faulted result (S.means.state sink.old)
-        (on_line line (tokens_of_late (late_tokens (stand_of (opened_of opened.old))
-        (found_at rules.now.exact rules.now.names (stand_of (opened_of opened.old)) held.now next) held.now))) (S.means.state sink.new) }
-    ensures leads { OnOk result (opened_of opened.new ≡ opened_behind (stand_of (opened_of opened.old))
-        (found_at rules.now.exact rules.now.names (stand_of (opened_of opened.old)) held.now next) held.now) }
-    ensures ends { IfOk result (λ ends. (c : ℕ) → next ≡ Some c → ends ≡ ends_number held.now c) }
-    ensures stays { HasStand (opened_of opened.new) }
-    ensures last { last_name_of opened.new ≡ last_name_of opened.old }
-    ensures faults { S.faults sink.new ≡ S.faults sink.old + faults_of result }
-    ensures refusal { IfErr result IsRefusal }
-{
-    let mut teller = Teller {
-        sink,
-        alloc,
-        exact_errors: rules.exact_errors,
-        line,
-    };
-    teller.finish_reference(rules.names, opened, held, next)
-}
-
-// Reads a character behind what is held of a reference, whose line before it was `line`: whether it
-// belongs to the reference. Else the reference is decided, and the character is still to be read.
-fn read_reference<S: TokenSink<Token<A>>, A: Allocator + Copy>(
-    alloc: A,
-    sink: &mut S,
-    rules: &Rules<'_, A>,
-    position: &mut Position<A>,
-    line: u64,
-    c: char,
-) -> Result<bool, TokenizerError>
-    requires { is_reference position.old.opened ≡ true }
-    ensures tells { Tells S.means.step S.means.faulted result (S.means.state sink.old)
-        (on_line line (tokens_of_late (brought_at rules.now (S.means.foreign (S.means.state sink.old)) position.old.opened c).settled)) (S.means.state sink.new) }
-    ensures taken { result ≡ Ok true → BelongsTo rules.now (S.means.foreign (S.means.state sink.old)) position.old.opened c position.new.opened }
-    ensures decided { result ≡ Ok false → Decides rules.now (S.means.foreign (S.means.state sink.old)) position.old.opened c position.new.opened }
-    ensures last { position.new.last_start_tag ≡ position.old.last_start_tag }
-    ensures refusal { IfErr result IsRefusal }
-    ensures input { position.new.input ≡ position.old.input }
-    ensures held { held_len position.new.opened ≤ held_len position.old.opened + 1 }
-    ensures faults { S.faults sink.new ≡ S.faults sink.old + faults_of result }
-{
-    if position.held.hold(rules.names, c)? {
-        return Ok(true);
-    }
-    let opened = &mut position.opened;
-    let ends = finish_reference(alloc, sink, rules, opened, &position.held, Some(c), line)?;
-    position.in_reference = false;
-    Ok(ends)
-}
-
-// Reads a character behind what may begin a keyword, in the same way. The sink is asked where that
-// may be the keyword of a CDATA section.
-fn read_keyword<S: TokenSink<Token<A>>, A: Allocator + Copy>(
-    alloc: A,
-    sink: &mut S,
-    rules: &Rules<'_, A>,
-    position: &mut Position<A>,
-    line: u64,
-    c: char,
-) -> Result<bool, TokenizerError>
-    requires { is_keyword_open position.old.opened ≡ true }
-    ensures tells { Tells S.means.step S.means.faulted result (S.means.state sink.old)
-        (on_line line (tokens_of_late (brought_at rules.now (S.means.foreign (S.means.state sink.old)) position.old.opened c).settled)) (S.means.state sink.new) }
-    ensures taken { result ≡ Ok true → BelongsTo rules.now (S.means.foreign (S.means.state sink.old)) position.old.opened c position.new.opened }
-    ensures decided { result ≡ Ok false → Decides rules.now (S.means.foreign (S.means.state sink.old)) position.old.opened c position.new.opened }
-    ensures last { position.new.last_start_tag ≡ position.old.last_start_tag }
-    ensures refusal { IfErr result IsRefusal }
-    ensures input { position.new.input ≡ position.old.input }
-    ensures held { held_len position.new.opened ≤ held_len position.old.opened + 1 }
-    ensures faults { S.faults sink.new ≡ S.faults sink.old + faults_of result }
-{
-    let foreign = asked_about_foreign(sink, &position.opened, c);
-    if hold_keyword(&mut position.opened, c, foreign)? {
-        return Ok(true);
-    }
-    finish_keyword(alloc, sink, rules, &mut position.opened, line)?;
-    Ok(false)
-}
-
-// Reads a character where a reference is not decided, or what stands behind `<!`: whether it belongs
-// to that. Else it decides, and is still to be read.
-fn read_undecided<S: TokenSink<Token<A>>, A: Allocator + Copy>(
-    alloc: A,
-    sink: &mut S,
-    rules: &Rules<'_, A>,
-    position: &mut Position<A>,
-    line: u64,
-    c: char,
-) -> Result<bool, TokenizerError>
-    requires { is_undecided_open position.old.opened ≡ true }
-    ensures tells { Tells S.means.step S.means.faulted result (S.means.state sink.old)
-        (on_line line (tokens_of_late (brought_at rules.now (S.means.foreign (S.means.state sink.old)) position.old.opened c).settled)) (S.means.state sink.new) }
-    ensures taken { result ≡ Ok true → BelongsTo rules.now (S.means.foreign (S.means.state sink.old)) position.old.opened c position.new.opened }
-    ensures decided { result ≡ Ok false → Decides rules.now (S.means.foreign (S.means.state sink.old)) position.old.opened c position.new.opened }
-    ensures last { position.new.last_start_tag ≡ position.old.last_start_tag }
-    ensures refusal { IfErr result IsRefusal }
-    ensures input { position.new.input ≡ position.old.input }
-    ensures held { held_len position.new.opened ≤ held_len position.old.opened + 1 }
-    ensures faults { S.faults sink.new ≡ S.faults sink.old + faults_of result }
-{
-    if position.in_reference {
-        return read_reference(alloc, sink, rules, position, line, c);
-    }
-    read_keyword(alloc, sink, rules, position, line, c)
-}
-
-/// Reads one character of the stream. The answer is `Done`, but behind a tag whose reply pauses.
-#[inline(always)]
-pub fn read_character<S: TokenSink<Token<A>>, A: Allocator + Copy>(
-    alloc: A,
-    sink: &mut S,
-    rules: &Rules<'_, A>,
-    position: &mut Position<A>,
-    c: char,
-) -> Result<TokenizerResult<S::Handle, String<A>>, TokenizerError>
-    ensures tells { Tells S.means.step S.means.faulted result (S.means.state sink.old)
-        (messages (told S.means.step S.means.reply S.means.foreign rules.now position.old (S.means.state sink.old) (c ∷ []))) (S.means.state sink.new) }
-    ensures leads { Leads result position.new.opened
-        (after S.means.step S.means.reply S.means.foreign rules.now position.old (S.means.state sink.old) (c ∷ [])).opened }
-    ensures last { OnOk result (position.new.last_start_tag
-        ≡ (after S.means.step S.means.reply S.means.foreign rules.now position.old (S.means.state sink.old) (c ∷ [])).last_start_tag) }
-    ensures answer { IfOk result (λ answer. reply_in string_bytes answer
-        ≡ first_pause S.means.step S.means.reply (S.means.state sink.old)
-        (messages (told S.means.step S.means.reply S.means.foreign rules.now position.old (S.means.state sink.old) (c ∷ [])))) }
-    ensures input { position.new.input ≡ input_after position.old.input (c ∷ []) }
-    ensures held { held_len position.new.opened ≤ held_len position.old.opened + 1 }
-    ensures faults { S.faults sink.new ≡ S.faults sink.old + faults_of result }
-{
-    let before = position.input.line();
-    let Some(c) = position.input.advance(c) else {
-        return Ok(TokenizerResult::Done);
-    };
-    if !position.is_undecided() {
-        return read_opened(alloc, sink, rules, position, c);
-    }
-    if read_undecided(alloc, sink, rules, position, before, c)? {
-        return Ok(TokenizerResult::Done);
-    }
-    read_opened(alloc, sink, rules, position, c)
 }

@@ -1,7 +1,12 @@
 pub mod CommentEnds
 pub mod CommentStates
+pub mod Decided
+pub mod EndedNames
+pub mod FoundErrors
+pub mod FoundText
 pub mod Held
 pub mod HeldLetters
+pub mod KeywordReading
 pub mod Keywords
 pub mod LongestName
 pub mod Numbers

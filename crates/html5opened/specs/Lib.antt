@@ -3,3 +3,4 @@ pub mod Steps
 pub mod Runs
 pub mod CharRef
 pub mod Doctypes
+pub mod Undecided

@@ -1,10 +1,10 @@
 //! The tag that is open, and what the standard does with it.
 #![tactic(auto, unfolding(html5grammar::specs::Characters::name_bytes, html5grammar::specs::Characters::value_bytes, html5grammar::specs::Characters::shown, html5grammar::specs::Characters::is_letter, html5grammar::specs::Tag::has_attribute, html5grammar::specs::Tag::with_last_attribute, html5grammar::specs::Tag::duplicate_error, html5grammar::specs::Tag::repeats_attribute))]
 
-ghost use Rattle.std.specs.Prelude.{◌≡◌, ◌∷◌, [], ◌++◌, map, OnOk, string_bytes};
+ghost use Rattle.std.specs.Prelude.{◌≡◌, ◌&&◌, ◌∷◌, [], ◌++◌, map, IfOk, OnOk, string_bytes};
 ghost use Rattle.html5grammar.specs.Characters.{name_bytes, value_bytes};
 ghost use Rattle.html5grammar.specs.Start.{begun};
-ghost use Rattle.html5grammar.specs.Tag.{attribute, has_attribute, told_tag};
+ghost use Rattle.html5grammar.specs.Tag.{attribute, has_attribute, has_last, repeats_attribute, told_tag, with_last_attribute};
 ghost use Rattle.html5opened.specs.CurrentTag.{open_tag};
 ghost use Rattle.html5ever_interface.specs.Token.{tag_of};
 ghost use Rattle.markup5ever.specs.Names.{attribute_of};
@@ -41,7 +41,7 @@ impl<A: Allocator + Copy> CurrentTag<A> {
         }
     }
 
-    /// Ends the tag behind its last attribute, and answers it. What it leaves says nothing until the
+    /// Ends the tag after its last attribute, and answers it. What it leaves says nothing until the
     /// next tag begins.
     pub fn end(&mut self, alloc: A, self_closing: bool) -> Tag<A>
         ensures { tag_of result ≡ told_tag (open_tag self.old) self_closing }
@@ -53,6 +53,26 @@ impl<A: Allocator + Copy> CurrentTag<A> {
             attrs: mem::replace(&mut self.attrs, Vec::new(alloc)),
             had_duplicate_attributes: self.had_duplicate_attributes,
         }
+    }
+
+    /// Ends the last attribute, where there is one: it is dropped where its name stands in the tag
+    /// already. Answers whether that is so.
+    pub fn end_attribute(&mut self, alloc: A) -> Result<bool, AllocError>
+        ensures repeated { IfOk result (λ repeated. repeated
+            ≡ (has_last (open_tag self.old) && repeats_attribute (open_tag self.old))) }
+        ensures finished { OnOk result (open_tag self.new ≡ with_last_attribute (open_tag self.old)) }
+    {
+        if self.attr_name.is_empty() {
+            return Ok(false);
+        }
+        let name = mem::replace(&mut self.attr_name, String::new(alloc));
+        let value = mem::replace(&mut self.attr_value, String::new(alloc));
+        if has_attribute(&self.attrs, &name) {
+            self.had_duplicate_attributes = true;
+            return Ok(true);
+        }
+        push_attribute(alloc, &mut self.attrs, name, value)?;
+        Ok(false)
     }
 }
 
@@ -70,8 +90,8 @@ pub fn push_value<A: Allocator>(value: &mut String<A>, c: char) -> Result<(), Al
     value.push(shown(c))
 }
 
-/// Whether one of the attributes has the name.
-pub fn has_attribute<A: Allocator>(attrs: &[Attribute<A>], name: &str) -> bool
+// Whether one of the attributes has the name.
+fn has_attribute<A: Allocator>(attrs: &[Attribute<A>], name: &str) -> bool
     ensures { result ≡ has_attribute (map attribute_of attrs.now) name.now }
 {
     for attr in attrs {
@@ -82,8 +102,8 @@ pub fn has_attribute<A: Allocator>(attrs: &[Attribute<A>], name: &str) -> bool
     false
 }
 
-/// Appends an attribute with no prefix, in no namespace.
-pub fn push_attribute<A: Allocator + Copy>(
+// Appends an attribute with no prefix, in no namespace.
+fn push_attribute<A: Allocator + Copy>(
     alloc: A,
     attrs: &mut Vec<Attribute<A>, A>,
     name: String<A>,

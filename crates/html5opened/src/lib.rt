@@ -11,6 +11,8 @@ pub mod declaration;
 pub mod doctype_keyword;
 pub mod doctypes;
 pub mod error;
+pub mod found;
+pub mod keyword;
 pub mod letters;
 pub mod message;
 pub mod opened;

@@ -4,9 +4,9 @@ ghost use Rattle.html5ever_interface.specs.Token.{tag_of};
 ghost use Rattle.html5sinks.specs.Tags.{is_start_of};
 
 use crate::replies::standard_reply;
+use ghost_counts::Count;
 use html5ever_interface::interface::sink::TokenSink;
 use html5ever_interface::interface::token::{SinkFault, Tag, TagKind, Token, TokenSinkResult};
-use ghost_counts::Count;
 use std::alloc::Allocator;
 use std::marker::Model;
 

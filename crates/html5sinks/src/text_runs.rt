@@ -5,9 +5,9 @@ ghost use Rattle.html5sinks.specs.Replies.{standard_reply};
 ghost use Rattle.html5sinks.specs.Runs.{joined_of, joined_step, joined_reply, reply_where_tag};
 
 use crate::replies::standard_reply;
+use ghost_counts::Count;
 use html5ever_interface::interface::sink::{Says, TokenSink};
 use html5ever_interface::interface::token::{SinkFault, Token, TokenSinkResult};
-use ghost_counts::Count;
 use std::alloc::{AllocError, Allocator, Global};
 use std::marker::Model;
 

@@ -4,6 +4,7 @@ use Rattle.std.specs.Prelude.{◌==◌, min, codes, if◌then◌else◌}
 use Rattle.std.specs.List.{slice_range}
 use Rattle.std.proofs.lemmas.Bool.{eqb-true}
 use Rattle.std.proofs.lemmas.List.{length-take-le}
+use Rattle.html5ever_interface.specs.Sink.{Means}
 use Rattle.html5ever_interface.specs.Token.{Told}
 use Rattle.html5ever_interface.specs.Token.Told.{Error}
 use Rattle.html5grammar.specs.Characters.{ampersand, semicolon}
@@ -52,27 +53,12 @@ number-found exact number next found value some cut taken first second =
       more = ap more_of second;
     })
 
+-- the error without exact errors
+pub inexact_number : (is_invalid exact : Bool) (number : ℕ) → is_invalid ≡ true → exact ≡ false → where_true is_invalid (Error (invalid_number exact number)) ≡ Error (codes "Invalid numeric character reference") ∷ []
+unfolding invalid_number
+inexact_number is_invalid exact number invalid inexact = rw (invalid, inexact) refl
+
 -- ---- names
-
-is_ended-push : (front : List ℕ) (c : ℕ) → is_ended (front ++ c ∷ []) ≡ (c == semicolon)
-unfolding is_ended
-is_ended-push [] c = refl
-is_ended-push (x ∷ []) c = refl
-is_ended-push (x ∷ y ∷ front) c = is_ended-push (y ∷ front) c
-
-ended_front : (name : List ℕ) → is_ended name ≡ true → (front : List ℕ) × (name ≡ front ++ semicolon ∷ [])
-unfolding is_ended
-ended_front [] ended = absurd cc
-ended_front (c ∷ []) ended = let same : c ≡ semicolon = eqb-true c semicolon ended in ([], ap (λ d. d ∷ []) same)
-ended_front (c ∷ d ∷ name) ended = let rest = ended_front (d ∷ name) ended in (c ∷ rest.0, ap (λ l. c ∷ l) rest.1)
-
-pub is_ended-from_end : (name front : List ℕ) (ends : Bool) → (ends ≡ true → name ≡ front ++ semicolon ∷ []) × ((front : List ℕ) → name ≡ front ++ semicolon ∷ [] → ends ≡ true) → ends ≡ is_ended name
-is_ended-from_end name front true parts = sym (ap is_ended (parts.0 refl) ∙ is_ended-push front semicolon)
-is_ended-from_end name front false parts =
-    elim (is_ended name) as (λ b. is_ended name ≡ b → false ≡ b) [
-      | true ↦ λ ended. let cut = ended_front name ended in parts.1 cut.0 cut.1
-      | false ↦ λ ended. refl
-    ] refl
 
 second_is : (second : Option ℕ) → more_of second ≡ second_of second
 second_is None = refl
@@ -124,7 +110,7 @@ goes_on-cut in_value goes text rest next inside cut is none =
     rw inside (rw cut at here)
 
 -- a call that told what is due has its own answer
-module _ {Q S Z : Type 0} {state : Q → S} {count : Q → ℕ} {step faulted : S → Told → ℕ → S} where
-  pub emits_ok : {T U : Type 0} {x : U} {y : T} {before after : Teller Q Z} {A all : List Told} → Emits state count step faulted {T = U} (Ok x) before after A → all ≡ A
-      → Emits state count step faulted {T = T} (Ok y) before after all
+module _ {Q S H Z : Type 0} {means : Means Q S H} {count : Q → ℕ} where
+  pub emits_ok : {T U : Type 0} {x : U} {y : T} {before after : Teller Q Z} {A all : List Told} → Emits means count {T = U} (Ok x) before after A → all ≡ A
+      → Emits means count {T = T} (Ok y) before after all
   emits_ok told same = record { tells = rw same told.tells; refusal = tt; faults = told.faults; kept = told.kept }

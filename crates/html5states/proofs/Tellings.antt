@@ -10,7 +10,7 @@ use Rattle.std.proofs.lemmas.Str.{encodes-chars, IsUtf8-string_bytes, IsUtf8-enc
 use Rattle.std.specs.Char.{IsScalar}
 use Rattle.std.specs.Result.{IsErrAnd}
 use Rattle.html5ever_interface.proofs.Steppings.{stepped-append}
-use Rattle.html5ever_interface.specs.Sink.{Message, stepped, on_line}
+use Rattle.html5ever_interface.specs.Sink.{Means, Message, stepped, on_line}
 use Rattle.html5opened.specs.CurrentTag.{last_name_of}
 use Rattle.html5opened.specs.Steps.{Next, tokens_of, behind, Ends}
 use Rattle.html5states.specs.Telling.{IsRefusal, tokens_in, IsToldAs, IsKept, Stops, Tells, Emits, Reads, faults_of}
@@ -265,24 +265,24 @@ kept_then first later = record {
   exact_errors = later.exact_errors ∙ first.exact_errors;
 }
 
-module _ {Q S Z : Type 0} {state : Q → S} {count : Q → ℕ} {step faulted : S → Told → ℕ → S} where
+module _ {Q S H Z : Type 0} {means : Means Q S H} {count : Q → ℕ} where
   pub emits_then : {T U : Type 0} {x : U} {r : Result T TokenizerError} {before middle after : Teller Q Z} {A B all : List Told}
-      → Emits state count step faulted {T = U} (Ok x) before middle A → Emits state count step faulted r middle after B → all ≡ A ++ B
-      → Emits state count step faulted r before after all
+      → Emits means count {T = U} (Ok x) before middle A → Emits means count r middle after B → all ≡ A ++ B
+      → Emits means count r before after all
   emits_then {r = r} {before = before} {A = A} {B = B} first later same = record {
-    tells = rw same (told_then step faulted r _ _ _ before.line A B first.tells (rw first.kept.line at later.tells));
+    tells = rw same (told_then means.step means.faulted r _ _ _ before.line A B first.tells (rw first.kept.line at later.tells));
     refusal = later.refusal;
     faults = later.faults ∙ ap (λ n. n + faults_of r) (first.faults ∙ add-zero _);
     kept = kept_then first.kept later.kept;
   }
 
   pub emits_stop : {T U : Type 0} {e : TokenizerError} {before after : Teller Q Z} {A all : List Told} (r : Result T TokenizerError)
-      → IsErrAnd r (λ x. x ≡ e) → Emits state count step faulted {T = U} (Err e) before after A → (B : List Told) → all ≡ A ++ B
-      → Emits state count step faulted r before after all
+      → IsErrAnd r (λ x. x ≡ e) → Emits means count {T = U} (Err e) before after A → (B : List Told) → all ≡ A ++ B
+      → Emits means count r before after all
   emits_stop {e = e} {before = before} {A = A} r h first B same =
       let p = err_from_is_err_and r h in
       record {
-        tells = rw same (told_stop step faulted r e _ _ before.line A B h first.refusal first.tells);
+        tells = rw same (told_stop means.step means.faulted r e _ _ before.line A B h first.refusal first.tells);
         refusal = rw (p.1, p.2) first.refusal;
         faults = rw (p.1, p.2) first.faults;
         kept = first.kept;
@@ -290,11 +290,11 @@ module _ {Q S Z : Type 0} {state : Q → S} {count : Q → ℕ} {step faulted : 
 
   -- a state that is read behind what is told first
   pub reads_then : {U : Type 0} {x : U} {r : Result Progress TokenizerError} {before middle after : Teller Q Z} {A : List Told} {all later : Here Open} {was then_at at : Opened Z}
-      → Emits state count step faulted {T = U} (Ok x) before middle A → Reads state count step faulted r middle after later then_at at → all ≡ told_first A later
+      → Emits means count {T = U} (Ok x) before middle A → Reads means count r middle after later then_at at → all ≡ told_first A later
       → last_name_of then_at ≡ last_name_of was
-      → Reads state count step faulted r before after all was at
+      → Reads means count r before after all was at
   reads_then {r = r} {before = before} {A = A} {all = all} {later = later} {at = at} first reads same last = record {
-    tells = first_then step faulted r _ _ _ before.line A all later same first.tells (rw first.kept.line at reads.tells);
+    tells = first_then means.step means.faulted r _ _ _ before.line A all later same first.tells (rw first.kept.line at reads.tells);
     leads = leads_first r at A all later same reads.leads;
     last = reads.last ∙ last;
     faults = reads.faults ∙ ap (λ n. n + faults_of r) (first.faults ∙ add-zero _);
@@ -302,12 +302,12 @@ module _ {Q S Z : Type 0} {state : Q → S} {count : Q → ℕ} {step faulted : 
   }
 
   pub reads_stop : {U : Type 0} {e : TokenizerError} {before after : Teller Q Z} {A : List Told} {all : Here Open} {was at : Opened Z} (r : Result Progress TokenizerError)
-      → IsErrAnd r (λ x. x ≡ e) → Emits state count step faulted {T = U} (Err e) before after A → (later : Here Open) → all ≡ told_first A later → last_name_of at ≡ last_name_of was
-      → Reads state count step faulted r before after all was at
+      → IsErrAnd r (λ x. x ≡ e) → Emits means count {T = U} (Err e) before after A → (later : Here Open) → all ≡ told_first A later → last_name_of at ≡ last_name_of was
+      → Reads means count r before after all was at
   reads_stop {e = e} {before = before} {A = A} {all = all} {at = at} r h first later same last =
       let p = err_from_is_err_and r h in
       record {
-        tells = first_stop step faulted r e _ _ before.line A all later same h first.refusal first.tells;
+        tells = first_stop means.step means.faulted r e _ _ before.line A all later same h first.refusal first.tells;
         leads = refused_leads r e at (behind all) h first.refusal;
         last = last;
         faults = rw (p.1, p.2) first.faults;
@@ -316,8 +316,8 @@ module _ {Q S Z : Type 0} {state : Q → S} {count : Q → ℕ} {step faulted : 
 
   -- a state that is read from another that is open
   pub reads_as : {r : Result Progress TokenizerError} {before after : Teller Q Z} {all later : Here Open} {was then_at at : Opened Z}
-      → Reads state count step faulted r before after later then_at at → all ≡ later → last_name_of then_at ≡ last_name_of was
-      → Reads state count step faulted r before after all was at
+      → Reads means count r before after later then_at at → all ≡ later → last_name_of then_at ≡ last_name_of was
+      → Reads means count r before after all was at
   reads_as reads same last = record {
     tells = rw same reads.tells;
     leads = rw same reads.leads;
@@ -327,14 +327,14 @@ module _ {Q S Z : Type 0} {state : Q → S} {count : Q → ℕ} {step faulted : 
   }
 
   -- a token that the sink took, and one at which it faulted
-  pub emits_token : ((s : S) (a b : List ℕ) (line : ℕ) → step (step s (Text a) line) (Text b) line ≡ step s (Text (a ++ b)) line)
-      → ((s : S) (line : ℕ) → step s (Text []) line ≡ s)
+  pub emits_token : ((s : S) (a b : List ℕ) (line : ℕ) → means.step (means.step s (Text a) line) (Text b) line ≡ means.step s (Text (a ++ b)) line)
+      → ((s : S) (line : ℕ) → means.step s (Text []) line ≡ s)
       → {before after : Teller Q Z} (token : Token Z)
-      → state after.sink.now ≡ step (state before.sink.now) (told_by token) before.line
+      → means.state after.sink.now ≡ means.step (means.state before.sink.now) (told_by token) before.line
       → count after.sink.now ≡ count before.sink.now → IsKept before after
-      → Emits state count step faulted {T = Unit {0}} (Ok tt) before after (tokens_in (told_by token))
+      → Emits means count {T = Unit {0}} (Ok tt) before after (tokens_in (told_by token))
   emits_token joins empty token steps count kept = record {
-    tells = token-tells step faulted joins empty _ _ token _ steps;
+    tells = token-tells means.step means.faulted joins empty _ _ token _ steps;
     refusal = tt;
     faults = count ∙ sym (add-zero _);
     kept = kept;
@@ -342,16 +342,16 @@ module _ {Q S Z : Type 0} {state : Q → S} {count : Q → ℕ} {step faulted : 
 
   -- the same, of the token as it is handed on
   pub emits_one : {before after : Teller Q Z} (token : Token Z)
-      → state after.sink.now ≡ step (state before.sink.now) (told_by token) before.line
+      → means.state after.sink.now ≡ means.step (means.state before.sink.now) (told_by token) before.line
       → count after.sink.now ≡ count before.sink.now → IsKept before after
-      → Emits state count step faulted {T = Unit {0}} (Ok tt) before after (told_by token ∷ [])
+      → Emits means count {T = Unit {0}} (Ok tt) before after (told_by token ∷ [])
   unfolding stepped
   emits_one token steps count kept = record { tells = steps; refusal = tt; faults = count ∙ sym (add-zero _); kept = kept }
 
   pub emits_fault-one : {T : Type 0} {before after : Teller Q Z} (token : Token Z)
-      → state after.sink.now ≡ faulted (state before.sink.now) (told_by token) before.line
+      → means.state after.sink.now ≡ means.faulted (means.state before.sink.now) (told_by token) before.line
       → count after.sink.now ≡ count before.sink.now + 1 → IsKept before after
-      → Emits state count step faulted {T = T} (Err Sink) before after (told_by token ∷ [])
+      → Emits means count {T = T} (Err Sink) before after (told_by token ∷ [])
   unfolding stepped
   emits_fault-one {before = before} token fault count kept = record {
     tells = record {
@@ -370,11 +370,11 @@ module _ {Q S Z : Type 0} {state : Q → S} {count : Q → ℕ} {step faulted : 
   }
 
   pub emits_fault : {T : Type 0} {before after : Teller Q Z} (token : Token Z) → tokens_in (told_by token) ≢ []
-      → state after.sink.now ≡ faulted (state before.sink.now) (told_by token) before.line
+      → means.state after.sink.now ≡ means.faulted (means.state before.sink.now) (told_by token) before.line
       → count after.sink.now ≡ count before.sink.now + 1 → IsKept before after
-      → Emits state count step faulted {T = T} (Err Sink) before after (tokens_in (told_by token))
+      → Emits means count {T = T} (Err Sink) before after (tokens_in (told_by token))
   emits_fault token filled fault count kept = record {
-    tells = token-faults step faulted _ _ token _ filled fault;
+    tells = token-faults means.step means.faulted _ _ token _ filled fault;
     refusal = tt;
     faults = count;
     kept = kept;

@@ -2,7 +2,7 @@
 use Rattle.std.specs.Prelude.{◌≡◌, ◌≢◌, ◌⊎◌, ℕ, ◌+◌, List, [], ◌∷◌, ◌++◌, Result, Ok, Err, IfErr, map, encode_utf8}
 use Rattle.std.specs.List.{concat}
 use Rattle.std.specs.Str.{chars}
-use Rattle.html5ever_interface.specs.Sink.{Message, stepped, on_line}
+use Rattle.html5ever_interface.specs.Sink.{Means, Message, stepped, on_line}
 use Rattle.html5ever_interface.specs.Token.{Told}
 use Rattle.html5ever_interface.specs.Token.Told.{Text}
 use Rattle.html5grammar.specs.Reading.{Here}
@@ -75,17 +75,17 @@ pub record IsKept {Q Z : Type 0} (before after : Teller Q Z) : Type 0 where
   pub line : after.line ≡ before.line
   pub exact_errors : after.exact_errors ≡ before.exact_errors
 
-module _ {Q S Z : Type 0} (state : Q → S) (count : Q → ℕ) (step faulted : S → Told → ℕ → S) where
+module _ {Q S H Z : Type 0} (means : Means Q S H) (count : Q → ℕ) where
   -- the tokens were told on the teller's line, or the call stopped within them
   pub record Emits {T : Type 0} (result : Result T TokenizerError) (before after : Teller Q Z) (tokens : List Told) : Type 0 where
-    pub tells : Tells step faulted result (state before.sink.now) (on_line before.line tokens) (state after.sink.now)
+    pub tells : Tells means.step means.faulted result (means.state before.sink.now) (on_line before.line tokens) (means.state after.sink.now)
     pub refusal : IfErr result IsRefusal
     pub faults : count after.sink.now ≡ count before.sink.now + faults_of result
     pub kept : IsKept before after
 
   -- a character told what the machine tells here, and left open what the machine leaves, with the last start tag as it was
   pub record Reads (result : Result Progress TokenizerError) (before after : Teller Q Z) (here : Here Open) (was at : Opened Z) : Type 0 where
-    pub tells : Tells step faulted result (state before.sink.now) (on_line before.line (tokens_of here)) (state after.sink.now)
+    pub tells : Tells means.step means.faulted result (means.state before.sink.now) (on_line before.line (tokens_of here)) (means.state after.sink.now)
     pub leads : Ends result at (behind here)
     pub last : last_name_of at ≡ last_name_of was
     pub faults : count after.sink.now ≡ count before.sink.now + faults_of result

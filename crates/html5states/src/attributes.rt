@@ -1,5 +1,5 @@
 //! The end of an attribute.
-#![tactic(auto, using(crate::proofs::Tellings::tells_from_memory), unfolding(html5grammar::specs::Tag::with_last_attribute, html5grammar::specs::Tag::duplicate_error, html5grammar::specs::Tag::repeats_attribute, html5grammar::specs::Tag::has_attribute, html5ever_interface::specs::Sink::stepped))]
+#![tactic(auto, using(crate::proofs::Tellings::tells_from_memory), unfolding(html5grammar::specs::Tag::duplicate_error))]
 
 ghost use Rattle.std.specs.Prelude.{◌≡◌, OnOk};
 ghost use Rattle.html5grammar.specs.Tag.{with_last_attribute, duplicate_error};
@@ -9,29 +9,19 @@ ghost use Rattle.html5states.specs.Telling.{Emits};
 use crate::teller::Teller;
 use html5ever_interface::interface::sink::TokenSink;
 use html5ever_interface::interface::token::Token;
-use html5opened::current_tag::{CurrentTag, has_attribute, push_attribute};
+use html5opened::current_tag::CurrentTag;
 use html5opened::error::TokenizerError;
 use std::alloc::Allocator;
-use std::mem;
 
 impl<S: TokenSink<Token<A>>, A: Allocator + Copy> Teller<'_, S, A> {
     /// Ends the last attribute, where there is one: it is dropped, with an error, where its name
     /// stands in the tag already.
     pub fn finish_attribute(&mut self, tag: &mut CurrentTag<A>) -> Result<(), TokenizerError>
-        ensures emits { Emits S.means.state S.faults S.means.step S.means.faulted result self.old self.new
+        ensures emits { Emits S.means S.faults result self.old self.new
             (duplicate_error (open_tag tag.old)) }
         ensures finished { OnOk result (open_tag tag.new ≡ with_last_attribute (open_tag tag.old)) }
     {
-        if tag.attr_name.is_empty() {
-            return Ok(());
-        }
-        let name = mem::replace(&mut tag.attr_name, String::new(self.alloc));
-        let value = mem::replace(&mut tag.attr_value, String::new(self.alloc));
-        if has_attribute(&tag.attrs, &name) {
-            tag.had_duplicate_attributes = true;
-            return self.emit_message("Duplicate attribute");
-        }
-        push_attribute(self.alloc, &mut tag.attrs, name, value)?;
-        Ok(())
+        let repeated = tag.end_attribute(self.alloc)?;
+        self.emit_message_where(repeated, "Duplicate attribute")
     }
 }

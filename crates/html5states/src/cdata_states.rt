@@ -26,7 +26,7 @@ impl<S: TokenSink<Token<A>>, A: Allocator + Copy> Teller<'_, S, A> {
     /// Reads a character of a CDATA section.
     pub fn cdata_section_state(&mut self, at: &mut Opened<A>, c: char) -> Step
         requires { at.old.state ≡ State.CdataSection }
-        ensures { Reads S.means.state S.faults S.means.step S.means.faulted result self.old self.new
+        ensures { Reads S.means S.faults result self.old self.new
             (cdata_step (string_bytes at.old.comment) c) at.old at.new }
     {
         if c == '>' && ends_section(&at.comment) {
@@ -42,7 +42,7 @@ impl<S: TokenSink<Token<A>>, A: Allocator + Copy> Teller<'_, S, A> {
     // Tells the text before a NUL, and the NUL.
     fn cut_section(&mut self, at: &mut Opened<A>) -> Step
         requires { at.old.state ≡ State.CdataSection }
-        ensures { Reads S.means.state S.faults S.means.step S.means.faulted result self.old self.new
+        ensures { Reads S.means S.faults result self.old self.new
             (Tells (piece_text (string_bytes at.old.comment) ++ Null ∷ []) (Between Cdata)) at.old at.new }
     {
         let text = mem::replace(&mut at.comment, String::new(self.alloc));
@@ -52,7 +52,7 @@ impl<S: TokenSink<Token<A>>, A: Allocator + Copy> Teller<'_, S, A> {
 
     // Tells a text, where there is one, and NUL.
     fn emit_cdata_null(&mut self, text: String<A>) -> Result<(), TokenizerError>
-        ensures { Emits S.means.state S.faults S.means.step S.means.faulted result self.old self.new
+        ensures { Emits S.means S.faults result self.old self.new
             (piece_text (string_bytes text) ++ Null ∷ []) }
     {
         self.emit_piece(text)?;
@@ -62,7 +62,7 @@ impl<S: TokenSink<Token<A>>, A: Allocator + Copy> Teller<'_, S, A> {
     // Ends a section at its `>`.
     fn end_section(&mut self, at: &mut Opened<A>) -> Step
         requires { ends_cdata (string_bytes at.old.comment) ≡ true }
-        ensures { Reads S.means.state S.faults S.means.step S.means.faulted result self.old self.new
+        ensures { Reads S.means S.faults result self.old self.new
             (Tells (told_at_end_of_cdata (string_bytes at.old.comment)) (Between Data)) at.old at.new }
     {
         at.state = State::Data;
@@ -75,7 +75,7 @@ impl<S: TokenSink<Token<A>>, A: Allocator + Copy> Teller<'_, S, A> {
 
     // Tells a text, where there is one.
     fn emit_piece(&mut self, text: String<A>) -> Result<(), TokenizerError>
-        ensures { Emits S.means.state S.faults S.means.step S.means.faulted result self.old self.new
+        ensures { Emits S.means S.faults result self.old self.new
             (piece_text (string_bytes text)) }
     {
         if text.is_empty() {
@@ -86,7 +86,7 @@ impl<S: TokenSink<Token<A>>, A: Allocator + Copy> Teller<'_, S, A> {
 
     /// Ends in a section, whose text is told as it stands.
     pub fn end_in_cdata(&mut self, text: &str) -> Result<(), TokenizerError>
-        ensures { Emits S.means.state S.faults S.means.step S.means.faulted result self.old self.new
+        ensures { Emits S.means S.faults result self.old self.new
             (piece_text text.now ++ end_error_in self.old.exact_errors State.CdataSection ∷ End ∷ []) }
     {
         self.emit_piece(String::from_str(self.alloc, text)?)?;

@@ -26,7 +26,7 @@ use std::mem;
 impl<S: TokenSink<Token<A>>, A: Allocator + Copy> Teller<'_, S, A> {
     /// The standard's comment states, from its "comment start state" to its "comment end bang state".
     pub fn comment_state(&mut self, at: &mut Opened<A>, c: char) -> Step
-        ensures { Reads S.means.state S.faults S.means.step S.means.faulted result self.old self.new
+        ensures { Reads S.means S.faults result self.old self.new
             (comment_step self.old.exact_errors (string_bytes at.old.comment) c) at.old at.new }
     {
         if c == '>' && ends_comment(&at.comment) {
@@ -40,7 +40,7 @@ impl<S: TokenSink<Token<A>>, A: Allocator + Copy> Teller<'_, S, A> {
 
     // Tells what is wrong with a character of a comment: one behind a mark, and NUL.
     fn emit_comment_errors(&mut self, before: &str, c: char) -> Result<(), TokenizerError>
-        ensures { Emits S.means.state S.faults S.means.step S.means.faulted result self.old self.new
+        ensures { Emits S.means S.faults result self.old self.new
             (comment_errors self.old.exact_errors before.now c) }
     {
         let mark = is_behind_mark(before, c);
@@ -51,7 +51,7 @@ impl<S: TokenSink<Token<A>>, A: Allocator + Copy> Teller<'_, S, A> {
 
     // Ends a comment at its `>`.
     fn end_comment(&mut self, at: &mut Opened<A>) -> Step
-        ensures { Reads S.means.state S.faults S.means.step S.means.faulted result self.old self.new
+        ensures { Reads S.means S.faults result self.old self.new
             (Tells (comment_end_error self.old.exact_errors (string_bytes at.old.comment)
             ++ Comment (comment_content (string_bytes at.old.comment)) ∷ []) (Between Data)) at.old at.new }
     {
@@ -72,7 +72,7 @@ impl<S: TokenSink<Token<A>>, A: Allocator + Copy> Teller<'_, S, A> {
         state: State,
         text: String<A>,
     ) -> Result<(), TokenizerError>
-        ensures { Emits S.means.state S.faults S.means.step S.means.faulted result self.old self.new
+        ensures { Emits S.means S.faults result self.old self.new
             (where_true wrong (error_in self.old.exact_errors state greater_than) ++ Comment (string_bytes text) ∷ []) }
     {
         self.emit_unexpected_where(wrong, '>', state)?;
@@ -81,7 +81,7 @@ impl<S: TokenSink<Token<A>>, A: Allocator + Copy> Teller<'_, S, A> {
 
     /// Tells a comment.
     pub fn emit_comment(&mut self, text: String<A>) -> Result<(), TokenizerError>
-        ensures { Emits S.means.state S.faults S.means.step S.means.faulted result self.old self.new
+        ensures { Emits S.means S.faults result self.old self.new
             (Comment (string_bytes text) ∷ []) }
     {
         self.tell(Token::CommentToken(text))
@@ -90,7 +90,7 @@ impl<S: TokenSink<Token<A>>, A: Allocator + Copy> Teller<'_, S, A> {
     /// The standard's "bogus comment state".
     pub fn bogus_comment_state(&mut self, at: &mut Opened<A>, c: char) -> Step
         requires { at.old.state ≡ State.BogusComment }
-        ensures { Reads S.means.state S.faults S.means.step S.means.faulted result self.old self.new
+        ensures { Reads S.means S.faults result self.old self.new
             (bogus_comment_step self.old.exact_errors (string_bytes at.old.comment) [] c) at.old at.new }
     {
         if c == '>' {
@@ -106,7 +106,7 @@ impl<S: TokenSink<Token<A>>, A: Allocator + Copy> Teller<'_, S, A> {
 
     /// Begins a bogus comment at a character that is not what was expected.
     pub fn create_bogus_comment(&mut self, at: &mut Opened<A>, c: char, expected: State) -> Step
-        ensures { Reads S.means.state S.faults S.means.step S.means.faulted result self.old self.new
+        ensures { Reads S.means S.faults result self.old self.new
             (bogus_comment_step self.old.exact_errors [] (error_in self.old.exact_errors expected c ∷ []) c) at.old at.new }
     {
         self.emit_unexpected(c, expected)?;

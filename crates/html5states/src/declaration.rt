@@ -21,7 +21,7 @@ use std::alloc::Allocator;
 impl<S: TokenSink<Token<A>>, A: Allocator + Copy> Teller<'_, S, A> {
     /// Tells that no keyword stands behind `<!`, and begins a bogus comment with what is held there.
     pub fn finish_declaration(&mut self, at: &mut Opened<A>) -> Result<(), TokenizerError>
-        ensures emits { Emits S.means.state S.faults S.means.step S.means.faulted result self.old self.new
+        ensures emits { Emits S.means S.faults result self.old self.new
             (tokens_of_late (declaration_error self.old.exact_errors (string_bytes at.old.comment))) }
         ensures opened { opened_of at.new ≡ InBogusComment (string_bytes at.old.comment) }
         ensures last { last_name_of at.new ≡ last_name_of at.old }

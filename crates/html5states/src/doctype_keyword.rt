@@ -24,7 +24,7 @@ impl<S: TokenSink<Token<A>>, A: Allocator + Copy> Teller<'_, S, A> {
     /// Tells that no keyword stands behind the name, with the first character that is held, and
     /// skips the rest.
     pub fn finish_doctype_keyword(&mut self, at: &mut Opened<A>) -> Result<(), TokenizerError>
-        ensures emits { Emits S.means.state S.faults S.means.step S.means.faulted result self.old self.new
+        ensures emits { Emits S.means S.faults result self.old self.new
             (tokens_of_late (keyword_error self.old.exact_errors (string_bytes at.old.comment))) }
         ensures opened { opened_of at.new ≡ InDoctype Skipped (with_quirks (doctype_of at.old.doctype)) }
         ensures last { last_name_of at.new ≡ last_name_of at.old }

@@ -27,7 +27,7 @@ use std::mem;
 impl<S: TokenSink<Token<A>>, A: Allocator + Copy> Teller<'_, S, A> {
     /// Tells the DOCTYPE that was begun.
     pub fn emit_doctype(&mut self, at: &mut Opened<A>) -> Step
-        ensures { Reads S.means.state S.faults S.means.step S.means.faulted result self.old self.new
+        ensures { Reads S.means S.faults result self.old self.new
             (Tells (Told.Doctype (doctype_of at.old.doctype) ∷ []) (Between Data)) at.old at.new }
     {
         at.state = State::Data;
@@ -39,7 +39,7 @@ impl<S: TokenSink<Token<A>>, A: Allocator + Copy> Teller<'_, S, A> {
     /// The standard's "bogus DOCTYPE state".
     pub fn bogus_doctype_state(&mut self, at: &mut Opened<A>, c: char) -> Step
         requires { at.old.state ≡ State.BogusDoctype }
-        ensures { Reads S.means.state S.faults S.means.step S.means.faulted result self.old self.new
+        ensures { Reads S.means S.faults result self.old self.new
             (skipped_step self.old.exact_errors [] (doctype_of at.old.doctype) c) at.old at.new }
     {
         if c == '>' {
@@ -51,7 +51,7 @@ impl<S: TokenSink<Token<A>>, A: Allocator + Copy> Teller<'_, S, A> {
 
     /// Tells an error that names the state, and skips the rest from the character on.
     pub fn skip_doctype(&mut self, at: &mut Opened<A>, c: char, expected: State) -> Step
-        ensures { Reads S.means.state S.faults S.means.step S.means.faulted result self.old self.new
+        ensures { Reads S.means S.faults result self.old self.new
             (skipped_step self.old.exact_errors (error_in self.old.exact_errors expected c ∷ []) (doctype_of at.old.doctype) c) at.old at.new }
     {
         self.emit_unexpected(c, expected)?;
@@ -61,7 +61,7 @@ impl<S: TokenSink<Token<A>>, A: Allocator + Copy> Teller<'_, S, A> {
 
     /// The same, with quirks.
     pub fn skip_with_quirks(&mut self, at: &mut Opened<A>, c: char, expected: State) -> Step
-        ensures { Reads S.means.state S.faults S.means.step S.means.faulted result self.old self.new
+        ensures { Reads S.means S.faults result self.old self.new
             (skipped_step self.old.exact_errors (error_in self.old.exact_errors expected c ∷ []) (with_quirks (doctype_of at.old.doctype)) c) at.old at.new }
     {
         at.doctype.force_quirks = true;
@@ -70,7 +70,7 @@ impl<S: TokenSink<Token<A>>, A: Allocator + Copy> Teller<'_, S, A> {
 
     // Begins the name, or tells a DOCTYPE without one.
     fn begin_doctype_name(&mut self, at: &mut Opened<A>, c: char) -> Step
-        ensures { Reads S.means.state S.faults S.means.step S.means.faulted result self.old self.new
+        ensures { Reads S.means S.faults result self.old self.new
             (wanted_name_step self.old.exact_errors [] (doctype_of at.old.doctype) c) at.old at.new }
     {
         if c == '>' {
@@ -85,7 +85,7 @@ impl<S: TokenSink<Token<A>>, A: Allocator + Copy> Teller<'_, S, A> {
     /// The standard's "DOCTYPE state".
     pub fn doctype_state(&mut self, at: &mut Opened<A>, c: char) -> Step
         requires { at.old.state ≡ State.Doctype }
-        ensures { Reads S.means.state S.faults S.means.step S.means.faulted result self.old self.new
+        ensures { Reads S.means S.faults result self.old self.new
             (doctype_step self.old.exact_errors AfterWord (doctype_of at.old.doctype) c) at.old at.new }
     {
         if is_white_space(c) {
@@ -99,7 +99,7 @@ impl<S: TokenSink<Token<A>>, A: Allocator + Copy> Teller<'_, S, A> {
     /// The standard's "before DOCTYPE name state".
     pub fn before_doctype_name_state(&mut self, at: &mut Opened<A>, c: char) -> Step
         requires { at.old.state ≡ State.BeforeDoctypeName }
-        ensures { Reads S.means.state S.faults S.means.step S.means.faulted result self.old self.new
+        ensures { Reads S.means S.faults result self.old self.new
             (doctype_step self.old.exact_errors BeforeName (doctype_of at.old.doctype) c) at.old at.new }
     {
         if is_white_space(c) {
@@ -111,7 +111,7 @@ impl<S: TokenSink<Token<A>>, A: Allocator + Copy> Teller<'_, S, A> {
     /// The standard's "DOCTYPE name state".
     pub fn doctype_name_state(&mut self, at: &mut Opened<A>, c: char) -> Step
         requires { at.old.state ≡ State.DoctypeName }
-        ensures { Reads S.means.state S.faults S.means.step S.means.faulted result self.old self.new
+        ensures { Reads S.means S.faults result self.old self.new
             (doctype_step self.old.exact_errors InDoctypeName (doctype_of at.old.doctype) c) at.old at.new }
     {
         if c == '>' {
@@ -131,7 +131,7 @@ impl<S: TokenSink<Token<A>>, A: Allocator + Copy> Teller<'_, S, A> {
     pub fn after_doctype_name_state(&mut self, at: &mut Opened<A>, c: char) -> Step
         requires state { at.old.state ≡ State.AfterDoctypeName }
         requires nothing_held { string_bytes at.old.comment ≡ [] }
-        ensures { Reads S.means.state S.faults S.means.step S.means.faulted result self.old self.new
+        ensures { Reads S.means S.faults result self.old self.new
             (doctype_step self.old.exact_errors AfterName (doctype_of at.old.doctype) c) at.old at.new }
     {
         if is_white_space(c) {

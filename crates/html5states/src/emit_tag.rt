@@ -45,7 +45,7 @@ impl<S: TokenSink<Token<A>>, A: Allocator + Copy> Teller<'_, S, A> {
         tag: &CurrentTag<A>,
         self_closing: bool,
     ) -> Result<(), TokenizerError>
-        ensures { Emits S.means.state S.faults S.means.step S.means.faulted result self.old self.new
+        ensures { Emits S.means S.faults result self.old self.new
             (end_tag_errors (open_tag tag.now) self_closing) }
     {
         let attributes = has_wrong_attributes(tag);
@@ -60,7 +60,7 @@ impl<S: TokenSink<Token<A>>, A: Allocator + Copy> Teller<'_, S, A> {
         tag: &mut CurrentTag<A>,
         self_closing: bool,
     ) -> Result<(), TokenizerError>
-        ensures emits { Emits S.means.state S.faults S.means.step S.means.faulted result self.old self.new
+        ensures emits { Emits S.means S.faults result self.old self.new
             (duplicate_error (open_tag tag.old) ++ end_tag_errors (with_last_attribute (open_tag tag.old)) self_closing) }
         ensures finished { OnOk result (open_tag tag.new ≡ with_last_attribute (open_tag tag.old)) }
     {
@@ -71,7 +71,7 @@ impl<S: TokenSink<Token<A>>, A: Allocator + Copy> Teller<'_, S, A> {
     /// Ends the open tag at its `>`. It is told behind this, and the sink's reply to it may choose
     /// another state than Data.
     pub fn emit_tag(&mut self, at: &mut Opened<A>, self_closing: bool) -> Step
-        ensures { Reads S.means.state S.faults S.means.step S.means.faulted result self.old self.new
+        ensures { Reads S.means S.faults result self.old self.new
             (closing_step [] (open_tag at.old.tag) self_closing) at.old at.new }
     {
         at.state = State::Data;

@@ -35,7 +35,7 @@ const DOUBLE_ESCAPED: State = State::RawData(RawKind::ScriptDataEscaped(
 impl<S: TokenSink<Token<A>>, A: Allocator + Copy> Teller<'_, S, A> {
     /// Ends in a state that doesn't expect it.
     pub fn end_unexpected(&mut self, state: State) -> Result<(), TokenizerError>
-        ensures { Emits S.means.state S.faults S.means.step S.means.faulted result self.old self.new
+        ensures { Emits S.means S.faults result self.old self.new
             (end_error_in self.old.exact_errors state ∷ End ∷ []) }
     {
         self.emit_end_error(state)?;
@@ -44,7 +44,7 @@ impl<S: TokenSink<Token<A>>, A: Allocator + Copy> Teller<'_, S, A> {
 
     // Ends behind a text of one character.
     fn end_behind(&mut self, c: char) -> Result<(), TokenizerError>
-        ensures { Emits S.means.state S.faults S.means.step S.means.faulted result self.old self.new
+        ensures { Emits S.means S.faults result self.old self.new
             (Text (encode_utf8 c) ∷ End ∷ []) }
     {
         self.emit_char(c)?;
@@ -53,7 +53,7 @@ impl<S: TokenSink<Token<A>>, A: Allocator + Copy> Teller<'_, S, A> {
 
     // Ends behind `</`, which is text.
     fn end_behind_solidus(&mut self) -> Result<(), TokenizerError>
-        ensures { Emits S.means.state S.faults S.means.step S.means.faulted result self.old self.new
+        ensures { Emits S.means S.faults result self.old self.new
             (Text (codes "<") ∷ Text (codes "/") ∷ End ∷ []) }
     {
         self.emit_char('<')?;
@@ -62,7 +62,7 @@ impl<S: TokenSink<Token<A>>, A: Allocator + Copy> Teller<'_, S, A> {
 
     // Ends in the standard's "tag open state".
     fn end_in_tag_open(&mut self) -> Result<(), TokenizerError>
-        ensures { Emits S.means.state S.faults S.means.step S.means.faulted result self.old self.new
+        ensures { Emits S.means S.faults result self.old self.new
             (end_error_in self.old.exact_errors State.TagOpen ∷ Text (codes "<") ∷ End ∷ []) }
     {
         self.emit_end_error(State::TagOpen)?;
@@ -71,7 +71,7 @@ impl<S: TokenSink<Token<A>>, A: Allocator + Copy> Teller<'_, S, A> {
 
     // Ends in the standard's "end tag open state".
     fn end_in_end_tag_open(&mut self) -> Result<(), TokenizerError>
-        ensures { Emits S.means.state S.faults S.means.step S.means.faulted result self.old self.new
+        ensures { Emits S.means S.faults result self.old self.new
             (end_error_in self.old.exact_errors State.EndTagOpen
             ∷ Text (codes "<") ∷ Text (codes "/") ∷ End ∷ []) }
     {
@@ -81,7 +81,7 @@ impl<S: TokenSink<Token<A>>, A: Allocator + Copy> Teller<'_, S, A> {
 
     // Ends in raw text: in escaped script data that is an error.
     fn end_raw_text(&mut self, kind: RawKind) -> Result<(), TokenizerError>
-        ensures { Emits S.means.state S.faults S.means.step S.means.faulted result self.old self.new
+        ensures { Emits S.means S.faults result self.old self.new
             (raw_end_error self.old.exact_errors (raw_of kind) ++ End ∷ []) }
     {
         match kind {
@@ -92,7 +92,7 @@ impl<S: TokenSink<Token<A>>, A: Allocator + Copy> Teller<'_, S, A> {
 
     // Ends behind a `<` of raw text.
     fn end_behind_less_than(&mut self, kind: RawKind) -> Result<(), TokenizerError>
-        ensures { Emits S.means.state S.faults S.means.step S.means.faulted result self.old self.new
+        ensures { Emits S.means S.faults result self.old self.new
             (told_behind_less_than kind ++ (raw_end_error self.old.exact_errors (raw_of kind) ++ End ∷ [])) }
     {
         self.emit_behind_less_than(kind)?;
@@ -101,7 +101,7 @@ impl<S: TokenSink<Token<A>>, A: Allocator + Copy> Teller<'_, S, A> {
 
     // Ends behind `</` and letters of raw text, which are text.
     fn end_behind_end_name(&mut self, kind: RawKind, letters: &str) -> Result<(), TokenizerError>
-        ensures { Emits S.means.state S.faults S.means.step S.means.faulted result self.old self.new
+        ensures { Emits S.means S.faults result self.old self.new
             (texts (less_than ∷ solidus ∷ chars letters.now) ++ (raw_end_error self.old.exact_errors (raw_of kind) ++ End ∷ [])) }
     {
         self.emit_end_name(letters)?;
@@ -110,7 +110,7 @@ impl<S: TokenSink<Token<A>>, A: Allocator + Copy> Teller<'_, S, A> {
 
     // Ends behind a comment with that text.
     fn end_behind_comment(&mut self, text: &str) -> Result<(), TokenizerError>
-        ensures { Emits S.means.state S.faults S.means.step S.means.faulted result self.old self.new
+        ensures { Emits S.means S.faults result self.old self.new
             (Comment text.now ∷ End ∷ []) }
     {
         self.emit_comment_text(text)?;
@@ -119,7 +119,7 @@ impl<S: TokenSink<Token<A>>, A: Allocator + Copy> Teller<'_, S, A> {
 
     // Tells a comment with that text.
     fn emit_comment_text(&mut self, text: &str) -> Result<(), TokenizerError>
-        ensures { Emits S.means.state S.faults S.means.step S.means.faulted result self.old self.new
+        ensures { Emits S.means S.faults result self.old self.new
             (Comment text.now ∷ []) }
     {
         self.emit_comment(String::from_str(self.alloc, text)?)
@@ -127,7 +127,7 @@ impl<S: TokenSink<Token<A>>, A: Allocator + Copy> Teller<'_, S, A> {
 
     // Ends in a comment, which is told without the dashes at its end.
     fn end_comment_text(&mut self, text: &str) -> Result<(), TokenizerError>
-        ensures { Emits S.means.state S.faults S.means.step S.means.faulted result self.old self.new
+        ensures { Emits S.means S.faults result self.old self.new
             (end_error_in self.old.exact_errors (comment_state State.CommentEnd text.now)
             ∷ Comment (comment_content text.now) ∷ End ∷ []) }
     {
@@ -141,7 +141,7 @@ impl<S: TokenSink<Token<A>>, A: Allocator + Copy> Teller<'_, S, A> {
         doctype: &Doctype<A>,
         force_quirks: bool,
     ) -> Result<(), TokenizerError>
-        ensures { Emits S.means.state S.faults S.means.step S.means.faulted result self.old self.new
+        ensures { Emits S.means S.faults result self.old self.new
             (Told.Doctype (record (doctype_of doctype.now) { force_quirks = force_quirks }) ∷ End ∷ []) }
     {
         let mut doctype = doctype.try_clone()?;
@@ -152,7 +152,7 @@ impl<S: TokenSink<Token<A>>, A: Allocator + Copy> Teller<'_, S, A> {
 
     // Ends in a state of DOCTYPEs that doesn't expect it.
     fn end_in_doctype(&mut self, state: State, doctype: &Doctype<A>) -> Result<(), TokenizerError>
-        ensures { Emits S.means.state S.faults S.means.step S.means.faulted result self.old self.new
+        ensures { Emits S.means S.faults result self.old self.new
             (end_error_in self.old.exact_errors state ∷ Told.Doctype (with_quirks (doctype_of doctype.now)) ∷ End ∷ []) }
     {
         self.emit_end_error(state)?;
@@ -162,7 +162,7 @@ impl<S: TokenSink<Token<A>>, A: Allocator + Copy> Teller<'_, S, A> {
     /// Tells what the end of input tells in the state. A tag without its end is not told.
     pub fn tell_end_of_input(&mut self, at: &Opened<A>) -> Result<(), TokenizerError>
         requires decided { is_undecided_open (opened_of at.now) ≡ false }
-        ensures { Emits S.means.state S.faults S.means.step S.means.faulted result self.old self.new
+        ensures { Emits S.means S.faults result self.old self.new
             (told_at_end_of self.old.exact_errors (opened_of at.now)) }
     {
         match at.state {

@@ -28,7 +28,7 @@ impl<S: TokenSink<Token<A>>, A: Allocator + Copy> Teller<'_, S, A> {
         c: char,
         expected: State,
     ) -> Step
-        ensures { Reads S.means.state S.faults S.means.step S.means.faulted result self.old self.new
+        ensures { Reads S.means S.faults result self.old self.new
             (wanted_identifier_step self.old.exact_errors false expected kind (doctype_of at.old.doctype) c) at.old at.new }
     {
         let quotes = match c {
@@ -49,7 +49,7 @@ impl<S: TokenSink<Token<A>>, A: Allocator + Copy> Teller<'_, S, A> {
         c: char,
         expected: State,
     ) -> Step
-        ensures { Reads S.means.state S.faults S.means.step S.means.faulted result self.old self.new
+        ensures { Reads S.means S.faults result self.old self.new
             (wanted_identifier_step self.old.exact_errors true expected kind (doctype_of at.old.doctype) c) at.old at.new }
     {
         self.emit_unexpected_where(is_quote(c), c, expected)?;
@@ -64,7 +64,7 @@ impl<S: TokenSink<Token<A>>, A: Allocator + Copy> Teller<'_, S, A> {
         c: char,
     ) -> Step
         requires { at.old.state ≡ State.AfterDoctypeKeyword kind }
-        ensures { Reads S.means.state S.faults S.means.step S.means.faulted result self.old self.new
+        ensures { Reads S.means S.faults result self.old self.new
             (doctype_step self.old.exact_errors (AfterKeyword kind) (doctype_of at.old.doctype) c) at.old at.new }
     {
         if is_white_space(c) {
@@ -82,7 +82,7 @@ impl<S: TokenSink<Token<A>>, A: Allocator + Copy> Teller<'_, S, A> {
         c: char,
     ) -> Step
         requires { at.old.state ≡ State.BeforeDoctypeIdentifier kind }
-        ensures { Reads S.means.state S.faults S.means.step S.means.faulted result self.old self.new
+        ensures { Reads S.means S.faults result self.old self.new
             (doctype_step self.old.exact_errors (BeforeIdentifier kind) (doctype_of at.old.doctype) c) at.old at.new }
     {
         if is_white_space(c) {
@@ -101,7 +101,7 @@ impl<S: TokenSink<Token<A>>, A: Allocator + Copy> Teller<'_, S, A> {
         c: char,
     ) -> Step
         requires { at.old.state ≡ identifier_state (quotes_of quotes) kind }
-        ensures { Reads S.means.state S.faults S.means.step S.means.faulted result self.old self.new
+        ensures { Reads S.means S.faults result self.old self.new
             (doctype_step self.old.exact_errors (InIdentifier (quotes_of quotes) kind) (doctype_of at.old.doctype) c) at.old at.new }
     {
         if c == quotes.mark() {
@@ -119,7 +119,7 @@ impl<S: TokenSink<Token<A>>, A: Allocator + Copy> Teller<'_, S, A> {
     /// The standard's "after DOCTYPE public identifier state".
     pub fn after_public_identifier_state(&mut self, at: &mut Opened<A>, c: char) -> Step
         requires { at.old.state ≡ State.AfterDoctypeIdentifier DoctypeIdKind.Public }
-        ensures { Reads S.means.state S.faults S.means.step S.means.faulted result self.old self.new
+        ensures { Reads S.means S.faults result self.old self.new
             (doctype_step self.old.exact_errors (AfterIdentifier DoctypeIdKind.Public) (doctype_of at.old.doctype) c) at.old at.new }
     {
         if is_white_space(c) {
@@ -135,7 +135,7 @@ impl<S: TokenSink<Token<A>>, A: Allocator + Copy> Teller<'_, S, A> {
     /// The standard's "between DOCTYPE public and system identifiers state".
     pub fn between_identifiers_state(&mut self, at: &mut Opened<A>, c: char) -> Step
         requires { at.old.state ≡ State.BetweenDoctypePublicAndSystemIdentifiers }
-        ensures { Reads S.means.state S.faults S.means.step S.means.faulted result self.old self.new
+        ensures { Reads S.means S.faults result self.old self.new
             (doctype_step self.old.exact_errors BetweenIdentifiers (doctype_of at.old.doctype) c) at.old at.new }
     {
         if is_white_space(c) {
@@ -155,7 +155,7 @@ impl<S: TokenSink<Token<A>>, A: Allocator + Copy> Teller<'_, S, A> {
     /// The standard's "after DOCTYPE system identifier state".
     pub fn after_system_identifier_state(&mut self, at: &mut Opened<A>, c: char) -> Step
         requires { at.old.state ≡ State.AfterDoctypeIdentifier DoctypeIdKind.System }
-        ensures { Reads S.means.state S.faults S.means.step S.means.faulted result self.old self.new
+        ensures { Reads S.means S.faults result self.old self.new
             (doctype_step self.old.exact_errors (AfterIdentifier DoctypeIdKind.System) (doctype_of at.old.doctype) c) at.old at.new }
     {
         if is_white_space(c) {

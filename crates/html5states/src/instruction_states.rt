@@ -21,7 +21,7 @@ impl<S: TokenSink<Token<A>>, A: Allocator + Copy> Teller<'_, S, A> {
     /// Reads a character of a processing instruction. Its `>` ends it; a `?` before that belongs to it.
     pub fn processing_instruction_state(&mut self, at: &mut Opened<A>, c: char) -> Step
         requires { at.old.state ≡ State.ProcessingInstruction }
-        ensures { Reads S.means.state S.faults S.means.step S.means.faulted result self.old self.new
+        ensures { Reads S.means S.faults result self.old self.new
             (instruction_step self.old.exact_errors (string_bytes at.old.comment) c) at.old at.new }
     {
         if c == '>' {
@@ -37,7 +37,7 @@ impl<S: TokenSink<Token<A>>, A: Allocator + Copy> Teller<'_, S, A> {
 
     // Tells a processing instruction.
     fn emit_instruction(&mut self, content: String<A>) -> Result<(), TokenizerError>
-        ensures { Emits S.means.state S.faults S.means.step S.means.faulted result self.old self.new
+        ensures { Emits S.means S.faults result self.old self.new
             (Instruction (string_bytes content) ∷ []) }
     {
         self.tell(Token::ProcessingInstructionToken(content))
@@ -45,7 +45,7 @@ impl<S: TokenSink<Token<A>>, A: Allocator + Copy> Teller<'_, S, A> {
 
     // Tells a processing instruction with that content.
     fn emit_instruction_text(&mut self, content: &str) -> Result<(), TokenizerError>
-        ensures { Emits S.means.state S.faults S.means.step S.means.faulted result self.old self.new
+        ensures { Emits S.means S.faults result self.old self.new
             (Instruction content.now ∷ []) }
     {
         self.emit_instruction(String::from_str(self.alloc, content)?)
@@ -53,7 +53,7 @@ impl<S: TokenSink<Token<A>>, A: Allocator + Copy> Teller<'_, S, A> {
 
     // Ends behind a processing instruction with that content.
     fn end_behind_instruction(&mut self, content: &str) -> Result<(), TokenizerError>
-        ensures { Emits S.means.state S.faults S.means.step S.means.faulted result self.old self.new
+        ensures { Emits S.means S.faults result self.old self.new
             (Instruction content.now ∷ End ∷ []) }
     {
         self.emit_instruction_text(content)?;
@@ -62,7 +62,7 @@ impl<S: TokenSink<Token<A>>, A: Allocator + Copy> Teller<'_, S, A> {
 
     /// Ends in a processing instruction, which is told as far as it goes.
     pub fn end_in_instruction(&mut self, content: &str) -> Result<(), TokenizerError>
-        ensures { Emits S.means.state S.faults S.means.step S.means.faulted result self.old self.new
+        ensures { Emits S.means S.faults result self.old self.new
             (end_error_in self.old.exact_errors State.ProcessingInstruction
             ∷ Instruction content.now ∷ End ∷ []) }
     {

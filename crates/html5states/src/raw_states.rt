@@ -32,7 +32,7 @@ impl<S: TokenSink<Token<A>>, A: Allocator + Copy> Teller<'_, S, A> {
     #[inline(always)]
     pub fn raw_data_state(&mut self, at: &mut Opened<A>, kind: RawKind, c: char) -> Step
         requires { at.old.state ≡ State.RawData kind }
-        ensures { Reads S.means.state S.faults S.means.step S.means.faulted result self.old self.new
+        ensures { Reads S.means S.faults result self.old self.new
             (raw_step self.old.exact_errors (raw_of kind) (last_name_of at.old) [] c) at.old at.new }
     {
         if let RawKind::ScriptDataEscaped(escape) = kind {
@@ -54,7 +54,7 @@ impl<S: TokenSink<Token<A>>, A: Allocator + Copy> Teller<'_, S, A> {
         c: char,
     ) -> Step
         requires { at.old.state ≡ State.RawData (RawKind.ScriptDataEscaped kind) }
-        ensures { Reads S.means.state S.faults S.means.step S.means.faulted result self.old self.new
+        ensures { Reads S.means S.faults result self.old self.new
             (raw_step self.old.exact_errors (escaped kind NoDash) (last_name_of at.old) [] c) at.old at.new }
     {
         match c {
@@ -74,7 +74,7 @@ impl<S: TokenSink<Token<A>>, A: Allocator + Copy> Teller<'_, S, A> {
         at: &mut Opened<A>,
         kind: ScriptEscapeKind,
     ) -> Result<(), TokenizerError>
-        ensures emits { Emits S.means.state S.faults S.means.step S.means.faulted result self.old self.new
+        ensures emits { Emits S.means S.faults result self.old self.new
             (told_at_less_than (RawKind.ScriptDataEscaped kind)) }
         ensures state { at.new.state ≡ State.RawLessThanSign (RawKind.ScriptDataEscaped kind) }
         ensures last { last_name_of at.new ≡ last_name_of at.old }
@@ -94,7 +94,7 @@ impl<S: TokenSink<Token<A>>, A: Allocator + Copy> Teller<'_, S, A> {
         c: char,
     ) -> Step
         requires { at.old.state ≡ State.ScriptDataEscapedDash kind }
-        ensures { Reads S.means.state S.faults S.means.step S.means.faulted result self.old self.new
+        ensures { Reads S.means S.faults result self.old self.new
             (raw_step self.old.exact_errors (escaped kind OneDash) (last_name_of at.old) [] c) at.old at.new }
     {
         match c {
@@ -120,7 +120,7 @@ impl<S: TokenSink<Token<A>>, A: Allocator + Copy> Teller<'_, S, A> {
         c: char,
     ) -> Step
         requires { at.old.state ≡ State.ScriptDataEscapedDashDash kind }
-        ensures { Reads S.means.state S.faults S.means.step S.means.faulted result self.old self.new
+        ensures { Reads S.means S.faults result self.old self.new
             (raw_step self.old.exact_errors (escaped kind TwoDashes) (last_name_of at.old) [] c) at.old at.new }
     {
         match c {
@@ -142,7 +142,7 @@ impl<S: TokenSink<Token<A>>, A: Allocator + Copy> Teller<'_, S, A> {
     /// and double-escaped script data.
     pub fn raw_less_than_sign_state(&mut self, at: &mut Opened<A>, kind: RawKind, c: char) -> Step
         requires { at.old.state ≡ State.RawLessThanSign kind }
-        ensures { Reads S.means.state S.faults S.means.step S.means.faulted result self.old self.new
+        ensures { Reads S.means S.faults result self.old self.new
             (raw_less_than_step self.old.exact_errors kind (last_name_of at.old) c) at.old at.new }
     {
         if c == '/' {
@@ -158,7 +158,7 @@ impl<S: TokenSink<Token<A>>, A: Allocator + Copy> Teller<'_, S, A> {
 
     // Reads the `/` behind `<`, which is told at once in double-escaped script data.
     fn open_end_tag(&mut self, at: &mut Opened<A>, kind: RawKind) -> Step
-        ensures { Reads S.means.state S.faults S.means.step S.means.faulted result self.old self.new
+        ensures { Reads S.means S.faults result self.old self.new
             (raw_solidus_step kind (last_name_of at.old)) at.old at.new }
     {
         match kind {
@@ -174,7 +174,7 @@ impl<S: TokenSink<Token<A>>, A: Allocator + Copy> Teller<'_, S, A> {
 
     // Tells a `<` with the character behind it.
     fn emit_less_than_and(&mut self, c: char) -> Result<(), TokenizerError>
-        ensures { Emits S.means.state S.faults S.means.step S.means.faulted result self.old self.new (texts (less_than ∷ c ∷ [])) }
+        ensures { Emits S.means S.faults result self.old self.new (texts (less_than ∷ c ∷ [])) }
     {
         self.emit_char('<')?;
         self.emit_char(c)
@@ -182,7 +182,7 @@ impl<S: TokenSink<Token<A>>, A: Allocator + Copy> Teller<'_, S, A> {
 
     // Reads the `!` behind the `<` of script data.
     fn open_mark(&mut self, at: &mut Opened<A>) -> Step
-        ensures { Reads S.means.state S.faults S.means.step S.means.faulted result self.old self.new
+        ensures { Reads S.means S.faults result self.old self.new
             (Tells (texts (less_than ∷ exclamation_mark ∷ [])) (InRaw AfterMark (last_name_of at.old))) at.old at.new }
     {
         at.state = State::ScriptDataEscapeStart(ScriptEscapeKind::Escaped);
@@ -192,7 +192,7 @@ impl<S: TokenSink<Token<A>>, A: Allocator + Copy> Teller<'_, S, A> {
 
     // Reads the first letter behind the `<` of escaped script data.
     fn open_switch(&mut self, at: &mut Opened<A>, c: char) -> Step
-        ensures { Reads S.means.state S.faults S.means.step S.means.faulted result self.old self.new
+        ensures { Reads S.means S.faults result self.old self.new
             (Tells (texts (less_than ∷ c ∷ [])) (InRaw (InSwitch ScriptEscapeKind.Escaped (c ∷ [])) (last_name_of at.old))) at.old at.new }
     {
         at.state = State::ScriptDataEscapeStart(ScriptEscapeKind::DoubleEscaped);
@@ -204,7 +204,7 @@ impl<S: TokenSink<Token<A>>, A: Allocator + Copy> Teller<'_, S, A> {
 
     // Tells the `<` that began nothing where it wasn't told, and reads the character as it stands in raw text.
     fn read_behind_less_than(&mut self, at: &mut Opened<A>, kind: RawKind, c: char) -> Step
-        ensures { Reads S.means.state S.faults S.means.step S.means.faulted result self.old self.new
+        ensures { Reads S.means S.faults result self.old self.new
             (raw_step self.old.exact_errors (raw_of kind) (last_name_of at.old) (told_behind_less_than kind) c) at.old at.new }
     {
         self.emit_behind_less_than(kind)?;
@@ -213,7 +213,7 @@ impl<S: TokenSink<Token<A>>, A: Allocator + Copy> Teller<'_, S, A> {
 
     /// Tells a `<` of raw text that wasn't told yet.
     pub fn emit_behind_less_than(&mut self, kind: RawKind) -> Result<(), TokenizerError>
-        ensures { Emits S.means.state S.faults S.means.step S.means.faulted result self.old self.new (told_behind_less_than kind) }
+        ensures { Emits S.means S.faults result self.old self.new (told_behind_less_than kind) }
     {
         match kind {
             RawKind::ScriptDataEscaped(ScriptEscapeKind::DoubleEscaped) => Ok(()),
@@ -223,7 +223,7 @@ impl<S: TokenSink<Token<A>>, A: Allocator + Copy> Teller<'_, S, A> {
 
     // Reads the character as it stands in raw text.
     fn read_raw_data(&mut self, at: &mut Opened<A>, kind: RawKind, c: char) -> Step
-        ensures { Reads S.means.state S.faults S.means.step S.means.faulted result self.old self.new
+        ensures { Reads S.means S.faults result self.old self.new
             (raw_step self.old.exact_errors (raw_of kind) (last_name_of at.old) [] c) at.old at.new }
     {
         at.state = State::RawData(kind);
@@ -233,7 +233,7 @@ impl<S: TokenSink<Token<A>>, A: Allocator + Copy> Teller<'_, S, A> {
     /// The end tag open states of raw text.
     pub fn raw_end_tag_open_state(&mut self, at: &mut Opened<A>, kind: RawKind, c: char) -> Step
         requires { at.old.state ≡ State.RawEndTagOpen kind }
-        ensures { Reads S.means.state S.faults S.means.step S.means.faulted result self.old self.new
+        ensures { Reads S.means S.faults result self.old self.new
             (end_name_step self.old.exact_errors kind (last_name_of at.old) [] c) at.old at.new }
     {
         clear_letters(&mut at.letters);
@@ -242,7 +242,7 @@ impl<S: TokenSink<Token<A>>, A: Allocator + Copy> Teller<'_, S, A> {
 
     /// The end tag name states of raw text. The tag begins where its name ends.
     pub fn raw_end_tag_name_state(&mut self, at: &mut Opened<A>, kind: RawKind, c: char) -> Step
-        ensures { Reads S.means.state S.faults S.means.step S.means.faulted result self.old self.new
+        ensures { Reads S.means S.faults result self.old self.new
             (end_name_step self.old.exact_errors kind (last_name_of at.old) (chars (string_bytes at.old.letters)) c) at.old at.new }
     {
         if is_letter(c) {
@@ -259,7 +259,7 @@ impl<S: TokenSink<Token<A>>, A: Allocator + Copy> Teller<'_, S, A> {
     // Begins an end tag whose name ends before the character.
     fn create_end_tag(&mut self, at: &mut Opened<A>, name: String<A>, c: char) -> Step
         requires { ends_name c ≡ true }
-        ensures { Reads S.means.state S.faults S.means.step S.means.faulted result self.old self.new
+        ensures { Reads S.means S.faults result self.old self.new
             (tag_name_end_step (record (begun TagKind.EndTag) { name = string_bytes name }) c) at.old at.new }
     {
         at.state = State::TagName;
@@ -270,7 +270,7 @@ impl<S: TokenSink<Token<A>>, A: Allocator + Copy> Teller<'_, S, A> {
 
     // Tells the `</` and the letters that are no end tag, and reads the character as it stands in raw text.
     fn read_behind_end_name(&mut self, at: &mut Opened<A>, kind: RawKind, c: char) -> Step
-        ensures { Reads S.means.state S.faults S.means.step S.means.faulted result self.old self.new
+        ensures { Reads S.means S.faults result self.old self.new
             (raw_step self.old.exact_errors (raw_of kind) (last_name_of at.old)
             (texts (less_than ∷ solidus ∷ chars (string_bytes at.old.letters))) c) at.old at.new }
     {
@@ -280,7 +280,7 @@ impl<S: TokenSink<Token<A>>, A: Allocator + Copy> Teller<'_, S, A> {
 
     /// Tells `</` and letters that are text.
     pub fn emit_end_name(&mut self, letters: &str) -> Result<(), TokenizerError>
-        ensures { Emits S.means.state S.faults S.means.step S.means.faulted result self.old self.new
+        ensures { Emits S.means S.faults result self.old self.new
             (texts (less_than ∷ solidus ∷ chars letters.now)) }
     {
         let mut text = String::from_str(self.alloc, "</")?;
@@ -297,7 +297,7 @@ impl<S: TokenSink<Token<A>>, A: Allocator + Copy> Teller<'_, S, A> {
         c: char,
     ) -> Step
         requires { at.old.state ≡ State.ScriptDataEscapeStart kind }
-        ensures { Reads S.means.state S.faults S.means.step S.means.faulted result self.old self.new
+        ensures { Reads S.means S.faults result self.old self.new
             (step_at self.old.exact_errors (opened_of at.old) c) at.old at.new }
     {
         match kind {
@@ -308,7 +308,7 @@ impl<S: TokenSink<Token<A>>, A: Allocator + Copy> Teller<'_, S, A> {
 
     // Reads behind the `<!` of script data.
     fn read_behind_mark(&mut self, at: &mut Opened<A>, c: char) -> Step
-        ensures { Reads S.means.state S.faults S.means.step S.means.faulted result self.old self.new
+        ensures { Reads S.means S.faults result self.old self.new
             (mark_step self.old.exact_errors (last_name_of at.old) c) at.old at.new }
     {
         if c != '-' {
@@ -321,7 +321,7 @@ impl<S: TokenSink<Token<A>>, A: Allocator + Copy> Teller<'_, S, A> {
 
     /// The standard's "script data escape start dash state".
     pub fn script_data_escape_start_dash_state(&mut self, at: &mut Opened<A>, c: char) -> Step
-        ensures { Reads S.means.state S.faults S.means.step S.means.faulted result self.old self.new
+        ensures { Reads S.means S.faults result self.old self.new
             (mark_and_dash_step self.old.exact_errors (last_name_of at.old) c) at.old at.new }
     {
         if c != '-' {
@@ -334,7 +334,7 @@ impl<S: TokenSink<Token<A>>, A: Allocator + Copy> Teller<'_, S, A> {
 
     /// The standard's "script data double escape end state".
     pub fn script_data_double_escape_end_state(&mut self, at: &mut Opened<A>, c: char) -> Step
-        ensures { Reads S.means.state S.faults S.means.step S.means.faulted result self.old self.new
+        ensures { Reads S.means S.faults result self.old self.new
             (switch_step self.old.exact_errors ScriptEscapeKind.DoubleEscaped (last_name_of at.old)
             (chars (string_bytes at.old.letters)) c) at.old at.new }
     {
@@ -343,7 +343,7 @@ impl<S: TokenSink<Token<A>>, A: Allocator + Copy> Teller<'_, S, A> {
 
     // Reads behind letters that may switch between escaped and double-escaped script data.
     fn read_switch(&mut self, at: &mut Opened<A>, kind: ScriptEscapeKind, c: char) -> Step
-        ensures { Reads S.means.state S.faults S.means.step S.means.faulted result self.old self.new
+        ensures { Reads S.means S.faults result self.old self.new
             (switch_step self.old.exact_errors kind (last_name_of at.old) (chars (string_bytes at.old.letters)) c) at.old at.new }
     {
         if is_letter(c) {
@@ -360,7 +360,7 @@ impl<S: TokenSink<Token<A>>, A: Allocator + Copy> Teller<'_, S, A> {
 
     // Reads a letter more of those that may switch.
     fn read_letter(&mut self, at: &mut Opened<A>, kind: ScriptEscapeKind, c: char) -> Step
-        ensures { Reads S.means.state S.faults S.means.step S.means.faulted result self.old self.new
+        ensures { Reads S.means S.faults result self.old self.new
             (Tells (texts (c ∷ [])) (InRaw (InSwitch kind (chars (string_bytes at.old.letters) ++ c ∷ [])) (last_name_of at.old))) at.old at.new }
     {
         at.state = match kind {

@@ -21,7 +21,7 @@ impl<S: TokenSink<Token<A>>, A: Allocator + Copy> Teller<'_, S, A> {
     pub fn step_in_doctype(&mut self, at: &mut Opened<A>, c: char) -> Step
         requires doctype { is_doctype_state at.old.state ≡ true }
         requires decided { is_undecided_open (opened_of at.old) ≡ false }
-        ensures { Reads S.means.state S.faults S.means.step S.means.faulted result self.old self.new
+        ensures { Reads S.means S.faults result self.old self.new
             (step_at self.old.exact_errors (opened_of at.old) c) at.old at.new }
     {
         match at.state {

@@ -26,7 +26,7 @@ impl<S: TokenSink<Token<A>>, A: Allocator + Copy> Teller<'_, S, A> {
     #[tactic(auto, using(crate::proofs::Tellings::tells_from_memory, crate::proofs::Tellings::tells_memory), unfolding(html5grammar::specs::Machine::tag_name_step, html5grammar::specs::Tag::in_tag_name, html5opened::specs::Steps::tokens_of, html5opened::specs::Steps::behind, html5ever_interface::specs::Sink::stepped))]
     pub fn tag_name_state(&mut self, at: &mut Opened<A>, c: char) -> Step
         requires { at.old.state ≡ State.TagName }
-        ensures { Reads S.means.state S.faults S.means.step S.means.faulted result self.old self.new
+        ensures { Reads S.means S.faults result self.old self.new
             (tag_name_step self.old.exact_errors (open_tag at.old.tag) c) at.old at.new }
     {
         if is_white_space(c) {
@@ -46,7 +46,7 @@ impl<S: TokenSink<Token<A>>, A: Allocator + Copy> Teller<'_, S, A> {
 
     /// The standard's "before attribute name state".
     pub fn before_attribute_name_state(&mut self, at: &mut Opened<A>, c: char) -> Step
-        ensures { Reads S.means.state S.faults S.means.step S.means.faulted result self.old self.new
+        ensures { Reads S.means S.faults result self.old self.new
             (part_step self.old.exact_errors BeforeAttribute (open_tag at.old.tag) c) at.old at.new }
     {
         if c == '>' {
@@ -67,7 +67,7 @@ impl<S: TokenSink<Token<A>>, A: Allocator + Copy> Teller<'_, S, A> {
     #[tactic(auto, using(crate::proofs::Tellings::tells_from_memory, crate::proofs::Tellings::tells_memory), unfolding(html5grammar::specs::Machine::attribute_name_step, html5grammar::specs::Tag::in_attribute_name, html5opened::specs::Steps::tokens_of, html5opened::specs::Steps::behind, html5ever_interface::specs::Sink::stepped))]
     pub fn attribute_name_state(&mut self, at: &mut Opened<A>, c: char) -> Step
         requires { at.old.state ≡ State.AttributeName }
-        ensures { Reads S.means.state S.faults S.means.step S.means.faulted result self.old self.new
+        ensures { Reads S.means S.faults result self.old self.new
             (attribute_name_step self.old.exact_errors (open_tag at.old.tag) c) at.old at.new }
     {
         if is_white_space(c) {
@@ -89,7 +89,7 @@ impl<S: TokenSink<Token<A>>, A: Allocator + Copy> Teller<'_, S, A> {
     /// The standard's "after attribute name state".
     pub fn after_attribute_name_state(&mut self, at: &mut Opened<A>, c: char) -> Step
         requires { at.old.state ≡ State.AfterAttributeName }
-        ensures { Reads S.means.state S.faults S.means.step S.means.faulted result self.old self.new
+        ensures { Reads S.means S.faults result self.old self.new
             (after_attribute_name_step self.old.exact_errors (open_tag at.old.tag) c) at.old at.new }
     {
         if is_white_space(c) {
@@ -112,7 +112,7 @@ impl<S: TokenSink<Token<A>>, A: Allocator + Copy> Teller<'_, S, A> {
         c: char,
         expected: State,
     ) -> Result<(), TokenizerError>
-        ensures emits { Emits S.means.state S.faults S.means.step S.means.faulted result self.old self.new
+        ensures emits { Emits S.means S.faults result self.old self.new
             (where_true (is_odd_at_name c) (error_in self.old.exact_errors expected c) ++ duplicate_error (open_tag tag.old)) }
         ensures finished { OnOk result (open_tag tag.new ≡ with_last_attribute (open_tag tag.old)) }
     {
@@ -127,7 +127,7 @@ impl<S: TokenSink<Token<A>>, A: Allocator + Copy> Teller<'_, S, A> {
         c: char,
         expected: State,
     ) -> Result<(), TokenizerError>
-        ensures emits { Emits S.means.state S.faults S.means.step S.means.faulted result self.old self.new
+        ensures emits { Emits S.means S.faults result self.old self.new
             (where_true (is_odd_at_name c) (error_in self.old.exact_errors expected c) ++ duplicate_error (open_tag at.old.tag)) }
         ensures created { OnOk result
             (open_tag at.new.tag ≡ with_last_name (with_last_attribute (open_tag at.old.tag)) (c ∷ [])) }
@@ -142,7 +142,7 @@ impl<S: TokenSink<Token<A>>, A: Allocator + Copy> Teller<'_, S, A> {
 
     /// The standard's "self-closing start tag state".
     pub fn self_closing_start_tag_state(&mut self, at: &mut Opened<A>, c: char) -> Step
-        ensures { Reads S.means.state S.faults S.means.step S.means.faulted result self.old self.new
+        ensures { Reads S.means S.faults result self.old self.new
             (part_step self.old.exact_errors AfterSolidus (open_tag at.old.tag) c) at.old at.new }
     {
         if c == '>' {
@@ -153,7 +153,7 @@ impl<S: TokenSink<Token<A>>, A: Allocator + Copy> Teller<'_, S, A> {
 
     /// Tells that the character is not what was expected, and reads it as before an attribute.
     pub fn read_before_attribute(&mut self, at: &mut Opened<A>, c: char, expected: State) -> Step
-        ensures { Reads S.means.state S.faults S.means.step S.means.faulted result self.old self.new
+        ensures { Reads S.means S.faults result self.old self.new
             (told_first (error_in self.old.exact_errors expected c ∷ [])
             (part_step self.old.exact_errors BeforeAttribute (open_tag at.old.tag) c)) at.old at.new }
     {

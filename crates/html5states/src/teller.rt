@@ -42,9 +42,9 @@ impl<S: TokenSink<Token<A>>, A: Allocator + Copy> Teller<'_, S, A> {
     pub fn hand_on(&mut self, token: Token<A>) -> Result<(), TokenizerError>
         requires no_tag { is_tag (told_by token) ≡ false }
         requires filled { tokens_in (told_by token) ≢ [] }
-        ensures whole { Emits S.means.state S.faults S.means.step S.means.faulted result self.old self.new
+        ensures whole { Emits S.means S.faults result self.old self.new
             (told_by token ∷ []) }
-        ensures characters { Emits S.means.state S.faults S.means.step S.means.faulted result self.old self.new
+        ensures characters { Emits S.means S.faults result self.old self.new
             (tokens_in (told_by token)) }
     {
         match self.sink.process_token(token, self.line) {
@@ -59,7 +59,7 @@ impl<S: TokenSink<Token<A>>, A: Allocator + Copy> Teller<'_, S, A> {
     pub fn tell(&mut self, token: Token<A>) -> Result<(), TokenizerError>
         requires no_tag { is_tag (told_by token) ≡ false }
         requires filled { tokens_in (told_by token) ≢ [] }
-        ensures { Emits S.means.state S.faults S.means.step S.means.faulted result self.old self.new
+        ensures { Emits S.means S.faults result self.old self.new
             (tokens_in (told_by token)) }
     {
         self.hand_on(token)
@@ -68,7 +68,7 @@ impl<S: TokenSink<Token<A>>, A: Allocator + Copy> Teller<'_, S, A> {
     /// Tells the sink a text of one character.
     #[inline(always)]
     pub fn emit_char(&mut self, c: char) -> Result<(), TokenizerError>
-        ensures { Emits S.means.state S.faults S.means.step S.means.faulted result self.old self.new
+        ensures { Emits S.means S.faults result self.old self.new
             (Text (encode_utf8 c) ∷ []) }
     {
         self.tell(Token::CharacterTokens(text_of(self.alloc, c)?))
@@ -76,7 +76,7 @@ impl<S: TokenSink<Token<A>>, A: Allocator + Copy> Teller<'_, S, A> {
 
     /// Tells the sink an error.
     pub fn emit_error(&mut self, message: String<A>) -> Result<(), TokenizerError>
-        ensures { Emits S.means.state S.faults S.means.step S.means.faulted result self.old self.new
+        ensures { Emits S.means S.faults result self.old self.new
             (Error (string_bytes message) ∷ []) }
     {
         self.tell(Token::ParseError(message))
@@ -84,7 +84,7 @@ impl<S: TokenSink<Token<A>>, A: Allocator + Copy> Teller<'_, S, A> {
 
     /// Tells the sink an error with that text.
     pub fn emit_message(&mut self, message: &str) -> Result<(), TokenizerError>
-        ensures { Emits S.means.state S.faults S.means.step S.means.faulted result self.old self.new
+        ensures { Emits S.means S.faults result self.old self.new
             (Error message.now ∷ []) }
     {
         self.emit_error(String::from_str(self.alloc, message)?)
@@ -92,7 +92,7 @@ impl<S: TokenSink<Token<A>>, A: Allocator + Copy> Teller<'_, S, A> {
 
     /// Tells the sink an error with that text, where there is one.
     pub fn emit_message_where(&mut self, holds: bool, message: &str) -> Result<(), TokenizerError>
-        ensures { Emits S.means.state S.faults S.means.step S.means.faulted result self.old self.new
+        ensures { Emits S.means S.faults result self.old self.new
             (where_true holds (Error message.now)) }
     {
         if !holds {
@@ -103,7 +103,7 @@ impl<S: TokenSink<Token<A>>, A: Allocator + Copy> Teller<'_, S, A> {
 
     /// Tells the sink that a state doesn't expect the character.
     pub fn emit_unexpected(&mut self, c: char, state: State) -> Result<(), TokenizerError>
-        ensures { Emits S.means.state S.faults S.means.step S.means.faulted result self.old self.new
+        ensures { Emits S.means S.faults result self.old self.new
             (error_in self.old.exact_errors state c ∷ []) }
     {
         self.emit_error(saw_message(self.alloc, self.exact_errors, c, state.name())?)
@@ -116,7 +116,7 @@ impl<S: TokenSink<Token<A>>, A: Allocator + Copy> Teller<'_, S, A> {
         c: char,
         state: State,
     ) -> Result<(), TokenizerError>
-        ensures { Emits S.means.state S.faults S.means.step S.means.faulted result self.old self.new
+        ensures { Emits S.means S.faults result self.old self.new
             (where_true holds (error_in self.old.exact_errors state c)) }
     {
         if !holds {
@@ -127,7 +127,7 @@ impl<S: TokenSink<Token<A>>, A: Allocator + Copy> Teller<'_, S, A> {
 
     /// Tells the sink that a state doesn't expect the end of input.
     pub fn emit_end_error(&mut self, state: State) -> Result<(), TokenizerError>
-        ensures { Emits S.means.state S.faults S.means.step S.means.faulted result self.old self.new
+        ensures { Emits S.means S.faults result self.old self.new
             (end_error_in self.old.exact_errors state ∷ []) }
     {
         self.emit_error(saw_end_message(self.alloc, self.exact_errors, state.name())?)
@@ -136,7 +136,7 @@ impl<S: TokenSink<Token<A>>, A: Allocator + Copy> Teller<'_, S, A> {
     /// Reports a bad character, with exact errors.
     #[inline(always)]
     pub fn emit_bad_character(&mut self, c: char) -> Result<(), TokenizerError>
-        ensures { Emits S.means.state S.faults S.means.step S.means.faulted result self.old self.new
+        ensures { Emits S.means S.faults result self.old self.new
             (bad_character_error self.old.exact_errors c) }
     {
         if !self.exact_errors || !is_bad(c) {

@@ -29,7 +29,7 @@ impl<S: TokenSink<Token<A>>, A: Allocator + Copy> Teller<'_, S, A> {
         expected: State,
         text: char,
     ) -> Result<(), TokenizerError>
-        ensures { Emits S.means.state S.faults S.means.step S.means.faulted result self.old self.new
+        ensures { Emits S.means S.faults result self.old self.new
             (error_in self.old.exact_errors expected c ∷ Text (encode_utf8 text) ∷ []) }
     {
         self.emit_unexpected(c, expected)?;
@@ -38,7 +38,7 @@ impl<S: TokenSink<Token<A>>, A: Allocator + Copy> Teller<'_, S, A> {
 
     // Tells a NUL between tags, which is an error and a token of its own.
     fn emit_null(&mut self, c: char) -> Result<(), TokenizerError>
-        ensures { Emits S.means.state S.faults S.means.step S.means.faulted result self.old self.new
+        ensures { Emits S.means S.faults result self.old self.new
             (error_in self.old.exact_errors State.Data c ∷ Null ∷ []) }
     {
         self.emit_unexpected(c, State::Data)?;
@@ -48,7 +48,7 @@ impl<S: TokenSink<Token<A>>, A: Allocator + Copy> Teller<'_, S, A> {
     /// Tells a character that is text; NUL is an error in the state, and U+FFFD.
     #[inline(always)]
     pub fn emit_text_character(&mut self, c: char, state: State) -> Result<(), TokenizerError>
-        ensures { Emits S.means.state S.faults S.means.step S.means.faulted result self.old self.new
+        ensures { Emits S.means S.faults result self.old self.new
             (if c == null then error_in self.old.exact_errors state c ∷ Text (encode_utf8 replacement_character) ∷ []
             else Text (encode_utf8 c) ∷ []) }
     {
@@ -62,7 +62,7 @@ impl<S: TokenSink<Token<A>>, A: Allocator + Copy> Teller<'_, S, A> {
     #[inline(always)]
     pub fn plaintext_state(&mut self, at: &mut Opened<A>, c: char) -> Step
         requires { at.old.state ≡ State.Plaintext }
-        ensures { Reads S.means.state S.faults S.means.step S.means.faulted result self.old self.new
+        ensures { Reads S.means S.faults result self.old self.new
             (step_at self.old.exact_errors (Between Plain) c) at.old at.new }
     {
         self.emit_text_character(c, State::Plaintext)?;
@@ -73,7 +73,7 @@ impl<S: TokenSink<Token<A>>, A: Allocator + Copy> Teller<'_, S, A> {
     #[inline(always)]
     pub fn data_state(&mut self, at: &mut Opened<A>, c: char) -> Step
         requires { at.old.state ≡ State.Data }
-        ensures { Reads S.means.state S.faults S.means.step S.means.faulted result self.old self.new
+        ensures { Reads S.means S.faults result self.old self.new
             (step_at self.old.exact_errors (Between Data) c) at.old at.new }
     {
         match c {
@@ -87,7 +87,7 @@ impl<S: TokenSink<Token<A>>, A: Allocator + Copy> Teller<'_, S, A> {
 
     // Tells the `<` that opened nothing, and reads the character as it stands between tags.
     fn read_in_data(&mut self, at: &mut Opened<A>, c: char) -> Step
-        ensures { Reads S.means.state S.faults S.means.step S.means.faulted result self.old self.new
+        ensures { Reads S.means S.faults result self.old self.new
             (data_step self.old.exact_errors (error_in self.old.exact_errors State.TagOpen c ∷ Text (codes "<") ∷ []) c) at.old at.new }
     {
         self.emit_unexpected_then(c, State::TagOpen, '<')?;
@@ -97,7 +97,7 @@ impl<S: TokenSink<Token<A>>, A: Allocator + Copy> Teller<'_, S, A> {
 
     // Begins a tag at the first letter of its name.
     fn create_tag(&mut self, at: &mut Opened<A>, kind: TagKind, c: char) -> Step
-        ensures { Reads S.means.state S.faults S.means.step S.means.faulted result self.old self.new
+        ensures { Reads S.means S.faults result self.old self.new
             (tag_name_step self.old.exact_errors (begun kind) c) at.old at.new }
     {
         at.state = State::TagName;
@@ -108,7 +108,7 @@ impl<S: TokenSink<Token<A>>, A: Allocator + Copy> Teller<'_, S, A> {
     /// The standard's "tag open state".
     pub fn tag_open_state(&mut self, at: &mut Opened<A>, c: char) -> Step
         requires { at.old.state ≡ State.TagOpen }
-        ensures { Reads S.means.state S.faults S.means.step S.means.faulted result self.old self.new
+        ensures { Reads S.means S.faults result self.old self.new
             (step_at self.old.exact_errors LessThan c) at.old at.new }
     {
         if is_letter(c) {
@@ -136,7 +136,7 @@ impl<S: TokenSink<Token<A>>, A: Allocator + Copy> Teller<'_, S, A> {
     /// The standard's "end tag open state".
     pub fn end_tag_open_state(&mut self, at: &mut Opened<A>, c: char) -> Step
         requires { at.old.state ≡ State.EndTagOpen }
-        ensures { Reads S.means.state S.faults S.means.step S.means.faulted result self.old self.new
+        ensures { Reads S.means S.faults result self.old self.new
             (step_at self.old.exact_errors LessThanSolidus c) at.old at.new }
     {
         if is_letter(c) {

@@ -23,7 +23,7 @@ impl<S: TokenSink<Token<A>>, A: Allocator + Copy> Teller<'_, S, A> {
     /// The standard's "before attribute value state".
     pub fn before_attribute_value_state(&mut self, at: &mut Opened<A>, c: char) -> Step
         requires { at.old.state ≡ State.BeforeAttributeValue }
-        ensures { Reads S.means.state S.faults S.means.step S.means.faulted result self.old self.new
+        ensures { Reads S.means S.faults result self.old self.new
             (before_value_step self.old.exact_errors (open_tag at.old.tag) c) at.old at.new }
     {
         if is_white_space(c) {
@@ -43,7 +43,7 @@ impl<S: TokenSink<Token<A>>, A: Allocator + Copy> Teller<'_, S, A> {
 
     // Ends a tag at the `>` that stands where a value should.
     fn end_without_value(&mut self, at: &mut Opened<A>) -> Step
-        ensures { Reads S.means.state S.faults S.means.step S.means.faulted result self.old self.new
+        ensures { Reads S.means S.faults result self.old self.new
             (closing_step (error_in self.old.exact_errors State.BeforeAttributeValue equals_sign ∷ []) (open_tag at.old.tag) false)
             at.old at.new }
     {
@@ -55,7 +55,7 @@ impl<S: TokenSink<Token<A>>, A: Allocator + Copy> Teller<'_, S, A> {
     /// "attribute value (single-quoted) state".
     pub fn attribute_value_quoted_state(&mut self, at: &mut Opened<A>, kind: Kind, c: char) -> Step
         requires { at.old.state ≡ State.AttributeValue kind }
-        ensures { Reads S.means.state S.faults S.means.step S.means.faulted result self.old self.new
+        ensures { Reads S.means S.faults result self.old self.new
             (quoted_step self.old.exact_errors kind (open_tag at.old.tag) c) at.old at.new }
     {
         if c == '&' {
@@ -73,7 +73,7 @@ impl<S: TokenSink<Token<A>>, A: Allocator + Copy> Teller<'_, S, A> {
     /// The standard's "attribute value (unquoted) state".
     pub fn attribute_value_unquoted_state(&mut self, at: &mut Opened<A>, c: char) -> Step
         requires { at.old.state ≡ State.AttributeValue Kind.Unquoted }
-        ensures { Reads S.means.state S.faults S.means.step S.means.faulted result self.old self.new
+        ensures { Reads S.means S.faults result self.old self.new
             (unquoted_step self.old.exact_errors (open_tag at.old.tag) c) at.old at.new }
     {
         if c == '&' {
@@ -94,7 +94,7 @@ impl<S: TokenSink<Token<A>>, A: Allocator + Copy> Teller<'_, S, A> {
 
     /// The standard's "after attribute value (quoted) state".
     pub fn after_attribute_value_quoted_state(&mut self, at: &mut Opened<A>, c: char) -> Step
-        ensures { Reads S.means.state S.faults S.means.step S.means.faulted result self.old self.new
+        ensures { Reads S.means S.faults result self.old self.new
             (part_step self.old.exact_errors AfterQuotedValue (open_tag at.old.tag) c) at.old at.new }
     {
         if c == '>' {

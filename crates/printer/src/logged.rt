@@ -1,8 +1,8 @@
 //! A target of which contracts know what it took.
 ghost use Rattle.std.specs.Prelude.{◌≡◌, [], Some};
 
-use ghost_counts::Log;
 use devices::Target;
+use ghost_counts::Log;
 use std::io;
 use std::marker::Model;
 

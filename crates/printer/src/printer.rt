@@ -2,9 +2,9 @@
 ghost use Rattle.std.specs.Prelude.{◌≡◌, ◌↔◌, ◌+◌, [], ◌++◌, false, true, Err, IfErr, IsErr, OnOk, OnErr, is_err};
 ghost use Rattle.devices.specs.Device.{IsReadFault, reported_failures};
 
-use ghost_counts::Log;
 use crate::logged::Logged;
 use devices::{Fault, Target, write_all};
+use ghost_counts::Log;
 use std::alloc::{Allocator, Global};
 use std::marker::Model;
 

@@ -1,8 +1,8 @@
 use crate::made::{tokens_of, told};
 use html5ever_interface::collect::Collector;
-use test_alloc::Refusing;
 use std::alloc::Allocator;
 use std::process::Abort;
+use test_alloc::Refusing;
 
 // Tokens with adjacent texts, and an empty text by itself.
 const TOKENS: [(&str, &str); 10] = [

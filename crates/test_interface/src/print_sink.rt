@@ -1,10 +1,10 @@
 use crate::made::{says_foreign, tokens_of, told};
 use html5ever_interface::interface::sink::TokenSink;
 use html5ever_interface::interface::token::Token;
-use token_printer::print_sink::PrintSink;
-use test_alloc::Refusing;
 use std::alloc::{Allocator, Global};
 use std::process::Abort;
+use test_alloc::Refusing;
+use token_printer::print_sink::PrintSink;
 
 #[test]
 fn prints_the_last_line_of_all(rt: HostRuntime) {

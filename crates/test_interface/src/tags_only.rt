@@ -3,9 +3,9 @@ use html5ever_interface::interface::sink::TokenSink;
 use html5ever_interface::interface::token::{SinkFault, Tag, TagKind, Token, TokenSinkResult};
 use html5sinks::tags::{ReplyingTagHandler, TagsOnly};
 use markup5ever::interface::LocalName;
-use test_alloc::Refusing;
 use std::alloc::{Allocator, Global};
 use std::process::Abort;
+use test_alloc::Refusing;
 
 // Keeps the names of tags, and asks for plain text behind each.
 #[derive(Drop)]

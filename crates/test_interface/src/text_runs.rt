@@ -3,9 +3,9 @@ use html5ever_interface::interface::sink::TokenSink;
 use html5ever_interface::interface::token::{SinkFault, TagKind, Token, TokenSinkResult};
 use html5ever_interface::states::RawKind;
 use html5sinks::text_runs::{ReplyingRunHandler, RunHandler, TextRuns};
-use test_alloc::Refusing;
 use std::alloc::{AllocError, Allocator, Global};
 use std::process::Abort;
+use test_alloc::Refusing;
 
 // Keeps the last run, with what ended it. It takes no end tag.
 #[derive(Drop)]

@@ -7,9 +7,9 @@ use html5ever_interface::options::TokenizerOpts;
 use html5stream::{StreamError, read_source};
 use markup5ever::data::NamedReferences;
 use markup5ever::interface::LocalName;
-use test_alloc::Refusing;
 use std::alloc::{AllocError, Allocator, Global};
 use std::process::Abort;
+use test_alloc::Refusing;
 
 type Outcome = (Collector, Result<(), StreamError>);
 

@@ -3,10 +3,10 @@ ghost use Rattle.std.specs.Prelude.{◌≡◌, IfSome, string_bytes};
 ghost use Rattle.html5ever_interface.specs.Token.{told_by, reply_of};
 ghost use Rattle.test_sinks.specs.Sinks.{tags_with, reply_at};
 
+use ghost_counts::Count;
 use html5ever_interface::collect::Collector;
 use html5ever_interface::interface::sink::TokenSink;
 use html5ever_interface::interface::token::{SinkFault, Token, TokenSinkResult};
-use ghost_counts::Count;
 use std::alloc::{Allocator, Global};
 
 // How many tags there are with this token, where so many can be counted.

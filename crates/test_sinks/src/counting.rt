@@ -3,9 +3,9 @@ ghost use Rattle.std.specs.Prelude.{◌≡◌, IfSome};
 ghost use Rattle.html5ever_interface.specs.Token.{told_by};
 ghost use Rattle.test_sinks.specs.Sinks.{counted_with};
 
+use ghost_counts::Count;
 use html5ever_interface::interface::sink::TokenSink;
 use html5ever_interface::interface::token::{SinkFault, Token, TokenSinkResult};
-use ghost_counts::Count;
 use std::alloc::Allocator;
 
 // How many tokens other than text there are with this one, where so many can be counted.

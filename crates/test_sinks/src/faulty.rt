@@ -1,7 +1,7 @@
 //! A sink that faults.
+use ghost_counts::Count;
 use html5ever_interface::interface::sink::TokenSink;
 use html5ever_interface::interface::token::{SinkFault, Token, TokenSinkResult};
-use ghost_counts::Count;
 use std::alloc::Allocator;
 
 /// Takes some tokens and faults at the call after them, at the next token or at its end; or takes all

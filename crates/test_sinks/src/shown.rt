@@ -5,9 +5,9 @@ use crate::faulty::FaultySink;
 use crate::lines::push_lines;
 use crate::steering::Steering;
 use html5ever_interface::collect::Collector;
-use token_printer::print_sink::PrintSink;
 use std::alloc::{AllocError, Allocator, Global};
 use std::str::from_utf8;
+use token_printer::print_sink::PrintSink;
 
 /// A sink that shows, line by line, what it was told.
 pub trait Shown: Drop {

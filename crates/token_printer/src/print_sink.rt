@@ -6,9 +6,9 @@ ghost use Rattle.html5ever_interface.specs.Token.{told_by, reply_of};
 
 use crate::page::{is_open_behind, push_token};
 use crate::replies::reply_to;
+use ghost_counts::Count;
 use html5ever_interface::interface::sink::TokenSink;
 use html5ever_interface::interface::token::{SinkFault, Token, TokenSinkResult};
-use ghost_counts::Count;
 use std::alloc::{AllocError, Allocator, Global};
 use std::marker::Model;
 

@@ -1,11 +1,11 @@
 use Rattle.std.proofs.Common.{◌≡◌, ◌∙◌, refl, sym, false, true}
 use Rattle.html5ever_interface.specs.Sink.{stepped}
 use Rattle.html5grammar.specs.Start.{is_undecided_open}
-use Rattle.html5feed.specs.Undecided.{is_keyword_open}
+use Rattle.html5opened.specs.Undecided.{is_keyword_open}
 use Rattle.html5states.proofs.Tellings.{tells_stop}
 use Rattle.html5opened.specs.CurrentTag.{opened_of}
-use Rattle.html5feed.proofs.Decided.{with_reference-false, with_reference-out, state-keyword, state-undecided}
-use Rattle.html5feed.proofs.KeywordReading.{end-decided}
+use Rattle.html5opened.proofs.Decided.{with_reference-false, with_reference-out, state-keyword, state-undecided}
+use Rattle.html5opened.proofs.KeywordReading.{end-decided}
 use Rattle.html5feed.proofs.QueueReading.{on_ok}
 use Rattle.html5feed.proofs.UndecidedReading.{end-none, late-reference, end-reference}
 use Rattle.html5feed.proofs.position.Position.decide_at_end.Goals as goal

@@ -3,7 +3,7 @@ use Rattle.std.specs.Prelude.{IsTrue}
 use Rattle.html5grammar.specs.Start as grammar
 use Rattle.html5opened.specs.CurrentTag.{opened_of, last_name_of}
 use Rattle.html5feed.proofs.RunLemmas.{run-begins, run-found}
-use Rattle.html5feed.proofs.Decided.{with_reference-false}
+use Rattle.html5opened.proofs.Decided.{with_reference-false}
 use Rattle.html5feed.proofs.position.Position.run_len.Goals as goal
 
 pub returns-in-Some-clause-run : goal.returns-in-Some-clause-run

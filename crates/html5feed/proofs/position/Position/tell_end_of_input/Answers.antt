@@ -3,7 +3,7 @@ use Rattle.html5grammar.specs.EndOfInput.{open_at_end_of}
 use Rattle.html5grammar.specs.Start.{Start, is_undecided_open}
 use Rattle.html5states.proofs.Tellings.{told_then, told_stop}
 use Rattle.html5opened.specs.CurrentTag.{opened_of}
-use Rattle.html5feed.proofs.Decided.{with_reference-none}
+use Rattle.html5opened.proofs.Decided.{with_reference-none}
 use Rattle.html5feed.proofs.position.Position.tell_end_of_input.Goals as goal
 
 pub returns-in_err-decide_at_end-clause-tells : goal.returns-in_err-decide_at_end-clause-tells

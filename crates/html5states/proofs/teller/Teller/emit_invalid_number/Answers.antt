@@ -1,4 +1,4 @@
-use Rattle.html5states.proofs.Messages.{inexact_number}
+use Rattle.html5states.proofs.Resolving.{inexact_number}
 use Rattle.html5states.proofs.teller.Teller.emit_invalid_number.Goals as goal
 
 pub returns-then-not-self : goal.returns-then-not-self

@@ -1,6 +1,0 @@
-use Rattle.html5feed.proofs.Decided.{undecided-keyword}
-use Rattle.html5feed.proofs.position.read_undecided.Goals as goal
-
-pub read_keyword-requires : goal.read_keyword-requires
-read_keyword-requires g c =
-    rw (← c.position.view_is) (undecided-keyword c.position.inside.in_reference c.position.inside.held c.position.inside.opened.state c.position.inside.opened c.if-position.false (rw (← c.position.view_is) at c.requires))

@@ -1,0 +1,204 @@
+//! One character of a stream.
+#![tactic(auto, unfolding(html5opened::specs::CharRef::with_reference))]
+
+ghost use Rattle.std.specs.Prelude.{◌≡◌, ◌<◌, ◌≤◌, ◌+◌, ◌∷◌, [], false, Some, IfOk, IfErr, OnOk, string_bytes};
+ghost use Rattle.html5ever_interface.specs.Sink.{stepped, on_line};
+ghost use Rattle.html5ever_interface.specs.Token.{Told, tag_of};
+ghost use Rattle.html5grammar.specs.ErrorText.{bad_character_error};
+ghost use Rattle.html5grammar.specs.NormalisedText.{input_after};
+ghost use Rattle.html5grammar.specs.Reading.{told, messages, after, last_behind, open_after_reply};
+ghost use Rattle.html5grammar.specs.Start.{is_undecided_open, held_len};
+ghost use Rattle.html5grammar.specs.Start.Mode.{Data};
+ghost use Rattle.html5grammar.specs.Start.Open.{Between};
+ghost use Rattle.html5opened.specs.CurrentTag.{opened_of, last_name_of};
+ghost use Rattle.html5feed.specs.Feed.{reply_in, first_pause};
+ghost use Rattle.html5grammar.specs.Machine.{step_at, messages_here, opened_here, last_here};
+ghost use Rattle.html5opened.specs.Steps.{Leads, Ends, tokens_of, behind};
+ghost use Rattle.html5states.specs.Telling.{Tells, IsRefusal, faults_of};
+
+use crate::position::Position;
+use crate::rules::Rules;
+use crate::undecided::read_undecided;
+use html5ever_interface::interface::sink::TokenSink;
+use html5ever_interface::interface::token::{SinkFault, Tag, Token, TokenSinkResult};
+use html5opened::char_ref::CharRef;
+use html5opened::error::TokenizerError;
+use html5opened::opened::{Opened, Progress, Step};
+use html5states::teller::Teller;
+use markup5ever::tokenizer_result::TokenizerResult;
+use std::alloc::Allocator;
+
+// Reports a bad character, with exact errors.
+#[inline(always)]
+fn report_bad_character<S: TokenSink<Token<A>>, A: Allocator + Copy>(
+    alloc: A,
+    sink: &mut S,
+    exact_errors: bool,
+    c: char,
+    line: u64,
+) -> Result<(), TokenizerError>
+    ensures tells { Tells S.means.step S.means.faulted result (S.means.state sink.old)
+        (on_line line (bad_character_error exact_errors c)) (S.means.state sink.new) }
+    ensures faults { S.faults sink.new ≡ S.faults sink.old + faults_of result }
+    ensures refusal { IfErr result IsRefusal }
+{
+    let mut teller = Teller {
+        sink,
+        alloc,
+        exact_errors,
+        line,
+    };
+    teller.emit_bad_character(c)
+}
+
+// Reads one character in the state that is open. Where that is refused, nothing is held.
+#[inline(always)]
+fn step<S: TokenSink<Token<A>>, A: Allocator + Copy>(
+    alloc: A,
+    sink: &mut S,
+    exact_errors: bool,
+    opened: &mut Opened<A>,
+    c: char,
+    line: u64,
+) -> Step
+    requires { is_undecided_open (opened_of opened.old) ≡ false }
+    ensures tells { Tells S.means.step S.means.faulted result (S.means.state sink.old)
+        (on_line line (tokens_of (step_at exact_errors (opened_of opened.old) c))) (S.means.state sink.new) }
+    ensures leads { Ends result opened.new (behind (step_at exact_errors (opened_of opened.old) c)) }
+    ensures last { last_name_of opened.new ≡ last_name_of opened.old }
+    ensures held { IfErr result (λ error. held_len (opened_of opened.new) ≡ 0) }
+    ensures faults { S.faults sink.new ≡ S.faults sink.old + faults_of result }
+{
+    let mut teller = Teller {
+        sink,
+        alloc,
+        exact_errors,
+        line,
+    };
+    let step = teller.step(opened, c);
+    if step.is_err() {
+        opened.comment.clear();
+    }
+    step
+}
+
+// Tells the sink a tag, and goes on as it replies.
+#[tactic(auto, unfolding(html5ever_interface::specs::Sink::stepped, crate::specs::Feed::first_pause))]
+#[inline(always)]
+fn tell_tag<S: TokenSink<Token<A>>, A: Allocator + Copy>(
+    sink: &mut S,
+    position: &mut Position<A>,
+    tag: Tag<A>,
+    line: u64,
+) -> Result<TokenizerResult<S::Handle, String<A>>, TokenizerError>
+    requires { position.old.opened ≡ Between Data }
+    ensures tells { Tells S.means.step S.means.faulted result (S.means.state sink.old)
+        (on_line line (Told.Tag (tag_of tag) ∷ [])) (S.means.state sink.new) }
+    ensures leads { Leads result position.new.opened
+        (open_after_reply (last_behind position.old.last_start_tag (tag_of tag)) (S.means.reply (S.means.state sink.old) (Told.Tag (tag_of tag)) line)) }
+    ensures last { OnOk result
+        (position.new.last_start_tag ≡ last_behind position.old.last_start_tag (tag_of tag)) }
+    ensures answer { IfOk result (λ answer. reply_in string_bytes answer
+        ≡ first_pause S.means.step S.means.reply (S.means.state sink.old) (on_line line (Told.Tag (tag_of tag) ∷ []))) }
+    ensures input { position.new.input ≡ position.old.input }
+    ensures held { held_len position.new.opened ≡ 0 }
+    ensures faults { S.faults sink.new ≡ S.faults sink.old + faults_of result }
+{
+    position.note_tag(&tag)?;
+    match sink.process_token(Token::TagToken(tag), line) {
+        Ok(TokenSinkResult::Continue) => Ok(TokenizerResult::Done),
+        Ok(TokenSinkResult::Plaintext) => {
+            position.set_plaintext();
+            Ok(TokenizerResult::Done)
+        }
+        Ok(TokenSinkResult::Script(handle)) => Ok(TokenizerResult::Script(handle)),
+        Ok(TokenSinkResult::EncodingIndicator(text)) => {
+            Ok(TokenizerResult::EncodingIndicator(text))
+        }
+        Ok(TokenSinkResult::RawData(kind)) => {
+            position.set_raw_data(kind);
+            Ok(TokenizerResult::Done)
+        }
+        Err(SinkFault) => Err(TokenizerError::Sink),
+    }
+}
+
+// Reads a character in the state that is open, where nothing is undecided.
+#[inline(always)]
+fn read_opened<S: TokenSink<Token<A>>, A: Allocator + Copy>(
+    alloc: A,
+    sink: &mut S,
+    rules: &Rules<'_, A>,
+    position: &mut Position<A>,
+    c: char,
+) -> Result<TokenizerResult<S::Handle, String<A>>, TokenizerError>
+    requires { is_undecided_open position.old.opened ≡ false }
+    ensures tells { Tells S.means.step S.means.faulted result (S.means.state sink.old)
+        (messages_here S.means.step S.means.reply rules.now position.old.input.line c (step_at rules.now.exact position.old.opened c)) (S.means.state sink.new) }
+    ensures leads { Leads result position.new.opened
+        (opened_here S.means.step S.means.reply rules.now (S.means.state sink.old) position.old.input.line position.old.last_start_tag c (step_at rules.now.exact position.old.opened c)) }
+    ensures last { OnOk result (position.new.last_start_tag
+        ≡ last_here position.old.last_start_tag (step_at rules.now.exact position.old.opened c)) }
+    ensures answer { IfOk result (λ answer. reply_in string_bytes answer
+        ≡ first_pause S.means.step S.means.reply (S.means.state sink.old)
+        (messages_here S.means.step S.means.reply rules.now position.old.input.line c (step_at rules.now.exact position.old.opened c))) }
+    ensures input { position.new.input ≡ position.old.input }
+    ensures held { held_len position.new.opened ≤ 1 }
+    ensures faults { S.faults sink.new ≡ S.faults sink.old + faults_of result }
+{
+    let line = position.input.line();
+    report_bad_character(alloc, sink, rules.exact_errors, c, line)?;
+    match step(
+        alloc,
+        sink,
+        rules.exact_errors,
+        &mut position.opened,
+        c,
+        line,
+    )? {
+        Progress::Continues => Ok(TokenizerResult::Done),
+        Progress::BeginsReference => {
+            position.begin_reference();
+            Ok(TokenizerResult::Done)
+        }
+        Progress::EndsTag { self_closing } => {
+            let tag = position.opened.tag.end(alloc, self_closing);
+            tell_tag(sink, position, tag, line)
+        }
+    }
+}
+
+/// Reads one character of the stream. The answer is `Done`, but behind a tag whose reply pauses.
+#[inline(always)]
+pub fn read_character<S: TokenSink<Token<A>>, A: Allocator + Copy>(
+    alloc: A,
+    sink: &mut S,
+    rules: &Rules<'_, A>,
+    position: &mut Position<A>,
+    c: char,
+) -> Result<TokenizerResult<S::Handle, String<A>>, TokenizerError>
+    ensures tells { Tells S.means.step S.means.faulted result (S.means.state sink.old)
+        (messages (told S.means.step S.means.reply S.means.foreign rules.now position.old (S.means.state sink.old) (c ∷ []))) (S.means.state sink.new) }
+    ensures leads { Leads result position.new.opened
+        (after S.means.step S.means.reply S.means.foreign rules.now position.old (S.means.state sink.old) (c ∷ [])).opened }
+    ensures last { OnOk result (position.new.last_start_tag
+        ≡ (after S.means.step S.means.reply S.means.foreign rules.now position.old (S.means.state sink.old) (c ∷ [])).last_start_tag) }
+    ensures answer { IfOk result (λ answer. reply_in string_bytes answer
+        ≡ first_pause S.means.step S.means.reply (S.means.state sink.old)
+        (messages (told S.means.step S.means.reply S.means.foreign rules.now position.old (S.means.state sink.old) (c ∷ [])))) }
+    ensures input { position.new.input ≡ input_after position.old.input (c ∷ []) }
+    ensures held { held_len position.new.opened ≤ held_len position.old.opened + 1 }
+    ensures faults { S.faults sink.new ≡ S.faults sink.old + faults_of result }
+{
+    let before = position.input.line();
+    let Some(c) = position.input.advance(c) else {
+        return Ok(TokenizerResult::Done);
+    };
+    if !position.is_undecided() {
+        return read_opened(alloc, sink, rules, position, c);
+    }
+    if read_undecided(alloc, sink, rules, position, before, c)? {
+        return Ok(TokenizerResult::Done);
+    }
+    read_opened(alloc, sink, rules, position, c)
+}

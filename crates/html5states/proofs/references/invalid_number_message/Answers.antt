@@ -1,7 +1,0 @@
-use Rattle.html5states.proofs.Messages.{six_digits_is, last_bits_alone}
-use Rattle.html5states.proofs.references.invalid_number_message.Goals as goal
-
-pub returns : goal.returns
-returns g c =
-    let written = rw (c.in_radix.ensures, c.laid_out.ensures, six_digits_is c.args.low_bits) at c.format.ensures.ok in
-    rw (last_bits_alone c.args.low_bits c.ranges.low_bits.fits) written
