@@ -1,7 +1,7 @@
 //! How a queue is read: a character, a run of characters, and the pauses after tags.
 #![tactic(auto)]
 
-pub mod character;
+mod character;
 mod input;
 pub mod position;
 pub mod reading;

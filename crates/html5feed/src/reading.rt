@@ -8,7 +8,8 @@ ghost use Rattle.html5feed.specs.Refused.{IsRun, RefusedBehind};
 ghost use Rattle.html5feed.specs.Runs.{ReadsRun};
 ghost use Rattle.html5states.specs.Telling.{Tells, IsRefusal, faults_of};
 
-use crate::position::{Position, read_character};
+use crate::character::read_character;
+use crate::position::Position;
 use crate::rules::Rules;
 use html5ever_interface::interface::sink::TokenSink;
 use html5ever_interface::interface::token::Token;
