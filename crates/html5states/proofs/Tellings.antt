@@ -341,10 +341,10 @@ module _ {Q S H Z : Type 0} {means : Means Q S H} {count : Q → ℕ} where
   }
 
   -- the same, of the token as it is handed on
-  pub emits_one : {before after : Teller Q Z} (token : Token Z)
+  pub emits_one : {T : Type 0} {x : T} {before after : Teller Q Z} (token : Token Z)
       → means.state after.sink.now ≡ means.step (means.state before.sink.now) (told_by token) before.line
       → count after.sink.now ≡ count before.sink.now → IsKept before after
-      → Emits means count {T = Unit {0}} (Ok tt) before after (told_by token ∷ [])
+      → Emits means count {T = T} (Ok x) before after (told_by token ∷ [])
   unfolding stepped
   emits_one token steps count kept = record { tells = steps; refusal = tt; faults = count ∙ sym (add-zero _); kept = kept }
 

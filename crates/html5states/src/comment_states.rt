@@ -104,12 +104,12 @@ impl<S: TokenSink<Token<A>>, A: Allocator + Copy> Teller<'_, S, A> {
         Ok(Progress::Continues)
     }
 
-    /// Begins a bogus comment at a character that is not what was expected.
-    pub fn create_bogus_comment(&mut self, at: &mut Opened<A>, c: char, expected: State) -> Step
+    /// Begins a bogus comment at a character after `</` that begins no name.
+    pub fn create_bogus_comment(&mut self, at: &mut Opened<A>, c: char) -> Step
         ensures { Reads S.means S.faults result self.old self.new
-            (bogus_comment_step self.old.exact_errors [] (error_in self.old.exact_errors expected c ∷ []) c) at.old at.new }
+            (bogus_comment_step self.old.exact_errors [] (error_in self.old.exact_errors State.EndTagOpen c ∷ []) c) at.old at.new }
     {
-        self.emit_unexpected(c, expected)?;
+        self.emit_unexpected(c, State::EndTagOpen)?;
         at.state = State::BogusComment;
         at.comment.clear();
         self.bogus_comment_state(at, c)

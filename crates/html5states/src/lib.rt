@@ -4,13 +4,12 @@
 mod attributes;
 mod cdata_states;
 mod comment_states;
-mod declaration;
-mod doctype_keyword;
 mod doctype_states;
-mod emit_tag;
 mod end_of_input;
+mod end_tag;
 mod identifier_states;
 mod instruction_states;
+mod keywords;
 mod raw_states;
 mod references;
 mod step;

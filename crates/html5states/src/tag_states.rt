@@ -35,7 +35,7 @@ impl<S: TokenSink<Token<A>>, A: Allocator + Copy> Teller<'_, S, A> {
         }
         match c {
             '/' => at.state = State::SelfClosingStartTag,
-            '>' => return self.emit_tag(at, false),
+            '>' => return self.end_tag(at, false),
             _ => {
                 push_name(&mut at.tag.name, c)?;
                 self.emit_unexpected_where(c == '\0', c, State::TagName)?;
@@ -50,7 +50,7 @@ impl<S: TokenSink<Token<A>>, A: Allocator + Copy> Teller<'_, S, A> {
             (part_step self.old.exact_errors BeforeAttribute (open_tag at.old.tag) c) at.old at.new }
     {
         if c == '>' {
-            return self.emit_tag(at, false);
+            return self.end_tag(at, false);
         }
         if is_white_space(c) {
             at.state = State::BeforeAttributeName;
@@ -77,7 +77,7 @@ impl<S: TokenSink<Token<A>>, A: Allocator + Copy> Teller<'_, S, A> {
         match c {
             '/' => at.state = State::SelfClosingStartTag,
             '=' => at.state = State::BeforeAttributeValue,
-            '>' => return self.emit_tag(at, false),
+            '>' => return self.end_tag(at, false),
             _ => {
                 push_name(&mut at.tag.attr_name, c)?;
                 self.emit_unexpected_where(is_odd_in_name(c), c, State::AttributeName)?;
@@ -98,7 +98,7 @@ impl<S: TokenSink<Token<A>>, A: Allocator + Copy> Teller<'_, S, A> {
         match c {
             '/' => at.state = State::SelfClosingStartTag,
             '=' => at.state = State::BeforeAttributeValue,
-            '>' => return self.emit_tag(at, false),
+            '>' => return self.end_tag(at, false),
             _ => self.create_attribute(at, c, State::AfterAttributeName)?,
         }
         Ok(Progress::Continues)
@@ -146,7 +146,7 @@ impl<S: TokenSink<Token<A>>, A: Allocator + Copy> Teller<'_, S, A> {
             (part_step self.old.exact_errors AfterSolidus (open_tag at.old.tag) c) at.old at.new }
     {
         if c == '>' {
-            return self.emit_tag(at, true);
+            return self.end_tag(at, true);
         }
         self.read_before_attribute(at, c, State::SelfClosingStartTag)
     }

@@ -1,14 +1,14 @@
 //! Whom a tokenizer tells, and how.
 #![tactic(auto, using(crate::proofs::Tellings::tells_from_memory), unfolding(html5ever_interface::specs::Sink::stepped))]
 
-ghost use Rattle.std.specs.Prelude.{◌≡◌, ◌≢◌, ◌∷◌, [], false, encode_utf8, string_bytes};
+ghost use Rattle.std.specs.Prelude.{◌≡◌, ◌≢◌, ◌∷◌, [], false, IfOk, encode_utf8, string_bytes};
 ghost use Rattle.html5grammar.specs.ErrorText.{error_in, end_error_in, where_true, bad_character_error};
-ghost use Rattle.html5ever_interface.specs.Token.{told_by, is_tag};
+ghost use Rattle.html5ever_interface.specs.Token.{Told, told_by, tag_of, reply_of, is_tag};
 ghost use Rattle.html5ever_interface.specs.Token.Told.{Text, Error};
 ghost use Rattle.html5states.specs.Telling.{Emits, tokens_in};
 
 use html5ever_interface::interface::sink::TokenSink;
-use html5ever_interface::interface::token::{SinkFault, Token, TokenSinkResult};
+use html5ever_interface::interface::token::{SinkFault, Tag, Token, TokenSinkResult};
 use html5ever_interface::states::State;
 use html5opened::error::TokenizerError;
 use html5opened::message::{bad_character_message, is_bad, saw_end_message, saw_message, text_of};
@@ -63,6 +63,22 @@ impl<S: TokenSink<Token<A>>, A: Allocator + Copy> Teller<'_, S, A> {
             (tokens_in (told_by token)) }
     {
         self.hand_on(token)
+    }
+
+    /// Tells the sink a tag, and answers its reply.
+    #[inline(always)]
+    pub fn tell_tag(
+        &mut self,
+        tag: Tag<A>,
+    ) -> Result<TokenSinkResult<S::Handle, String<A>>, TokenizerError>
+        ensures emits { Emits S.means S.faults result self.old self.new (Told.Tag (tag_of tag) ∷ []) }
+        ensures replies { IfOk result (λ reply. reply_of string_bytes reply
+            ≡ S.means.reply (S.means.state self.old.sink.now) (Told.Tag (tag_of tag)) self.old.line) }
+    {
+        match self.sink.process_token(Token::TagToken(tag), self.line) {
+            Ok(reply) => Ok(reply),
+            Err(SinkFault) => Err(TokenizerError::Sink),
+        }
     }
 
     /// Tells the sink a text of one character.

@@ -143,7 +143,7 @@ impl<S: TokenSink<Token<A>>, A: Allocator + Copy> Teller<'_, S, A> {
             return self.create_tag(at, TagKind::EndTag, c);
         }
         if c != '>' {
-            return self.create_bogus_comment(at, c, State::EndTagOpen);
+            return self.create_bogus_comment(at, c);
         }
         at.state = State::Data;
         self.emit_unexpected(c, State::EndTagOpen)?;

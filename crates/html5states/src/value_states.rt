@@ -48,7 +48,7 @@ impl<S: TokenSink<Token<A>>, A: Allocator + Copy> Teller<'_, S, A> {
             at.old at.new }
     {
         self.emit_unexpected('=', State::BeforeAttributeValue)?;
-        self.emit_tag(at, false)
+        self.end_tag(at, false)
     }
 
     /// The standard's "attribute value (double-quoted) state" and its
@@ -80,7 +80,7 @@ impl<S: TokenSink<Token<A>>, A: Allocator + Copy> Teller<'_, S, A> {
             return Ok(Progress::BeginsReference);
         }
         if c == '>' {
-            return self.emit_tag(at, false);
+            return self.end_tag(at, false);
         }
         if is_white_space(c) {
             at.state = State::BeforeAttributeName;
@@ -98,7 +98,7 @@ impl<S: TokenSink<Token<A>>, A: Allocator + Copy> Teller<'_, S, A> {
             (part_step self.old.exact_errors AfterQuotedValue (open_tag at.old.tag) c) at.old at.new }
     {
         if c == '>' {
-            return self.emit_tag(at, false);
+            return self.end_tag(at, false);
         }
         if is_white_space(c) {
             at.state = State::BeforeAttributeName;

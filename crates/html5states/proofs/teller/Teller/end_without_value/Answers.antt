@@ -10,4 +10,4 @@ returns-in_err-emit_unexpected g c = reads_stop _ c.from_residual.ensures.1 c.in
 
 pub returns : goal.returns
 unfolding Rattle.html5grammar.specs.Machine.closing_step
-returns g c = reads_then {later = closing_step [] (open_tag c.args.at.now.tag) false} c.in_ok-emit_unexpected.ensures c.emit_tag.ensures refl refl
+returns g c = reads_then {later = closing_step [] (open_tag c.args.at.now.tag) false} c.in_ok-emit_unexpected.ensures c.end_tag.ensures refl refl

@@ -1,14 +1,13 @@
-//! What is told where no keyword stands behind the name of a DOCTYPE.
+//! What is told where no keyword stands: after `<!`, or after the name of a DOCTYPE.
 #![tactic(auto, using(crate::proofs::Tellings::tells_from_memory), unfolding(html5grammar::specs::Doctype::keyword_error))]
 
 ghost use Rattle.std.specs.Prelude.{◌≡◌, ◌<◌, ◌+◌, Ok, true, string_bytes};
 ghost use Rattle.html5ever_interface.specs.Token.{doctype_of};
-ghost use Rattle.html5grammar.specs.Machine.{doctype_keyword_step};
-ghost use Rattle.html5grammar.specs.Doctype.{begins_doctype_keyword, keyword_error, with_quirks};
-ghost use Rattle.html5grammar.specs.Reading.Here.{Tells};
-ghost use Rattle.html5grammar.specs.Slice.{tokens_of_late};
+ghost use Rattle.html5grammar.specs.Doctype.{keyword_error, with_quirks};
 ghost use Rattle.html5grammar.specs.Start.DoctypePlace.{Skipped};
-ghost use Rattle.html5grammar.specs.Start.Open.{InDoctype};
+ghost use Rattle.html5grammar.specs.Start.Open.{InDoctype, InBogusComment};
+ghost use Rattle.html5grammar.specs.Comment.{declaration_error};
+ghost use Rattle.html5grammar.specs.Slice.{tokens_of_late};
 ghost use Rattle.html5opened.specs.CurrentTag.{opened_of, last_name_of};
 ghost use Rattle.html5states.specs.Telling.{Emits};
 
@@ -21,7 +20,18 @@ use html5opened::opened::Opened;
 use std::alloc::Allocator;
 
 impl<S: TokenSink<Token<A>>, A: Allocator + Copy> Teller<'_, S, A> {
-    /// Tells that no keyword stands behind the name, with the first character that is held, and
+    /// Tells that no keyword stands after `<!`, and begins a bogus comment with what is held there.
+    pub fn finish_declaration(&mut self, at: &mut Opened<A>) -> Result<(), TokenizerError>
+        ensures emits { Emits S.means S.faults result self.old self.new
+            (tokens_of_late (declaration_error self.old.exact_errors (string_bytes at.old.comment))) }
+        ensures opened { opened_of at.new ≡ InBogusComment (string_bytes at.old.comment) }
+        ensures last { last_name_of at.new ≡ last_name_of at.old }
+    {
+        at.state = State::BogusComment;
+        self.emit_unexpected('!', State::MarkupDeclarationOpen)
+    }
+
+    /// Tells that no keyword stands after the name, with the first character that is held, and
     /// skips the rest.
     pub fn finish_doctype_keyword(&mut self, at: &mut Opened<A>) -> Result<(), TokenizerError>
         ensures emits { Emits S.means S.faults result self.old self.new

@@ -70,7 +70,7 @@ impl<S: TokenSink<Token<A>>, A: Allocator + Copy> Teller<'_, S, A> {
 
     /// Ends the open tag at its `>`. It is told behind this, and the sink's reply to it may choose
     /// another state than Data.
-    pub fn emit_tag(&mut self, at: &mut Opened<A>, self_closing: bool) -> Step
+    pub fn end_tag(&mut self, at: &mut Opened<A>, self_closing: bool) -> Step
         ensures { Reads S.means S.faults result self.old self.new
             (closing_step [] (open_tag at.old.tag) self_closing) at.old at.new }
     {
