@@ -1,4 +1,5 @@
--- The machine between the slices and the code: what one character tells where something is open, and what is open then.
+-- The machine between the slices and the code: what one character tells where something is open, and what is open then. The
+-- contracts of the states' functions cite it. It is no definition of the grammar: `traces` proves that slices tell the same.
 use Rattle.std.specs.Prelude.{ℕ, Bool, true, false, List, [], ◌∷◌, ◌++◌, ◌==◌, ◌&&◌, codes, encode_utf8, Some, if◌then◌else◌}
 use Rattle.std.specs.Str.{bytes_eq}
 use Rattle.html5ever_interface.specs.Sink.{Message, stepped, on_line}
