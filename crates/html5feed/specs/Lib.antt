@@ -2,3 +2,4 @@ pub mod Feed
 pub mod Refused
 pub mod Runs
 pub mod Starting
+pub mod Undecided

@@ -20,7 +20,7 @@ use crate::position::Position;
 use crate::rules::Rules;
 use crate::undecided::read_undecided;
 use html5ever_interface::interface::sink::TokenSink;
-use html5ever_interface::interface::token::{SinkFault, Tag, Token, TokenSinkResult};
+use html5ever_interface::interface::token::{Tag, Token, TokenSinkResult};
 use html5opened::char_ref::CharRef;
 use html5opened::error::TokenizerError;
 use html5opened::opened::{Opened, Progress, Step};
@@ -86,6 +86,7 @@ fn step<S: TokenSink<Token<A>>, A: Allocator + Copy>(
 #[tactic(auto, unfolding(html5ever_interface::specs::Sink::stepped, crate::specs::Feed::first_pause))]
 #[inline(always)]
 fn tell_tag<S: TokenSink<Token<A>>, A: Allocator + Copy>(
+    alloc: A,
     sink: &mut S,
     position: &mut Position<A>,
     tag: Tag<A>,
@@ -105,21 +106,24 @@ fn tell_tag<S: TokenSink<Token<A>>, A: Allocator + Copy>(
     ensures faults { S.faults sink.new ≡ S.faults sink.old + faults_of result }
 {
     position.note_tag(&tag)?;
-    match sink.process_token(Token::TagToken(tag), line) {
-        Ok(TokenSinkResult::Continue) => Ok(TokenizerResult::Done),
-        Ok(TokenSinkResult::Plaintext) => {
+    let mut teller = Teller {
+        sink,
+        alloc,
+        exact_errors: false,
+        line,
+    };
+    match teller.tell_tag(tag)? {
+        TokenSinkResult::Continue => Ok(TokenizerResult::Done),
+        TokenSinkResult::Plaintext => {
             position.set_plaintext();
             Ok(TokenizerResult::Done)
         }
-        Ok(TokenSinkResult::Script(handle)) => Ok(TokenizerResult::Script(handle)),
-        Ok(TokenSinkResult::EncodingIndicator(text)) => {
-            Ok(TokenizerResult::EncodingIndicator(text))
-        }
-        Ok(TokenSinkResult::RawData(kind)) => {
+        TokenSinkResult::Script(handle) => Ok(TokenizerResult::Script(handle)),
+        TokenSinkResult::EncodingIndicator(text) => Ok(TokenizerResult::EncodingIndicator(text)),
+        TokenSinkResult::RawData(kind) => {
             position.set_raw_data(kind);
             Ok(TokenizerResult::Done)
         }
-        Err(SinkFault) => Err(TokenizerError::Sink),
     }
 }
 
@@ -163,7 +167,7 @@ fn read_opened<S: TokenSink<Token<A>>, A: Allocator + Copy>(
         }
         Progress::EndsTag { self_closing } => {
             let tag = position.opened.tag.end(alloc, self_closing);
-            tell_tag(sink, position, tag, line)
+            tell_tag(alloc, sink, position, tag, line)
         }
     }
 }

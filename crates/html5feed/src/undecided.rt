@@ -1,16 +1,16 @@
 //! One character where a reference is not decided, or what may begin a keyword.
 #![tactic(auto, unfolding(html5opened::specs::CharRef::with_reference))]
 
-ghost use Rattle.std.specs.Prelude.{◌≡◌, ◌<◌, ◌≤◌, ◌+◌, ◌&&◌, ℕ, true, false, Some, IfOk, IfErr, OnOk};
+ghost use Rattle.std.specs.Prelude.{◌≡◌, ◌<◌, ◌+◌, ◌&&◌, ℕ, true, false, Some, IfOk, IfErr, OnOk};
 ghost use Rattle.html5ever_interface.specs.Sink.{on_line};
 ghost use Rattle.html5grammar.specs.EndOfInput.{late_at_end_of, open_at_end_of};
 ghost use Rattle.html5grammar.specs.Reference.{ends_number, late_tokens, opened_behind};
 ghost use Rattle.html5grammar.specs.Slice.{tokens_of_late};
-ghost use Rattle.html5grammar.specs.Start.{is_undecided_open, held_len};
+ghost use Rattle.html5grammar.specs.Start.{is_undecided_open};
 ghost use Rattle.html5opened.specs.CharRef.{HasStand, stand_of, found_at};
-ghost use Rattle.html5opened.specs.Undecided.{BelongsTo, Decides, asks, is_reference, is_keyword_open};
+ghost use Rattle.html5opened.specs.Undecided.{asks, is_reference, is_keyword_open};
 ghost use Rattle.html5opened.specs.CurrentTag.{opened_of, last_name_of};
-ghost use Rattle.html5grammar.specs.Machine.{brought_at};
+ghost use Rattle.html5feed.specs.Undecided.{ReadsUndecided};
 ghost use Rattle.html5states.specs.Telling.{Tells, IsRefusal, faults_of};
 
 use crate::position::Position;
@@ -104,7 +104,7 @@ pub fn finish_reference<S: TokenSink<Token<A>>, A: Allocator + Copy>(
     teller.finish_reference(rules.names, opened, held, next)
 }
 
-// Reads a character behind what is held of a reference, whose line before it was `line`: whether it
+// Reads a character after what is held of a reference, whose line before it was `line`: whether it
 // belongs to the reference. Else the reference is decided, and the character is still to be read.
 fn read_reference<S: TokenSink<Token<A>>, A: Allocator + Copy>(
     alloc: A,
@@ -115,15 +115,7 @@ fn read_reference<S: TokenSink<Token<A>>, A: Allocator + Copy>(
     c: char,
 ) -> Result<bool, TokenizerError>
     requires { is_reference position.old.opened ≡ true }
-    ensures tells { Tells S.means.step S.means.faulted result (S.means.state sink.old)
-        (on_line line (tokens_of_late (brought_at rules.now (S.means.foreign (S.means.state sink.old)) position.old.opened c).settled)) (S.means.state sink.new) }
-    ensures taken { result ≡ Ok true → BelongsTo rules.now (S.means.foreign (S.means.state sink.old)) position.old.opened c position.new.opened }
-    ensures decided { result ≡ Ok false → Decides rules.now (S.means.foreign (S.means.state sink.old)) position.old.opened c position.new.opened }
-    ensures last { position.new.last_start_tag ≡ position.old.last_start_tag }
-    ensures refusal { IfErr result IsRefusal }
-    ensures input { position.new.input ≡ position.old.input }
-    ensures held { held_len position.new.opened ≤ held_len position.old.opened + 1 }
-    ensures faults { S.faults sink.new ≡ S.faults sink.old + faults_of result }
+    ensures { ReadsUndecided S.means S.faults rules.now line c result sink.old sink.new position.old position.new }
 {
     if position.held.hold(rules.names, c)? {
         return Ok(true);
@@ -134,7 +126,7 @@ fn read_reference<S: TokenSink<Token<A>>, A: Allocator + Copy>(
     Ok(ends)
 }
 
-// Reads a character behind what may begin a keyword, in the same way. The sink is asked where that
+// Reads a character after what may begin a keyword, in the same way. The sink is asked where that
 // may be the keyword of a CDATA section.
 fn read_keyword<S: TokenSink<Token<A>>, A: Allocator + Copy>(
     alloc: A,
@@ -145,15 +137,7 @@ fn read_keyword<S: TokenSink<Token<A>>, A: Allocator + Copy>(
     c: char,
 ) -> Result<bool, TokenizerError>
     requires { is_keyword_open position.old.opened ≡ true }
-    ensures tells { Tells S.means.step S.means.faulted result (S.means.state sink.old)
-        (on_line line (tokens_of_late (brought_at rules.now (S.means.foreign (S.means.state sink.old)) position.old.opened c).settled)) (S.means.state sink.new) }
-    ensures taken { result ≡ Ok true → BelongsTo rules.now (S.means.foreign (S.means.state sink.old)) position.old.opened c position.new.opened }
-    ensures decided { result ≡ Ok false → Decides rules.now (S.means.foreign (S.means.state sink.old)) position.old.opened c position.new.opened }
-    ensures last { position.new.last_start_tag ≡ position.old.last_start_tag }
-    ensures refusal { IfErr result IsRefusal }
-    ensures input { position.new.input ≡ position.old.input }
-    ensures held { held_len position.new.opened ≤ held_len position.old.opened + 1 }
-    ensures faults { S.faults sink.new ≡ S.faults sink.old + faults_of result }
+    ensures { ReadsUndecided S.means S.faults rules.now line c result sink.old sink.new position.old position.new }
 {
     let foreign = asked_about_foreign(sink, &position.opened, c);
     if hold_keyword(&mut position.opened, c, foreign)? {
@@ -174,15 +158,7 @@ pub fn read_undecided<S: TokenSink<Token<A>>, A: Allocator + Copy>(
     c: char,
 ) -> Result<bool, TokenizerError>
     requires { is_undecided_open position.old.opened ≡ true }
-    ensures tells { Tells S.means.step S.means.faulted result (S.means.state sink.old)
-        (on_line line (tokens_of_late (brought_at rules.now (S.means.foreign (S.means.state sink.old)) position.old.opened c).settled)) (S.means.state sink.new) }
-    ensures taken { result ≡ Ok true → BelongsTo rules.now (S.means.foreign (S.means.state sink.old)) position.old.opened c position.new.opened }
-    ensures decided { result ≡ Ok false → Decides rules.now (S.means.foreign (S.means.state sink.old)) position.old.opened c position.new.opened }
-    ensures last { position.new.last_start_tag ≡ position.old.last_start_tag }
-    ensures refusal { IfErr result IsRefusal }
-    ensures input { position.new.input ≡ position.old.input }
-    ensures held { held_len position.new.opened ≤ held_len position.old.opened + 1 }
-    ensures faults { S.faults sink.new ≡ S.faults sink.old + faults_of result }
+    ensures { ReadsUndecided S.means S.faults rules.now line c result sink.old sink.new position.old position.new }
 {
     if position.in_reference {
         return read_reference(alloc, sink, rules, position, line, c);

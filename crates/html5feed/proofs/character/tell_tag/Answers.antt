@@ -1,7 +1,5 @@
-use Rattle.html5ever_interface.specs.declared.interface.token.Token.TheVariants.{TagToken}
-use Rattle.html5opened.proofs.Keywords.{cons≢nil}
-use Rattle.html5states.proofs.Tellings.{token-faults}
+use Rattle.html5states.proofs.Tellings.{tells_stop}
 use Rattle.html5feed.proofs.character.tell_tag.Goals as goal
 
-pub returns-in-Err-clause-tells : goal.returns-in-Err-clause-tells
-returns-in-Err-clause-tells g c = token-faults g.S.TokenSink.means.step g.S.TokenSink.means.faulted _ _ (TagToken c.args.tag) c.args.line (cons≢nil _ _) c.in-Err.ensures.fault
+pub returns-in_err-tell_tag-clause-tells : goal.returns-in_err-tell_tag-clause-tells
+returns-in_err-tell_tag-clause-tells g c = tells_stop _ _ _ _ _ _ _ c.from_residual.ensures.1 c.in_err-tell_tag.ensures.emits.tells

@@ -14,37 +14,40 @@ hold_keyword-requires g c = keyword-opened c.position.inside.in_reference c.posi
 
 -- the character can't be held
 
-pub returns-in_err-hold_keyword-clause-tells : goal.returns-in_err-hold_keyword-clause-tells
-returns-in_err-hold_keyword-clause-tells g c = tells_from_memory _ _ _ _ _ c.from_residual.ensures.1
-
-pub returns-in_err-hold_keyword-clause-held : goal.returns-in_err-hold_keyword-clause-held
-returns-in_err-hold_keyword-clause-held g c =
+pub returns-in_err-hold_keyword : goal.returns-in_err-hold_keyword
+returns-in_err-hold_keyword g c =
     let out = no_reference-keyword c.position.inside.in_reference c.position.inside.held (opened_of c.position.inside.opened) (rw (← c.position.view_is) at c.requires) in
-    rw (← c.position.view_is) (held_len-beside c.position.inside.in_reference c.position.inside.held (opened_of c.position.inside.opened) _ out c.in_err-hold_keyword.ensures.held)
+    record {
+      tells = tells_from_memory _ _ _ _ _ c.from_residual.ensures.1;
+      taken = search rules;
+      decided = search rules;
+      last = search rules;
+      input = search rules;
+      held = rw (← c.position.view_is) (held_len-beside c.position.inside.in_reference c.position.inside.held (opened_of c.position.inside.opened) _ out c.in_err-hold_keyword.ensures.held);
+      refusal = search rules;
+      faults = search rules;
+    }
 
 -- it belongs to a keyword
 
-pub returns-then-branch-clause-tells : goal.returns-then-branch-clause-tells
+pub returns-then-branch : goal.returns-then-branch
 unfolding stepped
-returns-then-branch-clause-tells g c =
+returns-then-branch g c =
     let same = beside c.position.inside.in_reference c.position.inside.held (opened_of c.position.inside.opened) (rw (← c.position.view_is) at c.requires) in
-    let goes =
-    goes_on-asked (g.S.TokenSink.means.foreign (g.S.TokenSink.means.state c.args.sink.now)) (opened_of c.position.inside.opened) c.args.c (opened_of c.hold_keyword.new.opened)
-    (rw c.asked_about_foreign-foreign.ensures at c.in_ok-hold_keyword.ensures.taken (ap Ok c.if-branch.true)) in
-    rw (← c.position.view_is, same (opened_of c.position.inside.opened), goes.settled c.args.rules.now) refl
-
-pub returns-then-branch-clause-taken : goal.returns-then-branch-clause-taken
-returns-then-branch-clause-taken g c = λ yes.
-    let same = beside c.position.inside.in_reference c.position.inside.held (opened_of c.position.inside.opened) (rw (← c.position.view_is) at c.requires) in
-    let goes =
-    goes_on-asked (g.S.TokenSink.means.foreign (g.S.TokenSink.means.state c.args.sink.now)) (opened_of c.position.inside.opened) c.args.c (opened_of c.hold_keyword.new.opened)
-    (rw c.asked_about_foreign-foreign.ensures at c.in_ok-hold_keyword.ensures.taken (ap Ok c.if-branch.true)) in
-    rw (← c.position.view_is, same (opened_of c.position.inside.opened), same (opened_of c.hold_keyword.new.opened)) (goes.belongs c.args.rules.now)
-
-pub returns-then-branch-clause-held : goal.returns-then-branch-clause-held
-returns-then-branch-clause-held g c =
     let out = no_reference-keyword c.position.inside.in_reference c.position.inside.held (opened_of c.position.inside.opened) (rw (← c.position.view_is) at c.requires) in
-    rw (← c.position.view_is) (held_len-beside c.position.inside.in_reference c.position.inside.held (opened_of c.position.inside.opened) _ out c.in_ok-hold_keyword.ensures.held)
+    let goes =
+    goes_on-asked (g.S.TokenSink.means.foreign (g.S.TokenSink.means.state c.args.sink.now)) (opened_of c.position.inside.opened) c.args.c (opened_of c.hold_keyword.new.opened)
+    (rw c.asked_about_foreign-foreign.ensures at c.in_ok-hold_keyword.ensures.taken (ap Ok c.if-branch.true)) in
+    record {
+      tells = rw (← c.position.view_is, same (opened_of c.position.inside.opened), goes.settled c.args.rules.now) refl;
+      taken = λ yes. rw (← c.position.view_is, same (opened_of c.position.inside.opened), same (opened_of c.hold_keyword.new.opened)) (goes.belongs c.args.rules.now);
+      decided = search rules;
+      last = search rules;
+      input = search rules;
+      held = rw (← c.position.view_is) (held_len-beside c.position.inside.in_reference c.position.inside.held (opened_of c.position.inside.opened) _ out c.in_ok-hold_keyword.ensures.held);
+      refusal = search rules;
+      faults = search rules;
+    }
 
 -- no keyword goes on with it
 
@@ -53,50 +56,38 @@ finish_keyword-requires g c =
     rw (c.in_ok-hold_keyword.ensures.kept (ap Ok c.if-branch.false))
     (keyword-opened c.position.inside.in_reference c.position.inside.held (opened_of c.position.inside.opened) (rw (← c.position.view_is) at c.requires))
 
-pub returns-in_err-finish_keyword-clause-tells : goal.returns-in_err-finish_keyword-clause-tells
-returns-in_err-finish_keyword-clause-tells g c =
-    let same = beside c.position.inside.in_reference c.position.inside.held (opened_of c.position.inside.opened) (rw (← c.position.view_is) at c.requires) in
-    let ends =
-    ends-asked (g.S.TokenSink.means.foreign (g.S.TokenSink.means.state c.args.sink.now)) (opened_of c.position.inside.opened) c.args.c
-    (rw c.asked_about_foreign-foreign.ensures at c.in_ok-hold_keyword.ensures.decided (ap Ok c.if-branch.false)) in
-    rw (← c.position.view_is, same (opened_of c.position.inside.opened), ends.settled c.args.rules.now)
-    (tells_stop _ _ _ _ _ _ _ c.from_residual-in_err-finish_keyword.ensures.1
-    (rw (c.in_ok-hold_keyword.ensures.kept (ap Ok c.if-branch.false)) at c.in_err-finish_keyword.ensures.tells))
-
-pub returns-in_err-finish_keyword-clause-held : goal.returns-in_err-finish_keyword-clause-held
-returns-in_err-finish_keyword-clause-held g c =
+pub returns-in_err-finish_keyword : goal.returns-in_err-finish_keyword
+returns-in_err-finish_keyword g c =
     let same = beside c.position.inside.in_reference c.position.inside.held (opened_of c.position.inside.opened) (rw (← c.position.view_is) at c.requires) in
     let keyword = keyword-opened c.position.inside.in_reference c.position.inside.held (opened_of c.position.inside.opened) (rw (← c.position.view_is) at c.requires) in
-    rw (
-      same (opened_of c.finish_keyword.new.opened),
-      end-holds c.args.rules.now (opened_of c.position.inside.opened) (opened_of c.finish_keyword.new.opened) keyword
-          (rw (c.in_ok-hold_keyword.ensures.kept (ap Ok c.if-branch.false)) at c.in_err-finish_keyword.ensures.opened),
-    ) (omega arith)
-
-pub returns-clause-tells : goal.returns-clause-tells
-returns-clause-tells g c =
-    let same = beside c.position.inside.in_reference c.position.inside.held (opened_of c.position.inside.opened) (rw (← c.position.view_is) at c.requires) in
     let ends =
     ends-asked (g.S.TokenSink.means.foreign (g.S.TokenSink.means.state c.args.sink.now)) (opened_of c.position.inside.opened) c.args.c
     (rw c.asked_about_foreign-foreign.ensures at c.in_ok-hold_keyword.ensures.decided (ap Ok c.if-branch.false)) in
-    rw (← c.position.view_is, same (opened_of c.position.inside.opened), ends.settled c.args.rules.now)
-    (rw (c.in_ok-hold_keyword.ensures.kept (ap Ok c.if-branch.false)) at c.in_ok-finish_keyword.ensures.tells)
+    record {
+      tells = rw (← c.position.view_is, same (opened_of c.position.inside.opened), ends.settled c.args.rules.now) (tells_stop _ _ _ _ _ _ _ c.from_residual-in_err-finish_keyword.ensures.1 (rw (c.in_ok-hold_keyword.ensures.kept (ap Ok c.if-branch.false)) at c.in_err-finish_keyword.ensures.tells));
+      taken = search rules;
+      decided = search rules;
+      last = search rules;
+      input = search rules;
+      held = rw (same (opened_of c.finish_keyword.new.opened), end-holds c.args.rules.now (opened_of c.position.inside.opened) (opened_of c.finish_keyword.new.opened) keyword (rw (c.in_ok-hold_keyword.ensures.kept (ap Ok c.if-branch.false)) at c.in_err-finish_keyword.ensures.opened)) (omega arith);
+      refusal = search rules;
+      faults = search rules;
+    }
 
-pub returns-clause-decided : goal.returns-clause-decided
-returns-clause-decided g c = λ no.
-    let same = beside c.position.inside.in_reference c.position.inside.held (opened_of c.position.inside.opened) (rw (← c.position.view_is) at c.requires) in
-    let ends =
-    ends-asked (g.S.TokenSink.means.foreign (g.S.TokenSink.means.state c.args.sink.now)) (opened_of c.position.inside.opened) c.args.c
-    (rw c.asked_about_foreign-foreign.ensures at c.in_ok-hold_keyword.ensures.decided (ap Ok c.if-branch.false)) in
-    rw (← c.position.view_is, same (opened_of c.position.inside.opened), same (opened_of c.finish_keyword.new.opened), (rw (c.in_ok-hold_keyword.ensures.kept (ap Ok c.if-branch.false)) at c.in_ok-finish_keyword.ensures.opened))
-    (ends.decides c.args.rules.now)
-
-pub returns-clause-held : goal.returns-clause-held
-returns-clause-held g c =
+pub returns : goal.returns
+returns g c =
     let same = beside c.position.inside.in_reference c.position.inside.held (opened_of c.position.inside.opened) (rw (← c.position.view_is) at c.requires) in
     let keyword = keyword-opened c.position.inside.in_reference c.position.inside.held (opened_of c.position.inside.opened) (rw (← c.position.view_is) at c.requires) in
-    rw (
-      same (opened_of c.finish_keyword.new.opened),
-      end-holds c.args.rules.now (opened_of c.position.inside.opened) (opened_of c.finish_keyword.new.opened) keyword
-          (rw (c.in_ok-hold_keyword.ensures.kept (ap Ok c.if-branch.false)) at c.in_ok-finish_keyword.ensures.opened),
-    ) (omega arith)
+    let ends =
+    ends-asked (g.S.TokenSink.means.foreign (g.S.TokenSink.means.state c.args.sink.now)) (opened_of c.position.inside.opened) c.args.c
+    (rw c.asked_about_foreign-foreign.ensures at c.in_ok-hold_keyword.ensures.decided (ap Ok c.if-branch.false)) in
+    record {
+      tells = rw (← c.position.view_is, same (opened_of c.position.inside.opened), ends.settled c.args.rules.now) (rw (c.in_ok-hold_keyword.ensures.kept (ap Ok c.if-branch.false)) at c.in_ok-finish_keyword.ensures.tells);
+      taken = search rules;
+      decided = λ no. rw (← c.position.view_is, same (opened_of c.position.inside.opened), same (opened_of c.finish_keyword.new.opened), (rw (c.in_ok-hold_keyword.ensures.kept (ap Ok c.if-branch.false)) at c.in_ok-finish_keyword.ensures.opened)) (ends.decides c.args.rules.now);
+      last = search rules;
+      input = search rules;
+      held = rw (same (opened_of c.finish_keyword.new.opened), end-holds c.args.rules.now (opened_of c.position.inside.opened) (opened_of c.finish_keyword.new.opened) keyword (rw (c.in_ok-hold_keyword.ensures.kept (ap Ok c.if-branch.false)) at c.in_ok-finish_keyword.ensures.opened)) (omega arith);
+      refusal = search rules;
+      faults = search rules;
+    }

@@ -9,61 +9,65 @@ use Rattle.html5feed.proofs.UndecidedReading.{brought-held, brought-decided, bel
 use Rattle.html5opened.proofs.Decided.{is_in, state-no_reference, with_reference-out}
 use Rattle.html5feed.proofs.undecided.read_reference.Goals as goal
 
-pub returns-in_err-hold-clause-tells : goal.returns-in_err-hold-clause-tells
-returns-in_err-hold-clause-tells g c = tells_from_memory _ _ _ _ _ c.from_residual.ensures.1
+pub returns-in_err-hold : goal.returns-in_err-hold
+returns-in_err-hold g c =
+    record {
+      tells = tells_from_memory _ _ _ _ _ c.from_residual.ensures.1;
+      taken = search rules;
+      decided = search rules;
+      last = search rules;
+      input = search rules;
+      held = search rules;
+      refusal = search rules;
+      faults = search rules;
+    }
 
-pub returns-then-branch-clause-tells : goal.returns-then-branch-clause-tells
+pub returns-then-branch : goal.returns-then-branch
 unfolding stepped
-returns-then-branch-clause-tells g c =
-    let inside = is_in c.position.inside.in_reference c.position.inside.held (opened_of c.position.inside.opened) (state-no_reference c.position.inside.opened.state c.position.inside.opened) (rw (← c.position.view_is) at c.requires) in
-    rw (← c.rules.view_is, ← c.position.view_is, brought-held (record { exact = c.rules.inside.exact_errors; names = c.rules.inside.names.now }) (g.S.TokenSink.means.foreign (g.S.TokenSink.means.state c.args.sink.now)) c.position.inside.in_reference c.position.inside.held (opened_of c.position.inside.opened) c.args.c inside (sym c.in_ok-hold.ensures.undecided ∙ c.if-branch.true)) refl
-
-pub returns-then-branch-clause-taken : goal.returns-then-branch-clause-taken
-returns-then-branch-clause-taken g c = λ same.
+returns-then-branch g c =
     let inside = is_in c.position.inside.in_reference c.position.inside.held (opened_of c.position.inside.opened) (state-no_reference c.position.inside.opened.state c.position.inside.opened) (rw (← c.position.view_is) at c.requires) in
     let plain = c.in_ok-hold.ensures.plain (ap Ok c.if-branch.true) in
     let now : c.hold.new.self ≡ c.position.inside.held ++ c.args.c ∷ [] = c.in_ok-hold.ensures.held ∙ rw c.if-branch.true refl in
-    rw (← c.rules.view_is, ← c.position.view_is, now)
-    (belongs-held (record { exact = c.rules.inside.exact_errors; names = c.rules.inside.names.now }) (g.S.TokenSink.means.foreign (g.S.TokenSink.means.state c.args.sink.now)) c.position.inside.in_reference c.position.inside.held (opened_of c.position.inside.opened) c.args.c inside (sym c.in_ok-hold.ensures.undecided ∙ c.if-branch.true) (good_between c.args.c plain.0 plain.1))
-
-pub returns-then-branch-clause-held : goal.returns-then-branch-clause-held
-returns-then-branch-clause-held g c =
-    let inside = is_in c.position.inside.in_reference c.position.inside.held (opened_of c.position.inside.opened) (state-no_reference c.position.inside.opened.state c.position.inside.opened) (rw (← c.position.view_is) at c.requires) in
-    let now : c.hold.new.self ≡ c.position.inside.held ++ c.args.c ∷ [] = c.in_ok-hold.ensures.held ∙ rw c.if-branch.true refl in
-    subst (λ l. held_len (with_reference c.position.inside.in_reference l (opened_of c.position.inside.opened)) ≤ held_len c.args.position.now.opened + 1) (sym now) (rw (← c.position.view_is) (held_len-held (record { exact = c.rules.inside.exact_errors; names = c.rules.inside.names.now }) (g.S.TokenSink.means.foreign (g.S.TokenSink.means.state c.args.sink.now)) c.position.inside.in_reference c.position.inside.held (opened_of c.position.inside.opened) c.args.c inside))
+    record {
+      tells = rw (← c.rules.view_is, ← c.position.view_is, brought-held (record { exact = c.rules.inside.exact_errors; names = c.rules.inside.names.now }) (g.S.TokenSink.means.foreign (g.S.TokenSink.means.state c.args.sink.now)) c.position.inside.in_reference c.position.inside.held (opened_of c.position.inside.opened) c.args.c inside (sym c.in_ok-hold.ensures.undecided ∙ c.if-branch.true)) refl;
+      taken = λ same. rw (← c.rules.view_is, ← c.position.view_is, now) (belongs-held (record { exact = c.rules.inside.exact_errors; names = c.rules.inside.names.now }) (g.S.TokenSink.means.foreign (g.S.TokenSink.means.state c.args.sink.now)) c.position.inside.in_reference c.position.inside.held (opened_of c.position.inside.opened) c.args.c inside (sym c.in_ok-hold.ensures.undecided ∙ c.if-branch.true) (good_between c.args.c plain.0 plain.1));
+      decided = search rules;
+      last = search rules;
+      input = search rules;
+      held = subst (λ l. held_len (with_reference c.position.inside.in_reference l (opened_of c.position.inside.opened)) ≤ held_len c.args.position.now.opened + 1) (sym now) (rw (← c.position.view_is) (held_len-held (record { exact = c.rules.inside.exact_errors; names = c.rules.inside.names.now }) (g.S.TokenSink.means.foreign (g.S.TokenSink.means.state c.args.sink.now)) c.position.inside.in_reference c.position.inside.held (opened_of c.position.inside.opened) c.args.c inside));
+      refusal = search rules;
+      faults = search rules;
+    }
 
 pub finish_reference-requires : goal.finish_reference-requires
 finish_reference-requires g c = c.position.invariant (is_in _ _ _ (state-no_reference c.position.inside.opened.state c.position.inside.opened) (rw (← c.position.view_is) at c.requires))
 
-pub returns-in_err-ends-clause-held : goal.returns-in_err-ends-clause-held
-returns-in_err-ends-clause-held g c =
+pub returns-in_err-ends : goal.returns-in_err-ends
+returns-in_err-ends g c =
     let inside = is_in c.position.inside.in_reference c.position.inside.held (opened_of c.position.inside.opened) (state-no_reference c.position.inside.opened.state c.position.inside.opened) (rw (← c.position.view_is) at c.requires) in
     let now : c.hold.new.self ≡ c.position.inside.held = c.in_ok-hold.ensures.held ∙ rw c.if-branch.false refl in
-    subst (λ l. held_len (with_reference c.position.inside.in_reference l (opened_of c.finish_reference.new.opened)) ≤ held_len c.args.position.now.opened + 1) (sym now) (rw (← c.position.view_is) (held_len-same c.position.inside.in_reference c.position.inside.held (opened_of c.position.inside.opened) _ inside))
+    record {
+      tells = rw (← c.rules.view_is, ← c.position.view_is, brought-decided (record { exact = c.rules.inside.exact_errors; names = c.rules.inside.names.now }) (g.S.TokenSink.means.foreign (g.S.TokenSink.means.state c.args.sink.now)) c.position.inside.in_reference c.position.inside.held (opened_of c.position.inside.opened) c.args.c inside (sym c.in_ok-hold.ensures.undecided ∙ c.if-branch.false)) (tells_stop _ _ _ _ _ _ _ c.from_residual-in_err-ends.ensures.1 (rw (now, ← c.rules.view_is) at c.in_err-ends.ensures.tells));
+      taken = search rules;
+      decided = search rules;
+      last = search rules;
+      input = search rules;
+      held = subst (λ l. held_len (with_reference c.position.inside.in_reference l (opened_of c.finish_reference.new.opened)) ≤ held_len c.args.position.now.opened + 1) (sym now) (rw (← c.position.view_is) (held_len-same c.position.inside.in_reference c.position.inside.held (opened_of c.position.inside.opened) _ inside));
+      refusal = search rules;
+      faults = search rules;
+    }
 
-pub returns-in_err-ends-clause-tells : goal.returns-in_err-ends-clause-tells
-returns-in_err-ends-clause-tells g c =
+pub returns : goal.returns
+returns g c =
     let inside = is_in c.position.inside.in_reference c.position.inside.held (opened_of c.position.inside.opened) (state-no_reference c.position.inside.opened.state c.position.inside.opened) (rw (← c.position.view_is) at c.requires) in
     let now : c.hold.new.self ≡ c.position.inside.held = c.in_ok-hold.ensures.held ∙ rw c.if-branch.false refl in
-    rw (← c.rules.view_is, ← c.position.view_is, brought-decided (record { exact = c.rules.inside.exact_errors; names = c.rules.inside.names.now }) (g.S.TokenSink.means.foreign (g.S.TokenSink.means.state c.args.sink.now)) c.position.inside.in_reference c.position.inside.held (opened_of c.position.inside.opened) c.args.c inside (sym c.in_ok-hold.ensures.undecided ∙ c.if-branch.false))
-    (tells_stop _ _ _ _ _ _ _ c.from_residual-in_err-ends.ensures.1 (rw (now, ← c.rules.view_is) at c.in_err-ends.ensures.tells))
-
-pub returns-clause-tells : goal.returns-clause-tells
-returns-clause-tells g c =
-    let inside = is_in c.position.inside.in_reference c.position.inside.held (opened_of c.position.inside.opened) (state-no_reference c.position.inside.opened.state c.position.inside.opened) (rw (← c.position.view_is) at c.requires) in
-    let now : c.hold.new.self ≡ c.position.inside.held = c.in_ok-hold.ensures.held ∙ rw c.if-branch.false refl in
-    rw (← c.rules.view_is, ← c.position.view_is, brought-decided (record { exact = c.rules.inside.exact_errors; names = c.rules.inside.names.now }) (g.S.TokenSink.means.foreign (g.S.TokenSink.means.state c.args.sink.now)) c.position.inside.in_reference c.position.inside.held (opened_of c.position.inside.opened) c.args.c inside (sym c.in_ok-hold.ensures.undecided ∙ c.if-branch.false)) (rw (now, ← c.rules.view_is) at c.in_ok-ends.ensures.tells)
-
-pub returns-clause-taken : goal.returns-clause-taken
-returns-clause-taken g c = λ same.
-    let inside = is_in c.position.inside.in_reference c.position.inside.held (opened_of c.position.inside.opened) (state-no_reference c.position.inside.opened.state c.position.inside.opened) (rw (← c.position.view_is) at c.requires) in
-    let now : c.hold.new.self ≡ c.position.inside.held = c.in_ok-hold.ensures.held ∙ rw c.if-branch.false refl in
-    rw (← c.rules.view_is, ← c.position.view_is)
-    (belongs-end (record { exact = c.rules.inside.exact_errors; names = c.rules.inside.names.now }) (g.S.TokenSink.means.foreign (g.S.TokenSink.means.state c.args.sink.now)) c.position.inside.in_reference c.position.inside.held (opened_of c.position.inside.opened) c.args.c inside _ (sym c.in_ok-hold.ensures.undecided ∙ c.if-branch.false) (sym (rw now at c.in_ok-ends.ensures.ends c.args.c refl) ∙ answer-is _ _ same) (with_reference-out _ _ ∙ rw (now, ← c.rules.view_is) at c.in_ok-ends.ensures.leads))
-
-pub returns-clause-decided : goal.returns-clause-decided
-returns-clause-decided g c = λ same.
-    let inside = is_in c.position.inside.in_reference c.position.inside.held (opened_of c.position.inside.opened) (state-no_reference c.position.inside.opened.state c.position.inside.opened) (rw (← c.position.view_is) at c.requires) in
-    let now : c.hold.new.self ≡ c.position.inside.held = c.in_ok-hold.ensures.held ∙ rw c.if-branch.false refl in
-    rw (← c.rules.view_is, ← c.position.view_is)
-    (decides (record { exact = c.rules.inside.exact_errors; names = c.rules.inside.names.now }) (g.S.TokenSink.means.foreign (g.S.TokenSink.means.state c.args.sink.now)) c.position.inside.in_reference c.position.inside.held (opened_of c.position.inside.opened) c.args.c inside _ (sym c.in_ok-hold.ensures.undecided ∙ c.if-branch.false) (sym (rw now at c.in_ok-ends.ensures.ends c.args.c refl) ∙ answer-is _ _ same) (with_reference-out _ _ ∙ rw (now, ← c.rules.view_is) at c.in_ok-ends.ensures.leads))
+    record {
+      tells = rw (← c.rules.view_is, ← c.position.view_is, brought-decided (record { exact = c.rules.inside.exact_errors; names = c.rules.inside.names.now }) (g.S.TokenSink.means.foreign (g.S.TokenSink.means.state c.args.sink.now)) c.position.inside.in_reference c.position.inside.held (opened_of c.position.inside.opened) c.args.c inside (sym c.in_ok-hold.ensures.undecided ∙ c.if-branch.false)) (rw (now, ← c.rules.view_is) at c.in_ok-ends.ensures.tells);
+      taken = λ same. rw (← c.rules.view_is, ← c.position.view_is) (belongs-end (record { exact = c.rules.inside.exact_errors; names = c.rules.inside.names.now }) (g.S.TokenSink.means.foreign (g.S.TokenSink.means.state c.args.sink.now)) c.position.inside.in_reference c.position.inside.held (opened_of c.position.inside.opened) c.args.c inside _ (sym c.in_ok-hold.ensures.undecided ∙ c.if-branch.false) (sym (rw now at c.in_ok-ends.ensures.ends c.args.c refl) ∙ answer-is _ _ same) (with_reference-out _ _ ∙ rw (now, ← c.rules.view_is) at c.in_ok-ends.ensures.leads));
+      decided = λ same. rw (← c.rules.view_is, ← c.position.view_is) (decides (record { exact = c.rules.inside.exact_errors; names = c.rules.inside.names.now }) (g.S.TokenSink.means.foreign (g.S.TokenSink.means.state c.args.sink.now)) c.position.inside.in_reference c.position.inside.held (opened_of c.position.inside.opened) c.args.c inside _ (sym c.in_ok-hold.ensures.undecided ∙ c.if-branch.false) (sym (rw now at c.in_ok-ends.ensures.ends c.args.c refl) ∙ answer-is _ _ same) (with_reference-out _ _ ∙ rw (now, ← c.rules.view_is) at c.in_ok-ends.ensures.leads));
+      last = search rules;
+      input = search rules;
+      held = search rules;
+      refusal = search rules;
+      faults = search rules;
+    }

@@ -1,0 +1,23 @@
+-- What is read at a character where a reference is not decided, or what may begin a keyword.
+use Rattle.std.specs.Prelude.{◌≡◌, ◌≤◌, ℕ, ◌+◌, Bool, true, false, Result, Ok, IfErr}
+use Rattle.html5ever_interface.specs.Sink.{Means, on_line}
+use Rattle.html5grammar.specs.Machine.{brought_at}
+use Rattle.html5grammar.specs.Slice.{tokens_of_late}
+use Rattle.html5grammar.specs.Start.{Start, Rules, held_len}
+use Rattle.html5opened.specs.Undecided.{BelongsTo, Decides}
+use Rattle.html5opened.specs.declared.error.TokenizerError.{TokenizerError}
+use Rattle.html5states.specs.Telling.{Tells, IsRefusal, faults_of}
+
+module _ {X S H : Type 0} (means : Means X S H) (count : X → ℕ) where
+  -- the character c, read where `old` stands and `before` is the sink: `Ok true` where it belongs to what is held, `Ok false` where
+  -- it decides, and is still to be read
+  pub record ReadsUndecided (rules : Rules) (line c : ℕ) (result : Result Bool TokenizerError) (before after : X) (old new : Start) : Type 0 where
+    pub tells : Tells means.step means.faulted result (means.state before)
+        (on_line line (tokens_of_late (brought_at rules (means.foreign (means.state before)) old.opened c).settled)) (means.state after)
+    pub taken : result ≡ Ok true → BelongsTo rules (means.foreign (means.state before)) old.opened c new.opened
+    pub decided : result ≡ Ok false → Decides rules (means.foreign (means.state before)) old.opened c new.opened
+    pub last : new.last_start_tag ≡ old.last_start_tag
+    pub input : new.input ≡ old.input
+    pub held : held_len new.opened ≤ held_len old.opened + 1
+    pub refusal : IfErr result IsRefusal
+    pub faults : count after ≡ count before + faults_of result
