@@ -1,11 +1,16 @@
-//! What a program reads from and writes to. Contracts see how often each failed.
+//! What a program reads from and writes to, at once or a page at a time. Contracts see how often each
+//! failed.
 #![tactic(auto)]
 
 pub mod fakes;
 mod fault;
+mod logged;
+mod printer;
 mod reading;
 mod writing;
 
 pub use crate::fault::Fault;
+pub use crate::logged::Logged;
+pub use crate::printer::Printer;
 pub use crate::reading::{ReadSource, Source, read_to_end};
 pub use crate::writing::{Target, WriteTarget, write_all};

@@ -3,11 +3,10 @@ ghost use Rattle.std.specs.Prelude.{◌≡◌, Some};
 
 use crate::names::{NamesError, few_names};
 use crate::running::Filter;
-use devices::{Source, Target, WriteTarget};
+use devices::{Printer, Source, Target, WriteTarget};
 use html5stream::StreamError;
 use ghost_counts::Count;
 use markup5ever::data::NamedReferences;
-use printer::Printer;
 use std::alloc::Global;
 use std::io;
 use std::io::Read;

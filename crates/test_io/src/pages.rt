@@ -1,7 +1,6 @@
 //! Texts that are longer than a page, and pages that were not written.
 use devices::fakes::{FailingTarget, Refusal};
-use devices::{Fault, WriteTarget};
-use printer::Printer;
+use devices::{Fault, Printer, WriteTarget};
 use std::alloc::Global;
 use std::process::Abort;
 

@@ -1,8 +1,8 @@
 //! A target of which contracts know what it took.
 ghost use Rattle.std.specs.Prelude.{◌≡◌, [], Some};
 
+use crate::writing::Target;
 use ghost_counts::Log;
-use devices::Target;
 use std::io;
 use std::marker::Model;
 
@@ -14,7 +14,7 @@ pub struct Logged<W> {
 }
 
 impl<W> Model for Logged<W> {
-    ghost use Rattle.printer.specs.Printing.{Taking};
+    ghost use Rattle.devices.specs.Printing.{Taking};
 
     ghost Value = { Taking W };
 
