@@ -2,7 +2,6 @@
 //! failed.
 #![tactic(auto)]
 
-pub mod fakes;
 mod fault;
 mod logged;
 mod printer;

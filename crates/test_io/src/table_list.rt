@@ -1,9 +1,9 @@
 //! Lists of named references, as a command line gives them.
 use html5table::{entries_of, has_form, profile};
 use markup5ever::data::NamedReferences;
-use test_alloc::Refusing;
 use std::alloc::Global;
 use std::process::Abort;
+use test_alloc::Refusing;
 
 #[test]
 fn tells_lists_by_their_form(rt: HostRuntime) {

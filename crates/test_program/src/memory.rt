@@ -2,9 +2,9 @@ use crate::arguments::Arguments;
 use crate::running::{META, META_LINES, MIXED, MIXED_LINES, run_from, words_of};
 use devices::{Fault, ReadSource};
 use html5cli::run::{Ending, given_words};
-use test_alloc::Refusing;
 use std::alloc::Global;
 use std::process::Abort;
+use test_alloc::Refusing;
 
 // Runs the program with each growth refused in turn, until one run has no refusal. Answers how many
 // were refused.
