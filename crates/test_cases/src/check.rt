@@ -5,15 +5,15 @@ ghost use Rattle.html5table.specs.Listed.{listed};
 
 use crate::case::WorkedCase;
 use crate::cuttings::failing_cutting;
-use test_lines::CaseError;
 use devices::{ReadSource, WriteTarget};
 use html5cli::arguments::settings_of;
-use html5cli::names::names_of;
 use html5cli::print::{Settings, feed_text, options_of};
 use html5cli::run::run;
 use html5ever::tokenizer::Tokenizer;
-use token_printer::print_sink::PrintSink;
+use html5table::names_of;
 use std::alloc::{AllocError, Global};
+use test_lines::CaseError;
+use token_printer::print_sink::PrintSink;
 
 // What a run left.
 #[derive(Drop)]

@@ -8,15 +8,15 @@ use crate::case::WorkedCase;
 use crate::clones::check_clones;
 use crate::pieces::{Cutting, Due, feed_pieces, pieces_of};
 use crate::so_far::SoFar;
-use test_lines::{CaseError, push_line};
 use html5cli::arguments::settings_of;
-use html5cli::names::names_of;
 use html5cli::print::{Settings, options_of};
 use html5ever::tokenizer::laws::closed;
 use html5ever_interface::collect::Collector;
-use token_printer::print_sink::PrintSink;
+use html5table::names_of;
 use markup5ever::data::NamedReferences;
 use std::alloc::Global;
+use test_lines::{CaseError, push_line};
+use token_printer::print_sink::PrintSink;
 
 // The lines of the case, with those of pauses or without them. Where the input may go on, a text at their
 // end is open.

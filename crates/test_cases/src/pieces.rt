@@ -2,7 +2,6 @@
 ghost use Rattle.html5feed.specs.Starting.{CanStart};
 
 use crate::so_far::SoFar;
-use test_lines::CaseError;
 use html5ever::TokenizerError;
 use html5ever::tokenizer::Tokenizer;
 use html5ever::tokenizer::steps::feed_until_done;
@@ -12,6 +11,7 @@ use html5ever_interface::options::TokenizerOpts;
 use markup5ever::buffer_queue::BufferQueue;
 use markup5ever::data::NamedReferences;
 use std::alloc::{AllocError, Global};
+use test_lines::CaseError;
 
 /// How an input is cut.
 #[derive(Clone, Copy, Debug, PartialEq, Eq)]

@@ -1,10 +1,10 @@
 //! Sinks that show, line by line, what they were told so far.
-use test_lines::CaseError;
 use html5ever_interface::collect::Collector;
 use html5ever_interface::interface::token::Token;
-use token_printer::print_sink::PrintSink;
 use std::alloc::Global;
+use test_lines::CaseError;
 use test_sinks::lines::push_lines;
+use token_printer::print_sink::PrintSink;
 
 /// A sink that shows what it was told so far.
 pub trait SoFar: Drop {

@@ -5,15 +5,15 @@ ghost use Rattle.html5feed.specs.Starting.{CanStart};
 ghost use Rattle.html5table.specs.Listed.{listed};
 
 use crate::case::WorkedCase;
-use test_lines::{Case, CaseError, push_line};
 use html5cli::arguments::settings_of;
-use html5cli::names::names_of;
 use html5cli::print::{Settings, options_of};
 use html5ever::tokenizer::steps::{Step, run_steps};
 use html5ever_interface::collect::Collector;
+use html5table::names_of;
 use markup5ever::data::NamedReferences;
 use std::alloc::{AllocError, Global};
 use std::collections::BTreeSet;
+use test_lines::{Case, CaseError, push_line};
 
 // The characters of the texts behind a beginning, of which each has at most two.
 const BEHIND: &str = "a-!</>=&;\" \0";

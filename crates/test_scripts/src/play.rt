@@ -1,19 +1,19 @@
 //! Plays a script once, on a heap.
 use crate::player::{Cutting, Player, Stage};
 use crate::script::{Script, SinkKind, Step};
-use test_lines::{Play, Played, Stop};
 use html5cli::arguments::settings_of;
-use html5cli::names::names_of;
 use html5ever_interface::collect::Collector;
 use html5ever_interface::interface::sink::TokenSink;
 use html5ever_interface::interface::token::Token;
-use token_printer::print_sink::PrintSink;
+use html5table::names_of;
 use std::alloc::{AllocError, Allocator, Global};
+use test_lines::{Play, Played, Stop};
 use test_sinks::alternating::Alternating;
 use test_sinks::counting::Counting;
 use test_sinks::faulty::FaultySink;
 use test_sinks::shown::{Numbered, Shown};
 use test_sinks::steering::Steering;
+use token_printer::print_sink::PrintSink;
 
 // Takes the steps, up to one that stops the play.
 fn take_steps<S: TokenSink<Token<A>> + Shown, A: Allocator + Copy>(
