@@ -1,8 +1,8 @@
 //! Plays a script with each request for memory refused in turn.
 use crate::stop::Stop;
 use crate::{CaseError, number_of};
-use test_alloc::Refusing;
 use std::alloc::{AllocError, Allocator, Global};
+use test_alloc::Refusing;
 
 /// What a play came to: the step at which it stopped, if it did, and the lines that were told.
 #[derive(Drop)]

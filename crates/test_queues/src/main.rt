@@ -8,9 +8,9 @@ mod script;
 mod table;
 
 use crate::script::Script;
-use test_lines::check_cases;
 use std::io;
 use std::process::ExitCode;
+use test_lines::check_cases;
 
 fn main(rt: HostRuntime) -> ExitCode {
     let Ok(text) = io::read_to_string(rt.alloc(), rt.stdin()) else {

@@ -2,11 +2,11 @@
 use crate::queue::{Place, eat, hand_in, next, peek, pop, skip, waiting};
 use crate::script::{Call, Entry, Script, Step};
 use crate::table::{begins, check, control, get};
-use test_lines::{CaseError, Play, Played, Stop, compare_answer, sweep};
 use markup5ever::buffer_queue::{BufferQueue, Case};
 use markup5ever::data::NamedReferences;
-use test_alloc::Refusing;
 use std::alloc::{AllocError, Allocator, Global};
+use test_alloc::Refusing;
+use test_lines::{CaseError, Play, Played, Stop, compare_answer, sweep};
 
 // A queue and a table, on a heap, and the entries for the next table.
 #[derive(Drop)]

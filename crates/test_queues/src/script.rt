@@ -1,8 +1,8 @@
 //! A script, as it is written.
 use crate::play::failure_of;
-use test_lines::{Case, CaseError, Wanted, number_of, push_meant};
 use markup5ever::buffer_queue::Case as Letters;
 use std::alloc::Global;
+use test_lines::{Case, CaseError, Wanted, number_of, push_meant};
 
 /// A call of which a script says the answer.
 #[derive(Drop)]

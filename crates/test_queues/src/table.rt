@@ -1,8 +1,8 @@
 //! Calls of a table of named references, which answer by words.
 use crate::script::Entry;
-use test_lines::Stop;
 use markup5ever::data::{NamedReferences, TableError, c1_replacement};
 use std::alloc::{AllocError, Allocator, Global};
+use test_lines::Stop;
 
 // The words of what stands first where a table has a fault.
 fn words_of(ample: Global, error: TableError) -> Result<String, AllocError> {

@@ -3,7 +3,6 @@
 ghost use Rattle.std.specs.Prelude.{◌≡◌, false, IfOk};
 ghost use Rattle.html5feed.specs.Starting.{CanStart};
 
-use test_lines::Stop;
 use html5cli::print::{Settings, options_of};
 use html5ever::TokenizerError;
 use html5ever::tokenizer::pieces::feed_pieces;
@@ -16,6 +15,7 @@ use html5ever_interface::states::State;
 use markup5ever::buffer_queue::BufferQueue;
 use markup5ever::data::NamedReferences;
 use std::alloc::{AllocError, Allocator, Global};
+use test_lines::Stop;
 use test_sinks::shown::{Numbered, Shown};
 
 // The state, where a stream can start in it.
@@ -23,10 +23,7 @@ fn starting(state: Option<State>) -> Option<State>
     ensures { CanStart result }
 {
     match state {
-        Some(State::Data) => Some(State::Data),
-        Some(State::Plaintext) => Some(State::Plaintext),
-        Some(State::RawData(kind)) => Some(State::RawData(kind)),
-        Some(State::CdataSection) => Some(State::CdataSection),
+        Some(state) if state.is_text() => Some(state),
         _ => None,
     }
 }

@@ -10,9 +10,9 @@ mod script;
 mod wholes;
 
 use crate::script::Script;
-use test_lines::check_cases;
 use devices::{ReadSource, WriteTarget, read_to_end, write_all};
 use std::process::ExitCode;
+use test_lines::check_cases;
 
 fn main(rt: HostRuntime) -> ExitCode {
     let Ok(bytes) = read_to_end(rt.alloc(), &mut ReadSource::new(rt.stdin())) else {

@@ -5,7 +5,6 @@ use crate::calls::{
 };
 use crate::script::{Call, Law, Step, Whole};
 use crate::wholes::{joined, pieces_of, read, read_item};
-use test_lines::{Stop, compare, compare_answer, compare_flag};
 use html5cli::print::Settings;
 use html5ever::tokenizer::{Tokenizer, steps};
 use html5ever_interface::interface::sink::TokenSink;
@@ -14,6 +13,7 @@ use markup5ever::buffer_queue::BufferQueue;
 use markup5ever::data::NamedReferences;
 use std::alloc::{AllocError, Allocator, Global};
 use std::mem;
+use test_lines::{Stop, compare, compare_answer, compare_flag};
 use test_sinks::shown::{Numbered, Shown};
 
 /// How the pieces of a play are cut.

@@ -2,7 +2,6 @@
 ghost use Rattle.html5feed.specs.Starting.{CanStart};
 
 use crate::script::{Law, Whole};
-use test_lines::Stop;
 use html5ever::TokenizerError;
 use html5ever::tokenizer::laws::{cdata, comment, doctype, instruction, raw, reference, tag};
 use html5ever::tokenizer::steps::{Step, run_steps};
@@ -13,6 +12,7 @@ use html5ever_interface::interface::token::Token;
 use html5ever_interface::options::TokenizerOpts;
 use markup5ever::data::NamedReferences;
 use std::alloc::Allocator;
+use test_lines::Stop;
 
 /// The parts as one text.
 pub fn joined<A: Allocator + Copy>(alloc: A, parts: Vec<Step<A>, A>) -> Result<String<A>, Stop> {
