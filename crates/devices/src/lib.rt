@@ -1,11 +1,17 @@
-//! What a program reads from and writes to. Contracts see how often each failed.
+//! What a program reads from and writes to, at once or a page at a time, and its words. Contracts see
+//! how often a device failed.
 #![tactic(auto)]
 
-pub mod fakes;
 mod fault;
+mod logged;
+mod printer;
 mod reading;
+mod words;
 mod writing;
 
 pub use crate::fault::Fault;
+pub use crate::logged::Logged;
+pub use crate::printer::Printer;
 pub use crate::reading::{ReadSource, Source, read_to_end};
+pub use crate::words::given_words;
 pub use crate::writing::{Target, WriteTarget, write_all};

@@ -3,6 +3,5 @@
 #![tactic(auto)]
 
 pub mod arguments;
-pub mod names;
 pub mod print;
 pub mod run;

@@ -9,15 +9,13 @@ ghost use Rattle.html5cli.specs.declared.run.Ending.{Ending};
 ghost use Rattle.markup5ever.specs.declared.data.TableError.{TableError};
 
 use crate::arguments::settings_of;
-use crate::names::names_of;
 use crate::print::print_tokens;
 use arrayvec::ArrayString;
 use devices::{Fault, Source, Target, write_all};
+use html5table::names_of;
 use itoa::Buffer;
 use markup5ever::data::TableError;
 use std::alloc::Allocator;
-use std::env;
-use std::io::ErrorKind;
 use std::rt::Env;
 
 /// How a run ends.
@@ -107,21 +105,15 @@ fn line_at(text: &str, place: usize) -> ArrayString<LONGEST_LINE>
     line
 }
 
-/// The words behind the program's name, or how a run without them ends: words that are no text are
+/// The words after the program's name, or how a run without them ends: words that are no text are
 /// none that it knows.
 pub fn given_words<R: Env + Alloc>(rt: &R) -> Result<Vec<String<R::A>, R::A>, Ending>
     ensures { IfErr result (λ ending. (ending ≡ Ending.Usage) ⊎ (ending ≡ Ending.Faulted Fault.Memory)) }
 {
-    let arguments = match env::args(rt) {
-        Ok(arguments) => arguments,
-        Err(error) if error.kind() == ErrorKind::OutOfMemory => {
-            return Err(Ending::Faulted(Fault::Memory));
-        }
-        Err(_) => return Err(Ending::Usage),
-    };
-    match arguments.skip(1).collect(rt.alloc()) {
+    match devices::given_words(rt) {
         Ok(words) => Ok(words),
-        Err(_) => Err(Ending::Faulted(Fault::Memory)),
+        Err(Fault::NotUtf8) => Err(Ending::Usage),
+        Err(fault) => Err(Ending::Faulted(fault)),
     }
 }
 

@@ -5,11 +5,10 @@ ghost use Rattle.html5stream.specs.Streams.{GivesNoText, failed_reads};
 ghost use Rattle.html5extract.specs.Links.{links_step};
 
 use crate::links::Links;
-use devices::{Source, Target};
+use devices::{Printer, Source, Target};
 use html5programs::Filter;
 use html5stream::{StreamError, read_tags};
 use markup5ever::data::NamedReferences;
-use printer::Printer;
 use std::alloc::{Allocator, Global};
 
 /// Reads a page, and prints its links as it arrives, in the order in which they stand there.

@@ -5,12 +5,11 @@ ghost use Rattle.html5ever_interface.specs.Token.{tag_of};
 ghost use Rattle.markup5ever.specs.Names.{attribute_of};
 ghost use Rattle.html5extract.specs.Links.{value_of, link_attribute, link_of, kept, line_of};
 
-use devices::Target;
+use devices::{Printer, Target};
 use html5ever_interface::interface::token::{SinkFault, Tag, TagKind};
 use html5sinks::tags::TagHandler;
 use itoa::Buffer;
 use markup5ever::interface::Attribute;
-use printer::Printer;
 use std::alloc::{AllocError, Allocator, Global};
 
 // The value of the first attribute of this name.

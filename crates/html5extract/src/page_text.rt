@@ -3,10 +3,9 @@ ghost use Rattle.std.specs.Prelude.{◌≡◌, ◌++◌, false, OnOk, OnErr};
 ghost use Rattle.html5ever_interface.specs.Token.{told_by};
 ghost use Rattle.html5extract.specs.PageText.{is_skipped, within_behind, shown};
 
-use devices::Target;
+use devices::{Printer, Target};
 use html5ever_interface::interface::token::{SinkFault, TagKind, Token};
 use html5sinks::text_runs::RunHandler;
-use printer::Printer;
 use std::alloc::{Allocator, Global};
 use std::marker::Model;
 

@@ -5,11 +5,10 @@ ghost use Rattle.html5stream.specs.Streams.{GivesNoText, failed_reads};
 ghost use Rattle.html5extract.specs.PageText.{at_start, reading_of, text_step};
 
 use crate::page_text::PageText;
-use devices::{Source, Target};
+use devices::{Printer, Source, Target};
 use html5programs::Filter;
 use html5stream::{StreamError, read_runs};
 use markup5ever::data::NamedReferences;
-use printer::Printer;
 use std::alloc::{Allocator, Global};
 
 /// Reads a page, and prints its text as it arrives, without scripts and styles.

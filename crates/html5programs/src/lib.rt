@@ -1,7 +1,6 @@
 //! What programs share that read pages and print what they make of them: words, inputs, messages.
 #![tactic(auto)]
 
-pub mod fakes;
 mod messages;
 mod names;
 mod output;

@@ -1,5 +1,4 @@
-use html5cli::names::names_of;
-use html5table::{has_form, profile};
+use html5table::{has_form, names_of, profile};
 use markup5ever::data::{NamedReferences, TableError};
 use std::alloc::Allocator;
 use std::fs;

@@ -4,6 +4,8 @@
 mod entry;
 mod list;
 mod names;
+mod table;
 
 pub use crate::list::{entries_of, has_form};
 pub use crate::names::profile;
+pub use crate::table::names_of;

@@ -12,8 +12,7 @@ mod sweep;
 
 use crate::case::WorkedCase;
 use crate::sweep::sweep;
-use devices::{ReadSource, WriteTarget, read_to_end, write_all};
-use html5cli::run::given_words;
+use devices::{ReadSource, WriteTarget, given_words, read_to_end, write_all};
 use std::alloc::Global;
 use std::process::ExitCode;
 use test_lines::{CaseError, Told, check_cases, push_line};

@@ -6,14 +6,14 @@ ghost use Rattle.html5table.specs.Listed.{listed};
 
 use crate::case::WorkedCase;
 use html5cli::arguments::settings_of;
-use html5cli::names::names_of;
 use html5cli::print::{Settings, options_of};
 use html5ever::tokenizer::steps::{Step, run_steps};
 use html5ever_interface::collect::Collector;
+use html5table::names_of;
 use markup5ever::data::NamedReferences;
 use std::alloc::{AllocError, Global};
 use std::collections::BTreeSet;
-use test_lines::{Case, CaseError, push_line};
+use test_lines::{CaseError, cases_of, push_line};
 
 // The characters of the texts behind a beginning, of which each has at most two.
 const BEHIND: &str = "a-!</>=&;\" \0";
@@ -192,20 +192,8 @@ pub fn sweep(alloc: Global, text: &str) -> Result<Swept, CaseError> {
         runs: 0,
         seen: BTreeSet::new(alloc),
     };
-    let mut case = WorkedCase::begin(alloc);
-    let mut lines = 0u64;
-    for line in text.lines() {
-        if line.starts_with('#') {
-            continue;
-        }
-        if !line.is_empty() {
-            case.read_line(alloc, line)?;
-            lines = lines.wrapping_add(1);
-        } else if lines != 0 {
-            swept.try_case(alloc, &case)?;
-            case = WorkedCase::begin(alloc);
-            lines = 0;
-        }
+    for case in &cases_of::<WorkedCase>(alloc, text)? {
+        swept.try_case(alloc, case)?;
     }
     Ok(swept)
 }

@@ -1,8 +1,8 @@
 //! Devices that carry readers and writers, and devices that fail.
-use devices::fakes::{FailingSource, FailingTarget, Refusal};
 use devices::{Fault, ReadSource, Source, WriteTarget, read_to_end, write_all};
 use std::alloc::Global;
 use std::process::Abort;
+use test_devices::{FailingSource, FailingTarget, Refusal};
 
 // Reads a source to its end.
 fn expect_read<R: Source>(rt: &impl Abort, alloc: Global, source: &mut R, bytes: &[u8]) {

@@ -9,6 +9,8 @@ mod decoder;
 #[cfg(test)]
 mod errors;
 #[cfg(test)]
+mod filtered;
+#[cfg(test)]
 mod link_pages;
 #[cfg(test)]
 mod pages;

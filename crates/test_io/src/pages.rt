@@ -1,9 +1,8 @@
 //! Texts that are longer than a page, and pages that were not written.
-use devices::fakes::{FailingTarget, Refusal};
-use devices::{Fault, WriteTarget};
-use printer::Printer;
+use devices::{Fault, Printer, WriteTarget};
 use std::alloc::Global;
 use std::process::Abort;
+use test_devices::{FailingTarget, Refusal};
 
 // How often a text is printed: it fills more than a page.
 const TIMES: u64 = 5000;

@@ -1,5 +1,4 @@
 //! Sources that give a byte a read, that fail, and that give no text.
-use devices::fakes::FailingSource;
 use devices::{ReadSource, Source};
 use html5ever_interface::collect::Collector;
 use html5ever_interface::interface::token::{Tag, TagKind, Token};
@@ -10,6 +9,7 @@ use markup5ever::interface::LocalName;
 use std::alloc::{AllocError, Allocator, Global};
 use std::process::Abort;
 use test_alloc::Refusing;
+use test_devices::FailingSource;
 
 type Outcome = (Collector, Result<(), StreamError>);
 

@@ -1,7 +1,7 @@
 //! The text of pages.
+use crate::filtered::filtered;
 use devices::WriteTarget;
 use html5extract::page_text::PageText;
-use html5programs::fakes::filtered;
 use html5stream::StreamError;
 use std::test::Fail;
 

@@ -1,8 +1,8 @@
-//! Runs the cases of a text.
+//! The cases of a text, and running them.
 use crate::CaseError;
 use std::alloc::Global;
 
-/// A case, of which a text has many: each ends at an empty line.
+/// A case, of which a text has many: each ends at an empty line, and the last may end with the text.
 pub trait Case: Drop {
     /// A case of which no line was read.
     fn begin(alloc: Global) -> Self;
@@ -21,6 +21,38 @@ pub struct Told {
     pub failed: u64,
 }
 
+// Puts a case after the others.
+fn push_case<C: Case>(cases: &mut Vec<C>, case: C) -> Result<(), CaseError> {
+    match cases.push(case) {
+        Ok(()) => Ok(()),
+        Err(_) => Err(CaseError::Memory),
+    }
+}
+
+/// The cases of a text, in their order. A line that begins with `#` is none of a case.
+pub fn cases_of<C: Case>(alloc: Global, text: &str) -> Result<Vec<C>, CaseError> {
+    let mut cases = Vec::new(alloc);
+    let mut case = C::begin(alloc);
+    let mut is_begun = false;
+    for line in text.lines() {
+        if line.starts_with('#') {
+            continue;
+        }
+        if !line.is_empty() {
+            case.read_line(alloc, line)?;
+            is_begun = true;
+        } else if is_begun {
+            push_case(&mut cases, case)?;
+            case = C::begin(alloc);
+            is_begun = false;
+        }
+    }
+    if is_begun {
+        push_case(&mut cases, case)?;
+    }
+    Ok(cases)
+}
+
 // Runs a case, and tells where it fails.
 fn check_case<C: Case>(alloc: Global, case: &C, told: &mut Told) -> Result<(), CaseError> {
     if let Some(failure) = case.failure(alloc)? {
@@ -32,31 +64,17 @@ fn check_case<C: Case>(alloc: Global, case: &C, told: &mut Told) -> Result<(), C
     Ok(())
 }
 
-/// Runs the cases of a text; `kind` is the word for more than one. A line that begins with `#` is none
-/// of a case.
+/// Runs the cases of a text; `kind` is the word for more than one.
 pub fn check_cases<C: Case>(alloc: Global, text: &str, kind: &str) -> Result<Told, CaseError> {
     let mut told = Told {
         lines: String::new(alloc),
         failed: 0,
     };
-    let mut case = C::begin(alloc);
-    let mut lines = 0u64;
-    let mut cases = 0u64;
-    for line in text.lines() {
-        if line.starts_with('#') {
-            continue;
-        }
-        if !line.is_empty() {
-            case.read_line(alloc, line)?;
-            lines = lines.wrapping_add(1);
-        } else if lines != 0 {
-            check_case(alloc, &case, &mut told)?;
-            case = C::begin(alloc);
-            lines = 0;
-            cases = cases.wrapping_add(1);
-        }
+    let cases = cases_of::<C>(alloc, text)?;
+    for case in &cases {
+        check_case(alloc, case, &mut told)?;
     }
-    let last = format!(in alloc; "{cases} {kind}, {} failed\n", told.failed)?;
+    let last = format!(in alloc; "{} {kind}, {} failed\n", cases.len(), told.failed)?;
     told.lines.push_str(&last)?;
     Ok(told)
 }

@@ -6,7 +6,7 @@ mod escapes;
 mod refusals;
 mod stop;
 
-pub use crate::cases::{Case, Told, check_cases};
+pub use crate::cases::{Case, Told, cases_of, check_cases};
 pub use crate::escapes::push_meant;
 pub use crate::refusals::{Play, Played, Wanted, sweep};
 pub use crate::stop::{Stop, compare, compare_answer, compare_flag};

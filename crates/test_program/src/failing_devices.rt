@@ -1,11 +1,11 @@
 use crate::running::{
     META, META_LINES, MIXED, MIXED_LINES, PLAIN, run_from, status_of_run, words_of,
 };
-use devices::fakes::{FailingSource, FailingTarget, Refusal};
 use devices::{ReadSource, WriteTarget};
 use std::alloc::{AllocError, Global};
 use std::process::Abort;
 use std::test::Fail;
+use test_devices::{FailingSource, FailingTarget, Refusal};
 
 // A text, the words by which it is read, and what is printed for it.
 #[derive(Clone, Copy)]

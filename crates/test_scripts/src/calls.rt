@@ -23,10 +23,7 @@ fn starting(state: Option<State>) -> Option<State>
     ensures { CanStart result }
 {
     match state {
-        Some(State::Data) => Some(State::Data),
-        Some(State::Plaintext) => Some(State::Plaintext),
-        Some(State::RawData(kind)) => Some(State::RawData(kind)),
-        Some(State::CdataSection) => Some(State::CdataSection),
+        Some(state) if state.is_text() => Some(state),
         _ => None,
     }
 }

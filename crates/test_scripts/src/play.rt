@@ -2,10 +2,10 @@
 use crate::player::{Cutting, Player, Stage};
 use crate::script::{Script, SinkKind, Step};
 use html5cli::arguments::settings_of;
-use html5cli::names::names_of;
 use html5ever_interface::collect::Collector;
 use html5ever_interface::interface::sink::TokenSink;
 use html5ever_interface::interface::token::Token;
+use html5table::names_of;
 use std::alloc::{AllocError, Allocator, Global};
 use test_lines::{Play, Played, Stop};
 use test_sinks::alternating::Alternating;

@@ -1,7 +1,7 @@
 //! A target of which contracts know what it took.
 ghost use Rattle.std.specs.Prelude.{◌≡◌, [], Some};
 
-use devices::Target;
+use crate::writing::Target;
 use ghost_counts::Log;
 use std::io;
 use std::marker::Model;
@@ -14,7 +14,7 @@ pub struct Logged<W> {
 }
 
 impl<W> Model for Logged<W> {
-    ghost use Rattle.printer.specs.Printing.{Taking};
+    ghost use Rattle.devices.specs.Printing.{Taking};
 
     ghost Value = { Taking W };
 

@@ -3,7 +3,7 @@ ghost use Rattle.std.specs.Prelude.{◌≡◌, ◌⊎◌, IsSome, IfOk, IfErr, N
 ghost use Rattle.html5table.specs.Listed.{entries_in, listed};
 ghost use Rattle.markup5ever.specs.NamedReferences.{first_fault, table_of};
 
-use html5table::entries_of;
+use crate::list::entries_of;
 use markup5ever::data::{NamedReferences, TableError};
 use std::alloc::Allocator;
 

@@ -1,7 +1,7 @@
-//! Devices for tests, which fail from a chosen call on.
+//! Devices that fail from a chosen call on.
 ghost use Rattle.std.specs.Prelude.{◌≡◌, Some};
 
-use super::{Source, Target};
+use devices::{Source, Target};
 use ghost_counts::Count;
 use std::alloc::Global;
 use std::io;

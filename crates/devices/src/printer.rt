@@ -2,8 +2,9 @@
 ghost use Rattle.std.specs.Prelude.{◌≡◌, ◌↔◌, ◌+◌, [], ◌++◌, false, true, Err, IfErr, IsErr, OnOk, OnErr, is_err};
 ghost use Rattle.devices.specs.Device.{IsReadFault, reported_failures};
 
+use crate::fault::Fault;
 use crate::logged::Logged;
-use devices::{Fault, Target, write_all};
+use crate::writing::{Target, write_all};
 use ghost_counts::Log;
 use std::alloc::{Allocator, Global};
 use std::marker::Model;
@@ -22,7 +23,7 @@ pub struct Printer<W, A: Allocator = Global> {
 
 impl<W, A: Allocator> Model for Printer<W, A> {
     ghost use Rattle.std.specs.Prelude.{◌≡◌, ◌++◌, false};
-    ghost use Rattle.printer.specs.Printing.{Printing};
+    ghost use Rattle.devices.specs.Printing.{Printing};
 
     ghost Value = { Printing W };
 
