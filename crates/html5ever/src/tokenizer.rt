@@ -3,7 +3,7 @@ ghost use Rattle.std.specs.Prelude.{◌≡◌, ◌≢◌, ℕ, ◌^◌, ◌<◌,
 ghost use Rattle.html5ever_interface.specs.Options.{options_of};
 ghost use Rattle.html5ever_interface.specs.Sink.{stepped, on_line};
 ghost use Rattle.html5grammar.specs.EndOfInput.{tokens_at_end};
-ghost use Rattle.html5grammar.specs.Reading.{after};
+ghost use Rattle.html5grammar.specs.Reading.{start_after};
 ghost use Rattle.html5grammar.specs.Start.{Start, start_of, is_clean, held_len};
 ghost use Rattle.html5grammar.specs.Start.Mode.{Plain};
 ghost use Rattle.html5grammar.specs.Start.Open.{Between};
@@ -84,7 +84,7 @@ impl<'t, Sink: TokenSink<Token<A>>, A: Allocator + Copy> Tokenizer<'t, Sink, A> 
         names: &'t NamedReferences<A>,
     ) -> Tokenizer<'t, Sink, A>
         requires { CanStart opts.initial_state }
-        ensures stands { StandsAt Sink.means.state Sink.means.step Sink.means.reply Sink.means.foreign result (start_of (options_of opts)) (Sink.means.state sink) [] }
+        ensures stands { StandsAt Sink.means result (start_of (options_of opts)) (Sink.means.state sink) [] }
         ensures rules { result.rules ≡ rules_of (options_of opts) names.now }
         ensures sink { result.sink ≡ sink }
     {
@@ -114,11 +114,11 @@ impl<'t, Sink: TokenSink<Token<A>>, A: Allocator + Copy> Tokenizer<'t, Sink, A> 
         // What an `Ok` says: a beginning of the queue's text was taken, and exactly what it decides
         // was told; the rest waits, and the answer is the reply that pauses.
         ensures reads { OnOk result
-            (FeedsOn Sink.means.state Sink.means.step Sink.means.reply Sink.means.foreign self.old self.new queue.old.text) }
-        ensures answer { IfOk result (λ answer. HandsOn Sink.means.state Sink.means.step Sink.means.reply Sink.means.foreign self.old queue.old.text
+            (FeedsOn Sink.means self.old self.new queue.old.text) }
+        ensures answer { IfOk result (λ answer. HandsOn Sink.means self.old queue.old.text
             (reply_in string_bytes answer)) }
         ensures left { OnOk result
-            (LeavesWaiting Sink.means.state Sink.means.step Sink.means.reply Sink.means.foreign self.old queue.old.text queue.new.text) }
+            (LeavesWaiting Sink.means self.old queue.old.text queue.new.text) }
         ensures done { result ≡ Ok TokenizerResult.Done → queue.new.text ≡ [] }
         ensures shorter { IfOk result (λ answer. answer ≢ TokenizerResult.Done
             → length queue.new.text < length queue.old.text) }
@@ -127,10 +127,10 @@ impl<'t, Sink: TokenSink<Token<A>>, A: Allocator + Copy> Tokenizer<'t, Sink, A> 
         ensures failed_before { (result ≡ Err TokenizerError.Failed) ↔ (self.old.failed ≡ true) }
         ensures unchanged { self.old.failed ≡ true
             → (self.new ≡ self.old) × (queue.new ≡ queue.old) }
-        ensures stops { IfErr result (λ error. StopsFeeding Sink.means.state Sink.means.step Sink.means.reply Sink.means.foreign Sink.means.faulted
-            error self.old queue.old.text (Sink.means.state self.new.sink)) }
-        ensures refused { IfErr result (λ error. error ≢ TokenizerError.Failed → LeavesRefused Sink.means.state Sink.means.step Sink.means.reply Sink.means.foreign
-            Sink.means.faulted error self.old queue.old.text queue.new.text (Sink.means.state self.new.sink)) }
+        ensures stops { IfErr result (λ error.
+            StopsFeeding Sink.means error self.old queue.old.text (Sink.means.state self.new.sink)) }
+        ensures refused { IfErr result (λ error. error ≢ TokenizerError.Failed
+            → LeavesRefused Sink.means error self.old queue.old.text queue.new.text (Sink.means.state self.new.sink)) }
         ensures faults { Sink.faults self.new.sink ≡ Sink.faults self.old.sink + faults_of result }
         ensures failed { self.new.failed ≡ is_err result }
         ensures end_of_queue { IsEndOf queue.new.text queue.old.text }
@@ -162,14 +162,12 @@ impl<'t, Sink: TokenSink<Token<A>>, A: Allocator + Copy> Tokenizer<'t, Sink, A> 
         requires { self.old.ended ≡ false }
 
         // What an `Ok` says: the whole reading was told, and the sink has finished.
-        ensures finishes { OnOk result
-            (Finishes Sink.means.state Sink.means.step Sink.means.reply Sink.means.foreign Sink.means.finish self.old (Sink.means.state self.new.sink)) }
+        ensures finishes { OnOk result (Finishes Sink.means self.old (Sink.means.state self.new.sink)) }
 
         // When each error comes, and what it leaves.
         ensures failed_before { (result ≡ Err TokenizerError.Failed) ↔ (self.old.failed ≡ true) }
         ensures unchanged { self.old.failed ≡ true → self.new ≡ self.old }
-        ensures stops { IfErr result (λ error. StopsEnding Sink.means.state Sink.means.step Sink.means.reply Sink.means.foreign Sink.means.faulted
-            Sink.means.end_faulted error self.old (Sink.means.state self.new.sink)) }
+        ensures stops { IfErr result (λ error. StopsEnding Sink.means error self.old (Sink.means.state self.new.sink)) }
         ensures faults { Sink.faults self.new.sink ≡ Sink.faults self.old.sink + faults_of result }
         ensures failed { self.new.failed ≡ is_err result }
         ensures ended { self.new.ended ≡ is_ok result }
@@ -186,12 +184,10 @@ impl<'t, Sink: TokenSink<Token<A>>, A: Allocator + Copy> Tokenizer<'t, Sink, A> 
     /// Tells the end of the input as `end` does, and gives the sink back, with what it was told.
     pub fn finish(mut self) -> (Sink, Result<(), TokenizerError>)
         requires { self.ended ≡ false }
-        ensures finishes { OnOk result.1
-            (Finishes Sink.means.state Sink.means.step Sink.means.reply Sink.means.foreign Sink.means.finish self.entry (Sink.means.state result.0)) }
+        ensures finishes { OnOk result.1 (Finishes Sink.means self.entry (Sink.means.state result.0)) }
         ensures failed_before { (result.1 ≡ Err TokenizerError.Failed) ↔ (self.entry.failed ≡ true) }
         ensures unchanged { self.entry.failed ≡ true → result.0 ≡ self.entry.sink }
-        ensures stops { IfErr result.1 (λ error. StopsEnding Sink.means.state Sink.means.step Sink.means.reply Sink.means.foreign Sink.means.faulted
-            Sink.means.end_faulted error self.entry (Sink.means.state result.0)) }
+        ensures stops { IfErr result.1 (λ error. StopsEnding Sink.means error self.entry (Sink.means.state result.0)) }
         ensures faults { Sink.faults result.0 ≡ Sink.faults self.entry.sink + faults_of result.1 }
     {
         let result = self.end();
@@ -204,10 +200,10 @@ impl<'t, Sink: TokenSink<Token<A>>, A: Allocator + Copy> Tokenizer<'t, Sink, A> 
     pub fn nothing_pending(&self) -> bool
         ensures exact { result ≡ (is_clean self.now.position.opened && not self.now.failed && not self.now.ended) }
         ensures clean { (K : Start) (s : Sink.State) (text : List ℕ)
-            → StandsAt Sink.means.state Sink.means.step Sink.means.reply Sink.means.foreign self.now K s text
-            → result ≡ is_clean (after Sink.means.step Sink.means.reply Sink.means.foreign self.now.rules K s text).opened }
+            → StandsAt Sink.means self.now K s text
+            → result ≡ is_clean (start_after Sink.means self.now.rules K s text).opened }
         ensures anew { result ≡ true → (x : Sink)
-            → StandsAt Sink.means.state Sink.means.step Sink.means.reply Sink.means.foreign (record self.now { sink = x }) self.now.position (Sink.means.state x) [] }
+            → StandsAt Sink.means (record self.now { sink = x }) self.now.position (Sink.means.state x) [] }
     {
         if self.failed || self.ended {
             return false;
@@ -220,7 +216,7 @@ impl<'t, Sink: TokenSink<Token<A>>, A: Allocator + Copy> Tokenizer<'t, Sink, A> 
         requires clean { is_clean self.old.position.opened ≡ true }
         requires not_failed { self.old.failed ≡ false }
         requires going_on { self.old.ended ≡ false }
-        ensures anew { (x : Sink) → StandsAt Sink.means.state Sink.means.step Sink.means.reply Sink.means.foreign (record self.new { sink = x })
+        ensures anew { (x : Sink) → StandsAt Sink.means (record self.new { sink = x })
             (record self.old.position { opened = Between Plain }) (Sink.means.state x) [] }
         ensures sink { self.new.sink ≡ self.old.sink }
         ensures rules { self.new.rules ≡ self.old.rules }
@@ -260,7 +256,7 @@ fn tell_end<S: TokenSink<Token<A>>, A: Allocator + Copy>(
     ensures ok { OnOk result
         (S.means.state sink.new ≡ S.means.finish (stepped S.means.step (S.means.state sink.old)
         (on_line position.old.input.line (tokens_at_end rules.now position.old.opened)))) }
-    ensures err { IfErr result (λ error. EndStops S.means.step S.means.faulted S.means.end_faulted error
+    ensures err { IfErr result (λ error. EndStops S.means error
         (S.means.state sink.old) (on_line position.old.input.line (tokens_at_end rules.now position.old.opened)) (S.means.state sink.new)) }
     ensures faults { S.faults sink.new ≡ S.faults sink.old + faults_of result }
     ensures fits { position.old.input.line < 2 ^ 64 }

@@ -79,10 +79,10 @@ fn feed_text<S: TokenSink<Token<A>>, A: Allocator + Copy>(
     requires waiting { queue.old.text ≡ [] }
     requires going_on { tokenizer.old.ended ≡ false }
     requires not_failed { tokenizer.old.failed ≡ false }
-    ensures reads { OnOk result (ReadsOn S.means.state S.means.step S.means.reply S.means.foreign
+    ensures reads { OnOk result (ReadsOn S.means
         tokenizer.old tokenizer.new (chars (string_bytes text))) }
     ensures taken { OnOk result (queue.new.text ≡ []) }
-    ensures stops { IfErr result (λ error. StopsTelling S.means.state S.means.step S.means.reply S.means.foreign S.means.faulted S.means.end_faulted
+    ensures stops { IfErr result (λ error. StopsTelling S.means
         error tokenizer.old (chars (string_bytes text)) (S.means.state tokenizer.new.sink)) }
     ensures text_error { IfErr result (λ error. (place : ℕ) → error ≢ StreamError.NotUtf8 place) }
     ensures read { failed_reads result ≡ 0 }
@@ -109,10 +109,10 @@ fn take_bytes<S: TokenSink<Token<A>>, A: Allocator + Copy>(
     requires waiting { queue.old.text ≡ [] }
     requires going_on { tokenizer.old.ended ≡ false }
     requires not_failed { tokenizer.old.failed ≡ false }
-    ensures takes { OnOk result (TakesBytes S.means.state S.means.step S.means.reply S.means.foreign
+    ensures takes { OnOk result (TakesBytes S.means
         decoder.old decoder.new tokenizer.old tokenizer.new bytes.now) }
     ensures taken { OnOk result (queue.new.text ≡ []) }
-    ensures stops { IfErr result (λ error. StopsBytes S.means.state S.means.step S.means.reply S.means.foreign S.means.faulted S.means.end_faulted
+    ensures stops { IfErr result (λ error. StopsBytes S.means
         error decoder.old tokenizer.old bytes.now (S.means.state tokenizer.new.sink)) }
     ensures read { failed_reads result ≡ 0 }
     ensures faults { S.faults tokenizer.new.sink ≡ S.faults tokenizer.old.sink + sink_faults result }
@@ -130,9 +130,9 @@ fn read_text<R: Source, S: TokenSink<Token<A>>, A: Allocator + Copy>(
 ) -> Result<(), StreamError>
     requires going_on { tokenizer.old.ended ≡ false }
     requires not_failed { tokenizer.old.failed ≡ false }
-    ensures takes { OnOk result (TakesText S.means.state S.means.step S.means.reply S.means.foreign
+    ensures takes { OnOk result (TakesText S.means
         (R.remaining source.old) (R.remaining source.new) tokenizer.old tokenizer.new) }
-    ensures stops { IfErr result (λ error. StopsText S.means.state S.means.step S.means.reply S.means.foreign S.means.faulted S.means.end_faulted
+    ensures stops { IfErr result (λ error. StopsText S.means
         error (R.remaining source.old) (R.remaining source.new) tokenizer.old (S.means.state tokenizer.new.sink)) }
     ensures read { R.failures source.new ≡ R.failures source.old + failed_reads result }
     ensures faults { S.faults tokenizer.new.sink ≡ S.faults tokenizer.old.sink + sink_faults result }
@@ -160,9 +160,9 @@ fn tell_end<S: TokenSink<Token<A>>, A: Allocator + Copy>(
 ) -> Result<(), StreamError>
     requires going_on { tokenizer.old.ended ≡ false }
     requires not_failed { tokenizer.old.failed ≡ false }
-    ensures finishes { OnOk result (Finishes S.means.state S.means.step S.means.reply S.means.foreign S.means.finish
+    ensures finishes { OnOk result (Finishes S.means
         tokenizer.old (S.means.state tokenizer.new.sink)) }
-    ensures stops { IfErr result (λ error. StopsAtEnd S.means.state S.means.step S.means.reply S.means.foreign S.means.faulted S.means.end_faulted
+    ensures stops { IfErr result (λ error. StopsAtEnd S.means
         error tokenizer.old (S.means.state tokenizer.new.sink)) }
     ensures text_error { IfErr result (λ error. (place : ℕ) → error ≢ StreamError.NotUtf8 place) }
     ensures read { failed_reads result ≡ 0 }
@@ -182,9 +182,9 @@ fn read_all<R: Source, S: TokenSink<Token<A>>, A: Allocator + Copy>(
 ) -> Result<(), StreamError>
     requires going_on { tokenizer.old.ended ≡ false }
     requires not_failed { tokenizer.old.failed ≡ false }
-    ensures finishes { OnOk result (FinishesText S.means.state S.means.step S.means.reply S.means.foreign S.means.finish
+    ensures finishes { OnOk result (FinishesText S.means
         (R.remaining source.old) (R.remaining source.new) tokenizer.old (S.means.state tokenizer.new.sink)) }
-    ensures stops { IfErr result (λ error. StopsText S.means.state S.means.step S.means.reply S.means.foreign S.means.faulted S.means.end_faulted
+    ensures stops { IfErr result (λ error. StopsText S.means
         error (R.remaining source.old) (R.remaining source.new) tokenizer.old (S.means.state tokenizer.new.sink)) }
     ensures read { R.failures source.new ≡ R.failures source.old + failed_reads result }
     ensures faults { S.faults tokenizer.new.sink ≡ S.faults tokenizer.old.sink + sink_faults result }

@@ -12,13 +12,13 @@ ghost use Rattle.html5grammar.specs.OneInstruction.{WrittenInstruction, IsInstru
 ghost use Rattle.html5grammar.specs.OneReference.{WrittenReference, IsReference, reference_messages};
 ghost use Rattle.html5grammar.specs.OneTag.{WrittenTag, IsTag, tag_messages};
 ghost use Rattle.html5grammar.specs.WrittenRaw.{WrittenRaw, IsRawText, raw_messages};
-ghost use Rattle.html5grammar.specs.Reading.{reading, messages, after};
+ghost use Rattle.html5grammar.specs.Reading.{after};
 ghost use Rattle.html5grammar.specs.Start.{Raw, Start, Rules, start_of};
 ghost use Rattle.html5ever.specs.RunSteps.{run_text};
 ghost use Rattle.html5ever.specs.RunSteps.StepOf.{AtBack};
 ghost use Rattle.html5states.specs.Telling.{IsRefusal, faults_of};
 ghost use Rattle.html5feed.specs.Starting.{CanStart};
-ghost use Rattle.html5ever.specs.Tokenizer.{rules_of, EndStops, collected_of};
+ghost use Rattle.html5ever.specs.Tokenizer.{state_at_end, collected_of};
 
 pub use crate::tokenizer::pieces::feed_pieces;
 use crate::tokenizer::whole::read_whole;
@@ -225,11 +225,9 @@ pub fn cdata<A: Allocator + Copy>(
 /// equal options and equal states and both answer `Ok`.
 pub fn cutting<S: TokenSink<Token<A>>, A: Allocator>()
     ensures text { (rules : Rules) (K : Start) (s : S.State) (pieces : List (List ℕ)) →
-        run_text S.means.step S.means.reply S.means.foreign rules K s [] [] (map AtBack pieces) ≡ concat pieces }
+        run_text S.means rules K s [] [] (map AtBack pieces) ≡ concat pieces }
     ensures states { (rules : Rules) (K : Start) (s : S.State) (pieces others : List (List ℕ)) →
         concat pieces ≡ concat others →
-        S.means.finish (stepped S.means.step s (messages (reading S.means.step S.means.reply S.means.foreign rules K s
-        (run_text S.means.step S.means.reply S.means.foreign rules K s [] [] (map AtBack pieces)))))
-        ≡ S.means.finish (stepped S.means.step s (messages (reading S.means.step S.means.reply S.means.foreign rules K s
-        (run_text S.means.step S.means.reply S.means.foreign rules K s [] [] (map AtBack others))))) }
+        state_at_end S.means rules K s (run_text S.means rules K s [] [] (map AtBack pieces))
+        ≡ state_at_end S.means rules K s (run_text S.means rules K s [] [] (map AtBack others)) }
 {}

@@ -1,14 +1,12 @@
 //! Runs of a tokenizer: past its pauses, and by steps that put text at the back or at the front.
 ghost use Rattle.std.specs.Prelude.{◌≡◌, ◌+◌, ◌↔◌, [], true, false, IsOk, OnOk, IfErr, is_err, map};
 ghost use Rattle.html5ever_interface.specs.Options.{options_of};
-ghost use Rattle.html5ever_interface.specs.Sink.{stepped};
-ghost use Rattle.html5grammar.specs.Reading.{reading, messages, after};
-ghost use Rattle.html5grammar.specs.Start.{start_of, held_len};
+ghost use Rattle.html5grammar.specs.Start.{held_len};
 ghost use Rattle.html5feed.specs.Feed.{IsEndOf, IsLinear};
 ghost use Rattle.html5states.specs.Telling.{faults_of};
-ghost use Rattle.html5ever.specs.RunSteps.{step_of, waiting_with, run_text, FinishesRun, StopsRun};
+ghost use Rattle.html5ever.specs.RunSteps.{step_of, waiting_with, text_of_steps, FinishesRun, StopsRun};
 ghost use Rattle.html5feed.specs.Starting.{CanStart};
-ghost use Rattle.html5ever.specs.Tokenizer.{rules_of, ReadsOn, StopsReading, EndStops};
+ghost use Rattle.html5ever.specs.Tokenizer.{finished_reading, StoppedReading, ReadsOn, StopsReading};
 ghost use Rattle.html5ever.specs.Tokenizer.{FeedsOn, LeavesWaiting, StopsFeeding};
 
 use crate::tokenizer::Tokenizer;
@@ -29,12 +27,12 @@ pub fn feed_until_done<S: TokenSink<Token<A>>, A: Allocator + Copy>(
     requires { tokenizer.old.ended ≡ false }
 
     // What an `Ok` says: all that waited was taken, and exactly what it decides was told.
-    ensures reads { OnOk result (ReadsOn S.means.state S.means.step S.means.reply S.means.foreign tokenizer.old tokenizer.new queue.old.text) }
+    ensures reads { OnOk result (ReadsOn S.means tokenizer.old tokenizer.new queue.old.text) }
     ensures taken { OnOk result (queue.new.text ≡ []) }
 
     // When each error comes, and what it leaves.
     ensures failed_before { (result ≡ Err TokenizerError.Failed) ↔ (tokenizer.old.failed ≡ true) }
-    ensures stops { IfErr result (λ error. StopsReading S.means.state S.means.step S.means.reply S.means.foreign S.means.faulted
+    ensures stops { IfErr result (λ error. StopsReading S.means
         error tokenizer.old queue.old.text (S.means.state tokenizer.new.sink)) }
     ensures faults { S.faults tokenizer.new.sink ≡ S.faults tokenizer.old.sink + faults_of result }
     ensures failed { tokenizer.new.failed ≡ is_err result }
@@ -87,9 +85,9 @@ fn feed_once<S: TokenSink<Token<A>>, A: Allocator + Copy>(
 ) -> Result<(), TokenizerError>
     requires going_on { tokenizer.old.ended ≡ false }
     requires not_failed { tokenizer.old.failed ≡ false }
-    ensures reads { OnOk result (FeedsOn S.means.state S.means.step S.means.reply S.means.foreign tokenizer.old tokenizer.new queue.old.text) }
-    ensures left { OnOk result (LeavesWaiting S.means.state S.means.step S.means.reply S.means.foreign tokenizer.old queue.old.text queue.new.text) }
-    ensures stops { IfErr result (λ error. StopsFeeding S.means.state S.means.step S.means.reply S.means.foreign S.means.faulted
+    ensures reads { OnOk result (FeedsOn S.means tokenizer.old tokenizer.new queue.old.text) }
+    ensures left { OnOk result (LeavesWaiting S.means tokenizer.old queue.old.text queue.new.text) }
+    ensures stops { IfErr result (λ error. StopsFeeding S.means
         error tokenizer.old queue.old.text (S.means.state tokenizer.new.sink)) }
     ensures faults { S.faults tokenizer.new.sink ≡ S.faults tokenizer.old.sink + faults_of result }
     ensures end_of_queue { IsEndOf queue.new.text queue.old.text }
@@ -111,9 +109,9 @@ fn take_steps<S: TokenSink<Token<A>>, A: Allocator + Copy>(
 ) -> Result<(), TokenizerError>
     requires going_on { tokenizer.old.ended ≡ false }
     requires not_failed { tokenizer.old.failed ≡ false }
-    ensures finishes { OnOk result (FinishesRun S.means.state S.means.step S.means.reply S.means.foreign S.means.finish tokenizer.old
+    ensures finishes { OnOk result (FinishesRun S.means tokenizer.old
         (map step_of steps.items) (S.means.state tokenizer.new.sink)) }
-    ensures stops { IfErr result (λ error. StopsRun S.means.state S.means.step S.means.reply S.means.foreign S.means.faulted S.means.end_faulted
+    ensures stops { IfErr result (λ error. StopsRun S.means
         error tokenizer.old (map step_of steps.items) (S.means.state tokenizer.new.sink)) }
     ensures faults { S.faults tokenizer.new.sink ≡ S.faults tokenizer.old.sink + faults_of result }
 {
@@ -137,13 +135,11 @@ pub fn run_steps<S: TokenSink<Token<A>>, A: Allocator + Copy>(
     steps: Vec<Step<A>, A>,
 ) -> (S, Result<(), TokenizerError>)
     requires { CanStart opts.initial_state }
-    ensures finishes { OnOk result.1 (S.means.state result.0 ≡ S.means.finish (stepped S.means.step (S.means.state sink)
-        (messages (reading S.means.step S.means.reply S.means.foreign (rules_of (options_of opts) names.now) (start_of (options_of opts)) (S.means.state sink)
-        (run_text S.means.step S.means.reply S.means.foreign (rules_of (options_of opts) names.now) (start_of (options_of opts)) (S.means.state sink) [] [] (map step_of steps.items)))))) }
-    ensures stops { IfErr result.1 (λ error. EndStops S.means.step S.means.faulted S.means.end_faulted error (S.means.state sink)
-        (messages (reading S.means.step S.means.reply S.means.foreign (rules_of (options_of opts) names.now) (start_of (options_of opts)) (S.means.state sink)
-        (run_text S.means.step S.means.reply S.means.foreign (rules_of (options_of opts) names.now) (start_of (options_of opts)) (S.means.state sink) [] [] (map step_of steps.items))))
-        (S.means.state result.0)) }
+    ensures finishes { OnOk result.1 (S.means.state result.0
+        ≡ finished_reading S.means (options_of opts) names.now (S.means.state sink)
+        (text_of_steps S.means (options_of opts) names.now (S.means.state sink) (map step_of steps.items))) }
+    ensures stops { IfErr result.1 (λ error. StoppedReading S.means (options_of opts) names.now error (S.means.state sink)
+        (text_of_steps S.means (options_of opts) names.now (S.means.state sink) (map step_of steps.items)) (S.means.state result.0)) }
     ensures faults { S.faults result.0 ≡ S.faults sink + faults_of result.1 }
 {
     let mut tokenizer = Tokenizer::new(alloc, sink, opts, names);
