@@ -9,7 +9,7 @@ use Rattle.html5grammar.specs.Start.{Start, Rules, held_len}
 use Rattle.markup5ever.specs.BufferQueue.{TextQueue}
 use Rattle.html5feed.specs.Feed.{Feed, feed, told_beyond, IsEndOf, IsLinear}
 use Rattle.html5states.specs.Telling.{Stops}
-use Rattle.html5ever.specs.Tokenizer.{Tokenizing, StandsAt, ReadsOn, FeedsOn, LeavesWaiting, StopsReading, StopsFeeding}
+use Rattle.html5ever.specs.Tokenizer.{Tokenizing, StandsAt, ReadsOn, Feeds, StopsReading, StopsFeeding}
 use Rattle.html5opened.specs.declared.error.TokenizerError.{TokenizerError}
 use Rattle.html5opened.specs.declared.error.TokenizerError.TheVariants.{Memory, Sink, Failed}
 use Rattle.html5feed.proofs.Pauses.{told_beyond-behind, state_behind-append, feed-parts}
@@ -74,19 +74,19 @@ module _ {X S H : Type 0} (means : Means X S H) where
       append_cancel_right (feed means.step means.reply means.foreign rules K s text queue).taken front left
       (ap (λ l. (feed means.step means.reply means.foreign rules K s text queue).taken ++ l) leaves ∙ feed-parts means.step means.reply means.foreign rules K s text queue ∙ parts)
 
-  pub HasDrained-more : (first now next : Tokenizing X) (old mid new : TextQueue) → HasDrained first now old mid
-      → FeedsOn means now next mid.text → LeavesWaiting means now mid.text new.text → IsEndOf new.text mid.text
+  pub HasDrained-more : (first now next : Tokenizing X) (old mid new : TextQueue) (reply : Reply H) → HasDrained first now old mid
+      → Feeds means now next mid.text new.text reply → IsEndOf new.text mid.text
       → next.rules ≡ now.rules → next.ended ≡ false → next.failed ≡ now.failed → IsLinear (held_len now.position.opened) mid (held_len next.position.opened) new → new.handed_in ≡ mid.handed_in
       → HasDrained first next old new
-  HasDrained-more first now next old mid new drained feeds leaves is_end rules going_on failed linear handed_in = record {
+  HasDrained-more first now next old mid new reply drained feeds is_end rules going_on failed linear handed_in = record {
     front = drained.front ++ is_end.front;
     parts = drained.parts ∙ ap (λ l. drained.front ++ l) is_end.parts ∙ sym (append_assoc drained.front is_end.front new.text);
     reads = λ K s text stands.
-        let mid_stands : StandsAt means now K s (text ++ drained.front) = drained.reads K s text stands in
+        let fed = feeds K s (text ++ drained.front) (drained.reads K s text stands) in
         subst (λ l. StandsAt means next K s l)
-        (ap (λ l. (text ++ drained.front) ++ l) (taken-is now.rules K s (text ++ drained.front) is_end.front new.text mid.text is_end.parts (leaves K s (text ++ drained.front) mid_stands))
+        (ap (λ l. (text ++ drained.front) ++ l) (taken-is now.rules K s (text ++ drained.front) is_end.front new.text mid.text is_end.parts fed.left)
         ∙ append_assoc text drained.front is_end.front)
-        (feeds K s (text ++ drained.front) mid_stands);
+        fed.stands;
     rules = rules ∙ drained.rules;
     going_on = going_on;
     failed = failed ∙ drained.failed;

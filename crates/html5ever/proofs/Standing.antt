@@ -3,7 +3,6 @@ use Rattle.std.proofs.Common.{◌≡◌, ℕ, ◌<◌, ◌^◌, arith, false, Li
 use Rattle.std.proofs.Math.Seq.{drop-append_seam}
 use Rattle.std.proofs.lemmas.List.{length-map}
 use Rattle.html5ever_interface.specs.Sink.{Means, Message, stepped, on_line}
-use Rattle.html5ever_interface.specs.Token.{Reply}
 use Rattle.html5grammar.specs.EndOfInput.{tokens_at_end}
 use Rattle.html5grammar.specs.NormalisedText.{with_line_feeds, without_dropped_first, normalised, line_after, input_after}
 use Rattle.html5grammar.specs.Reading.{Event, end_events, reading, told, messages, after, read}
@@ -13,14 +12,14 @@ use Rattle.html5grammar.specs.Start.Open.{Between}
 use Rattle.html5grammar.proofs.ReadingLemmas.{told-nil, told-append, after-nil, after-append, reading-events, messages-at_end}
 use Rattle.html5ever_interface.proofs.Steppings.{stepped-append}
 use Rattle.html5grammar.proofs.Traces.{messages-append}
-use Rattle.html5feed.specs.Feed.{Feed, pauses, reply_in, told_beyond, told_at_end, feed}
+use Rattle.html5feed.specs.Feed.{pauses, reply_in, told_beyond, told_at_end, feed}
 use Rattle.html5feed.specs.Refused.{IsItem, RefusedBehind}
 use Rattle.html5feed.proofs.Pauses.{told_beyond-behind, state_behind-append, feed-anew, feed-done, feed-shorter, reply_in-pauses}
 use Rattle.markup5ever.specs.declared.tokenizer_result.TokenizerResult.{TokenizerResult}
 use Rattle.markup5ever.specs.declared.tokenizer_result.TokenizerResult.TheVariants.{Done, Script, EncodingIndicator}
 use Rattle.std.specs.Prelude.{Result, Ok, Err, OnOk, IfOk, IfErr, is_err, ◌≢◌}
 use Rattle.html5states.specs.Telling.{Stops, Tells}
-use Rattle.html5ever.specs.Tokenizer.{Tokenizing, StandsAt, FeedsOn, HandsOn, LeavesWaiting, StopsFeeding, LeavesRefused, EndStops}
+use Rattle.html5ever.specs.Tokenizer.{Tokenizing, StandsAt, Feeds, StopsFeeding, LeavesRefused, EndStops}
 use Rattle.html5opened.specs.declared.error.TokenizerError.{TokenizerError}
 use Rattle.html5opened.specs.declared.error.TokenizerError.TheVariants.{Failed}
 
@@ -115,14 +114,20 @@ module _ {X S H : Type 0} (means : Means X S H) where
       ∙ ap (λ v. feed means.step means.reply means.foreign t.rules t.position v [] queue) (sym stands.told)
 
   -- a feed that read what it takes
-  pub FeedsOn-read : {T : Type 0} → (r : Result T TokenizerError) (t u : Tokenizing X) (queue : List ℕ)
+  pub Feeds-read : {T : Type 0} → (bytes : T → List ℕ) (r : Result (TokenizerResult H T) TokenizerError) (t u : Tokenizing X) (queue left : List ℕ)
       → u.rules ≡ t.rules → u.failed ≡ is_err r → u.ended ≡ t.ended
       → Tells means.step means.faulted r (means.state t.sink) (messages (told means.step means.reply means.foreign t.rules t.position (means.state t.sink) (feed means.step means.reply means.foreign t.rules t.position (means.state t.sink) [] queue).taken)) (means.state u.sink)
       → OnOk r (u.position ≡ after means.step means.reply means.foreign t.rules t.position (means.state t.sink) (feed means.step means.reply means.foreign t.rules t.position (means.state t.sink) [] queue).taken)
-      → OnOk r (FeedsOn means t u queue)
-  FeedsOn-read (Ok x) t u queue rules failed ended tells moves = λ K s text stands.
-      rw (feed-stands t K s text queue stands) (StandsAt-more t u K s text _ rules tells moves failed ended stands)
-  FeedsOn-read (Err e) t u queue rules failed ended tells moves = tt
+      → IfOk r (λ answer. reply_in bytes answer ≡ (feed means.step means.reply means.foreign t.rules t.position (means.state t.sink) [] queue).answer)
+      → OnOk r (left ≡ (feed means.step means.reply means.foreign t.rules t.position (means.state t.sink) [] queue).left)
+      → IfOk r (λ answer. Feeds means t u queue left (reply_in bytes answer))
+  Feeds-read bytes (Ok answer) t u queue left rules failed ended tells moves answers leaves = λ K s text stands.
+      rw (feed-stands t K s text queue stands) record {
+        stands = StandsAt-more t u K s text _ rules tells moves failed ended stands;
+        answer = answers;
+        left = leaves;
+      }
+  Feeds-read bytes (Err e) t u queue left rules failed ended tells moves answers leaves = tt
 
   pub Stops-beyond : (e : TokenizerError) (t : Tokenizing X) (K : Start) (s v : S) (text more : List ℕ)
       → StandsAt means t K s text
@@ -152,19 +157,9 @@ module _ {X S H : Type 0} (means : Means X S H) where
       subst (λ M. EndStops means e (means.state t.sink) M v)
       (ap (λ (P : Start). on_line P.input.line (tokens_at_end t.rules P.opened)) stands.position ∙ sym (told_at_end-end t.rules K s text fits)) stops
 
--- what a feed hands on and leaves
+-- what a feed leaves
 
 module _ {X S H : Type 0} (means : Means X S H) where
-  pub HandsOn-stands : (t : Tokenizing X) (queue : List ℕ) (answer : Reply H)
-      → answer ≡ (feed means.step means.reply means.foreign t.rules t.position (means.state t.sink) [] queue).answer → HandsOn means t queue answer
-  HandsOn-stands t queue answer is K s text stands =
-      is ∙ ap (λ (f : Feed H). f.answer) (sym (feed-stands means t K s text queue stands))
-
-  pub LeavesWaiting-stands : (t : Tokenizing X) (queue left : List ℕ)
-      → left ≡ (feed means.step means.reply means.foreign t.rules t.position (means.state t.sink) [] queue).left → LeavesWaiting means t queue left
-  LeavesWaiting-stands t queue left is K s text stands =
-      is ∙ ap (λ (f : Feed H). f.left) (sym (feed-stands means t K s text queue stands))
-
   StopsFeeding-stands : (e : TokenizerError) (t : Tokenizing X) (queue : List ℕ) (v : S)
       → Stops means.step means.faulted e (means.state t.sink) (messages (told means.step means.reply means.foreign t.rules t.position (means.state t.sink) (feed means.step means.reply means.foreign t.rules t.position (means.state t.sink) [] queue).taken)) v
       → StopsFeeding means e t queue v

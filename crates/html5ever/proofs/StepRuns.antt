@@ -4,6 +4,7 @@ use Rattle.std.specs.List.{concat}
 use Rattle.std.specs.Prelude.{map}
 use Rattle.std.proofs.lemmas.List.{append-nil, append_assoc}
 use Rattle.html5ever_interface.specs.Sink.{Means, stepped}
+use Rattle.html5ever_interface.specs.Token.{Reply}
 use Rattle.html5grammar.specs.Reading.{reading, messages}
 use Rattle.html5grammar.specs.Start.{Start, Rules}
 use Rattle.html5feed.specs.Feed.{Feed, feed, told_beyond, IsEndOf}
@@ -11,7 +12,7 @@ use Rattle.html5ever.specs.RunSteps.StepOf.{AtBack}
 use Rattle.html5feed.proofs.Pauses.{feed-parts}
 use Rattle.html5ever.specs.RunSteps.{StepOf, waiting_with, run_text, FinishesRun, StopsRun}
 use Rattle.html5states.specs.Telling.{Stops}
-use Rattle.html5ever.specs.Tokenizer.{Tokenizing, StandsAt, ReadsOn, FeedsOn, LeavesWaiting, Finishes, StopsFeeding, StopsReading, StopsEnding, EndStops}
+use Rattle.html5ever.specs.Tokenizer.{Tokenizing, StandsAt, ReadsOn, Feeds, Finishes, StopsFeeding, StopsReading, StopsEnding, EndStops}
 use Rattle.html5opened.specs.declared.error.TokenizerError.{TokenizerError}
 use Rattle.html5opened.specs.declared.error.TokenizerError.TheVariants.{Memory}
 use Rattle.html5ever.proofs.Draining.{taken-is}
@@ -81,29 +82,29 @@ module _ {X S H : Type 0} (means : Means X S H) where
     not_failed = not_failed;
   }
 
-  pub HasTaken-more : (first now next : Tokenizing X) (steps rest : List StepOf) (t : StepOf) (queue waiting left : List ℕ)
+  pub HasTaken-more : (first now next : Tokenizing X) (steps rest : List StepOf) (t : StepOf) (queue waiting left : List ℕ) (reply : Reply H)
       → HasTaken first now steps (t ∷ rest) queue → waiting ≡ waiting_with t queue
-      → FeedsOn means now next waiting → LeavesWaiting means now waiting left → IsEndOf left waiting
+      → Feeds means now next waiting left reply → IsEndOf left waiting
       → next.rules ≡ now.rules → next.ended ≡ false → next.failed ≡ false
       → HasTaken first next steps rest left
-  HasTaken-more first now next steps rest t queue waiting left taken handed feeds leaves is_end rules going_on not_failed = record {
+  HasTaken-more first now next steps rest t queue waiting left reply taken handed feeds is_end rules going_on not_failed = record {
     front = taken.front ++ is_end.front;
     reads = λ K s text stands.
-        let mid : StandsAt means now K s (text ++ taken.front) = taken.reads K s text stands in
+        let fed = feeds K s (text ++ taken.front) (taken.reads K s text stands) in
         subst (λ l. StandsAt means next K s l)
-        (ap (λ l. (text ++ taken.front) ++ l) (taken-is means now.rules K s (text ++ taken.front) is_end.front left waiting is_end.parts (leaves K s (text ++ taken.front) mid))
+        (ap (λ l. (text ++ taken.front) ++ l) (taken-is means now.rules K s (text ++ taken.front) is_end.front left waiting is_end.parts fed.left)
         ∙ append_assoc text taken.front is_end.front)
-        (feeds K s (text ++ taken.front) mid);
+        fed.stands;
     runs = λ K s stands.
-        let mid : StandsAt means now K s taken.front = taken.reads K s [] stands in
+        let fed = feeds K s taken.front (taken.reads K s [] stands) in
         let same : feed means.step means.reply means.foreign now.rules K s taken.front waiting ≡ feed means.step means.reply means.foreign first.rules K s taken.front (waiting_with t queue) =
         ap (λ b. feed means.step means.reply means.foreign b K s taken.front waiting) taken.rules ∙ ap (feed means.step means.reply means.foreign first.rules K s taken.front) handed in
         taken.runs K s stands
         ∙ run_text-more means first.rules K s taken.front queue t rest
         ∙ ap (λ (f : Feed H). run_text means first.rules K s (taken.front ++ f.taken) f.left rest) (sym same)
         ∙ ap (λ l. run_text means first.rules K s (taken.front ++ l) (feed means.step means.reply means.foreign now.rules K s taken.front waiting).left rest)
-        (taken-is means now.rules K s taken.front is_end.front left waiting is_end.parts (leaves K s taken.front mid))
-        ∙ ap (λ l. run_text means first.rules K s (taken.front ++ is_end.front) l rest) (sym (leaves K s taken.front mid));
+        (taken-is means now.rules K s taken.front is_end.front left waiting is_end.parts fed.left)
+        ∙ ap (λ l. run_text means first.rules K s (taken.front ++ is_end.front) l rest) (sym fed.left);
     rules = rules ∙ taken.rules;
     going_on = going_on;
     not_failed = not_failed;

@@ -71,20 +71,16 @@ module _ {X S H : Type 0} (means : Means X S H) where
   abbrev pub ReadsOn : Tokenizing X → Tokenizing X → List ℕ → Type 0
   ReadsOn old new more = (K : Start) (s : S) (text : List ℕ) → StandsAt old K s text → StandsAt new K s (text ++ more)
 
-  -- from wherever it stood, the tokenizer was taken further by what a feed of the queue's text takes
-  abbrev pub FeedsOn : Tokenizing X → Tokenizing X → List ℕ → Type 0
-  FeedsOn old new queue =
-      (K : Start) (s : S) (text : List ℕ) → StandsAt old K s text → StandsAt new K s (text ++ (feed_of old.rules K s text queue).taken)
+  -- after `text` the tokenizer took what `fed` takes, the queue holds what it leaves, and its reply was handed on
+  pub record FedFrom (fed : Feed H) (t : Tokenizing X) (K : Start) (s : S) (text queue : List ℕ) (reply : Reply H) : Type 0 where
+    pub stands : StandsAt t K s (text ++ fed.taken)
+    pub answer : reply ≡ fed.answer
+    pub left : queue ≡ fed.left
 
-  -- from wherever the tokenizer stood, a feed of the queue's text hands on that reply
-  abbrev pub HandsOn : Tokenizing X → List ℕ → Reply H → Type 0
-  HandsOn old queue answer =
-      (K : Start) (s : S) (text : List ℕ) → StandsAt old K s text → answer ≡ (feed_of old.rules K s text queue).answer
-
-  -- from wherever the tokenizer stood, a feed of the queue's text leaves that much of it
-  abbrev pub LeavesWaiting : Tokenizing X → List ℕ → List ℕ → Type 0
-  LeavesWaiting old queue left =
-      (K : Start) (s : S) (text : List ℕ) → StandsAt old K s text → left ≡ (feed_of old.rules K s text queue).left
+  -- from wherever it stood, the tokenizer was fed a queue's text: a beginning was taken, `left` waits, and that reply was handed on
+  abbrev pub Feeds : Tokenizing X → Tokenizing X → List ℕ → List ℕ → Reply H → Type 0
+  Feeds old new queue left reply =
+      (K : Start) (s : S) (text : List ℕ) → StandsAt old K s text → FedFrom (feed_of old.rules K s text queue) new K s text left reply
 
   -- from wherever the tokenizer stood, the whole reading was told, and then the sink finished
   abbrev pub Finishes : Tokenizing X → S → Type 0

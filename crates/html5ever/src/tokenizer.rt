@@ -1,16 +1,15 @@
 //! The tokenizer.
-ghost use Rattle.std.specs.Prelude.{◌≡◌, ◌≢◌, ℕ, ◌^◌, ◌<◌, ◌+◌, ◌↔◌, ◌&&◌, not, List, [], true, false, IsOk, IfOk, IfErr, OnOk, is_ok, is_err, length, string_bytes};
+ghost use Rattle.std.specs.Prelude.{◌≡◌, ◌≢◌, ◌^◌, ◌<◌, ◌+◌, ◌↔◌, ◌&&◌, not, [], true, false, IsOk, IfOk, IfErr, OnOk, is_ok, is_err, length, string_bytes};
 ghost use Rattle.html5ever_interface.specs.Options.{options_of};
 ghost use Rattle.html5ever_interface.specs.Sink.{stepped, on_line};
 ghost use Rattle.html5grammar.specs.EndOfInput.{tokens_at_end};
-ghost use Rattle.html5grammar.specs.Reading.{start_after};
-ghost use Rattle.html5grammar.specs.Start.{Start, start_of, is_clean, held_len};
+ghost use Rattle.html5grammar.specs.Start.{start_of, is_clean, held_len};
 ghost use Rattle.html5grammar.specs.Start.Mode.{Plain};
 ghost use Rattle.html5grammar.specs.Start.Open.{Between};
 ghost use Rattle.html5feed.specs.Feed.{reply_in, IsEndOf, IsLinear};
 ghost use Rattle.html5states.specs.Telling.{faults_of};
 ghost use Rattle.html5feed.specs.Starting.{CanStart};
-ghost use Rattle.html5ever.specs.Tokenizer.{rules_of, StandsAt, FeedsOn, HandsOn, LeavesWaiting};
+ghost use Rattle.html5ever.specs.Tokenizer.{rules_of, StandsAt, Feeds};
 ghost use Rattle.html5ever.specs.Tokenizer.{StopsFeeding, LeavesRefused, Finishes, StopsEnding, EndStops};
 
 use html5feed::position::Position;
@@ -113,17 +112,16 @@ impl<'t, Sink: TokenSink<Token<A>>, A: Allocator + Copy> Tokenizer<'t, Sink, A> 
 
         // What an `Ok` says: a beginning of the queue's text was taken, and exactly what it decides
         // was told; the rest waits, and the answer is the reply that pauses.
-        ensures reads { OnOk result
-            (FeedsOn Sink.means self.old self.new queue.old.text) }
-        ensures answer { IfOk result (λ answer. HandsOn Sink.means self.old queue.old.text
-            (reply_in string_bytes answer)) }
-        ensures left { OnOk result
-            (LeavesWaiting Sink.means self.old queue.old.text queue.new.text) }
+        ensures reads { IfOk result (λ answer.
+            Feeds Sink.means self.old self.new queue.old.text queue.new.text (reply_in string_bytes answer)) }
+
+        // For a loop past the pauses, which asks for no more.
         ensures done { result ≡ Ok TokenizerResult.Done → queue.new.text ≡ [] }
         ensures shorter { IfOk result (λ answer. answer ≢ TokenizerResult.Done
             → length queue.new.text < length queue.old.text) }
 
-        // When each error comes, and what it leaves.
+        // When each error comes, and what it leaves. `refused` says how far the feed came in the
+        // queue; `stops` adds that it never came past a tag whose reply pauses.
         ensures failed_before { (result ≡ Err TokenizerError.Failed) ↔ (self.old.failed ≡ true) }
         ensures unchanged { self.old.failed ≡ true
             → (self.new ≡ self.old) × (queue.new ≡ queue.old) }
@@ -133,10 +131,10 @@ impl<'t, Sink: TokenSink<Token<A>>, A: Allocator + Copy> Tokenizer<'t, Sink, A> 
             → LeavesRefused Sink.means error self.old queue.old.text queue.new.text (Sink.means.state self.new.sink)) }
         ensures faults { Sink.faults self.new.sink ≡ Sink.faults self.old.sink + faults_of result }
         ensures failed { self.new.failed ≡ is_err result }
-        ensures end_of_queue { IsEndOf queue.new.text queue.old.text }
         ensures empty { queue.old.text ≡ [] → self.old.failed ≡ false → IsOk result }
 
-        // What each feed keeps.
+        // What each feed keeps. `end_of_queue` is for who doesn't know where the tokenizer stood.
+        ensures end_of_queue { IsEndOf queue.new.text queue.old.text }
         ensures linear { IsLinear (held_len self.old.position.opened) queue.old
             (held_len self.new.position.opened) queue.new }
         ensures handed_in { queue.new.handed_in ≡ queue.old.handed_in }
@@ -199,9 +197,6 @@ impl<'t, Sink: TokenSink<Token<A>>, A: Allocator + Copy> Tokenizer<'t, Sink, A> 
     /// in the field `sink`.
     pub fn nothing_pending(&self) -> bool
         ensures exact { result ≡ (is_clean self.now.position.opened && not self.now.failed && not self.now.ended) }
-        ensures clean { (K : Start) (s : Sink.State) (text : List ℕ)
-            → StandsAt Sink.means self.now K s text
-            → result ≡ is_clean (start_after Sink.means self.now.rules K s text).opened }
         ensures anew { result ≡ true → (x : Sink)
             → StandsAt Sink.means (record self.now { sink = x }) self.now.position (Sink.means.state x) [] }
     {

@@ -1,13 +1,14 @@
 //! Runs of a tokenizer: past its pauses, and by steps that put text at the back or at the front.
 ghost use Rattle.std.specs.Prelude.{◌≡◌, ◌+◌, ◌↔◌, [], true, false, IsOk, OnOk, IfErr, is_err, map};
 ghost use Rattle.html5ever_interface.specs.Options.{options_of};
+ghost use Rattle.html5ever_interface.specs.Token.{Reply};
 ghost use Rattle.html5grammar.specs.Start.{held_len};
 ghost use Rattle.html5feed.specs.Feed.{IsEndOf, IsLinear};
 ghost use Rattle.html5states.specs.Telling.{faults_of};
 ghost use Rattle.html5ever.specs.RunSteps.{step_of, waiting_with, text_of_steps, FinishesRun, StopsRun};
 ghost use Rattle.html5feed.specs.Starting.{CanStart};
 ghost use Rattle.html5ever.specs.Tokenizer.{finished_reading, StoppedReading, ReadsOn, StopsReading};
-ghost use Rattle.html5ever.specs.Tokenizer.{FeedsOn, LeavesWaiting, StopsFeeding};
+ghost use Rattle.html5ever.specs.Tokenizer.{Feeds, StopsFeeding};
 
 use crate::tokenizer::Tokenizer;
 use html5ever_interface::interface::sink::TokenSink;
@@ -32,8 +33,8 @@ pub fn feed_until_done<S: TokenSink<Token<A>>, A: Allocator + Copy>(
 
     // When each error comes, and what it leaves.
     ensures failed_before { (result ≡ Err TokenizerError.Failed) ↔ (tokenizer.old.failed ≡ true) }
-    ensures stops { IfErr result (λ error. StopsReading S.means
-        error tokenizer.old queue.old.text (S.means.state tokenizer.new.sink)) }
+    ensures stops { IfErr result (λ error.
+        StopsReading S.means error tokenizer.old queue.old.text (S.means.state tokenizer.new.sink)) }
     ensures faults { S.faults tokenizer.new.sink ≡ S.faults tokenizer.old.sink + faults_of result }
     ensures failed { tokenizer.new.failed ≡ is_err result }
     ensures end_of_queue { IsEndOf queue.new.text queue.old.text }
@@ -85,10 +86,10 @@ fn feed_once<S: TokenSink<Token<A>>, A: Allocator + Copy>(
 ) -> Result<(), TokenizerError>
     requires going_on { tokenizer.old.ended ≡ false }
     requires not_failed { tokenizer.old.failed ≡ false }
-    ensures reads { OnOk result (FeedsOn S.means tokenizer.old tokenizer.new queue.old.text) }
-    ensures left { OnOk result (LeavesWaiting S.means tokenizer.old queue.old.text queue.new.text) }
-    ensures stops { IfErr result (λ error. StopsFeeding S.means
-        error tokenizer.old queue.old.text (S.means.state tokenizer.new.sink)) }
+    ensures reads { OnOk result ((reply : Reply S.Handle)
+        × Feeds S.means tokenizer.old tokenizer.new queue.old.text queue.new.text reply) }
+    ensures stops { IfErr result (λ error.
+        StopsFeeding S.means error tokenizer.old queue.old.text (S.means.state tokenizer.new.sink)) }
     ensures faults { S.faults tokenizer.new.sink ≡ S.faults tokenizer.old.sink + faults_of result }
     ensures end_of_queue { IsEndOf queue.new.text queue.old.text }
     ensures rules { tokenizer.new.rules ≡ tokenizer.old.rules }
@@ -109,10 +110,10 @@ fn take_steps<S: TokenSink<Token<A>>, A: Allocator + Copy>(
 ) -> Result<(), TokenizerError>
     requires going_on { tokenizer.old.ended ≡ false }
     requires not_failed { tokenizer.old.failed ≡ false }
-    ensures finishes { OnOk result (FinishesRun S.means tokenizer.old
-        (map step_of steps.items) (S.means.state tokenizer.new.sink)) }
-    ensures stops { IfErr result (λ error. StopsRun S.means
-        error tokenizer.old (map step_of steps.items) (S.means.state tokenizer.new.sink)) }
+    ensures finishes { OnOk result
+        (FinishesRun S.means tokenizer.old (map step_of steps.items) (S.means.state tokenizer.new.sink)) }
+    ensures stops { IfErr result (λ error.
+        StopsRun S.means error tokenizer.old (map step_of steps.items) (S.means.state tokenizer.new.sink)) }
     ensures faults { S.faults tokenizer.new.sink ≡ S.faults tokenizer.old.sink + faults_of result }
 {
     let mut queue = BufferQueue::new(alloc);

@@ -24,10 +24,10 @@ fn read_waiting<S: TokenSink<Token<A>>, A: Allocator + Copy>(
 ) -> Result<(), TokenizerError>
     requires going_on { tokenizer.old.ended ≡ false }
     requires not_failed { tokenizer.old.failed ≡ false }
-    ensures finishes { OnOk result (ReadsWhole S.means tokenizer.old
-        queue.old.text (S.means.state tokenizer.new.sink)) }
-    ensures stops { IfErr result (λ error. StopsWhole S.means
-        error tokenizer.old queue.old.text (S.means.state tokenizer.new.sink)) }
+    ensures finishes { OnOk result
+        (ReadsWhole S.means tokenizer.old queue.old.text (S.means.state tokenizer.new.sink)) }
+    ensures stops { IfErr result (λ error.
+        StopsWhole S.means error tokenizer.old queue.old.text (S.means.state tokenizer.new.sink)) }
     ensures faults { S.faults tokenizer.new.sink ≡ S.faults tokenizer.old.sink + faults_of result }
 {
     feed_until_done(tokenizer, queue)?;

@@ -17,7 +17,7 @@ returns-in_err-feed-clause-end_of_queue g c = HasDrained-end g.S.TokenSink.means
 pub returns-in-Done-clause-reads : goal.returns-in-Done-clause-reads
 returns-in-Done-clause-reads g c =
     HasDrained-all g.S.TokenSink.means _ _ _ _
-    (HasDrained-more g.S.TokenSink.means _ _ _ _ _ _ c.loop.invariant.0 c.in_ok-feed.ensures.reads c.in_ok-feed.ensures.left c.in_ok-feed.ensures.end_of_queue
+    (HasDrained-more g.S.TokenSink.means _ _ _ _ _ _ _ c.loop.invariant.0 c.in_ok-feed.ensures.reads c.in_ok-feed.ensures.end_of_queue
     c.in_ok-feed.ensures.rules c.in_ok-feed.ensures.going_on
     (c.in_ok-feed.ensures.failed ∙ sym (ok-not_failed c.feed.result _ _ c.in_ok-feed.was c.feed.ensures.failed_before)) c.in_ok-feed.ensures.linear c.in_ok-feed.ensures.handed_in)
     (c.in_ok-feed.ensures.done (ap Ok c.in-Done.is))
@@ -27,7 +27,7 @@ returns-in-Done-clause-end_of_queue g c = HasDrained-end g.S.TokenSink.means _ _
 
 pub loop-preserved-in-Script : goal.loop-preserved-in-Script
 loop-preserved-in-Script g c = (
-  HasDrained-more g.S.TokenSink.means _ _ _ _ _ _ c.loop.invariant.0 c.in_ok-feed.ensures.reads c.in_ok-feed.ensures.left c.in_ok-feed.ensures.end_of_queue
+  HasDrained-more g.S.TokenSink.means _ _ _ _ _ _ _ c.loop.invariant.0 c.in_ok-feed.ensures.reads c.in_ok-feed.ensures.end_of_queue
       c.in_ok-feed.ensures.rules c.in_ok-feed.ensures.going_on
       (c.in_ok-feed.ensures.failed ∙ sym (ok-not_failed c.feed.result _ _ c.in_ok-feed.was c.feed.ensures.failed_before)) c.in_ok-feed.ensures.linear c.in_ok-feed.ensures.handed_in,
   omega (arith, c.in_ok-feed.ensures.faults, c.loop.invariant.1),
@@ -35,7 +35,7 @@ loop-preserved-in-Script g c = (
 
 pub loop-preserved-in-Script-2 : goal.loop-preserved-in-Script-2
 loop-preserved-in-Script-2 g c = (
-  HasDrained-more g.S.TokenSink.means _ _ _ _ _ _ c.loop.invariant.0 c.in_ok-feed.ensures.reads c.in_ok-feed.ensures.left c.in_ok-feed.ensures.end_of_queue
+  HasDrained-more g.S.TokenSink.means _ _ _ _ _ _ _ c.loop.invariant.0 c.in_ok-feed.ensures.reads c.in_ok-feed.ensures.end_of_queue
       c.in_ok-feed.ensures.rules c.in_ok-feed.ensures.going_on
       (c.in_ok-feed.ensures.failed ∙ sym (ok-not_failed c.feed.result _ _ c.in_ok-feed.was c.feed.ensures.failed_before)) c.in_ok-feed.ensures.linear c.in_ok-feed.ensures.handed_in,
   omega (arith, c.in_ok-feed.ensures.faults, c.loop.invariant.1),
