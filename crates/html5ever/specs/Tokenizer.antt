@@ -1,6 +1,5 @@
 -- Where a tokenizer stands in a text, and what its calls make of that.
 use Rattle.std.specs.Prelude.{◌≡◌, ℕ, Bool, false, List, [], ◌++◌, ◌⊎◌}
-use Rattle.html5ever_interface.specs.Collected.{Collected, Collecting, none_collected, collected_step, collected_reply, collected_foreign, collected_faulted, collected_finish}
 use Rattle.html5ever_interface.specs.Options.{OptionsOf}
 use Rattle.html5ever_interface.specs.Sink.{Means, Message, stepped}
 use Rattle.html5ever_interface.specs.Token.{Reply}
@@ -122,21 +121,3 @@ module _ {X S H : Type 0} (means : Means X S H) where
   abbrev pub StopsWhole : TokenizerError → Tokenizing X → List ℕ → S → Type 0
   StopsWhole e old more t =
       (K : Start) (s : S) → StandsAt old K s [] → EndStops means e s (all_messages means old.rules K s more) t
-
--- ---- a collector
-
--- what a collector makes of what it is told
-abbrev pub collector_means : Means Collecting Collected (Unit {0})
-collector_means = record {
-  state = λ c. c.collected;
-  step = collected_step;
-  reply = collected_reply;
-  foreign = collected_foreign;
-  finish = collected_finish;
-  faulted = collected_faulted;
-  end_faulted = λ c. c;
-}
-
--- what a collector holds after a whole text
-abbrev pub collected_of : OptionsOf → List NamedReference → Bool → List ℕ → Collected
-collected_of opts names foreign text = finished_reading collector_means opts names (none_collected foreign) text
