@@ -7,14 +7,14 @@ returns-clause-finishes g c =
     rw c.into_sink.ensures
     (on_ok_weaker c.read_all-result.result
     (λ read. ReadsSource-start g.S.TokenSink.means
-    _ _ _ c.new-tokenizer.result _ _ _ c.new-tokenizer.ensures.stands c.new-tokenizer.ensures.rules read)
+    _ _ _ _ c.new-tokenizer.result _ _ c.new-tokenizer.ensures.stands c.new-tokenizer.ensures.rules read)
     c.read_all-result.ensures.finishes)
 
 pub returns-clause-decided : goal.returns-clause-decided
 returns-clause-decided g c =
     rw c.into_sink.ensures
     (TellsGiven-start g.S.TokenSink.means
-    c.read_all-result.result _ _ _ c.new-tokenizer.result _ _ _ c.new-tokenizer.ensures.stands c.new-tokenizer.ensures.rules c.read_all-result.ensures.stops)
+    c.read_all-result.result _ _ _ _ c.new-tokenizer.result _ _ c.new-tokenizer.ensures.stands c.new-tokenizer.ensures.rules c.read_all-result.ensures.stops)
 
 pub returns-clause-not_utf8 : goal.returns-clause-not_utf8
 returns-clause-not_utf8 g c = λ place is.
@@ -26,5 +26,5 @@ returns-clause-beginning g c =
     rw c.into_sink.ensures
     (IfErr-weaker c.read_all-result.result _ _
     (StopsSource-start g.S.TokenSink.means
-    _ _ _ c.new-tokenizer.result _ _ _ c.new-tokenizer.ensures.stands c.new-tokenizer.ensures.rules)
+    _ _ _ _ c.new-tokenizer.result _ _ c.new-tokenizer.ensures.stands c.new-tokenizer.ensures.rules)
     c.read_all-result.ensures.stops)
