@@ -10,13 +10,12 @@ use Rattle.html5grammar.specs.Reading.{all_messages}
 use Rattle.html5grammar.specs.Start.{start_of}
 use Rattle.html5states.specs.Telling.{StopsWithin}
 use Rattle.html5ever.specs.Tokenizer.{rules_of}
-use Rattle.html5sinks.specs.Replies.{standard_reply}
-use Rattle.html5sinks.specs.Tags.{Tagged, tags_step, tags_reply}
-use Rattle.html5sinks.specs.Runs.{Running, runs_step, runs_reply}
+use Rattle.html5sinks.specs.Tags.{Tagged}
+use Rattle.html5sinks.specs.Runs.{Running}
 use Rattle.html5stream.specs.declared.error.StreamError.{StreamError}
 use Rattle.html5stream.specs.declared.error.StreamError.TheVariants.{Read, NotUtf8, Memory, Sink, TooLong}
 use Rattle.html5stream.specs.Streams.{ReadsSource, StopsSource, SourceStops}
-use Rattle.html5stream.specs.Pages.{ReadsPage, StopsPage, tags_start, tags_page, tags_handed, runs_start, runs_page, runs_handed}
+use Rattle.html5stream.specs.Pages.{ReadsPage, StopsPage, tags_means, tags_start, tags_page, tags_handed, runs_means, runs_start, runs_page, runs_handed}
 
 -- the sink's state stays as it is where it faults, and at the end
 pub record IsUnmoved {X S H : Type 0} (means : Means X S H) : Type 0 where
@@ -71,30 +70,7 @@ module _ {X S T H : Type 0} (means : Means X T H) (handler : T → S) (page : S 
       }
 
 -- sinks and options that were made by calls that say what they made
-module _ {X S H : Type 0} where
-  -- what a sink of tags makes of what it is told, where the standard replies, and a sink of runs
-  abbrev pub tags_means : (X → Tagged S) → (S → TagOf → ℕ → S) → Means X (Tagged S) H
-  tags_means state step = record {
-    state = state;
-    step = tags_step step;
-    reply = tags_reply (λ s tag line. standard_reply tag);
-    foreign = λ s. s.foreign;
-    finish = λ s. s;
-    faulted = λ s told line. s;
-    end_faulted = λ s. s;
-  }
-
-  abbrev pub runs_means : (X → Running S) → (S → List ℕ → Told → ℕ → S) → Means X (Running S) H
-  runs_means state step = record {
-    state = state;
-    step = runs_step step;
-    reply = runs_reply (λ s run tag line. standard_reply tag);
-    foreign = λ s. s.foreign;
-    finish = λ s. s;
-    faulted = λ s told line. s;
-    end_faulted = λ s. s;
-  }
-
+module _ {X S : Type 0} where
   pub tags-are-page : (names : List NamedReference) (options : OptionsOf) (s : S) (state : X → Tagged S) (step : S → TagOf → ℕ → S) (from : Tagged S)
       → options ≡ default_options → from ≡ tags_start s
       → IsPage (tags_means state step) (λ t. t.handler) (tags_page step names) (tags_handed step) options names from s
