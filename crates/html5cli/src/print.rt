@@ -14,10 +14,10 @@ use html5ever::tokenizer::Tokenizer;
 use html5ever::tokenizer::steps::feed_until_done;
 use html5ever_interface::options::TokenizerOpts;
 use html5ever_interface::states::State;
-use token_printer::print_sink::PrintSink;
 use markup5ever::buffer_queue::BufferQueue;
 use markup5ever::data::NamedReferences;
 use std::alloc::{AllocError, Allocator};
+use token_printer::print_sink::PrintSink;
 
 /// How the program reads its input.
 #[derive(Clone, Copy, Debug, PartialEq, Eq)]

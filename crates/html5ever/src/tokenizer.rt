@@ -248,11 +248,10 @@ fn tell_end<S: TokenSink<Token<A>>, A: Allocator + Copy>(
     rules: &Rules<'_, A>,
     position: &mut Position<A>,
 ) -> Result<(), TokenizerError>
-    ensures ok { OnOk result
-        (S.means.state sink.new ≡ S.means.finish (stepped S.means.step (S.means.state sink.old)
+    ensures ok { OnOk result (S.means.state sink.new ≡ S.means.finish (stepped S.means.step (S.means.state sink.old)
         (on_line position.old.input.line (tokens_at_end rules.now position.old.opened)))) }
-    ensures err { IfErr result (λ error. EndStops S.means error
-        (S.means.state sink.old) (on_line position.old.input.line (tokens_at_end rules.now position.old.opened)) (S.means.state sink.new)) }
+    ensures err { IfErr result (λ error. EndStops S.means error (S.means.state sink.old)
+        (on_line position.old.input.line (tokens_at_end rules.now position.old.opened)) (S.means.state sink.new)) }
     ensures faults { S.faults sink.new ≡ S.faults sink.old + faults_of result }
     ensures fits { position.old.input.line < 2 ^ 64 }
 {

@@ -139,8 +139,10 @@ pub fn run_steps<S: TokenSink<Token<A>>, A: Allocator + Copy>(
     ensures finishes { OnOk result.1 (S.means.state result.0
         ≡ finished_reading S.means (options_of opts) names.now (S.means.state sink)
         (text_of_steps S.means (options_of opts) names.now (S.means.state sink) (map step_of steps.items))) }
-    ensures stops { IfErr result.1 (λ error. StoppedReading S.means (options_of opts) names.now error (S.means.state sink)
-        (text_of_steps S.means (options_of opts) names.now (S.means.state sink) (map step_of steps.items)) (S.means.state result.0)) }
+    ensures stops { IfErr result.1 (λ error. StoppedReading S.means (options_of opts) names.now
+        error (S.means.state sink)
+        (text_of_steps S.means (options_of opts) names.now (S.means.state sink) (map step_of steps.items))
+        (S.means.state result.0)) }
     ensures faults { S.faults result.0 ≡ S.faults sink + faults_of result.1 }
 {
     let mut tokenizer = Tokenizer::new(alloc, sink, opts, names);
