@@ -36,7 +36,7 @@ module _ {S H : Type 0} (step : S → Told → ℕ → S) (reply : S → Told �
   told-beyond K s X A =
       told-append step reply foreign rules K s X A ∙ ap (λ M. messages (told step reply foreign rules K s X) ++ M) (sym (told_beyond-behind step reply foreign rules K s X A))
 
-  -- the state behind more text
+  -- the state after more text
   pub state-beyond : (K : Start) (s : S) (X A : List ℕ)
       → stepped step s (messages (told step reply foreign rules K s (X ++ A))) ≡ stepped step (stepped step s (messages (told step reply foreign rules K s X))) (told_beyond step reply foreign rules K s X A)
   state-beyond K s X A =

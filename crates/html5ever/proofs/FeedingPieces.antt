@@ -1,4 +1,4 @@
--- Pieces that are fed one after another: what was taken so far, and what that gives behind the last one or where a call is refused.
+-- Pieces that are fed one after another: what was taken so far, and what that gives after the last one or where a call is refused.
 use Rattle.std.proofs.Common.{◌≡◌, ℕ, ◌+◌, false, List, [], ◌∷◌, ◌++◌, refl, ap, sym, ◌∙◌, subst, arith, length, map}
 use Rattle.std.proofs.lemmas.List.{append-nil, append_assoc, map-append, length-append}
 use Rattle.std.proofs.lemmas.List.Folds.{concat-append}
@@ -60,7 +60,7 @@ module _ {X S H : Type 0} (means : Means X S H) where
     linear = omega arith;
   }
 
-  -- what a feed behind a further piece cost, also where it was refused
+  -- what a feed after a further piece cost, also where it was refused
   pub HasFed-linear : (first now : Tokenizing X) (old mid pushed new : TextQueue) (pieces later : List (List ℕ)) (piece : List ℕ) (held : ℕ)
       → HasFed first now old mid pieces later → Gains mid pushed (chars piece)
       → IsLinear (held_len now.position.opened) pushed held new → new.handed_in ≡ pushed.handed_in

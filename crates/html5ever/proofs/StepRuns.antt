@@ -121,7 +121,7 @@ module _ {X S H : Type 0} (means : Means X S H) where
       ∙ ap (λ b. means.finish (stepped means.step s (messages (reading means.step means.reply means.foreign b K s (taken.front ++ queue))))) (rules ∙ taken.rules)
       ∙ ap (λ l. means.finish (stepped means.step s (messages (reading means.step means.reply means.foreign first.rules K s l)))) (sym text)
 
-  -- the feed behind a step takes this much of what the run takes
+  -- the feed after a step takes this much of what the run takes
   fed-parts : (first now : Tokenizing X) (steps rest : List StepOf) (t : StepOf) (queue waiting : List ℕ) → (taken : HasTaken first now steps (t ∷ rest) queue)
       → waiting ≡ waiting_with t queue → (K : Start) (s : S)
       → (more : List ℕ)
@@ -169,7 +169,7 @@ module _ {X S H : Type 0} (means : Means X S H) where
       stops-within e first now steps (t ∷ rest) queue _ parts.0 v taken K s stands parts.1
       (stops K s taken.front mid)
 
-  -- the feeds behind the last step, refused
+  -- the feeds after the last step, refused
   pub HasTaken-drain_stops : (e : TokenizerError) (first now : Tokenizing X) (steps : List StepOf) (queue : List ℕ) (v : S)
       → HasTaken first now steps [] queue
       → StopsReading means e now queue v

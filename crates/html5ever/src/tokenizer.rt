@@ -100,7 +100,7 @@ impl<'t, Sink: TokenSink<Token<A>>, A: Allocator + Copy> Tokenizer<'t, Sink, A> 
         }
     }
 
-    /// Reads the text that waits in the queue, up to the first tag behind which the sink asks to
+    /// Reads the text that waits in the queue, up to the first tag after which the sink asks to
     /// pause: then the queue holds what follows that tag's `>`, text may be put in front of it, and
     /// the caller goes on by feeding again. After a refusal the queue holds an end of the text that
     /// it held, and every further call is refused.

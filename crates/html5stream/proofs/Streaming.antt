@@ -59,7 +59,7 @@ IsValidUpTo-cut held cut some =
       ];
     }
 
--- what may begin a character can go on behind a text
+-- what may begin a character can go on after a text
 not_never-cut : (text rest : List ℕ) → IsUtf8 text → IsCutCharacter rest → ¬ (IsNeverUtf8 (text ++ rest))
 not_never-cut text rest utf8 cut = not_never text rest 0 utf8 (record { within = omega arith; text = IsUtf8-nil; cut = cut })
 

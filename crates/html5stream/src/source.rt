@@ -191,7 +191,7 @@ fn read_all<R: Source, S: TokenSink<Token<A>>, A: Allocator + Copy>(
 }
 
 /// Reads a source to its end, 4,096 bytes at a time, from the start of a stream, and hands the sink back:
-/// it has finished behind all that the source's text tells, or after an error it was told a beginning of
+/// it has finished after all that the source's text tells, or after an error it was told a beginning of
 /// what the text so far tells. No read is tried again after it failed.
 pub fn read_source<R: Source, S: TokenSink<Token<A>>, A: Allocator + Copy>(
     alloc: A,

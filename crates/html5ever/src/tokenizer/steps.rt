@@ -58,7 +58,7 @@ pub fn feed_until_done<S: TokenSink<Token<A>>, A: Allocator + Copy>(
 /// What a run hands in before it feeds once more.
 #[derive(Drop)]
 pub enum Step<A: Allocator = Global> {
-    /// A text behind what waits.
+    /// A text after what waits.
     Push(String<A>),
     /// A text in front of what waits.
     Insert(String<A>),
@@ -79,7 +79,7 @@ fn hand_in<A: Allocator>(queue: &mut BufferQueue<A>, step: Step<A>) -> Result<()
     }
 }
 
-// Feeds once, and goes on behind a pause as behind `Done`.
+// Feeds once, and goes on after a pause as after `Done`.
 fn feed_once<S: TokenSink<Token<A>>, A: Allocator + Copy>(
     tokenizer: &mut Tokenizer<'_, S, A>,
     queue: &mut BufferQueue<A>,
@@ -125,8 +125,8 @@ fn take_steps<S: TokenSink<Token<A>>, A: Allocator + Copy>(
     tokenizer.end()
 }
 
-/// Runs a tokenizer from the start of a stream: each step hands in its text and feeds once; behind
-/// the last one it feeds until nothing waits, and ends. Hands the sink back: it has finished behind
+/// Runs a tokenizer from the start of a stream: each step hands in its text and feeds once; after
+/// the last one it feeds until nothing waits, and ends. Hands the sink back: it has finished after
 /// all that the text taken tells, or after a refusal it was told a beginning of that.
 pub fn run_steps<S: TokenSink<Token<A>>, A: Allocator + Copy>(
     alloc: A,

@@ -54,7 +54,7 @@ fn read_from_start<S: TokenSink<Token<A>>, A: Allocator + Copy>(
     (tokenizer.into_sink(), result)
 }
 
-// Hands in the pieces, one behind the other.
+// Hands in the pieces, one after the other.
 fn hand_in_pieces<A: Allocator + Copy>(
     queue: &mut BufferQueue<A>,
     pieces: Vec<String<A>, A>,
@@ -70,7 +70,7 @@ fn hand_in_pieces<A: Allocator + Copy>(
     Ok(())
 }
 
-/// Reads a whole text from the start of a stream, and hands the sink back: it has finished behind
+/// Reads a whole text from the start of a stream, and hands the sink back: it has finished after
 /// all that the text tells, or after a refusal it was told a beginning of that.
 pub fn read_whole<S: TokenSink<Token<A>>, A: Allocator + Copy>(
     alloc: A,
@@ -93,7 +93,7 @@ pub fn read_whole<S: TokenSink<Token<A>>, A: Allocator + Copy>(
     read_from_start(alloc, sink, opts, names, &mut queue)
 }
 
-/// Reads the text that the pieces make, one behind the other, as `read_whole` does: where it is cut
+/// Reads the text that the pieces make, one after the other, as `read_whole` does: where it is cut
 /// changes nothing.
 pub fn read_pieces<S: TokenSink<Token<A>>, A: Allocator + Copy>(
     alloc: A,
@@ -104,7 +104,8 @@ pub fn read_pieces<S: TokenSink<Token<A>>, A: Allocator + Copy>(
 ) -> (S, Result<(), TokenizerError>)
     requires { CanStart opts.initial_state }
     ensures finishes { OnOk result.1 (S.means.state result.0
-        ≡ finished_reading S.means (options_of opts) names.now (S.means.state sink) (text_of (map string_bytes pieces.items))) }
+        ≡ finished_reading S.means (options_of opts) names.now (S.means.state sink)
+        (text_of (map string_bytes pieces.items))) }
     ensures stops { IfErr result.1 (λ error. StoppedReading S.means (options_of opts) names.now
         error (S.means.state sink) (text_of (map string_bytes pieces.items)) (S.means.state result.0)) }
     ensures faults { S.faults result.0 ≡ S.faults sink + faults_of result.1 }
