@@ -4,12 +4,12 @@ use Rattle.std.proofs.lemmas.List.{append-nil, append_assoc, append_cancel_right
 use Rattle.html5ever_interface.specs.Sink.{Means, Message, stepped}
 use Rattle.html5ever_interface.specs.Token.{Told, Reply}
 use Rattle.html5grammar.proofs.ReadingLemmas.{state_behind, told-append, after-append}
-use Rattle.html5grammar.specs.Reading.{told, messages, after}
+use Rattle.html5grammar.specs.Reading.{told, messages, after, state_after}
 use Rattle.html5grammar.specs.Start.{Start, Rules, held_len}
 use Rattle.markup5ever.specs.BufferQueue.{TextQueue}
-use Rattle.html5feed.specs.Feed.{Feed, feed, told_beyond, IsEndOf, IsLinear}
+use Rattle.html5feed.specs.Feed.{Feed, told_beyond, IsEndOf, IsLinear}
 use Rattle.html5states.specs.Telling.{Stops}
-use Rattle.html5ever.specs.Tokenizer.{Tokenizing, StandsAt, ReadsOn, Feeds, StopsReading, StopsFeeding}
+use Rattle.html5ever.specs.Tokenizer.{Tokenizing, StandsAt, ReadsOn, Feeds, StopsReading, StopsFeeding, feed_of}
 use Rattle.html5opened.specs.declared.error.TokenizerError.{TokenizerError}
 use Rattle.html5opened.specs.declared.error.TokenizerError.TheVariants.{Memory, Sink, Failed}
 use Rattle.html5feed.proofs.Pauses.{told_beyond-behind, state_behind-append, feed-parts}
@@ -68,11 +68,11 @@ module _ {X S H : Type 0} (means : Means X S H) where
   }
 
   -- what a feed leaves is what its definition leaves, so it took what its definition takes
-  pub taken-is : (rules : Rules) (K : Start) (s : S) (text front left queue : List ℕ) → queue ≡ front ++ left → left ≡ (feed means.step means.reply means.foreign rules K s text queue).left
-      → (feed means.step means.reply means.foreign rules K s text queue).taken ≡ front
+  pub taken-is : (rules : Rules) (K : Start) (s : S) (text front left queue : List ℕ) → queue ≡ front ++ left → left ≡ (feed_of means rules K s text queue).left
+      → (feed_of means rules K s text queue).taken ≡ front
   taken-is rules K s text front left queue parts leaves =
-      append_cancel_right (feed means.step means.reply means.foreign rules K s text queue).taken front left
-      (ap (λ l. (feed means.step means.reply means.foreign rules K s text queue).taken ++ l) leaves ∙ feed-parts means.step means.reply means.foreign rules K s text queue ∙ parts)
+      append_cancel_right (feed_of means rules K s text queue).taken front left
+      (ap (λ l. (feed_of means rules K s text queue).taken ++ l) leaves ∙ feed-parts means.step means.reply means.foreign rules K s text queue ∙ parts)
 
   pub HasDrained-more : (first now next : Tokenizing X) (old mid new : TextQueue) (reply : Reply H) → HasDrained first now old mid
       → Feeds means now next mid.text new.text reply → IsEndOf new.text mid.text
@@ -117,7 +117,7 @@ module _ {X S H : Type 0} (means : Means X S H) where
       → StopsFeeding means e now queue.text v → StopsReading means e first old.text v
   HasDrained-stops e first now old queue v drained stops K s text stands =
       let x : Rules = first.rules in
-      let f : Feed H = feed means.step means.reply means.foreign x K s (text ++ drained.front) queue.text in
+      let f : Feed H = feed_of means x K s (text ++ drained.front) queue.text in
       let mid : StandsAt means now K s (text ++ drained.front) = drained.reads K s text stands in
       let whole : told_beyond means.step means.reply means.foreign x K s text old.text
       ≡ told_beyond means.step means.reply means.foreign x K s text drained.front ++ (told_beyond means.step means.reply means.foreign x K s (text ++ drained.front) f.taken ++ told_beyond means.step means.reply means.foreign x K s ((text ++ drained.front) ++ f.taken) f.left) =
@@ -126,11 +126,11 @@ module _ {X S H : Type 0} (means : Means X S H) where
       ∙ ap (λ M. told_beyond means.step means.reply means.foreign x K s text drained.front ++ M) (told_beyond-append means.step means.reply means.foreign x K s (text ++ drained.front) f.taken f.left) in
       let state_now : means.state now.sink ≡ stepped means.step (means.state first.sink) (told_beyond means.step means.reply means.foreign x K s text drained.front) =
       mid.told
-      ∙ ap (λ b. stepped means.step s (messages (told means.step means.reply means.foreign b K s (text ++ drained.front)))) drained.rules
+      ∙ ap (λ b. state_after means b K s (text ++ drained.front)) drained.rules
       ∙ state-beyond means.step means.reply means.foreign x K s text drained.front
       ∙ ap (λ u. stepped means.step u (told_beyond means.step means.reply means.foreign x K s text drained.front)) (sym stands.told) in
       rw whole (drained-stops e (means.state first.sink) (means.state now.sink) v _ _ _ state_now
-      (subst (λ b. Stops means.step means.faulted e (means.state now.sink) (told_beyond means.step means.reply means.foreign b K s (text ++ drained.front) (feed means.step means.reply means.foreign b K s (text ++ drained.front) queue.text).taken) v) drained.rules
+      (subst (λ b. Stops means.step means.faulted e (means.state now.sink) (told_beyond means.step means.reply means.foreign b K s (text ++ drained.front) (feed_of means b K s (text ++ drained.front) queue.text).taken) v) drained.rules
       (stops K s (text ++ drained.front) mid)))
 
 -- a tokenizer whose call answers Ok had not failed

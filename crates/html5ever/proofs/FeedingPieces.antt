@@ -1,12 +1,12 @@
 -- Pieces that are fed one after another: what was taken so far, and what that gives after the last one or where a call is refused.
-use Rattle.std.proofs.Common.{◌≡◌, ℕ, ◌+◌, false, List, [], ◌∷◌, ◌++◌, refl, ap, sym, ◌∙◌, subst, arith, length, map}
+use Rattle.std.proofs.Common.{◌≡◌, ℕ, ◌+◌, List, [], ◌∷◌, ◌++◌, refl, ap, sym, ◌∙◌, subst, arith, length, map}
 use Rattle.std.proofs.lemmas.List.{append-nil, append_assoc, map-append, length-append}
 use Rattle.std.proofs.lemmas.List.Folds.{concat-append}
 use Rattle.std.specs.List.{concat}
 use Rattle.std.specs.Str.{chars}
-use Rattle.html5ever_interface.specs.Sink.{Means, Message, stepped}
-use Rattle.html5grammar.specs.Reading.{told, messages}
-use Rattle.html5grammar.specs.Start.{Start, Rules, held_len}
+use Rattle.html5ever_interface.specs.Sink.{Means, stepped}
+use Rattle.html5grammar.specs.Reading.{state_after}
+use Rattle.html5grammar.specs.Start.{Rules, held_len}
 use Rattle.markup5ever.specs.BufferQueue.{TextQueue, Gains}
 use Rattle.html5feed.specs.Feed.{told_beyond, IsLinear}
 use Rattle.html5states.specs.Telling.{Stops}
@@ -121,7 +121,7 @@ module _ {X S H : Type 0} (means : Means X S H) where
       ∙ ap (λ M. told_beyond means.step means.reply means.foreign x K s text front ++ M) (told_beyond-append means.step means.reply means.foreign x K s (text ++ front) waiting rest) in
       let state_now : means.state now.sink ≡ stepped means.step (means.state first.sink) (told_beyond means.step means.reply means.foreign x K s text front) =
       now_stands.told
-      ∙ ap (λ b. stepped means.step s (messages (told means.step means.reply means.foreign b K s (text ++ front)))) so_far.rules
+      ∙ ap (λ b. state_after means b K s (text ++ front)) so_far.rules
       ∙ state-beyond means.step means.reply means.foreign x K s text front
       ∙ ap (λ u. stepped means.step u (told_beyond means.step means.reply means.foreign x K s text front)) (sym stands.told) in
       rw whole (drained-stops means e (means.state first.sink) (means.state now.sink) v _ _ _ state_now

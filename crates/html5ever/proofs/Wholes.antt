@@ -6,7 +6,7 @@ use Rattle.std.specs.Prelude.{IfOk}
 use Rattle.html5ever_interface.proofs.Steppings.{stepped-append}
 use Rattle.html5ever_interface.specs.Collected.{Collected}
 use Rattle.html5ever_interface.specs.Sink.{Means, Message, stepped}
-use Rattle.html5grammar.specs.Reading.{Event, end_events, read, reading, told, messages}
+use Rattle.html5grammar.specs.Reading.{Event, end_events, read, told, messages, all_messages, messages_so_far}
 use Rattle.html5grammar.specs.NormalisedText.{normalised}
 use Rattle.html5grammar.specs.Start.{Start, Rules}
 use Rattle.html5grammar.proofs.ReadingLemmas.{told-nil, reading-events}
@@ -24,11 +24,11 @@ use Rattle.std.proofs.lemmas.List.{length-map}
 module _ {X S H : Type 0} (means : Means X S H) where
   -- the reading is what is told, and then what the end tells
   reading-parts : (rules : Rules) (K : Start) (s : S) (text : List ℕ)
-      → messages (reading means.step means.reply means.foreign rules K s text) ≡ messages (told means.step means.reply means.foreign rules K s text) ++ told_at_end means.step means.reply means.foreign rules K s text
+      → all_messages means rules K s text ≡ messages_so_far means rules K s text ++ told_at_end means.step means.reply means.foreign rules K s text
   reading-parts rules K s text =
       let E : List Event = told means.step means.reply means.foreign rules K s text in
       let N : List Message = messages (end_events means.step means.reply means.foreign rules K (read means.step means.reply means.foreign rules K s text).opened (normalised K.input text)) in
-      let whole : messages (reading means.step means.reply means.foreign rules K s text) ≡ messages E ++ N =
+      let whole : all_messages means rules K s text ≡ messages E ++ N =
       ap (λ F. messages F) (reading-events means.step means.reply means.foreign rules K s text)
       ∙ messages-append E (end_events means.step means.reply means.foreign rules K (read means.step means.reply means.foreign rules K s text).opened (normalised K.input text)) in
       whole
@@ -43,11 +43,11 @@ module _ {X S H : Type 0} (means : Means X S H) where
 
   -- the reading of a text in three parts
   reading-within : (rules : Rules) (K : Start) (s : S) (text taken more : List ℕ)
-      → messages (reading means.step means.reply means.foreign rules K s ((text ++ taken) ++ more))
-      ≡ messages (told means.step means.reply means.foreign rules K s text)
+      → all_messages means rules K s ((text ++ taken) ++ more)
+      ≡ messages_so_far means rules K s text
       ++ (told_beyond means.step means.reply means.foreign rules K s text taken ++ (told_beyond means.step means.reply means.foreign rules K s (text ++ taken) more ++ told_at_end means.step means.reply means.foreign rules K s ((text ++ taken) ++ more)))
   reading-within rules K s text taken more =
-      let T : List Message = messages (told means.step means.reply means.foreign rules K s text) in
+      let T : List Message = messages_so_far means rules K s text in
       let B : List Message = told_beyond means.step means.reply means.foreign rules K s text taken in
       let C : List Message = told_beyond means.step means.reply means.foreign rules K s (text ++ taken) more in
       let E : List Message = told_at_end means.step means.reply means.foreign rules K s ((text ++ taken) ++ more) in
@@ -60,37 +60,37 @@ module _ {X S H : Type 0} (means : Means X S H) where
   pub whole-within_stops : (e : TokenizerError) (t : Tokenizing X) (K : Start) (s u : S) (text taken more : List ℕ)
       → StandsAt means t K s text
       → Stops means.step means.faulted e (means.state t.sink) (told_beyond means.step means.reply means.foreign t.rules K s text taken) u
-      → EndStops means e s (messages (reading means.step means.reply means.foreign t.rules K s ((text ++ taken) ++ more))) u
+      → EndStops means e s (all_messages means t.rules K s ((text ++ taken) ++ more)) u
   whole-within_stops Memory t K s u text taken more stands stops =
       rw (reading-within t.rules K s text taken more)
-      (stops_after means.step means.faulted Memory s (means.state t.sink) u (messages (told means.step means.reply means.foreign t.rules K s text)) _ stands.told
+      (stops_after means.step means.faulted Memory s (means.state t.sink) u (messages_so_far means t.rules K s text) _ stands.told
       (stops_before means.step means.faulted Memory (means.state t.sink) u (told_beyond means.step means.reply means.foreign t.rules K s text taken) _ tt stops))
   whole-within_stops Sink t K s u text taken more stands stops =
       rw (reading-within t.rules K s text taken more)
-      (inl (stops_after means.step means.faulted Sink s (means.state t.sink) u (messages (told means.step means.reply means.foreign t.rules K s text)) _ stands.told
+      (inl (stops_after means.step means.faulted Sink s (means.state t.sink) u (messages_so_far means t.rules K s text) _ stands.told
       (stops_before means.step means.faulted Sink (means.state t.sink) u (told_beyond means.step means.reply means.foreign t.rules K s text taken) _ tt stops)))
   whole-within_stops Failed t K s u text taken more stands stops = stops
 
   pub whole-feed_stops : (e : TokenizerError) (t : Tokenizing X) (K : Start) (s u : S) (text : List ℕ)
       → StandsAt means t K s []
       → Stops means.step means.faulted e (means.state t.sink) (told_beyond means.step means.reply means.foreign t.rules K s [] text) u
-      → EndStops means e s (messages (reading means.step means.reply means.foreign t.rules K s text)) u
+      → EndStops means e s (all_messages means t.rules K s text) u
   whole-feed_stops e t K s u text stands stops =
       rw (← append-nil text) (whole-within_stops e t K s u [] text [] stands stops)
 
   pub whole-end_stops : (e : TokenizerError) (t : Tokenizing X) (K : Start) (s u : S) (text : List ℕ)
       → StandsAt means t K s text
       → EndStops means e (means.state t.sink) (told_at_end means.step means.reply means.foreign t.rules K s text) u
-      → EndStops means e s (messages (reading means.step means.reply means.foreign t.rules K s text)) u
+      → EndStops means e s (all_messages means t.rules K s text) u
   whole-end_stops Memory t K s u text stands stops =
       rw (reading-parts t.rules K s text)
-      (stops_after means.step means.faulted Memory s (means.state t.sink) u (messages (told means.step means.reply means.foreign t.rules K s text)) (told_at_end means.step means.reply means.foreign t.rules K s text) stands.told stops)
+      (stops_after means.step means.faulted Memory s (means.state t.sink) u (messages_so_far means t.rules K s text) (told_at_end means.step means.reply means.foreign t.rules K s text) stands.told stops)
   whole-end_stops Sink t K s u text stands (inl stops) =
       rw (reading-parts t.rules K s text)
-      (inl (stops_after means.step means.faulted Sink s (means.state t.sink) u (messages (told means.step means.reply means.foreign t.rules K s text)) (told_at_end means.step means.reply means.foreign t.rules K s text) stands.told stops))
+      (inl (stops_after means.step means.faulted Sink s (means.state t.sink) u (messages_so_far means t.rules K s text) (told_at_end means.step means.reply means.foreign t.rules K s text) stands.told stops))
   whole-end_stops Sink t K s u text stands (inr ended) =
       rw (reading-parts t.rules K s text)
-      (inr (ended ∙ ap means.end_faulted (rw (stands.told) (sym (stepped-append means.step s (messages (told means.step means.reply means.foreign t.rules K s text)) (told_at_end means.step means.reply means.foreign t.rules K s text))))))
+      (inr (ended ∙ ap means.end_faulted (rw (stands.told) (sym (stepped-append means.step s (messages_so_far means t.rules K s text) (told_at_end means.step means.reply means.foreign t.rules K s text))))))
   whole-end_stops Failed t K s u text stands stops = stops
 
 -- a sink that was told nothing yet
