@@ -113,9 +113,9 @@ module _ {X S H : Type 0} (means : Means X S H) where
   drained-stops Sink s t v F T L e stop = stops_after means.step means.faulted Sink s t v F (T ++ L) e (stops_before means.step means.faulted Sink t v T L tt stop)
   drained-stops Failed s t v F T L e stop = stop
 
-  pub HasDrained-stops : (e : TokenizerError) (first now : Tokenizing X) (old queue : TextQueue) (v : S) → HasDrained first now old queue
-      → StopsFeeding means e now queue.text v → StopsReading means e first old.text v
-  HasDrained-stops e first now old queue v drained stops K s text stands =
+  pub HasDrained-stops : (e : TokenizerError) (first now : Tokenizing X) (old queue : TextQueue) (left : List ℕ) (v : S) → HasDrained first now old queue
+      → StopsFeeding means e now queue.text left v → StopsReading means e first old.text v
+  HasDrained-stops e first now old queue left v drained stops K s text stands =
       let x : Rules = first.rules in
       let f : Feed H = feed_of means x K s (text ++ drained.front) queue.text in
       let mid : StandsAt means now K s (text ++ drained.front) = drained.reads K s text stands in
@@ -131,7 +131,7 @@ module _ {X S H : Type 0} (means : Means X S H) where
       ∙ ap (λ u. stepped means.step u (told_beyond means.step means.reply means.foreign x K s text drained.front)) (sym stands.told) in
       rw whole (drained-stops e (means.state first.sink) (means.state now.sink) v _ _ _ state_now
       (subst (λ b. Stops means.step means.faulted e (means.state now.sink) (told_beyond means.step means.reply means.foreign b K s (text ++ drained.front) (feed_of means b K s (text ++ drained.front) queue.text).taken) v) drained.rules
-      (stops K s (text ++ drained.front) mid)))
+      (stops K s (text ++ drained.front) mid).stops))
 
 -- a tokenizer whose call answers Ok had not failed
 pub ok-not_failed : {T : Type 0} (r : Result T TokenizerError) (x : T) (failed : Bool) → r ≡ Ok x → ((r ≡ Err Failed) ↔ (failed ≡ true)) → failed ≡ false

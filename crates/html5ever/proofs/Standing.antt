@@ -19,9 +19,8 @@ use Rattle.markup5ever.specs.declared.tokenizer_result.TokenizerResult.{Tokenize
 use Rattle.markup5ever.specs.declared.tokenizer_result.TokenizerResult.TheVariants.{Done, Script, EncodingIndicator}
 use Rattle.std.specs.Prelude.{Result, Ok, Err, OnOk, IfOk, IfErr, is_err, ◌≢◌}
 use Rattle.html5states.specs.Telling.{Stops, Tells}
-use Rattle.html5ever.specs.Tokenizer.{Tokenizing, StandsAt, Feeds, StopsFeeding, LeavesRefused, EndStops, feed_of, state_at_end}
+use Rattle.html5ever.specs.Tokenizer.{Tokenizing, StandsAt, Feeds, StopsFeeding, EndStops, feed_of, state_at_end}
 use Rattle.html5opened.specs.declared.error.TokenizerError.{TokenizerError}
-use Rattle.html5opened.specs.declared.error.TokenizerError.TheVariants.{Failed}
 
 -- the line on which the tokenizer stands is the one that the text has reached
 position-line : (I : Input) (X : List ℕ) → (input_after I X).line < 2 ^ 64 → (input_after I X).line ≡ line_after I (normalised I X)
@@ -160,21 +159,11 @@ module _ {X S H : Type 0} (means : Means X S H) where
 -- what a feed leaves
 
 module _ {X S H : Type 0} (means : Means X S H) where
-  StopsFeeding-stands : (e : TokenizerError) (t : Tokenizing X) (queue : List ℕ) (v : S)
-      → Stops means.step means.faulted e (means.state t.sink) (messages_so_far means t.rules t.position (means.state t.sink) (feed_of means t.rules t.position (means.state t.sink) [] queue).taken) v
-      → StopsFeeding means e t queue v
-  StopsFeeding-stands e t queue v stops K s text stands =
-      rw (feed-stands means t K s text queue stands) (Stops-beyond means e t K s v text _ stands stops)
-
-  pub StopsFeeding-read : {T : Type 0} → (r : Result T TokenizerError) (t : Tokenizing X) (queue : List ℕ) (v : S)
-      → Tells means.step means.faulted r (means.state t.sink) (messages_so_far means t.rules t.position (means.state t.sink) (feed_of means t.rules t.position (means.state t.sink) [] queue).taken) v
-      → IfErr r (λ e. StopsFeeding means e t queue v)
-  StopsFeeding-read (Ok x) t queue v tells = tt
-  StopsFeeding-read (Err e) t queue v tells = StopsFeeding-stands e t queue v tells
-
   -- what a refused feed leaves is told by where the tokenizer stands
   RefusedBehind-stands : (e : TokenizerError) (t : Tokenizing X) (queue left : List ℕ) (v : S)
-      → RefusedBehind means.step means.reply means.foreign means.faulted t.rules e t.position (means.state t.sink) [] queue left v → LeavesRefused means e t queue left v
+      → RefusedBehind means.step means.reply means.foreign means.faulted t.rules e t.position (means.state t.sink) [] queue left v
+      → (K : Start) (s : S) (text : List ℕ) → StandsAt means t K s text
+      → RefusedBehind means.step means.reply means.foreign means.faulted t.rules e K s text queue left v
   RefusedBehind-stands e t queue left v r K s text stands =
       let position : start_after means t.rules t.position (means.state t.sink) r.front ≡ start_after means t.rules K s (text ++ r.front) =
       rw (stands.position, stands.told) (sym (after-append means.step means.reply means.foreign t.rules K s text r.front)) in
@@ -190,11 +179,15 @@ module _ {X S H : Type 0} (means : Means X S H) where
             (rw (told_beyond-behind means.step means.reply means.foreign t.rules t.position (means.state t.sink) r.front r.item) at r.stopped);
       }
 
-  pub LeavesRefused-read : {T : Type 0} → (r : Result T TokenizerError) (t : Tokenizing X) (queue left : List ℕ) (v : S)
+  pub StopsFeeding-read : {T : Type 0} → (r : Result T TokenizerError) (t : Tokenizing X) (queue left : List ℕ) (v : S)
+      → Tells means.step means.faulted r (means.state t.sink) (messages_so_far means t.rules t.position (means.state t.sink) (feed_of means t.rules t.position (means.state t.sink) [] queue).taken) v
       → IfErr r (λ e. RefusedBehind means.step means.reply means.foreign means.faulted t.rules e t.position (means.state t.sink) [] queue left v)
-      → IfErr r (λ e. e ≢ Failed → LeavesRefused means e t queue left v)
-  LeavesRefused-read (Ok x) t queue left v refused = tt
-  LeavesRefused-read (Err e) t queue left v refused = λ other. RefusedBehind-stands e t queue left v refused
+      → IfErr r (λ e. StopsFeeding means e t queue left v)
+  StopsFeeding-read (Ok x) t queue left v tells refused = tt
+  StopsFeeding-read (Err e) t queue left v tells refused = λ K s text stands. record {
+    stops = rw (feed-stands means t K s text queue stands) (Stops-beyond means e t K s v text _ stands tells);
+    refused = RefusedBehind-stands e t queue left v refused K s text stands;
+  }
 
   -- an answer `Done` leaves nothing, and every other one less than there was
   module _ {T : Type 0} (bytes : T → List ℕ) (rules : Rules) (P : Start) (s : S) (queue left : List ℕ) where

@@ -159,15 +159,15 @@ module _ {X S H : Type 0} (means : Means X S H) where
       (Memory-at_once means.step means.faulted (means.state now.sink) _)
 
   -- a feed that was refused
-  pub HasTaken-stops : (e : TokenizerError) (first now : Tokenizing X) (steps rest : List StepOf) (t : StepOf) (queue waiting : List ℕ) (v : S)
+  pub HasTaken-stops : (e : TokenizerError) (first now : Tokenizing X) (steps rest : List StepOf) (t : StepOf) (queue waiting left : List ℕ) (v : S)
       → HasTaken first now steps (t ∷ rest) queue → waiting ≡ waiting_with t queue
-      → StopsFeeding means e now waiting v
+      → StopsFeeding means e now waiting left v
       → StopsRun means e first steps v
-  HasTaken-stops e first now steps rest t queue waiting v taken handed stops K s stands =
+  HasTaken-stops e first now steps rest t queue waiting left v taken handed stops K s stands =
       let mid : StandsAt means now K s taken.front = taken.reads K s [] stands in
       let parts = fed-parts first now steps rest t queue waiting taken handed K s in
       stops-within e first now steps (t ∷ rest) queue _ parts.0 v taken K s stands parts.1
-      (stops K s taken.front mid)
+      (stops K s taken.front mid).stops
 
   -- the feeds after the last step, refused
   pub HasTaken-drain_stops : (e : TokenizerError) (first now : Tokenizing X) (steps : List StepOf) (queue : List ℕ) (v : S)

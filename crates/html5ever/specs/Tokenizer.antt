@@ -98,18 +98,17 @@ module _ {X S H : Type 0} (means : Means X S H) where
       (K : Start) (s : S) (text : List ℕ) → StandsAt old K s text
       → Stops means.step means.faulted e (means.state old.sink) (told_beyond means.step means.reply means.foreign old.rules K s text more) t
 
-  -- from wherever it stood, the tokenizer stopped within what a feed of the queue's text would have told
-  abbrev pub StopsFeeding : TokenizerError → Tokenizing X → List ℕ → S → Type 0
-  StopsFeeding e old queue t =
-      (K : Start) (s : S) (text : List ℕ) → StandsAt old K s text
-      → Stops means.step means.faulted e (means.state old.sink)
-      (told_beyond means.step means.reply means.foreign old.rules K s text (feed_of old.rules K s text queue).taken) t
+  -- after `text` a feed of a queue's text was refused, where `fed` says what it would have done
+  pub record StopsFrom (e : TokenizerError) (fed : Feed H) (t : Tokenizing X) (K : Start) (s : S) (text queue left : List ℕ) (v : S) : Type 0 where
+    -- it stopped within what it would have told, and so before any pause
+    pub stops : Stops means.step means.faulted e (means.state t.sink) (told_beyond means.step means.reply means.foreign t.rules K s text fed.taken) v
+    -- a beginning of the queue's text is gone: all that it tells was told, but for the last item, within which the feed stopped
+    pub refused : RefusedBehind means.step means.reply means.foreign means.faulted t.rules e K s text queue left v
 
-  -- from wherever it stood, a refused feed of the queue's text left that much of it
-  abbrev pub LeavesRefused : TokenizerError → Tokenizing X → List ℕ → List ℕ → S → Type 0
-  LeavesRefused e old queue left t =
-      (K : Start) (s : S) (text : List ℕ) → StandsAt old K s text
-      → RefusedBehind means.step means.reply means.foreign means.faulted old.rules e K s text queue left t
+  -- from wherever it stood, the tokenizer was refused a feed of a queue's text: it stopped within that, and `left` waits
+  abbrev pub StopsFeeding : TokenizerError → Tokenizing X → List ℕ → List ℕ → S → Type 0
+  StopsFeeding e old queue left v =
+      (K : Start) (s : S) (text : List ℕ) → StandsAt old K s text → StopsFrom e (feed_of old.rules K s text queue) old K s text queue left v
 
   -- from wherever it stood, the tokenizer stopped within what the end would have told
   abbrev pub StopsEnding : TokenizerError → Tokenizing X → S → Type 0

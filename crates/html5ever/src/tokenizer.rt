@@ -10,7 +10,7 @@ ghost use Rattle.html5feed.specs.Feed.{reply_in, IsEndOf, IsLinear};
 ghost use Rattle.html5states.specs.Telling.{faults_of};
 ghost use Rattle.html5feed.specs.Starting.{CanStart};
 ghost use Rattle.html5ever.specs.Tokenizer.{rules_of, StandsAt, Feeds};
-ghost use Rattle.html5ever.specs.Tokenizer.{StopsFeeding, LeavesRefused, Finishes, StopsEnding, EndStops};
+ghost use Rattle.html5ever.specs.Tokenizer.{StopsFeeding, Finishes, StopsEnding, EndStops};
 
 use html5feed::position::Position;
 use html5feed::reading::read_queue;
@@ -120,15 +120,12 @@ impl<'t, Sink: TokenSink<Token<A>>, A: Allocator + Copy> Tokenizer<'t, Sink, A> 
         ensures shorter { IfOk result (λ answer. answer ≢ TokenizerResult.Done
             → length queue.new.text < length queue.old.text) }
 
-        // When each error comes, and what it leaves. `refused` says how far the feed came in the
-        // queue; `stops` adds that it never came past a tag whose reply pauses.
+        // When each error comes, and what it leaves.
         ensures failed_before { (result ≡ Err TokenizerError.Failed) ↔ (self.old.failed ≡ true) }
         ensures unchanged { self.old.failed ≡ true
             → (self.new ≡ self.old) × (queue.new ≡ queue.old) }
-        ensures stops { IfErr result (λ error.
-            StopsFeeding Sink.means error self.old queue.old.text (Sink.means.state self.new.sink)) }
-        ensures refused { IfErr result (λ error. error ≢ TokenizerError.Failed
-            → LeavesRefused Sink.means error self.old queue.old.text queue.new.text (Sink.means.state self.new.sink)) }
+        ensures stops { IfErr result (λ error. StopsFeeding Sink.means error self.old
+            queue.old.text queue.new.text (Sink.means.state self.new.sink)) }
         ensures faults { Sink.faults self.new.sink ≡ Sink.faults self.old.sink + faults_of result }
         ensures failed { self.new.failed ≡ is_err result }
         ensures empty { queue.old.text ≡ [] → self.old.failed ≡ false → IsOk result }

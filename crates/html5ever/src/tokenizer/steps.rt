@@ -88,8 +88,8 @@ fn feed_once<S: TokenSink<Token<A>>, A: Allocator + Copy>(
     requires not_failed { tokenizer.old.failed ≡ false }
     ensures reads { OnOk result ((reply : Reply S.Handle)
         × Feeds S.means tokenizer.old tokenizer.new queue.old.text queue.new.text reply) }
-    ensures stops { IfErr result (λ error.
-        StopsFeeding S.means error tokenizer.old queue.old.text (S.means.state tokenizer.new.sink)) }
+    ensures stops { IfErr result (λ error. StopsFeeding S.means error tokenizer.old
+        queue.old.text queue.new.text (S.means.state tokenizer.new.sink)) }
     ensures faults { S.faults tokenizer.new.sink ≡ S.faults tokenizer.old.sink + faults_of result }
     ensures end_of_queue { IsEndOf queue.new.text queue.old.text }
     ensures rules { tokenizer.new.rules ≡ tokenizer.old.rules }

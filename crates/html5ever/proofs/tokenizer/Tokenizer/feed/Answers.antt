@@ -1,5 +1,5 @@
 use Rattle.std.proofs.Common.{refl, string_bytes}
-use Rattle.html5ever.proofs.Standing.{Feeds-read, StopsFeeding-read, LeavesRefused-read, left-done, left-shorter}
+use Rattle.html5ever.proofs.Standing.{Feeds-read, StopsFeeding-read, left-done, left-shorter}
 use Rattle.html5ever.proofs.tokenizer.Tokenizer.feed.Goals as goal
 
 pub returns-clause-reads : goal.returns-clause-reads
@@ -19,9 +19,4 @@ returns-clause-shorter g c =
 pub returns-clause-stops : goal.returns-clause-stops
 returns-clause-stops g c =
     rw (← c.self.view_is)
-    (StopsFeeding-read g.Sink.TokenSink.means c.read_queue-result.result _ c.args.queue.now.text _ c.read_queue-result.ensures.tells)
-
-pub returns-clause-refused : goal.returns-clause-refused
-returns-clause-refused g c =
-    rw (← c.self.view_is)
-    (LeavesRefused-read g.Sink.TokenSink.means c.read_queue-result.result _ c.args.queue.now.text _ _ c.read_queue-result.ensures.refused)
+    (StopsFeeding-read g.Sink.TokenSink.means c.read_queue-result.result _ c.args.queue.now.text _ _ c.read_queue-result.ensures.tells c.read_queue-result.ensures.refused)

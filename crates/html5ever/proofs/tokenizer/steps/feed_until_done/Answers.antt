@@ -9,7 +9,7 @@ loop-init g c = (HasDrained-none g.S.TokenSink.means c.args.tokenizer.now c.args
 pub returns-in_err-feed-clause-stops : goal.returns-in_err-feed-clause-stops
 returns-in_err-feed-clause-stops g c =
     let p = err_from_is_err_and c.from_residual.result c.from_residual.ensures.1 in
-    rw (p.1, p.2) (HasDrained-stops g.S.TokenSink.means _ _ _ _ _ _ c.loop.invariant.0 c.in_err-feed.ensures.stops)
+    rw (p.1, p.2) (HasDrained-stops g.S.TokenSink.means _ _ _ _ _ _ _ c.loop.invariant.0 c.in_err-feed.ensures.stops)
 
 pub returns-in_err-feed-clause-end_of_queue : goal.returns-in_err-feed-clause-end_of_queue
 returns-in_err-feed-clause-end_of_queue g c = HasDrained-end g.S.TokenSink.means _ _ _ _ _ c.loop.invariant.0 c.feed.ensures.end_of_queue

@@ -15,7 +15,7 @@ returns-in_err-hand_in-clause-stops g c =
 pub returns-in_err-feed_once-clause-stops : goal.returns-in_err-feed_once-clause-stops
 returns-in_err-feed_once-clause-stops g c =
     let p = err_from_is_err_and c.from_residual-in_err-feed_once.result c.from_residual-in_err-feed_once.ensures.1 in
-    rw (p.1, p.2, ← c.into_iter-step-iterator.ensures.into_iter_gives.0) (HasTaken-stops g.S.TokenSink.means _ _ _ _ _ (step_of c.in-Some.step) _ _ _ (rw c.in-Some.ensures.steps.0 at c.loop-step.invariant.0) c.in_ok-hand_in.ensures.ok c.in_err-feed_once.ensures.stops)
+    rw (p.1, p.2, ← c.into_iter-step-iterator.ensures.into_iter_gives.0) (HasTaken-stops g.S.TokenSink.means _ _ _ _ _ (step_of c.in-Some.step) _ _ _ _ (rw c.in-Some.ensures.steps.0 at c.loop-step.invariant.0) c.in_ok-hand_in.ensures.ok c.in_err-feed_once.ensures.stops)
 
 pub loop-step-preserved : goal.loop-step-preserved
 loop-step-preserved g c = (
