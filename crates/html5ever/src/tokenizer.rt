@@ -130,7 +130,7 @@ impl<'t, Sink: TokenSink<Token<A>>, A: Allocator + Copy> Tokenizer<'t, Sink, A> 
         ensures failed { self.new.failed ≡ is_err result }
         ensures empty { queue.old.text ≡ [] → self.old.failed ≡ false → IsOk result }
 
-        // What each feed keeps. `end_of_queue` is for who doesn't know where the tokenizer stood.
+        // What each feed keeps. `end_of_queue` stays for callers who need no more of it.
         ensures end_of_queue { IsEndOf queue.new.text queue.old.text }
         ensures linear { IsLinear (held_len self.old.position.opened) queue.old
             (held_len self.new.position.opened) queue.new }
