@@ -7,18 +7,19 @@ use Rattle.std.proofs.Math.Seq.{take-add}
 use Rattle.std.proofs.lemmas.List.{append-nil, append_assoc}
 use Rattle.std.proofs.lemmas.Str.{chars-append, chars-nil}
 use Rattle.markup5ever.specs.BufferQueue.{TextQueue}
-use Rattle.token_printer.specs.Page.{Printer, page_step, page_reply, page_foreign}
+use Rattle.token_printer.specs.Page.{Printer}
 use Rattle.html5ever.specs.Tokenizer.{Tokenizing, ReadsOn}
 use Rattle.html5grammar.specs.Reading.{after}
 use Rattle.html5grammar.specs.Start.{Start}
 use Rattle.markup5ever.proofs.TextLemmas.{chars_cut}
 use Rattle.devices.specs.declared.fault.Fault.{Fault}
+use Rattle.html5cli.specs.Printing.{printer_means}
 use Rattle.html5cli.proofs.Cuts.{IsCut, IsCut-start, IsCut-front}
 
 -- the first bytes of the text were fed, up to a place between two characters
 pub record FedTo (first now : Tokenizing Printer) (text : List ℕ) (start : ℕ) (queue : TextQueue) : Type 0 where
   pub cut : IsCut text start
-  pub reads : ReadsOn (λ (sink : Printer). sink.page) page_step page_reply page_foreign first now (chars (take start text))
+  pub reads : ReadsOn printer_means first now (chars (take start text))
   pub rules : now.rules ≡ first.rules
   pub going_on : now.ended ≡ false
   pub not_failed : now.failed ≡ false
@@ -37,7 +38,7 @@ FedTo-start first text queue utf8 going_on not_failed waiting = record {
 
 pub FedTo-more : (first now next : Tokenizing Printer) (text piece : List ℕ) (start len : ℕ) (queue later : TextQueue)
     → FedTo first now text start queue → IsUtf8 text → IsCut text (start + len) → piece ≡ take len (drop start text)
-    → ReadsOn (λ (sink : Printer). sink.page) page_step page_reply page_foreign now next (chars piece)
+    → ReadsOn printer_means now next (chars piece)
     → next.rules ≡ now.rules → next.ended ≡ false → next.failed ≡ false → later.text ≡ []
     → FedTo first next text (start + len) later
 FedTo-more first now next text piece start len queue later fed utf8 cut is_piece reads rules going_on not_failed waiting =

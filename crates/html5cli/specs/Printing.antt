@@ -3,19 +3,32 @@ use Rattle.std.specs.Prelude.{◌≡◌, ℕ, List, Option}
 use Rattle.std.specs.Io.KnownBytes.{Appends, Consumes, IsAtEnd, Keeps}
 use Rattle.std.specs.Str.{IsUtf8, chars}
 use Rattle.devices.specs.Device.{AppendsBeginning}
-use Rattle.token_printer.specs.Page.{blank_page, page_step, page_reply, page_foreign}
+use Rattle.token_printer.specs.Page.{Page, Printer, blank_page, page_step, page_reply, page_foreign, page_faulted}
 use Rattle.token_printer.specs.Printed.{printed}
-use Rattle.html5grammar.specs.Reading.{reading, messages, after}
-use Rattle.html5grammar.specs.Start.{Open, start_of}
+use Rattle.html5ever_interface.specs.Sink.{Means}
+use Rattle.html5grammar.specs.Reading.{all_messages}
+use Rattle.html5grammar.specs.Start.{start_of}
 use Rattle.html5cli.specs.Settings.{SettingsOf}
 use Rattle.html5ever.specs.Tokenizer.{rules_of}
 use Rattle.markup5ever.specs.NamedReferences.{NamedReference}
+
+-- what a printing sink makes of what it is told
+abbrev pub printer_means : Means Printer Page (Unit {0})
+printer_means = record {
+  state = λ sink. sink.page;
+  step = page_step;
+  reply = page_reply;
+  foreign = page_foreign;
+  finish = λ page. page;
+  faulted = page_faulted;
+  end_faulted = λ page. page;
+}
 
 -- the printed lines of the reading of a text by a table, where the text's bytes are given: the cut is not in it, nor the table
 -- that the settings say
 unfoldable pub printed_reading : SettingsOf → List NamedReference → List ℕ → List ℕ
 printed_reading settings names bytes =
-    printed (messages (reading page_step page_reply page_foreign (rules_of settings.opts names) (start_of settings.opts) (blank_page settings.foreign) (chars bytes)))
+    printed (all_messages printer_means (rules_of settings.opts names) (start_of settings.opts) (blank_page settings.foreign) (chars bytes))
 
 -- the reader was read to its end, what it gave is UTF-8, and what was written is its printed reading
 pub record PrintsReading (settings : SettingsOf) (names : List NamedReference) (unread left written after : Option (List ℕ)) : Type 0 where

@@ -2,10 +2,9 @@ ghost use Rattle.std.specs.Prelude.{◌≡◌, ◌≢◌, ◌↔◌, ◌+◌, �
 ghost use Rattle.std.specs.Io.KnownBytes.{Keeps};
 ghost use Rattle.std.specs.Str.{IsUtf8, chars};
 ghost use Rattle.devices.specs.Device.{IsRefusal, reported_failures};
-ghost use Rattle.token_printer.specs.Page.{page_step, page_reply, page_foreign};
 ghost use Rattle.html5ever_interface.specs.Options.{options_of};
 ghost use Rattle.html5cli.specs.Settings.{options_said, said_by};
-ghost use Rattle.html5cli.specs.Printing.{printed_reading, PrintsReading, PrintsBeginning, PrintsNothing};
+ghost use Rattle.html5cli.specs.Printing.{printer_means, printed_reading, PrintsReading, PrintsBeginning, PrintsNothing};
 ghost use Rattle.html5feed.specs.Starting.{CanStart};
 ghost use Rattle.html5ever.specs.Tokenizer.{ReadsOn};
 
@@ -59,8 +58,7 @@ fn feed_piece<A: Allocator + Copy>(
     requires waiting { queue.old.text ≡ [] }
     requires going_on { tokenizer.old.ended ≡ false }
     requires not_failed { tokenizer.old.failed ≡ false }
-    ensures reads { OnOk result (ReadsOn (λ sink. sink.page) page_step page_reply page_foreign
-        tokenizer.old tokenizer.new (chars (string_bytes piece))) }
+    ensures reads { OnOk result (ReadsOn printer_means tokenizer.old tokenizer.new (chars (string_bytes piece))) }
     ensures taken { OnOk result (queue.new.text ≡ []) }
     ensures rules { tokenizer.new.rules ≡ tokenizer.old.rules }
     ensures going_on { tokenizer.new.ended ≡ false }
@@ -149,8 +147,7 @@ pub fn feed_text<A: Allocator + Copy>(
 ) -> Result<(), Fault>
     requires going_on { tokenizer.old.ended ≡ false }
     requires not_failed { tokenizer.old.failed ≡ false }
-    ensures reads { OnOk result (ReadsOn (λ sink. sink.page) page_step page_reply page_foreign
-        tokenizer.old tokenizer.new (chars (string_bytes text))) }
+    ensures reads { OnOk result (ReadsOn printer_means tokenizer.old tokenizer.new (chars (string_bytes text))) }
     ensures rules { tokenizer.new.rules ≡ tokenizer.old.rules }
     ensures going_on { tokenizer.new.ended ≡ false }
     ensures not_failed { OnOk result (tokenizer.new.failed ≡ false) }

@@ -1,15 +1,15 @@
 -- Feeding again and again: what was taken so far, and what that gives when the queue is empty or a feed is refused.
 use Rattle.std.proofs.Common.{◌≡◌, ℕ, Bool, false, List, [], ◌++◌, refl, ap, sym, ◌∙◌, subst, arith}
 use Rattle.std.proofs.lemmas.List.{append-nil, append_assoc, append_cancel_right}
-use Rattle.html5ever_interface.specs.Sink.{Message, stepped}
+use Rattle.html5ever_interface.specs.Sink.{Means, Message, stepped}
 use Rattle.html5ever_interface.specs.Token.{Told, Reply}
 use Rattle.html5grammar.proofs.ReadingLemmas.{state_behind, told-append, after-append}
-use Rattle.html5grammar.specs.Reading.{told, messages, after}
+use Rattle.html5grammar.specs.Reading.{told, messages, after, state_after}
 use Rattle.html5grammar.specs.Start.{Start, Rules, held_len}
 use Rattle.markup5ever.specs.BufferQueue.{TextQueue}
-use Rattle.html5feed.specs.Feed.{Feed, feed, told_beyond, IsEndOf, IsLinear}
+use Rattle.html5feed.specs.Feed.{Feed, told_beyond, IsEndOf, IsLinear}
 use Rattle.html5states.specs.Telling.{Stops}
-use Rattle.html5ever.specs.Tokenizer.{Tokenizing, StandsAt, ReadsOn, FeedsOn, LeavesWaiting, StopsReading, StopsFeeding}
+use Rattle.html5ever.specs.Tokenizer.{Tokenizing, StandsAt, ReadsOn, Feeds, StopsReading, StopsFeeding, feed_of}
 use Rattle.html5opened.specs.declared.error.TokenizerError.{TokenizerError}
 use Rattle.html5opened.specs.declared.error.TokenizerError.TheVariants.{Memory, Sink, Failed}
 use Rattle.html5feed.proofs.Pauses.{told_beyond-behind, state_behind-append, feed-parts}
@@ -36,19 +36,19 @@ module _ {S H : Type 0} (step : S → Told → ℕ → S) (reply : S → Told �
   told-beyond K s X A =
       told-append step reply foreign rules K s X A ∙ ap (λ M. messages (told step reply foreign rules K s X) ++ M) (sym (told_beyond-behind step reply foreign rules K s X A))
 
-  -- the state behind more text
+  -- the state after more text
   pub state-beyond : (K : Start) (s : S) (X A : List ℕ)
       → stepped step s (messages (told step reply foreign rules K s (X ++ A))) ≡ stepped step (stepped step s (messages (told step reply foreign rules K s X))) (told_beyond step reply foreign rules K s X A)
   state-beyond K s X A =
       state_behind-append step reply foreign rules K s X A
       ∙ ap (stepped step (state_behind step reply foreign rules K s X)) (sym (told_beyond-behind step reply foreign rules K s X A))
 
-module _ {X S H : Type 0} (state : X → S) (step : S → Told → ℕ → S) (reply : S → Told → ℕ → Reply H) (foreign : S → Bool) where
+module _ {X S H : Type 0} (means : Means X S H) where
   -- the tokenizer read on over a front of the queue's text
   pub record HasDrained (first now : Tokenizing X) (old queue : TextQueue) : Type 0 where
     pub front : List ℕ
     pub parts : old.text ≡ front ++ queue.text
-    pub reads : ReadsOn state step reply foreign first now front
+    pub reads : ReadsOn means first now front
     pub rules : now.rules ≡ first.rules
     pub going_on : now.ended ≡ false
     pub failed : now.failed ≡ first.failed
@@ -68,25 +68,25 @@ module _ {X S H : Type 0} (state : X → S) (step : S → Told → ℕ → S) (r
   }
 
   -- what a feed leaves is what its definition leaves, so it took what its definition takes
-  pub taken-is : (rules : Rules) (K : Start) (s : S) (text front left queue : List ℕ) → queue ≡ front ++ left → left ≡ (feed step reply foreign rules K s text queue).left
-      → (feed step reply foreign rules K s text queue).taken ≡ front
+  pub taken-is : (rules : Rules) (K : Start) (s : S) (text front left queue : List ℕ) → queue ≡ front ++ left → left ≡ (feed_of means rules K s text queue).left
+      → (feed_of means rules K s text queue).taken ≡ front
   taken-is rules K s text front left queue parts leaves =
-      append_cancel_right (feed step reply foreign rules K s text queue).taken front left
-      (ap (λ l. (feed step reply foreign rules K s text queue).taken ++ l) leaves ∙ feed-parts step reply foreign rules K s text queue ∙ parts)
+      append_cancel_right (feed_of means rules K s text queue).taken front left
+      (ap (λ l. (feed_of means rules K s text queue).taken ++ l) leaves ∙ feed-parts means.step means.reply means.foreign rules K s text queue ∙ parts)
 
-  pub HasDrained-more : (first now next : Tokenizing X) (old mid new : TextQueue) → HasDrained first now old mid
-      → FeedsOn state step reply foreign now next mid.text → LeavesWaiting state step reply foreign now mid.text new.text → IsEndOf new.text mid.text
+  pub HasDrained-more : (first now next : Tokenizing X) (old mid new : TextQueue) (reply : Reply H) → HasDrained first now old mid
+      → Feeds means now next mid.text new.text reply → IsEndOf new.text mid.text
       → next.rules ≡ now.rules → next.ended ≡ false → next.failed ≡ now.failed → IsLinear (held_len now.position.opened) mid (held_len next.position.opened) new → new.handed_in ≡ mid.handed_in
       → HasDrained first next old new
-  HasDrained-more first now next old mid new drained feeds leaves is_end rules going_on failed linear handed_in = record {
+  HasDrained-more first now next old mid new reply drained feeds is_end rules going_on failed linear handed_in = record {
     front = drained.front ++ is_end.front;
     parts = drained.parts ∙ ap (λ l. drained.front ++ l) is_end.parts ∙ sym (append_assoc drained.front is_end.front new.text);
     reads = λ K s text stands.
-        let mid_stands : StandsAt state step reply foreign now K s (text ++ drained.front) = drained.reads K s text stands in
-        subst (λ l. StandsAt state step reply foreign next K s l)
-        (ap (λ l. (text ++ drained.front) ++ l) (taken-is now.rules K s (text ++ drained.front) is_end.front new.text mid.text is_end.parts (leaves K s (text ++ drained.front) mid_stands))
+        let fed = feeds K s (text ++ drained.front) (drained.reads K s text stands) in
+        subst (λ l. StandsAt means next K s l)
+        (ap (λ l. (text ++ drained.front) ++ l) (taken-is now.rules K s (text ++ drained.front) is_end.front new.text mid.text is_end.parts fed.left)
         ∙ append_assoc text drained.front is_end.front)
-        (feeds K s (text ++ drained.front) mid_stands);
+        fed.stands;
     rules = rules ∙ drained.rules;
     going_on = going_on;
     failed = failed ∙ drained.failed;
@@ -102,37 +102,36 @@ module _ {X S H : Type 0} (state : X → S) (step : S → Told → ℕ → S) (r
   }
 
   -- the queue is empty, so all was read
-  pub HasDrained-all : (first now : Tokenizing X) (old new : TextQueue) → HasDrained first now old new → new.text ≡ [] → ReadsOn state step reply foreign first now old.text
+  pub HasDrained-all : (first now : Tokenizing X) (old new : TextQueue) → HasDrained first now old new → new.text ≡ [] → ReadsOn means first now old.text
   HasDrained-all first now old new drained none K s text stands =
-      subst (λ l. StandsAt state step reply foreign now K s (text ++ l)) (sym (drained.parts ∙ ap (λ l. drained.front ++ l) none ∙ append-nil drained.front)) (drained.reads K s text stands)
+      subst (λ l. StandsAt means now K s (text ++ l)) (sym (drained.parts ∙ ap (λ l. drained.front ++ l) none ∙ append-nil drained.front)) (drained.reads K s text stands)
 
-  module _ (faulted : S → Told → ℕ → S) where
-    -- a refused feed stops within all that the queue tells
-    pub drained-stops : (e : TokenizerError) (s t v : S) (F T L : List Message) → t ≡ stepped step s F
-        → Stops step faulted e t T v → Stops step faulted e s (F ++ (T ++ L)) v
-    drained-stops Memory s t v F T L e stop = stops_after step faulted Memory s t v F (T ++ L) e (stops_before step faulted Memory t v T L tt stop)
-    drained-stops Sink s t v F T L e stop = stops_after step faulted Sink s t v F (T ++ L) e (stops_before step faulted Sink t v T L tt stop)
-    drained-stops Failed s t v F T L e stop = stop
+  -- a refused feed stops within all that the queue tells
+  pub drained-stops : (e : TokenizerError) (s t v : S) (F T L : List Message) → t ≡ stepped means.step s F
+      → Stops means.step means.faulted e t T v → Stops means.step means.faulted e s (F ++ (T ++ L)) v
+  drained-stops Memory s t v F T L e stop = stops_after means.step means.faulted Memory s t v F (T ++ L) e (stops_before means.step means.faulted Memory t v T L tt stop)
+  drained-stops Sink s t v F T L e stop = stops_after means.step means.faulted Sink s t v F (T ++ L) e (stops_before means.step means.faulted Sink t v T L tt stop)
+  drained-stops Failed s t v F T L e stop = stop
 
-    pub HasDrained-stops : (e : TokenizerError) (first now : Tokenizing X) (old queue : TextQueue) (v : S) → HasDrained first now old queue
-        → StopsFeeding state step reply foreign faulted e now queue.text v → StopsReading state step reply foreign faulted e first old.text v
-    HasDrained-stops e first now old queue v drained stops K s text stands =
-        let x : Rules = first.rules in
-        let f : Feed H = feed step reply foreign x K s (text ++ drained.front) queue.text in
-        let mid : StandsAt state step reply foreign now K s (text ++ drained.front) = drained.reads K s text stands in
-        let whole : told_beyond step reply foreign x K s text old.text
-        ≡ told_beyond step reply foreign x K s text drained.front ++ (told_beyond step reply foreign x K s (text ++ drained.front) f.taken ++ told_beyond step reply foreign x K s ((text ++ drained.front) ++ f.taken) f.left) =
-        ap (told_beyond step reply foreign x K s text) (drained.parts ∙ ap (λ l. drained.front ++ l) (sym (feed-parts step reply foreign x K s (text ++ drained.front) queue.text)))
-        ∙ told_beyond-append step reply foreign x K s text drained.front (f.taken ++ f.left)
-        ∙ ap (λ M. told_beyond step reply foreign x K s text drained.front ++ M) (told_beyond-append step reply foreign x K s (text ++ drained.front) f.taken f.left) in
-        let state_now : state now.sink ≡ stepped step (state first.sink) (told_beyond step reply foreign x K s text drained.front) =
-        mid.told
-        ∙ ap (λ b. stepped step s (messages (told step reply foreign b K s (text ++ drained.front)))) drained.rules
-        ∙ state-beyond step reply foreign x K s text drained.front
-        ∙ ap (λ u. stepped step u (told_beyond step reply foreign x K s text drained.front)) (sym stands.told) in
-        rw whole (drained-stops e (state first.sink) (state now.sink) v _ _ _ state_now
-        (subst (λ b. Stops step faulted e (state now.sink) (told_beyond step reply foreign b K s (text ++ drained.front) (feed step reply foreign b K s (text ++ drained.front) queue.text).taken) v) drained.rules
-        (stops K s (text ++ drained.front) mid)))
+  pub HasDrained-stops : (e : TokenizerError) (first now : Tokenizing X) (old queue : TextQueue) (left : List ℕ) (v : S) → HasDrained first now old queue
+      → StopsFeeding means e now queue.text left v → StopsReading means e first old.text v
+  HasDrained-stops e first now old queue left v drained stops K s text stands =
+      let x : Rules = first.rules in
+      let f : Feed H = feed_of means x K s (text ++ drained.front) queue.text in
+      let mid : StandsAt means now K s (text ++ drained.front) = drained.reads K s text stands in
+      let whole : told_beyond means.step means.reply means.foreign x K s text old.text
+      ≡ told_beyond means.step means.reply means.foreign x K s text drained.front ++ (told_beyond means.step means.reply means.foreign x K s (text ++ drained.front) f.taken ++ told_beyond means.step means.reply means.foreign x K s ((text ++ drained.front) ++ f.taken) f.left) =
+      ap (told_beyond means.step means.reply means.foreign x K s text) (drained.parts ∙ ap (λ l. drained.front ++ l) (sym (feed-parts means.step means.reply means.foreign x K s (text ++ drained.front) queue.text)))
+      ∙ told_beyond-append means.step means.reply means.foreign x K s text drained.front (f.taken ++ f.left)
+      ∙ ap (λ M. told_beyond means.step means.reply means.foreign x K s text drained.front ++ M) (told_beyond-append means.step means.reply means.foreign x K s (text ++ drained.front) f.taken f.left) in
+      let state_now : means.state now.sink ≡ stepped means.step (means.state first.sink) (told_beyond means.step means.reply means.foreign x K s text drained.front) =
+      mid.told
+      ∙ ap (λ b. state_after means b K s (text ++ drained.front)) drained.rules
+      ∙ state-beyond means.step means.reply means.foreign x K s text drained.front
+      ∙ ap (λ u. stepped means.step u (told_beyond means.step means.reply means.foreign x K s text drained.front)) (sym stands.told) in
+      rw whole (drained-stops e (means.state first.sink) (means.state now.sink) v _ _ _ state_now
+      (subst (λ b. Stops means.step means.faulted e (means.state now.sink) (told_beyond means.step means.reply means.foreign b K s (text ++ drained.front) (feed_of means b K s (text ++ drained.front) queue.text).taken) v) drained.rules
+      (stops K s (text ++ drained.front) mid).stops))
 
 -- a tokenizer whose call answers Ok had not failed
 pub ok-not_failed : {T : Type 0} (r : Result T TokenizerError) (x : T) (failed : Bool) → r ≡ Ok x → ((r ≡ Err Failed) ↔ (failed ≡ true)) → failed ≡ false

@@ -1,13 +1,12 @@
--- Pieces that are fed one after another: what was taken so far, and what that gives behind the last one or where a call is refused.
-use Rattle.std.proofs.Common.{◌≡◌, ℕ, ◌+◌, Bool, false, List, [], ◌∷◌, ◌++◌, refl, ap, sym, ◌∙◌, subst, arith, length, map}
+-- Pieces that are fed one after another: what was taken so far, and what that gives after the last one or where a call is refused.
+use Rattle.std.proofs.Common.{◌≡◌, ℕ, ◌+◌, List, [], ◌∷◌, ◌++◌, refl, ap, sym, ◌∙◌, subst, arith, length, map}
 use Rattle.std.proofs.lemmas.List.{append-nil, append_assoc, map-append, length-append}
 use Rattle.std.proofs.lemmas.List.Folds.{concat-append}
 use Rattle.std.specs.List.{concat}
 use Rattle.std.specs.Str.{chars}
-use Rattle.html5ever_interface.specs.Sink.{Message, stepped}
-use Rattle.html5ever_interface.specs.Token.{Told, Reply}
-use Rattle.html5grammar.specs.Reading.{told, messages}
-use Rattle.html5grammar.specs.Start.{Start, Rules, held_len}
+use Rattle.html5ever_interface.specs.Sink.{Means, stepped}
+use Rattle.html5grammar.specs.Reading.{state_after}
+use Rattle.html5grammar.specs.Start.{Rules, held_len}
 use Rattle.markup5ever.specs.BufferQueue.{TextQueue, Gains}
 use Rattle.html5feed.specs.Feed.{told_beyond, IsLinear}
 use Rattle.html5states.specs.Telling.{Stops}
@@ -41,12 +40,12 @@ left-more : (waiting : List ℕ) (fed : List (List ℕ)) (piece : List ℕ) → 
 left-more waiting [] piece = refl
 left-more waiting (first ∷ fed) piece = refl
 
-module _ {X S H : Type 0} (state : X → S) (step : S → Told → ℕ → S) (reply : S → Told → ℕ → Reply H) (foreign : S → Bool) where
+module _ {X S H : Type 0} (means : Means X S H) where
   -- some first ones of the pieces were fed
   pub record HasFed (first now : Tokenizing X) (old queue : TextQueue) (pieces later : List (List ℕ)) : Type 0 where
     pub fed : List (List ℕ)
     pub parts : pieces ≡ fed ++ later
-    pub reads : ReadsOn state step reply foreign first now (fed_text old.text fed)
+    pub reads : ReadsOn means first now (fed_text old.text fed)
     pub left : queue.text ≡ left_of old.text fed
     pub rules : now.rules ≡ first.rules
     pub linear : IsLinearFor (held_len first.position.opened) old (held_len now.position.opened) queue
@@ -61,7 +60,7 @@ module _ {X S H : Type 0} (state : X → S) (step : S → Told → ℕ → S) (r
     linear = omega arith;
   }
 
-  -- what a feed behind a further piece cost, also where it was refused
+  -- what a feed after a further piece cost, also where it was refused
   pub HasFed-linear : (first now : Tokenizing X) (old mid pushed new : TextQueue) (pieces later : List (List ℕ)) (piece : List ℕ) (held : ℕ)
       → HasFed first now old mid pieces later → Gains mid pushed (chars piece)
       → IsLinear (held_len now.position.opened) pushed held new → new.handed_in ≡ pushed.handed_in
@@ -73,14 +72,14 @@ module _ {X S H : Type 0} (state : X → S) (step : S → Told → ℕ → S) (r
   -- the next piece came in, and all that waited was fed
   pub HasFed-more : (first now next : Tokenizing X) (old mid pushed new : TextQueue) (pieces later : List (List ℕ)) (piece : List ℕ)
       → HasFed first now old mid pieces (piece ∷ later) → Gains mid pushed (chars piece)
-      → ReadsOn state step reply foreign now next pushed.text → new.text ≡ [] → next.rules ≡ now.rules
+      → ReadsOn means now next pushed.text → new.text ≡ [] → next.rules ≡ now.rules
       → IsLinear (held_len now.position.opened) pushed (held_len next.position.opened) new → new.handed_in ≡ pushed.handed_in
       → HasFed first next old new pieces later
   HasFed-more first now next old mid pushed new pieces later piece so_far gains reads none rules linear handed_in = record {
     fed = so_far.fed ++ piece ∷ [];
     parts = so_far.parts ∙ sym (append_assoc so_far.fed (piece ∷ []) later);
     reads = λ K s text stands.
-        subst (λ l. StandsAt state step reply foreign next K s l)
+        subst (λ l. StandsAt means next K s l)
         (append_assoc text (fed_text old.text so_far.fed) pushed.text
         ∙ ap (λ l. text ++ l) (ap (λ l. fed_text old.text so_far.fed ++ l) (gains.text ∙ ap (λ l. l ++ chars piece) so_far.left) ∙ sym (fed-more old.text so_far.fed piece)))
         (reads K s (text ++ fed_text old.text so_far.fed) (so_far.reads K s text stands));
@@ -91,48 +90,47 @@ module _ {X S H : Type 0} (state : X → S) (step : S → Told → ℕ → S) (r
 
   -- all pieces were fed
   pub HasFed-all : (first now : Tokenizing X) (old queue : TextQueue) (pieces : List (List ℕ)) → HasFed first now old queue pieces []
-      → ReadsOn state step reply foreign first now (fed_text old.text pieces)
+      → ReadsOn means first now (fed_text old.text pieces)
   HasFed-all first now old queue pieces so_far =
-      subst (λ l. ReadsOn state step reply foreign first now (fed_text old.text l)) (sym (so_far.parts ∙ append-nil so_far.fed)) so_far.reads
+      subst (λ l. ReadsOn means first now (fed_text old.text l)) (sym (so_far.parts ∙ append-nil so_far.fed)) so_far.reads
 
   pub HasFed-left : (first now : Tokenizing X) (old queue : TextQueue) (pieces : List (List ℕ)) → HasFed first now old queue pieces []
       → queue.text ≡ left_of old.text pieces
   HasFed-left first now old queue pieces so_far = so_far.left ∙ ap (left_of old.text) (sym (so_far.parts ∙ append-nil so_far.fed))
 
   pub HasFed-within : (first now : Tokenizing X) (old queue : TextQueue) (pieces later : List (List ℕ)) → HasFed first now old queue pieces later
-      → StandsWithin state step reply foreign first now old.text pieces
+      → StandsWithin means first now old.text pieces
   HasFed-within first now old queue pieces later so_far =
       record { fed = so_far.fed; later = later; parts = so_far.parts; reads = so_far.reads }
 
-  module _ (faulted : S → Told → ℕ → S) where
-    -- what stops within the text that waits, and some that follows, stops within all
-    pub HasFed-stops : (e : TokenizerError) (first now : Tokenizing X) (old mid : TextQueue) (pieces later : List (List ℕ)) (waiting rest : List ℕ) (v : S)
-        → HasFed first now old mid pieces later → waiting ++ rest ≡ mid.text ++ text_of later
-        → StopsReading state step reply foreign faulted e now waiting v
-        → StopsReading state step reply foreign faulted e first (old.text ++ text_of pieces) v
-    HasFed-stops e first now old mid pieces later waiting rest v so_far all stops K s text stands =
-        let x : Rules = first.rules in
-        let front : List ℕ = fed_text old.text so_far.fed in
-        let now_stands : StandsAt state step reply foreign now K s (text ++ front) = so_far.reads K s text stands in
-        let whole : told_beyond step reply foreign x K s text (old.text ++ text_of pieces)
-        ≡ told_beyond step reply foreign x K s text front ++ (told_beyond step reply foreign x K s (text ++ front) waiting ++ told_beyond step reply foreign x K s ((text ++ front) ++ waiting) rest) =
-        ap (told_beyond step reply foreign x K s text)
-        (ap (λ l. old.text ++ text_of l) so_far.parts ∙ fed-parts old.text so_far.fed later
-        ∙ ap (λ l. front ++ l) (ap (λ l. l ++ text_of later) (sym so_far.left) ∙ sym all))
-        ∙ told_beyond-append step reply foreign x K s text front (waiting ++ rest)
-        ∙ ap (λ M. told_beyond step reply foreign x K s text front ++ M) (told_beyond-append step reply foreign x K s (text ++ front) waiting rest) in
-        let state_now : state now.sink ≡ stepped step (state first.sink) (told_beyond step reply foreign x K s text front) =
-        now_stands.told
-        ∙ ap (λ b. stepped step s (messages (told step reply foreign b K s (text ++ front)))) so_far.rules
-        ∙ state-beyond step reply foreign x K s text front
-        ∙ ap (λ u. stepped step u (told_beyond step reply foreign x K s text front)) (sym stands.told) in
-        rw whole (drained-stops state step reply foreign faulted e (state first.sink) (state now.sink) v _ _ _ state_now
-        (subst (λ b. Stops step faulted e (state now.sink) (told_beyond step reply foreign b K s (text ++ front) waiting) v) so_far.rules
-        (stops K s (text ++ front) now_stands)))
+  -- what stops within the text that waits, and some that follows, stops within all
+  pub HasFed-stops : (e : TokenizerError) (first now : Tokenizing X) (old mid : TextQueue) (pieces later : List (List ℕ)) (waiting rest : List ℕ) (v : S)
+      → HasFed first now old mid pieces later → waiting ++ rest ≡ mid.text ++ text_of later
+      → StopsReading means e now waiting v
+      → StopsReading means e first (old.text ++ text_of pieces) v
+  HasFed-stops e first now old mid pieces later waiting rest v so_far all stops K s text stands =
+      let x : Rules = first.rules in
+      let front : List ℕ = fed_text old.text so_far.fed in
+      let now_stands : StandsAt means now K s (text ++ front) = so_far.reads K s text stands in
+      let whole : told_beyond means.step means.reply means.foreign x K s text (old.text ++ text_of pieces)
+      ≡ told_beyond means.step means.reply means.foreign x K s text front ++ (told_beyond means.step means.reply means.foreign x K s (text ++ front) waiting ++ told_beyond means.step means.reply means.foreign x K s ((text ++ front) ++ waiting) rest) =
+      ap (told_beyond means.step means.reply means.foreign x K s text)
+      (ap (λ l. old.text ++ text_of l) so_far.parts ∙ fed-parts old.text so_far.fed later
+      ∙ ap (λ l. front ++ l) (ap (λ l. l ++ text_of later) (sym so_far.left) ∙ sym all))
+      ∙ told_beyond-append means.step means.reply means.foreign x K s text front (waiting ++ rest)
+      ∙ ap (λ M. told_beyond means.step means.reply means.foreign x K s text front ++ M) (told_beyond-append means.step means.reply means.foreign x K s (text ++ front) waiting rest) in
+      let state_now : means.state now.sink ≡ stepped means.step (means.state first.sink) (told_beyond means.step means.reply means.foreign x K s text front) =
+      now_stands.told
+      ∙ ap (λ b. state_after means b K s (text ++ front)) so_far.rules
+      ∙ state-beyond means.step means.reply means.foreign x K s text front
+      ∙ ap (λ u. stepped means.step u (told_beyond means.step means.reply means.foreign x K s text front)) (sym stands.told) in
+      rw whole (drained-stops means e (means.state first.sink) (means.state now.sink) v _ _ _ state_now
+      (subst (λ b. Stops means.step means.faulted e (means.state now.sink) (told_beyond means.step means.reply means.foreign b K s (text ++ front) waiting) v) so_far.rules
+      (stops K s (text ++ front) now_stands)))
 
-    -- where there is no room for the next piece, nothing more was told
-    pub HasFed-no_room : (first now : Tokenizing X) (old mid : TextQueue) (pieces later : List (List ℕ)) → HasFed first now old mid pieces later
-        → StopsReading state step reply foreign faulted Memory first (old.text ++ text_of pieces) (state now.sink)
-    HasFed-no_room first now old mid pieces later so_far =
-        HasFed-stops Memory first now old mid pieces later [] (mid.text ++ text_of later) (state now.sink) so_far refl
-        (λ K s text stands. untold step faulted (state now.sink) _)
+  -- where there is no room for the next piece, nothing more was told
+  pub HasFed-no_room : (first now : Tokenizing X) (old mid : TextQueue) (pieces later : List (List ℕ)) → HasFed first now old mid pieces later
+      → StopsReading means Memory first (old.text ++ text_of pieces) (means.state now.sink)
+  HasFed-no_room first now old mid pieces later so_far =
+      HasFed-stops Memory first now old mid pieces later [] (mid.text ++ text_of later) (means.state now.sink) so_far refl
+      (λ K s text stands. untold means (means.state now.sink) _)

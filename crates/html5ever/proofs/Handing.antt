@@ -1,4 +1,4 @@
--- Pieces of a text that are handed in, one behind the other.
+-- Pieces of a text that are handed in, one after the other.
 use Rattle.std.proofs.Common.{◌≡◌, ℕ, List, ◌++◌, ap, ◌∙◌}
 use Rattle.std.proofs.lemmas.List.{append_assoc}
 use Rattle.std.specs.Str.{chars}

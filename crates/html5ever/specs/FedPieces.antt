@@ -1,7 +1,6 @@
--- Pieces that a tokenizer is fed one after another, behind a text that waits.
-use Rattle.std.specs.Prelude.{◌≡◌, ℕ, ◌+◌, ◌*◌, ◌≤◌, Bool, List, [], ◌∷◌, ◌++◌, length}
-use Rattle.html5ever_interface.specs.Token.{Told, Reply}
-use Rattle.html5grammar.specs.Start.{Start}
+-- Pieces that a tokenizer is fed one after another, after a text that waits.
+use Rattle.std.specs.Prelude.{◌≡◌, ℕ, ◌+◌, ◌*◌, ◌≤◌, List, [], ◌∷◌, ◌++◌, length}
+use Rattle.html5ever_interface.specs.Sink.{Means}
 use Rattle.markup5ever.specs.BufferQueue.{TextQueue}
 use Rattle.html5ever.specs.Pieces.{text_of}
 use Rattle.html5ever.specs.Tokenizer.{Tokenizing, ReadsOn}
@@ -22,10 +21,10 @@ abbrev pub IsLinearFor : ℕ → TextQueue → ℕ → TextQueue → Type 0
 IsLinearFor held old held_after new =
     (new.taken + held_after) + 2 * (length new.text + old.handed_in) ≤ (old.taken + held) + 2 * (length old.text + new.handed_in)
 
-module _ {X S H : Type 0} (state : X → S) (step : S → Told → ℕ → S) (reply : S → Told → ℕ → Reply H) (foreign : S → Bool) where
+module _ {X S H : Type 0} (means : Means X S H) where
   -- the tokenizer was taken further by some first ones of the pieces
   pub record StandsWithin (old new : Tokenizing X) (waiting : List ℕ) (pieces : List (List ℕ)) : Type 0 where
     pub fed : List (List ℕ)
     pub later : List (List ℕ)
     pub parts : pieces ≡ fed ++ later
-    pub reads : ReadsOn state step reply foreign old new (fed_text waiting fed)
+    pub reads : ReadsOn means old new (fed_text waiting fed)

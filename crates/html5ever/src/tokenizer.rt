@@ -1,17 +1,16 @@
 //! The tokenizer.
-ghost use Rattle.std.specs.Prelude.{◌≡◌, ◌≢◌, ℕ, ◌^◌, ◌<◌, ◌+◌, ◌↔◌, ◌&&◌, not, List, [], true, false, IsOk, IfOk, IfErr, OnOk, is_ok, is_err, length, string_bytes};
+ghost use Rattle.std.specs.Prelude.{◌≡◌, ◌≢◌, ◌^◌, ◌<◌, ◌+◌, ◌↔◌, ◌&&◌, not, [], true, false, IsOk, IfOk, IfErr, OnOk, is_ok, is_err, length, string_bytes};
 ghost use Rattle.html5ever_interface.specs.Options.{options_of};
 ghost use Rattle.html5ever_interface.specs.Sink.{stepped, on_line};
 ghost use Rattle.html5grammar.specs.EndOfInput.{tokens_at_end};
-ghost use Rattle.html5grammar.specs.Reading.{after};
-ghost use Rattle.html5grammar.specs.Start.{Start, start_of, is_clean, held_len};
+ghost use Rattle.html5grammar.specs.Start.{start_of, is_clean, held_len};
 ghost use Rattle.html5grammar.specs.Start.Mode.{Plain};
 ghost use Rattle.html5grammar.specs.Start.Open.{Between};
 ghost use Rattle.html5feed.specs.Feed.{reply_in, IsEndOf, IsLinear};
 ghost use Rattle.html5states.specs.Telling.{faults_of};
 ghost use Rattle.html5feed.specs.Starting.{CanStart};
-ghost use Rattle.html5ever.specs.Tokenizer.{rules_of, StandsAt, FeedsOn, HandsOn, LeavesWaiting};
-ghost use Rattle.html5ever.specs.Tokenizer.{StopsFeeding, LeavesRefused, Finishes, StopsEnding, EndStops};
+ghost use Rattle.html5ever.specs.Tokenizer.{rules_of, StandsAt, Feeds};
+ghost use Rattle.html5ever.specs.Tokenizer.{StopsFeeding, Finishes, StopsEnding, EndStops};
 
 use html5feed::position::Position;
 use html5feed::reading::read_queue;
@@ -84,7 +83,7 @@ impl<'t, Sink: TokenSink<Token<A>>, A: Allocator + Copy> Tokenizer<'t, Sink, A> 
         names: &'t NamedReferences<A>,
     ) -> Tokenizer<'t, Sink, A>
         requires { CanStart opts.initial_state }
-        ensures stands { StandsAt Sink.means.state Sink.means.step Sink.means.reply Sink.means.foreign result (start_of (options_of opts)) (Sink.means.state sink) [] }
+        ensures stands { StandsAt Sink.means result (start_of (options_of opts)) (Sink.means.state sink) [] }
         ensures rules { result.rules ≡ rules_of (options_of opts) names.now }
         ensures sink { result.sink ≡ sink }
     {
@@ -101,7 +100,7 @@ impl<'t, Sink: TokenSink<Token<A>>, A: Allocator + Copy> Tokenizer<'t, Sink, A> 
         }
     }
 
-    /// Reads the text that waits in the queue, up to the first tag behind which the sink asks to
+    /// Reads the text that waits in the queue, up to the first tag after which the sink asks to
     /// pause: then the queue holds what follows that tag's `>`, text may be put in front of it, and
     /// the caller goes on by feeding again. After a refusal the queue holds an end of the text that
     /// it held, and every further call is refused.
@@ -113,12 +112,10 @@ impl<'t, Sink: TokenSink<Token<A>>, A: Allocator + Copy> Tokenizer<'t, Sink, A> 
 
         // What an `Ok` says: a beginning of the queue's text was taken, and exactly what it decides
         // was told; the rest waits, and the answer is the reply that pauses.
-        ensures reads { OnOk result
-            (FeedsOn Sink.means.state Sink.means.step Sink.means.reply Sink.means.foreign self.old self.new queue.old.text) }
-        ensures answer { IfOk result (λ answer. HandsOn Sink.means.state Sink.means.step Sink.means.reply Sink.means.foreign self.old queue.old.text
-            (reply_in string_bytes answer)) }
-        ensures left { OnOk result
-            (LeavesWaiting Sink.means.state Sink.means.step Sink.means.reply Sink.means.foreign self.old queue.old.text queue.new.text) }
+        ensures reads { IfOk result (λ answer.
+            Feeds Sink.means self.old self.new queue.old.text queue.new.text (reply_in string_bytes answer)) }
+
+        // For a loop past the pauses, which asks for no more.
         ensures done { result ≡ Ok TokenizerResult.Done → queue.new.text ≡ [] }
         ensures shorter { IfOk result (λ answer. answer ≢ TokenizerResult.Done
             → length queue.new.text < length queue.old.text) }
@@ -127,16 +124,14 @@ impl<'t, Sink: TokenSink<Token<A>>, A: Allocator + Copy> Tokenizer<'t, Sink, A> 
         ensures failed_before { (result ≡ Err TokenizerError.Failed) ↔ (self.old.failed ≡ true) }
         ensures unchanged { self.old.failed ≡ true
             → (self.new ≡ self.old) × (queue.new ≡ queue.old) }
-        ensures stops { IfErr result (λ error. StopsFeeding Sink.means.state Sink.means.step Sink.means.reply Sink.means.foreign Sink.means.faulted
-            error self.old queue.old.text (Sink.means.state self.new.sink)) }
-        ensures refused { IfErr result (λ error. error ≢ TokenizerError.Failed → LeavesRefused Sink.means.state Sink.means.step Sink.means.reply Sink.means.foreign
-            Sink.means.faulted error self.old queue.old.text queue.new.text (Sink.means.state self.new.sink)) }
+        ensures stops { IfErr result (λ error. StopsFeeding Sink.means error self.old
+            queue.old.text queue.new.text (Sink.means.state self.new.sink)) }
         ensures faults { Sink.faults self.new.sink ≡ Sink.faults self.old.sink + faults_of result }
         ensures failed { self.new.failed ≡ is_err result }
-        ensures end_of_queue { IsEndOf queue.new.text queue.old.text }
         ensures empty { queue.old.text ≡ [] → self.old.failed ≡ false → IsOk result }
 
-        // What each feed keeps.
+        // What each feed keeps. `end_of_queue` stays for callers who need no more of it.
+        ensures end_of_queue { IsEndOf queue.new.text queue.old.text }
         ensures linear { IsLinear (held_len self.old.position.opened) queue.old
             (held_len self.new.position.opened) queue.new }
         ensures handed_in { queue.new.handed_in ≡ queue.old.handed_in }
@@ -162,14 +157,12 @@ impl<'t, Sink: TokenSink<Token<A>>, A: Allocator + Copy> Tokenizer<'t, Sink, A> 
         requires { self.old.ended ≡ false }
 
         // What an `Ok` says: the whole reading was told, and the sink has finished.
-        ensures finishes { OnOk result
-            (Finishes Sink.means.state Sink.means.step Sink.means.reply Sink.means.foreign Sink.means.finish self.old (Sink.means.state self.new.sink)) }
+        ensures finishes { OnOk result (Finishes Sink.means self.old (Sink.means.state self.new.sink)) }
 
         // When each error comes, and what it leaves.
         ensures failed_before { (result ≡ Err TokenizerError.Failed) ↔ (self.old.failed ≡ true) }
         ensures unchanged { self.old.failed ≡ true → self.new ≡ self.old }
-        ensures stops { IfErr result (λ error. StopsEnding Sink.means.state Sink.means.step Sink.means.reply Sink.means.foreign Sink.means.faulted
-            Sink.means.end_faulted error self.old (Sink.means.state self.new.sink)) }
+        ensures stops { IfErr result (λ error. StopsEnding Sink.means error self.old (Sink.means.state self.new.sink)) }
         ensures faults { Sink.faults self.new.sink ≡ Sink.faults self.old.sink + faults_of result }
         ensures failed { self.new.failed ≡ is_err result }
         ensures ended { self.new.ended ≡ is_ok result }
@@ -186,12 +179,10 @@ impl<'t, Sink: TokenSink<Token<A>>, A: Allocator + Copy> Tokenizer<'t, Sink, A> 
     /// Tells the end of the input as `end` does, and gives the sink back, with what it was told.
     pub fn finish(mut self) -> (Sink, Result<(), TokenizerError>)
         requires { self.ended ≡ false }
-        ensures finishes { OnOk result.1
-            (Finishes Sink.means.state Sink.means.step Sink.means.reply Sink.means.foreign Sink.means.finish self.entry (Sink.means.state result.0)) }
+        ensures finishes { OnOk result.1 (Finishes Sink.means self.entry (Sink.means.state result.0)) }
         ensures failed_before { (result.1 ≡ Err TokenizerError.Failed) ↔ (self.entry.failed ≡ true) }
         ensures unchanged { self.entry.failed ≡ true → result.0 ≡ self.entry.sink }
-        ensures stops { IfErr result.1 (λ error. StopsEnding Sink.means.state Sink.means.step Sink.means.reply Sink.means.foreign Sink.means.faulted
-            Sink.means.end_faulted error self.entry (Sink.means.state result.0)) }
+        ensures stops { IfErr result.1 (λ error. StopsEnding Sink.means error self.entry (Sink.means.state result.0)) }
         ensures faults { Sink.faults result.0 ≡ Sink.faults self.entry.sink + faults_of result.1 }
     {
         let result = self.end();
@@ -203,11 +194,8 @@ impl<'t, Sink: TokenSink<Token<A>>, A: Allocator + Copy> Tokenizer<'t, Sink, A> 
     /// in the field `sink`.
     pub fn nothing_pending(&self) -> bool
         ensures exact { result ≡ (is_clean self.now.position.opened && not self.now.failed && not self.now.ended) }
-        ensures clean { (K : Start) (s : Sink.State) (text : List ℕ)
-            → StandsAt Sink.means.state Sink.means.step Sink.means.reply Sink.means.foreign self.now K s text
-            → result ≡ is_clean (after Sink.means.step Sink.means.reply Sink.means.foreign self.now.rules K s text).opened }
         ensures anew { result ≡ true → (x : Sink)
-            → StandsAt Sink.means.state Sink.means.step Sink.means.reply Sink.means.foreign (record self.now { sink = x }) self.now.position (Sink.means.state x) [] }
+            → StandsAt Sink.means (record self.now { sink = x }) self.now.position (Sink.means.state x) [] }
     {
         if self.failed || self.ended {
             return false;
@@ -220,7 +208,7 @@ impl<'t, Sink: TokenSink<Token<A>>, A: Allocator + Copy> Tokenizer<'t, Sink, A> 
         requires clean { is_clean self.old.position.opened ≡ true }
         requires not_failed { self.old.failed ≡ false }
         requires going_on { self.old.ended ≡ false }
-        ensures anew { (x : Sink) → StandsAt Sink.means.state Sink.means.step Sink.means.reply Sink.means.foreign (record self.new { sink = x })
+        ensures anew { (x : Sink) → StandsAt Sink.means (record self.new { sink = x })
             (record self.old.position { opened = Between Plain }) (Sink.means.state x) [] }
         ensures sink { self.new.sink ≡ self.old.sink }
         ensures rules { self.new.rules ≡ self.old.rules }
@@ -257,11 +245,10 @@ fn tell_end<S: TokenSink<Token<A>>, A: Allocator + Copy>(
     rules: &Rules<'_, A>,
     position: &mut Position<A>,
 ) -> Result<(), TokenizerError>
-    ensures ok { OnOk result
-        (S.means.state sink.new ≡ S.means.finish (stepped S.means.step (S.means.state sink.old)
+    ensures ok { OnOk result (S.means.state sink.new ≡ S.means.finish (stepped S.means.step (S.means.state sink.old)
         (on_line position.old.input.line (tokens_at_end rules.now position.old.opened)))) }
-    ensures err { IfErr result (λ error. EndStops S.means.step S.means.faulted S.means.end_faulted error
-        (S.means.state sink.old) (on_line position.old.input.line (tokens_at_end rules.now position.old.opened)) (S.means.state sink.new)) }
+    ensures err { IfErr result (λ error. EndStops S.means error (S.means.state sink.old)
+        (on_line position.old.input.line (tokens_at_end rules.now position.old.opened)) (S.means.state sink.new)) }
     ensures faults { S.faults sink.new ≡ S.faults sink.old + faults_of result }
     ensures fits { position.old.input.line < 2 ^ 64 }
 {

@@ -1,57 +1,63 @@
 -- What reading a page makes of a handler.
-use Rattle.std.proofs.Common.{◌≡◌, ℕ, Bool, List, [], ◌++◌, Option, refl, sym, ◌∙◌, ap, inl, inr}
+use Rattle.std.proofs.Common.{◌≡◌, ℕ, List, [], ◌++◌, Option, refl, sym, ◌∙◌, ap, inl, inr}
 use Rattle.std.proofs.lemmas.List.{append-nil}
 use Rattle.std.specs.Str.{chars}
 use Rattle.markup5ever.specs.NamedReferences.{NamedReference}
 use Rattle.html5ever_interface.specs.Options.{OptionsOf, default_options}
-use Rattle.html5ever_interface.specs.Sink.{Message, stepped}
-use Rattle.html5ever_interface.specs.Token.{TagOf, Told, Reply}
-use Rattle.html5grammar.specs.Reading.{reading, messages}
-use Rattle.html5grammar.specs.Start.{Start, Rules, start_of}
+use Rattle.html5ever_interface.specs.Sink.{Means, Message, stepped}
+use Rattle.html5ever_interface.specs.Token.{TagOf, Told}
+use Rattle.html5grammar.specs.Reading.{all_messages}
+use Rattle.html5grammar.specs.Start.{start_of}
 use Rattle.html5states.specs.Telling.{StopsWithin}
 use Rattle.html5ever.specs.Tokenizer.{rules_of}
-use Rattle.html5sinks.specs.Replies.{standard_reply}
-use Rattle.html5sinks.specs.Tags.{Tagged, tags_step, tags_reply}
-use Rattle.html5sinks.specs.Runs.{Running, runs_step, runs_reply}
+use Rattle.html5sinks.specs.Tags.{Tagged}
+use Rattle.html5sinks.specs.Runs.{Running}
 use Rattle.html5stream.specs.declared.error.StreamError.{StreamError}
 use Rattle.html5stream.specs.declared.error.StreamError.TheVariants.{Read, NotUtf8, Memory, Sink, TooLong}
 use Rattle.html5stream.specs.Streams.{ReadsSource, StopsSource, SourceStops}
-use Rattle.html5stream.specs.Pages.{ReadsPage, StopsPage, tags_start, tags_page, tags_handed, runs_start, runs_page, runs_handed}
+use Rattle.html5stream.specs.Pages.{ReadsPage, StopsPage, tags_means, tags_start, tags_page, tags_handed, runs_means, runs_start, runs_page, runs_handed}
 
--- a sink that a fault leaves as it was stopped behind a beginning of the messages, whatever the error
-pub SourceStops-unmoved : {T : Type 0} (step : T → Told → ℕ → T) (e : StreamError) (s : T) (M : List Message) (t : T)
-    → SourceStops step (λ s told line. s) (λ s. s) e s M t → StopsWithin step (λ s told line. s) s M t
-SourceStops-unmoved step Read s M t stops = stops
-SourceStops-unmoved step (NotUtf8 place) s M t stops = stops
-SourceStops-unmoved step Memory s M t stops = stops
-SourceStops-unmoved step Sink s M t (inl faults) =
-    record { before = faults.before; rest = faults.next ++ faults.rest; parts = faults.parts; state = faults.state }
-SourceStops-unmoved step Sink s M t (inr all) = record { before = M; rest = []; parts = sym (append-nil M); state = all }
-SourceStops-unmoved step TooLong s M t stops = stops
+-- the sink's state stays as it is where it faults, and at the end
+pub record IsUnmoved {X S H : Type 0} (means : Means X S H) : Type 0 where
+  pub finish : (s : S) → means.finish s ≡ s
+  pub faulted : (s : S) (told : Told) (line : ℕ) → means.faulted s told line ≡ s
+  pub end_faulted : (s : S) → means.end_faulted s ≡ s
 
-module _ {S T H : Type 0} (handler : T → S) (step : T → Told → ℕ → T) (reply : T → Told → ℕ → Reply H) (foreign : T → Bool)
-    (page : S → List ℕ → List Message) (handed : S → List Message → S) where
+-- such a sink stopped after a beginning of the messages, whatever the error
+pub SourceStops-unmoved : {X S H : Type 0} (means : Means X S H) (e : StreamError) (s : S) (M : List Message) (t : S)
+    → IsUnmoved means → SourceStops means e s M t → StopsWithin means.step means.faulted s M t
+SourceStops-unmoved means Read s M t unmoved stops = stops
+SourceStops-unmoved means (NotUtf8 place) s M t unmoved stops = stops
+SourceStops-unmoved means Memory s M t unmoved stops = stops
+SourceStops-unmoved means Sink s M t unmoved (inl faults) =
+    record { before = faults.before; rest = faults.next ++ faults.rest; parts = faults.parts; state = faults.state ∙ unmoved.faulted _ _ _ }
+SourceStops-unmoved means Sink s M t unmoved (inr all) =
+    record { before = M; rest = []; parts = sym (append-nil M); state = all ∙ unmoved.end_faulted _ }
+SourceStops-unmoved means TooLong s M t unmoved stops = stops
+
+module _ {X S T H : Type 0} (means : Means X T H) (handler : T → S) (page : S → List ℕ → List Message) (handed : S → List Message → S) where
   -- a page's messages are those of a reading, and the handler is handed what its sink is told
-  pub record IsPage (rules : Rules) (K : Start) (from : T) (s : S) : Type 0 where
-    pub told : (bytes : List ℕ) → page s bytes ≡ messages (reading step reply foreign rules K from (chars bytes))
-    pub behind : (M : List Message) → handed s M ≡ handler (stepped step from M)
+  pub record IsPage (opts : OptionsOf) (names : List NamedReference) (from : T) (s : S) : Type 0 where
+    pub told : (bytes : List ℕ) → page s bytes ≡ all_messages means (rules_of opts names) (start_of opts) from (chars bytes)
+    pub behind : (M : List Message) → handed s M ≡ handler (stepped means.step from M)
+    pub unmoved : IsUnmoved means
 
-  pub page-read : (rules : Rules) (K : Start) (from : T) (s : S) (before after : Option (List ℕ)) (t : T) → IsPage rules K from s
-      → ReadsSource step reply foreign (λ s. s) rules K from before after t
+  pub page-read : (opts : OptionsOf) (names : List NamedReference) (from : T) (s : S) (before after : Option (List ℕ)) (t : T)
+      → IsPage opts names from s → ReadsSource means opts names from before after t
       → ReadsPage (λ s bytes. handed s (page s bytes)) before after s (handler t)
-  page-read rules K from s before after t is reads = record {
+  page-read opts names from s before after t is reads = record {
     bytes = reads.bytes;
     consumed = reads.given;
     at_end = reads.at_end;
     utf8 = reads.utf8;
-    told = ap handler reads.told ∙ sym (is.behind _) ∙ ap (λ M. handed s M) (sym (is.told reads.bytes));
+    told = ap handler (reads.told ∙ is.unmoved.finish _) ∙ sym (is.behind _) ∙ ap (λ M. handed s M) (sym (is.told reads.bytes));
   }
 
-  pub page-stopped : (rules : Rules) (K : Start) (from : T) (s : S) (before after : Option (List ℕ)) (t : T) → IsPage rules K from s
-      → (e : StreamError) → StopsSource step reply foreign (λ s told line. s) (λ s. s) e rules K from before after t
+  pub page-stopped : (opts : OptionsOf) (names : List NamedReference) (from : T) (s : S) (before after : Option (List ℕ)) (t : T)
+      → IsPage opts names from s → (e : StreamError) → StopsSource means e opts names from before after t
       → StopsPage page handed before after s (handler t)
-  page-stopped rules K from s before after t is e stops =
-      let within = SourceStops-unmoved step e from _ t stops.stopped in
+  page-stopped opts names from s before after t is e stops =
+      let within = SourceStops-unmoved means e from _ t is.unmoved stops.stopped in
       record {
         text = stops.text;
         rest = stops.rest;
@@ -63,18 +69,20 @@ module _ {S T H : Type 0} (handler : T → S) (step : T → Told → ℕ → T) 
         state = ap handler within.state ∙ sym (is.behind within.before);
       }
 
--- a sink and options that were made by calls that say what they made
-module _ {S : Type 0} (names : List NamedReference) (options : OptionsOf) (s : S) where
-  pub tags-are-page : (step : S → TagOf → ℕ → S) (from : Tagged S) → options ≡ default_options → from ≡ tags_start s
-      → IsPage (λ t. t.handler) (tags_step step) (tags_reply (λ state tag line. standard_reply tag)) (λ s. s.foreign)
-      (tags_page step names) (tags_handed step) (rules_of options names) (start_of options) from s
+-- sinks and options that were made by calls that say what they made
+module _ {X S : Type 0} where
+  pub tags-are-page : (names : List NamedReference) (options : OptionsOf) (s : S) (state : X → Tagged S) (step : S → TagOf → ℕ → S) (from : Tagged S)
+      → options ≡ default_options → from ≡ tags_start s
+      → IsPage (tags_means state step) (λ t. t.handler) (tags_page step names) (tags_handed step) options names from s
   unfolding tags_page tags_handed
-  tags-are-page step from chosen begun =
-      rw (chosen, begun) record { told = λ bytes. refl; behind = λ M. refl }
+  tags-are-page names options s state step from chosen begun =
+      let unmoved : IsUnmoved (tags_means state step) = record { finish = λ s. refl; faulted = λ s told line. refl; end_faulted = λ s. refl } in
+      rw (chosen, begun) record { told = λ bytes. refl; behind = λ M. refl; unmoved = unmoved }
 
-  pub runs-are-page : (step : S → List ℕ → Told → ℕ → S) (from : Running S) → options ≡ default_options → from ≡ runs_start s
-      → IsPage (λ t. t.joined.handler) (runs_step step) (runs_reply (λ state run tag line. standard_reply tag)) (λ s. s.foreign)
-      (runs_page step names) (runs_handed step) (rules_of options names) (start_of options) from s
+  pub runs-are-page : (names : List NamedReference) (options : OptionsOf) (s : S) (state : X → Running S) (step : S → List ℕ → Told → ℕ → S) (from : Running S)
+      → options ≡ default_options → from ≡ runs_start s
+      → IsPage (runs_means state step) (λ t. t.joined.handler) (runs_page step names) (runs_handed step) options names from s
   unfolding runs_page runs_handed
-  runs-are-page step from chosen begun =
-      rw (chosen, begun) record { told = λ bytes. refl; behind = λ M. refl }
+  runs-are-page names options s state step from chosen begun =
+      let unmoved : IsUnmoved (runs_means state step) = record { finish = λ s. refl; faulted = λ s told line. refl; end_faulted = λ s. refl } in
+      rw (chosen, begun) record { told = λ bytes. refl; behind = λ M. refl; unmoved = unmoved }

@@ -1,7 +1,6 @@
 -- What the refusals of the parts say, by cases.
 use Rattle.std.proofs.Common.{◌≡◌, ◌≢◌, ℕ, List, ap, refl}
-use Rattle.html5ever_interface.specs.Sink.{Message}
-use Rattle.html5ever_interface.specs.Token.{Told}
+use Rattle.html5ever_interface.specs.Sink.{Means, Message}
 use Rattle.html5ever.specs.Tokenizer.{EndStops}
 use Rattle.html5opened.specs.declared.error.TokenizerError.{TokenizerError}
 use Rattle.html5opened.specs.declared.error.TokenizerError.TheVariants.{Memory, Sink, Failed}
@@ -13,11 +12,11 @@ use Rattle.html5stream.specs.DecodeErrors.{of_decoder}
 use Rattle.html5stream.specs.Errors.{stream_error}
 use Rattle.html5stream.specs.Streams.{SourceStops}
 
-pub SourceStops-end : {S : Type 0} (step faulted : S → Told → ℕ → S) (end_faulted : S → S) (e : TokenizerError) (s v : S) (M : List Message)
-    → EndStops step faulted end_faulted e s M v → SourceStops step faulted end_faulted (stream_error e) s M v
-SourceStops-end step faulted end_faulted Memory s v M stops = stops
-SourceStops-end step faulted end_faulted Sink s v M stops = stops
-SourceStops-end step faulted end_faulted Failed s v M stops = absurd stops
+pub SourceStops-end : {X S H : Type 0} (means : Means X S H) (e : TokenizerError) (s v : S) (M : List Message)
+    → EndStops means e s M v → SourceStops means (stream_error e) s M v
+SourceStops-end means Memory s v M stops = stops
+SourceStops-end means Sink s v M stops = stops
+SourceStops-end means Failed s v M stops = absurd stops
 
 -- the place that an error names
 abbrev pub place_in : StreamError → ℕ

@@ -1,5 +1,5 @@
 -- A source that is read piece by piece: what was fed so far, and what that gives at the end, or where the reading stops.
-use Rattle.std.proofs.Common.{Result, Ok, Err, ◌≡◌, ◌≢◌, ◌⊎◌, ℕ, ◌+◌, ◌<◌, Bool, false, List, [], ◌∷◌, ◌++◌, length, take, Option, None, Some, refl, sym, ◌∙◌, ap, subst, arith, inl, inr, append-nil, append_assoc, length-append}
+use Rattle.std.proofs.Common.{Result, Ok, Err, ◌≡◌, ◌≢◌, ◌⊎◌, ℕ, ◌+◌, ◌<◌, false, List, [], ◌∷◌, ◌++◌, length, take, Option, None, Some, refl, sym, ◌∙◌, ap, subst, arith, inl, inr, append-nil, append_assoc, length-append}
 use Rattle.std.specs.Prelude.{IfErr}
 use Rattle.std.specs.Io.KnownBytes.{Consumes, IsAtEnd}
 use Rattle.std.specs.Str.{IsUtf8, IsValidUpTo, chars}
@@ -13,16 +13,17 @@ use Rattle.utf8_pieces.specs.declared.error.DecodeError.{DecodeError}
 use Rattle.utf8_pieces.specs.declared.error.DecodeError.TheVariants as decoder
 use Rattle.utf8_pieces.proofs.Cuts.{no_text_within}
 use Rattle.utf8_pieces.proofs.Fronts.{IsCutCharacter-nil, IsNeverUtf8-behind, IsValidUpTo-behind, not_never}
-use Rattle.html5ever_interface.specs.Sink.{Message, stepped}
-use Rattle.html5ever_interface.specs.Token.{Told, Reply}
-use Rattle.html5grammar.specs.Reading.{reading, told, messages}
-use Rattle.html5grammar.specs.Start.{Start, Rules}
+use Rattle.html5ever_interface.specs.Options.{OptionsOf}
+use Rattle.html5ever_interface.specs.Sink.{Means, Message, stepped}
+use Rattle.html5grammar.specs.Reading.{all_messages, state_after}
+use Rattle.html5grammar.specs.Start.{Start, start_of}
 use Rattle.html5opened.specs.declared.error.TokenizerError.{TokenizerError}
 use Rattle.html5opened.specs.declared.error.TokenizerError.TheVariants as tokenizer
 use Rattle.html5feed.specs.Feed.{told_beyond, told_at_end}
 use Rattle.html5states.specs.Telling.{StopsWithin}
-use Rattle.html5ever.specs.Tokenizer.{Tokenizing, StandsAt, ReadsOn, Finishes, StopsReading, StopsEnding, EndStops}
+use Rattle.html5ever.specs.Tokenizer.{Tokenizing, StandsAt, ReadsOn, Finishes, StopsReading, StopsEnding, EndStops, rules_of, state_at_end}
 use Rattle.html5ever.proofs.Wholes.{whole-within_stops, whole-end_stops}
+use Rattle.markup5ever.specs.NamedReferences.{NamedReference}
 use Rattle.html5stream.specs.declared.error.StreamError.{StreamError}
 use Rattle.html5stream.specs.declared.error.StreamError.TheVariants.{Read, NotUtf8, Memory, Sink, TooLong}
 use Rattle.html5stream.specs.DecodeErrors.{of_decoder}
@@ -58,7 +59,7 @@ IsValidUpTo-cut held cut some =
       ];
     }
 
--- what may begin a character can go on behind a text
+-- what may begin a character can go on after a text
 not_never-cut : (text rest : List ℕ) → IsUtf8 text → IsCutCharacter rest → ¬ (IsNeverUtf8 (text ++ rest))
 not_never-cut text rest utf8 cut = not_never text rest 0 utf8 (record { within = omega arith; text = IsUtf8-nil; cut = cut })
 
@@ -82,7 +83,7 @@ no_text-decoder : (e : DecodeError) (place taken : ℕ) (bytes : List ℕ) → e
 no_text-decoder e place taken bytes is (inl memory) never = absurd (cc (is, memory))
 no_text-decoder e place taken bytes is (inr fault) never = (subst (IsFault taken bytes) is fault, never (λ memory. cc (is, memory)))
 
-module _ {X S H : Type 0} (state : X → S) (step : S → Told → ℕ → S) (reply : S → Told → ℕ → Reply H) (foreign : S → Bool) where
+module _ {X S H : Type 0} (means : Means X S H) where
   -- what the source gave is a text that was fed, and what the decoder holds
   pub record HasRead (before now : Option (List ℕ)) (first t : Tokenizing X) (decoder : Decoding) : Type 0 where
     pub text : List ℕ
@@ -90,7 +91,7 @@ module _ {X S H : Type 0} (state : X → S) (step : S → Told → ℕ → S) (r
     pub utf8 : IsUtf8 text
     pub cut : IsCutCharacter decoder.held
     pub taken : decoder.taken ≡ place_behind 0 (length text)
-    pub reads : ReadsOn state step reply foreign first t (chars text)
+    pub reads : ReadsOn means first t (chars text)
     pub rules : t.rules ≡ first.rules
     pub going_on : t.ended ≡ false
     pub not_failed : t.failed ≡ false
@@ -112,7 +113,7 @@ module _ {X S H : Type 0} (state : X → S) (step : S → Told → ℕ → S) (r
       }
 
   pub HasRead-more : (before now after : Option (List ℕ)) (first t u : Tokenizing X) (old new : Decoding) (more : List ℕ)
-      → HasRead before now first t old → Consumes now after more → TakesBytes state step reply foreign old new t u more
+      → HasRead before now first t old → Consumes now after more → TakesBytes means old new t u more
       → HasRead before after first u new
   HasRead-more before now after first t u old new more had given takes =
       let whole : (had.text ++ old.held) ++ more ≡ (had.text ++ takes.text) ++ new.held =
@@ -151,7 +152,7 @@ module _ {X S H : Type 0} (state : X → S) (step : S → Told → ℕ → S) (r
       }
 
   pub HasRead-whole : (before after : Option (List ℕ)) (first t : Tokenizing X) (decoder : Decoding)
-      → HasRead before after first t decoder → decoder.held ≡ [] → IsAtEnd after → TakesText state step reply foreign before after first t
+      → HasRead before after first t decoder → decoder.held ≡ [] → IsAtEnd after → TakesText means before after first t
   HasRead-whole before after first t decoder had none at_end =
       record {
         bytes = had.text;
@@ -196,240 +197,238 @@ module _ {X S H : Type 0} (state : X → S) (step : S → Told → ℕ → S) (r
         settled = inl (IsNeverUtf8-behind had.text (held.held ++ more) had.utf8 never);
       }
 
-  pub FinishesText-end : (finish : S → S) (before after : Option (List ℕ)) (t u : Tokenizing X) (v : S)
-      → TakesText state step reply foreign before after t u → Finishes state step reply foreign finish u v
-      → FinishesText state step reply foreign finish before after t v
-  FinishesText-end finish before after t u v takes finishes =
+  pub FinishesText-end : (before after : Option (List ℕ)) (t u : Tokenizing X) (v : S)
+      → TakesText means before after t u → Finishes means u v
+      → FinishesText means before after t v
+  FinishesText-end before after t u v takes finishes =
       record {
         bytes = takes.bytes;
         given = takes.given;
         at_end = takes.at_end;
         utf8 = takes.utf8;
         finishes = λ K s front stands.
-            subst (λ b. v ≡ finish (stepped step s (messages (reading step reply foreign b K s (front ++ chars takes.bytes))))) takes.rules
+            subst (λ b. v ≡ state_at_end means b K s (front ++ chars takes.bytes)) takes.rules
             (finishes K s (front ++ chars takes.bytes) (takes.reads K s front stands));
       }
 
   -- from the start of a stream
-  pub ReadsSource-start : (finish : S → S) (rules : Rules) (before after : Option (List ℕ)) (t : Tokenizing X) (K : Start) (s v : S)
-      → StandsAt state step reply foreign t K s [] → t.rules ≡ rules → FinishesText state step reply foreign finish before after t v
-      → ReadsSource step reply foreign finish rules K s before after v
-  ReadsSource-start finish rules before after t K s v stands same read =
+  pub ReadsSource-start : (opts : OptionsOf) (names : List NamedReference) (before after : Option (List ℕ)) (t : Tokenizing X) (s v : S)
+      → StandsAt means t (start_of opts) s [] → t.rules ≡ rules_of opts names → FinishesText means before after t v
+      → ReadsSource means opts names s before after v
+  ReadsSource-start opts names before after t s v stands same read =
       record {
         bytes = read.bytes;
         given = read.given;
         at_end = read.at_end;
         utf8 = read.utf8;
-        told = subst (λ b. v ≡ finish (stepped step s (messages (reading step reply foreign b K s (chars read.bytes))))) same
-            (read.finishes K s [] stands);
+        told = subst (λ b. v ≡ state_at_end means b (start_of opts) s (chars read.bytes)) same (read.finishes (start_of opts) s [] stands);
       }
 
-  module _ (faulted : S → Told → ℕ → S) (end_faulted : S → S) where
-    pub StopsSource-start : (rules : Rules) (before after : Option (List ℕ)) (t : Tokenizing X) (K : Start) (s v : S)
-        → StandsAt state step reply foreign t K s [] → t.rules ≡ rules
-        → (error : StreamError) → StopsText state step reply foreign faulted end_faulted error before after t v
-        → StopsSource step reply foreign faulted end_faulted error rules K s before after v
-    StopsSource-start rules before after t K s v stands same error stops =
-        record {
-          text = stops.text;
-          rest = stops.rest;
-          given = stops.given;
-          utf8 = stops.utf8;
-          stopped = subst (λ b. SourceStops step faulted end_faulted error s (messages (reading step reply foreign b K s (chars stops.text))) v) same
-              (stops.stopped K s [] stands);
-          may_go_on = stops.may_go_on;
-        }
+  pub StopsSource-start : (opts : OptionsOf) (names : List NamedReference) (before after : Option (List ℕ)) (t : Tokenizing X) (s v : S)
+      → StandsAt means t (start_of opts) s [] → t.rules ≡ rules_of opts names
+      → (error : StreamError) → StopsText means error before after t v
+      → StopsSource means error opts names s before after v
+  StopsSource-start opts names before after t s v stands same error stops =
+      record {
+        text = stops.text;
+        rest = stops.rest;
+        given = stops.given;
+        utf8 = stops.utf8;
+        stopped = subst (λ b. SourceStops means error s (all_messages means b (start_of opts) s (chars stops.text)) v) same
+            (stops.stopped (start_of opts) s [] stands);
+        may_go_on = stops.may_go_on;
+      }
 
-    pub TellsGiven-start : {T : Type 0} (r : Result T StreamError) (rules : Rules) (before after : Option (List ℕ)) (t : Tokenizing X) (K : Start) (s v : S)
-        → StandsAt state step reply foreign t K s [] → t.rules ≡ rules
-        → IfErr r (λ error. StopsText state step reply foreign faulted end_faulted error before after t v) → r ≡ Err Read
-        → TellsGiven step reply foreign rules K s before after v
-    TellsGiven-start r rules before after t K s v stands same stops is =
-        let read = IfErr-at_err (λ error. StopsText state step reply foreign faulted end_faulted error before after t v) is stops in
-        let decided = read.decided refl in
-        record {
-          text = read.text;
-          rest = read.rest;
-          given = read.given;
-          utf8 = read.utf8;
-          cut = decided.0;
-          told = subst (λ b. v ≡ stepped step s (messages (told step reply foreign b K s (chars read.text)))) same (decided.1 K s [] stands);
-        }
+  pub TellsGiven-start : {T : Type 0} (r : Result T StreamError) (opts : OptionsOf) (names : List NamedReference) (before after : Option (List ℕ)) (t : Tokenizing X) (s v : S)
+      → StandsAt means t (start_of opts) s [] → t.rules ≡ rules_of opts names
+      → IfErr r (λ error. StopsText means error before after t v) → r ≡ Err Read
+      → TellsGiven means opts names s before after v
+  TellsGiven-start r opts names before after t s v stands same stops is =
+      let read = IfErr-at_err (λ error. StopsText means error before after t v) is stops in
+      let decided = read.decided refl in
+      record {
+        text = read.text;
+        rest = read.rest;
+        given = read.given;
+        utf8 = read.utf8;
+        cut = decided.0;
+        told = subst (λ b. v ≡ state_after means b (start_of opts) s (chars read.text)) same (decided.1 (start_of opts) s [] stands);
+      }
 
-    pub GivesNoText-stop : {T : Type 0} (r : Result T StreamError) (before after : Option (List ℕ)) (t : Tokenizing X) (v : S) (place : ℕ)
-        → IfErr r (λ error. StopsText state step reply foreign faulted end_faulted error before after t v) → r ≡ Err (NotUtf8 place)
-        → GivesNoText place before after
-    GivesNoText-stop r before after t v place stops is =
-        (IfErr-at_err (λ error. StopsText state step reply foreign faulted end_faulted error before after t v) is stops).no_text place refl
+  pub GivesNoText-stop : {T : Type 0} (r : Result T StreamError) (before after : Option (List ℕ)) (t : Tokenizing X) (v : S) (place : ℕ)
+      → IfErr r (λ error. StopsText means error before after t v) → r ≡ Err (NotUtf8 place)
+      → GivesNoText place before after
+  GivesNoText-stop r before after t v place stops is =
+      (IfErr-at_err (λ error. StopsText means error before after t v) is stops).no_text place refl
 
-    StopsWithin-none : (s : S) (M : List Message) → StopsWithin step faulted s M s
-    unfolding stepped
-    StopsWithin-none s M = record { before = []; rest = M; parts = refl; state = refl }
+  StopsWithin-none : (s : S) (M : List Message) → StopsWithin means.step means.faulted s M s
+  unfolding stepped
+  StopsWithin-none s M = record { before = []; rest = M; parts = refl; state = refl }
 
-    SourceStops-within : (error : StreamError) (s v : S) (M : List Message) → sink_fault error ≡ 0 → StopsWithin step faulted s M v
-        → SourceStops step faulted end_faulted error s M v
-    SourceStops-within Read s v M none stops = stops
-    SourceStops-within (NotUtf8 place) s v M none stops = stops
-    SourceStops-within Memory s v M none stops = stops
-    SourceStops-within Sink s v M none stops = absurd (omega (arith, none))
-    SourceStops-within TooLong s v M none stops = stops
+  SourceStops-within : (error : StreamError) (s v : S) (M : List Message) → sink_fault error ≡ 0 → StopsWithin means.step means.faulted s M v
+      → SourceStops means error s M v
+  SourceStops-within Read s v M none stops = stops
+  SourceStops-within (NotUtf8 place) s v M none stops = stops
+  SourceStops-within Memory s v M none stops = stops
+  SourceStops-within Sink s v M none stops = absurd (omega (arith, none))
+  SourceStops-within TooLong s v M none stops = stops
 
-    -- what was told so far is a beginning of the reading
-    stops-here : (t : Tokenizing X) (K : Start) (s : S) (text : List ℕ) → StandsAt state step reply foreign t K s text
-        → StopsWithin step faulted s (messages (reading step reply foreign t.rules K s text)) (state t.sink)
-    stops-here t K s text stands =
-        whole-end_stops state step reply foreign faulted end_faulted tokenizer.Memory t K s (state t.sink) text stands
-        (StopsWithin-none (state t.sink) (told_at_end step reply foreign t.rules K s text))
+  -- what was told so far is a beginning of the reading
+  stops-here : (t : Tokenizing X) (K : Start) (s : S) (text : List ℕ) → StandsAt means t K s text
+      → StopsWithin means.step means.faulted s (all_messages means t.rules K s text) (means.state t.sink)
+  stops-here t K s text stands =
+      whole-end_stops means tokenizer.Memory t K s (means.state t.sink) text stands
+      (StopsWithin-none (means.state t.sink) (told_at_end means.step means.reply means.foreign t.rules K s text))
 
-    -- a refused feed
-    pub StopsTelling-feed : (e : TokenizerError) (t : Tokenizing X) (queue more : List ℕ) (v : S) → queue ≡ more
-        → StopsReading state step reply foreign faulted e t queue v → StopsTelling state step reply foreign faulted end_faulted (stream_error e) t more v
-    StopsTelling-feed e t queue more v same stops K s front stands =
-        SourceStops-end step faulted end_faulted e s v (messages (reading step reply foreign t.rules K s (front ++ more)))
-        (subst (λ l. EndStops step faulted end_faulted e s (messages (reading step reply foreign t.rules K s l)) v)
-        (append-nil (front ++ queue) ∙ ap (λ l. front ++ l) same)
-        (whole-within_stops state step reply foreign faulted end_faulted e t K s v front queue [] stands (stops K s front stands)))
+  -- a refused feed
+  pub StopsTelling-feed : (e : TokenizerError) (t : Tokenizing X) (queue more : List ℕ) (v : S) → queue ≡ more
+      → StopsReading means e t queue v → StopsTelling means (stream_error e) t more v
+  StopsTelling-feed e t queue more v same stops K s front stands =
+      SourceStops-end means e s v (all_messages means t.rules K s (front ++ more))
+      (subst (λ l. EndStops means e s (all_messages means t.rules K s l) v)
+      (append-nil (front ++ queue) ∙ ap (λ l. front ++ l) same)
+      (whole-within_stops means e t K s v front queue [] stands (stops K s front stands)))
 
-    -- a text that found no place
-    pub StopsTelling-memory : (t : Tokenizing X) (more : List ℕ) → StopsTelling state step reply foreign faulted end_faulted Memory t more (state t.sink)
-    StopsTelling-memory t more =
-        StopsTelling-feed tokenizer.Memory t more more (state t.sink) refl
-        (λ K s front stands. StopsWithin-none (state t.sink) (told_beyond step reply foreign t.rules K s front more))
+  -- a text that found no place
+  pub StopsTelling-memory : (t : Tokenizing X) (more : List ℕ) → StopsTelling means Memory t more (means.state t.sink)
+  StopsTelling-memory t more =
+      StopsTelling-feed tokenizer.Memory t more more (means.state t.sink) refl
+      (λ K s front stands. StopsWithin-none (means.state t.sink) (told_beyond means.step means.reply means.foreign t.rules K s front more))
 
-    -- a refused end
-    pub StopsAtEnd-end : (e : TokenizerError) (t : Tokenizing X) (v : S) → StopsEnding state step reply foreign faulted end_faulted e t v
-        → StopsAtEnd state step reply foreign faulted end_faulted (stream_error e) t v
-    StopsAtEnd-end e t v stops K s front stands =
-        SourceStops-end step faulted end_faulted e s v (messages (reading step reply foreign t.rules K s front))
-        (whole-end_stops state step reply foreign faulted end_faulted e t K s v front stands (stops K s front stands))
+  -- a refused end
+  pub StopsAtEnd-end : (e : TokenizerError) (t : Tokenizing X) (v : S) → StopsEnding means e t v
+      → StopsAtEnd means (stream_error e) t v
+  StopsAtEnd-end e t v stops K s front stands =
+      SourceStops-end means e s v (all_messages means t.rules K s front)
+      (whole-end_stops means e t K s v front stands (stops K s front stands))
 
-    -- a piece that the decoder refused
-    pub StopsBytes-decoder : (e : DecodeError) (error : StreamError) (old : Decoding) (t : Tokenizing X) (bytes : List ℕ)
-        → (error ≡ of_decoder e) → sink_fault error ≡ 0 → (e ≡ decoder.Memory) ⊎ IsFault old.taken (old.held ++ bytes) e
-        → (e ≢ decoder.Memory → IsNeverUtf8 (old.held ++ bytes)) → (IsNeverUtf8 (old.held ++ bytes) → e ≢ decoder.Memory)
-        → StopsBytes state step reply foreign faulted end_faulted error old t bytes (state t.sink)
-    StopsBytes-decoder e error old t bytes is none fault never refused =
-        record {
-          text = [];
-          rest = old.held ++ bytes;
-          parts = refl;
-          utf8 = IsUtf8-nil;
-          stopped = λ K s front stands.
-              SourceStops-within error s (state t.sink) _ none (rw (chars-nil, append-nil front) (stops-here t K s front stands));
-          no_text = λ place same. no_text-decoder e place old.taken (old.held ++ bytes) (decoder-place e place (sym is ∙ same)) fault never;
-          may_go_on = λ other no_text. decoder-named e error is other (refused no_text);
-        }
+  -- a piece that the decoder refused
+  pub StopsBytes-decoder : (e : DecodeError) (error : StreamError) (old : Decoding) (t : Tokenizing X) (bytes : List ℕ)
+      → (error ≡ of_decoder e) → sink_fault error ≡ 0 → (e ≡ decoder.Memory) ⊎ IsFault old.taken (old.held ++ bytes) e
+      → (e ≢ decoder.Memory → IsNeverUtf8 (old.held ++ bytes)) → (IsNeverUtf8 (old.held ++ bytes) → e ≢ decoder.Memory)
+      → StopsBytes means error old t bytes (means.state t.sink)
+  StopsBytes-decoder e error old t bytes is none fault never refused =
+      record {
+        text = [];
+        rest = old.held ++ bytes;
+        parts = refl;
+        utf8 = IsUtf8-nil;
+        stopped = λ K s front stands.
+            SourceStops-within error s (means.state t.sink) _ none (rw (chars-nil, append-nil front) (stops-here t K s front stands));
+        no_text = λ place same. no_text-decoder e place old.taken (old.held ++ bytes) (decoder-place e place (sym is ∙ same)) fault never;
+        may_go_on = λ other no_text. decoder-named e error is other (refused no_text);
+      }
 
-    -- a piece whose text was refused
-    pub StopsBytes-fed : (error : StreamError) (old : Decoding) (t : Tokenizing X) (bytes text rest : List ℕ) (v : S)
-        → old.held ++ bytes ≡ text ++ rest → IsUtf8 text → StopsTelling state step reply foreign faulted end_faulted error t (chars text) v
-        → IsCutCharacter rest → ((place : ℕ) → error ≢ NotUtf8 place) → StopsBytes state step reply foreign faulted end_faulted error old t bytes v
-    StopsBytes-fed error old t bytes text rest v parts utf8 stopped cut other =
-        record {
-          text = text;
-          rest = rest;
-          parts = parts;
-          utf8 = utf8;
-          stopped = stopped;
-          no_text = λ place same. absurd (other place same);
-          may_go_on = λ _. subst (λ l. ¬ (IsNeverUtf8 l)) (sym parts) (not_never-cut text rest utf8 cut);
-        }
+  -- a piece whose text was refused
+  pub StopsBytes-fed : (error : StreamError) (old : Decoding) (t : Tokenizing X) (bytes text rest : List ℕ) (v : S)
+      → old.held ++ bytes ≡ text ++ rest → IsUtf8 text → StopsTelling means error t (chars text) v
+      → IsCutCharacter rest → ((place : ℕ) → error ≢ NotUtf8 place) → StopsBytes means error old t bytes v
+  StopsBytes-fed error old t bytes text rest v parts utf8 stopped cut other =
+      record {
+        text = text;
+        rest = rest;
+        parts = parts;
+        utf8 = utf8;
+        stopped = stopped;
+        no_text = λ place same. absurd (other place same);
+        may_go_on = λ _. subst (λ l. ¬ (IsNeverUtf8 l)) (sym parts) (not_never-cut text rest utf8 cut);
+      }
 
-    -- nothing more was fed
-    StopsText-here : (error : StreamError) (before now : Option (List ℕ)) (first t : Tokenizing X) (held : Decoding)
-        → sink_fault error ≡ 0 → HasRead before now first t held → ((place : ℕ) → error ≡ NotUtf8 place → GivesNoText place before now)
-        → StopsText state step reply foreign faulted end_faulted error before now first (state t.sink)
-    StopsText-here error before now first t held none had no_text =
-        record {
-          text = had.text;
-          rest = held.held;
-          given = had.given;
-          utf8 = had.utf8;
-          stopped = λ K s front stands.
-              SourceStops-within error s (state t.sink) (messages (reading step reply foreign first.rules K s (front ++ chars had.text))) none
-              (subst (λ b. StopsWithin step faulted s (messages (reading step reply foreign b K s (front ++ chars had.text))) (state t.sink)) had.rules
-              (stops-here t K s (front ++ chars had.text) (had.reads K s front stands)));
-          no_text = no_text;
-          may_go_on = λ _. not_never-cut had.text held.held had.utf8 had.cut;
-          decided = λ _. (
-            had.cut,
-            λ K s front stands.
-                (had.reads K s front stands).told ∙ ap (λ b. stepped step s (messages (told step reply foreign b K s (front ++ chars had.text)))) had.rules,
-          );
-        }
+  -- nothing more was fed
+  StopsText-here : (error : StreamError) (before now : Option (List ℕ)) (first t : Tokenizing X) (held : Decoding)
+      → sink_fault error ≡ 0 → HasRead before now first t held → ((place : ℕ) → error ≡ NotUtf8 place → GivesNoText place before now)
+      → StopsText means error before now first (means.state t.sink)
+  StopsText-here error before now first t held none had no_text =
+      record {
+        text = had.text;
+        rest = held.held;
+        given = had.given;
+        utf8 = had.utf8;
+        stopped = λ K s front stands.
+            SourceStops-within error s (means.state t.sink) (all_messages means first.rules K s (front ++ chars had.text)) none
+            (subst (λ b. StopsWithin means.step means.faulted s (all_messages means b K s (front ++ chars had.text)) (means.state t.sink)) had.rules
+            (stops-here t K s (front ++ chars had.text) (had.reads K s front stands)));
+        no_text = no_text;
+        may_go_on = λ _. not_never-cut had.text held.held had.utf8 had.cut;
+        decided = λ _. (
+          had.cut,
+          λ K s front stands.
+              (had.reads K s front stands).told ∙ ap (λ b. state_after means b K s (front ++ chars had.text)) had.rules,
+        );
+      }
 
-    -- a read failed
-    pub StopsText-read : (before now after : Option (List ℕ)) (first t : Tokenizing X) (held : Decoding)
-        → HasRead before now first t held → Consumes now after []
-        → StopsText state step reply foreign faulted end_faulted Read before after first (state t.sink)
-    StopsText-read before now after first t held had given =
-        StopsText-here Read before after first t held refl (HasRead-nothing before now after first t held 0 [] had given refl) (λ place same. absurd (cc same))
+  -- a read failed
+  pub StopsText-read : (before now after : Option (List ℕ)) (first t : Tokenizing X) (held : Decoding)
+      → HasRead before now first t held → Consumes now after []
+      → StopsText means Read before after first (means.state t.sink)
+  StopsText-read before now after first t held had given =
+      StopsText-here Read before after first t held refl (HasRead-nothing before now after first t held 0 [] had given refl) (λ place same. absurd (cc same))
 
-    -- the source ended within a character
-    pub StopsText-cut : (e : DecodeError) (error : StreamError) (before now after : Option (List ℕ)) (first t : Tokenizing X) (held : Decoding) (n : ℕ) (buffer : List ℕ)
-        → HasRead before now first t held → Consumes now after (take n buffer) → n ≡ 0 → IsAtEnd after → ¬ (held.held ≡ [])
-        → error ≡ of_decoder e → e ≡ decoder.NotUtf8 held.taken
-        → StopsText state step reply foreign faulted end_faulted error before after first (state t.sink)
-    StopsText-cut e error before now after first t held n buffer had given none at_end some is place_is =
-        let read = HasRead-nothing before now after first t held n buffer had given none in
-        let named : error ≡ NotUtf8 held.taken = is ∙ ap of_decoder place_is in
-        subst (λ x. StopsText state step reply foreign faulted end_faulted x before after first (state t.sink)) (sym named)
-        (StopsText-here (NotUtf8 held.taken) before after first t held refl read
-        (λ place same. subst (λ p. GivesNoText p before after) (ap place_in same) (GivesNoText-cut before after first t held read some at_end)))
+  -- the source ended within a character
+  pub StopsText-cut : (e : DecodeError) (error : StreamError) (before now after : Option (List ℕ)) (first t : Tokenizing X) (held : Decoding) (n : ℕ) (buffer : List ℕ)
+      → HasRead before now first t held → Consumes now after (take n buffer) → n ≡ 0 → IsAtEnd after → ¬ (held.held ≡ [])
+      → error ≡ of_decoder e → e ≡ decoder.NotUtf8 held.taken
+      → StopsText means error before after first (means.state t.sink)
+  StopsText-cut e error before now after first t held n buffer had given none at_end some is place_is =
+      let read = HasRead-nothing before now after first t held n buffer had given none in
+      let named : error ≡ NotUtf8 held.taken = is ∙ ap of_decoder place_is in
+      subst (λ x. StopsText means x before after first (means.state t.sink)) (sym named)
+      (StopsText-here (NotUtf8 held.taken) before after first t held refl read
+      (λ place same. subst (λ p. GivesNoText p before after) (ap place_in same) (GivesNoText-cut before after first t held read some at_end)))
 
-    -- the reads were too many
-    pub StopsText-long : (before after : Option (List ℕ)) (first t : Tokenizing X) (held : Decoding)
-        → HasRead before after first t held → StopsText state step reply foreign faulted end_faulted TooLong before after first (state t.sink)
-    StopsText-long before after first t held had =
-        StopsText-here TooLong before after first t held refl had (λ place same. absurd (cc same))
+  -- the reads were too many
+  pub StopsText-long : (before after : Option (List ℕ)) (first t : Tokenizing X) (held : Decoding)
+      → HasRead before after first t held → StopsText means TooLong before after first (means.state t.sink)
+  StopsText-long before after first t held had =
+      StopsText-here TooLong before after first t held refl had (λ place same. absurd (cc same))
 
-    -- the last piece was refused
-    pub StopsText-piece : (error : StreamError) (before now after : Option (List ℕ)) (first t : Tokenizing X) (held : Decoding) (more : List ℕ) (v : S)
-        → HasRead before now first t held → Consumes now after more → failed_read error ≡ 0
-        → StopsBytes state step reply foreign faulted end_faulted error held t more v
-        → StopsText state step reply foreign faulted end_faulted error before after first v
-    StopsText-piece error before now after first t held more v had given none stops =
-        let whole : (had.text ++ held.held) ++ more ≡ (had.text ++ stops.text) ++ stops.rest =
-        append_assoc had.text held.held more ∙ ap (λ l. had.text ++ l) stops.parts ∙ sym (append_assoc had.text stops.text stops.rest) in
-        record {
-          text = had.text ++ stops.text;
-          rest = stops.rest;
-          given = subst (Consumes before after) whole (Consumes-append before now after (had.text ++ held.held) more had.given given);
-          utf8 = IsUtf8-append _ _ had.utf8 stops.utf8;
-          stopped = λ K s front stands.
-              subst (λ l. SourceStops step faulted end_faulted error s (messages (reading step reply foreign first.rules K s l)) v)
-              (append_assoc front (chars had.text) (chars stops.text) ∙ ap (λ l. front ++ l) (sym (chars-append had.text stops.text had.utf8)))
-              (subst (λ b. SourceStops step faulted end_faulted error s (messages (reading step reply foreign b K s ((front ++ chars had.text) ++ chars stops.text))) v) had.rules
-              (stops.stopped K s (front ++ chars had.text) (had.reads K s front stands)));
-          no_text = λ place same. GivesNoText-piece before now after first t held more place had given (stops.no_text place same);
-          may_go_on = λ other.
-              subst (λ l. ¬ (IsNeverUtf8 l)) (sym (append_assoc had.text held.held more) ∙ whole)
-              (not_never-behind had.text (held.held ++ more) had.utf8 (stops.may_go_on other));
-          decided = λ same. absurd (is_read error none same);
-        }
+  -- the last piece was refused
+  pub StopsText-piece : (error : StreamError) (before now after : Option (List ℕ)) (first t : Tokenizing X) (held : Decoding) (more : List ℕ) (v : S)
+      → HasRead before now first t held → Consumes now after more → failed_read error ≡ 0
+      → StopsBytes means error held t more v
+      → StopsText means error before after first v
+  StopsText-piece error before now after first t held more v had given none stops =
+      let whole : (had.text ++ held.held) ++ more ≡ (had.text ++ stops.text) ++ stops.rest =
+      append_assoc had.text held.held more ∙ ap (λ l. had.text ++ l) stops.parts ∙ sym (append_assoc had.text stops.text stops.rest) in
+      record {
+        text = had.text ++ stops.text;
+        rest = stops.rest;
+        given = subst (Consumes before after) whole (Consumes-append before now after (had.text ++ held.held) more had.given given);
+        utf8 = IsUtf8-append _ _ had.utf8 stops.utf8;
+        stopped = λ K s front stands.
+            subst (λ l. SourceStops means error s (all_messages means first.rules K s l) v)
+            (append_assoc front (chars had.text) (chars stops.text) ∙ ap (λ l. front ++ l) (sym (chars-append had.text stops.text had.utf8)))
+            (subst (λ b. SourceStops means error s (all_messages means b K s ((front ++ chars had.text) ++ chars stops.text)) v) had.rules
+            (stops.stopped K s (front ++ chars had.text) (had.reads K s front stands)));
+        no_text = λ place same. GivesNoText-piece before now after first t held more place had given (stops.no_text place same);
+        may_go_on = λ other.
+            subst (λ l. ¬ (IsNeverUtf8 l)) (sym (append_assoc had.text held.held more) ∙ whole)
+            (not_never-behind had.text (held.held ++ more) had.utf8 (stops.may_go_on other));
+        decided = λ same. absurd (is_read error none same);
+      }
 
-    -- the end was refused
-    StopsText-end : (error : StreamError) (before after : Option (List ℕ)) (t u : Tokenizing X) (v : S)
-        → TakesText state step reply foreign before after t u → StopsAtEnd state step reply foreign faulted end_faulted error u v
-        → ((place : ℕ) → error ≢ NotUtf8 place) → failed_read error ≡ 0 → StopsText state step reply foreign faulted end_faulted error before after t v
-    StopsText-end error before after t u v takes stops other none =
-        record {
-          text = takes.bytes;
-          rest = [];
-          given = subst (Consumes before after) (sym (append-nil takes.bytes)) takes.given;
-          utf8 = takes.utf8;
-          stopped = λ K s front stands.
-              subst (λ b. SourceStops step faulted end_faulted error s (messages (reading step reply foreign b K s (front ++ chars takes.bytes))) v) takes.rules
-              (stops K s (front ++ chars takes.bytes) (takes.reads K s front stands));
-          no_text = λ place same. absurd (other place same);
-          may_go_on = λ _. not_never-cut takes.bytes [] takes.utf8 IsCutCharacter-nil;
-          decided = λ same. absurd (is_read error none same);
-        }
+  -- the end was refused
+  StopsText-end : (error : StreamError) (before after : Option (List ℕ)) (t u : Tokenizing X) (v : S)
+      → TakesText means before after t u → StopsAtEnd means error u v
+      → ((place : ℕ) → error ≢ NotUtf8 place) → failed_read error ≡ 0 → StopsText means error before after t v
+  StopsText-end error before after t u v takes stops other none =
+      record {
+        text = takes.bytes;
+        rest = [];
+        given = subst (Consumes before after) (sym (append-nil takes.bytes)) takes.given;
+        utf8 = takes.utf8;
+        stopped = λ K s front stands.
+            subst (λ b. SourceStops means error s (all_messages means b K s (front ++ chars takes.bytes)) v) takes.rules
+            (stops K s (front ++ chars takes.bytes) (takes.reads K s front stands));
+        no_text = λ place same. absurd (other place same);
+        may_go_on = λ _. not_never-cut takes.bytes [] takes.utf8 IsCutCharacter-nil;
+        decided = λ same. absurd (is_read error none same);
+      }
 
-    pub StopsText-result : {T : Type 0} (r : Result T StreamError) (before after : Option (List ℕ)) (t u : Tokenizing X) (v : S)
-        → TakesText state step reply foreign before after t u
-        → IfErr r (λ error. StopsAtEnd state step reply foreign faulted end_faulted error u v)
-        → IfErr r (λ error. (place : ℕ) → error ≢ NotUtf8 place) → failed_reads r ≡ 0
-        → IfErr r (λ error. StopsText state step reply foreign faulted end_faulted error before after t v)
-    StopsText-result (Ok x) before after t u v takes stops other none = tt
-    StopsText-result (Err error) before after t u v takes stops other none = StopsText-end error before after t u v takes stops other none
+  pub StopsText-result : {T : Type 0} (r : Result T StreamError) (before after : Option (List ℕ)) (t u : Tokenizing X) (v : S)
+      → TakesText means before after t u
+      → IfErr r (λ error. StopsAtEnd means error u v)
+      → IfErr r (λ error. (place : ℕ) → error ≢ NotUtf8 place) → failed_reads r ≡ 0
+      → IfErr r (λ error. StopsText means error before after t v)
+  StopsText-result (Ok x) before after t u v takes stops other none = tt
+  StopsText-result (Err error) before after t u v takes stops other none = StopsText-end error before after t u v takes stops other none

@@ -4,7 +4,7 @@ use Rattle.html5opened.specs.declared.error.TokenizerError.TheVariants.{Memory, 
 use Rattle.html5stream.specs.declared.error.StreamError.{StreamError}
 use Rattle.html5stream.specs.declared.error.StreamError.TheVariants as stream
 
--- no call here comes behind a refused one, so none is `Failed`
+-- no call here comes after a refused one, so none is `Failed`
 abbrev pub stream_error : TokenizerError → StreamError
 stream_error Memory = stream.Memory
 stream_error Sink = stream.Sink

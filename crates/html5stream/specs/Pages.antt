@@ -4,9 +4,9 @@ use Rattle.std.specs.Io.KnownBytes.{Consumes, IsAtEnd}
 use Rattle.std.specs.Str.{IsUtf8, chars}
 use Rattle.markup5ever.specs.NamedReferences.{NamedReference}
 use Rattle.html5ever_interface.specs.Options.{default_options}
-use Rattle.html5ever_interface.specs.Sink.{Message, stepped}
+use Rattle.html5ever_interface.specs.Sink.{Means, Message, stepped}
 use Rattle.html5ever_interface.specs.Token.{TagOf, Told}
-use Rattle.html5grammar.specs.Reading.{reading, messages}
+use Rattle.html5grammar.specs.Reading.{all_messages}
 use Rattle.html5grammar.specs.Start.{start_of}
 use Rattle.html5ever.specs.Tokenizer.{rules_of}
 use Rattle.html5sinks.specs.Replies.{standard_reply}
@@ -33,6 +33,30 @@ pub record StopsPage {S : Type 0} (page : S → List ℕ → List Message) (hand
   pub parts : page before text ≡ told ++ untold
   pub state : after ≡ handed before told
 
+-- what a sink of tags makes of what it is told, and what a sink of runs does, where a handler replies as the standard does
+module _ {X S : Type 0} where
+  abbrev pub tags_means : (X → Tagged S) → (S → TagOf → ℕ → S) → Means X (Tagged S) (Unit {0})
+  tags_means state step = record {
+    state = state;
+    step = tags_step step;
+    reply = tags_reply (λ s tag line. standard_reply tag);
+    foreign = λ s. s.foreign;
+    finish = λ s. s;
+    faulted = λ s told line. s;
+    end_faulted = λ s. s;
+  }
+
+  abbrev pub runs_means : (X → Running S) → (S → List ℕ → Told → ℕ → S) → Means X (Running S) (Unit {0})
+  runs_means state step = record {
+    state = state;
+    step = runs_step step;
+    reply = runs_reply (λ s run tag line. standard_reply tag);
+    foreign = λ s. s.foreign;
+    finish = λ s. s;
+    faulted = λ s told line. s;
+    end_faulted = λ s. s;
+  }
+
 module _ {S : Type 0} where
   -- where a sink of tags starts
   abbrev pub tags_start : S → Tagged S
@@ -41,14 +65,13 @@ module _ {S : Type 0} where
   -- the messages of a page whose bytes are given, where a handler of tags is told
   unfoldable pub tags_page : (S → TagOf → ℕ → S) → List NamedReference → S → List ℕ → List Message
   tags_page step names s bytes =
-      messages (reading (tags_step step) (tags_reply (λ state tag line. standard_reply tag)) (λ s. s.foreign)
-      (rules_of default_options names) (start_of default_options) (tags_start s) (chars bytes))
+      all_messages (tags_means (λ t. t) step) (rules_of default_options names) (start_of default_options) (tags_start s) (chars bytes)
 
-  -- a handler behind some messages: it was handed each tag of them
+  -- a handler after some messages: it was handed each tag of them
   unfoldable pub tags_handed : (S → TagOf → ℕ → S) → S → List Message → S
   tags_handed step s told = (stepped (tags_step step) (tags_start s) told).handler
 
-  -- and behind a whole page
+  -- and after a whole page
   abbrev pub tags_behind : (S → TagOf → ℕ → S) → List NamedReference → S → List ℕ → S
   tags_behind step names s bytes = tags_handed step s (tags_page step names s bytes)
 
@@ -59,13 +82,12 @@ module _ {S : Type 0} where
   -- the messages of a page whose bytes are given, where a handler of runs is told
   unfoldable pub runs_page : (S → List ℕ → Told → ℕ → S) → List NamedReference → S → List ℕ → List Message
   runs_page step names s bytes =
-      messages (reading (runs_step step) (runs_reply (λ state run tag line. standard_reply tag)) (λ s. s.foreign)
-      (rules_of default_options names) (start_of default_options) (runs_start s) (chars bytes))
+      all_messages (runs_means (λ t. t) step) (rules_of default_options names) (start_of default_options) (runs_start s) (chars bytes)
 
-  -- a handler behind some messages: it was handed each run of text that another token of them ends, with that token
+  -- a handler after some messages: it was handed each run of text that another token of them ends, with that token
   unfoldable pub runs_handed : (S → List ℕ → Told → ℕ → S) → S → List Message → S
   runs_handed step s told = (stepped (runs_step step) (runs_start s) told).joined.handler
 
-  -- and behind a whole page
+  -- and after a whole page
   abbrev pub runs_behind : (S → List ℕ → Told → ℕ → S) → List NamedReference → S → List ℕ → S
   runs_behind step names s bytes = runs_handed step s (runs_page step names s bytes)

@@ -1,12 +1,14 @@
 -- What reading a source to its end tells, and what it leaves where it stops.
-use Rattle.std.specs.Prelude.{◌≡◌, ◌≢◌, ◌⊎◌, ℕ, Bool, List, ◌++◌, Option, Result, Ok, Err}
+use Rattle.std.specs.Prelude.{◌≡◌, ◌≢◌, ◌⊎◌, ℕ, List, ◌++◌, Option, Result, Ok, Err}
 use Rattle.std.specs.Io.KnownBytes.{Consumes, IsAtEnd}
 use Rattle.std.specs.Str.{IsUtf8, chars}
-use Rattle.html5ever_interface.specs.Sink.{Message, stepped}
-use Rattle.html5ever_interface.specs.Token.{Told, Reply}
-use Rattle.html5grammar.specs.Reading.{reading, told, messages}
-use Rattle.html5grammar.specs.Start.{Start, Rules}
+use Rattle.html5ever_interface.specs.Options.{OptionsOf}
+use Rattle.html5ever_interface.specs.Sink.{Means, Message, stepped}
+use Rattle.html5grammar.specs.Reading.{all_messages, state_after}
+use Rattle.html5grammar.specs.Start.{start_of}
 use Rattle.html5states.specs.Telling.{StopsWithin, FaultsWithin}
+use Rattle.html5ever.specs.Tokenizer.{rules_of, finished_reading}
+use Rattle.markup5ever.specs.NamedReferences.{NamedReference}
 use Rattle.utf8_pieces.specs.Pieces.{IsCutCharacter, IsFault, IsNeverUtf8}
 use Rattle.utf8_pieces.specs.declared.error.DecodeError.TheVariants as decoder
 use Rattle.html5stream.specs.declared.error.StreamError.{StreamError}
@@ -38,7 +40,7 @@ abbrev pub sink_faults : {T : Type 0} → Result T StreamError → ℕ
 sink_faults (Ok x) = 0
 sink_faults (Err e) = sink_fault e
 
--- the bytes that the source gave stop being UTF-8 at that place: nothing behind them can mend it, or the source ended there
+-- the bytes that the source gave stop being UTF-8 at that place: nothing after them can mend it, or the source ended there
 -- within a character
 pub record GivesNoText (place : ℕ) (before after : Option (List ℕ)) : Type 0 where
   pub bytes : List ℕ
@@ -46,41 +48,40 @@ pub record GivesNoText (place : ℕ) (before after : Option (List ℕ)) : Type 0
   pub fault : IsFault 0 bytes (decoder.NotUtf8 place)
   pub settled : IsNeverUtf8 bytes ⊎ IsAtEnd after
 
--- what each error leaves of the messages that a text tells: a beginning of them was told, and the sink may have faulted behind it,
--- or at its own end
-module _ {S : Type 0} (step faulted : S → Told → ℕ → S) (end_faulted : S → S) where
+module _ {X S H : Type 0} (means : Means X S H) where
+  -- what each error leaves of the messages that a text tells: a beginning of them was told, and the sink may have faulted after it,
+  -- or at its own end
   abbrev pub SourceStops : StreamError → S → List Message → S → Type 0
-  SourceStops Read s M t = StopsWithin step faulted s M t
-  SourceStops (NotUtf8 place) s M t = StopsWithin step faulted s M t
-  SourceStops Memory s M t = StopsWithin step faulted s M t
-  SourceStops Sink s M t = FaultsWithin step faulted s M t ⊎ (t ≡ end_faulted (stepped step s M))
-  SourceStops TooLong s M t = StopsWithin step faulted s M t
+  SourceStops Read s M t = StopsWithin means.step means.faulted s M t
+  SourceStops (NotUtf8 place) s M t = StopsWithin means.step means.faulted s M t
+  SourceStops Memory s M t = StopsWithin means.step means.faulted s M t
+  SourceStops Sink s M t = FaultsWithin means.step means.faulted s M t ⊎ (t ≡ means.end_faulted (stepped means.step s M))
+  SourceStops TooLong s M t = StopsWithin means.step means.faulted s M t
 
-module _ {S H : Type 0} (step : S → Told → ℕ → S) (reply : S → Told → ℕ → Reply H) (foreign : S → Bool) where
   -- the source gave a text up to its end, and its whole reading was told; then the sink finished
-  pub record ReadsSource (finish : S → S) (rules : Rules) (K : Start) (s : S) (before after : Option (List ℕ)) (t : S) : Type 0 where
+  pub record ReadsSource (opts : OptionsOf) (names : List NamedReference) (s : S) (before after : Option (List ℕ)) (t : S) : Type 0 where
     pub bytes : List ℕ
     pub given : Consumes before after bytes
     pub at_end : IsAtEnd after
     pub utf8 : IsUtf8 bytes
-    pub told : t ≡ finish (stepped step s (messages (reading step reply foreign rules K s (chars bytes))))
+    pub told : t ≡ finished_reading means opts names s (chars bytes)
 
   -- what the source gave begins with a text, and the sink stopped within the reading of that; where the error is not of the bytes,
   -- they can still become a text
-  pub record StopsSource (faulted : S → Told → ℕ → S) (end_faulted : S → S) (error : StreamError) (rules : Rules) (K : Start) (s : S)
+  pub record StopsSource (error : StreamError) (opts : OptionsOf) (names : List NamedReference) (s : S)
       (before after : Option (List ℕ)) (t : S) : Type 0 where
     pub text : List ℕ
     pub rest : List ℕ
     pub given : Consumes before after (text ++ rest)
     pub utf8 : IsUtf8 text
-    pub stopped : SourceStops step faulted end_faulted error s (messages (reading step reply foreign rules K s (chars text))) t
+    pub stopped : SourceStops error s (all_messages means (rules_of opts names) (start_of opts) s (chars text)) t
     pub may_go_on : ((place : ℕ) → error ≢ NotUtf8 place) → ¬ (IsNeverUtf8 (text ++ rest))
 
-  -- what the source gave is a text, and behind it at most a beginning of a character: exactly what the text decides was told
-  pub record TellsGiven (rules : Rules) (K : Start) (s : S) (before after : Option (List ℕ)) (t : S) : Type 0 where
+  -- what the source gave is a text, and after it at most a beginning of a character: exactly what the text decides was told
+  pub record TellsGiven (opts : OptionsOf) (names : List NamedReference) (s : S) (before after : Option (List ℕ)) (t : S) : Type 0 where
     pub text : List ℕ
     pub rest : List ℕ
     pub given : Consumes before after (text ++ rest)
     pub utf8 : IsUtf8 text
     pub cut : IsCutCharacter rest
-    pub told : t ≡ stepped step s (messages (told step reply foreign rules K s (chars text)))
+    pub told : t ≡ state_after means (rules_of opts names) (start_of opts) s (chars text)

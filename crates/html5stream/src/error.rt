@@ -28,7 +28,8 @@ impl From<DecodeError> for StreamError {
     ghost use Rattle.html5stream.specs.DecodeErrors.{of_decoder};
     ghost use Rattle.html5stream.specs.Streams.{failed_read, sink_fault};
 
-    ghost from_gives = { λ error result. (result ≡ of_decoder error) × (failed_read result ≡ 0) × (sink_fault result ≡ 0) };
+    ghost from_gives = { λ error result. (result ≡ of_decoder error) × (failed_read result ≡ 0)
+        × (sink_fault result ≡ 0) };
 
     fn from(error: DecodeError) -> StreamError {
         match error {

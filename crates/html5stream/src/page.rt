@@ -35,7 +35,7 @@ pub fn read_tags<R: Source, H: TagHandler<Tag<A>>, A: Allocator + Copy>(
     (told.into_inner(), read)
 }
 
-/// Reads a page as it arrives, and hands each whole run of text to the handler with the token behind it;
+/// Reads a page as it arrives, and hands each whole run of text to the handler with the token after it;
 /// the handler comes back.
 pub fn read_runs<R: Source, H: RunHandler<Token<A>>, A: Allocator + Copy>(
     alloc: A,

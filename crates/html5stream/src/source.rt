@@ -3,10 +3,9 @@ ghost use Rattle.std.specs.Prelude.{◌≡◌, ◌≢◌, ℕ, ◌+◌, ◌<◌,
 ghost use Rattle.std.specs.Io.KnownBytes.{Consumes, IsAtEnd};
 ghost use Rattle.std.specs.Str.{chars};
 ghost use Rattle.html5ever_interface.specs.Options.{options_of};
-ghost use Rattle.html5grammar.specs.Start.{start_of};
 ghost use Rattle.html5states.specs.Telling.{faults_of};
 ghost use Rattle.html5feed.specs.Starting.{CanStart};
-ghost use Rattle.html5ever.specs.Tokenizer.{rules_of, ReadsOn, Finishes};
+ghost use Rattle.html5ever.specs.Tokenizer.{ReadsOn, Finishes};
 ghost use Rattle.html5stream.specs.Errors.{stream_error};
 ghost use Rattle.html5stream.specs.Streams.{ReadsSource, StopsSource, TellsGiven, GivesNoText, failed_read, failed_reads, sink_fault, sink_faults};
 ghost use Rattle.html5stream.specs.Taking.{TakesBytes, TakesText, FinishesText, StopsTelling, StopsAtEnd, StopsBytes, StopsText};
@@ -79,11 +78,10 @@ fn feed_text<S: TokenSink<Token<A>>, A: Allocator + Copy>(
     requires waiting { queue.old.text ≡ [] }
     requires going_on { tokenizer.old.ended ≡ false }
     requires not_failed { tokenizer.old.failed ≡ false }
-    ensures reads { OnOk result (ReadsOn S.means.state S.means.step S.means.reply S.means.foreign
-        tokenizer.old tokenizer.new (chars (string_bytes text))) }
+    ensures reads { OnOk result (ReadsOn S.means tokenizer.old tokenizer.new (chars (string_bytes text))) }
     ensures taken { OnOk result (queue.new.text ≡ []) }
-    ensures stops { IfErr result (λ error. StopsTelling S.means.state S.means.step S.means.reply S.means.foreign S.means.faulted S.means.end_faulted
-        error tokenizer.old (chars (string_bytes text)) (S.means.state tokenizer.new.sink)) }
+    ensures stops { IfErr result (λ error.
+        StopsTelling S.means error tokenizer.old (chars (string_bytes text)) (S.means.state tokenizer.new.sink)) }
     ensures text_error { IfErr result (λ error. (place : ℕ) → error ≢ StreamError.NotUtf8 place) }
     ensures read { failed_reads result ≡ 0 }
     ensures faults { S.faults tokenizer.new.sink ≡ S.faults tokenizer.old.sink + sink_faults result }
@@ -109,11 +107,11 @@ fn take_bytes<S: TokenSink<Token<A>>, A: Allocator + Copy>(
     requires waiting { queue.old.text ≡ [] }
     requires going_on { tokenizer.old.ended ≡ false }
     requires not_failed { tokenizer.old.failed ≡ false }
-    ensures takes { OnOk result (TakesBytes S.means.state S.means.step S.means.reply S.means.foreign
-        decoder.old decoder.new tokenizer.old tokenizer.new bytes.now) }
+    ensures takes { OnOk result
+        (TakesBytes S.means decoder.old decoder.new tokenizer.old tokenizer.new bytes.now) }
     ensures taken { OnOk result (queue.new.text ≡ []) }
-    ensures stops { IfErr result (λ error. StopsBytes S.means.state S.means.step S.means.reply S.means.foreign S.means.faulted S.means.end_faulted
-        error decoder.old tokenizer.old bytes.now (S.means.state tokenizer.new.sink)) }
+    ensures stops { IfErr result (λ error.
+        StopsBytes S.means error decoder.old tokenizer.old bytes.now (S.means.state tokenizer.new.sink)) }
     ensures read { failed_reads result ≡ 0 }
     ensures faults { S.faults tokenizer.new.sink ≡ S.faults tokenizer.old.sink + sink_faults result }
 {
@@ -130,10 +128,10 @@ fn read_text<R: Source, S: TokenSink<Token<A>>, A: Allocator + Copy>(
 ) -> Result<(), StreamError>
     requires going_on { tokenizer.old.ended ≡ false }
     requires not_failed { tokenizer.old.failed ≡ false }
-    ensures takes { OnOk result (TakesText S.means.state S.means.step S.means.reply S.means.foreign
-        (R.remaining source.old) (R.remaining source.new) tokenizer.old tokenizer.new) }
-    ensures stops { IfErr result (λ error. StopsText S.means.state S.means.step S.means.reply S.means.foreign S.means.faulted S.means.end_faulted
-        error (R.remaining source.old) (R.remaining source.new) tokenizer.old (S.means.state tokenizer.new.sink)) }
+    ensures takes { OnOk result
+        (TakesText S.means (R.remaining source.old) (R.remaining source.new) tokenizer.old tokenizer.new) }
+    ensures stops { IfErr result (λ error. StopsText S.means error
+        (R.remaining source.old) (R.remaining source.new) tokenizer.old (S.means.state tokenizer.new.sink)) }
     ensures read { R.failures source.new ≡ R.failures source.old + failed_reads result }
     ensures faults { S.faults tokenizer.new.sink ≡ S.faults tokenizer.old.sink + sink_faults result }
     ensures going_on { OnOk result (tokenizer.new.ended ≡ false) }
@@ -160,10 +158,9 @@ fn tell_end<S: TokenSink<Token<A>>, A: Allocator + Copy>(
 ) -> Result<(), StreamError>
     requires going_on { tokenizer.old.ended ≡ false }
     requires not_failed { tokenizer.old.failed ≡ false }
-    ensures finishes { OnOk result (Finishes S.means.state S.means.step S.means.reply S.means.foreign S.means.finish
-        tokenizer.old (S.means.state tokenizer.new.sink)) }
-    ensures stops { IfErr result (λ error. StopsAtEnd S.means.state S.means.step S.means.reply S.means.foreign S.means.faulted S.means.end_faulted
-        error tokenizer.old (S.means.state tokenizer.new.sink)) }
+    ensures finishes { OnOk result (Finishes S.means tokenizer.old (S.means.state tokenizer.new.sink)) }
+    ensures stops { IfErr result (λ error.
+        StopsAtEnd S.means error tokenizer.old (S.means.state tokenizer.new.sink)) }
     ensures text_error { IfErr result (λ error. (place : ℕ) → error ≢ StreamError.NotUtf8 place) }
     ensures read { failed_reads result ≡ 0 }
     ensures faults { S.faults tokenizer.new.sink ≡ S.faults tokenizer.old.sink + sink_faults result }
@@ -182,10 +179,10 @@ fn read_all<R: Source, S: TokenSink<Token<A>>, A: Allocator + Copy>(
 ) -> Result<(), StreamError>
     requires going_on { tokenizer.old.ended ≡ false }
     requires not_failed { tokenizer.old.failed ≡ false }
-    ensures finishes { OnOk result (FinishesText S.means.state S.means.step S.means.reply S.means.foreign S.means.finish
+    ensures finishes { OnOk result (FinishesText S.means
         (R.remaining source.old) (R.remaining source.new) tokenizer.old (S.means.state tokenizer.new.sink)) }
-    ensures stops { IfErr result (λ error. StopsText S.means.state S.means.step S.means.reply S.means.foreign S.means.faulted S.means.end_faulted
-        error (R.remaining source.old) (R.remaining source.new) tokenizer.old (S.means.state tokenizer.new.sink)) }
+    ensures stops { IfErr result (λ error. StopsText S.means error
+        (R.remaining source.old) (R.remaining source.new) tokenizer.old (S.means.state tokenizer.new.sink)) }
     ensures read { R.failures source.new ≡ R.failures source.old + failed_reads result }
     ensures faults { S.faults tokenizer.new.sink ≡ S.faults tokenizer.old.sink + sink_faults result }
 {
@@ -194,7 +191,7 @@ fn read_all<R: Source, S: TokenSink<Token<A>>, A: Allocator + Copy>(
 }
 
 /// Reads a source to its end, 4,096 bytes at a time, from the start of a stream, and hands the sink back:
-/// it has finished behind all that the source's text tells, or after an error it was told a beginning of
+/// it has finished after all that the source's text tells, or after an error it was told a beginning of
 /// what the text so far tells. No read is tried again after it failed.
 pub fn read_source<R: Source, S: TokenSink<Token<A>>, A: Allocator + Copy>(
     alloc: A,
@@ -206,19 +203,16 @@ pub fn read_source<R: Source, S: TokenSink<Token<A>>, A: Allocator + Copy>(
     requires { CanStart opts.initial_state }
 
     // What an `Ok` says: the source is at its end, and the whole reading of its text was told.
-    ensures finishes { OnOk result.1 (ReadsSource S.means.step S.means.reply S.means.foreign S.means.finish
-        (rules_of (options_of opts) names.now) (start_of (options_of opts)) (S.means.state sink)
+    ensures finishes { OnOk result.1 (ReadsSource S.means (options_of opts) names.now (S.means.state sink)
         (R.remaining source.old) (R.remaining source.new) (S.means.state result.0)) }
 
     // When each error comes, and what it leaves.
-    ensures decided { result.1 ≡ Err StreamError.Read → TellsGiven S.means.step S.means.reply S.means.foreign
-        (rules_of (options_of opts) names.now) (start_of (options_of opts)) (S.means.state sink)
-        (R.remaining source.old) (R.remaining source.new) (S.means.state result.0) }
+    ensures decided { result.1 ≡ Err StreamError.Read → TellsGiven S.means (options_of opts) names.now
+        (S.means.state sink) (R.remaining source.old) (R.remaining source.new) (S.means.state result.0) }
     ensures not_utf8 { (place : ℕ) → result.1 ≡ Err (StreamError.NotUtf8 place)
         → GivesNoText place (R.remaining source.old) (R.remaining source.new) }
-    ensures beginning { IfErr result.1 (λ error. StopsSource S.means.step S.means.reply S.means.foreign S.means.faulted S.means.end_faulted
-        error (rules_of (options_of opts) names.now) (start_of (options_of opts)) (S.means.state sink)
-        (R.remaining source.old) (R.remaining source.new) (S.means.state result.0)) }
+    ensures beginning { IfErr result.1 (λ error. StopsSource S.means error (options_of opts) names.now
+        (S.means.state sink) (R.remaining source.old) (R.remaining source.new) (S.means.state result.0)) }
     ensures read { R.failures source.new ≡ R.failures source.old + failed_reads result.1 }
     ensures faults { S.faults result.0 ≡ S.faults sink + sink_faults result.1 }
 {

@@ -1,5 +1,5 @@
 //! Laws of whole texts, on calls that read one.
-ghost use Rattle.std.specs.Prelude.{◌≡◌, ℕ, ◌+◌, true, List, [], map, IfErr, IfOk, OnOk, string_bytes};
+ghost use Rattle.std.specs.Prelude.{◌≡◌, ℕ, true, List, [], map, IfOk, string_bytes};
 ghost use Rattle.std.specs.List.{concat};
 ghost use Rattle.std.specs.Str.{chars};
 ghost use Rattle.html5ever_interface.specs.Collected.{none_collected, collected_step, collected_finish};
@@ -12,16 +12,16 @@ ghost use Rattle.html5grammar.specs.OneInstruction.{WrittenInstruction, IsInstru
 ghost use Rattle.html5grammar.specs.OneReference.{WrittenReference, IsReference, reference_messages};
 ghost use Rattle.html5grammar.specs.OneTag.{WrittenTag, IsTag, tag_messages};
 ghost use Rattle.html5grammar.specs.WrittenRaw.{WrittenRaw, IsRawText, raw_messages};
-ghost use Rattle.html5grammar.specs.Reading.{reading, messages, after};
 ghost use Rattle.html5grammar.specs.Start.{Raw, Start, Rules, start_of};
+ghost use Rattle.html5ever.specs.Collecting.{CollectsText};
 ghost use Rattle.html5ever.specs.RunSteps.{run_text};
 ghost use Rattle.html5ever.specs.RunSteps.StepOf.{AtBack};
-ghost use Rattle.html5states.specs.Telling.{IsRefusal, faults_of};
 ghost use Rattle.html5feed.specs.Starting.{CanStart};
-ghost use Rattle.html5ever.specs.Tokenizer.{rules_of, EndStops, collected_of};
+ghost use Rattle.html5ever.specs.Tokenizer.{state_at_end};
 
 pub use crate::tokenizer::pieces::feed_pieces;
 use crate::tokenizer::whole::read_whole;
+/// `read_whole`, by the name that whole texts have elsewhere.
 pub use crate::tokenizer::whole::read_whole as closed;
 use html5ever_interface::collect::Collector;
 use html5ever_interface::interface::sink::TokenSink;
@@ -40,9 +40,7 @@ fn collect<A: Allocator + Copy>(
     text: String<A>,
 ) -> Result<Collector<A>, TokenizerError>
     requires { CanStart opts.initial_state }
-    ensures reads { IfOk result (λ sink. sink.collected ≡ collected_of (options_of opts) names.now foreign (chars (string_bytes text))) }
-    ensures no_fault { IfOk result (λ sink. sink.faults ≡ 0) }
-    ensures refusal { IfErr result IsRefusal }
+    ensures reads { CollectsText result (options_of opts) names.now foreign (chars (string_bytes text)) }
 {
     let sink = Collector::new(alloc, foreign);
     let (sink, read) = read_whole(alloc, sink, opts, names, text);
@@ -62,7 +60,7 @@ pub fn tag<A: Allocator + Copy>(
     text: String<A>,
 ) -> Result<Collector<A>, TokenizerError>
     requires { CanStart opts.initial_state }
-    ensures reads { IfOk result (λ sink. sink.collected ≡ collected_of (options_of opts) names.now foreign (chars (string_bytes text))) }
+    ensures reads { CollectsText result (options_of opts) names.now foreign (chars (string_bytes text)) }
     ensures tag { IfOk result (λ sink. (tag : WrittenTag) →
         IsTag (start_of (options_of opts)) (chars (string_bytes text)) tag →
         sink.collected ≡ record {
@@ -70,8 +68,6 @@ pub fn tag<A: Allocator + Copy>(
           finished = true;
           foreign = foreign;
         }) }
-    ensures no_fault { IfOk result (λ sink. sink.faults ≡ 0) }
-    ensures refusal { IfErr result IsRefusal }
 {
     collect(alloc, opts, foreign, names, text)
 }
@@ -86,7 +82,7 @@ pub fn reference<A: Allocator + Copy>(
     text: String<A>,
 ) -> Result<Collector<A>, TokenizerError>
     requires { CanStart opts.initial_state }
-    ensures reads { IfOk result (λ sink. sink.collected ≡ collected_of (options_of opts) names.now foreign (chars (string_bytes text))) }
+    ensures reads { CollectsText result (options_of opts) names.now foreign (chars (string_bytes text)) }
     ensures reference { IfOk result (λ sink. (reference : WrittenReference) →
         IsReference names.now (start_of (options_of opts)) (chars (string_bytes text)) reference →
         sink.collected ≡ record {
@@ -94,8 +90,6 @@ pub fn reference<A: Allocator + Copy>(
           finished = true;
           foreign = foreign;
         }) }
-    ensures no_fault { IfOk result (λ sink. sink.faults ≡ 0) }
-    ensures refusal { IfErr result IsRefusal }
 {
     names.table_laws();
     collect(alloc, opts, foreign, names, text)
@@ -112,13 +106,11 @@ pub fn raw<A: Allocator + Copy>(
     text: String<A>,
 ) -> Result<Collector<A>, TokenizerError>
     requires { CanStart opts.initial_state }
-    ensures reads { IfOk result (λ sink. sink.collected ≡ collected_of (options_of opts) names.now foreign (chars (string_bytes text))) }
+    ensures reads { CollectsText result (options_of opts) names.now foreign (chars (string_bytes text)) }
     ensures raw { IfOk result (λ sink. (raw : Raw) (name : List ℕ) (written : WrittenRaw) →
         IsRawText (start_of (options_of opts)) (chars (string_bytes text)) raw name written →
         sink.collected ≡ collected_finish (stepped collected_step (none_collected foreign)
         (raw_messages opts.exact_errors (start_of (options_of opts)).input raw written))) }
-    ensures no_fault { IfOk result (λ sink. sink.faults ≡ 0) }
-    ensures refusal { IfErr result IsRefusal }
 {
     collect(alloc, opts, foreign, names, text)
 }
@@ -133,7 +125,7 @@ pub fn comment<A: Allocator + Copy>(
     text: String<A>,
 ) -> Result<Collector<A>, TokenizerError>
     requires { CanStart opts.initial_state }
-    ensures reads { IfOk result (λ sink. sink.collected ≡ collected_of (options_of opts) names.now foreign (chars (string_bytes text))) }
+    ensures reads { CollectsText result (options_of opts) names.now foreign (chars (string_bytes text)) }
     ensures comment { IfOk result (λ sink. (comment : WrittenComment) →
         IsComment (start_of (options_of opts)) foreign (chars (string_bytes text)) comment →
         sink.collected ≡ record {
@@ -141,8 +133,6 @@ pub fn comment<A: Allocator + Copy>(
           finished = true;
           foreign = foreign;
         }) }
-    ensures no_fault { IfOk result (λ sink. sink.faults ≡ 0) }
-    ensures refusal { IfErr result IsRefusal }
 {
     collect(alloc, opts, foreign, names, text)
 }
@@ -158,7 +148,7 @@ pub fn instruction<A: Allocator + Copy>(
     text: String<A>,
 ) -> Result<Collector<A>, TokenizerError>
     requires { CanStart opts.initial_state }
-    ensures reads { IfOk result (λ sink. sink.collected ≡ collected_of (options_of opts) names.now foreign (chars (string_bytes text))) }
+    ensures reads { CollectsText result (options_of opts) names.now foreign (chars (string_bytes text)) }
     ensures instruction { IfOk result (λ sink. (instruction : WrittenInstruction) →
         IsInstruction (start_of (options_of opts)) (chars (string_bytes text)) instruction →
         sink.collected ≡ record {
@@ -166,8 +156,6 @@ pub fn instruction<A: Allocator + Copy>(
           finished = true;
           foreign = foreign;
         }) }
-    ensures no_fault { IfOk result (λ sink. sink.faults ≡ 0) }
-    ensures refusal { IfErr result IsRefusal }
 {
     collect(alloc, opts, foreign, names, text)
 }
@@ -182,7 +170,7 @@ pub fn doctype<A: Allocator + Copy>(
     text: String<A>,
 ) -> Result<Collector<A>, TokenizerError>
     requires { CanStart opts.initial_state }
-    ensures reads { IfOk result (λ sink. sink.collected ≡ collected_of (options_of opts) names.now foreign (chars (string_bytes text))) }
+    ensures reads { CollectsText result (options_of opts) names.now foreign (chars (string_bytes text)) }
     ensures doctype { IfOk result (λ sink. (doctype : WrittenDoctype) →
         IsDoctype (start_of (options_of opts)) (chars (string_bytes text)) doctype →
         sink.collected ≡ record {
@@ -190,8 +178,6 @@ pub fn doctype<A: Allocator + Copy>(
           finished = true;
           foreign = foreign;
         }) }
-    ensures no_fault { IfOk result (λ sink. sink.faults ≡ 0) }
-    ensures refusal { IfErr result IsRefusal }
 {
     collect(alloc, opts, foreign, names, text)
 }
@@ -206,7 +192,7 @@ pub fn cdata<A: Allocator + Copy>(
     text: String<A>,
 ) -> Result<Collector<A>, TokenizerError>
     requires { CanStart opts.initial_state }
-    ensures reads { IfOk result (λ sink. sink.collected ≡ collected_of (options_of opts) names.now foreign (chars (string_bytes text))) }
+    ensures reads { CollectsText result (options_of opts) names.now foreign (chars (string_bytes text)) }
     ensures cdata { IfOk result (λ sink. (cdata : WrittenCdata) →
         IsCdata (start_of (options_of opts)) foreign (chars (string_bytes text)) cdata →
         sink.collected ≡ record {
@@ -214,8 +200,6 @@ pub fn cdata<A: Allocator + Copy>(
           finished = true;
           foreign = foreign;
         }) }
-    ensures no_fault { IfOk result (λ sink. sink.faults ≡ 0) }
-    ensures refusal { IfErr result IsRefusal }
 {
     collect(alloc, opts, foreign, names, text)
 }
@@ -225,11 +209,9 @@ pub fn cdata<A: Allocator + Copy>(
 /// equal options and equal states and both answer `Ok`.
 pub fn cutting<S: TokenSink<Token<A>>, A: Allocator>()
     ensures text { (rules : Rules) (K : Start) (s : S.State) (pieces : List (List ℕ)) →
-        run_text S.means.step S.means.reply S.means.foreign rules K s [] [] (map AtBack pieces) ≡ concat pieces }
+        run_text S.means rules K s [] [] (map AtBack pieces) ≡ concat pieces }
     ensures states { (rules : Rules) (K : Start) (s : S.State) (pieces others : List (List ℕ)) →
         concat pieces ≡ concat others →
-        S.means.finish (stepped S.means.step s (messages (reading S.means.step S.means.reply S.means.foreign rules K s
-        (run_text S.means.step S.means.reply S.means.foreign rules K s [] [] (map AtBack pieces)))))
-        ≡ S.means.finish (stepped S.means.step s (messages (reading S.means.step S.means.reply S.means.foreign rules K s
-        (run_text S.means.step S.means.reply S.means.foreign rules K s [] [] (map AtBack others))))) }
+        state_at_end S.means rules K s (run_text S.means rules K s [] [] (map AtBack pieces))
+        ≡ state_at_end S.means rules K s (run_text S.means rules K s [] [] (map AtBack others)) }
 {}

@@ -22,13 +22,13 @@ fn feed_each<S: TokenSink<Token<A>>, A: Allocator + Copy>(
 ) -> Result<(), TokenizerError>
     requires going_on { tokenizer.old.ended ≡ false }
     requires not_failed { tokenizer.old.failed ≡ false }
-    ensures reads { OnOk result (ReadsOn S.means.state S.means.step S.means.reply S.means.foreign tokenizer.old tokenizer.new
-        (fed_text queue.old.text (map string_bytes pieces.items))) }
+    ensures reads { OnOk result
+        (ReadsOn S.means tokenizer.old tokenizer.new (fed_text queue.old.text (map string_bytes pieces.items))) }
     ensures left { OnOk result (queue.new.text ≡ left_of queue.old.text (map string_bytes pieces.items)) }
-    ensures stops { IfErr result (λ error. StopsReading S.means.state S.means.step S.means.reply S.means.foreign S.means.faulted
-        error tokenizer.old (queue.old.text ++ text_of (map string_bytes pieces.items)) (S.means.state tokenizer.new.sink)) }
-    ensures no_room { OnErr result (tokenizer.new.failed ≡ false → StandsWithin S.means.state S.means.step S.means.reply S.means.foreign
-        tokenizer.old tokenizer.new queue.old.text (map string_bytes pieces.items)) }
+    ensures stops { IfErr result (λ error. StopsReading S.means error tokenizer.old
+        (queue.old.text ++ text_of (map string_bytes pieces.items)) (S.means.state tokenizer.new.sink)) }
+    ensures no_room { OnErr result (tokenizer.new.failed ≡ false
+        → StandsWithin S.means tokenizer.old tokenizer.new queue.old.text (map string_bytes pieces.items)) }
     ensures refusal { IfErr result IsRefusal }
     ensures not_failed { OnOk result (tokenizer.new.failed ≡ false) }
     ensures faults { S.faults tokenizer.new.sink ≡ S.faults tokenizer.old.sink + faults_of result }
@@ -57,18 +57,18 @@ pub fn feed_pieces<S: TokenSink<Token<A>>, A: Allocator + Copy>(
     requires { tokenizer.old.ended ≡ false }
 
     // What an `Ok` says: all pieces were taken, and all that waited before the first of them.
-    ensures reads { OnOk result (ReadsOn S.means.state S.means.step S.means.reply S.means.foreign tokenizer.old tokenizer.new
-        (fed_text queue.old.text (map string_bytes pieces.items))) }
+    ensures reads { OnOk result
+        (ReadsOn S.means tokenizer.old tokenizer.new (fed_text queue.old.text (map string_bytes pieces.items))) }
     ensures left { OnOk result (queue.new.text ≡ left_of queue.old.text (map string_bytes pieces.items)) }
 
     // When each error comes, and what it leaves.
     ensures failed_before { (result ≡ Err TokenizerError.Failed) ↔ (tokenizer.old.failed ≡ true) }
     ensures unchanged { tokenizer.old.failed ≡ true
         → (tokenizer.new ≡ tokenizer.old) × (queue.new ≡ queue.old) }
-    ensures stops { IfErr result (λ error. StopsReading S.means.state S.means.step S.means.reply S.means.foreign S.means.faulted
-        error tokenizer.old (queue.old.text ++ text_of (map string_bytes pieces.items)) (S.means.state tokenizer.new.sink)) }
-    ensures no_room { OnErr result (tokenizer.new.failed ≡ false → StandsWithin S.means.state S.means.step S.means.reply S.means.foreign
-        tokenizer.old tokenizer.new queue.old.text (map string_bytes pieces.items)) }
+    ensures stops { IfErr result (λ error. StopsReading S.means error tokenizer.old
+        (queue.old.text ++ text_of (map string_bytes pieces.items)) (S.means.state tokenizer.new.sink)) }
+    ensures no_room { OnErr result (tokenizer.new.failed ≡ false
+        → StandsWithin S.means tokenizer.old tokenizer.new queue.old.text (map string_bytes pieces.items)) }
     ensures not_failed { OnOk result (tokenizer.new.failed ≡ false) }
     ensures faults { S.faults tokenizer.new.sink ≡ S.faults tokenizer.old.sink + faults_of result }
 

@@ -1,15 +1,14 @@
 //! Runs of a tokenizer: past its pauses, and by steps that put text at the back or at the front.
 ghost use Rattle.std.specs.Prelude.{◌≡◌, ◌+◌, ◌↔◌, [], true, false, IsOk, OnOk, IfErr, is_err, map};
 ghost use Rattle.html5ever_interface.specs.Options.{options_of};
-ghost use Rattle.html5ever_interface.specs.Sink.{stepped};
-ghost use Rattle.html5grammar.specs.Reading.{reading, messages, after};
-ghost use Rattle.html5grammar.specs.Start.{start_of, held_len};
+ghost use Rattle.html5ever_interface.specs.Token.{Reply};
+ghost use Rattle.html5grammar.specs.Start.{held_len};
 ghost use Rattle.html5feed.specs.Feed.{IsEndOf, IsLinear};
 ghost use Rattle.html5states.specs.Telling.{faults_of};
-ghost use Rattle.html5ever.specs.RunSteps.{step_of, waiting_with, run_text, FinishesRun, StopsRun};
+ghost use Rattle.html5ever.specs.RunSteps.{step_of, waiting_with, text_of_steps, FinishesRun, StopsRun};
 ghost use Rattle.html5feed.specs.Starting.{CanStart};
-ghost use Rattle.html5ever.specs.Tokenizer.{rules_of, ReadsOn, StopsReading, EndStops};
-ghost use Rattle.html5ever.specs.Tokenizer.{FeedsOn, LeavesWaiting, StopsFeeding};
+ghost use Rattle.html5ever.specs.Tokenizer.{finished_reading, StoppedReading, ReadsOn, StopsReading};
+ghost use Rattle.html5ever.specs.Tokenizer.{Feeds, StopsFeeding};
 
 use crate::tokenizer::Tokenizer;
 use html5ever_interface::interface::sink::TokenSink;
@@ -29,13 +28,13 @@ pub fn feed_until_done<S: TokenSink<Token<A>>, A: Allocator + Copy>(
     requires { tokenizer.old.ended ≡ false }
 
     // What an `Ok` says: all that waited was taken, and exactly what it decides was told.
-    ensures reads { OnOk result (ReadsOn S.means.state S.means.step S.means.reply S.means.foreign tokenizer.old tokenizer.new queue.old.text) }
+    ensures reads { OnOk result (ReadsOn S.means tokenizer.old tokenizer.new queue.old.text) }
     ensures taken { OnOk result (queue.new.text ≡ []) }
 
     // When each error comes, and what it leaves.
     ensures failed_before { (result ≡ Err TokenizerError.Failed) ↔ (tokenizer.old.failed ≡ true) }
-    ensures stops { IfErr result (λ error. StopsReading S.means.state S.means.step S.means.reply S.means.foreign S.means.faulted
-        error tokenizer.old queue.old.text (S.means.state tokenizer.new.sink)) }
+    ensures stops { IfErr result (λ error.
+        StopsReading S.means error tokenizer.old queue.old.text (S.means.state tokenizer.new.sink)) }
     ensures faults { S.faults tokenizer.new.sink ≡ S.faults tokenizer.old.sink + faults_of result }
     ensures failed { tokenizer.new.failed ≡ is_err result }
     ensures end_of_queue { IsEndOf queue.new.text queue.old.text }
@@ -59,7 +58,7 @@ pub fn feed_until_done<S: TokenSink<Token<A>>, A: Allocator + Copy>(
 /// What a run hands in before it feeds once more.
 #[derive(Drop)]
 pub enum Step<A: Allocator = Global> {
-    /// A text behind what waits.
+    /// A text after what waits.
     Push(String<A>),
     /// A text in front of what waits.
     Insert(String<A>),
@@ -80,17 +79,17 @@ fn hand_in<A: Allocator>(queue: &mut BufferQueue<A>, step: Step<A>) -> Result<()
     }
 }
 
-// Feeds once, and goes on behind a pause as behind `Done`.
+// Feeds once, and goes on after a pause as after `Done`.
 fn feed_once<S: TokenSink<Token<A>>, A: Allocator + Copy>(
     tokenizer: &mut Tokenizer<'_, S, A>,
     queue: &mut BufferQueue<A>,
 ) -> Result<(), TokenizerError>
     requires going_on { tokenizer.old.ended ≡ false }
     requires not_failed { tokenizer.old.failed ≡ false }
-    ensures reads { OnOk result (FeedsOn S.means.state S.means.step S.means.reply S.means.foreign tokenizer.old tokenizer.new queue.old.text) }
-    ensures left { OnOk result (LeavesWaiting S.means.state S.means.step S.means.reply S.means.foreign tokenizer.old queue.old.text queue.new.text) }
-    ensures stops { IfErr result (λ error. StopsFeeding S.means.state S.means.step S.means.reply S.means.foreign S.means.faulted
-        error tokenizer.old queue.old.text (S.means.state tokenizer.new.sink)) }
+    ensures reads { OnOk result ((reply : Reply S.Handle)
+        × Feeds S.means tokenizer.old tokenizer.new queue.old.text queue.new.text reply) }
+    ensures stops { IfErr result (λ error. StopsFeeding S.means error tokenizer.old
+        queue.old.text queue.new.text (S.means.state tokenizer.new.sink)) }
     ensures faults { S.faults tokenizer.new.sink ≡ S.faults tokenizer.old.sink + faults_of result }
     ensures end_of_queue { IsEndOf queue.new.text queue.old.text }
     ensures rules { tokenizer.new.rules ≡ tokenizer.old.rules }
@@ -111,10 +110,10 @@ fn take_steps<S: TokenSink<Token<A>>, A: Allocator + Copy>(
 ) -> Result<(), TokenizerError>
     requires going_on { tokenizer.old.ended ≡ false }
     requires not_failed { tokenizer.old.failed ≡ false }
-    ensures finishes { OnOk result (FinishesRun S.means.state S.means.step S.means.reply S.means.foreign S.means.finish tokenizer.old
-        (map step_of steps.items) (S.means.state tokenizer.new.sink)) }
-    ensures stops { IfErr result (λ error. StopsRun S.means.state S.means.step S.means.reply S.means.foreign S.means.faulted S.means.end_faulted
-        error tokenizer.old (map step_of steps.items) (S.means.state tokenizer.new.sink)) }
+    ensures finishes { OnOk result
+        (FinishesRun S.means tokenizer.old (map step_of steps.items) (S.means.state tokenizer.new.sink)) }
+    ensures stops { IfErr result (λ error.
+        StopsRun S.means error tokenizer.old (map step_of steps.items) (S.means.state tokenizer.new.sink)) }
     ensures faults { S.faults tokenizer.new.sink ≡ S.faults tokenizer.old.sink + faults_of result }
 {
     let mut queue = BufferQueue::new(alloc);
@@ -126,8 +125,8 @@ fn take_steps<S: TokenSink<Token<A>>, A: Allocator + Copy>(
     tokenizer.end()
 }
 
-/// Runs a tokenizer from the start of a stream: each step hands in its text and feeds once; behind
-/// the last one it feeds until nothing waits, and ends. Hands the sink back: it has finished behind
+/// Runs a tokenizer from the start of a stream: each step hands in its text and feeds once; after
+/// the last one it feeds until nothing waits, and ends. Hands the sink back: it has finished after
 /// all that the text taken tells, or after a refusal it was told a beginning of that.
 pub fn run_steps<S: TokenSink<Token<A>>, A: Allocator + Copy>(
     alloc: A,
@@ -137,12 +136,12 @@ pub fn run_steps<S: TokenSink<Token<A>>, A: Allocator + Copy>(
     steps: Vec<Step<A>, A>,
 ) -> (S, Result<(), TokenizerError>)
     requires { CanStart opts.initial_state }
-    ensures finishes { OnOk result.1 (S.means.state result.0 ≡ S.means.finish (stepped S.means.step (S.means.state sink)
-        (messages (reading S.means.step S.means.reply S.means.foreign (rules_of (options_of opts) names.now) (start_of (options_of opts)) (S.means.state sink)
-        (run_text S.means.step S.means.reply S.means.foreign (rules_of (options_of opts) names.now) (start_of (options_of opts)) (S.means.state sink) [] [] (map step_of steps.items)))))) }
-    ensures stops { IfErr result.1 (λ error. EndStops S.means.step S.means.faulted S.means.end_faulted error (S.means.state sink)
-        (messages (reading S.means.step S.means.reply S.means.foreign (rules_of (options_of opts) names.now) (start_of (options_of opts)) (S.means.state sink)
-        (run_text S.means.step S.means.reply S.means.foreign (rules_of (options_of opts) names.now) (start_of (options_of opts)) (S.means.state sink) [] [] (map step_of steps.items))))
+    ensures finishes { OnOk result.1 (S.means.state result.0
+        ≡ finished_reading S.means (options_of opts) names.now (S.means.state sink)
+        (text_of_steps S.means (options_of opts) names.now (S.means.state sink) (map step_of steps.items))) }
+    ensures stops { IfErr result.1 (λ error. StoppedReading S.means (options_of opts) names.now
+        error (S.means.state sink)
+        (text_of_steps S.means (options_of opts) names.now (S.means.state sink) (map step_of steps.items))
         (S.means.state result.0)) }
     ensures faults { S.faults result.0 ≡ S.faults sink + faults_of result.1 }
 {

@@ -2,13 +2,10 @@
 ghost use Rattle.std.specs.Prelude.{◌≡◌, ◌+◌, ◌++◌, false, map, IfErr, OnOk, string_bytes};
 ghost use Rattle.std.specs.Str.{chars};
 ghost use Rattle.html5ever_interface.specs.Options.{options_of};
-ghost use Rattle.html5ever_interface.specs.Sink.{stepped};
-ghost use Rattle.html5grammar.specs.Reading.{reading, messages};
-ghost use Rattle.html5grammar.specs.Start.{start_of};
 ghost use Rattle.html5states.specs.Telling.{faults_of};
 ghost use Rattle.html5feed.specs.Starting.{CanStart};
 ghost use Rattle.html5ever.specs.Pieces.{text_of};
-ghost use Rattle.html5ever.specs.Tokenizer.{rules_of, ReadsWhole, StopsWhole, EndStops};
+ghost use Rattle.html5ever.specs.Tokenizer.{finished_reading, StoppedReading, ReadsWhole, StopsWhole};
 
 use crate::tokenizer::Tokenizer;
 use crate::tokenizer::steps::feed_until_done;
@@ -27,10 +24,10 @@ fn read_waiting<S: TokenSink<Token<A>>, A: Allocator + Copy>(
 ) -> Result<(), TokenizerError>
     requires going_on { tokenizer.old.ended ≡ false }
     requires not_failed { tokenizer.old.failed ≡ false }
-    ensures finishes { OnOk result (ReadsWhole S.means.state S.means.step S.means.reply S.means.foreign S.means.finish tokenizer.old
-        queue.old.text (S.means.state tokenizer.new.sink)) }
-    ensures stops { IfErr result (λ error. StopsWhole S.means.state S.means.step S.means.reply S.means.foreign S.means.faulted S.means.end_faulted
-        error tokenizer.old queue.old.text (S.means.state tokenizer.new.sink)) }
+    ensures finishes { OnOk result
+        (ReadsWhole S.means tokenizer.old queue.old.text (S.means.state tokenizer.new.sink)) }
+    ensures stops { IfErr result (λ error.
+        StopsWhole S.means error tokenizer.old queue.old.text (S.means.state tokenizer.new.sink)) }
     ensures faults { S.faults tokenizer.new.sink ≡ S.faults tokenizer.old.sink + faults_of result }
 {
     feed_until_done(tokenizer, queue)?;
@@ -46,12 +43,10 @@ fn read_from_start<S: TokenSink<Token<A>>, A: Allocator + Copy>(
     queue: &mut BufferQueue<A>,
 ) -> (S, Result<(), TokenizerError>)
     requires { CanStart opts.initial_state }
-    ensures finishes { OnOk result.1 (S.means.state result.0 ≡ S.means.finish (stepped S.means.step (S.means.state sink)
-        (messages (reading S.means.step S.means.reply S.means.foreign (rules_of (options_of opts) names.now) (start_of (options_of opts)) (S.means.state sink)
-        queue.old.text)))) }
-    ensures stops { IfErr result.1 (λ error. EndStops S.means.step S.means.faulted S.means.end_faulted error (S.means.state sink)
-        (messages (reading S.means.step S.means.reply S.means.foreign (rules_of (options_of opts) names.now) (start_of (options_of opts)) (S.means.state sink)
-        queue.old.text)) (S.means.state result.0)) }
+    ensures finishes { OnOk result.1 (S.means.state result.0
+        ≡ finished_reading S.means (options_of opts) names.now (S.means.state sink) queue.old.text) }
+    ensures stops { IfErr result.1 (λ error. StoppedReading S.means (options_of opts) names.now
+        error (S.means.state sink) queue.old.text (S.means.state result.0)) }
     ensures faults { S.faults result.0 ≡ S.faults sink + faults_of result.1 }
 {
     let mut tokenizer = Tokenizer::new(alloc, sink, opts, names);
@@ -59,7 +54,7 @@ fn read_from_start<S: TokenSink<Token<A>>, A: Allocator + Copy>(
     (tokenizer.into_sink(), result)
 }
 
-// Hands in the pieces, one behind the other.
+// Hands in the pieces, one after the other.
 fn hand_in_pieces<A: Allocator + Copy>(
     queue: &mut BufferQueue<A>,
     pieces: Vec<String<A>, A>,
@@ -75,7 +70,7 @@ fn hand_in_pieces<A: Allocator + Copy>(
     Ok(())
 }
 
-/// Reads a whole text from the start of a stream, and hands the sink back: it has finished behind
+/// Reads a whole text from the start of a stream, and hands the sink back: it has finished after
 /// all that the text tells, or after a refusal it was told a beginning of that.
 pub fn read_whole<S: TokenSink<Token<A>>, A: Allocator + Copy>(
     alloc: A,
@@ -85,12 +80,10 @@ pub fn read_whole<S: TokenSink<Token<A>>, A: Allocator + Copy>(
     text: String<A>,
 ) -> (S, Result<(), TokenizerError>)
     requires { CanStart opts.initial_state }
-    ensures finishes { OnOk result.1 (S.means.state result.0 ≡ S.means.finish (stepped S.means.step (S.means.state sink)
-        (messages (reading S.means.step S.means.reply S.means.foreign (rules_of (options_of opts) names.now) (start_of (options_of opts)) (S.means.state sink)
-        (chars (string_bytes text)))))) }
-    ensures stops { IfErr result.1 (λ error. EndStops S.means.step S.means.faulted S.means.end_faulted error (S.means.state sink)
-        (messages (reading S.means.step S.means.reply S.means.foreign (rules_of (options_of opts) names.now) (start_of (options_of opts)) (S.means.state sink)
-        (chars (string_bytes text)))) (S.means.state result.0)) }
+    ensures finishes { OnOk result.1 (S.means.state result.0
+        ≡ finished_reading S.means (options_of opts) names.now (S.means.state sink) (chars (string_bytes text))) }
+    ensures stops { IfErr result.1 (λ error. StoppedReading S.means (options_of opts) names.now
+        error (S.means.state sink) (chars (string_bytes text)) (S.means.state result.0)) }
     ensures faults { S.faults result.0 ≡ S.faults sink + faults_of result.1 }
 {
     let mut queue = BufferQueue::new(alloc);
@@ -100,7 +93,7 @@ pub fn read_whole<S: TokenSink<Token<A>>, A: Allocator + Copy>(
     read_from_start(alloc, sink, opts, names, &mut queue)
 }
 
-/// Reads the text that the pieces make, one behind the other, as `read_whole` does: where it is cut
+/// Reads the text that the pieces make, one after the other, as `read_whole` does: where it is cut
 /// changes nothing.
 pub fn read_pieces<S: TokenSink<Token<A>>, A: Allocator + Copy>(
     alloc: A,
@@ -110,12 +103,11 @@ pub fn read_pieces<S: TokenSink<Token<A>>, A: Allocator + Copy>(
     pieces: Vec<String<A>, A>,
 ) -> (S, Result<(), TokenizerError>)
     requires { CanStart opts.initial_state }
-    ensures finishes { OnOk result.1 (S.means.state result.0 ≡ S.means.finish (stepped S.means.step (S.means.state sink)
-        (messages (reading S.means.step S.means.reply S.means.foreign (rules_of (options_of opts) names.now) (start_of (options_of opts)) (S.means.state sink)
-        (text_of (map string_bytes pieces.items)))))) }
-    ensures stops { IfErr result.1 (λ error. EndStops S.means.step S.means.faulted S.means.end_faulted error (S.means.state sink)
-        (messages (reading S.means.step S.means.reply S.means.foreign (rules_of (options_of opts) names.now) (start_of (options_of opts)) (S.means.state sink)
-        (text_of (map string_bytes pieces.items)))) (S.means.state result.0)) }
+    ensures finishes { OnOk result.1 (S.means.state result.0
+        ≡ finished_reading S.means (options_of opts) names.now (S.means.state sink)
+        (text_of (map string_bytes pieces.items))) }
+    ensures stops { IfErr result.1 (λ error. StoppedReading S.means (options_of opts) names.now
+        error (S.means.state sink) (text_of (map string_bytes pieces.items)) (S.means.state result.0)) }
     ensures faults { S.faults result.0 ≡ S.faults sink + faults_of result.1 }
 {
     let mut queue = BufferQueue::new(alloc);

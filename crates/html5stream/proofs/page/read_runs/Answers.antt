@@ -7,8 +7,8 @@ pub returns-clause-finishes : goal.returns-clause-finishes
 returns-clause-finishes g c =
     rw c.into_inner.ensures
     (on_ok_weaker c.read_source-joined.result.1
-    (page-read _ _ _ _ _ _ _ _ _ _ _ _ _
-    (runs-are-page c.args.names.now _ _ g.H.RunHandler.step _ c.default-opts.ensures
+    (page-read _ _ _ _ _ _ _ _ _ _ _
+    (runs-are-page c.args.names.now _ _ _ g.H.RunHandler.step _ c.default-opts.ensures
     (rw (c.new-runs.ensures.handler, c.new-runs.ensures.run, c.new-runs.ensures.foreign) refl)))
     c.read_source-joined.ensures.finishes)
 
@@ -16,7 +16,7 @@ pub returns-clause-beginning : goal.returns-clause-beginning
 returns-clause-beginning g c =
     rw c.into_inner.ensures
     (IfErr-weaker c.read_source-joined.result.1 _ _
-    (page-stopped _ _ _ _ _ _ _ _ _ _ _ _ _
-    (runs-are-page c.args.names.now _ _ g.H.RunHandler.step _ c.default-opts.ensures
+    (page-stopped _ _ _ _ _ _ _ _ _ _ _
+    (runs-are-page c.args.names.now _ _ _ g.H.RunHandler.step _ c.default-opts.ensures
     (rw (c.new-runs.ensures.handler, c.new-runs.ensures.run, c.new-runs.ensures.foreign) refl)))
     c.read_source-joined.ensures.beginning)

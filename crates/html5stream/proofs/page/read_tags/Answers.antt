@@ -7,8 +7,8 @@ pub returns-clause-finishes : goal.returns-clause-finishes
 returns-clause-finishes g c =
     rw c.into_inner.ensures
     (on_ok_weaker c.read_source-told.result.1
-    (page-read _ _ _ _ _ _ _ _ _ _ _ _ _
-    (tags-are-page c.args.names.now _ _ g.H.TagHandler.step _ c.default-opts.ensures
+    (page-read _ _ _ _ _ _ _ _ _ _ _
+    (tags-are-page c.args.names.now _ _ _ g.H.TagHandler.step _ c.default-opts.ensures
     (rw (c.new-tags.ensures.handler, c.new-tags.ensures.foreign) refl)))
     c.read_source-told.ensures.finishes)
 
@@ -16,7 +16,7 @@ pub returns-clause-beginning : goal.returns-clause-beginning
 returns-clause-beginning g c =
     rw c.into_inner.ensures
     (IfErr-weaker c.read_source-told.result.1 _ _
-    (page-stopped _ _ _ _ _ _ _ _ _ _ _ _ _
-    (tags-are-page c.args.names.now _ _ g.H.TagHandler.step _ c.default-opts.ensures
+    (page-stopped _ _ _ _ _ _ _ _ _ _ _
+    (tags-are-page c.args.names.now _ _ _ g.H.TagHandler.step _ c.default-opts.ensures
     (rw (c.new-tags.ensures.handler, c.new-tags.ensures.foreign) refl)))
     c.read_source-told.ensures.beginning)

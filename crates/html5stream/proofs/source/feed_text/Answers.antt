@@ -8,11 +8,11 @@ pub returns-in_err-hand_in-clause-stops : goal.returns-in_err-hand_in-clause-sto
 returns-in_err-hand_in-clause-stops g c =
     let p = err_from_is_err_and c.from_residual.result c.from_residual.ensures.1 in
     rw (p.1, p.2, c.in_err-hand_in.ensures.err)
-    (StopsTelling-memory g.S.TokenSink.means.state g.S.TokenSink.means.step g.S.TokenSink.means.reply g.S.TokenSink.means.foreign g.S.TokenSink.means.faulted g.S.TokenSink.means.end_faulted
+    (StopsTelling-memory g.S.TokenSink.means
     c.args.tokenizer.now (chars (string_bytes c.args.text)))
 
 pub returns-in-Err-clause-stops : goal.returns-in-Err-clause-stops
 returns-in-Err-clause-stops g c =
     rw c.error_of.ensures.error
-    (StopsTelling-feed g.S.TokenSink.means.state g.S.TokenSink.means.step g.S.TokenSink.means.reply g.S.TokenSink.means.foreign g.S.TokenSink.means.faulted g.S.TokenSink.means.end_faulted
+    (StopsTelling-feed g.S.TokenSink.means
     c.in-Err.error c.args.tokenizer.now c.hand_in.new.queue.text (chars (string_bytes c.args.text)) _ c.in_ok-hand_in.ensures.ok c.in-Err.ensures.stops)

@@ -5,11 +5,11 @@ use Rattle.html5stream.proofs.source.read_all.Goals as goal
 pub returns-clause-finishes : goal.returns-clause-finishes
 returns-clause-finishes g c =
     on_ok_weaker c.tell_end.result
-    (λ finishes. FinishesText-end g.S.TokenSink.means.state g.S.TokenSink.means.step g.S.TokenSink.means.reply g.S.TokenSink.means.foreign g.S.TokenSink.means.finish
+    (λ finishes. FinishesText-end g.S.TokenSink.means
     _ _ _ _ _ c.in_ok-read_text.ensures.takes finishes)
     c.tell_end.ensures.finishes
 
 pub returns-clause-stops : goal.returns-clause-stops
 returns-clause-stops g c =
-    StopsText-result g.S.TokenSink.means.state g.S.TokenSink.means.step g.S.TokenSink.means.reply g.S.TokenSink.means.foreign g.S.TokenSink.means.faulted g.S.TokenSink.means.end_faulted
+    StopsText-result g.S.TokenSink.means
     c.tell_end.result _ _ _ _ _ c.in_ok-read_text.ensures.takes c.tell_end.ensures.stops c.tell_end.ensures.text_error c.tell_end.ensures.read

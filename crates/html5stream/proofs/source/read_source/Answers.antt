@@ -6,25 +6,25 @@ pub returns-clause-finishes : goal.returns-clause-finishes
 returns-clause-finishes g c =
     rw c.into_sink.ensures
     (on_ok_weaker c.read_all-result.result
-    (λ read. ReadsSource-start g.S.TokenSink.means.state g.S.TokenSink.means.step g.S.TokenSink.means.reply g.S.TokenSink.means.foreign g.S.TokenSink.means.finish
-    _ _ _ c.new-tokenizer.result _ _ _ c.new-tokenizer.ensures.stands c.new-tokenizer.ensures.rules read)
+    (λ read. ReadsSource-start g.S.TokenSink.means
+    _ _ _ _ c.new-tokenizer.result _ _ c.new-tokenizer.ensures.stands c.new-tokenizer.ensures.rules read)
     c.read_all-result.ensures.finishes)
 
 pub returns-clause-decided : goal.returns-clause-decided
 returns-clause-decided g c =
     rw c.into_sink.ensures
-    (TellsGiven-start g.S.TokenSink.means.state g.S.TokenSink.means.step g.S.TokenSink.means.reply g.S.TokenSink.means.foreign g.S.TokenSink.means.faulted g.S.TokenSink.means.end_faulted
-    c.read_all-result.result _ _ _ c.new-tokenizer.result _ _ _ c.new-tokenizer.ensures.stands c.new-tokenizer.ensures.rules c.read_all-result.ensures.stops)
+    (TellsGiven-start g.S.TokenSink.means
+    c.read_all-result.result _ _ _ _ c.new-tokenizer.result _ _ c.new-tokenizer.ensures.stands c.new-tokenizer.ensures.rules c.read_all-result.ensures.stops)
 
 pub returns-clause-not_utf8 : goal.returns-clause-not_utf8
 returns-clause-not_utf8 g c = λ place is.
-    GivesNoText-stop g.S.TokenSink.means.state g.S.TokenSink.means.step g.S.TokenSink.means.reply g.S.TokenSink.means.foreign g.S.TokenSink.means.faulted g.S.TokenSink.means.end_faulted
+    GivesNoText-stop g.S.TokenSink.means
     c.read_all-result.result _ _ c.new-tokenizer.result _ place c.read_all-result.ensures.stops is
 
 pub returns-clause-beginning : goal.returns-clause-beginning
 returns-clause-beginning g c =
     rw c.into_sink.ensures
     (IfErr-weaker c.read_all-result.result _ _
-    (StopsSource-start g.S.TokenSink.means.state g.S.TokenSink.means.step g.S.TokenSink.means.reply g.S.TokenSink.means.foreign g.S.TokenSink.means.faulted g.S.TokenSink.means.end_faulted
-    _ _ _ c.new-tokenizer.result _ _ _ c.new-tokenizer.ensures.stands c.new-tokenizer.ensures.rules)
+    (StopsSource-start g.S.TokenSink.means
+    _ _ _ _ c.new-tokenizer.result _ _ c.new-tokenizer.ensures.stands c.new-tokenizer.ensures.rules)
     c.read_all-result.ensures.stops)

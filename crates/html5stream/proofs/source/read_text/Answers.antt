@@ -5,7 +5,7 @@ use Rattle.html5stream.proofs.source.read_text.Goals as goal
 
 pub loop-init : goal.loop-init
 loop-init g c = record {
-  read = HasRead-start g.S.TokenSink.means.state g.S.TokenSink.means.step g.S.TokenSink.means.reply g.S.TokenSink.means.foreign
+  read = HasRead-start g.S.TokenSink.means
       (g.R.Source.remaining c.args.source.now) c.args.tokenizer.now c.new-decoder.result c.new-decoder.ensures.held c.new-decoder.ensures.taken
       c.requires.going_on c.requires.not_failed;
   waiting = c.new-queue.ensures.text;
@@ -18,7 +18,7 @@ pub returns-in_err-n-clause-stops : goal.returns-in_err-n-clause-stops
 returns-in_err-n-clause-stops g c =
     let p = err_from_is_err_and c.from_residual.result c.from_residual.ensures.1 in
     rw (p.1, p.2, c.in_err-n.ensures.err)
-    (StopsText-read g.S.TokenSink.means.state g.S.TokenSink.means.step g.S.TokenSink.means.reply g.S.TokenSink.means.foreign g.S.TokenSink.means.faulted g.S.TokenSink.means.end_faulted
+    (StopsText-read g.S.TokenSink.means
     _ _ _ _ _ _ c.loop.invariant.read c.in_err-n.ensures.nothing)
 
 pub returns-in_err-finish-clause-stops : goal.returns-in_err-finish-clause-stops
@@ -26,14 +26,14 @@ returns-in_err-finish-clause-stops g c =
     let p = err_from_is_err_and c.from_residual-in_err-finish.result c.from_residual-in_err-finish.ensures.1 in
     let said = c.in_err-finish.ensures in
     rw p.1
-    (StopsText-cut g.S.TokenSink.means.state g.S.TokenSink.means.step g.S.TokenSink.means.reply g.S.TokenSink.means.foreign g.S.TokenSink.means.faulted g.S.TokenSink.means.end_faulted
+    (StopsText-cut g.S.TokenSink.means
     _ p.0 _ _ _ _ _ _ _ _ c.loop.invariant.read c.in_ok-n.ensures.given c.if-n-eq0.true
     (c.in_ok-n.ensures.end c.if-n-eq0.true) (λ none. cc (said.complete.1 none)) p.2.0 said.place)
 
 pub returns-then-n-eq0-clause-takes : goal.returns-then-n-eq0-clause-takes
 returns-then-n-eq0-clause-takes g c =
-    HasRead-whole g.S.TokenSink.means.state g.S.TokenSink.means.step g.S.TokenSink.means.reply g.S.TokenSink.means.foreign _ _ _ _ _
-    (HasRead-nothing g.S.TokenSink.means.state g.S.TokenSink.means.step g.S.TokenSink.means.reply g.S.TokenSink.means.foreign _ _ _ _ _ _ _ _
+    HasRead-whole g.S.TokenSink.means _ _ _ _ _
+    (HasRead-nothing g.S.TokenSink.means _ _ _ _ _ _ _ _
     c.loop.invariant.read c.in_ok-n.ensures.given c.if-n-eq0.true)
     (c.in_ok-finish.ensures.complete.0 refl) (c.in_ok-n.ensures.end c.if-n-eq0.true)
 
@@ -41,12 +41,12 @@ pub returns-in_err-take_bytes-clause-stops : goal.returns-in_err-take_bytes-clau
 returns-in_err-take_bytes-clause-stops g c =
     let p = err_from_is_err_and c.from_residual-in_err-take_bytes.result c.from_residual-in_err-take_bytes.ensures.1 in
     rw (p.1, p.2)
-    (StopsText-piece g.S.TokenSink.means.state g.S.TokenSink.means.step g.S.TokenSink.means.reply g.S.TokenSink.means.foreign g.S.TokenSink.means.faulted g.S.TokenSink.means.end_faulted
+    (StopsText-piece g.S.TokenSink.means
     _ _ _ _ _ _ _ _ _ c.loop.invariant.read c.in_ok-n.ensures.given c.in_err-take_bytes.ensures.read c.in_err-take_bytes.ensures.stops)
 
 pub loop-preserved : goal.loop-preserved
 loop-preserved g c = record {
-  read = HasRead-more g.S.TokenSink.means.state g.S.TokenSink.means.step g.S.TokenSink.means.reply g.S.TokenSink.means.foreign _ _ _ _ _ _ _ _ _
+  read = HasRead-more g.S.TokenSink.means _ _ _ _ _ _ _ _ _
       c.loop.invariant.read c.in_ok-n.ensures.given c.in_ok-take_bytes.ensures.takes;
   waiting = c.in_ok-take_bytes.ensures.taken;
   no_failure = omega (arith, c.in_ok-n.ensures.read, c.loop.invariant.no_failure);
@@ -56,5 +56,5 @@ loop-preserved g c = record {
 
 pub returns-clause-stops : goal.returns-clause-stops
 returns-clause-stops g c =
-    StopsText-long g.S.TokenSink.means.state g.S.TokenSink.means.step g.S.TokenSink.means.reply g.S.TokenSink.means.foreign g.S.TokenSink.means.faulted g.S.TokenSink.means.end_faulted
+    StopsText-long g.S.TokenSink.means
     _ _ _ _ _ c.loop.invariant.read

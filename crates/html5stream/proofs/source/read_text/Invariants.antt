@@ -5,7 +5,7 @@ use Rattle.html5stream.proofs.source.read_text.Given as goal
 
 abbrev pub invariant-loop : goal.invariant-loop
 invariant-loop g l = record {
-  read : HasRead g.S.TokenSink.means.state g.S.TokenSink.means.step g.S.TokenSink.means.reply g.S.TokenSink.means.foreign
+  read : HasRead g.S.TokenSink.means
       (g.R.Source.remaining l.fn.source) (g.R.Source.remaining l.source) l.fn.tokenizer l.tokenizer l.decoder;
   waiting : l.queue.text ≡ [];
   no_failure : g.R.Source.failures l.source ≡ g.R.Source.failures l.fn.source;

@@ -9,7 +9,7 @@ returns-in_err-text-clause-stops g c =
     let p = err_from_is_err_and c.from_residual.result c.from_residual.ensures.1 in
     let said = c.in_err-text.ensures in
     rw p.1
-    (StopsBytes-decoder g.S.TokenSink.means.state g.S.TokenSink.means.step g.S.TokenSink.means.reply g.S.TokenSink.means.foreign g.S.TokenSink.means.faulted g.S.TokenSink.means.end_faulted
+    (StopsBytes-decoder g.S.TokenSink.means
     _ p.0 c.args.decoder.now c.args.tokenizer.now c.args.bytes.now p.2.0 p.2.2 said.fault said.refused.0 said.refused.1)
 
 pub returns-in_err-feed_text-clause-stops : goal.returns-in_err-feed_text-clause-stops
@@ -17,7 +17,7 @@ returns-in_err-feed_text-clause-stops g c =
     let p = err_from_is_err_and c.from_residual-in_err-feed_text.result c.from_residual-in_err-feed_text.ensures.1 in
     let said = c.in_err-feed_text.ensures in
     rw (p.1, p.2)
-    (StopsBytes-fed g.S.TokenSink.means.state g.S.TokenSink.means.step g.S.TokenSink.means.reply g.S.TokenSink.means.foreign g.S.TokenSink.means.faulted g.S.TokenSink.means.end_faulted
+    (StopsBytes-fed g.S.TokenSink.means
     _ c.args.decoder.now c.args.tokenizer.now c.args.bytes.now (string_bytes c.in_ok-text.text) _ _ c.in_ok-text.ensures.text
     (IsUtf8-string_bytes c.in_ok-text.text) said.stops c.in_ok-text.ensures.cut said.text_error)
 

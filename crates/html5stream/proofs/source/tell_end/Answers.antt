@@ -4,5 +4,5 @@ use Rattle.html5stream.proofs.source.tell_end.Goals as goal
 pub returns-in-Err-clause-stops : goal.returns-in-Err-clause-stops
 returns-in-Err-clause-stops g c =
     rw c.error_of.ensures.error
-    (StopsAtEnd-end g.S.TokenSink.means.state g.S.TokenSink.means.step g.S.TokenSink.means.reply g.S.TokenSink.means.foreign g.S.TokenSink.means.faulted g.S.TokenSink.means.end_faulted
+    (StopsAtEnd-end g.S.TokenSink.means
     c.in-Err.error c.args.tokenizer.now _ c.in-Err.ensures.stops)

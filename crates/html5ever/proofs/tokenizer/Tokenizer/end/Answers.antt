@@ -6,12 +6,12 @@ pub returns-clause-finishes : goal.returns-clause-finishes
 returns-clause-finishes g c =
     rw (← c.self.view_is)
     (on_ok_weaker c.tell_end-result.result
-    (λ tells K s X stands. StandsAt-finished g.Sink.TokenSink.means.state g.Sink.TokenSink.means.step g.Sink.TokenSink.means.reply g.Sink.TokenSink.means.foreign g.Sink.TokenSink.means.faulted _ K s X g.Sink.TokenSink.means.finish _ c.tell_end-result.ensures.fits tells stands)
+    (λ tells K s X stands. StandsAt-finished g.Sink.TokenSink.means _ K s X _ c.tell_end-result.ensures.fits tells stands)
     c.tell_end-result.ensures.ok)
 
 pub returns-clause-stops : goal.returns-clause-stops
 returns-clause-stops g c =
     rw (← c.self.view_is)
     (IfErr-weaker c.tell_end-result.result _ _
-    (λ e stops K s X stands. EndStops-at_end g.Sink.TokenSink.means.state g.Sink.TokenSink.means.step g.Sink.TokenSink.means.reply g.Sink.TokenSink.means.foreign g.Sink.TokenSink.means.faulted g.Sink.TokenSink.means.end_faulted e _ K s _ X c.tell_end-result.ensures.fits stands stops)
+    (λ e stops K s X stands. EndStops-at_end g.Sink.TokenSink.means e _ K s _ X c.tell_end-result.ensures.fits stands stops)
     c.tell_end-result.ensures.err)

@@ -4,4 +4,4 @@ use Rattle.html5ever.proofs.tokenizer.Tokenizer.new.Goals as goal
 
 pub returns-clause-stands : goal.returns-clause-stands
 returns-clause-stands g c =
-    StandsAt-start g.Sink.TokenSink.means.state g.Sink.TokenSink.means.step g.Sink.TokenSink.means.reply g.Sink.TokenSink.means.foreign _ _ c.new.ensures.start refl refl
+    StandsAt-start g.Sink.TokenSink.means _ _ c.new.ensures.start refl refl

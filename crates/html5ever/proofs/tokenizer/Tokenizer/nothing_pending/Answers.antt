@@ -5,6 +5,6 @@ use Rattle.html5ever.proofs.tokenizer.Tokenizer.nothing_pending.Goals as goal
 
 pub returns-clause-anew : goal.returns-clause-anew
 returns-clause-anew g c = λ pending x.
-    StandsAt-anew g.Sink.TokenSink.means.state g.Sink.TokenSink.means.step g.Sink.TokenSink.means.reply g.Sink.TokenSink.means.foreign c.args.self.now x
+    StandsAt-anew g.Sink.TokenSink.means c.args.self.now x
     (sym (ap (λ (t : Tokenizing _). t.failed) c.self.view_is) ∙ c.if-self.false)
     (sym (ap (λ (t : Tokenizing _). t.ended) c.self.view_is) ∙ c.if-self-2.false)

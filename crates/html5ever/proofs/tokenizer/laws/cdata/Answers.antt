@@ -6,7 +6,8 @@ use Rattle.html5ever_interface.specs.Options.{options_of}
 use Rattle.html5grammar.proofs.OneCdataCollected.{collects-cdata}
 use Rattle.html5grammar.specs.OneCdata.{IsCdata, kept_messages}
 use Rattle.html5grammar.specs.Start.{start_of}
-use Rattle.html5ever.specs.Tokenizer.{rules_of, collected_of}
+use Rattle.html5ever.specs.Collecting.{collected_of}
+use Rattle.html5ever.specs.Tokenizer.{rules_of}
 use Rattle.html5ever.proofs.Wholes.{holds-one}
 use Rattle.html5ever.proofs.tokenizer.laws.cdata.Goals as goal
 
@@ -15,5 +16,5 @@ returns-clause-cdata g c =
     holds-one c.collect.result (λ cdata. IsCdata (start_of (options_of c.args.opts)) c.args.foreign (chars (string_bytes c.args.text)) cdata)
     (λ (sink : Collecting). sink.collected) (collected_of (options_of c.args.opts) c.args.names.now c.args.foreign (chars (string_bytes c.args.text)))
     (λ cdata. record { messages = kept_messages c.args.opts.exact_errors (start_of (options_of c.args.opts)).input cdata; finished = true; foreign = c.args.foreign })
-    c.collect.ensures.reads
+    c.collect.ensures.reads.holds
     (λ cdata one. collects-cdata (Unit {0}) (rules_of (options_of c.args.opts) c.args.names.now) (start_of (options_of c.args.opts)) c.args.foreign (chars (string_bytes c.args.text)) cdata one)

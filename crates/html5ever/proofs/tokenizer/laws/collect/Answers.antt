@@ -1,16 +1,16 @@
-use Rattle.html5ever.specs.Tokenizer.{rules_of}
 use Rattle.std.specs.Str.{chars}
 use Rattle.std.specs.String.{string_bytes}
-use Rattle.html5ever_interface.specs.Collected.{collected_step, collected_reply, collected_foreign, collected_faulted}
 use Rattle.html5ever_interface.specs.Options.{options_of}
-use Rattle.html5grammar.specs.Reading.{reading, messages}
+use Rattle.html5grammar.specs.Reading.{all_messages}
 use Rattle.html5grammar.specs.Start.{start_of}
+use Rattle.html5ever.specs.Collecting.{collector_means}
+use Rattle.html5ever.specs.Tokenizer.{rules_of}
 use Rattle.html5ever.proofs.Wholes.{whole-refusal}
 use Rattle.html5ever.proofs.tokenizer.laws.collect.Goals as goal
 
 pub returns-in-Err-clause-refusal : goal.returns-in-Err-clause-refusal
 returns-in-Err-clause-refusal g c =
     let stops = rw c.in-Err.is at c.read_whole-sink.ensures.stops in
-    whole-refusal collected_step collected_faulted (λ s. s) c.in-Err.error c.new-sink.result.collected
-    (messages (reading collected_step (collected_reply {H = Unit {0}}) collected_foreign (rules_of (options_of c.args.opts) c.args.names.now) (start_of (options_of c.args.opts)) c.new-sink.result.collected (chars (string_bytes c.args.text))))
+    whole-refusal collector_means c.in-Err.error c.new-sink.result.collected
+    (all_messages collector_means (rules_of (options_of c.args.opts) c.args.names.now) (start_of (options_of c.args.opts)) c.new-sink.result.collected (chars (string_bytes c.args.text)))
     c.read_whole-sink.result.0.collected stops

@@ -6,7 +6,8 @@ use Rattle.html5ever_interface.specs.Options.{options_of}
 use Rattle.html5grammar.proofs.OneDoctypeCollected.{collects-doctype}
 use Rattle.html5grammar.specs.OneDoctype.{IsDoctype, doctype_messages}
 use Rattle.html5grammar.specs.Start.{start_of}
-use Rattle.html5ever.specs.Tokenizer.{rules_of, collected_of}
+use Rattle.html5ever.specs.Collecting.{collected_of}
+use Rattle.html5ever.specs.Tokenizer.{rules_of}
 use Rattle.html5ever.proofs.Wholes.{holds-one}
 use Rattle.html5ever.proofs.tokenizer.laws.doctype.Goals as goal
 
@@ -15,5 +16,5 @@ returns-clause-doctype g c =
     holds-one c.collect.result (λ doctype. IsDoctype (start_of (options_of c.args.opts)) (chars (string_bytes c.args.text)) doctype)
     (λ (sink : Collecting). sink.collected) (collected_of (options_of c.args.opts) c.args.names.now c.args.foreign (chars (string_bytes c.args.text)))
     (λ doctype. record { messages = doctype_messages c.args.opts.exact_errors (start_of (options_of c.args.opts)).input doctype; finished = true; foreign = c.args.foreign })
-    c.collect.ensures.reads
+    c.collect.ensures.reads.holds
     (λ doctype one. collects-doctype (Unit {0}) (rules_of (options_of c.args.opts) c.args.names.now) (start_of (options_of c.args.opts)) c.args.foreign (chars (string_bytes c.args.text)) doctype one)

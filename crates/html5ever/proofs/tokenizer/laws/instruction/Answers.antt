@@ -6,7 +6,8 @@ use Rattle.html5ever_interface.specs.Options.{options_of}
 use Rattle.html5grammar.proofs.OneInstructionCollected.{collects-instruction}
 use Rattle.html5grammar.specs.OneInstruction.{IsInstruction, instruction_messages}
 use Rattle.html5grammar.specs.Start.{start_of}
-use Rattle.html5ever.specs.Tokenizer.{rules_of, collected_of}
+use Rattle.html5ever.specs.Collecting.{collected_of}
+use Rattle.html5ever.specs.Tokenizer.{rules_of}
 use Rattle.html5ever.proofs.Wholes.{holds-one}
 use Rattle.html5ever.proofs.tokenizer.laws.instruction.Goals as goal
 
@@ -15,5 +16,5 @@ returns-clause-instruction g c =
     holds-one c.collect.result (λ instruction. IsInstruction (start_of (options_of c.args.opts)) (chars (string_bytes c.args.text)) instruction)
     (λ (sink : Collecting). sink.collected) (collected_of (options_of c.args.opts) c.args.names.now c.args.foreign (chars (string_bytes c.args.text)))
     (λ instruction. record { messages = instruction_messages c.args.opts.exact_errors (start_of (options_of c.args.opts)).input instruction; finished = true; foreign = c.args.foreign })
-    c.collect.ensures.reads
+    c.collect.ensures.reads.holds
     (λ instruction one. collects-instruction (Unit {0}) (rules_of (options_of c.args.opts) c.args.names.now) (start_of (options_of c.args.opts)) c.args.foreign (chars (string_bytes c.args.text)) instruction one)

@@ -18,4 +18,4 @@ returns-clause-raw g c =
     ∙ ap (λ (M : List Message). collected_finish (stepped collected_step (none_collected c.args.foreign) M))
     (reading-raw collected_step (collected_reply {H = Unit {0}}) collected_foreign (rules_of (options_of c.args.opts) c.args.names.now) (start_of (options_of c.args.opts)) (none_collected c.args.foreign) (chars (string_bytes c.args.text)) raw name written
     (λ tag t line e. refl) one))
-    c.collect.ensures.reads
+    c.collect.ensures.reads.holds

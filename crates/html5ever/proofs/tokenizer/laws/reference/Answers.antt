@@ -1,4 +1,5 @@
-use Rattle.html5ever.specs.Tokenizer.{rules_of, collected_of}
+use Rattle.html5ever.specs.Collecting.{collected_of}
+use Rattle.html5ever.specs.Tokenizer.{rules_of}
 use Rattle.std.proofs.Common.{true}
 use Rattle.std.specs.Str.{chars}
 use Rattle.std.specs.String.{string_bytes}
@@ -15,5 +16,5 @@ returns-clause-reference g c =
     holds-one c.collect.result (λ reference. IsReference c.args.names.now (start_of (options_of c.args.opts)) (chars (string_bytes c.args.text)) reference)
     (λ (sink : Collecting). sink.collected) (collected_of (options_of c.args.opts) c.args.names.now c.args.foreign (chars (string_bytes c.args.text)))
     (λ reference. record { messages = reference_messages c.args.opts.exact_errors (start_of (options_of c.args.opts)).input reference; finished = true; foreign = c.args.foreign })
-    c.collect.ensures.reads
+    c.collect.ensures.reads.holds
     (λ reference one. collects-reference (Unit {0}) (rules_of (options_of c.args.opts) c.args.names.now) (start_of (options_of c.args.opts)) c.args.foreign (chars (string_bytes c.args.text)) reference c.table_laws.ensures one)

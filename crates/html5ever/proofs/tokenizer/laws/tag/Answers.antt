@@ -1,4 +1,5 @@
-use Rattle.html5ever.specs.Tokenizer.{rules_of, collected_of}
+use Rattle.html5ever.specs.Collecting.{collected_of}
+use Rattle.html5ever.specs.Tokenizer.{rules_of}
 use Rattle.std.proofs.Common.{true}
 use Rattle.std.specs.Str.{chars}
 use Rattle.std.specs.String.{string_bytes}
@@ -15,5 +16,5 @@ returns-clause-tag g c =
     holds-one c.collect.result (λ tag. IsTag (start_of (options_of c.args.opts)) (chars (string_bytes c.args.text)) tag)
     (λ (sink : Collecting). sink.collected) (collected_of (options_of c.args.opts) c.args.names.now c.args.foreign (chars (string_bytes c.args.text)))
     (λ tag. record { messages = tag_messages c.args.opts.exact_errors (start_of (options_of c.args.opts)).input tag; finished = true; foreign = c.args.foreign })
-    c.collect.ensures.reads
+    c.collect.ensures.reads.holds
     (λ tag one. collects-tag (Unit {0}) (rules_of (options_of c.args.opts) c.args.names.now) (start_of (options_of c.args.opts)) c.args.foreign (chars (string_bytes c.args.text)) tag one)

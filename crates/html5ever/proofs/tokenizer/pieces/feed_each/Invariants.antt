@@ -6,7 +6,7 @@ use Rattle.html5ever.proofs.tokenizer.pieces.feed_each.Given as goal
 
 abbrev pub invariant-loop-piece : goal.invariant-loop-piece
 invariant-loop-piece g l =
-    HasFed g.S.TokenSink.means.state g.S.TokenSink.means.step g.S.TokenSink.means.reply g.S.TokenSink.means.foreign l.initial.tokenizer l.tokenizer l.initial.queue l.queue
+    HasFed g.S.TokenSink.means l.initial.tokenizer l.tokenizer l.initial.queue l.queue
     (map string_bytes (into_iter_items l.initial.piece-iterator)) (map string_bytes (into_iter_items l.piece-iterator))
     × (l.tokenizer.ended ≡ false)
     × (l.tokenizer.failed ≡ false)

@@ -4,30 +4,30 @@ use Rattle.html5ever.proofs.Draining.{HasDrained-none, HasDrained-more, HasDrain
 use Rattle.html5ever.proofs.tokenizer.steps.feed_until_done.Goals as goal
 
 pub loop-init : goal.loop-init
-loop-init g c = (HasDrained-none g.S.TokenSink.means.state g.S.TokenSink.means.step g.S.TokenSink.means.reply g.S.TokenSink.means.foreign c.args.tokenizer.now c.args.queue.now c.requires, refl)
+loop-init g c = (HasDrained-none g.S.TokenSink.means c.args.tokenizer.now c.args.queue.now c.requires, refl)
 
 pub returns-in_err-feed-clause-stops : goal.returns-in_err-feed-clause-stops
 returns-in_err-feed-clause-stops g c =
     let p = err_from_is_err_and c.from_residual.result c.from_residual.ensures.1 in
-    rw (p.1, p.2) (HasDrained-stops g.S.TokenSink.means.state g.S.TokenSink.means.step g.S.TokenSink.means.reply g.S.TokenSink.means.foreign g.S.TokenSink.means.faulted _ _ _ _ _ _ c.loop.invariant.0 c.in_err-feed.ensures.stops)
+    rw (p.1, p.2) (HasDrained-stops g.S.TokenSink.means _ _ _ _ _ _ _ c.loop.invariant.0 c.in_err-feed.ensures.stops)
 
 pub returns-in_err-feed-clause-end_of_queue : goal.returns-in_err-feed-clause-end_of_queue
-returns-in_err-feed-clause-end_of_queue g c = HasDrained-end g.S.TokenSink.means.state g.S.TokenSink.means.step g.S.TokenSink.means.reply g.S.TokenSink.means.foreign _ _ _ _ _ c.loop.invariant.0 c.feed.ensures.end_of_queue
+returns-in_err-feed-clause-end_of_queue g c = HasDrained-end g.S.TokenSink.means _ _ _ _ _ c.loop.invariant.0 c.feed.ensures.end_of_queue
 
 pub returns-in-Done-clause-reads : goal.returns-in-Done-clause-reads
 returns-in-Done-clause-reads g c =
-    HasDrained-all g.S.TokenSink.means.state g.S.TokenSink.means.step g.S.TokenSink.means.reply g.S.TokenSink.means.foreign _ _ _ _
-    (HasDrained-more g.S.TokenSink.means.state g.S.TokenSink.means.step g.S.TokenSink.means.reply g.S.TokenSink.means.foreign _ _ _ _ _ _ c.loop.invariant.0 c.in_ok-feed.ensures.reads c.in_ok-feed.ensures.left c.in_ok-feed.ensures.end_of_queue
+    HasDrained-all g.S.TokenSink.means _ _ _ _
+    (HasDrained-more g.S.TokenSink.means _ _ _ _ _ _ _ c.loop.invariant.0 c.in_ok-feed.ensures.reads c.in_ok-feed.ensures.end_of_queue
     c.in_ok-feed.ensures.rules c.in_ok-feed.ensures.going_on
     (c.in_ok-feed.ensures.failed ∙ sym (ok-not_failed c.feed.result _ _ c.in_ok-feed.was c.feed.ensures.failed_before)) c.in_ok-feed.ensures.linear c.in_ok-feed.ensures.handed_in)
     (c.in_ok-feed.ensures.done (ap Ok c.in-Done.is))
 
 pub returns-in-Done-clause-end_of_queue : goal.returns-in-Done-clause-end_of_queue
-returns-in-Done-clause-end_of_queue g c = HasDrained-end g.S.TokenSink.means.state g.S.TokenSink.means.step g.S.TokenSink.means.reply g.S.TokenSink.means.foreign _ _ _ _ _ c.loop.invariant.0 c.feed.ensures.end_of_queue
+returns-in-Done-clause-end_of_queue g c = HasDrained-end g.S.TokenSink.means _ _ _ _ _ c.loop.invariant.0 c.feed.ensures.end_of_queue
 
 pub loop-preserved-in-Script : goal.loop-preserved-in-Script
 loop-preserved-in-Script g c = (
-  HasDrained-more g.S.TokenSink.means.state g.S.TokenSink.means.step g.S.TokenSink.means.reply g.S.TokenSink.means.foreign _ _ _ _ _ _ c.loop.invariant.0 c.in_ok-feed.ensures.reads c.in_ok-feed.ensures.left c.in_ok-feed.ensures.end_of_queue
+  HasDrained-more g.S.TokenSink.means _ _ _ _ _ _ _ c.loop.invariant.0 c.in_ok-feed.ensures.reads c.in_ok-feed.ensures.end_of_queue
       c.in_ok-feed.ensures.rules c.in_ok-feed.ensures.going_on
       (c.in_ok-feed.ensures.failed ∙ sym (ok-not_failed c.feed.result _ _ c.in_ok-feed.was c.feed.ensures.failed_before)) c.in_ok-feed.ensures.linear c.in_ok-feed.ensures.handed_in,
   omega (arith, c.in_ok-feed.ensures.faults, c.loop.invariant.1),
@@ -35,7 +35,7 @@ loop-preserved-in-Script g c = (
 
 pub loop-preserved-in-Script-2 : goal.loop-preserved-in-Script-2
 loop-preserved-in-Script-2 g c = (
-  HasDrained-more g.S.TokenSink.means.state g.S.TokenSink.means.step g.S.TokenSink.means.reply g.S.TokenSink.means.foreign _ _ _ _ _ _ c.loop.invariant.0 c.in_ok-feed.ensures.reads c.in_ok-feed.ensures.left c.in_ok-feed.ensures.end_of_queue
+  HasDrained-more g.S.TokenSink.means _ _ _ _ _ _ _ c.loop.invariant.0 c.in_ok-feed.ensures.reads c.in_ok-feed.ensures.end_of_queue
       c.in_ok-feed.ensures.rules c.in_ok-feed.ensures.going_on
       (c.in_ok-feed.ensures.failed ∙ sym (ok-not_failed c.feed.result _ _ c.in_ok-feed.was c.feed.ensures.failed_before)) c.in_ok-feed.ensures.linear c.in_ok-feed.ensures.handed_in,
   omega (arith, c.in_ok-feed.ensures.faults, c.loop.invariant.1),

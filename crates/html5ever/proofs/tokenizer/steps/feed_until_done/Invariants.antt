@@ -4,7 +4,7 @@ use Rattle.html5ever.proofs.tokenizer.steps.feed_until_done.Given as goal
 
 abbrev pub invariant-loop : goal.invariant-loop
 invariant-loop g l =
-    HasDrained g.S.TokenSink.means.state g.S.TokenSink.means.step g.S.TokenSink.means.reply g.S.TokenSink.means.foreign l.initial.tokenizer l.tokenizer l.initial.queue l.queue
+    HasDrained g.S.TokenSink.means l.initial.tokenizer l.tokenizer l.initial.queue l.queue
     × (g.S.TokenSink.faults l.tokenizer.sink ≡ g.S.TokenSink.faults l.initial.tokenizer.sink)
 
 abbrev pub decreases-loop : goal.decreases-loop

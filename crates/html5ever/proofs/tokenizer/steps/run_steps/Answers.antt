@@ -1,18 +1,17 @@
 use Rattle.std.proofs.Common.{◌≡◌, [], subst, map}
 use Rattle.std.proofs.lemmas.Result.{on_ok_weaker, IfErr-weaker}
 use Rattle.html5ever_interface.specs.Options.{options_of}
-use Rattle.html5ever_interface.specs.Sink.{stepped}
-use Rattle.html5grammar.specs.Reading.{reading, messages}
+use Rattle.html5grammar.specs.Reading.{all_messages}
 use Rattle.html5grammar.specs.Start.{start_of}
 use Rattle.html5ever.specs.RunSteps.{step_of, run_text}
-use Rattle.html5ever.specs.Tokenizer.{EndStops}
+use Rattle.html5ever.specs.Tokenizer.{EndStops, state_at_end}
 use Rattle.html5ever.proofs.tokenizer.steps.run_steps.Goals as goal
 
 pub returns-clause-finishes : goal.returns-clause-finishes
 returns-clause-finishes g c =
     rw c.into_sink.ensures
     (on_ok_weaker c.take_steps-result.result
-    (λ finishes. subst (λ b. g.S.TokenSink.means.state c.take_steps-result.new.tokenizer.sink ≡ g.S.TokenSink.means.finish (stepped g.S.TokenSink.means.step (g.S.TokenSink.means.state c.args.sink) (messages (reading g.S.TokenSink.means.step g.S.TokenSink.means.reply g.S.TokenSink.means.foreign b (start_of (options_of c.args.opts)) (g.S.TokenSink.means.state c.args.sink) (run_text g.S.TokenSink.means.step g.S.TokenSink.means.reply g.S.TokenSink.means.foreign b (start_of (options_of c.args.opts)) (g.S.TokenSink.means.state c.args.sink) [] [] (map step_of c.args.steps.items))))))
+    (λ finishes. subst (λ b. g.S.TokenSink.means.state c.take_steps-result.new.tokenizer.sink ≡ state_at_end g.S.TokenSink.means b (start_of (options_of c.args.opts)) (g.S.TokenSink.means.state c.args.sink) (run_text g.S.TokenSink.means b (start_of (options_of c.args.opts)) (g.S.TokenSink.means.state c.args.sink) [] [] (map step_of c.args.steps.items)))
     c.new-tokenizer.ensures.rules (finishes (start_of (options_of c.args.opts)) (g.S.TokenSink.means.state c.args.sink) c.new-tokenizer.ensures.stands))
     c.take_steps-result.ensures.finishes)
 
@@ -20,6 +19,6 @@ pub returns-clause-stops : goal.returns-clause-stops
 returns-clause-stops g c =
     rw c.into_sink.ensures
     (IfErr-weaker c.take_steps-result.result _ _
-    (λ e stops. subst (λ b. EndStops g.S.TokenSink.means.step g.S.TokenSink.means.faulted g.S.TokenSink.means.end_faulted e (g.S.TokenSink.means.state c.args.sink) (messages (reading g.S.TokenSink.means.step g.S.TokenSink.means.reply g.S.TokenSink.means.foreign b (start_of (options_of c.args.opts)) (g.S.TokenSink.means.state c.args.sink) (run_text g.S.TokenSink.means.step g.S.TokenSink.means.reply g.S.TokenSink.means.foreign b (start_of (options_of c.args.opts)) (g.S.TokenSink.means.state c.args.sink) [] [] (map step_of c.args.steps.items)))) (g.S.TokenSink.means.state c.take_steps-result.new.tokenizer.sink))
+    (λ e stops. subst (λ b. EndStops g.S.TokenSink.means e (g.S.TokenSink.means.state c.args.sink) (all_messages g.S.TokenSink.means b (start_of (options_of c.args.opts)) (g.S.TokenSink.means.state c.args.sink) (run_text g.S.TokenSink.means b (start_of (options_of c.args.opts)) (g.S.TokenSink.means.state c.args.sink) [] [] (map step_of c.args.steps.items))) (g.S.TokenSink.means.state c.take_steps-result.new.tokenizer.sink))
     c.new-tokenizer.ensures.rules (stops (start_of (options_of c.args.opts)) (g.S.TokenSink.means.state c.args.sink) c.new-tokenizer.ensures.stands))
     c.take_steps-result.ensures.stops)

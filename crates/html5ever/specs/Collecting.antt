@@ -1,0 +1,34 @@
+-- A whole text that is read by a collector.
+use Rattle.std.specs.Prelude.{◌≡◌, ℕ, Bool, List, Result, IfOk, IfErr}
+use Rattle.html5ever_interface.specs.Collected.{Collected, Collecting, none_collected, collected_step, collected_reply, collected_foreign, collected_faulted, collected_finish}
+use Rattle.html5ever_interface.specs.Options.{OptionsOf}
+use Rattle.html5ever_interface.specs.Sink.{Means}
+use Rattle.html5states.specs.Telling.{IsRefusal}
+use Rattle.html5opened.specs.declared.error.TokenizerError.{TokenizerError}
+use Rattle.html5ever.specs.Tokenizer.{finished_reading}
+use Rattle.markup5ever.specs.NamedReferences.{NamedReference}
+
+-- what a collector makes of what it is told
+abbrev pub collector_means : Means Collecting Collected (Unit {0})
+collector_means = record {
+  state = λ c. c.collected;
+  step = collected_step;
+  reply = collected_reply;
+  foreign = collected_foreign;
+  finish = collected_finish;
+  faulted = collected_faulted;
+  end_faulted = λ c. c;
+}
+
+-- what a collector holds after a whole text
+abbrev pub collected_of : OptionsOf → List NamedReference → Bool → List ℕ → Collected
+collected_of opts names foreign text = finished_reading collector_means opts names (none_collected foreign) text
+
+-- what reading a whole text by a collector answers
+pub record CollectsText (result : Result Collecting TokenizerError) (opts : OptionsOf) (names : List NamedReference) (foreign : Bool)
+    (text : List ℕ) : Type 0 where
+  -- a collector that holds the finished reading, and has not faulted
+  pub holds : IfOk result (λ sink. sink.collected ≡ collected_of opts names foreign text)
+  pub no_fault : IfOk result (λ sink. sink.faults ≡ 0)
+  -- or an error, for want of memory or a fault of the collector
+  pub refusal : IfErr result IsRefusal
