@@ -52,7 +52,8 @@ impl<W: Target, A: Allocator> Printer<W, A> {
         requires { self.old.failed ≡ false }
         ensures printed { self.new.printed ≡ self.old.printed }
         ensures written { OnOk result (self.new.target.taken ≡ self.old.printed) }
-        ensures failures { W.failures self.new.target.inner ≡ W.failures self.old.target.inner + reported_failures result }
+        ensures failures { W.failures self.new.target.inner ≡ W.failures self.old.target.inner + reported_failures
+            result }
         ensures failed { self.new.failed ≡ is_err result }
         ensures fault { IfErr result (λ fault. fault ≡ Fault.Device) }
     {

@@ -201,7 +201,8 @@ fn print_text<A: Allocator + Copy>(
     names: &NamedReferences<A>,
 ) -> Result<PrintSink<A>, Fault>
     requires start { CanStart settings.now.initial_state }
-    ensures ok { IfOk result (λ sink. sink.page.lines ≡ printed_reading (said_by settings.now) names.now (string_bytes text)) }
+    ensures ok { IfOk result (λ sink. sink.page.lines ≡ printed_reading (said_by settings.now) names.now
+        (string_bytes text)) }
     ensures err { IfErr result IsRefusal }
 {
     let sink = PrintSink::new(alloc, settings.foreign);

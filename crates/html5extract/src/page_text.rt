@@ -67,7 +67,8 @@ impl<W: Target, A: Allocator> PageText<W, A> {
 
     // Prints a run, where no script and no style is open.
     fn show(&mut self, run: &str) -> Result<(), SinkFault>
-        ensures ok { OnOk result (self.new.printer.printed ≡ self.old.printer.printed ++ shown self.old.within run.now) }
+        ensures ok { OnOk result (self.new.printer.printed ≡ self.old.printer.printed
+            ++ shown self.old.within run.now) }
         ensures err { OnErr result (self.new.printer.printed ≡ self.old.printer.printed) }
         ensures within { self.new.within ≡ self.old.within }
     {

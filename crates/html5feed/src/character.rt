@@ -6,7 +6,7 @@ ghost use Rattle.html5ever_interface.specs.Sink.{stepped, on_line};
 ghost use Rattle.html5ever_interface.specs.Token.{Told, tag_of};
 ghost use Rattle.html5grammar.specs.ErrorText.{bad_character_error};
 ghost use Rattle.html5grammar.specs.NormalisedText.{input_after};
-ghost use Rattle.html5grammar.specs.Reading.{told, messages, after, last_behind, open_after_reply};
+ghost use Rattle.html5grammar.specs.Reading.{messages_so_far, start_after, last_behind, open_after_reply};
 ghost use Rattle.html5grammar.specs.Start.{is_undecided_open, held_len};
 ghost use Rattle.html5grammar.specs.Start.Mode.{Data};
 ghost use Rattle.html5grammar.specs.Start.Open.{Between};
@@ -96,7 +96,8 @@ fn tell_tag<S: TokenSink<Token<A>>, A: Allocator + Copy>(
     ensures tells { Tells S.means.step S.means.faulted result (S.means.state sink.old)
         (on_line line (Told.Tag (tag_of tag) ∷ [])) (S.means.state sink.new) }
     ensures leads { Leads result position.new.opened
-        (open_after_reply (last_behind position.old.last_start_tag (tag_of tag)) (S.means.reply (S.means.state sink.old) (Told.Tag (tag_of tag)) line)) }
+        (open_after_reply (last_behind position.old.last_start_tag (tag_of tag))
+        (S.means.reply (S.means.state sink.old) (Told.Tag (tag_of tag)) line)) }
     ensures last { OnOk result
         (position.new.last_start_tag ≡ last_behind position.old.last_start_tag (tag_of tag)) }
     ensures answer { IfOk result (λ answer. reply_in string_bytes answer
@@ -138,14 +139,17 @@ fn read_opened<S: TokenSink<Token<A>>, A: Allocator + Copy>(
 ) -> Result<TokenizerResult<S::Handle, String<A>>, TokenizerError>
     requires { is_undecided_open position.old.opened ≡ false }
     ensures tells { Tells S.means.step S.means.faulted result (S.means.state sink.old)
-        (messages_here S.means.step S.means.reply rules.now position.old.input.line c (step_at rules.now.exact position.old.opened c)) (S.means.state sink.new) }
+        (messages_here S.means.step S.means.reply rules.now position.old.input.line c
+        (step_at rules.now.exact position.old.opened c)) (S.means.state sink.new) }
     ensures leads { Leads result position.new.opened
-        (opened_here S.means.step S.means.reply rules.now (S.means.state sink.old) position.old.input.line position.old.last_start_tag c (step_at rules.now.exact position.old.opened c)) }
+        (opened_here S.means.step S.means.reply rules.now (S.means.state sink.old) position.old.input.line
+        position.old.last_start_tag c (step_at rules.now.exact position.old.opened c)) }
     ensures last { OnOk result (position.new.last_start_tag
         ≡ last_here position.old.last_start_tag (step_at rules.now.exact position.old.opened c)) }
     ensures answer { IfOk result (λ answer. reply_in string_bytes answer
         ≡ first_pause S.means.step S.means.reply (S.means.state sink.old)
-        (messages_here S.means.step S.means.reply rules.now position.old.input.line c (step_at rules.now.exact position.old.opened c))) }
+        (messages_here S.means.step S.means.reply rules.now position.old.input.line c
+        (step_at rules.now.exact position.old.opened c))) }
     ensures input { position.new.input ≡ position.old.input }
     ensures held { held_len position.new.opened ≤ 1 }
     ensures faults { S.faults sink.new ≡ S.faults sink.old + faults_of result }
@@ -182,14 +186,16 @@ pub fn read_character<S: TokenSink<Token<A>>, A: Allocator + Copy>(
     c: char,
 ) -> Result<TokenizerResult<S::Handle, String<A>>, TokenizerError>
     ensures tells { Tells S.means.step S.means.faulted result (S.means.state sink.old)
-        (messages (told S.means.step S.means.reply S.means.foreign rules.now position.old (S.means.state sink.old) (c ∷ []))) (S.means.state sink.new) }
+        (messages_so_far S.means rules.now position.old (S.means.state sink.old) (c ∷ [])) (S.means.state sink.new) }
     ensures leads { Leads result position.new.opened
-        (after S.means.step S.means.reply S.means.foreign rules.now position.old (S.means.state sink.old) (c ∷ [])).opened }
+        (start_after S.means rules.now position.old (S.means.state sink.old)
+        (c ∷ [])).opened }
     ensures last { OnOk result (position.new.last_start_tag
-        ≡ (after S.means.step S.means.reply S.means.foreign rules.now position.old (S.means.state sink.old) (c ∷ [])).last_start_tag) }
+        ≡ (start_after S.means rules.now position.old (S.means.state sink.old)
+        (c ∷ [])).last_start_tag) }
     ensures answer { IfOk result (λ answer. reply_in string_bytes answer
         ≡ first_pause S.means.step S.means.reply (S.means.state sink.old)
-        (messages (told S.means.step S.means.reply S.means.foreign rules.now position.old (S.means.state sink.old) (c ∷ [])))) }
+        (messages_so_far S.means rules.now position.old (S.means.state sink.old) (c ∷ []))) }
     ensures input { position.new.input ≡ input_after position.old.input (c ∷ []) }
     ensures held { held_len position.new.opened ≤ held_len position.old.opened + 1 }
     ensures faults { S.faults sink.new ≡ S.faults sink.old + faults_of result }

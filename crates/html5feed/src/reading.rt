@@ -1,7 +1,7 @@
 //! Reading the queue.
 ghost use Rattle.std.specs.Prelude.{◌≡◌, ◌^◌, ◌+◌, ◌<◌, ◌≤◌, [], true, IsOk, IfOk, IfErr, OnOk, length, take, drop, encode_utf8_all, string_bytes};
 ghost use Rattle.std.specs.Str.{IsUtf8, chars};
-ghost use Rattle.html5grammar.specs.Reading.{told, messages, after};
+ghost use Rattle.html5grammar.specs.Reading.{messages_so_far, start_after};
 ghost use Rattle.html5grammar.specs.Start.{is_clean, held_len};
 ghost use Rattle.html5feed.specs.Feed.{IsEndOf, reply_in, feed};
 ghost use Rattle.html5feed.specs.Refused.{IsRun, RefusedBehind};
@@ -34,7 +34,8 @@ fn tell_waiting_run<S: TokenSink<Token<A>>, A: Allocator + Copy>(
     requires rest_utf8 { IsUtf8 (drop bytes (encode_utf8_all queue.old.text)) }
     requires is_run { IsRun rules.now position.now (chars (take bytes (encode_utf8_all queue.old.text))) }
     requires fits { position.now.input.line < 2 ^ 64 }
-    ensures reads { ReadsRun S.means.step S.means.reply S.means.foreign S.means.faulted rules.now result position.now position.now
+    ensures reads { ReadsRun S.means.step S.means.reply S.means.foreign S.means.faulted rules.now result position.now
+        position.now
         queue.old queue.new (S.means.state sink.old) (S.means.state sink.new) }
     ensures refusal { IfErr result IsRefusal }
     ensures faults { S.faults sink.new ≡ S.faults sink.old + faults_of result }
@@ -56,7 +57,8 @@ fn read_waiting_run<S: TokenSink<Token<A>>, A: Allocator + Copy>(
     position: &mut Position<A>,
     queue: &mut BufferQueue<A>,
 ) -> Result<(), TokenizerError>
-    ensures reads { ReadsRun S.means.step S.means.reply S.means.foreign S.means.faulted rules.now result position.old position.new
+    ensures reads { ReadsRun S.means.step S.means.reply S.means.foreign S.means.faulted rules.now result position.old
+        position.new
         queue.old queue.new (S.means.state sink.old) (S.means.state sink.new) }
     ensures refusal { IfErr result IsRefusal }
     ensures faults { S.faults sink.new ≡ S.faults sink.old + faults_of result }
@@ -85,17 +87,22 @@ pub fn read_queue<S: TokenSink<Token<A>>, A: Allocator + Copy>(
     queue: &mut BufferQueue<A>,
 ) -> Result<TokenizerResult<S::Handle, String<A>>, TokenizerError>
     ensures tells { Tells S.means.step S.means.faulted result (S.means.state sink.old)
-        (messages (told S.means.step S.means.reply S.means.foreign rules.now position.old (S.means.state sink.old)
-        (feed S.means.step S.means.reply S.means.foreign rules.now position.old (S.means.state sink.old) [] queue.old.text).taken)) (S.means.state sink.new) }
+        (messages_so_far S.means rules.now position.old (S.means.state sink.old)
+        (feed S.means.step S.means.reply S.means.foreign rules.now position.old
+        (S.means.state sink.old) [] queue.old.text).taken) (S.means.state sink.new) }
     ensures moves { OnOk result
-        (position.new ≡ after S.means.step S.means.reply S.means.foreign rules.now position.old (S.means.state sink.old)
-        (feed S.means.step S.means.reply S.means.foreign rules.now position.old (S.means.state sink.old) [] queue.old.text).taken) }
+        (position.new ≡ start_after S.means rules.now position.old (S.means.state sink.old)
+        (feed S.means.step S.means.reply S.means.foreign rules.now position.old
+        (S.means.state sink.old) [] queue.old.text).taken) }
     ensures answer { IfOk result (λ answer. reply_in string_bytes answer
-        ≡ (feed S.means.step S.means.reply S.means.foreign rules.now position.old (S.means.state sink.old) [] queue.old.text).answer) }
+        ≡ (feed S.means.step S.means.reply S.means.foreign rules.now position.old
+        (S.means.state sink.old) [] queue.old.text).answer) }
     ensures left { OnOk result
-        (queue.new.text ≡ (feed S.means.step S.means.reply S.means.foreign rules.now position.old (S.means.state sink.old) [] queue.old.text).left) }
+        (queue.new.text ≡ (feed S.means.step S.means.reply S.means.foreign rules.now position.old
+        (S.means.state sink.old) [] queue.old.text).left) }
     ensures refusal { IfErr result IsRefusal }
-    ensures refused { IfErr result (λ error. RefusedBehind S.means.step S.means.reply S.means.foreign S.means.faulted rules.now error
+    ensures refused { IfErr result (λ error. RefusedBehind S.means.step S.means.reply S.means.foreign S.means.faulted
+        rules.now error
         position.old (S.means.state sink.old) [] queue.old.text queue.new.text (S.means.state sink.new)) }
     ensures end_of_queue { IsEndOf queue.new.text queue.old.text }
     ensures taken { queue.new.taken + length queue.new.text ≡ queue.old.taken + length queue.old.text }

@@ -86,7 +86,8 @@ pub fn finish_reference<S: TokenSink<Token<A>>, A: Allocator + Copy>(
     requires { HasStand (opened_of opened.old) }
     ensures tells { Tells S.means.step S.means.faulted result (S.means.state sink.old)
         (on_line line (tokens_of_late (late_tokens (stand_of (opened_of opened.old))
-        (found_at rules.now.exact rules.now.names (stand_of (opened_of opened.old)) held.now next) held.now))) (S.means.state sink.new) }
+        (found_at rules.now.exact rules.now.names (stand_of (opened_of opened.old)) held.now next) held.now)))
+        (S.means.state sink.new) }
     ensures leads { OnOk result (opened_of opened.new ≡ opened_behind (stand_of (opened_of opened.old))
         (found_at rules.now.exact rules.now.names (stand_of (opened_of opened.old)) held.now next) held.now) }
     ensures ends { IfOk result (λ ends. (c : ℕ) → next ≡ Some c → ends ≡ ends_number held.now c) }

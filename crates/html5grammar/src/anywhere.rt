@@ -38,10 +38,12 @@ pub fn tag<S: TokenSink<Token<A>>, A: Allocator>()
 /// A character reference, before a text whose first character decides it and is no part of it; a
 /// number with its semicolon is decided before any text.
 pub fn reference<S: TokenSink<Token<A>>, A: Allocator>()
-    ensures number { (rules : Rules) (K : Start) (s : S.State) (Y : List ℕ) (x : Option ℕ) (digits : List ℕ) → IsReference rules.names K Y (Number x digits true)
+    ensures number { (rules : Rules) (K : Start) (s : S.State) (Y : List ℕ) (x : Option ℕ) (digits : List ℕ)
+        → IsReference rules.names K Y (Number x digits true)
         → TellsByItself S.means rules K s Y (messages_within rules.exact K.input (Number x digits true))
         (start_behind K Y (Between Data) K.last_start_tag) }
-    ensures decided { (rules : Rules) (K : Start) (s : S.State) (Y Z : List ℕ) (reference : WrittenReference) (c : ℕ) (rest : List ℕ)
+    ensures decided { (rules : Rules) (K : Start) (s : S.State) (Y Z : List ℕ) (reference : WrittenReference) (c : ℕ)
+        (rest : List ℕ)
         → IsTable rules.names → IsReference rules.names K Y reference
         → normalised (input_after K.input Y) Z ≡ c ∷ rest → is_decided_by rules.names reference c ≡ true
         → TellsBefore S.means rules Z K s Y (messages_within rules.exact K.input reference)
@@ -51,26 +53,31 @@ pub fn reference<S: TokenSink<Token<A>>, A: Allocator>()
 /// Raw text up to its end tag, or without one: then letters and marks at its end may be told only
 /// behind it.
 pub fn raw<S: TokenSink<Token<A>>, A: Allocator>()
-    ensures ended { (rules : Rules) (K : Start) (s : S.State) (Y : List ℕ) (raw : Raw) (name : List ℕ) (written_as : WrittenRaw) (tag : WrittenTag)
+    ensures ended { (rules : Rules) (K : Start) (s : S.State) (Y : List ℕ) (raw : Raw) (name : List ℕ)
+        (written_as : WrittenRaw) (tag : WrittenTag)
         → written_as.end_tag ≡ Some tag → IsRawText K Y raw name written_as
         → let M : List Message = spelled_messages rules.exact K.input [] (spell_raw rules.exact raw written_as) in
         TellsByItself S.means rules K s Y M (start_behind_tag S.means K s Y (tag_told tag) M) }
-    ensures open { (rules : Rules) (K : Start) (s : S.State) (Y : List ℕ) (raw : Raw) (name : List ℕ) (written_as : WrittenRaw)
+    ensures open { (rules : Rules) (K : Start) (s : S.State) (Y : List ℕ) (raw : Raw) (name : List ℕ)
+        (written_as : WrittenRaw)
         → written_as.end_tag ≡ None → IsRawText K Y raw name written_as
-        → TellsByItself S.means rules K s Y (spelled_messages rules.exact K.input [] (spell_raw rules.exact raw written_as))
+        → TellsByItself S.means rules K s Y (spelled_messages rules.exact K.input []
+        (spell_raw rules.exact raw written_as))
         (start_after S.means rules K s Y) }
 {}
 
 /// A comment, proper or bogus.
 pub fn comment<S: TokenSink<Token<A>>, A: Allocator>()
-    ensures { (rules : Rules) (K : Start) (s : S.State) (Y : List ℕ) (comment : WrittenComment) → IsComment K (S.means.foreign s) Y comment
+    ensures { (rules : Rules) (K : Start) (s : S.State) (Y : List ℕ) (comment : WrittenComment) → IsComment K
+        (S.means.foreign s) Y comment
         → TellsByItself S.means rules K s Y (one_comment.messages_of rules.exact K.input comment)
         (start_behind K Y (Between Data) K.last_start_tag) }
 {}
 
 /// A processing instruction, also one without its `>`: then it is open behind it, and is not told yet.
 pub fn instruction<S: TokenSink<Token<A>>, A: Allocator>()
-    ensures { (rules : Rules) (K : Start) (s : S.State) (Y : List ℕ) (instruction : WrittenInstruction) → IsInstruction K Y instruction
+    ensures { (rules : Rules) (K : Start) (s : S.State) (Y : List ℕ) (instruction : WrittenInstruction)
+        → IsInstruction K Y instruction
         → TellsByItself S.means rules K s Y (one_instruction.messages_of rules.exact K.input instruction)
         (start_behind K Y (open_behind_instruction instruction) K.last_start_tag) }
 {}
@@ -78,14 +85,16 @@ pub fn instruction<S: TokenSink<Token<A>>, A: Allocator>()
 /// A doctype.
 pub fn doctype<S: TokenSink<Token<A>>, A: Allocator>()
     ensures { (rules : Rules) (K : Start) (s : S.State) (Y : List ℕ) (doctype : WrittenDoctype) → IsDoctype K Y doctype
-        → TellsByItself S.means rules K s Y (one_doctype.messages_of rules.exact K.input doctype.word doctype.space doctype.content)
+        → TellsByItself S.means rules K s Y (one_doctype.messages_of rules.exact K.input doctype.word doctype.space
+        doctype.content)
         (start_behind K Y (Between Data) K.last_start_tag) }
 {}
 
 /// A CDATA section, also one that is open already or doesn't end: then what is open behind it is the
 /// section with its last piece, of which nothing is told yet.
 pub fn cdata<S: TokenSink<Token<A>>, A: Allocator>()
-    ensures { (rules : Rules) (K : Start) (s : S.State) (Y : List ℕ) (cdata : WrittenCdata) → IsCdata K (S.means.foreign s) Y cdata
+    ensures { (rules : Rules) (K : Start) (s : S.State) (Y : List ℕ) (cdata : WrittenCdata) → IsCdata K
+        (S.means.foreign s) Y cdata
         → TellsByItself S.means rules K s Y
         (spelled_messages rules.exact K.input (opening_text cdata.has_opening) (spell_cdata cdata))
         (start_behind K Y (open_behind_cdata cdata) K.last_start_tag) }

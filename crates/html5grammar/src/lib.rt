@@ -34,7 +34,8 @@ pub fn forgetting<S: TokenSink<Token<A>>, A: Allocator>()
     ensures told { (rules : Rules) (K : Start) (s : S.State) (text rest : List ℕ) →
         messages_so_far S.means rules K s (text ++ rest)
         ≡ messages_so_far S.means rules K s text
-        ++ messages_so_far S.means rules (start_after S.means rules K s text) (state_after S.means rules K s text) rest }
+        ++ messages_so_far S.means rules (start_after S.means rules K s text)
+        (state_after S.means rules K s text) rest }
     ensures after { (rules : Rules) (K : Start) (s : S.State) (text rest : List ℕ) →
         start_after S.means rules K s (text ++ rest)
         ≡ start_after S.means rules (start_after S.means rules K s text)
@@ -64,7 +65,8 @@ pub fn told_of_a_split<S: TokenSink<Token<A>>, A: Allocator>()
 pub fn longest_name_of_text()
     ensures name { (names : List NamedReference) (text : List ℕ) → first_or text None ≢ Some number_sign →
         longest_name names (run_while (is_undecided names) [] text) ≡ longest_name names text }
-    ensures held { (names : List NamedReference) (text : List ℕ) → IsTable names → first_or text None ≢ Some number_sign →
+    ensures held { (names : List NamedReference) (text : List ℕ) → IsTable names
+        → first_or text None ≢ Some number_sign →
         run_while (is_undecided names) [] text
         ≡ (if is_none (longest_name names text) then run_of is_ascii_alphanumeric text
         else run_while (begins_name names) [] text) }
@@ -95,6 +97,7 @@ pub fn tags_cut_off<S: TokenSink<Token<A>>, A: Allocator>()
 /// without NUL, a tag whose name begins with a letter, with no capital in its names and no attribute
 /// twice, a doctype whose name has no capital.
 pub fn lawful_tokens<S: TokenSink<Token<A>>, A: Allocator>()
-    ensures { (rules : Rules) (K : Start) (s : S.State) (text : List ℕ) → IsTable rules.names → is_clean K.opened ≡ true →
+    ensures { (rules : Rules) (K : Start) (s : S.State) (text : List ℕ) → IsTable rules.names → is_clean K.opened
+        ≡ true →
         All (λ m. IsLawful m.token) (all_messages S.means rules K s text) }
 {}

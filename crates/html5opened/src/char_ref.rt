@@ -79,7 +79,8 @@ impl<A: Allocator> CharRef<A> {
 
     /// What stands behind the `#` of a number, where a number is held.
     pub fn number(&self) -> Option<&str>
-        ensures { MatchOption result (first_or self.now None ≢ Some number_sign) (λ number. (self.now ≡ number_sign ∷ number.now) × (is_number number.now ≡ true)) }
+        ensures { MatchOption result (first_or self.now None ≢ Some number_sign)
+            (λ number. (self.now ≡ number_sign ∷ number.now) × (is_number number.now ≡ true)) }
     {
         self.held.strip_prefix('#')
     }
@@ -164,7 +165,8 @@ fn is_undecided_name<A: Allocator>(
     is_alphanumeric: bool,
 ) -> bool
     requires { IsAscii text.now }
-    ensures { result ≡ (begins_name names.now text.now || (is_alphanumeric && is_none (longest_name names.now text.now))) }
+    ensures { result ≡ (begins_name names.now text.now || (is_alphanumeric && is_none
+        (longest_name names.now text.now))) }
 {
     names.is_prefix(text) || is_alphanumeric && longest_name(names, text).is_none()
 }

@@ -56,7 +56,8 @@ pub fn depends_on_sink<A: Allocator>(at: &Opened<A>, c: char) -> bool
 fn open_cdata<A: Allocator>(at: &mut Opened<A>)
     requires { at.old.state ≡ State.MarkupDeclarationOpen }
     ensures opened { opened_of at.new
-        ≡ (if bytes_eq (string_bytes at.old.comment) cdata_keyword then Between Cdata else InDeclaration (string_bytes at.old.comment)) }
+        ≡ (if bytes_eq (string_bytes at.old.comment) cdata_keyword then Between Cdata else InDeclaration
+        (string_bytes at.old.comment)) }
     ensures last { last_name_of at.new ≡ last_name_of at.old }
 {
     if at.comment.as_str() == "[CDATA[" {
@@ -76,8 +77,13 @@ pub fn hold_declaration<A: Allocator>(
     requires { at.old.state ≡ State.MarkupDeclarationOpen }
     ensures taken { result ≡ Ok true → (exact : Bool) → declaration_step exact foreign (string_bytes at.old.comment) c
         ≡ record { settled = []; here = Tells [] (opened_of at.new) } }
-    ensures decided { result ≡ Ok false → (exact : Bool) → declaration_step exact foreign (string_bytes at.old.comment) c
-        ≡ record { settled = declaration_error exact (string_bytes at.old.comment); here = bogus_comment_step exact (string_bytes at.old.comment) [] c } }
+    ensures decided { result ≡ Ok false → (exact : Bool) → declaration_step exact foreign
+        (string_bytes at.old.comment) c
+        ≡ record {
+          settled = declaration_error exact (string_bytes at.old.comment);
+          here = bogus_comment_step exact
+              (string_bytes at.old.comment) [] c;
+        } }
     ensures kept { result ≡ Ok false → opened_of at.new ≡ opened_of at.old }
     ensures last { last_name_of at.new ≡ last_name_of at.old }
     ensures held { held_len (opened_of at.new) ≤ held_len (opened_of at.old) + 1 }

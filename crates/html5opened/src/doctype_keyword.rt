@@ -57,10 +57,16 @@ fn keyword_of(held: &str) -> Option<DoctypeIdKind>
 pub fn hold_doctype_keyword<A: Allocator>(at: &mut Opened<A>, c: char) -> Result<bool, AllocError>
     requires state { at.old.state ≡ State.AfterDoctypeName }
     requires held { string_bytes at.old.comment ≢ [] }
-    ensures taken { result ≡ Ok true → (exact : Bool) → doctype_keyword_step exact (string_bytes at.old.comment) (doctype_of at.old.doctype) c
+    ensures taken { result ≡ Ok true → (exact : Bool) → doctype_keyword_step exact (string_bytes at.old.comment)
+        (doctype_of at.old.doctype) c
         ≡ record { settled = []; here = Tells [] (opened_of at.new) } }
-    ensures decided { result ≡ Ok false → (exact : Bool) → doctype_keyword_step exact (string_bytes at.old.comment) (doctype_of at.old.doctype) c
-        ≡ record { settled = keyword_error exact (string_bytes at.old.comment); here = skipped_step exact [] (with_quirks (doctype_of at.old.doctype)) c } }
+    ensures decided { result ≡ Ok false → (exact : Bool) → doctype_keyword_step exact (string_bytes at.old.comment)
+        (doctype_of at.old.doctype) c
+        ≡ record {
+          settled = keyword_error exact (string_bytes at.old.comment);
+          here = skipped_step exact []
+              (with_quirks (doctype_of at.old.doctype)) c;
+        } }
     ensures kept { result ≡ Ok false → opened_of at.new ≡ opened_of at.old }
     ensures last { last_name_of at.new ≡ last_name_of at.old }
     ensures held { held_len (opened_of at.new) ≤ held_len (opened_of at.old) + 1 }

@@ -129,7 +129,8 @@ pub fn text_of_found<A: Allocator>(
     rest: &str,
 ) -> Result<String<A>, AllocError>
     requires { IsAscii rest.now }
-    ensures { IfOk result (λ text. chars (string_bytes text) ≡ found.now.first ∷ (more_of found.now.second ++ rest.now)) }
+    ensures { IfOk result (λ text. chars (string_bytes text) ≡ found.now.first ∷
+        (more_of found.now.second ++ rest.now)) }
 {
     let mut text = String::new(alloc);
     text.push(found.first)?;

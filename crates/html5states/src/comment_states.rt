@@ -107,7 +107,8 @@ impl<S: TokenSink<Token<A>>, A: Allocator + Copy> Teller<'_, S, A> {
     /// Begins a bogus comment at a character after `</` that begins no name.
     pub fn create_bogus_comment(&mut self, at: &mut Opened<A>, c: char) -> Step
         ensures { Reads S.means S.faults result self.old self.new
-            (bogus_comment_step self.old.exact_errors [] (error_in self.old.exact_errors State.EndTagOpen c ∷ []) c) at.old at.new }
+            (bogus_comment_step self.old.exact_errors [] (error_in self.old.exact_errors State.EndTagOpen c ∷ []) c)
+            at.old at.new }
     {
         self.emit_unexpected(c, State::EndTagOpen)?;
         at.state = State::BogusComment;

@@ -52,7 +52,8 @@ impl<S: TokenSink<Token<A>>, A: Allocator + Copy> Teller<'_, S, A> {
     /// Tells an error that names the state, and skips the rest from the character on.
     pub fn skip_doctype(&mut self, at: &mut Opened<A>, c: char, expected: State) -> Step
         ensures { Reads S.means S.faults result self.old self.new
-            (skipped_step self.old.exact_errors (error_in self.old.exact_errors expected c ∷ []) (doctype_of at.old.doctype) c) at.old at.new }
+            (skipped_step self.old.exact_errors (error_in self.old.exact_errors expected c ∷ [])
+            (doctype_of at.old.doctype) c) at.old at.new }
     {
         self.emit_unexpected(c, expected)?;
         at.state = State::BogusDoctype;
@@ -62,7 +63,8 @@ impl<S: TokenSink<Token<A>>, A: Allocator + Copy> Teller<'_, S, A> {
     /// The same, with quirks.
     pub fn skip_with_quirks(&mut self, at: &mut Opened<A>, c: char, expected: State) -> Step
         ensures { Reads S.means S.faults result self.old self.new
-            (skipped_step self.old.exact_errors (error_in self.old.exact_errors expected c ∷ []) (with_quirks (doctype_of at.old.doctype)) c) at.old at.new }
+            (skipped_step self.old.exact_errors (error_in self.old.exact_errors expected c ∷ [])
+            (with_quirks (doctype_of at.old.doctype)) c) at.old at.new }
     {
         at.doctype.force_quirks = true;
         self.skip_doctype(at, c, expected)

@@ -102,7 +102,8 @@ impl<S: TokenSink<Token<A>>, A: Allocator + Copy> Teller<'_, S, A> {
     // Ends behind `</` and letters of raw text, which are text.
     fn end_behind_end_name(&mut self, kind: RawKind, letters: &str) -> Result<(), TokenizerError>
         ensures { Emits S.means S.faults result self.old self.new
-            (texts (less_than ∷ solidus ∷ chars letters.now) ++ (raw_end_error self.old.exact_errors (raw_of kind) ++ End ∷ [])) }
+            (texts (less_than ∷ solidus ∷ chars letters.now) ++
+            (raw_end_error self.old.exact_errors (raw_of kind) ++ End ∷ [])) }
     {
         self.emit_end_name(letters)?;
         self.end_raw_text(kind)
@@ -153,7 +154,8 @@ impl<S: TokenSink<Token<A>>, A: Allocator + Copy> Teller<'_, S, A> {
     // Ends in a state of DOCTYPEs that doesn't expect it.
     fn end_in_doctype(&mut self, state: State, doctype: &Doctype<A>) -> Result<(), TokenizerError>
         ensures { Emits S.means S.faults result self.old self.new
-            (end_error_in self.old.exact_errors state ∷ Told.Doctype (with_quirks (doctype_of doctype.now)) ∷ End ∷ []) }
+            (end_error_in self.old.exact_errors state ∷ Told.Doctype (with_quirks (doctype_of doctype.now)) ∷ End
+            ∷ []) }
     {
         self.emit_end_error(state)?;
         self.end_behind_doctype(doctype, true)

@@ -61,7 +61,8 @@ impl<S: TokenSink<Token<A>>, A: Allocator + Copy> Teller<'_, S, A> {
         self_closing: bool,
     ) -> Result<(), TokenizerError>
         ensures emits { Emits S.means S.faults result self.old self.new
-            (duplicate_error (open_tag tag.old) ++ end_tag_errors (with_last_attribute (open_tag tag.old)) self_closing) }
+            (duplicate_error (open_tag tag.old) ++ end_tag_errors
+            (with_last_attribute (open_tag tag.old)) self_closing) }
         ensures finished { OnOk result (open_tag tag.new ≡ with_last_attribute (open_tag tag.old)) }
     {
         self.finish_attribute(tag)?;

@@ -29,7 +29,8 @@ impl<S: TokenSink<Token<A>>, A: Allocator + Copy> Teller<'_, S, A> {
         expected: State,
     ) -> Step
         ensures { Reads S.means S.faults result self.old self.new
-            (wanted_identifier_step self.old.exact_errors false expected kind (doctype_of at.old.doctype) c) at.old at.new }
+            (wanted_identifier_step self.old.exact_errors false expected kind (doctype_of at.old.doctype) c) at.old
+            at.new }
     {
         let quotes = match c {
             '"' => Quotes::Double,
@@ -50,7 +51,8 @@ impl<S: TokenSink<Token<A>>, A: Allocator + Copy> Teller<'_, S, A> {
         expected: State,
     ) -> Step
         ensures { Reads S.means S.faults result self.old self.new
-            (wanted_identifier_step self.old.exact_errors true expected kind (doctype_of at.old.doctype) c) at.old at.new }
+            (wanted_identifier_step self.old.exact_errors true expected kind (doctype_of at.old.doctype) c) at.old
+            at.new }
     {
         self.emit_unexpected_where(is_quote(c), c, expected)?;
         self.begin_or_skip(at, kind, c, expected)
@@ -102,7 +104,8 @@ impl<S: TokenSink<Token<A>>, A: Allocator + Copy> Teller<'_, S, A> {
     ) -> Step
         requires { at.old.state ≡ identifier_state (quotes_of quotes) kind }
         ensures { Reads S.means S.faults result self.old self.new
-            (doctype_step self.old.exact_errors (InIdentifier (quotes_of quotes) kind) (doctype_of at.old.doctype) c) at.old at.new }
+            (doctype_step self.old.exact_errors (InIdentifier (quotes_of quotes) kind) (doctype_of at.old.doctype) c)
+            at.old at.new }
     {
         if c == quotes.mark() {
             at.state = State::AfterDoctypeIdentifier(kind);
@@ -120,7 +123,8 @@ impl<S: TokenSink<Token<A>>, A: Allocator + Copy> Teller<'_, S, A> {
     pub fn after_public_identifier_state(&mut self, at: &mut Opened<A>, c: char) -> Step
         requires { at.old.state ≡ State.AfterDoctypeIdentifier DoctypeIdKind.Public }
         ensures { Reads S.means S.faults result self.old self.new
-            (doctype_step self.old.exact_errors (AfterIdentifier DoctypeIdKind.Public) (doctype_of at.old.doctype) c) at.old at.new }
+            (doctype_step self.old.exact_errors (AfterIdentifier DoctypeIdKind.Public) (doctype_of at.old.doctype) c)
+            at.old at.new }
     {
         if is_white_space(c) {
             at.state = State::BetweenDoctypePublicAndSystemIdentifiers;
@@ -156,7 +160,8 @@ impl<S: TokenSink<Token<A>>, A: Allocator + Copy> Teller<'_, S, A> {
     pub fn after_system_identifier_state(&mut self, at: &mut Opened<A>, c: char) -> Step
         requires { at.old.state ≡ State.AfterDoctypeIdentifier DoctypeIdKind.System }
         ensures { Reads S.means S.faults result self.old self.new
-            (doctype_step self.old.exact_errors (AfterIdentifier DoctypeIdKind.System) (doctype_of at.old.doctype) c) at.old at.new }
+            (doctype_step self.old.exact_errors (AfterIdentifier DoctypeIdKind.System) (doctype_of at.old.doctype) c)
+            at.old at.new }
     {
         if is_white_space(c) {
             return Ok(Progress::Continues);

@@ -193,7 +193,8 @@ impl<S: TokenSink<Token<A>>, A: Allocator + Copy> Teller<'_, S, A> {
     // Reads the first letter behind the `<` of escaped script data.
     fn open_switch(&mut self, at: &mut Opened<A>, c: char) -> Step
         ensures { Reads S.means S.faults result self.old self.new
-            (Tells (texts (less_than ∷ c ∷ [])) (InRaw (InSwitch ScriptEscapeKind.Escaped (c ∷ [])) (last_name_of at.old))) at.old at.new }
+            (Tells (texts (less_than ∷ c ∷ [])) (InRaw (InSwitch ScriptEscapeKind.Escaped (c ∷ []))
+            (last_name_of at.old))) at.old at.new }
     {
         at.state = State::ScriptDataEscapeStart(ScriptEscapeKind::DoubleEscaped);
         clear_letters(&mut at.letters);
@@ -205,7 +206,8 @@ impl<S: TokenSink<Token<A>>, A: Allocator + Copy> Teller<'_, S, A> {
     // Tells the `<` that began nothing where it wasn't told, and reads the character as it stands in raw text.
     fn read_behind_less_than(&mut self, at: &mut Opened<A>, kind: RawKind, c: char) -> Step
         ensures { Reads S.means S.faults result self.old self.new
-            (raw_step self.old.exact_errors (raw_of kind) (last_name_of at.old) (told_behind_less_than kind) c) at.old at.new }
+            (raw_step self.old.exact_errors (raw_of kind) (last_name_of at.old) (told_behind_less_than kind) c) at.old
+            at.new }
     {
         self.emit_behind_less_than(kind)?;
         self.read_raw_data(at, kind, c)
@@ -243,7 +245,8 @@ impl<S: TokenSink<Token<A>>, A: Allocator + Copy> Teller<'_, S, A> {
     /// The end tag name states of raw text. The tag begins where its name ends.
     pub fn raw_end_tag_name_state(&mut self, at: &mut Opened<A>, kind: RawKind, c: char) -> Step
         ensures { Reads S.means S.faults result self.old self.new
-            (end_name_step self.old.exact_errors kind (last_name_of at.old) (chars (string_bytes at.old.letters)) c) at.old at.new }
+            (end_name_step self.old.exact_errors kind (last_name_of at.old) (chars (string_bytes at.old.letters)) c)
+            at.old at.new }
     {
         if is_letter(c) {
             at.state = State::RawEndTagName(kind);
@@ -344,7 +347,8 @@ impl<S: TokenSink<Token<A>>, A: Allocator + Copy> Teller<'_, S, A> {
     // Reads behind letters that may switch between escaped and double-escaped script data.
     fn read_switch(&mut self, at: &mut Opened<A>, kind: ScriptEscapeKind, c: char) -> Step
         ensures { Reads S.means S.faults result self.old self.new
-            (switch_step self.old.exact_errors kind (last_name_of at.old) (chars (string_bytes at.old.letters)) c) at.old at.new }
+            (switch_step self.old.exact_errors kind (last_name_of at.old) (chars (string_bytes at.old.letters)) c)
+            at.old at.new }
     {
         if is_letter(c) {
             return self.read_letter(at, kind, c);
@@ -361,7 +365,8 @@ impl<S: TokenSink<Token<A>>, A: Allocator + Copy> Teller<'_, S, A> {
     // Reads a letter more of those that may switch.
     fn read_letter(&mut self, at: &mut Opened<A>, kind: ScriptEscapeKind, c: char) -> Step
         ensures { Reads S.means S.faults result self.old self.new
-            (Tells (texts (c ∷ [])) (InRaw (InSwitch kind (chars (string_bytes at.old.letters) ++ c ∷ [])) (last_name_of at.old))) at.old at.new }
+            (Tells (texts (c ∷ [])) (InRaw (InSwitch kind (chars (string_bytes at.old.letters) ++ c ∷ []))
+            (last_name_of at.old))) at.old at.new }
     {
         at.state = match kind {
             ScriptEscapeKind::Escaped => State::ScriptDataEscapeStart(

@@ -149,8 +149,10 @@ impl<S: TokenSink<Token<A>>, A: Allocator + Copy> Teller<'_, S, A> {
     ) -> Result<Found, TokenizerError>
         ensures emits { Emits S.means S.faults result self.old self.new
             (decided self.old.exact_errors names.now in_value held.now next).errors }
-        ensures found { IfOk result (λ found. IsFound found (decided self.old.exact_errors names.now in_value held.now next)) }
-        ensures ends { IfOk result (λ found. (c : ℕ) → next ≡ Some c → nat_lt (length held.now) found.taken ≡ ends_number held.now c) }
+        ensures found { IfOk result
+            (λ found. IsFound found (decided self.old.exact_errors names.now in_value held.now next)) }
+        ensures ends { IfOk result (λ found. (c : ℕ) → next ≡ Some c → nat_lt (length held.now) found.taken
+            ≡ ends_number held.now c) }
     {
         match held.number() {
             Some(number) => self.resolve_number(number, next),
@@ -172,7 +174,8 @@ impl<S: TokenSink<Token<A>>, A: Allocator + Copy> Teller<'_, S, A> {
         requires plain { All (λ c. (number_sign ≤ c) × (c ≤ 0x7A)) rest.now }
         ensures emits { Emits S.means S.faults result self.old self.new
             (text_in (stand_of (opened_of at.old)) (found.now.first ∷ (more_of found.now.second ++ rest.now))) }
-        ensures leads { OnOk result (opened_of at.new ≡ opened_in (stand_of (opened_of at.old)) (found.now.first ∷ (more_of found.now.second ++ rest.now))) }
+        ensures leads { OnOk result (opened_of at.new ≡ opened_in (stand_of (opened_of at.old))
+            (found.now.first ∷ (more_of found.now.second ++ rest.now))) }
         ensures stays { HasStand (opened_of at.new) }
         ensures last { last_name_of at.new ≡ last_name_of at.old }
     {

@@ -113,7 +113,8 @@ impl<S: TokenSink<Token<A>>, A: Allocator + Copy> Teller<'_, S, A> {
         expected: State,
     ) -> Result<(), TokenizerError>
         ensures emits { Emits S.means S.faults result self.old self.new
-            (where_true (is_odd_at_name c) (error_in self.old.exact_errors expected c) ++ duplicate_error (open_tag tag.old)) }
+            (where_true (is_odd_at_name c) (error_in self.old.exact_errors expected c) ++ duplicate_error
+            (open_tag tag.old)) }
         ensures finished { OnOk result (open_tag tag.new ≡ with_last_attribute (open_tag tag.old)) }
     {
         self.emit_unexpected_where(is_odd_at_name(c), c, expected)?;
@@ -128,7 +129,8 @@ impl<S: TokenSink<Token<A>>, A: Allocator + Copy> Teller<'_, S, A> {
         expected: State,
     ) -> Result<(), TokenizerError>
         ensures emits { Emits S.means S.faults result self.old self.new
-            (where_true (is_odd_at_name c) (error_in self.old.exact_errors expected c) ++ duplicate_error (open_tag at.old.tag)) }
+            (where_true (is_odd_at_name c) (error_in self.old.exact_errors expected c) ++ duplicate_error
+            (open_tag at.old.tag)) }
         ensures created { OnOk result
             (open_tag at.new.tag ≡ with_last_name (with_last_attribute (open_tag at.old.tag)) (c ∷ [])) }
         ensures state { at.new.state ≡ State.AttributeName }

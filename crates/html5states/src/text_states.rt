@@ -88,7 +88,8 @@ impl<S: TokenSink<Token<A>>, A: Allocator + Copy> Teller<'_, S, A> {
     // Tells the `<` that opened nothing, and reads the character as it stands between tags.
     fn read_in_data(&mut self, at: &mut Opened<A>, c: char) -> Step
         ensures { Reads S.means S.faults result self.old self.new
-            (data_step self.old.exact_errors (error_in self.old.exact_errors State.TagOpen c ∷ Text (codes "<") ∷ []) c) at.old at.new }
+            (data_step self.old.exact_errors (error_in self.old.exact_errors State.TagOpen c ∷ Text (codes "<") ∷ []) c)
+            at.old at.new }
     {
         self.emit_unexpected_then(c, State::TagOpen, '<')?;
         at.state = State::Data;

@@ -44,7 +44,8 @@ impl<S: TokenSink<Token<A>>, A: Allocator + Copy> Teller<'_, S, A> {
     // Ends a tag at the `>` that stands where a value should.
     fn end_without_value(&mut self, at: &mut Opened<A>) -> Step
         ensures { Reads S.means S.faults result self.old self.new
-            (closing_step (error_in self.old.exact_errors State.BeforeAttributeValue equals_sign ∷ []) (open_tag at.old.tag) false)
+            (closing_step (error_in self.old.exact_errors State.BeforeAttributeValue equals_sign ∷ [])
+            (open_tag at.old.tag) false)
             at.old at.new }
     {
         self.emit_unexpected('=', State::BeforeAttributeValue)?;

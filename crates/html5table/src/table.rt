@@ -12,7 +12,8 @@ pub fn names_of<A: Allocator + Copy>(alloc: A, list: &str) -> Result<NamedRefere
     requires { IsSome (listed list.now) }
     ensures table { IfOk result (λ names. names ≡ table_of (entries_in list.now)) }
     ensures faultless { OnOk result (first_fault (entries_in list.now) ≡ None) }
-    ensures fault { IfErr result (λ error. (error ≡ TableError.Memory) ⊎ (first_fault (entries_in list.now) ≡ Some error)) }
+    ensures fault { IfErr result (λ error. (error ≡ TableError.Memory) ⊎
+        (first_fault (entries_in list.now) ≡ Some error)) }
 {
     let entries = entries_of(alloc, list)?;
     NamedReferences::check(alloc, entries)

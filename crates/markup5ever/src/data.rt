@@ -66,7 +66,8 @@ impl<A: Allocator> NamedReferences<A> {
     pub fn check(alloc: A, entries: Vec<Entry<A>, A>) -> Result<NamedReferences<A>, TableError>
         // What fails, and when.
         ensures faultless { OnOk result (first_fault (references_of entries.items) ≡ None) }
-        ensures fault { IfErr result (λ error. (error ≡ TableError.Memory) ⊎ (first_fault (references_of entries.items) ≡ Some error)) }
+        ensures fault { IfErr result (λ error. (error ≡ TableError.Memory) ⊎
+            (first_fault (references_of entries.items) ≡ Some error)) }
 
         // The table answers as the entries do.
         ensures table { IfOk result (λ table. table ≡ table_of (references_of entries.items)) }
@@ -87,7 +88,8 @@ impl<A: Allocator> NamedReferences<A> {
     // Takes in the entry that comes behind those of the table.
     fn add(&mut self, entry: Entry<A>) -> Result<(), TableError>
         ensures faultless { OnOk result (fault_behind self.old (reference_of entry) ≡ None) }
-        ensures fault { IfErr result (λ error. (error ≡ TableError.Memory) ⊎ (fault_behind self.old (reference_of entry) ≡ Some error)) }
+        ensures fault { IfErr result (λ error. (error ≡ TableError.Memory) ⊎
+            (fault_behind self.old (reference_of entry) ≡ Some error)) }
         ensures ok { OnOk result (self.new ≡ in_place self.old (reference_of entry)) }
     {
         let place = self.entries.len();

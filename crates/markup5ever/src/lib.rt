@@ -1,4 +1,5 @@
-//! What markup tokenizers share: names and attributes, the queue of the text that waits, sets of characters, and what character references stand for.
+//! What markup tokenizers share: names and attributes, the queue of the text that waits, sets of
+//! characters, and what character references stand for.
 #![tactic(auto)]
 
 pub mod buffer_queue;

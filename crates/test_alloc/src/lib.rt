@@ -7,8 +7,9 @@ use std::cell::Cell;
 #[cfg(test)]
 mod tests;
 
-/// An allocator that passes requests on to another and refuses one of them, so that a test can show what a refusal leaves.
-/// A block that grows or shrinks is one request, and a block that goes back is none. Pass it on as `&heap`.
+/// An allocator that passes requests on to another and refuses one of them, so that a test can show
+/// what a refusal leaves. A block that grows or shrinks is one request, and a block that goes back is
+/// none. Pass it on as `&heap`.
 #[derive(Drop)]
 pub struct Refusing<B: Allocator> {
     inner: B,

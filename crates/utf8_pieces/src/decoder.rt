@@ -60,12 +60,14 @@ impl Decoder {
         ensures text { IfOk result (λ text. self.old.held ++ bytes.now ≡ string_bytes text ++ self.new.held) }
         ensures cut { OnOk result (IsCutCharacter self.new.held) }
         ensures few { OnOk result (length self.new.held ≤ 3) }
-        ensures taken { IfOk result (λ text. self.new.taken ≡ place_behind self.old.taken (length (string_bytes text))) }
+        ensures taken { IfOk result (λ text. self.new.taken ≡ place_behind self.old.taken
+            (length (string_bytes text))) }
 
         // What is refused, and when: bytes that nothing behind them can make UTF-8.
         ensures fault { IfErr result (λ error. (error ≡ DecodeError.Memory)
             ⊎ IsFault self.old.taken (self.old.held ++ bytes.now) error) }
-        ensures refused { IsErrAnd result (λ error. error ≢ DecodeError.Memory) ↔ IsNeverUtf8 (self.old.held ++ bytes.now) }
+        ensures refused { IsErrAnd result (λ error. error ≢ DecodeError.Memory) ↔ IsNeverUtf8
+            (self.old.held ++ bytes.now) }
         ensures unchanged { OnErr result (self.new ≡ self.old) }
     {
         if self.is_complete() {

@@ -49,7 +49,8 @@ pub trait TokenSink<T: Says> {
         token: T,
         line_number: u64,
     ) -> Result<TokenSinkResult<Self::Handle, T::Text>, SinkFault>
-        ensures steps { OnOk result (means.state self.new ≡ means.step (means.state self.old) (T.told token) line_number) }
+        ensures steps { OnOk result (means.state self.new ≡ means.step (means.state self.old)
+            (T.told token) line_number) }
         ensures replies { IfOk result
             (λ answer. reply_of T.text_bytes answer ≡ means.reply (means.state self.old) (T.told token) line_number) }
         ensures fault { OnErr result
