@@ -22,7 +22,7 @@ ghost use Rattle.html5feed.specs.Starting.{CanStart};
 
 use crate::input::Input;
 use crate::rules::Rules;
-use crate::undecided::{finish_keyword, finish_reference};
+use crate::undecided::{decide_keyword, decide_reference};
 use html5ever_interface::interface::sink::TokenSink;
 use html5ever_interface::interface::token::{Doctype, Tag, TagKind, Token};
 use html5ever_interface::options::TokenizerOpts;
@@ -148,14 +148,14 @@ impl<A: Allocator + Copy> Position<A> {
         ensures refusal { IfErr result IsRefusal }
     {
         if self.in_reference {
-            finish_reference(alloc, sink, rules, &mut self.opened, &self.held, None, line)?;
+            decide_reference(alloc, sink, rules, &mut self.opened, &self.held, None, line)?;
             self.in_reference = false;
             return Ok(());
         }
         if !holds_keyword(&self.opened) {
             return Ok(());
         }
-        finish_keyword(alloc, sink, rules, &mut self.opened, line)
+        decide_keyword(alloc, sink, rules, &mut self.opened, line)
     }
 
     /// Whether a reference is not decided, or what stands behind `<!`.

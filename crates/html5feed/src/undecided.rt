@@ -46,7 +46,7 @@ fn asked_about_foreign<S: TokenSink<Token<A>>, A: Allocator>(
 }
 
 /// Tells that no keyword stands where characters are held that may begin one.
-pub fn finish_keyword<S: TokenSink<Token<A>>, A: Allocator + Copy>(
+pub fn decide_keyword<S: TokenSink<Token<A>>, A: Allocator + Copy>(
     alloc: A,
     sink: &mut S,
     rules: &Rules<'_, A>,
@@ -74,7 +74,7 @@ pub fn finish_keyword<S: TokenSink<Token<A>>, A: Allocator + Copy>(
 }
 /// Tells what the next character, or the end, decides of a reference, and answers whether that is the
 /// semicolon of a number.
-pub fn finish_reference<S: TokenSink<Token<A>>, A: Allocator + Copy>(
+pub fn decide_reference<S: TokenSink<Token<A>>, A: Allocator + Copy>(
     alloc: A,
     sink: &mut S,
     rules: &Rules<'_, A>,
@@ -122,7 +122,7 @@ fn read_reference<S: TokenSink<Token<A>>, A: Allocator + Copy>(
         return Ok(true);
     }
     let opened = &mut position.opened;
-    let ends = finish_reference(alloc, sink, rules, opened, &position.held, Some(c), line)?;
+    let ends = decide_reference(alloc, sink, rules, opened, &position.held, Some(c), line)?;
     position.in_reference = false;
     Ok(ends)
 }
@@ -144,7 +144,7 @@ fn read_keyword<S: TokenSink<Token<A>>, A: Allocator + Copy>(
     if hold_keyword(&mut position.opened, c, foreign)? {
         return Ok(true);
     }
-    finish_keyword(alloc, sink, rules, &mut position.opened, line)?;
+    decide_keyword(alloc, sink, rules, &mut position.opened, line)?;
     Ok(false)
 }
 

@@ -51,25 +51,25 @@ returns-then-branch g c =
 
 -- no keyword goes on with it
 
-pub finish_keyword-requires : goal.finish_keyword-requires
-finish_keyword-requires g c =
+pub decide_keyword-requires : goal.decide_keyword-requires
+decide_keyword-requires g c =
     rw (c.in_ok-hold_keyword.ensures.kept (ap Ok c.if-branch.false))
     (keyword-opened c.position.inside.in_reference c.position.inside.held (opened_of c.position.inside.opened) (rw (← c.position.view_is) at c.requires))
 
-pub returns-in_err-finish_keyword : goal.returns-in_err-finish_keyword
-returns-in_err-finish_keyword g c =
+pub returns-in_err-decide_keyword : goal.returns-in_err-decide_keyword
+returns-in_err-decide_keyword g c =
     let same = beside c.position.inside.in_reference c.position.inside.held (opened_of c.position.inside.opened) (rw (← c.position.view_is) at c.requires) in
     let keyword = keyword-opened c.position.inside.in_reference c.position.inside.held (opened_of c.position.inside.opened) (rw (← c.position.view_is) at c.requires) in
     let ends =
     ends-asked (g.S.TokenSink.means.foreign (g.S.TokenSink.means.state c.args.sink.now)) (opened_of c.position.inside.opened) c.args.c
     (rw c.asked_about_foreign-foreign.ensures at c.in_ok-hold_keyword.ensures.decided (ap Ok c.if-branch.false)) in
     record {
-      tells = rw (← c.position.view_is, same (opened_of c.position.inside.opened), ends.settled c.args.rules.now) (tells_stop _ _ _ _ _ _ _ c.from_residual-in_err-finish_keyword.ensures.1 (rw (c.in_ok-hold_keyword.ensures.kept (ap Ok c.if-branch.false)) at c.in_err-finish_keyword.ensures.tells));
+      tells = rw (← c.position.view_is, same (opened_of c.position.inside.opened), ends.settled c.args.rules.now) (tells_stop _ _ _ _ _ _ _ c.from_residual-in_err-decide_keyword.ensures.1 (rw (c.in_ok-hold_keyword.ensures.kept (ap Ok c.if-branch.false)) at c.in_err-decide_keyword.ensures.tells));
       taken = search rules;
       decided = search rules;
       last = search rules;
       input = search rules;
-      held = rw (same (opened_of c.finish_keyword.new.opened), end-holds c.args.rules.now (opened_of c.position.inside.opened) (opened_of c.finish_keyword.new.opened) keyword (rw (c.in_ok-hold_keyword.ensures.kept (ap Ok c.if-branch.false)) at c.in_err-finish_keyword.ensures.opened)) (omega arith);
+      held = rw (same (opened_of c.decide_keyword.new.opened), end-holds c.args.rules.now (opened_of c.position.inside.opened) (opened_of c.decide_keyword.new.opened) keyword (rw (c.in_ok-hold_keyword.ensures.kept (ap Ok c.if-branch.false)) at c.in_err-decide_keyword.ensures.opened)) (omega arith);
       refusal = search rules;
       faults = search rules;
     }
@@ -82,12 +82,12 @@ returns g c =
     ends-asked (g.S.TokenSink.means.foreign (g.S.TokenSink.means.state c.args.sink.now)) (opened_of c.position.inside.opened) c.args.c
     (rw c.asked_about_foreign-foreign.ensures at c.in_ok-hold_keyword.ensures.decided (ap Ok c.if-branch.false)) in
     record {
-      tells = rw (← c.position.view_is, same (opened_of c.position.inside.opened), ends.settled c.args.rules.now) (rw (c.in_ok-hold_keyword.ensures.kept (ap Ok c.if-branch.false)) at c.in_ok-finish_keyword.ensures.tells);
+      tells = rw (← c.position.view_is, same (opened_of c.position.inside.opened), ends.settled c.args.rules.now) (rw (c.in_ok-hold_keyword.ensures.kept (ap Ok c.if-branch.false)) at c.in_ok-decide_keyword.ensures.tells);
       taken = search rules;
-      decided = λ no. rw (← c.position.view_is, same (opened_of c.position.inside.opened), same (opened_of c.finish_keyword.new.opened), (rw (c.in_ok-hold_keyword.ensures.kept (ap Ok c.if-branch.false)) at c.in_ok-finish_keyword.ensures.opened)) (ends.decides c.args.rules.now);
+      decided = λ no. rw (← c.position.view_is, same (opened_of c.position.inside.opened), same (opened_of c.decide_keyword.new.opened), (rw (c.in_ok-hold_keyword.ensures.kept (ap Ok c.if-branch.false)) at c.in_ok-decide_keyword.ensures.opened)) (ends.decides c.args.rules.now);
       last = search rules;
       input = search rules;
-      held = rw (same (opened_of c.finish_keyword.new.opened), end-holds c.args.rules.now (opened_of c.position.inside.opened) (opened_of c.finish_keyword.new.opened) keyword (rw (c.in_ok-hold_keyword.ensures.kept (ap Ok c.if-branch.false)) at c.in_ok-finish_keyword.ensures.opened)) (omega arith);
+      held = rw (same (opened_of c.decide_keyword.new.opened), end-holds c.args.rules.now (opened_of c.position.inside.opened) (opened_of c.decide_keyword.new.opened) keyword (rw (c.in_ok-hold_keyword.ensures.kept (ap Ok c.if-branch.false)) at c.in_ok-decide_keyword.ensures.opened)) (omega arith);
       refusal = search rules;
       faults = search rules;
     }

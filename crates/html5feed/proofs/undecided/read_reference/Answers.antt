@@ -39,8 +39,8 @@ returns-then-branch g c =
       faults = search rules;
     }
 
-pub finish_reference-requires : goal.finish_reference-requires
-finish_reference-requires g c = c.position.invariant (is_in _ _ _ (state-no_reference c.position.inside.opened.state c.position.inside.opened) (rw (← c.position.view_is) at c.requires))
+pub decide_reference-requires : goal.decide_reference-requires
+decide_reference-requires g c = c.position.invariant (is_in _ _ _ (state-no_reference c.position.inside.opened.state c.position.inside.opened) (rw (← c.position.view_is) at c.requires))
 
 pub returns-in_err-ends : goal.returns-in_err-ends
 returns-in_err-ends g c =
@@ -52,7 +52,7 @@ returns-in_err-ends g c =
       decided = search rules;
       last = search rules;
       input = search rules;
-      held = subst (λ l. held_len (with_reference c.position.inside.in_reference l (opened_of c.finish_reference.new.opened)) ≤ held_len c.args.position.now.opened + 1) (sym now) (rw (← c.position.view_is) (held_len-same c.position.inside.in_reference c.position.inside.held (opened_of c.position.inside.opened) _ inside));
+      held = subst (λ l. held_len (with_reference c.position.inside.in_reference l (opened_of c.decide_reference.new.opened)) ≤ held_len c.args.position.now.opened + 1) (sym now) (rw (← c.position.view_is) (held_len-same c.position.inside.in_reference c.position.inside.held (opened_of c.position.inside.opened) _ inside));
       refusal = search rules;
       faults = search rules;
     }

@@ -1,6 +1,6 @@
 use Rattle.html5grammar.specs.EndOfInput.{late_at_end_of, open_at_end_of}
 use Rattle.html5opened.proofs.Decided.{doctype_keyword-open}
-use Rattle.html5feed.proofs.undecided.finish_keyword.Goals as goal
+use Rattle.html5feed.proofs.undecided.decide_keyword.Goals as goal
 
 pub returns-in-MarkupDeclarationOpen-clause-tells : goal.returns-in-MarkupDeclarationOpen-clause-tells
 unfolding late_at_end_of
