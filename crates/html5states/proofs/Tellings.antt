@@ -340,13 +340,19 @@ module _ {Q S H Z : Type 0} {means : Means Q S H} {count : Q → ℕ} where
     kept = kept;
   }
 
-  -- the same, of the token as it is handed on
-  pub emits_one : {T : Type 0} {x : T} {before after : Teller Q Z} (token : Token Z)
+  -- the same, of the token as it is handed on, where a call answers what the sink replies
+  pub emits_reply : {T : Type 0} {x : T} {before after : Teller Q Z} (token : Token Z)
       → means.state after.sink.now ≡ means.step (means.state before.sink.now) (told_by token) before.line
       → count after.sink.now ≡ count before.sink.now → IsKept before after
       → Emits means count {T = T} (Ok x) before after (told_by token ∷ [])
   unfolding stepped
-  emits_one token steps count kept = record { tells = steps; refusal = tt; faults = count ∙ sym (add-zero _); kept = kept }
+  emits_reply token steps count kept = record { tells = steps; refusal = tt; faults = count ∙ sym (add-zero _); kept = kept }
+
+  pub emits_one : {before after : Teller Q Z} (token : Token Z)
+      → means.state after.sink.now ≡ means.step (means.state before.sink.now) (told_by token) before.line
+      → count after.sink.now ≡ count before.sink.now → IsKept before after
+      → Emits means count {T = Unit {0}} (Ok tt) before after (told_by token ∷ [])
+  emits_one token steps count kept = emits_reply token steps count kept
 
   pub emits_fault-one : {T : Type 0} {before after : Teller Q Z} (token : Token Z)
       → means.state after.sink.now ≡ means.faulted (means.state before.sink.now) (told_by token) before.line

@@ -6,11 +6,11 @@ use Rattle.html5states.proofs.teller.Teller.hand_on.Goals.{in-Ok-Continue, in-Er
 pub returns : goal.returns
 returns g c = elim c.match-process_token.branch [
   | in-Ok-Continue w ↦ rw w.result-is (record {
-    whole = emits_one c.args.token w.in-Ok-Continue.ensures.steps w.in-Ok-Continue.ensures.no_fault (record { sink = refl; line = refl; exact_errors = refl });
-    characters = emits_token g.met.S.TokenSink.joins g.met.S.TokenSink.empty c.args.token w.in-Ok-Continue.ensures.steps w.in-Ok-Continue.ensures.no_fault (record { sink = refl; line = refl; exact_errors = refl });
+    whole = emits_one {means = g.S.TokenSink.means} c.args.token w.in-Ok-Continue.ensures.steps w.in-Ok-Continue.ensures.no_fault (record { sink = refl; line = refl; exact_errors = refl });
+    characters = emits_token {means = g.S.TokenSink.means} g.met.S.TokenSink.joins g.met.S.TokenSink.empty c.args.token w.in-Ok-Continue.ensures.steps w.in-Ok-Continue.ensures.no_fault (record { sink = refl; line = refl; exact_errors = refl });
   })
   | in-Err w ↦ rw w.result-is (record {
-    whole = emits_fault-one c.args.token w.in-Err.ensures.fault w.in-Err.ensures.one_fault (record { sink = refl; line = refl; exact_errors = refl });
-    characters = emits_fault c.args.token c.requires.filled w.in-Err.ensures.fault w.in-Err.ensures.one_fault (record { sink = refl; line = refl; exact_errors = refl });
+    whole = emits_fault-one {means = g.S.TokenSink.means} c.args.token w.in-Err.ensures.fault w.in-Err.ensures.one_fault (record { sink = refl; line = refl; exact_errors = refl });
+    characters = emits_fault {means = g.S.TokenSink.means} c.args.token c.requires.filled w.in-Err.ensures.fault w.in-Err.ensures.one_fault (record { sink = refl; line = refl; exact_errors = refl });
   })
 ]
