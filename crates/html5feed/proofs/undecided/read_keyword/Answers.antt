@@ -1,4 +1,4 @@
-use Rattle.std.proofs.Common.{refl, ap, Ok, arith}
+use Rattle.std.proofs.Common.{refl, ap, Ok, arith, rules}
 use Rattle.html5ever_interface.specs.Sink.{stepped}
 use Rattle.html5states.proofs.Tellings.{tells_from_memory, tells_stop}
 use Rattle.html5opened.specs.CurrentTag.{opened_of}

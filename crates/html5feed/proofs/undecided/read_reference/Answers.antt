@@ -1,4 +1,4 @@
-use Rattle.std.proofs.Common.{◌≡◌, ◌≤◌, [], ◌∷◌, ◌++◌, ◌+◌, ◌∙◌, refl, ap, sym, subst, Ok}
+use Rattle.std.proofs.Common.{◌≡◌, ◌≤◌, [], ◌∷◌, ◌++◌, ◌+◌, ◌∙◌, refl, ap, sym, subst, Ok, rules, arith}
 use Rattle.html5ever_interface.specs.Sink.{stepped}
 use Rattle.html5grammar.proofs.GoodCharacters.{good_between}
 use Rattle.html5states.proofs.Tellings.{tells_from_memory, tells_stop}
@@ -6,7 +6,7 @@ use Rattle.html5opened.specs.CharRef.{with_reference}
 use Rattle.html5grammar.specs.Start.{held_len}
 use Rattle.html5opened.specs.CurrentTag.{opened_of}
 use Rattle.html5feed.proofs.UndecidedReading.{brought-held, brought-decided, belongs-held, belongs-end, decides, held_len-held, held_len-same, answer-is}
-use Rattle.html5opened.proofs.Decided.{is_in, state-no_reference, with_reference-out}
+use Rattle.html5opened.proofs.Decided.{is_in, is_decided, begun-decided, state-no_reference, with_reference-out}
 use Rattle.html5feed.proofs.undecided.read_reference.Goals as goal
 
 pub returns-in_err-hold : goal.returns-in_err-hold
@@ -67,7 +67,7 @@ returns g c =
       decided = λ same. rw (← c.rules.view_is, ← c.position.view_is) (decides (record { exact = c.rules.inside.exact_errors; names = c.rules.inside.names.now }) (g.S.TokenSink.means.foreign (g.S.TokenSink.means.state c.args.sink.now)) c.position.inside.in_reference c.position.inside.held (opened_of c.position.inside.opened) c.args.c inside _ (sym c.in_ok-hold.ensures.undecided ∙ c.if-branch.false) (sym (rw now at c.in_ok-ends.ensures.ends c.args.c refl) ∙ answer-is _ _ same) (with_reference-out _ _ ∙ rw (now, ← c.rules.view_is) at c.in_ok-ends.ensures.leads));
       last = search rules;
       input = search rules;
-      held = search rules;
+      held = rw (with_reference-out c.hold.new.self (opened_of c.decide_reference.new.opened), (is_decided (opened_of c.decide_reference.new.opened) (begun-decided (opened_of c.decide_reference.new.opened) c.in_ok-ends.ensures.stays)).nothing_held) (omega arith);
       refusal = search rules;
       faults = search rules;
     }
