@@ -2,7 +2,7 @@
 use Rattle.std.specs.Prelude.{◌≡◌, ℕ, ◌+◌, List, [], ◌++◌, ◌⊎◌, Option, Some, IsSome, IsSomeAnd, codes, decimal}
 use Rattle.std.specs.Io.KnownBytes.{Appends}
 use Rattle.devices.specs.Device.{AppendsBeginning, device_failures}
-use Rattle.html5cli.specs.Printing.{PrintsReading, PrintsBeginning}
+use Rattle.html5cli.specs.Printing.{Traffic, PrintsReading, PrintsBeginning}
 use Rattle.html5cli.specs.Settings.{settings_said}
 use Rattle.devices.specs.declared.fault.Fault.TheVariants.{NotUtf8, Memory, Device}
 use Rattle.html5cli.specs.declared.run.Ending.{Ending}
@@ -40,10 +40,11 @@ failures_of Usage = 0
 failures_of (NoTable error) = 0
 failures_of (Faulted fault) = device_failures fault
 
--- known bytes grow by the line, or a write failed behind a beginning of it, and none was tried again
-abbrev pub TriesLine : Option (List ℕ) → Option (List ℕ) → ℕ → ℕ → List ℕ → Type 0
-TriesLine old new failures failures_after line =
-    ((failures_after ≡ failures) × Appends old new line) ⊎ ((failures_after ≡ failures + 1) × AppendsBeginning old new line)
+-- a device's known bytes grow by the line, or a write failed after a beginning of it, and none was tried again
+abbrev pub TriesLine : {E : Type 0} → (E → Option (List ℕ)) → (E → ℕ) → E → E → List ℕ → Type 0
+TriesLine contents failures before after line =
+    ((failures after ≡ failures before) × Appends (contents before) (contents after) line)
+    ⊎ ((failures after ≡ failures before + 1) × AppendsBeginning (contents before) (contents after) line)
 
 -- the list makes no table
 abbrev pub IsNoTable : Ending → Type 0
@@ -61,11 +62,9 @@ abbrev pub SayBadTable : List (List ℕ) → Type 0
 SayBadTable words = IsSomeAnd (settings_said words) (λ settings. IsSome (first_fault settings.table))
 
 -- the words say some settings, and by these and their table the whole reading was printed
-abbrev pub PrintsAsSaid : List (List ℕ) → Option (List ℕ) → Option (List ℕ) → Option (List ℕ) → Option (List ℕ) → Type 0
-PrintsAsSaid words unread left written after =
-    IsSomeAnd (settings_said words) (λ settings. PrintsReading settings (table_of settings.table) unread left written after)
+abbrev pub PrintsAsSaid : List (List ℕ) → Traffic → Type 0
+PrintsAsSaid words known = IsSomeAnd (settings_said words) (λ settings. PrintsReading settings (table_of settings.table) known)
 
 -- the same, but only a beginning was printed
-abbrev pub PrintsBeginningAsSaid : List (List ℕ) → Option (List ℕ) → Option (List ℕ) → Option (List ℕ) → Option (List ℕ) → Type 0
-PrintsBeginningAsSaid words unread left written after =
-    IsSomeAnd (settings_said words) (λ settings. PrintsBeginning settings (table_of settings.table) unread left written after)
+abbrev pub PrintsBeginningAsSaid : List (List ℕ) → Traffic → Type 0
+PrintsBeginningAsSaid words known = IsSomeAnd (settings_said words) (λ settings. PrintsBeginning settings (table_of settings.table) known)

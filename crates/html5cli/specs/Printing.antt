@@ -30,26 +30,43 @@ unfoldable pub printed_reading : SettingsOf → List NamedReference → List ℕ
 printed_reading settings names bytes =
     printed (all_messages printer_means (rules_of settings.opts names) (start_of settings.opts) (blank_page settings.foreign) (chars bytes))
 
+-- the known bytes of a reader and a writer round a call: what was unread before it and is left after it, what was written
+-- before it and is after it
+pub record Traffic : Type 0 where
+  pub unread : Option (List ℕ)
+  pub left : Option (List ℕ)
+  pub written : Option (List ℕ)
+  pub after : Option (List ℕ)
+
+-- the traffic of a reader and a writer, each before the call and after it
+abbrev pub traffic_of : {R W : Type 0} → (R → Option (List ℕ)) → (W → Option (List ℕ)) → R → R → W → W → Traffic
+traffic_of remaining contents reader reader_after writer writer_after = record {
+  unread = remaining reader;
+  left = remaining reader_after;
+  written = contents writer;
+  after = contents writer_after;
+}
+
 -- the reader was read to its end, what it gave is UTF-8, and what was written is its printed reading
-pub record PrintsReading (settings : SettingsOf) (names : List NamedReference) (unread left written after : Option (List ℕ)) : Type 0 where
+pub record PrintsReading (settings : SettingsOf) (names : List NamedReference) (known : Traffic) : Type 0 where
   pub bytes : List ℕ
-  pub consumed : Consumes unread left bytes
-  pub at_end : IsAtEnd left
+  pub consumed : Consumes known.unread known.left bytes
+  pub at_end : IsAtEnd known.left
   pub utf8 : IsUtf8 bytes
-  pub printed : Appends written after (printed_reading settings names bytes)
+  pub printed : Appends known.written known.after (printed_reading settings names bytes)
 
 -- the same, but only a beginning was written
-pub record PrintsBeginning (settings : SettingsOf) (names : List NamedReference) (unread left written after : Option (List ℕ)) : Type 0 where
+pub record PrintsBeginning (settings : SettingsOf) (names : List NamedReference) (known : Traffic) : Type 0 where
   pub bytes : List ℕ
-  pub consumed : Consumes unread left bytes
-  pub at_end : IsAtEnd left
+  pub consumed : Consumes known.unread known.left bytes
+  pub at_end : IsAtEnd known.left
   pub utf8 : IsUtf8 bytes
-  pub printed : AppendsBeginning written after (printed_reading settings names bytes)
+  pub printed : AppendsBeginning known.written known.after (printed_reading settings names bytes)
 
 -- the reader was read to its end, what it gave is no UTF-8, and nothing was written
-pub record PrintsNothing (unread left written after : Option (List ℕ)) : Type 0 where
+pub record PrintsNothing (known : Traffic) : Type 0 where
   pub bytes : List ℕ
-  pub consumed : Consumes unread left bytes
-  pub at_end : IsAtEnd left
+  pub consumed : Consumes known.unread known.left bytes
+  pub at_end : IsAtEnd known.left
   pub no_utf8 : ¬ IsUtf8 bytes
-  pub kept : Keeps written after
+  pub kept : Keeps known.written known.after

@@ -4,7 +4,7 @@ ghost use Rattle.std.specs.Str.{IsUtf8, chars};
 ghost use Rattle.devices.specs.Device.{IsRefusal, reported_failures};
 ghost use Rattle.html5ever_interface.specs.Options.{options_of};
 ghost use Rattle.html5cli.specs.Settings.{options_said, said_by};
-ghost use Rattle.html5cli.specs.Printing.{printer_means, printed_reading, PrintsReading, PrintsBeginning, PrintsNothing};
+ghost use Rattle.html5cli.specs.Printing.{printer_means, printed_reading, traffic_of, PrintsReading, PrintsBeginning, PrintsNothing};
 ghost use Rattle.html5feed.specs.Starting.{CanStart};
 ghost use Rattle.html5ever.specs.Tokenizer.{ReadsOn};
 
@@ -238,15 +238,14 @@ pub fn print_tokens<R: Source, W: Target, A: Allocator + Copy>(
 ) -> Result<(), Fault>
     requires start { CanStart settings.now.initial_state }
     ensures ok { OnOk result (PrintsReading (said_by settings.now) names.now
-        (R.remaining reader.old) (R.remaining reader.new) (W.contents writer.old) (W.contents writer.new)) }
+        (traffic_of R.remaining W.contents reader.old reader.new writer.old writer.new)) }
 
     // When each fault comes, and what it leaves.
     ensures not_utf8 { result ≡ Err Fault.NotUtf8
-        → PrintsNothing
-        (R.remaining reader.old) (R.remaining reader.new) (W.contents writer.old) (W.contents writer.new) }
+        → PrintsNothing (traffic_of R.remaining W.contents reader.old reader.new writer.old writer.new) }
     ensures beginning { OnErr result (Keeps (W.contents writer.old) (W.contents writer.new)
         ⊎ PrintsBeginning (said_by settings.now) names.now
-        (R.remaining reader.old) (R.remaining reader.new) (W.contents writer.old) (W.contents writer.new)) }
+        (traffic_of R.remaining W.contents reader.old reader.new writer.old writer.new)) }
     ensures failed_read { R.failures reader.new ≢ R.failures reader.old
         → Keeps (W.contents writer.old) (W.contents writer.new) }
     ensures device { R.failures reader.new + W.failures writer.new

@@ -3,7 +3,7 @@ ghost use Rattle.std.specs.Prelude.{◌≡◌, ◌≢◌, ◌+◌, ◌≤◌, �
 ghost use Rattle.std.specs.Io.KnownBytes.{Keeps};
 ghost use Rattle.html5cli.specs.Ending.{status_of, line_of, failures_of, TriesLine, PrintsAsSaid, PrintsBeginningAsSaid};
 ghost use Rattle.html5cli.specs.Ending.{IsNoTable, SayFault, SayBadTable};
-ghost use Rattle.html5cli.specs.Printing.{PrintsNothing};
+ghost use Rattle.html5cli.specs.Printing.{traffic_of, PrintsNothing};
 ghost use Rattle.html5cli.specs.Settings.{settings_said};
 ghost use Rattle.html5cli.specs.declared.run.Ending.{Ending};
 ghost use Rattle.markup5ever.specs.declared.data.TableError.{TableError};
@@ -126,7 +126,7 @@ fn print_by_words<R: Source, W: Target, A: Allocator + Copy>(
 ) -> Ending
     ensures printed { result ≡ Ending.Printed
         → PrintsAsSaid (map string_bytes words.now)
-        (R.remaining reader.old) (R.remaining reader.new) (W.contents writer.old) (W.contents writer.new) }
+        (traffic_of R.remaining W.contents reader.old reader.new writer.old writer.new) }
     ensures usage { (result ≡ Ending.Usage) ↔ IsNone (settings_said (map string_bytes words.now)) }
     ensures untouched { result ≡ Ending.Usage → (reader.new ≡ reader.old) × (writer.new ≡ writer.old) }
 
@@ -138,11 +138,10 @@ fn print_by_words<R: Source, W: Target, A: Allocator + Copy>(
 
     // What each other end says.
     ensures not_utf8 { result ≡ Ending.Faulted Fault.NotUtf8
-        → PrintsNothing
-        (R.remaining reader.old) (R.remaining reader.new) (W.contents writer.old) (W.contents writer.new) }
+        → PrintsNothing (traffic_of R.remaining W.contents reader.old reader.new writer.old writer.new) }
     ensures beginning { result ≢ Ending.Printed → Keeps (W.contents writer.old) (W.contents writer.new)
         ⊎ PrintsBeginningAsSaid (map string_bytes words.now)
-        (R.remaining reader.old) (R.remaining reader.new) (W.contents writer.old) (W.contents writer.new) }
+        (traffic_of R.remaining W.contents reader.old reader.new writer.old writer.new) }
     ensures failed_read { R.failures reader.new ≢ R.failures reader.old
         → Keeps (W.contents writer.old) (W.contents writer.new) }
     ensures device { R.failures reader.new + W.failures writer.new
@@ -165,8 +164,7 @@ fn print_by_words<R: Source, W: Target, A: Allocator + Copy>(
 /// fails nothing changes.
 pub fn report<E: Target>(errors: &mut E, ending: Ending) -> u8
     ensures status { result ≡ status_of ending }
-    ensures line { TriesLine (E.contents errors.old) (E.contents errors.new)
-        (E.failures errors.old) (E.failures errors.new) (line_of ending) }
+    ensures line { TriesLine E.contents E.failures errors.old errors.new (line_of ending) }
     ensures silent { ending ≡ Ending.Printed → errors.new ≡ errors.old }
 {
     let line = ending.line();
@@ -187,21 +185,19 @@ pub fn run<R: Source, W: Target, E: Target, A: Allocator + Copy>(
     // What each status says.
     ensures printed { result ≡ 0
         → PrintsAsSaid (map string_bytes words.items)
-        (R.remaining reader.old) (R.remaining reader.new) (W.contents writer.old) (W.contents writer.new) }
+        (traffic_of R.remaining W.contents reader.old reader.new writer.old writer.new) }
     ensures usage { (result ≡ 2) ↔ IsNone (settings_said (map string_bytes words.items)) }
     ensures untouched { result ≡ 2 → (reader.new ≡ reader.old) × (writer.new ≡ writer.old) }
     ensures bad_table { result ≡ 4 → (error : TableError) × SayFault (map string_bytes words.items) error
-        × TriesLine (E.contents errors.old) (E.contents errors.new)
-        (E.failures errors.old) (E.failures errors.new) (line_of (Ending.NoTable error)) }
+        × TriesLine E.contents E.failures errors.old errors.new (line_of (Ending.NoTable error)) }
     ensures unread { result ≡ 4 → (reader.new ≡ reader.old) × (writer.new ≡ writer.old) }
     ensures faulty { SayBadTable (map string_bytes words.items)
         → Contains (4 ∷ 5 ∷ []) result × (reader.new ≡ reader.old) × (writer.new ≡ writer.old) }
     ensures not_utf8 { result ≡ 3
-        → PrintsNothing
-        (R.remaining reader.old) (R.remaining reader.new) (W.contents writer.old) (W.contents writer.new) }
+        → PrintsNothing (traffic_of R.remaining W.contents reader.old reader.new writer.old writer.new) }
     ensures beginning { result ≢ 0 → Keeps (W.contents writer.old) (W.contents writer.new)
         ⊎ PrintsBeginningAsSaid (map string_bytes words.items)
-        (R.remaining reader.old) (R.remaining reader.new) (W.contents writer.old) (W.contents writer.new) }
+        (traffic_of R.remaining W.contents reader.old reader.new writer.old writer.new) }
     ensures failed_read { R.failures reader.new ≢ R.failures reader.old
         → Keeps (W.contents writer.old) (W.contents writer.new) }
     ensures device { R.failures reader.new + W.failures writer.new
@@ -209,8 +205,7 @@ pub fn run<R: Source, W: Target, E: Target, A: Allocator + Copy>(
 
     // What the line tells.
     ensures told { (ending : Ending) × (result ≡ status_of ending)
-        × TriesLine (E.contents errors.old) (E.contents errors.new)
-        (E.failures errors.old) (E.failures errors.new) (line_of ending) }
+        × TriesLine E.contents E.failures errors.old errors.new (line_of ending) }
     ensures silent { result ≡ 0 → errors.new ≡ errors.old }
 {
     let ending = print_by_words(alloc, &words, reader, writer);
