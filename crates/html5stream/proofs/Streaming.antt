@@ -8,7 +8,7 @@ use Rattle.std.proofs.lemmas.List.{take_all}
 use Rattle.std.proofs.lemmas.Result.{IfErr-at_err}
 use Rattle.std.proofs.lemmas.Str.{IsUtf8-append, IsUtf8-nil, chars-append, chars-nil}
 use Rattle.devices.proofs.KnownBytes.{Consumes-append}
-use Rattle.utf8_pieces.specs.Pieces.{Decoding, IsCutCharacter, IsFault, IsNeverUtf8, IsTextThenCut, place_behind}
+use Rattle.utf8_pieces.specs.Pieces.{Decoding, IsCutCharacter, IsFault, IsNeverUtf8, place_behind}
 use Rattle.utf8_pieces.specs.declared.error.DecodeError.{DecodeError}
 use Rattle.utf8_pieces.specs.declared.error.DecodeError.TheVariants as decoder
 use Rattle.utf8_pieces.proofs.Cuts.{no_text_within}

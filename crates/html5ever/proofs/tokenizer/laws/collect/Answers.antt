@@ -8,9 +8,10 @@ use Rattle.html5ever.specs.Tokenizer.{rules_of}
 use Rattle.html5ever.proofs.Wholes.{whole-refusal}
 use Rattle.html5ever.proofs.tokenizer.laws.collect.Goals as goal
 
-pub returns-in-Err-clause-refusal : goal.returns-in-Err-clause-refusal
-returns-in-Err-clause-refusal g c =
+pub returns-in-Err : goal.returns-in-Err
+returns-in-Err g c =
     let stops = rw c.in-Err.is at c.read_whole-sink.ensures.stops in
-    whole-refusal collector_means c.in-Err.error c.new-sink.result.collected
+    let refusal = whole-refusal collector_means c.in-Err.error c.new-sink.result.collected
     (all_messages collector_means (rules_of (options_of c.args.opts) c.args.names.now) (start_of (options_of c.args.opts)) c.new-sink.result.collected (chars (string_bytes c.args.text)))
-    c.read_whole-sink.result.0.collected stops
+    c.read_whole-sink.result.0.collected stops in
+    record { reads = record { holds = tt; no_fault = tt; refusal = refusal } }
