@@ -36,7 +36,7 @@ use Rattle.html5ever_interface.specs.Token.Reply.{KeepOn}
 use Rattle.std.specs.Result.{IsErrAnd}
 use Rattle.std.proofs.lemmas.Result.{err_from_is_err_and}
 
--- behind a character that was read at most that one is held
+-- after a character that was read at most that one is held
 pub held_len-behind : (h : Here Open) (later : Open) → HoldsAtMostOne h → Opens later ≡ behind h → held_len later ≤ 1
 unfolding behind
 held_len-behind (Tells told opened) later one is = let same : later ≡ opened = cc in rw same one
@@ -47,12 +47,12 @@ abbrev pub tag_in : Next → List Told
 tag_in (Opens later) = []
 tag_in (Closes tag later) = Tag tag ∷ []
 
--- what is open behind a character, in the sink's state before that tag
+-- what is open after a character, in the sink's state before that tag
 abbrev pub open_behind : {S H : Type 0} → (S → Told → ℕ → Reply H) → S → ℕ → List ℕ → Next → Open
 open_behind reply s line last (Opens later) = later
 open_behind reply s line last (Closes tag later) = open_after_reply (last_behind last tag) (reply s (Tag tag) line)
 
--- the last start tag behind a character
+-- the last start tag after a character
 abbrev pub last_in : List ℕ → Next → List ℕ
 last_in last (Opens later) = last
 last_in last (Closes tag later) = last_behind last tag
@@ -62,7 +62,7 @@ unfolding last_here behind
 last_here-behind last (Tells told later) = refl
 last_here-behind last (TellsTag told tag) = refl
 
--- behind a tag Data goes on, unless the reply to it chooses
+-- after a tag Data goes on, unless the reply to it chooses
 pub closes-open : (h : Here Open) (tag : TagOf) (later : Open) → Closes tag later ≡ behind h → later ≡ Between Data
 unfolding behind
 closes-open (Tells told opened) tag later e = cc
@@ -160,7 +160,7 @@ module _ {S H : Type 0} (step : S → Told → ℕ → S) (reply : S → Told �
   messages-tokens line d (Tells told later) = ap (on_line line) (sym (append-nil (bad_character_error rules.exact d ++ told)))
   messages-tokens line d (TellsTag told tag) = refl
 
-  -- the reply to a tag is asked behind all that was told before
+  -- the reply to a tag is asked after all that was told before
   opened-behind : (s : S) (line : ℕ) (last : List ℕ) (d : ℕ) (h : Here Open)
       → opened_here step reply rules s line last d h ≡ open_behind reply (stepped step s (on_line line (bad_character_error rules.exact d ++ tokens_of h))) line last (behind h)
   unfolding opened_here tokens_of behind

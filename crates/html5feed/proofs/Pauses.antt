@@ -1,4 +1,4 @@
--- Where a feed pauses: told by what was told before, as by the start behind it.
+-- Where a feed pauses: told by what was told before, as by the start after it.
 use Rattle.std.proofs.Common.{◌≡◌, ℕ, Bool, true, false, List, [], ◌∷◌, ◌++◌, refl, ap, sym, ◌∙◌, length, drop, ◌<◌, suc, arith}
 use Rattle.std.specs.Prelude.{if◌then◌else◌}
 use Rattle.std.proofs.Math.Seq.{drop-append_seam}
@@ -64,7 +64,7 @@ pauses-parts : {H : Type 0} → (p : Bool) (r q : Reply H) → pauses r ≡ p �
 pauses-parts true r q h none = absurd (false≢true (sym none ∙ rw h h))
 pauses-parts false r q h none = (h, rw h at none)
 
--- a feed behind a pause, and one that goes on
+-- a feed after a pause, and one that goes on
 up_to_pause-pauses : {H : Type 0} → (r : Reply H) (c : ℕ) (text : List ℕ) (rest : Feed H) → pauses r ≡ true
     → up_to_pause r c text rest ≡ record { taken = c ∷ []; left = text; answer = r }
 unfolding up_to_pause
@@ -100,7 +100,7 @@ up_to_pause-shorter true r c text rest h e = rw (up_to_pause-pauses r c text res
 up_to_pause-shorter false r c text rest h e = rw (up_to_pause-goes_on r c text rest h) (λ pausing. omega (arith, e pausing))
 
 module _ {S H : Type 0} (step : S → Told → ℕ → S) (reply : S → Told → ℕ → Reply H) (foreign : S → Bool) (rules : Rules) where
-  -- what is told beyond X is what the rest tells from the start behind X
+  -- what is told beyond X is what the rest tells from the start after X
   pub told_beyond-behind : (K : Start) (s : S) (X Z : List ℕ)
       → told_beyond step reply foreign rules K s X Z ≡ messages (told step reply foreign rules (start_behind step reply foreign rules K s X) (state_behind step reply foreign rules K s X) Z)
   told_beyond-behind K s X Z =
@@ -119,14 +119,14 @@ module _ {S H : Type 0} (step : S → Told → ℕ → S) (reply : S → Told �
   unfolding pause_here
   pause_at-behind K s X c = ap (first_pause step reply (state_behind step reply foreign rules K s X)) (told_beyond-behind K s X (c ∷ []))
 
-  -- the state behind two texts
+  -- the state after two texts
   pub state_behind-append : (K : Start) (s : S) (X Y : List ℕ)
       → state_behind step reply foreign rules K s (X ++ Y)
       ≡ state_behind step reply foreign rules (start_behind step reply foreign rules K s X) (state_behind step reply foreign rules K s X) Y
   state_behind-append K s X Y =
       ap (stepped step s) (told-append step reply foreign rules K s X Y) ∙ stepped-append step s _ _
 
-  -- a feed behind two texts is one behind the second, from the start behind the first
+  -- a feed after two texts is one after the second, from the start after the first
   pub feed-behind : (K : Start) (s : S) (X Y Q : List ℕ)
       → feed step reply foreign rules K s (X ++ Y) Q
       ≡ feed step reply foreign rules (start_behind step reply foreign rules K s X) (state_behind step reply foreign rules K s X) Y Q
@@ -142,7 +142,7 @@ module _ {S H : Type 0} (step : S → Told → ℕ → S) (reply : S → Told �
       ∙ ap (λ l. up_to_pause (pause_at step reply foreign rules (start_behind step reply foreign rules K s X) (state_behind step reply foreign rules K s X) Y c) c Q (feed step reply foreign rules K s l Q)) (append_assoc X Y (c ∷ []))
       ∙ ap (up_to_pause (pause_at step reply foreign rules (start_behind step reply foreign rules K s X) (state_behind step reply foreign rules K s X) Y c) c Q) (feed-behind K s X (Y ++ c ∷ []) Q)
 
-  -- a feed behind X is one from the start behind X
+  -- a feed after X is one from the start after X
   pub feed-anew : (K : Start) (s : S) (X Q : List ℕ)
       → feed step reply foreign rules K s X Q
       ≡ feed step reply foreign rules (start_behind step reply foreign rules K s X) (state_behind step reply foreign rules K s X) [] Q
@@ -166,7 +166,7 @@ module _ {S H : Type 0} (step : S → Told → ℕ → S) (reply : S → Told �
   pub feed-takes : (K : Start) (s : S) (c : ℕ) (Q : List ℕ) → (more : List ℕ) × ((feed step reply foreign rules K s [] (c ∷ Q)).taken ≡ c ∷ more)
   feed-takes K s c Q = rw (feed-cons K s c Q) (up_to_pause-takes (pauses (pause_here K s c)) _ c Q _ refl)
 
-  -- a feed takes what nothing pauses in, and goes on behind it
+  -- a feed takes what nothing pauses in, and goes on after it
   pub feed-goes_on : (K : Start) (s : S) (Y Q : List ℕ) → pauses (first_pause step reply s (messages (told step reply foreign rules K s Y))) ≡ false
       → feed step reply foreign rules K s [] (Y ++ Q)
       ≡ takes_before Y (feed step reply foreign rules (start_behind step reply foreign rules K s Y) (state_behind step reply foreign rules K s Y) [] Q)

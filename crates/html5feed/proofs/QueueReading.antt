@@ -91,14 +91,14 @@ takes_before-twice : {H : Type 0} → (front item : List ℕ) (rest : Feed H) �
 takes_before-twice front item rest = ap (λ l. record { taken = l; left = rest.left; answer = rest.answer }) (sym (append_assoc front item rest.taken))
 
 module _ {S H : Type 0} (step : S → Told → ℕ → S) (reply : S → Told → ℕ → Reply H) (foreign : S → Bool) (rules : Rules) where
-  -- the messages of a text that is taken, and the start behind it
+  -- the messages of a text that is taken, and the start after it
   abbrev told_of : Start → S → List ℕ → List Message
   told_of K s X = messages (told step reply foreign rules K s X)
 
   abbrev pub fed : Start → S → List ℕ → Feed H
   fed K s Q = feed step reply foreign rules K s [] Q
 
-  -- the characters taken so far were told, the tokenizer stands behind them, and none of them paused
+  -- the characters taken so far were told, the tokenizer stands after them, and none of them paused
   pub record HasRead (K L : Start) (old new : TextQueue) (s t : S) : Type 0 where
     pub front : List ℕ
     pub takes : Takes old new front
@@ -266,7 +266,7 @@ module _ {S H : Type 0} (step : S → Told → ℕ → S) (reply : S → Told �
       ∙ ap (λ v. told_of K s read.front ++ told_of L v (item ++ is_taken.more)) (sym read.state)
       ∙ ap (λ M. told_of K s read.front ++ M) (told-append step reply foreign rules L t item is_taken.more)
 
-  -- the start behind it
+  -- the start after it
   after-parts : (K L : Start) (old mid new : TextQueue) (s t : S) (item : List ℕ) → (read : HasRead K L old mid s t) → Takes mid new item
       → (is_taken : IsTaken L t item new.text)
       → after step reply foreign rules K s (fed K s old.text).taken
@@ -314,7 +314,7 @@ module _ {S H : Type 0} (step : S → Told → ℕ → S) (reply : S → Told �
       stopped = rw (told_beyond-behind step reply foreign rules K s read.front item, ← read.state, ← read.position) stops;
     }
 
-  -- what is left behind an item is an end of the text
+  -- what is left after an item is an end of the text
   pub end-behind : (K L : Start) (old mid new : TextQueue) (s t : S) (item : List ℕ) → HasRead K L old mid s t → Takes mid new item → IsEndOf new.text old.text
   end-behind K L old mid new s t item read taken = record {
     front = read.front ++ item;
@@ -335,7 +335,7 @@ module _ {S H : Type 0} (step : S → Told → ℕ → S) (reply : S → Told �
       let waits : mid.text ≡ [] = (nil-from_append read.front mid.text (sym read.takes.text ∙ nothing)).1 in
       cons≢nil c new.text (sym taken.text ∙ waits)
 
-  -- the end of a feed: all was taken, or it pauses behind an item
+  -- the end of a feed: all was taken, or it pauses after an item
   pub record HasFed (K N : Start) (old new : TextQueue) (s u : S) (answer : Reply H) : Type 0 where
     pub told_all : u ≡ stepped step s (messages (told step reply foreign rules K s (feed step reply foreign rules K s [] old.text).taken))
     pub position : N ≡ after step reply foreign rules K s (feed step reply foreign rules K s [] old.text).taken

@@ -1,4 +1,4 @@
--- A character behind what is held of a reference, or of what may begin a keyword: it is held too, or it decides.
+-- A character after what is held of a reference, or of what may begin a keyword: it is held too, or it decides.
 use Rattle.std.proofs.Common.{◌≡◌, ℕ, ◌≤◌, ◌+◌, Bool, true, false, List, [], ◌∷◌, ◌++◌, refl, ap, sym, ◌∙◌, Some, None, Result, Ok, length-append, arith}
 use Rattle.std.specs.Prelude.{◌==◌, ◌<◌, ◌^◌, if◌then◌else◌}
 use Rattle.std.proofs.lemmas.Bool.{false≢true, eqb-true, and_parts}

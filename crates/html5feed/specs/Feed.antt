@@ -10,7 +10,7 @@ use Rattle.markup5ever.specs.BufferQueue.{TextQueue}
 use Rattle.markup5ever.specs.declared.tokenizer_result.TokenizerResult.{TokenizerResult}
 use Rattle.markup5ever.specs.declared.tokenizer_result.TokenizerResult.TheVariants.{Done, Script, EncodingIndicator}
 
--- whether the tokenizer pauses behind a tag that gets this reply
+-- whether the tokenizer pauses after a tag that gets this reply
 abbrev pub pauses : {H : Type 0} → Reply H → Bool
 pauses (RunScript handle) = true
 pauses (SwitchEncoding text) = true
@@ -32,7 +32,7 @@ pub record Feed (H : Type 0) : Type 0 where
 abbrev pub takes_before : {H : Type 0} → List ℕ → Feed H → Feed H
 takes_before text feed = record { taken = text ++ feed.taken; left = feed.left; answer = feed.answer }
 
--- a feed of c and a text: it ends behind c where the reply there pauses, and else it is c and then the feed `rest`
+-- a feed of c and a text: it ends after c where the reply there pauses, and else it is c and then the feed `rest`
 unfoldable pub up_to_pause : {H : Type 0} → Reply H → ℕ → List ℕ → Feed H → Feed H
 up_to_pause reply c text rest =
     if pauses reply then record { taken = c ∷ []; left = text; answer = reply }
@@ -56,12 +56,12 @@ module _ {S H : Type 0} (step : S → Told → ℕ → S) (reply : S → Told �
       if pauses (reply s m.token m.line) then reply s m.token m.line else first_pause (step s m.token m.line) M
 
 module _ {S H : Type 0} (step : S → Told → ℕ → S) (reply : S → Told → ℕ → Reply H) (foreign : S → Bool) where
-  -- the reply that pauses at c, behind a text, where one does
+  -- the reply that pauses at c, after a text, where one does
   abbrev pub pause_at : Rules → Start → S → List ℕ → ℕ → Reply H
   pause_at rules K s text c =
       first_pause step reply (stepped step s (messages (told step reply foreign rules K s text))) (told_beyond step reply foreign rules K s text (c ∷ []))
 
-  -- what a feed of a queue's text does behind `text`: it ends behind the first tag whose reply pauses
+  -- what a feed of a queue's text does after `text`: it ends after the first tag whose reply pauses
   unfoldable pub feed : Rules → Start → S → List ℕ → List ℕ → Feed H
   feed rules K s text [] = record { taken = []; left = []; answer = KeepOn }
   feed rules K s text (c ∷ queue) = up_to_pause (pause_at rules K s text c) c queue (feed rules K s (text ++ c ∷ []) queue)

@@ -21,8 +21,8 @@ abbrev pub IsItem : Rules → Start → List ℕ → Type 0
 IsItem rules K item = (length item ≤ 1) ⊎ IsRun rules K item
 
 module _ {S H : Type 0} (step : S → Told → ℕ → S) (reply : S → Told → ℕ → Reply H) (foreign : S → Bool) (faulted : S → Told → ℕ → S) (rules : Rules) where
-  -- behind `text` a feed of `queue` was refused: all that the characters `front` tell was told, the feed stopped within
-  -- what the item behind them tells, and what follows that item is left
+  -- after `text` a feed of `queue` was refused: all that the characters `front` tell was told, the feed stopped within
+  -- what the item after them tells, and what follows that item is left
   pub record RefusedBehind (e : TokenizerError) (K : Start) (s : S) (text queue left : List ℕ) (t : S) : Type 0 where
     pub front : List ℕ
     pub item : List ℕ

@@ -1,5 +1,5 @@
 -- What is read at a character where a reference is not decided, or what may begin a keyword.
-use Rattle.std.specs.Prelude.{◌≡◌, ◌≤◌, ℕ, ◌+◌, Bool, true, false, Result, Ok, IfErr}
+use Rattle.std.specs.Prelude.{◌≡◌, ◌≤◌, ℕ, ◌+◌, Bool, true, false, List, Result, Ok, IfErr}
 use Rattle.html5ever_interface.specs.Sink.{Means, on_line}
 use Rattle.html5grammar.specs.Machine.{brought_at}
 use Rattle.html5grammar.specs.Slice.{tokens_of_late}
@@ -7,6 +7,12 @@ use Rattle.html5grammar.specs.Start.{Start, Rules, held_len}
 use Rattle.html5opened.specs.Undecided.{BelongsTo, Decides}
 use Rattle.html5opened.specs.declared.error.TokenizerError.{TokenizerError}
 use Rattle.html5states.specs.Telling.{Tells, IsRefusal, faults_of}
+use Rattle.html5states.specs.declared.teller.Teller.{Teller}
+use Rattle.markup5ever.specs.NamedReferences.{NamedReference}
+
+-- what is read by, where a teller tells and the names are these
+abbrev pub rules_with : {Q Z : Type 0} → Teller Q Z → List NamedReference → Rules
+rules_with teller names = record { exact = teller.exact_errors; names = names }
 
 module _ {X S H : Type 0} (means : Means X S H) (count : X → ℕ) where
   -- the character c, read where `old` stands and `before` is the sink: `Ok true` where it belongs to what is held, `Ok false` where

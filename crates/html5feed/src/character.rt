@@ -2,9 +2,8 @@
 #![tactic(auto, unfolding(html5opened::specs::CharRef::with_reference))]
 
 ghost use Rattle.std.specs.Prelude.{◌≡◌, ◌<◌, ◌≤◌, ◌+◌, ◌∷◌, [], false, Some, IfOk, IfErr, OnOk, string_bytes};
-ghost use Rattle.html5ever_interface.specs.Sink.{stepped, on_line};
+ghost use Rattle.html5ever_interface.specs.Sink.{on_line};
 ghost use Rattle.html5ever_interface.specs.Token.{Told, tag_of};
-ghost use Rattle.html5grammar.specs.ErrorText.{bad_character_error};
 ghost use Rattle.html5grammar.specs.NormalisedText.{input_after};
 ghost use Rattle.html5grammar.specs.Reading.{messages_so_far, start_after, last_behind, open_after_reply};
 ghost use Rattle.html5grammar.specs.Start.{is_undecided_open, held_len};
@@ -13,68 +12,32 @@ ghost use Rattle.html5grammar.specs.Start.Open.{Between};
 ghost use Rattle.html5opened.specs.CurrentTag.{opened_of, last_name_of};
 ghost use Rattle.html5feed.specs.Feed.{reply_in, first_pause};
 ghost use Rattle.html5grammar.specs.Machine.{step_at, messages_here, opened_here, last_here};
-ghost use Rattle.html5opened.specs.Steps.{Leads, Ends, tokens_of, behind};
-ghost use Rattle.html5states.specs.Telling.{Tells, IsRefusal, faults_of};
+ghost use Rattle.html5opened.specs.Steps.{Leads};
+ghost use Rattle.html5states.specs.Telling.{Emits, Reads, Tells, faults_of};
 
 use crate::position::Position;
 use crate::rules::Rules;
 use crate::undecided::read_undecided;
 use html5ever_interface::interface::sink::TokenSink;
 use html5ever_interface::interface::token::{Tag, Token, TokenSinkResult};
-use html5opened::char_ref::CharRef;
 use html5opened::error::TokenizerError;
 use html5opened::opened::{Opened, Progress, Step};
 use html5states::teller::Teller;
 use markup5ever::tokenizer_result::TokenizerResult;
 use std::alloc::Allocator;
 
-// Reports a bad character, with exact errors.
-#[inline(always)]
-fn report_bad_character<S: TokenSink<Token<A>>, A: Allocator + Copy>(
-    alloc: A,
-    sink: &mut S,
-    exact_errors: bool,
-    c: char,
-    line: u64,
-) -> Result<(), TokenizerError>
-    ensures tells { Tells S.means.step S.means.faulted result (S.means.state sink.old)
-        (on_line line (bad_character_error exact_errors c)) (S.means.state sink.new) }
-    ensures faults { S.faults sink.new ≡ S.faults sink.old + faults_of result }
-    ensures refusal { IfErr result IsRefusal }
-{
-    let mut teller = Teller {
-        sink,
-        alloc,
-        exact_errors,
-        line,
-    };
-    teller.emit_bad_character(c)
-}
-
 // Reads one character in the state that is open. Where that is refused, nothing is held.
 #[inline(always)]
 fn step<S: TokenSink<Token<A>>, A: Allocator + Copy>(
-    alloc: A,
-    sink: &mut S,
-    exact_errors: bool,
+    teller: &mut Teller<'_, S, A>,
     opened: &mut Opened<A>,
     c: char,
-    line: u64,
 ) -> Step
     requires { is_undecided_open (opened_of opened.old) ≡ false }
-    ensures tells { Tells S.means.step S.means.faulted result (S.means.state sink.old)
-        (on_line line (tokens_of (step_at exact_errors (opened_of opened.old) c))) (S.means.state sink.new) }
-    ensures leads { Ends result opened.new (behind (step_at exact_errors (opened_of opened.old) c)) }
-    ensures last { last_name_of opened.new ≡ last_name_of opened.old }
+    ensures reads { Reads S.means S.faults result teller.old teller.new
+        (step_at teller.old.exact_errors (opened_of opened.old) c) opened.old opened.new }
     ensures held { IfErr result (λ error. held_len (opened_of opened.new) ≡ 0) }
-    ensures faults { S.faults sink.new ≡ S.faults sink.old + faults_of result }
 {
-    let mut teller = Teller {
-        sink,
-        alloc,
-        exact_errors,
-        line,
-    };
     let step = teller.step(opened, c);
     if step.is_err() {
         opened.comment.clear();
@@ -83,36 +46,27 @@ fn step<S: TokenSink<Token<A>>, A: Allocator + Copy>(
 }
 
 // Tells the sink a tag, and goes on as it replies.
-#[tactic(auto, unfolding(html5ever_interface::specs::Sink::stepped, crate::specs::Feed::first_pause))]
+#[tactic(auto, using(html5states::proofs::Tellings::tells_from_memory), unfolding(html5ever_interface::specs::Sink::stepped, crate::specs::Feed::first_pause))]
 #[inline(always)]
 fn tell_tag<S: TokenSink<Token<A>>, A: Allocator + Copy>(
-    alloc: A,
-    sink: &mut S,
+    teller: &mut Teller<'_, S, A>,
     position: &mut Position<A>,
     tag: Tag<A>,
-    line: u64,
 ) -> Result<TokenizerResult<S::Handle, String<A>>, TokenizerError>
     requires { position.old.opened ≡ Between Data }
-    ensures tells { Tells S.means.step S.means.faulted result (S.means.state sink.old)
-        (on_line line (Told.Tag (tag_of tag) ∷ [])) (S.means.state sink.new) }
+    ensures emits { Emits S.means S.faults result teller.old teller.new (Told.Tag (tag_of tag) ∷ []) }
     ensures leads { Leads result position.new.opened
         (open_after_reply (last_behind position.old.last_start_tag (tag_of tag))
-        (S.means.reply (S.means.state sink.old) (Told.Tag (tag_of tag)) line)) }
+        (S.means.reply (S.means.state teller.old.sink.now) (Told.Tag (tag_of tag)) teller.old.line)) }
     ensures last { OnOk result
         (position.new.last_start_tag ≡ last_behind position.old.last_start_tag (tag_of tag)) }
     ensures answer { IfOk result (λ answer. reply_in string_bytes answer
-        ≡ first_pause S.means.step S.means.reply (S.means.state sink.old) (on_line line (Told.Tag (tag_of tag) ∷ []))) }
+        ≡ first_pause S.means.step S.means.reply (S.means.state teller.old.sink.now)
+        (on_line teller.old.line (Told.Tag (tag_of tag) ∷ []))) }
     ensures input { position.new.input ≡ position.old.input }
     ensures held { held_len position.new.opened ≡ 0 }
-    ensures faults { S.faults sink.new ≡ S.faults sink.old + faults_of result }
 {
     position.note_tag(&tag)?;
-    let mut teller = Teller {
-        sink,
-        alloc,
-        exact_errors: false,
-        line,
-    };
     match teller.tell_tag(tag)? {
         TokenSinkResult::Continue => Ok(TokenizerResult::Done),
         TokenSinkResult::Plaintext => {
@@ -155,15 +109,14 @@ fn read_opened<S: TokenSink<Token<A>>, A: Allocator + Copy>(
     ensures faults { S.faults sink.new ≡ S.faults sink.old + faults_of result }
 {
     let line = position.input.line();
-    report_bad_character(alloc, sink, rules.exact_errors, c, line)?;
-    match step(
-        alloc,
+    let mut teller = Teller {
         sink,
-        rules.exact_errors,
-        &mut position.opened,
-        c,
+        alloc,
+        exact_errors: rules.exact_errors,
         line,
-    )? {
+    };
+    teller.emit_bad_character(c)?;
+    match step(&mut teller, &mut position.opened, c)? {
         Progress::Continues => Ok(TokenizerResult::Done),
         Progress::BeginsReference => {
             position.begin_reference();
@@ -171,12 +124,12 @@ fn read_opened<S: TokenSink<Token<A>>, A: Allocator + Copy>(
         }
         Progress::EndsTag { self_closing } => {
             let tag = position.opened.tag.end(alloc, self_closing);
-            tell_tag(alloc, sink, position, tag, line)
+            tell_tag(&mut teller, position, tag)
         }
     }
 }
 
-/// Reads one character of the stream. The answer is `Done`, but behind a tag whose reply pauses.
+/// Reads one character of the stream. The answer is `Done`, but after a tag whose reply pauses.
 #[inline(always)]
 pub fn read_character<S: TokenSink<Token<A>>, A: Allocator + Copy>(
     alloc: A,

@@ -60,7 +60,7 @@ impl Input {
         !self.ignore_lf && !self.discard_bom
     }
 
-    /// Whether the next character is no part of the text: a byte order mark, or a LF behind a CR.
+    /// Whether the next character is no part of the text: a byte order mark, or a LF after a CR.
     fn drops(&self, c: char) -> bool
         ensures { result ≡ drops_first self.now c }
     {

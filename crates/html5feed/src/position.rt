@@ -17,12 +17,13 @@ ghost use Rattle.html5opened.specs.CurrentTag.{is_between, opened_of, last_name_
 ghost use Rattle.html5feed.specs.Refused.{IsRun};
 ghost use Rattle.html5opened.specs.Runs.{IsRunAt, other_run_ends, run_ends, opened_after_run};
 ghost use Rattle.std.specs.Str.{IsUtf8, chars};
-ghost use Rattle.html5states.specs.Telling.{Tells, IsRefusal, tokens_in, faults_of};
+ghost use Rattle.html5states.specs.Telling.{Emits, Tells, IsRefusal, tokens_in, faults_of};
 ghost use Rattle.html5feed.specs.Starting.{CanStart};
+ghost use Rattle.html5feed.specs.Undecided.{rules_with};
 
 use crate::input::Input;
 use crate::rules::Rules;
-use crate::undecided::{decide_keyword, decide_reference};
+use crate::undecided::decide_keyword;
 use html5ever_interface::interface::sink::TokenSink;
 use html5ever_interface::interface::token::{Doctype, Tag, TagKind, Token};
 use html5ever_interface::options::TokenizerOpts;
@@ -34,6 +35,7 @@ use html5opened::keyword::holds_keyword;
 use html5opened::opened::Opened;
 use html5opened::runs::{push_run, run_ends};
 use html5states::teller::Teller;
+use markup5ever::data::NamedReferences;
 use std::alloc::{AllocError, Allocator, Global};
 use std::marker::Model;
 
@@ -128,37 +130,40 @@ impl<A: Allocator + Copy> Position<A> {
         ensures fits { self.old.input.line < 2 ^ 64 }
     {
         let line = self.input.line();
-        self.decide_at_end(alloc, sink, rules, line)?;
-        tell_end(alloc, sink, rules, &self.opened, line)
+        let mut teller = Teller {
+            sink,
+            alloc,
+            exact_errors: rules.exact_errors,
+            line,
+        };
+        self.decide_at_end(&mut teller, rules.names)?;
+        teller.tell_end_of_input(&self.opened)
     }
 
-    // Tells what the end of input decides of a reference, or of what stands behind `<!`.
+    // Tells what the end of input decides of a reference, or of what stands after `<!`.
     fn decide_at_end<S: TokenSink<Token<A>>>(
         &mut self,
-        alloc: A,
-        sink: &mut S,
-        rules: &Rules<'_, A>,
-        line: u64,
+        teller: &mut Teller<'_, S, A>,
+        names: &NamedReferences<A>,
     ) -> Result<(), TokenizerError>
-        ensures tells { Tells S.means.step S.means.faulted result (S.means.state sink.old)
-            (on_line line (tokens_of_late (late_at_end_of rules.now self.old.opened))) (S.means.state sink.new) }
-        ensures opened { OnOk result (self.new.opened ≡ open_at_end_of rules.now self.old.opened) }
+        ensures emits { Emits S.means S.faults result teller.old teller.new
+            (tokens_of_late (late_at_end_of (rules_with teller.old names.now) self.old.opened)) }
+        ensures opened { OnOk result
+            (self.new.opened ≡ open_at_end_of (rules_with teller.old names.now) self.old.opened) }
         ensures decided { OnOk result (is_undecided_open self.new.opened ≡ false) }
-        ensures faults { S.faults sink.new ≡ S.faults sink.old + faults_of result }
-        ensures refusal { IfErr result IsRefusal }
     {
         if self.in_reference {
-            decide_reference(alloc, sink, rules, &mut self.opened, &self.held, None, line)?;
+            teller.finish_reference(names, &mut self.opened, &self.held, None)?;
             self.in_reference = false;
             return Ok(());
         }
         if !holds_keyword(&self.opened) {
             return Ok(());
         }
-        decide_keyword(alloc, sink, rules, &mut self.opened, line)
+        decide_keyword(teller, &mut self.opened)
     }
 
-    /// Whether a reference is not decided, or what stands behind `<!`.
+    /// Whether a reference is not decided, or what stands after `<!`.
     #[inline(always)]
     pub(crate) fn is_undecided(&self) -> bool
         ensures { result ≡ is_undecided_open self.now.opened }
@@ -315,27 +320,4 @@ fn keep_name<A: Allocator>(last_name: &mut String<A>, tag: &Tag<A>) -> Result<()
             last_name.push_str(&tag.name.0)
         }
     }
-}
-
-// Tells what the end of input tells, where nothing is undecided.
-fn tell_end<S: TokenSink<Token<A>>, A: Allocator + Copy>(
-    alloc: A,
-    sink: &mut S,
-    rules: &Rules<'_, A>,
-    opened: &Opened<A>,
-    line: u64,
-) -> Result<(), TokenizerError>
-    requires decided { is_undecided_open (opened_of opened.now) ≡ false }
-    ensures tells { Tells S.means.step S.means.faulted result (S.means.state sink.old)
-        (on_line line (told_at_end_of rules.now.exact (opened_of opened.now))) (S.means.state sink.new) }
-    ensures faults { S.faults sink.new ≡ S.faults sink.old + faults_of result }
-    ensures refusal { IfErr result IsRefusal }
-{
-    let mut teller = Teller {
-        sink,
-        alloc,
-        exact_errors: rules.exact_errors,
-        line,
-    };
-    teller.tell_end_of_input(opened)
 }

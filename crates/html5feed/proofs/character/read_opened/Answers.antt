@@ -1,4 +1,4 @@
-use Rattle.std.proofs.Common.{◌∙◌, ap, subst, arith}
+use Rattle.std.proofs.Common.{◌∙◌, ap, subst, arith, rules}
 use Rattle.std.proofs.lemmas.Result.{IfOk-weaker, on_ok_weaker}
 use Rattle.html5opened.specs.CharRef.{begun_reference}
 use Rattle.html5opened.specs.Steps.{Leads}
@@ -8,79 +8,105 @@ use Rattle.html5opened.specs.CurrentTag.{opened_of}
 use Rattle.html5opened.proofs.Decided.{begun-decided, beside-decided, with_reference-none}
 use Rattle.html5feed.proofs.character.read_opened.Goals as goal
 
-pub returns-in_err-report_bad_character-clause-tells : goal.returns-in_err-report_bad_character-clause-tells
-returns-in_err-report_bad_character-clause-tells g c =
+pub returns-in_err-emit_bad_character-clause-tells : goal.returns-in_err-emit_bad_character-clause-tells
+returns-in_err-emit_bad_character-clause-tells g c =
     rw (← c.rules.view_is, ← c.position.view_is, with_reference-none _ _ _ (rw (← c.position.view_is) at c.requires) _, ← c.line-line.ensures.line)
-    (tells-bad g.S.TokenSink.means.step g.S.TokenSink.means.reply (record { exact = c.rules.inside.exact_errors; names = c.rules.inside.names.now }) c.position.inside.opened.state c.position.inside.opened (g.S.TokenSink.means.state c.args.sink.now) c.line-line.result c.args.c g.S.TokenSink.means.faulted c.from_residual.result _ _
-    c.from_residual.ensures.1 c.in_err-report_bad_character.ensures.refusal c.in_err-report_bad_character.ensures.tells)
+    (let told = tells-bad g.S.TokenSink.means.step g.S.TokenSink.means.reply (record { exact = c.rules.inside.exact_errors; names = c.rules.inside.names.now }) c.position.inside.opened.state c.position.inside.opened (g.S.TokenSink.means.state c.args.sink.now) c.line-line.result c.args.c g.S.TokenSink.means.faulted c.from_residual.result _ _
+    c.from_residual.ensures.1 c.in_err-emit_bad_character.ensures.refusal c.in_err-emit_bad_character.ensures.tells in
+    let kept = c.in_err-emit_bad_character.ensures.kept.sink in
+    search rules)
 
 pub returns-in_err-step-clause-tells : goal.returns-in_err-step-clause-tells
 returns-in_err-step-clause-tells g c =
+    let here = rw c.in_ok-emit_bad_character.ensures.kept.exact_errors at c.in_err-step.ensures.reads in
     rw (← c.rules.view_is, ← c.position.view_is, with_reference-none _ _ _ (rw (← c.position.view_is) at c.requires) _, ← c.line-line.ensures.line)
-    (tells-refused g.S.TokenSink.means.step g.S.TokenSink.means.reply (record { exact = c.rules.inside.exact_errors; names = c.rules.inside.names.now }) c.position.inside.opened.state c.position.inside.opened (g.S.TokenSink.means.state c.args.sink.now) c.line-line.result c.args.c _ _ c.in_ok-report_bad_character.ensures.tells g.row.A.Denot g.S.TokenSink.means.faulted c.from_residual-in_err-step.result _ _
-    c.from_residual-in_err-step.ensures.1 c.in_err-step.ensures.leads c.in_err-step.ensures.tells)
+    (let told = tells-refused g.S.TokenSink.means.step g.S.TokenSink.means.reply (record { exact = c.rules.inside.exact_errors; names = c.rules.inside.names.now }) c.position.inside.opened.state c.position.inside.opened (g.S.TokenSink.means.state c.args.sink.now) c.line-line.result c.args.c _ _ c.in_ok-emit_bad_character.ensures.tells g.row.A.Denot g.S.TokenSink.means.faulted c.from_residual-in_err-step.result _ _
+    c.from_residual-in_err-step.ensures.1 here.leads (rw c.in_ok-emit_bad_character.ensures.kept.line at here.tells) in
+    let kept = here.kept.sink ∙ c.in_ok-emit_bad_character.ensures.kept.sink in
+    search rules)
 
 pub returns-in_err-step-clause-leads : goal.returns-in_err-step-clause-leads
 returns-in_err-step-clause-leads g c =
+    let here = rw c.in_ok-emit_bad_character.ensures.kept.exact_errors at c.in_err-step.ensures.reads in
     rw (← c.rules.view_is, ← c.position.view_is, with_reference-none c.position.inside.in_reference c.position.inside.held (opened_of c.position.inside.opened) (rw (← c.position.view_is) at c.requires) (opened_of c.position.inside.opened), ← c.line-line.ensures.line)
     (leads-refused g.S.TokenSink.means.step g.S.TokenSink.means.reply (record { exact = c.rules.inside.exact_errors; names = c.rules.inside.names.now }) c.position.inside.opened.state c.position.inside.opened (g.S.TokenSink.means.state c.args.sink.now) c.line-line.result c.args.c g.row.A.Denot c.from_residual-in_err-step.result _ _ _
-    c.from_residual-in_err-step.ensures.1 c.in_err-step.ensures.leads)
+    c.from_residual-in_err-step.ensures.1 here.leads)
 
 pub tell_tag-requires : goal.tell_tag-requires
-tell_tag-requires g c = with_reference-none _ _ _ (rw (← c.position.view_is) at c.requires) _ ∙ data-any_tag c.step.new.opened.state c.step.new.opened (record c.step.new.opened { tag = c.end-tag.new.self }) (closes-open _ _ _ (rw c.in-EndsTag.is at c.in_ok-step.ensures.leads.0))
+tell_tag-requires g c =
+    let here = rw c.in_ok-emit_bad_character.ensures.kept.exact_errors at c.in_ok-step.ensures.reads in
+    with_reference-none _ _ _ (rw (← c.position.view_is) at c.requires) _ ∙ data-any_tag c.step.new.opened.state c.step.new.opened (record c.step.new.opened { tag = c.end-tag.new.self }) (closes-open _ _ _ (rw c.in-EndsTag.is at here.leads.0))
 
-pub returns-in-EndsTag-clause-tells : goal.returns-in-EndsTag-clause-tells
-returns-in-EndsTag-clause-tells g c =
+pub returns-clause-tells : goal.returns-clause-tells
+returns-clause-tells g c =
+    let here = rw c.in_ok-emit_bad_character.ensures.kept.exact_errors at c.in_ok-step.ensures.reads in
+    let line = here.kept.line ∙ c.in_ok-emit_bad_character.ensures.kept.line in
     rw (← c.rules.view_is, ← c.position.view_is, with_reference-none _ _ _ (rw (← c.position.view_is) at c.requires) _, ← c.line-line.ensures.line)
-    (tells-ended g.S.TokenSink.means.step g.S.TokenSink.means.reply (record { exact = c.rules.inside.exact_errors; names = c.rules.inside.names.now }) c.position.inside.opened.state c.position.inside.opened (g.S.TokenSink.means.state c.args.sink.now) c.line-line.result c.args.c _ _ c.in_ok-report_bad_character.ensures.tells g.S.TokenSink.means.faulted c.tell_tag.result _ _ _ c.in_ok-step.ensures.tells (rw c.in-EndsTag.is at c.in_ok-step.ensures.leads.0) (rw c.end-tag.ensures at c.tell_tag.ensures.tells))
+    (let told = tells-ended g.S.TokenSink.means.step g.S.TokenSink.means.reply (record { exact = c.rules.inside.exact_errors; names = c.rules.inside.names.now }) c.position.inside.opened.state c.position.inside.opened (g.S.TokenSink.means.state c.args.sink.now) c.line-line.result c.args.c _ _ c.in_ok-emit_bad_character.ensures.tells g.S.TokenSink.means.faulted c.tell_tag.result _ _ _ (rw c.in_ok-emit_bad_character.ensures.kept.line at here.tells) (rw c.in-EndsTag.is at here.leads.0) (rw (c.end-tag.ensures, line) at c.tell_tag.ensures.emits.tells) in
+    let kept = c.tell_tag.ensures.emits.kept.sink ∙ here.kept.sink ∙ c.in_ok-emit_bad_character.ensures.kept.sink in
+    search rules)
 
-pub returns-in-EndsTag-clause-leads : goal.returns-in-EndsTag-clause-leads
-returns-in-EndsTag-clause-leads g c =
+pub returns-clause-leads : goal.returns-clause-leads
+returns-clause-leads g c =
+    let here = rw c.in_ok-emit_bad_character.ensures.kept.exact_errors at c.in_ok-step.ensures.reads in
+    let line = here.kept.line ∙ c.in_ok-emit_bad_character.ensures.kept.line in
     rw (← c.rules.view_is, ← c.position.view_is, with_reference-none c.position.inside.in_reference c.position.inside.held (opened_of c.position.inside.opened) (rw (← c.position.view_is) at c.requires) (opened_of c.position.inside.opened), ← c.line-line.ensures.line)
     (subst (λ o. Leads c.tell_tag.result c.tell_tag.new.position.opened o)
-    (opened-ended g.S.TokenSink.means.step g.S.TokenSink.means.reply (record { exact = c.rules.inside.exact_errors; names = c.rules.inside.names.now }) c.position.inside.opened.state c.position.inside.opened (g.S.TokenSink.means.state c.args.sink.now) c.line-line.result c.args.c _ _ c.in_ok-report_bad_character.ensures.tells _ _ c.in_ok-step.ensures.tells (rw c.in-EndsTag.is at c.in_ok-step.ensures.leads.0))
-    (rw (c.end-tag.ensures, c.in_ok-step.ensures.last) at c.tell_tag.ensures.leads))
+    (opened-ended g.S.TokenSink.means.step g.S.TokenSink.means.reply (record { exact = c.rules.inside.exact_errors; names = c.rules.inside.names.now }) c.position.inside.opened.state c.position.inside.opened (g.S.TokenSink.means.state c.args.sink.now) c.line-line.result c.args.c _ _ c.in_ok-emit_bad_character.ensures.tells _ _ (rw c.in_ok-emit_bad_character.ensures.kept.line at here.tells) (rw c.in-EndsTag.is at here.leads.0))
+    (rw (c.end-tag.ensures, here.last, line) at c.tell_tag.ensures.leads))
 
-pub returns-in-EndsTag-clause-answer : goal.returns-in-EndsTag-clause-answer
-returns-in-EndsTag-clause-answer g c =
+pub returns-clause-answer : goal.returns-clause-answer
+returns-clause-answer g c =
+    let here = rw c.in_ok-emit_bad_character.ensures.kept.exact_errors at c.in_ok-step.ensures.reads in
+    let line = here.kept.line ∙ c.in_ok-emit_bad_character.ensures.kept.line in
     rw (← c.rules.view_is, ← c.position.view_is, with_reference-none _ _ _ (rw (← c.position.view_is) at c.requires) _, ← c.line-line.ensures.line)
     (IfOk-weaker c.tell_tag.result _ _
-    (λ answer is. is ∙ pause-ended g.S.TokenSink.means.step g.S.TokenSink.means.reply (record { exact = c.rules.inside.exact_errors; names = c.rules.inside.names.now }) c.position.inside.opened.state c.position.inside.opened (g.S.TokenSink.means.state c.args.sink.now) c.line-line.result c.args.c _ _ c.in_ok-report_bad_character.ensures.tells g.met.S.TokenSink.keeps_on _ _ c.in_ok-step.ensures.tells (rw c.in-EndsTag.is at c.in_ok-step.ensures.leads.0))
-    (rw c.end-tag.ensures at c.tell_tag.ensures.answer))
+    (λ answer is. is ∙ pause-ended g.S.TokenSink.means.step g.S.TokenSink.means.reply (record { exact = c.rules.inside.exact_errors; names = c.rules.inside.names.now }) c.position.inside.opened.state c.position.inside.opened (g.S.TokenSink.means.state c.args.sink.now) c.line-line.result c.args.c _ _ c.in_ok-emit_bad_character.ensures.tells g.met.S.TokenSink.keeps_on _ _ (rw c.in_ok-emit_bad_character.ensures.kept.line at here.tells) (rw c.in-EndsTag.is at here.leads.0))
+    (rw (c.end-tag.ensures, line) at c.tell_tag.ensures.answer))
 
 pub returns-in-Continues-clause-tells : goal.returns-in-Continues-clause-tells
 returns-in-Continues-clause-tells g c =
+    let here = rw c.in_ok-emit_bad_character.ensures.kept.exact_errors at c.in_ok-step.ensures.reads in
     rw (← c.rules.view_is, ← c.position.view_is, with_reference-none _ _ _ (rw (← c.position.view_is) at c.requires) _, ← c.line-line.ensures.line)
-    (tells-going g.S.TokenSink.means.step g.S.TokenSink.means.reply (record { exact = c.rules.inside.exact_errors; names = c.rules.inside.names.now }) c.position.inside.opened.state c.position.inside.opened (g.S.TokenSink.means.state c.args.sink.now) c.line-line.result c.args.c _ _ c.in_ok-report_bad_character.ensures.tells _ c.in_ok-step.ensures.tells (rw c.in-Continues.is at c.in_ok-step.ensures.leads.0))
+    (let told = tells-going g.S.TokenSink.means.step g.S.TokenSink.means.reply (record { exact = c.rules.inside.exact_errors; names = c.rules.inside.names.now }) c.position.inside.opened.state c.position.inside.opened (g.S.TokenSink.means.state c.args.sink.now) c.line-line.result c.args.c _ _ c.in_ok-emit_bad_character.ensures.tells _ (rw c.in_ok-emit_bad_character.ensures.kept.line at here.tells) (rw c.in-Continues.is at here.leads.0) in
+    let kept = here.kept.sink ∙ c.in_ok-emit_bad_character.ensures.kept.sink in
+    search rules)
 
 pub returns-in-Continues-clause-leads : goal.returns-in-Continues-clause-leads
 returns-in-Continues-clause-leads g c =
+    let here = rw c.in_ok-emit_bad_character.ensures.kept.exact_errors at c.in_ok-step.ensures.reads in
     rw (← c.rules.view_is, ← c.position.view_is, with_reference-none c.position.inside.in_reference c.position.inside.held (opened_of c.position.inside.opened) (rw (← c.position.view_is) at c.requires) (opened_of c.position.inside.opened), ← c.line-line.ensures.line)
-    (let leads = rw c.in-Continues.is at c.in_ok-step.ensures.leads in
-    let opened = opened-going g.S.TokenSink.means.step g.S.TokenSink.means.reply (record { exact = c.rules.inside.exact_errors; names = c.rules.inside.names.now }) c.position.inside.opened.state c.position.inside.opened (g.S.TokenSink.means.state c.args.sink.now) c.line-line.result c.args.c _ _ c.in_ok-report_bad_character.ensures.tells _ c.in_ok-step.ensures.tells leads.0 in
+    (let leads = rw c.in-Continues.is at here.leads in
+    let opened = opened-going g.S.TokenSink.means.step g.S.TokenSink.means.reply (record { exact = c.rules.inside.exact_errors; names = c.rules.inside.names.now }) c.position.inside.opened.state c.position.inside.opened (g.S.TokenSink.means.state c.args.sink.now) c.line-line.result c.args.c _ _ c.in_ok-emit_bad_character.ensures.tells _ (rw c.in_ok-emit_bad_character.ensures.kept.line at here.tells) leads.0 in
     with_reference-none _ _ _ (rw (← c.position.view_is) at c.requires) _ ∙ opened)
 
 pub returns-in-Continues-clause-answer : goal.returns-in-Continues-clause-answer
 returns-in-Continues-clause-answer g c =
+    let here = rw c.in_ok-emit_bad_character.ensures.kept.exact_errors at c.in_ok-step.ensures.reads in
     rw (← c.rules.view_is, ← c.position.view_is, with_reference-none _ _ _ (rw (← c.position.view_is) at c.requires) _, ← c.line-line.ensures.line)
-    (pause-going g.S.TokenSink.means.step g.S.TokenSink.means.reply (record { exact = c.rules.inside.exact_errors; names = c.rules.inside.names.now }) c.position.inside.opened.state c.position.inside.opened (g.S.TokenSink.means.state c.args.sink.now) c.line-line.result c.args.c _ (g.S.TokenSink.means.state c.step.new.sink) c.in_ok-report_bad_character.ensures.tells g.met.S.TokenSink.keeps_on _ (rw c.in-Continues.is at c.in_ok-step.ensures.leads.0))
+    (pause-going g.S.TokenSink.means.step g.S.TokenSink.means.reply (record { exact = c.rules.inside.exact_errors; names = c.rules.inside.names.now }) c.position.inside.opened.state c.position.inside.opened (g.S.TokenSink.means.state c.args.sink.now) c.line-line.result c.args.c _ (g.S.TokenSink.means.state c.step.new.teller.sink.now) c.in_ok-emit_bad_character.ensures.tells g.met.S.TokenSink.keeps_on _ (rw c.in-Continues.is at here.leads.0))
 
 pub returns-in-BeginsReference-clause-tells : goal.returns-in-BeginsReference-clause-tells
 returns-in-BeginsReference-clause-tells g c =
+    let here = rw c.in_ok-emit_bad_character.ensures.kept.exact_errors at c.in_ok-step.ensures.reads in
     rw (← c.rules.view_is, ← c.position.view_is, with_reference-none _ _ _ (rw (← c.position.view_is) at c.requires) _, ← c.line-line.ensures.line)
-    (tells-going g.S.TokenSink.means.step g.S.TokenSink.means.reply (record { exact = c.rules.inside.exact_errors; names = c.rules.inside.names.now }) c.position.inside.opened.state c.position.inside.opened (g.S.TokenSink.means.state c.args.sink.now) c.line-line.result c.args.c _ _ c.in_ok-report_bad_character.ensures.tells _ c.in_ok-step.ensures.tells (rw c.in-BeginsReference.is at c.in_ok-step.ensures.leads.0))
+    (let told = tells-going g.S.TokenSink.means.step g.S.TokenSink.means.reply (record { exact = c.rules.inside.exact_errors; names = c.rules.inside.names.now }) c.position.inside.opened.state c.position.inside.opened (g.S.TokenSink.means.state c.args.sink.now) c.line-line.result c.args.c _ _ c.in_ok-emit_bad_character.ensures.tells _ (rw c.in_ok-emit_bad_character.ensures.kept.line at here.tells) (rw c.in-BeginsReference.is at here.leads.0) in
+    let kept = here.kept.sink ∙ c.in_ok-emit_bad_character.ensures.kept.sink in
+    search rules)
 
 pub returns-in-BeginsReference-clause-leads : goal.returns-in-BeginsReference-clause-leads
 returns-in-BeginsReference-clause-leads g c =
+    let here = rw c.in_ok-emit_bad_character.ensures.kept.exact_errors at c.in_ok-step.ensures.reads in
     rw (← c.rules.view_is, ← c.position.view_is, with_reference-none c.position.inside.in_reference c.position.inside.held (opened_of c.position.inside.opened) (rw (← c.position.view_is) at c.requires) (opened_of c.position.inside.opened), ← c.line-line.ensures.line)
-    (let leads = rw c.in-BeginsReference.is at c.in_ok-step.ensures.leads in
-    let opened = opened-going g.S.TokenSink.means.step g.S.TokenSink.means.reply (record { exact = c.rules.inside.exact_errors; names = c.rules.inside.names.now }) c.position.inside.opened.state c.position.inside.opened (g.S.TokenSink.means.state c.args.sink.now) c.line-line.result c.args.c _ _ c.in_ok-report_bad_character.ensures.tells _ c.in_ok-step.ensures.tells leads.0 in
+    (let leads = rw c.in-BeginsReference.is at here.leads in
+    let opened = opened-going g.S.TokenSink.means.step g.S.TokenSink.means.reply (record { exact = c.rules.inside.exact_errors; names = c.rules.inside.names.now }) c.position.inside.opened.state c.position.inside.opened (g.S.TokenSink.means.state c.args.sink.now) c.line-line.result c.args.c _ _ c.in_ok-emit_bad_character.ensures.tells _ (rw c.in_ok-emit_bad_character.ensures.kept.line at here.tells) leads.0 in
     c.begin_reference.ensures.opened ∙ ap begun_reference (with_reference-none _ _ _ (rw (← c.position.view_is) at c.requires) _) ∙ opened)
 
 pub returns-in-BeginsReference-clause-answer : goal.returns-in-BeginsReference-clause-answer
 returns-in-BeginsReference-clause-answer g c =
+    let here = rw c.in_ok-emit_bad_character.ensures.kept.exact_errors at c.in_ok-step.ensures.reads in
     rw (← c.rules.view_is, ← c.position.view_is, with_reference-none _ _ _ (rw (← c.position.view_is) at c.requires) _, ← c.line-line.ensures.line)
-    (pause-going g.S.TokenSink.means.step g.S.TokenSink.means.reply (record { exact = c.rules.inside.exact_errors; names = c.rules.inside.names.now }) c.position.inside.opened.state c.position.inside.opened (g.S.TokenSink.means.state c.args.sink.now) c.line-line.result c.args.c _ (g.S.TokenSink.means.state c.step.new.sink) c.in_ok-report_bad_character.ensures.tells g.met.S.TokenSink.keeps_on _ (rw c.in-BeginsReference.is at c.in_ok-step.ensures.leads.0))
+    (pause-going g.S.TokenSink.means.step g.S.TokenSink.means.reply (record { exact = c.rules.inside.exact_errors; names = c.rules.inside.names.now }) c.position.inside.opened.state c.position.inside.opened (g.S.TokenSink.means.state c.args.sink.now) c.line-line.result c.args.c _ (g.S.TokenSink.means.state c.step.new.teller.sink.now) c.in_ok-emit_bad_character.ensures.tells g.met.S.TokenSink.keeps_on _ (rw c.in-BeginsReference.is at here.leads.0))
 
 pub returns-in_err-step-clause-held : goal.returns-in_err-step-clause-held
 returns-in_err-step-clause-held g c =
@@ -88,35 +114,41 @@ returns-in_err-step-clause-held g c =
 
 pub returns-in-Continues-clause-held : goal.returns-in-Continues-clause-held
 returns-in-Continues-clause-held g c =
+    let here = rw c.in_ok-emit_bad_character.ensures.kept.exact_errors at c.in_ok-step.ensures.reads in
     rw (with_reference-none _ _ _ (rw (← c.position.view_is) at c.requires) _)
-    (held_len-behind _ _ (holds_at_most_one c.rules.inside.exact_errors c.args.c (opened_of c.position.inside.opened) (beside-decided _ _ _ (rw (← c.position.view_is) at c.requires))) (rw c.in-Continues.is at c.in_ok-step.ensures.leads.0))
+    (held_len-behind _ _ (holds_at_most_one c.rules.inside.exact_errors c.args.c (opened_of c.position.inside.opened) (beside-decided _ _ _ (rw (← c.position.view_is) at c.requires))) (rw c.in-Continues.is at here.leads.0))
 
 pub begin_reference-requires-clause-decided : goal.begin_reference-requires-clause-decided
 begin_reference-requires-clause-decided g c =
-    let leads = rw c.in-BeginsReference.is at c.in_ok-step.ensures.leads in
+    let here = rw c.in_ok-emit_bad_character.ensures.kept.exact_errors at c.in_ok-step.ensures.reads in
+    let leads = rw c.in-BeginsReference.is at here.leads in
     rw (with_reference-none _ _ _ (rw (← c.position.view_is) at c.requires) _) (begun-decided _ leads.1)
 
 pub begin_reference-requires-clause-can_stand : goal.begin_reference-requires-clause-can_stand
 begin_reference-requires-clause-can_stand g c =
-    let leads = rw c.in-BeginsReference.is at c.in_ok-step.ensures.leads in
+    let here = rw c.in_ok-emit_bad_character.ensures.kept.exact_errors at c.in_ok-step.ensures.reads in
+    let leads = rw c.in-BeginsReference.is at here.leads in
     rw (with_reference-none _ _ _ (rw (← c.position.view_is) at c.requires) _) leads.1
 
-pub returns-in-EndsTag-clause-last : goal.returns-in-EndsTag-clause-last
-returns-in-EndsTag-clause-last g c =
+pub returns-clause-last : goal.returns-clause-last
+returns-clause-last g c =
+    let here = rw c.in_ok-emit_bad_character.ensures.kept.exact_errors at c.in_ok-step.ensures.reads in
     rw (← c.rules.view_is, ← c.position.view_is, with_reference-none _ _ _ (rw (← c.position.view_is) at c.requires) _)
     (on_ok_weaker c.tell_tag.result
-    (λ is. is ∙ last-ended g.S.TokenSink.means.step g.S.TokenSink.means.reply (record { exact = c.rules.inside.exact_errors; names = c.rules.inside.names.now }) c.position.inside.opened.state c.position.inside.opened (g.S.TokenSink.means.state c.args.sink.now) c.line-line.result c.args.c _ (g.S.TokenSink.means.state c.step.new.sink) c.in_ok-report_bad_character.ensures.tells _ _ (rw c.in-EndsTag.is at c.in_ok-step.ensures.leads.0))
-    (rw (c.end-tag.ensures, c.in_ok-step.ensures.last) at c.tell_tag.ensures.last))
+    (λ is. is ∙ last-ended g.S.TokenSink.means.step g.S.TokenSink.means.reply (record { exact = c.rules.inside.exact_errors; names = c.rules.inside.names.now }) c.position.inside.opened.state c.position.inside.opened (g.S.TokenSink.means.state c.args.sink.now) c.line-line.result c.args.c _ (g.S.TokenSink.means.state c.step.new.teller.sink.now) c.in_ok-emit_bad_character.ensures.tells _ _ (rw c.in-EndsTag.is at here.leads.0))
+    (rw (c.end-tag.ensures, here.last) at c.tell_tag.ensures.last))
 
 pub returns-in-Continues-clause-last : goal.returns-in-Continues-clause-last
 returns-in-Continues-clause-last g c =
+    let here = rw c.in_ok-emit_bad_character.ensures.kept.exact_errors at c.in_ok-step.ensures.reads in
     rw (← c.rules.view_is, ← c.position.view_is, with_reference-none _ _ _ (rw (← c.position.view_is) at c.requires) _)
-    (c.in_ok-step.ensures.last ∙ last-going g.S.TokenSink.means.step g.S.TokenSink.means.reply (record { exact = c.rules.inside.exact_errors; names = c.rules.inside.names.now }) c.position.inside.opened.state c.position.inside.opened (g.S.TokenSink.means.state c.args.sink.now) c.line-line.result c.args.c _ (g.S.TokenSink.means.state c.step.new.sink) c.in_ok-report_bad_character.ensures.tells _ (rw c.in-Continues.is at c.in_ok-step.ensures.leads.0))
+    (here.last ∙ last-going g.S.TokenSink.means.step g.S.TokenSink.means.reply (record { exact = c.rules.inside.exact_errors; names = c.rules.inside.names.now }) c.position.inside.opened.state c.position.inside.opened (g.S.TokenSink.means.state c.args.sink.now) c.line-line.result c.args.c _ (g.S.TokenSink.means.state c.step.new.teller.sink.now) c.in_ok-emit_bad_character.ensures.tells _ (rw c.in-Continues.is at here.leads.0))
 
 pub returns-in-BeginsReference-clause-last : goal.returns-in-BeginsReference-clause-last
 returns-in-BeginsReference-clause-last g c =
+    let here = rw c.in_ok-emit_bad_character.ensures.kept.exact_errors at c.in_ok-step.ensures.reads in
     rw (← c.rules.view_is, ← c.position.view_is, with_reference-none _ _ _ (rw (← c.position.view_is) at c.requires) _)
-    (c.begin_reference.ensures.last ∙ c.in_ok-step.ensures.last ∙ last-going g.S.TokenSink.means.step g.S.TokenSink.means.reply (record { exact = c.rules.inside.exact_errors; names = c.rules.inside.names.now }) c.position.inside.opened.state c.position.inside.opened (g.S.TokenSink.means.state c.args.sink.now) c.line-line.result c.args.c _ (g.S.TokenSink.means.state c.step.new.sink) c.in_ok-report_bad_character.ensures.tells _ (rw c.in-BeginsReference.is at c.in_ok-step.ensures.leads.0))
+    (c.begin_reference.ensures.last ∙ here.last ∙ last-going g.S.TokenSink.means.step g.S.TokenSink.means.reply (record { exact = c.rules.inside.exact_errors; names = c.rules.inside.names.now }) c.position.inside.opened.state c.position.inside.opened (g.S.TokenSink.means.state c.args.sink.now) c.line-line.result c.args.c _ (g.S.TokenSink.means.state c.step.new.teller.sink.now) c.in_ok-emit_bad_character.ensures.tells _ (rw c.in-BeginsReference.is at here.leads.0))
 
 pub step-requires : goal.step-requires
 step-requires g c = beside-decided _ _ _ (rw (← c.position.view_is) at c.requires)

@@ -80,7 +80,7 @@ returns-in_err-pause-clause-end_of_queue g c = end-behind g.S.TokenSink.means.st
 pub returns-in_err-pause-clause-empty : goal.returns-in_err-pause-clause-empty
 returns-in_err-pause-clause-empty g c = λ nothing. absurd (not-empty g.S.TokenSink.means.step g.S.TokenSink.means.reply g.S.TokenSink.means.foreign c.args.rules.now _ _ _ _ _ _ _ c.in-Some.c (HasRead-run g.S.TokenSink.means.step g.S.TokenSink.means.reply g.S.TokenSink.means.foreign c.args.rules.now g.S.TokenSink.means.faulted _ _ _ _ _ _ _ _ _ c.loop-queue.invariant.0 c.in_ok-read_waiting_run.ensures.reads) c.in-Some.ensures.some nothing)
 
--- a character that is read, and one behind which the feed pauses
+-- a character that is read, and one after which the feed pauses
 
 pub loop-queue-preserved : goal.loop-queue-preserved
 loop-queue-preserved g c =

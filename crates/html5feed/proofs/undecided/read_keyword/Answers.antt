@@ -1,8 +1,9 @@
-use Rattle.std.proofs.Common.{refl, ap, Ok, arith, rules}
+use Rattle.std.proofs.Common.{[], refl, ap, Ok, arith, rules}
 use Rattle.html5ever_interface.specs.Sink.{stepped}
 use Rattle.html5states.proofs.Tellings.{tells_from_memory, tells_stop}
 use Rattle.html5opened.specs.CurrentTag.{opened_of}
 use Rattle.html5opened.proofs.Decided.{held_len-beside}
+use Rattle.html5feed.specs.Undecided.{rules_with}
 use Rattle.html5opened.proofs.KeywordReading.{beside, goes_on-asked, ends-asked, keyword-opened, no_reference-keyword, end-holds}
 use Rattle.html5feed.proofs.undecided.read_keyword.Goals as goal
 
@@ -14,8 +15,8 @@ hold_keyword-requires g c = keyword-opened c.position.inside.in_reference c.posi
 
 -- the character can't be held
 
-pub returns-in_err-hold_keyword : goal.returns-in_err-hold_keyword
-returns-in_err-hold_keyword g c =
+pub returns-in_err-hold_keyword-clause-reads : goal.returns-in_err-hold_keyword-clause-reads
+returns-in_err-hold_keyword-clause-reads g c = λ names.
     let out = no_reference-keyword c.position.inside.in_reference c.position.inside.held (opened_of c.position.inside.opened) (rw (← c.position.view_is) at c.requires) in
     record {
       tells = tells_from_memory _ _ _ _ _ c.from_residual.ensures.1;
@@ -30,17 +31,17 @@ returns-in_err-hold_keyword g c =
 
 -- it belongs to a keyword
 
-pub returns-then-branch : goal.returns-then-branch
+pub returns-then-branch-clause-reads : goal.returns-then-branch-clause-reads
 unfolding stepped
-returns-then-branch g c =
+returns-then-branch-clause-reads g c = λ names.
     let same = beside c.position.inside.in_reference c.position.inside.held (opened_of c.position.inside.opened) (rw (← c.position.view_is) at c.requires) in
     let out = no_reference-keyword c.position.inside.in_reference c.position.inside.held (opened_of c.position.inside.opened) (rw (← c.position.view_is) at c.requires) in
     let goes =
-    goes_on-asked (g.S.TokenSink.means.foreign (g.S.TokenSink.means.state c.args.sink.now)) (opened_of c.position.inside.opened) c.args.c (opened_of c.hold_keyword.new.opened)
+    goes_on-asked (g.S.TokenSink.means.foreign (g.S.TokenSink.means.state c.args.teller.now.sink.now)) (opened_of c.position.inside.opened) c.args.c (opened_of c.hold_keyword.new.opened)
     (rw c.asked_about_foreign-foreign.ensures at c.in_ok-hold_keyword.ensures.taken (ap Ok c.if-branch.true)) in
     record {
-      tells = rw (← c.position.view_is, same (opened_of c.position.inside.opened), goes.settled c.args.rules.now) refl;
-      taken = λ yes. rw (← c.position.view_is, same (opened_of c.position.inside.opened), same (opened_of c.hold_keyword.new.opened)) (goes.belongs c.args.rules.now);
+      tells = rw (← c.position.view_is, same (opened_of c.position.inside.opened), goes.settled (rules_with c.args.teller.now names)) refl;
+      taken = λ yes. rw (← c.position.view_is, same (opened_of c.position.inside.opened), same (opened_of c.hold_keyword.new.opened)) (goes.belongs (rules_with c.args.teller.now names));
       decided = search rules;
       last = search rules;
       input = search rules;
@@ -56,38 +57,46 @@ decide_keyword-requires g c =
     rw (c.in_ok-hold_keyword.ensures.kept (ap Ok c.if-branch.false))
     (keyword-opened c.position.inside.in_reference c.position.inside.held (opened_of c.position.inside.opened) (rw (← c.position.view_is) at c.requires))
 
-pub returns-in_err-decide_keyword : goal.returns-in_err-decide_keyword
-returns-in_err-decide_keyword g c =
+pub returns-in_err-decide_keyword-clause-reads : goal.returns-in_err-decide_keyword-clause-reads
+returns-in_err-decide_keyword-clause-reads g c = λ names.
     let same = beside c.position.inside.in_reference c.position.inside.held (opened_of c.position.inside.opened) (rw (← c.position.view_is) at c.requires) in
     let keyword = keyword-opened c.position.inside.in_reference c.position.inside.held (opened_of c.position.inside.opened) (rw (← c.position.view_is) at c.requires) in
     let ends =
-    ends-asked (g.S.TokenSink.means.foreign (g.S.TokenSink.means.state c.args.sink.now)) (opened_of c.position.inside.opened) c.args.c
+    ends-asked (g.S.TokenSink.means.foreign (g.S.TokenSink.means.state c.args.teller.now.sink.now)) (opened_of c.position.inside.opened) c.args.c
     (rw c.asked_about_foreign-foreign.ensures at c.in_ok-hold_keyword.ensures.decided (ap Ok c.if-branch.false)) in
+    let told = c.in_err-decide_keyword.ensures.emits names in
     record {
-      tells = rw (← c.position.view_is, same (opened_of c.position.inside.opened), ends.settled c.args.rules.now) (tells_stop _ _ _ _ _ _ _ c.from_residual-in_err-decide_keyword.ensures.1 (rw (c.in_ok-hold_keyword.ensures.kept (ap Ok c.if-branch.false)) at c.in_err-decide_keyword.ensures.tells));
+      tells = rw (← c.position.view_is, same (opened_of c.position.inside.opened), ends.settled (rules_with c.args.teller.now names)) (tells_stop _ _ _ _ _ _ _ c.from_residual-in_err-decide_keyword.ensures.1 (rw (c.in_ok-hold_keyword.ensures.kept (ap Ok c.if-branch.false)) at told.tells));
       taken = search rules;
       decided = search rules;
       last = search rules;
       input = search rules;
-      held = rw (same (opened_of c.decide_keyword.new.opened), end-holds c.args.rules.now (opened_of c.position.inside.opened) (opened_of c.decide_keyword.new.opened) keyword (rw (c.in_ok-hold_keyword.ensures.kept (ap Ok c.if-branch.false)) at c.in_err-decide_keyword.ensures.opened)) (omega arith);
+      held = rw (same (opened_of c.decide_keyword.new.opened), end-holds (rules_with c.args.teller.now names) (opened_of c.position.inside.opened) (opened_of c.decide_keyword.new.opened) keyword (rw (c.in_ok-hold_keyword.ensures.kept (ap Ok c.if-branch.false)) at c.in_err-decide_keyword.ensures.opened names)) (omega arith);
       refusal = search rules;
       faults = search rules;
     }
 
-pub returns : goal.returns
-returns g c =
+pub returns-in_err-decide_keyword-clause-kept : goal.returns-in_err-decide_keyword-clause-kept
+returns-in_err-decide_keyword-clause-kept g c = (c.in_err-decide_keyword.ensures.emits []).kept
+
+pub returns-clause-reads : goal.returns-clause-reads
+returns-clause-reads g c = λ names.
     let same = beside c.position.inside.in_reference c.position.inside.held (opened_of c.position.inside.opened) (rw (← c.position.view_is) at c.requires) in
     let keyword = keyword-opened c.position.inside.in_reference c.position.inside.held (opened_of c.position.inside.opened) (rw (← c.position.view_is) at c.requires) in
     let ends =
-    ends-asked (g.S.TokenSink.means.foreign (g.S.TokenSink.means.state c.args.sink.now)) (opened_of c.position.inside.opened) c.args.c
+    ends-asked (g.S.TokenSink.means.foreign (g.S.TokenSink.means.state c.args.teller.now.sink.now)) (opened_of c.position.inside.opened) c.args.c
     (rw c.asked_about_foreign-foreign.ensures at c.in_ok-hold_keyword.ensures.decided (ap Ok c.if-branch.false)) in
+    let told = c.in_ok-decide_keyword.ensures.emits names in
     record {
-      tells = rw (← c.position.view_is, same (opened_of c.position.inside.opened), ends.settled c.args.rules.now) (rw (c.in_ok-hold_keyword.ensures.kept (ap Ok c.if-branch.false)) at c.in_ok-decide_keyword.ensures.tells);
+      tells = rw (← c.position.view_is, same (opened_of c.position.inside.opened), ends.settled (rules_with c.args.teller.now names)) (rw (c.in_ok-hold_keyword.ensures.kept (ap Ok c.if-branch.false)) at told.tells);
       taken = search rules;
-      decided = λ no. rw (← c.position.view_is, same (opened_of c.position.inside.opened), same (opened_of c.decide_keyword.new.opened), (rw (c.in_ok-hold_keyword.ensures.kept (ap Ok c.if-branch.false)) at c.in_ok-decide_keyword.ensures.opened)) (ends.decides c.args.rules.now);
+      decided = λ no. rw (← c.position.view_is, same (opened_of c.position.inside.opened), same (opened_of c.decide_keyword.new.opened), (rw (c.in_ok-hold_keyword.ensures.kept (ap Ok c.if-branch.false)) at c.in_ok-decide_keyword.ensures.opened names)) (ends.decides (rules_with c.args.teller.now names));
       last = search rules;
       input = search rules;
-      held = rw (same (opened_of c.decide_keyword.new.opened), end-holds c.args.rules.now (opened_of c.position.inside.opened) (opened_of c.decide_keyword.new.opened) keyword (rw (c.in_ok-hold_keyword.ensures.kept (ap Ok c.if-branch.false)) at c.in_ok-decide_keyword.ensures.opened)) (omega arith);
+      held = rw (same (opened_of c.decide_keyword.new.opened), end-holds (rules_with c.args.teller.now names) (opened_of c.position.inside.opened) (opened_of c.decide_keyword.new.opened) keyword (rw (c.in_ok-hold_keyword.ensures.kept (ap Ok c.if-branch.false)) at c.in_ok-decide_keyword.ensures.opened names)) (omega arith);
       refusal = search rules;
       faults = search rules;
     }
+
+pub returns-clause-kept : goal.returns-clause-kept
+returns-clause-kept g c = (c.in_ok-decide_keyword.ensures.emits []).kept

@@ -5,12 +5,13 @@ use Rattle.html5states.proofs.Tellings.{tells_from_memory, tells_stop}
 use Rattle.html5opened.specs.CharRef.{with_reference}
 use Rattle.html5grammar.specs.Start.{held_len}
 use Rattle.html5opened.specs.CurrentTag.{opened_of}
+use Rattle.html5feed.specs.Undecided.{rules_with}
 use Rattle.html5feed.proofs.UndecidedReading.{brought-held, brought-decided, belongs-held, belongs-end, decides, held_len-held, held_len-same, answer-is}
 use Rattle.html5opened.proofs.Decided.{is_in, is_decided, begun-decided, state-no_reference, with_reference-out}
 use Rattle.html5feed.proofs.undecided.read_reference.Goals as goal
 
-pub returns-in_err-hold : goal.returns-in_err-hold
-returns-in_err-hold g c =
+pub returns-in_err-hold-clause-reads : goal.returns-in_err-hold-clause-reads
+returns-in_err-hold-clause-reads g c =
     record {
       tells = tells_from_memory _ _ _ _ _ c.from_residual.ensures.1;
       taken = search rules;
@@ -22,52 +23,52 @@ returns-in_err-hold g c =
       faults = search rules;
     }
 
-pub returns-then-branch : goal.returns-then-branch
+pub returns-then-branch-clause-reads : goal.returns-then-branch-clause-reads
 unfolding stepped
-returns-then-branch g c =
+returns-then-branch-clause-reads g c =
     let inside = is_in c.position.inside.in_reference c.position.inside.held (opened_of c.position.inside.opened) (state-no_reference c.position.inside.opened.state c.position.inside.opened) (rw (← c.position.view_is) at c.requires) in
     let plain = c.in_ok-hold.ensures.plain (ap Ok c.if-branch.true) in
     let now : c.hold.new.self ≡ c.position.inside.held ++ c.args.c ∷ [] = c.in_ok-hold.ensures.held ∙ rw c.if-branch.true refl in
     record {
-      tells = rw (← c.rules.view_is, ← c.position.view_is, brought-held (record { exact = c.rules.inside.exact_errors; names = c.rules.inside.names.now }) (g.S.TokenSink.means.foreign (g.S.TokenSink.means.state c.args.sink.now)) c.position.inside.in_reference c.position.inside.held (opened_of c.position.inside.opened) c.args.c inside (sym c.in_ok-hold.ensures.undecided ∙ c.if-branch.true)) refl;
-      taken = λ same. rw (← c.rules.view_is, ← c.position.view_is, now) (belongs-held (record { exact = c.rules.inside.exact_errors; names = c.rules.inside.names.now }) (g.S.TokenSink.means.foreign (g.S.TokenSink.means.state c.args.sink.now)) c.position.inside.in_reference c.position.inside.held (opened_of c.position.inside.opened) c.args.c inside (sym c.in_ok-hold.ensures.undecided ∙ c.if-branch.true) (good_between c.args.c plain.0 plain.1));
+      tells = rw (← c.position.view_is, brought-held (rules_with c.args.teller.now c.args.names.now) (g.S.TokenSink.means.foreign (g.S.TokenSink.means.state c.args.teller.now.sink.now)) c.position.inside.in_reference c.position.inside.held (opened_of c.position.inside.opened) c.args.c inside (sym c.in_ok-hold.ensures.undecided ∙ c.if-branch.true)) refl;
+      taken = λ same. rw (← c.position.view_is, now) (belongs-held (rules_with c.args.teller.now c.args.names.now) (g.S.TokenSink.means.foreign (g.S.TokenSink.means.state c.args.teller.now.sink.now)) c.position.inside.in_reference c.position.inside.held (opened_of c.position.inside.opened) c.args.c inside (sym c.in_ok-hold.ensures.undecided ∙ c.if-branch.true) (good_between c.args.c plain.0 plain.1));
       decided = search rules;
       last = search rules;
       input = search rules;
-      held = subst (λ l. held_len (with_reference c.position.inside.in_reference l (opened_of c.position.inside.opened)) ≤ held_len c.args.position.now.opened + 1) (sym now) (rw (← c.position.view_is) (held_len-held (record { exact = c.rules.inside.exact_errors; names = c.rules.inside.names.now }) (g.S.TokenSink.means.foreign (g.S.TokenSink.means.state c.args.sink.now)) c.position.inside.in_reference c.position.inside.held (opened_of c.position.inside.opened) c.args.c inside));
+      held = subst (λ l. held_len (with_reference c.position.inside.in_reference l (opened_of c.position.inside.opened)) ≤ held_len c.args.position.now.opened + 1) (sym now) (rw (← c.position.view_is) (held_len-held (rules_with c.args.teller.now c.args.names.now) (g.S.TokenSink.means.foreign (g.S.TokenSink.means.state c.args.teller.now.sink.now)) c.position.inside.in_reference c.position.inside.held (opened_of c.position.inside.opened) c.args.c inside));
       refusal = search rules;
       faults = search rules;
     }
 
-pub decide_reference-requires : goal.decide_reference-requires
-decide_reference-requires g c = c.position.invariant (is_in _ _ _ (state-no_reference c.position.inside.opened.state c.position.inside.opened) (rw (← c.position.view_is) at c.requires))
+pub finish_reference-requires : goal.finish_reference-requires
+finish_reference-requires g c = c.position.invariant (is_in _ _ _ (state-no_reference c.position.inside.opened.state c.position.inside.opened) (rw (← c.position.view_is) at c.requires))
 
-pub returns-in_err-ends : goal.returns-in_err-ends
-returns-in_err-ends g c =
+pub returns-in_err-ends-clause-reads : goal.returns-in_err-ends-clause-reads
+returns-in_err-ends-clause-reads g c =
     let inside = is_in c.position.inside.in_reference c.position.inside.held (opened_of c.position.inside.opened) (state-no_reference c.position.inside.opened.state c.position.inside.opened) (rw (← c.position.view_is) at c.requires) in
     let now : c.hold.new.self ≡ c.position.inside.held = c.in_ok-hold.ensures.held ∙ rw c.if-branch.false refl in
     record {
-      tells = rw (← c.rules.view_is, ← c.position.view_is, brought-decided (record { exact = c.rules.inside.exact_errors; names = c.rules.inside.names.now }) (g.S.TokenSink.means.foreign (g.S.TokenSink.means.state c.args.sink.now)) c.position.inside.in_reference c.position.inside.held (opened_of c.position.inside.opened) c.args.c inside (sym c.in_ok-hold.ensures.undecided ∙ c.if-branch.false)) (tells_stop _ _ _ _ _ _ _ c.from_residual-in_err-ends.ensures.1 (rw (now, ← c.rules.view_is) at c.in_err-ends.ensures.tells));
+      tells = rw (← c.position.view_is, brought-decided (rules_with c.args.teller.now c.args.names.now) (g.S.TokenSink.means.foreign (g.S.TokenSink.means.state c.args.teller.now.sink.now)) c.position.inside.in_reference c.position.inside.held (opened_of c.position.inside.opened) c.args.c inside (sym c.in_ok-hold.ensures.undecided ∙ c.if-branch.false)) (tells_stop _ _ _ _ _ _ _ c.from_residual-in_err-ends.ensures.1 (rw now at c.in_err-ends.ensures.emits.tells));
       taken = search rules;
       decided = search rules;
       last = search rules;
       input = search rules;
-      held = subst (λ l. held_len (with_reference c.position.inside.in_reference l (opened_of c.decide_reference.new.opened)) ≤ held_len c.args.position.now.opened + 1) (sym now) (rw (← c.position.view_is) (held_len-same c.position.inside.in_reference c.position.inside.held (opened_of c.position.inside.opened) _ inside));
+      held = subst (λ l. held_len (with_reference c.position.inside.in_reference l (opened_of c.finish_reference.new.at)) ≤ held_len c.args.position.now.opened + 1) (sym now) (rw (← c.position.view_is) (held_len-same c.position.inside.in_reference c.position.inside.held (opened_of c.position.inside.opened) _ inside));
       refusal = search rules;
       faults = search rules;
     }
 
-pub returns : goal.returns
-returns g c =
+pub returns-clause-reads : goal.returns-clause-reads
+returns-clause-reads g c =
     let inside = is_in c.position.inside.in_reference c.position.inside.held (opened_of c.position.inside.opened) (state-no_reference c.position.inside.opened.state c.position.inside.opened) (rw (← c.position.view_is) at c.requires) in
     let now : c.hold.new.self ≡ c.position.inside.held = c.in_ok-hold.ensures.held ∙ rw c.if-branch.false refl in
     record {
-      tells = rw (← c.rules.view_is, ← c.position.view_is, brought-decided (record { exact = c.rules.inside.exact_errors; names = c.rules.inside.names.now }) (g.S.TokenSink.means.foreign (g.S.TokenSink.means.state c.args.sink.now)) c.position.inside.in_reference c.position.inside.held (opened_of c.position.inside.opened) c.args.c inside (sym c.in_ok-hold.ensures.undecided ∙ c.if-branch.false)) (rw (now, ← c.rules.view_is) at c.in_ok-ends.ensures.tells);
-      taken = λ same. rw (← c.rules.view_is, ← c.position.view_is) (belongs-end (record { exact = c.rules.inside.exact_errors; names = c.rules.inside.names.now }) (g.S.TokenSink.means.foreign (g.S.TokenSink.means.state c.args.sink.now)) c.position.inside.in_reference c.position.inside.held (opened_of c.position.inside.opened) c.args.c inside _ (sym c.in_ok-hold.ensures.undecided ∙ c.if-branch.false) (sym (rw now at c.in_ok-ends.ensures.ends c.args.c refl) ∙ answer-is _ _ same) (with_reference-out _ _ ∙ rw (now, ← c.rules.view_is) at c.in_ok-ends.ensures.leads));
-      decided = λ same. rw (← c.rules.view_is, ← c.position.view_is) (decides (record { exact = c.rules.inside.exact_errors; names = c.rules.inside.names.now }) (g.S.TokenSink.means.foreign (g.S.TokenSink.means.state c.args.sink.now)) c.position.inside.in_reference c.position.inside.held (opened_of c.position.inside.opened) c.args.c inside _ (sym c.in_ok-hold.ensures.undecided ∙ c.if-branch.false) (sym (rw now at c.in_ok-ends.ensures.ends c.args.c refl) ∙ answer-is _ _ same) (with_reference-out _ _ ∙ rw (now, ← c.rules.view_is) at c.in_ok-ends.ensures.leads));
+      tells = rw (← c.position.view_is, brought-decided (rules_with c.args.teller.now c.args.names.now) (g.S.TokenSink.means.foreign (g.S.TokenSink.means.state c.args.teller.now.sink.now)) c.position.inside.in_reference c.position.inside.held (opened_of c.position.inside.opened) c.args.c inside (sym c.in_ok-hold.ensures.undecided ∙ c.if-branch.false)) (rw now at c.in_ok-ends.ensures.emits.tells);
+      taken = λ same. rw (← c.position.view_is) (belongs-end (rules_with c.args.teller.now c.args.names.now) (g.S.TokenSink.means.foreign (g.S.TokenSink.means.state c.args.teller.now.sink.now)) c.position.inside.in_reference c.position.inside.held (opened_of c.position.inside.opened) c.args.c inside _ (sym c.in_ok-hold.ensures.undecided ∙ c.if-branch.false) (sym (rw now at c.in_ok-ends.ensures.ends c.args.c refl) ∙ answer-is _ _ same) (with_reference-out _ _ ∙ rw now at c.in_ok-ends.ensures.leads));
+      decided = λ same. rw (← c.position.view_is) (decides (rules_with c.args.teller.now c.args.names.now) (g.S.TokenSink.means.foreign (g.S.TokenSink.means.state c.args.teller.now.sink.now)) c.position.inside.in_reference c.position.inside.held (opened_of c.position.inside.opened) c.args.c inside _ (sym c.in_ok-hold.ensures.undecided ∙ c.if-branch.false) (sym (rw now at c.in_ok-ends.ensures.ends c.args.c refl) ∙ answer-is _ _ same) (with_reference-out _ _ ∙ rw now at c.in_ok-ends.ensures.leads));
       last = search rules;
       input = search rules;
-      held = rw (with_reference-out c.hold.new.self (opened_of c.decide_reference.new.opened), (is_decided (opened_of c.decide_reference.new.opened) (begun-decided (opened_of c.decide_reference.new.opened) c.in_ok-ends.ensures.stays)).nothing_held) (omega arith);
+      held = rw (with_reference-out c.hold.new.self (opened_of c.finish_reference.new.at), (is_decided (opened_of c.finish_reference.new.at) (begun-decided (opened_of c.finish_reference.new.at) c.in_ok-ends.ensures.stays)).nothing_held) (omega arith);
       refusal = search rules;
       faults = search rules;
     }
