@@ -2,14 +2,14 @@
 use Rattle.std.proofs.Common.{◌≡◌, ℕ, Bool, false, List, [], ◌++◌, refl, ap, sym, ◌∙◌, subst, arith}
 use Rattle.std.proofs.lemmas.List.{append-nil, append_assoc, append_cancel_right}
 use Rattle.html5ever_interface.specs.Sink.{Means, Message, stepped}
-use Rattle.html5ever_interface.specs.Token.{Told, Reply}
-use Rattle.html5grammar.proofs.ReadingLemmas.{state_behind, told-append, after-append}
-use Rattle.html5grammar.specs.Reading.{told, messages, after, state_after}
+use Rattle.html5ever_interface.specs.Token.{Reply}
+use Rattle.html5grammar.proofs.ReadingLemmas.{told-append, after-append}
+use Rattle.html5grammar.specs.Reading.{state_after, messages_so_far, start_after}
 use Rattle.html5grammar.specs.Start.{Start, Rules, held_len}
 use Rattle.markup5ever.specs.BufferQueue.{TextQueue}
-use Rattle.html5feed.specs.Feed.{Feed, told_beyond, IsEndOf, IsLinear}
+use Rattle.html5feed.specs.Feed.{Feed, told_beyond, feed, IsEndOf, IsLinear}
 use Rattle.html5states.specs.Telling.{Stops}
-use Rattle.html5ever.specs.Tokenizer.{Tokenizing, StandsAt, ReadsOn, Feeds, StopsReading, StopsFeeding, feed_of}
+use Rattle.html5ever.specs.Tokenizer.{Tokenizing, StandsAt, ReadsOn, Feeds, StopsReading, StopsFeeding}
 use Rattle.html5opened.specs.declared.error.TokenizerError.{TokenizerError}
 use Rattle.html5opened.specs.declared.error.TokenizerError.TheVariants.{Memory, Sink, Failed}
 use Rattle.html5feed.proofs.Pauses.{told_beyond-behind, state_behind-append, feed-parts}
@@ -17,31 +17,31 @@ use Rattle.html5feed.proofs.QueueReading.{no_error}
 use Rattle.html5states.proofs.Tellings.{stops_after, stops_before}
 use Rattle.std.proofs.Common.{Result, Ok, Err, true, ◌↔◌}
 
-module _ {S H : Type 0} (step : S → Told → ℕ → S) (reply : S → Told → ℕ → Reply H) (foreign : S → Bool) (rules : Rules) where
+module _ {X S H : Type 0} (means : Means X S H) (rules : Rules) where
   -- what two texts tell beyond another
   pub told_beyond-append : (K : Start) (s : S) (X A B : List ℕ)
-      → told_beyond step reply foreign rules K s X (A ++ B) ≡ told_beyond step reply foreign rules K s X A ++ told_beyond step reply foreign rules K s (X ++ A) B
+      → told_beyond means rules K s X (A ++ B) ≡ told_beyond means rules K s X A ++ told_beyond means rules K s (X ++ A) B
   told_beyond-append K s X A B =
-      told_beyond-behind step reply foreign rules K s X (A ++ B)
-      ∙ told-append step reply foreign rules (after step reply foreign rules K s X) (state_behind step reply foreign rules K s X) A B
-      ∙ ap (λ M. M ++ messages (told step reply foreign rules (after step reply foreign rules (after step reply foreign rules K s X) (state_behind step reply foreign rules K s X) A) (state_behind step reply foreign rules (after step reply foreign rules K s X) (state_behind step reply foreign rules K s X) A) B)) (sym (told_beyond-behind step reply foreign rules K s X A))
-      ∙ ap (λ M. told_beyond step reply foreign rules K s X A ++ M)
-      (ap (λ P. messages (told step reply foreign rules P (state_behind step reply foreign rules (after step reply foreign rules K s X) (state_behind step reply foreign rules K s X) A) B)) (sym (after-append step reply foreign rules K s X A))
-      ∙ ap (λ v. messages (told step reply foreign rules (after step reply foreign rules K s (X ++ A)) v B)) (sym (state_behind-append step reply foreign rules K s X A))
-      ∙ sym (told_beyond-behind step reply foreign rules K s (X ++ A) B))
+      told_beyond-behind means rules K s X (A ++ B)
+      ∙ told-append means.step means.reply means.foreign rules (start_after means rules K s X) (state_after means rules K s X) A B
+      ∙ ap (λ M. M ++ messages_so_far means rules (start_after means rules (start_after means rules K s X) (state_after means rules K s X) A) (state_after means rules (start_after means rules K s X) (state_after means rules K s X) A) B) (sym (told_beyond-behind means rules K s X A))
+      ∙ ap (λ M. told_beyond means rules K s X A ++ M)
+      (ap (λ P. messages_so_far means rules P (state_after means rules (start_after means rules K s X) (state_after means rules K s X) A) B) (sym (after-append means.step means.reply means.foreign rules K s X A))
+      ∙ ap (λ v. messages_so_far means rules (start_after means rules K s (X ++ A)) v B) (sym (state_behind-append means rules K s X A))
+      ∙ sym (told_beyond-behind means rules K s (X ++ A) B))
 
   -- what is told of two texts is what is told of the first, and what the second tells beyond it
   pub told-beyond : (K : Start) (s : S) (X A : List ℕ)
-      → messages (told step reply foreign rules K s (X ++ A)) ≡ messages (told step reply foreign rules K s X) ++ told_beyond step reply foreign rules K s X A
+      → messages_so_far means rules K s (X ++ A) ≡ messages_so_far means rules K s X ++ told_beyond means rules K s X A
   told-beyond K s X A =
-      told-append step reply foreign rules K s X A ∙ ap (λ M. messages (told step reply foreign rules K s X) ++ M) (sym (told_beyond-behind step reply foreign rules K s X A))
+      told-append means.step means.reply means.foreign rules K s X A ∙ ap (λ M. messages_so_far means rules K s X ++ M) (sym (told_beyond-behind means rules K s X A))
 
   -- the state after more text
   pub state-beyond : (K : Start) (s : S) (X A : List ℕ)
-      → stepped step s (messages (told step reply foreign rules K s (X ++ A))) ≡ stepped step (stepped step s (messages (told step reply foreign rules K s X))) (told_beyond step reply foreign rules K s X A)
+      → state_after means rules K s (X ++ A) ≡ stepped means.step (state_after means rules K s X) (told_beyond means rules K s X A)
   state-beyond K s X A =
-      state_behind-append step reply foreign rules K s X A
-      ∙ ap (stepped step (state_behind step reply foreign rules K s X)) (sym (told_beyond-behind step reply foreign rules K s X A))
+      state_behind-append means rules K s X A
+      ∙ ap (stepped means.step (state_after means rules K s X)) (sym (told_beyond-behind means rules K s X A))
 
 module _ {X S H : Type 0} (means : Means X S H) where
   -- the tokenizer read on over a front of the queue's text
@@ -68,11 +68,11 @@ module _ {X S H : Type 0} (means : Means X S H) where
   }
 
   -- what a feed leaves is what its definition leaves, so it took what its definition takes
-  pub taken-is : (rules : Rules) (K : Start) (s : S) (text front left queue : List ℕ) → queue ≡ front ++ left → left ≡ (feed_of means rules K s text queue).left
-      → (feed_of means rules K s text queue).taken ≡ front
+  pub taken-is : (rules : Rules) (K : Start) (s : S) (text front left queue : List ℕ) → queue ≡ front ++ left → left ≡ (feed means rules K s text queue).left
+      → (feed means rules K s text queue).taken ≡ front
   taken-is rules K s text front left queue parts leaves =
-      append_cancel_right (feed_of means rules K s text queue).taken front left
-      (ap (λ l. (feed_of means rules K s text queue).taken ++ l) leaves ∙ feed-parts means.step means.reply means.foreign rules K s text queue ∙ parts)
+      append_cancel_right (feed means rules K s text queue).taken front left
+      (ap (λ l. (feed means rules K s text queue).taken ++ l) leaves ∙ feed-parts means rules K s text queue ∙ parts)
 
   pub HasDrained-more : (first now next : Tokenizing X) (old mid new : TextQueue) (reply : Reply H) → HasDrained first now old mid
       → Feeds means now next mid.text new.text reply → IsEndOf new.text mid.text
@@ -117,20 +117,20 @@ module _ {X S H : Type 0} (means : Means X S H) where
       → StopsFeeding means e now queue.text left v → StopsReading means e first old.text v
   HasDrained-stops e first now old queue left v drained stops K s text stands =
       let x : Rules = first.rules in
-      let f : Feed H = feed_of means x K s (text ++ drained.front) queue.text in
+      let f : Feed H = feed means x K s (text ++ drained.front) queue.text in
       let mid : StandsAt means now K s (text ++ drained.front) = drained.reads K s text stands in
-      let whole : told_beyond means.step means.reply means.foreign x K s text old.text
-      ≡ told_beyond means.step means.reply means.foreign x K s text drained.front ++ (told_beyond means.step means.reply means.foreign x K s (text ++ drained.front) f.taken ++ told_beyond means.step means.reply means.foreign x K s ((text ++ drained.front) ++ f.taken) f.left) =
-      ap (told_beyond means.step means.reply means.foreign x K s text) (drained.parts ∙ ap (λ l. drained.front ++ l) (sym (feed-parts means.step means.reply means.foreign x K s (text ++ drained.front) queue.text)))
-      ∙ told_beyond-append means.step means.reply means.foreign x K s text drained.front (f.taken ++ f.left)
-      ∙ ap (λ M. told_beyond means.step means.reply means.foreign x K s text drained.front ++ M) (told_beyond-append means.step means.reply means.foreign x K s (text ++ drained.front) f.taken f.left) in
-      let state_now : means.state now.sink ≡ stepped means.step (means.state first.sink) (told_beyond means.step means.reply means.foreign x K s text drained.front) =
+      let whole : told_beyond means x K s text old.text
+      ≡ told_beyond means x K s text drained.front ++ (told_beyond means x K s (text ++ drained.front) f.taken ++ told_beyond means x K s ((text ++ drained.front) ++ f.taken) f.left) =
+      ap (told_beyond means x K s text) (drained.parts ∙ ap (λ l. drained.front ++ l) (sym (feed-parts means x K s (text ++ drained.front) queue.text)))
+      ∙ told_beyond-append means x K s text drained.front (f.taken ++ f.left)
+      ∙ ap (λ M. told_beyond means x K s text drained.front ++ M) (told_beyond-append means x K s (text ++ drained.front) f.taken f.left) in
+      let state_now : means.state now.sink ≡ stepped means.step (means.state first.sink) (told_beyond means x K s text drained.front) =
       mid.told
       ∙ ap (λ b. state_after means b K s (text ++ drained.front)) drained.rules
-      ∙ state-beyond means.step means.reply means.foreign x K s text drained.front
-      ∙ ap (λ u. stepped means.step u (told_beyond means.step means.reply means.foreign x K s text drained.front)) (sym stands.told) in
+      ∙ state-beyond means x K s text drained.front
+      ∙ ap (λ u. stepped means.step u (told_beyond means x K s text drained.front)) (sym stands.told) in
       rw whole (drained-stops e (means.state first.sink) (means.state now.sink) v _ _ _ state_now
-      (subst (λ b. Stops means.step means.faulted e (means.state now.sink) (told_beyond means.step means.reply means.foreign b K s (text ++ drained.front) (feed_of means b K s (text ++ drained.front) queue.text).taken) v) drained.rules
+      (subst (λ b. Stops means.step means.faulted e (means.state now.sink) (told_beyond means b K s (text ++ drained.front) (feed means b K s (text ++ drained.front) queue.text).taken) v) drained.rules
       (stops K s (text ++ drained.front) mid).stops))
 
 -- a tokenizer whose call answers Ok had not failed

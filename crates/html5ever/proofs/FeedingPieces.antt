@@ -112,20 +112,20 @@ module _ {X S H : Type 0} (means : Means X S H) where
       let x : Rules = first.rules in
       let front : List ℕ = fed_text old.text so_far.fed in
       let now_stands : StandsAt means now K s (text ++ front) = so_far.reads K s text stands in
-      let whole : told_beyond means.step means.reply means.foreign x K s text (old.text ++ text_of pieces)
-      ≡ told_beyond means.step means.reply means.foreign x K s text front ++ (told_beyond means.step means.reply means.foreign x K s (text ++ front) waiting ++ told_beyond means.step means.reply means.foreign x K s ((text ++ front) ++ waiting) rest) =
-      ap (told_beyond means.step means.reply means.foreign x K s text)
+      let whole : told_beyond means x K s text (old.text ++ text_of pieces)
+      ≡ told_beyond means x K s text front ++ (told_beyond means x K s (text ++ front) waiting ++ told_beyond means x K s ((text ++ front) ++ waiting) rest) =
+      ap (told_beyond means x K s text)
       (ap (λ l. old.text ++ text_of l) so_far.parts ∙ fed-parts old.text so_far.fed later
       ∙ ap (λ l. front ++ l) (ap (λ l. l ++ text_of later) (sym so_far.left) ∙ sym all))
-      ∙ told_beyond-append means.step means.reply means.foreign x K s text front (waiting ++ rest)
-      ∙ ap (λ M. told_beyond means.step means.reply means.foreign x K s text front ++ M) (told_beyond-append means.step means.reply means.foreign x K s (text ++ front) waiting rest) in
-      let state_now : means.state now.sink ≡ stepped means.step (means.state first.sink) (told_beyond means.step means.reply means.foreign x K s text front) =
+      ∙ told_beyond-append means x K s text front (waiting ++ rest)
+      ∙ ap (λ M. told_beyond means x K s text front ++ M) (told_beyond-append means x K s (text ++ front) waiting rest) in
+      let state_now : means.state now.sink ≡ stepped means.step (means.state first.sink) (told_beyond means x K s text front) =
       now_stands.told
       ∙ ap (λ b. state_after means b K s (text ++ front)) so_far.rules
-      ∙ state-beyond means.step means.reply means.foreign x K s text front
-      ∙ ap (λ u. stepped means.step u (told_beyond means.step means.reply means.foreign x K s text front)) (sym stands.told) in
+      ∙ state-beyond means x K s text front
+      ∙ ap (λ u. stepped means.step u (told_beyond means x K s text front)) (sym stands.told) in
       rw whole (drained-stops means e (means.state first.sink) (means.state now.sink) v _ _ _ state_now
-      (subst (λ b. Stops means.step means.faulted e (means.state now.sink) (told_beyond means.step means.reply means.foreign b K s (text ++ front) waiting) v) so_far.rules
+      (subst (λ b. Stops means.step means.faulted e (means.state now.sink) (told_beyond means b K s (text ++ front) waiting) v) so_far.rules
       (stops K s (text ++ front) now_stands)))
 
   -- where there is no room for the next piece, nothing more was told

@@ -1,25 +1,24 @@
 -- Where a tokenizer stands, after more text and at the end.
 use Rattle.std.proofs.Common.{◌≡◌, ℕ, ◌<◌, ◌^◌, arith, false, List, [], ◌∷◌, ◌++◌, refl, ap, sym, ◌∙◌, subst, length, drop}
 use Rattle.std.proofs.Math.Seq.{drop-append_seam}
-use Rattle.std.proofs.lemmas.List.{length-map}
 use Rattle.html5ever_interface.specs.Sink.{Means, Message, stepped, on_line}
 use Rattle.html5grammar.specs.EndOfInput.{tokens_at_end}
 use Rattle.html5grammar.specs.NormalisedText.{with_line_feeds, without_dropped_first, normalised, line_after, input_after}
-use Rattle.html5grammar.specs.Reading.{Event, end_events, read, told, messages, all_messages, messages_so_far, state_after, start_after}
+use Rattle.html5grammar.specs.Reading.{end_events, read, told, messages, all_messages, messages_so_far, state_after, start_after}
 use Rattle.html5grammar.specs.Start.{Start, Input, Rules}
 use Rattle.html5grammar.specs.Start.Mode.{Plain}
 use Rattle.html5grammar.specs.Start.Open.{Between}
 use Rattle.html5grammar.proofs.ReadingLemmas.{told-nil, told-append, after-nil, after-append, reading-events, messages-at_end}
 use Rattle.html5ever_interface.proofs.Steppings.{stepped-append}
 use Rattle.html5grammar.proofs.Traces.{messages-append}
-use Rattle.html5feed.specs.Feed.{pauses, reply_in, told_beyond, told_at_end}
+use Rattle.html5feed.specs.Feed.{pauses, reply_in, told_beyond, told_at_end, feed}
 use Rattle.html5feed.specs.Refused.{IsItem, RefusedBehind}
 use Rattle.html5feed.proofs.Pauses.{told_beyond-behind, state_behind-append, feed-anew, feed-done, feed-shorter, reply_in-pauses}
 use Rattle.markup5ever.specs.declared.tokenizer_result.TokenizerResult.{TokenizerResult}
 use Rattle.markup5ever.specs.declared.tokenizer_result.TokenizerResult.TheVariants.{Done, Script, EncodingIndicator}
 use Rattle.std.specs.Prelude.{Result, Ok, Err, OnOk, IfOk, IfErr, is_err, ◌≢◌}
 use Rattle.html5states.specs.Telling.{Stops, Tells}
-use Rattle.html5ever.specs.Tokenizer.{Tokenizing, StandsAt, Feeds, StopsFeeding, EndStops, feed_of, state_at_end}
+use Rattle.html5ever.specs.Tokenizer.{Tokenizing, StandsAt, Feeds, StopsFeeding, EndStops, state_at_end}
 use Rattle.html5opened.specs.declared.error.TokenizerError.{TokenizerError}
 
 -- the line on which the tokenizer stands is the one that the text has reached
@@ -56,13 +55,11 @@ module _ {X S H : Type 0} (means : Means X S H) where
       ∙ ap (λ M. messages_so_far means rules K s X ++ M) (messages-end rules K s X h)
 
   told_at_end-end : (rules : Rules) (K : Start) (s : S) (X : List ℕ) → (start_after means rules K s X).input.line < 2 ^ 64
-      → told_at_end means.step means.reply means.foreign rules K s X ≡ on_line (start_after means rules K s X).input.line (tokens_at_end rules (start_after means rules K s X).opened)
+      → told_at_end means rules K s X ≡ on_line (start_after means rules K s X).input.line (tokens_at_end rules (start_after means rules K s X).opened)
   told_at_end-end rules K s X h =
-      let E : List Event = told means.step means.reply means.foreign rules K s X in
       let M : List Message = on_line (start_after means rules K s X).input.line (tokens_at_end rules (start_after means rules K s X).opened) in
-      ap (λ l. drop (length E) l) (messages-reading rules K s X h)
-      ∙ ap (λ n. drop n (messages E ++ M)) (sym (length-map E (λ (e : Event). e.message)))
-      ∙ drop-append_seam (messages E) M
+      ap (drop (length (messages_so_far means rules K s X))) (messages-reading rules K s X h)
+      ∙ drop-append_seam (messages_so_far means rules K s X) M
 
   pub StandsAt-start : (t : Tokenizing X) (K : Start) → t.position ≡ K → t.failed ≡ false → t.ended ≡ false
       → StandsAt means t K (means.state t.sink) []
@@ -106,19 +103,19 @@ module _ {X S H : Type 0} (means : Means X S H) where
 
   -- what a feed does is told by where the tokenizer stands
   pub feed-stands : (t : Tokenizing X) (K : Start) (s : S) (text queue : List ℕ) → StandsAt means t K s text
-      → feed_of means t.rules K s text queue ≡ feed_of means t.rules t.position (means.state t.sink) [] queue
+      → feed means t.rules K s text queue ≡ feed means t.rules t.position (means.state t.sink) [] queue
   feed-stands t K s text queue stands =
-      feed-anew means.step means.reply means.foreign t.rules K s text queue
-      ∙ ap (λ P. feed_of means t.rules P (state_after means t.rules K s text) [] queue) (sym stands.position)
-      ∙ ap (λ v. feed_of means t.rules t.position v [] queue) (sym stands.told)
+      feed-anew means t.rules K s text queue
+      ∙ ap (λ P. feed means t.rules P (state_after means t.rules K s text) [] queue) (sym stands.position)
+      ∙ ap (λ v. feed means t.rules t.position v [] queue) (sym stands.told)
 
   -- a feed that read what it takes
   pub Feeds-read : {T : Type 0} → (bytes : T → List ℕ) (r : Result (TokenizerResult H T) TokenizerError) (t u : Tokenizing X) (queue left : List ℕ)
       → u.rules ≡ t.rules → u.failed ≡ is_err r → u.ended ≡ t.ended
-      → Tells means.step means.faulted r (means.state t.sink) (messages_so_far means t.rules t.position (means.state t.sink) (feed_of means t.rules t.position (means.state t.sink) [] queue).taken) (means.state u.sink)
-      → OnOk r (u.position ≡ start_after means t.rules t.position (means.state t.sink) (feed_of means t.rules t.position (means.state t.sink) [] queue).taken)
-      → IfOk r (λ answer. reply_in bytes answer ≡ (feed_of means t.rules t.position (means.state t.sink) [] queue).answer)
-      → OnOk r (left ≡ (feed_of means t.rules t.position (means.state t.sink) [] queue).left)
+      → Tells means.step means.faulted r (means.state t.sink) (messages_so_far means t.rules t.position (means.state t.sink) (feed means t.rules t.position (means.state t.sink) [] queue).taken) (means.state u.sink)
+      → OnOk r (u.position ≡ start_after means t.rules t.position (means.state t.sink) (feed means t.rules t.position (means.state t.sink) [] queue).taken)
+      → IfOk r (λ answer. reply_in bytes answer ≡ (feed means t.rules t.position (means.state t.sink) [] queue).answer)
+      → OnOk r (left ≡ (feed means t.rules t.position (means.state t.sink) [] queue).left)
       → IfOk r (λ answer. Feeds means t u queue left (reply_in bytes answer))
   Feeds-read bytes (Ok answer) t u queue left rules failed ended tells moves answers leaves = λ K s text stands.
       rw (feed-stands t K s text queue stands) record {
@@ -131,9 +128,9 @@ module _ {X S H : Type 0} (means : Means X S H) where
   pub Stops-beyond : (e : TokenizerError) (t : Tokenizing X) (K : Start) (s v : S) (text more : List ℕ)
       → StandsAt means t K s text
       → Stops means.step means.faulted e (means.state t.sink) (messages_so_far means t.rules t.position (means.state t.sink) more) v
-      → Stops means.step means.faulted e (means.state t.sink) (told_beyond means.step means.reply means.foreign t.rules K s text more) v
+      → Stops means.step means.faulted e (means.state t.sink) (told_beyond means t.rules K s text more) v
   Stops-beyond e t K s v text more stands stops =
-      rw (told_beyond-behind means.step means.reply means.foreign t.rules K s text more, ← stands.told, ← stands.position) stops
+      rw (told_beyond-behind means t.rules K s text more, ← stands.told, ← stands.position) stops
 
   -- the end of a text
   pub StandsAt-finished : (t : Tokenizing X) (K : Start) (s : S) (text : List ℕ) (v : S) → t.position.input.line < 2 ^ 64
@@ -150,7 +147,7 @@ module _ {X S H : Type 0} (means : Means X S H) where
   pub EndStops-at_end : (e : TokenizerError) (t : Tokenizing X) (K : Start) (s v : S) (text : List ℕ) → t.position.input.line < 2 ^ 64
       → StandsAt means t K s text
       → EndStops means e (means.state t.sink) (on_line t.position.input.line (tokens_at_end t.rules t.position.opened)) v
-      → EndStops means e (means.state t.sink) (told_at_end means.step means.reply means.foreign t.rules K s text) v
+      → EndStops means e (means.state t.sink) (told_at_end means t.rules K s text) v
   EndStops-at_end e t K s v text h stands stops =
       let fits : (start_after means t.rules K s text).input.line < 2 ^ 64 = subst (λ (P : Start). P.input.line < 2 ^ 64) stands.position h in
       subst (λ M. EndStops means e (means.state t.sink) M v)
@@ -161,27 +158,27 @@ module _ {X S H : Type 0} (means : Means X S H) where
 module _ {X S H : Type 0} (means : Means X S H) where
   -- what a refused feed leaves is told by where the tokenizer stands
   RefusedBehind-stands : (e : TokenizerError) (t : Tokenizing X) (queue left : List ℕ) (v : S)
-      → RefusedBehind means.step means.reply means.foreign means.faulted t.rules e t.position (means.state t.sink) [] queue left v
+      → RefusedBehind means t.rules e t.position (means.state t.sink) [] queue left v
       → (K : Start) (s : S) (text : List ℕ) → StandsAt means t K s text
-      → RefusedBehind means.step means.reply means.foreign means.faulted t.rules e K s text queue left v
+      → RefusedBehind means t.rules e K s text queue left v
   RefusedBehind-stands e t queue left v r K s text stands =
       let position : start_after means t.rules t.position (means.state t.sink) r.front ≡ start_after means t.rules K s (text ++ r.front) =
       rw (stands.position, stands.told) (sym (after-append means.step means.reply means.foreign t.rules K s text r.front)) in
       let behind : stepped means.step (means.state t.sink) (messages_so_far means t.rules t.position (means.state t.sink) r.front)
       ≡ state_after means t.rules K s (text ++ r.front) =
-      rw (stands.position, stands.told) (sym (state_behind-append means.step means.reply means.foreign t.rules K s text r.front)) in
+      rw (stands.position, stands.told) (sym (state_behind-append means t.rules K s text r.front)) in
       record {
         front = r.front;
         item = r.item;
         parts = r.parts;
         is_item = subst (λ P. IsItem t.rules P r.item) position r.is_item;
-        stopped = rw (told_beyond-behind means.step means.reply means.foreign t.rules K s (text ++ r.front) r.item, ← behind, ← position)
-            (rw (told_beyond-behind means.step means.reply means.foreign t.rules t.position (means.state t.sink) r.front r.item) at r.stopped);
+        stopped = rw (told_beyond-behind means t.rules K s (text ++ r.front) r.item, ← behind, ← position)
+            (rw (told_beyond-behind means t.rules t.position (means.state t.sink) r.front r.item) at r.stopped);
       }
 
   pub StopsFeeding-read : {T : Type 0} → (r : Result T TokenizerError) (t : Tokenizing X) (queue left : List ℕ) (v : S)
-      → Tells means.step means.faulted r (means.state t.sink) (messages_so_far means t.rules t.position (means.state t.sink) (feed_of means t.rules t.position (means.state t.sink) [] queue).taken) v
-      → IfErr r (λ e. RefusedBehind means.step means.reply means.foreign means.faulted t.rules e t.position (means.state t.sink) [] queue left v)
+      → Tells means.step means.faulted r (means.state t.sink) (messages_so_far means t.rules t.position (means.state t.sink) (feed means t.rules t.position (means.state t.sink) [] queue).taken) v
+      → IfErr r (λ e. RefusedBehind means t.rules e t.position (means.state t.sink) [] queue left v)
       → IfErr r (λ e. StopsFeeding means e t queue left v)
   StopsFeeding-read (Ok x) t queue left v tells refused = tt
   StopsFeeding-read (Err e) t queue left v tells refused = λ K s text stands. record {
@@ -192,17 +189,17 @@ module _ {X S H : Type 0} (means : Means X S H) where
   -- an answer `Done` leaves nothing, and every other one less than there was
   module _ {T : Type 0} (bytes : T → List ℕ) (rules : Rules) (P : Start) (s : S) (queue left : List ℕ) where
     pub left-done : (r : Result (TokenizerResult H T) TokenizerError)
-        → IfOk r (λ answer. reply_in bytes answer ≡ (feed_of means rules P s [] queue).answer)
-        → OnOk r (left ≡ (feed_of means rules P s [] queue).left) → r ≡ Ok Done → left ≡ []
-    left-done (Ok Done) answers leaves same = leaves ∙ feed-done means.step means.reply means.foreign rules P s [] queue (ap pauses (sym answers))
+        → IfOk r (λ answer. reply_in bytes answer ≡ (feed means rules P s [] queue).answer)
+        → OnOk r (left ≡ (feed means rules P s [] queue).left) → r ≡ Ok Done → left ≡ []
+    left-done (Ok Done) answers leaves same = leaves ∙ feed-done means rules P s [] queue (ap pauses (sym answers))
     left-done (Ok (Script handle)) answers leaves same = absurd (script≢done handle _ _ refl refl same)
     left-done (Ok (EncodingIndicator text)) answers leaves same = absurd (encoding≢done text _ _ refl refl same)
     left-done (Err e) answers leaves same = absurd (err≢ok same)
 
     pub left-shorter : (r : Result (TokenizerResult H T) TokenizerError)
-        → IfOk r (λ answer. reply_in bytes answer ≡ (feed_of means rules P s [] queue).answer)
-        → OnOk r (left ≡ (feed_of means rules P s [] queue).left)
+        → IfOk r (λ answer. reply_in bytes answer ≡ (feed means rules P s [] queue).answer)
+        → OnOk r (left ≡ (feed means rules P s [] queue).left)
         → IfOk r (λ answer. answer ≢ Done → length left < length queue)
     left-shorter (Ok answer) answers leaves = λ other.
-        rw leaves (feed-shorter means.step means.reply means.foreign rules P s [] queue (sym (ap pauses answers) ∙ reply_in-pauses bytes answer other))
+        rw leaves (feed-shorter means rules P s [] queue (sym (ap pauses answers) ∙ reply_in-pauses bytes answer other))
     left-shorter (Err e) answers leaves = tt

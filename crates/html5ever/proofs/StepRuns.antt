@@ -7,12 +7,12 @@ use Rattle.html5ever_interface.specs.Sink.{Means}
 use Rattle.html5ever_interface.specs.Token.{Reply}
 use Rattle.html5grammar.specs.Reading.{all_messages}
 use Rattle.html5grammar.specs.Start.{Start, Rules}
-use Rattle.html5feed.specs.Feed.{Feed, told_beyond, IsEndOf}
+use Rattle.html5feed.specs.Feed.{Feed, told_beyond, feed, IsEndOf}
 use Rattle.html5ever.specs.RunSteps.StepOf.{AtBack}
 use Rattle.html5feed.proofs.Pauses.{feed-parts}
 use Rattle.html5ever.specs.RunSteps.{StepOf, waiting_with, run_text, FinishesRun, StopsRun}
 use Rattle.html5states.specs.Telling.{Stops}
-use Rattle.html5ever.specs.Tokenizer.{Tokenizing, StandsAt, ReadsOn, Feeds, Finishes, StopsFeeding, StopsReading, StopsEnding, EndStops, feed_of, state_at_end}
+use Rattle.html5ever.specs.Tokenizer.{Tokenizing, StandsAt, ReadsOn, Feeds, Finishes, StopsFeeding, StopsReading, StopsEnding, EndStops, state_at_end}
 use Rattle.html5opened.specs.declared.error.TokenizerError.{TokenizerError}
 use Rattle.html5opened.specs.declared.error.TokenizerError.TheVariants.{Memory}
 use Rattle.html5ever.proofs.Draining.{taken-is}
@@ -29,13 +29,13 @@ module _ {X S H : Type 0} (means : Means X S H) (rules : Rules) where
   unfolding run_text
   run_text-begins K s text queue [] = record { more = queue; parts = refl }
   run_text-begins K s text queue (t ∷ ts) =
-      let f : Feed H = feed_of means rules K s text (waiting_with t queue) in
+      let f : Feed H = feed means rules K s text (waiting_with t queue) in
       let later = run_text-begins K s (text ++ f.taken) f.left ts in
       record { more = f.taken ++ later.more; parts = later.parts ∙ append_assoc text f.taken later.more }
 
   pub run_text-more : (K : Start) (s : S) (text queue : List ℕ) (t : StepOf) (ts : List StepOf)
       → run_text means rules K s text queue (t ∷ ts)
-      ≡ run_text means rules K s (text ++ (feed_of means rules K s text (waiting_with t queue)).taken) (feed_of means rules K s text (waiting_with t queue)).left ts
+      ≡ run_text means rules K s (text ++ (feed means rules K s text (waiting_with t queue)).taken) (feed means rules K s text (waiting_with t queue)).left ts
   unfolding run_text
   run_text-more K s text queue t ts = refl
 
@@ -49,12 +49,12 @@ module _ {X S H : Type 0} (means : Means X S H) (rules : Rules) where
   unfolding run_text
   run_text-pushes K s text queue [] = ap (λ l. text ++ l) (sym (append-nil queue))
   run_text-pushes K s text queue (p ∷ ps) =
-      let f : Feed H = feed_of means rules K s text (queue ++ p) in
+      let f : Feed H = feed means rules K s text (queue ++ p) in
       run_text-pushes K s (text ++ f.taken) f.left ps
       ∙ append_assoc text f.taken (f.left ++ concat ps)
       ∙ ap (λ l. text ++ l)
       (sym (append_assoc f.taken f.left (concat ps))
-      ∙ ap (λ l. l ++ concat ps) (feed-parts means.step means.reply means.foreign rules K s text (queue ++ p))
+      ∙ ap (λ l. l ++ concat ps) (feed-parts means rules K s text (queue ++ p))
       ∙ append_assoc queue p (concat ps))
 
   pub cutting-text : (K : Start) (s : S) (pieces : List (List ℕ)) → run_text means rules K s [] [] (map AtBack pieces) ≡ concat pieces
@@ -97,12 +97,12 @@ module _ {X S H : Type 0} (means : Means X S H) where
         fed.stands;
     runs = λ K s stands.
         let fed = feeds K s taken.front (taken.reads K s [] stands) in
-        let same : feed_of means now.rules K s taken.front waiting ≡ feed_of means first.rules K s taken.front (waiting_with t queue) =
-        ap (λ b. feed_of means b K s taken.front waiting) taken.rules ∙ ap (feed_of means first.rules K s taken.front) handed in
+        let same : feed means now.rules K s taken.front waiting ≡ feed means first.rules K s taken.front (waiting_with t queue) =
+        ap (λ b. feed means b K s taken.front waiting) taken.rules ∙ ap (feed means first.rules K s taken.front) handed in
         taken.runs K s stands
         ∙ run_text-more means first.rules K s taken.front queue t rest
         ∙ ap (λ (f : Feed H). run_text means first.rules K s (taken.front ++ f.taken) f.left rest) (sym same)
-        ∙ ap (λ l. run_text means first.rules K s (taken.front ++ l) (feed_of means now.rules K s taken.front waiting).left rest)
+        ∙ ap (λ l. run_text means first.rules K s (taken.front ++ l) (feed means now.rules K s taken.front waiting).left rest)
         (taken-is means now.rules K s taken.front is_end.front left waiting is_end.parts fed.left)
         ∙ ap (λ l. run_text means first.rules K s (taken.front ++ is_end.front) l rest) (sym fed.left);
     rules = rules ∙ taken.rules;
@@ -126,11 +126,11 @@ module _ {X S H : Type 0} (means : Means X S H) where
       → waiting ≡ waiting_with t queue → (K : Start) (s : S)
       → (more : List ℕ)
       × (run_text means first.rules K s taken.front queue (t ∷ rest)
-      ≡ (taken.front ++ (feed_of means now.rules K s taken.front waiting).taken) ++ more)
+      ≡ (taken.front ++ (feed means now.rules K s taken.front waiting).taken) ++ more)
   fed-parts first now steps rest t queue waiting taken handed K s =
-      let f : Feed H = feed_of means now.rules K s taken.front waiting in
-      let same : f ≡ feed_of means first.rules K s taken.front (waiting_with t queue) =
-      ap (λ b. feed_of means b K s taken.front waiting) taken.rules ∙ ap (feed_of means first.rules K s taken.front) handed in
+      let f : Feed H = feed means now.rules K s taken.front waiting in
+      let same : f ≡ feed means first.rules K s taken.front (waiting_with t queue) =
+      ap (λ b. feed means b K s taken.front waiting) taken.rules ∙ ap (feed means first.rules K s taken.front) handed in
       let begins = run_text-begins means first.rules K s (taken.front ++ f.taken) f.left rest in (
         begins.more,
         run_text-more means first.rules K s taken.front queue t rest
@@ -142,7 +142,7 @@ module _ {X S H : Type 0} (means : Means X S H) where
   stops-within : (e : TokenizerError) (first now : Tokenizing X) (steps rest : List StepOf) (queue fed more : List ℕ) (v : S) → (taken : HasTaken first now steps rest queue)
       → (K : Start) (s : S) → StandsAt means first K s []
       → run_text means first.rules K s taken.front queue rest ≡ (taken.front ++ fed) ++ more
-      → Stops means.step means.faulted e (means.state now.sink) (told_beyond means.step means.reply means.foreign now.rules K s taken.front fed) v
+      → Stops means.step means.faulted e (means.state now.sink) (told_beyond means now.rules K s taken.front fed) v
       → EndStops means e s (all_messages means first.rules K s (run_text means first.rules K s [] [] steps)) v
   stops-within e first now steps rest queue fed more v taken K s stands parts stops =
       subst (λ l. EndStops means e s (all_messages means first.rules K s l) v) (sym (taken.runs K s stands ∙ parts))

@@ -19,12 +19,11 @@ use Rattle.html5opened.specs.declared.error.TokenizerError.{TokenizerError}
 use Rattle.html5opened.specs.declared.error.TokenizerError.TheVariants.{Memory, Sink, Failed}
 use Rattle.html5states.proofs.Tellings.{stops_before, stops_after}
 use Rattle.std.proofs.Math.Seq.{drop-append_seam}
-use Rattle.std.proofs.lemmas.List.{length-map}
 
 module _ {X S H : Type 0} (means : Means X S H) where
   -- the reading is what is told, and then what the end tells
   reading-parts : (rules : Rules) (K : Start) (s : S) (text : List ℕ)
-      → all_messages means rules K s text ≡ messages_so_far means rules K s text ++ told_at_end means.step means.reply means.foreign rules K s text
+      → all_messages means rules K s text ≡ messages_so_far means rules K s text ++ told_at_end means rules K s text
   reading-parts rules K s text =
       let E : List Event = told means.step means.reply means.foreign rules K s text in
       let N : List Message = messages (end_events means.step means.reply means.foreign rules K (read means.step means.reply means.foreign rules K s text).opened (normalised K.input text)) in
@@ -33,9 +32,7 @@ module _ {X S H : Type 0} (means : Means X S H) where
       ∙ messages-append E (end_events means.step means.reply means.foreign rules K (read means.step means.reply means.foreign rules K s text).opened (normalised K.input text)) in
       whole
       ∙ ap (λ l. messages E ++ l)
-      (sym (ap (λ l. drop (length E) l) whole
-      ∙ ap (λ n. drop n (messages E ++ N)) (sym (length-map E (λ (e : Event). e.message)))
-      ∙ drop-append_seam (messages E) N))
+      (sym (ap (drop (length (messages E))) whole ∙ drop-append_seam (messages E) N))
 
   state-start : (t : Tokenizing X) (K : Start) (s : S) → StandsAt means t K s [] → means.state t.sink ≡ s
   unfolding stepped
@@ -45,52 +42,52 @@ module _ {X S H : Type 0} (means : Means X S H) where
   reading-within : (rules : Rules) (K : Start) (s : S) (text taken more : List ℕ)
       → all_messages means rules K s ((text ++ taken) ++ more)
       ≡ messages_so_far means rules K s text
-      ++ (told_beyond means.step means.reply means.foreign rules K s text taken ++ (told_beyond means.step means.reply means.foreign rules K s (text ++ taken) more ++ told_at_end means.step means.reply means.foreign rules K s ((text ++ taken) ++ more)))
+      ++ (told_beyond means rules K s text taken ++ (told_beyond means rules K s (text ++ taken) more ++ told_at_end means rules K s ((text ++ taken) ++ more)))
   reading-within rules K s text taken more =
       let T : List Message = messages_so_far means rules K s text in
-      let B : List Message = told_beyond means.step means.reply means.foreign rules K s text taken in
-      let C : List Message = told_beyond means.step means.reply means.foreign rules K s (text ++ taken) more in
-      let E : List Message = told_at_end means.step means.reply means.foreign rules K s ((text ++ taken) ++ more) in
+      let B : List Message = told_beyond means rules K s text taken in
+      let C : List Message = told_beyond means rules K s (text ++ taken) more in
+      let E : List Message = told_at_end means rules K s ((text ++ taken) ++ more) in
       reading-parts rules K s ((text ++ taken) ++ more)
-      ∙ ap (λ l. l ++ E) (told-beyond means.step means.reply means.foreign rules K s (text ++ taken) more ∙ ap (λ l. l ++ C) (told-beyond means.step means.reply means.foreign rules K s text taken))
+      ∙ ap (λ l. l ++ E) (told-beyond means rules K s (text ++ taken) more ∙ ap (λ l. l ++ C) (told-beyond means rules K s text taken))
       ∙ append_assoc (T ++ B) C E
       ∙ append_assoc T B (C ++ E)
 
   -- a feed that is refused within a run
   pub whole-within_stops : (e : TokenizerError) (t : Tokenizing X) (K : Start) (s u : S) (text taken more : List ℕ)
       → StandsAt means t K s text
-      → Stops means.step means.faulted e (means.state t.sink) (told_beyond means.step means.reply means.foreign t.rules K s text taken) u
+      → Stops means.step means.faulted e (means.state t.sink) (told_beyond means t.rules K s text taken) u
       → EndStops means e s (all_messages means t.rules K s ((text ++ taken) ++ more)) u
   whole-within_stops Memory t K s u text taken more stands stops =
       rw (reading-within t.rules K s text taken more)
       (stops_after means.step means.faulted Memory s (means.state t.sink) u (messages_so_far means t.rules K s text) _ stands.told
-      (stops_before means.step means.faulted Memory (means.state t.sink) u (told_beyond means.step means.reply means.foreign t.rules K s text taken) _ tt stops))
+      (stops_before means.step means.faulted Memory (means.state t.sink) u (told_beyond means t.rules K s text taken) _ tt stops))
   whole-within_stops Sink t K s u text taken more stands stops =
       rw (reading-within t.rules K s text taken more)
       (inl (stops_after means.step means.faulted Sink s (means.state t.sink) u (messages_so_far means t.rules K s text) _ stands.told
-      (stops_before means.step means.faulted Sink (means.state t.sink) u (told_beyond means.step means.reply means.foreign t.rules K s text taken) _ tt stops)))
+      (stops_before means.step means.faulted Sink (means.state t.sink) u (told_beyond means t.rules K s text taken) _ tt stops)))
   whole-within_stops Failed t K s u text taken more stands stops = stops
 
   pub whole-feed_stops : (e : TokenizerError) (t : Tokenizing X) (K : Start) (s u : S) (text : List ℕ)
       → StandsAt means t K s []
-      → Stops means.step means.faulted e (means.state t.sink) (told_beyond means.step means.reply means.foreign t.rules K s [] text) u
+      → Stops means.step means.faulted e (means.state t.sink) (told_beyond means t.rules K s [] text) u
       → EndStops means e s (all_messages means t.rules K s text) u
   whole-feed_stops e t K s u text stands stops =
       rw (← append-nil text) (whole-within_stops e t K s u [] text [] stands stops)
 
   pub whole-end_stops : (e : TokenizerError) (t : Tokenizing X) (K : Start) (s u : S) (text : List ℕ)
       → StandsAt means t K s text
-      → EndStops means e (means.state t.sink) (told_at_end means.step means.reply means.foreign t.rules K s text) u
+      → EndStops means e (means.state t.sink) (told_at_end means t.rules K s text) u
       → EndStops means e s (all_messages means t.rules K s text) u
   whole-end_stops Memory t K s u text stands stops =
       rw (reading-parts t.rules K s text)
-      (stops_after means.step means.faulted Memory s (means.state t.sink) u (messages_so_far means t.rules K s text) (told_at_end means.step means.reply means.foreign t.rules K s text) stands.told stops)
+      (stops_after means.step means.faulted Memory s (means.state t.sink) u (messages_so_far means t.rules K s text) (told_at_end means t.rules K s text) stands.told stops)
   whole-end_stops Sink t K s u text stands (inl stops) =
       rw (reading-parts t.rules K s text)
-      (inl (stops_after means.step means.faulted Sink s (means.state t.sink) u (messages_so_far means t.rules K s text) (told_at_end means.step means.reply means.foreign t.rules K s text) stands.told stops))
+      (inl (stops_after means.step means.faulted Sink s (means.state t.sink) u (messages_so_far means t.rules K s text) (told_at_end means t.rules K s text) stands.told stops))
   whole-end_stops Sink t K s u text stands (inr ended) =
       rw (reading-parts t.rules K s text)
-      (inr (ended ∙ ap means.end_faulted (rw (stands.told) (sym (stepped-append means.step s (messages_so_far means t.rules K s text) (told_at_end means.step means.reply means.foreign t.rules K s text))))))
+      (inr (ended ∙ ap means.end_faulted (rw (stands.told) (sym (stepped-append means.step s (messages_so_far means t.rules K s text) (told_at_end means t.rules K s text))))))
   whole-end_stops Failed t K s u text stands stops = stops
 
 -- a sink that was told nothing yet

@@ -6,8 +6,8 @@ use Rattle.html5ever_interface.specs.Options.{OptionsOf}
 use Rattle.html5ever_interface.specs.Sink.{Means}
 use Rattle.html5grammar.specs.Reading.{all_messages}
 use Rattle.html5grammar.specs.Start.{Start, Rules, start_of}
-use Rattle.html5feed.specs.Feed.{Feed}
-use Rattle.html5ever.specs.Tokenizer.{Tokenizing, StandsAt, EndStops, rules_of, feed_of, state_at_end}
+use Rattle.html5feed.specs.Feed.{Feed, feed}
+use Rattle.html5ever.specs.Tokenizer.{Tokenizing, StandsAt, EndStops, rules_of, state_at_end}
 use Rattle.html5opened.specs.declared.error.TokenizerError.{TokenizerError}
 use Rattle.html5ever.specs.declared.tokenizer.steps.Step.{Step}
 use Rattle.html5ever.specs.declared.tokenizer.steps.Step.TheVariants.{Push, Insert}
@@ -33,7 +33,7 @@ module _ {X S H : Type 0} (means : Means X S H) where
   unfoldable pub run_text : Rules → Start → S → List ℕ → List ℕ → List StepOf → List ℕ
   run_text rules K s text queue [] = text ++ queue
   run_text rules K s text queue (t ∷ ts) =
-      let fed : Feed H = feed_of means rules K s text (waiting_with t queue) in
+      let fed : Feed H = feed means rules K s text (waiting_with t queue) in
       run_text rules K s (text ++ fed.taken) fed.left ts
 
   -- the same from the start of a stream, by these options and this table

@@ -62,10 +62,6 @@ module _ {X S H : Type 0} (means : Means X S H) where
     pub not_failed : t.failed ≡ false
     pub not_ended : t.ended ≡ false
 
-  -- what a feed of a queue's text does after `text`
-  abbrev pub feed_of : Rules → Start → S → List ℕ → List ℕ → Feed H
-  feed_of rules K s text queue = feed means.step means.reply means.foreign rules K s text queue
-
   -- from wherever it stood, the tokenizer was taken further by `more`
   abbrev pub ReadsOn : Tokenizing X → Tokenizing X → List ℕ → Type 0
   ReadsOn old new more = (K : Start) (s : S) (text : List ℕ) → StandsAt old K s text → StandsAt new K s (text ++ more)
@@ -79,7 +75,7 @@ module _ {X S H : Type 0} (means : Means X S H) where
   -- from wherever it stood, the tokenizer was fed a queue's text: a beginning was taken, `left` waits, and that reply was handed on
   abbrev pub Feeds : Tokenizing X → Tokenizing X → List ℕ → List ℕ → Reply H → Type 0
   Feeds old new queue left reply =
-      (K : Start) (s : S) (text : List ℕ) → StandsAt old K s text → FedFrom (feed_of old.rules K s text queue) new K s text left reply
+      (K : Start) (s : S) (text : List ℕ) → StandsAt old K s text → FedFrom (feed means old.rules K s text queue) new K s text left reply
 
   -- from wherever the tokenizer stood, the whole reading was told, and then the sink finished
   abbrev pub Finishes : Tokenizing X → S → Type 0
@@ -96,25 +92,25 @@ module _ {X S H : Type 0} (means : Means X S H) where
   abbrev pub StopsReading : TokenizerError → Tokenizing X → List ℕ → S → Type 0
   StopsReading e old more t =
       (K : Start) (s : S) (text : List ℕ) → StandsAt old K s text
-      → Stops means.step means.faulted e (means.state old.sink) (told_beyond means.step means.reply means.foreign old.rules K s text more) t
+      → Stops means.step means.faulted e (means.state old.sink) (told_beyond means old.rules K s text more) t
 
   -- after `text` a feed of a queue's text was refused, where `fed` says what it would have done
   pub record StopsFrom (e : TokenizerError) (fed : Feed H) (t : Tokenizing X) (K : Start) (s : S) (text queue left : List ℕ) (v : S) : Type 0 where
     -- it stopped within what it would have told, and so before any pause
-    pub stops : Stops means.step means.faulted e (means.state t.sink) (told_beyond means.step means.reply means.foreign t.rules K s text fed.taken) v
+    pub stops : Stops means.step means.faulted e (means.state t.sink) (told_beyond means t.rules K s text fed.taken) v
     -- a beginning of the queue's text is gone: all that it tells was told, but for the last item, within which the feed stopped
-    pub refused : RefusedBehind means.step means.reply means.foreign means.faulted t.rules e K s text queue left v
+    pub refused : RefusedBehind means t.rules e K s text queue left v
 
   -- from wherever it stood, the tokenizer was refused a feed of a queue's text: it stopped within that, and `left` waits
   abbrev pub StopsFeeding : TokenizerError → Tokenizing X → List ℕ → List ℕ → S → Type 0
   StopsFeeding e old queue left v =
-      (K : Start) (s : S) (text : List ℕ) → StandsAt old K s text → StopsFrom e (feed_of old.rules K s text queue) old K s text queue left v
+      (K : Start) (s : S) (text : List ℕ) → StandsAt old K s text → StopsFrom e (feed means old.rules K s text queue) old K s text queue left v
 
   -- from wherever it stood, the tokenizer stopped within what the end would have told
   abbrev pub StopsEnding : TokenizerError → Tokenizing X → S → Type 0
   StopsEnding e old t =
       (K : Start) (s : S) (text : List ℕ) → StandsAt old K s text
-      → EndStops means e (means.state old.sink) (told_at_end means.step means.reply means.foreign old.rules K s text) t
+      → EndStops means e (means.state old.sink) (told_at_end means old.rules K s text) t
 
   -- from the start of a text, the tokenizer stopped within the reading of `more`
   abbrev pub StopsWhole : TokenizerError → Tokenizing X → List ℕ → S → Type 0

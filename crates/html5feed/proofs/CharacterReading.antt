@@ -1,7 +1,7 @@
 -- Reading one character: what the machine tells of it, with the error of a bad character in front.
 use Rattle.std.proofs.Common.{◌≡◌, ℕ, false, List, [], ◌∷◌, ◌++◌, refl, ap, sym, ◌∙◌, Result, Err}
 use Rattle.std.proofs.lemmas.List.{append-nil, append_assoc, map-append}
-use Rattle.html5ever_interface.specs.Sink.{Message, stepped, on_line}
+use Rattle.html5ever_interface.specs.Sink.{Means, Message, stepped, on_line}
 use Rattle.html5ever_interface.specs.Token.{Told, TagOf, Reply}
 use Rattle.html5ever_interface.specs.Token.Told.{Tag}
 use Rattle.html5ever_interface.specs.declared.states.ScriptEscapeKind.TheVariants as escape_kind
@@ -119,12 +119,12 @@ data-any_tag state.CdataSection at later e = absurd (section≢data _ e)
 data-any_tag other at later e = cc
 
 -- a refusal within what a state tells, where a tag may follow
-pub ended_stops : {S T : Type 0} (Z : Type 0) (step faulted : S → Told → ℕ → S) (r : Result T TokenizerError) (e : TokenizerError) (now : Opened Z) (next : Next) (s u : S) (line : ℕ) (tokens : List Told)
-    → IsErrAnd r (λ x. x ≡ e) → Ends {Z = Z} (Err e) now next → telling.Stops step faulted e s (on_line line tokens) u
-    → telling.Tells step faulted r s (on_line line (tokens ++ tag_in next)) u
-ended_stops Z step faulted r Memory now next s u line tokens h ends stop = told_stop step faulted r Memory s u line tokens (tag_in next) h tt stop
-ended_stops Z step faulted r Sink now next s u line tokens h ends stop = told_stop step faulted r Sink s u line tokens (tag_in next) h tt stop
-ended_stops Z step faulted r Failed now next s u line tokens h ends stop = absurd ends
+pub ended_stops : {X S H T : Type 0} (Z : Type 0) (means : Means X S H) (r : Result T TokenizerError) (e : TokenizerError) (now : Opened Z) (next : Next) (s u : S) (line : ℕ) (tokens : List Told)
+    → IsErrAnd r (λ x. x ≡ e) → Ends {Z = Z} (Err e) now next → telling.Stops means.step means.faulted e s (on_line line tokens) u
+    → telling.Tells means.step means.faulted r s (on_line line (tokens ++ tag_in next)) u
+ended_stops Z means r Memory now next s u line tokens h ends stop = told_stop means.step means.faulted r Memory s u line tokens (tag_in next) h tt stop
+ended_stops Z means r Sink now next s u line tokens h ends stop = told_stop means.step means.faulted r Sink s u line tokens (tag_in next) h tt stop
+ended_stops Z means r Failed now next s u line tokens h ends stop = absurd ends
 
 pub ended_leads : {S H T : Type 0} (Z : Type 0) (reply : S → Told → ℕ → Reply H) (r : Result T TokenizerError) (e : TokenizerError) (now : Opened Z) (then_open : Open) (next : Next) (t : S) (line : ℕ) (last : List ℕ)
     → IsErrAnd r (λ x. x ≡ e) → Ends {Z = Z} (Err e) now next → Leads r then_open (open_behind reply t line last next)
@@ -138,31 +138,31 @@ unfolding tokens_of NoTagsHere
 no_tags-tokens (Tells told later) none = none
 no_tags-tokens (TellsTag told tag) none = none
 
-module _ {S H : Type 0} (step : S → Told → ℕ → S) (reply : S → Told → ℕ → Reply H) (rules : Rules) where
+module _ {X S H : Type 0} (means : Means X S H) (rules : Rules) where
   -- nothing but the tag that ends pauses
-  pub pause-character : ((s : S) (told : Told) (line : ℕ) → is_tag told ≡ false → reply s told line ≡ KeepOn)
+  pub pause-character : ((s : S) (told : Told) (line : ℕ) → is_tag told ≡ false → means.reply s told line ≡ KeepOn)
       → (s : S) (line d : ℕ) (opened : Open) (last : List Told)
-      → first_pause step reply s (on_line line ((bad_character_error rules.exact d ++ tokens_of (step_at rules.exact opened d)) ++ last))
-      ≡ first_pause step reply (stepped step s (on_line line (bad_character_error rules.exact d ++ tokens_of (step_at rules.exact opened d)))) (on_line line last)
+      → first_pause means s (on_line line ((bad_character_error rules.exact d ++ tokens_of (step_at rules.exact opened d)) ++ last))
+      ≡ first_pause means (stepped means.step s (on_line line (bad_character_error rules.exact d ++ tokens_of (step_at rules.exact opened d)))) (on_line line last)
   pause-character keeps_on s line d opened last =
       let tokens : List Told = bad_character_error rules.exact d ++ tokens_of (step_at rules.exact opened d) in
-      let quiet : first_pause step reply s (on_line line tokens) ≡ KeepOn =
-      first_pause-no_tags step reply keeps_on s (on_line line tokens)
+      let quiet : first_pause means s (on_line line tokens) ≡ KeepOn =
+      first_pause-no_tags means keeps_on s (on_line line tokens)
       (no_tag_messages line tokens (no_tags-append _ _ (no_tags-bad rules.exact d) (no_tags-tokens (step_at rules.exact opened d) (no_tags-step_at rules.exact d opened)))) in
-      ap (first_pause step reply s) (map-append (λ (token : Told). record { token = token; line = line }) tokens last)
-      ∙ first_pause-append step reply s (on_line line tokens) (on_line line last)
+      ap (first_pause means s) (map-append (λ (token : Told). record { token = token; line = line }) tokens last)
+      ∙ first_pause-append means s (on_line line tokens) (on_line line last)
       ∙ rw quiet refl
 
   -- a tag that ends is told last
   messages-tokens : (line d : ℕ) (h : Here Open)
-      → messages_here step reply rules line d h ≡ on_line line ((bad_character_error rules.exact d ++ tokens_of h) ++ tag_in (behind h))
+      → messages_here means.step means.reply rules line d h ≡ on_line line ((bad_character_error rules.exact d ++ tokens_of h) ++ tag_in (behind h))
   unfolding messages_here tokens_of behind
   messages-tokens line d (Tells told later) = ap (on_line line) (sym (append-nil (bad_character_error rules.exact d ++ told)))
   messages-tokens line d (TellsTag told tag) = refl
 
   -- the reply to a tag is asked after all that was told before
   opened-behind : (s : S) (line : ℕ) (last : List ℕ) (d : ℕ) (h : Here Open)
-      → opened_here step reply rules s line last d h ≡ open_behind reply (stepped step s (on_line line (bad_character_error rules.exact d ++ tokens_of h))) line last (behind h)
+      → opened_here means.step means.reply rules s line last d h ≡ open_behind means.reply (stepped means.step s (on_line line (bad_character_error rules.exact d ++ tokens_of h))) line last (behind h)
   unfolding opened_here tokens_of behind
   opened-behind s line last d (Tells told later) = refl
   opened-behind s line last d (TellsTag told tag) = refl
@@ -170,13 +170,13 @@ module _ {S H : Type 0} (step : S → Told → ℕ → S) (reply : S → Told �
   -- a character in a state
   module _ {Z : Type 0} (now : State) (at : Opened Z) (s : S) (line d : ℕ) where
     abbrev told_here : List Message
-    told_here = messages_here step reply rules line d (step_at rules.exact (open_of now at) d)
+    told_here = messages_here means.step means.reply rules line d (step_at rules.exact (open_of now at) d)
 
     abbrev behind_here : Open
-    behind_here = opened_here step reply rules s line (last_name_of at) d (step_at rules.exact (open_of now at) d)
+    behind_here = opened_here means.step means.reply rules s line (last_name_of at) d (step_at rules.exact (open_of now at) d)
 
     after-character : behind_here
-        ≡ open_behind reply (stepped step s (on_line line (bad_character_error rules.exact d ++ tokens_of (step_at rules.exact (open_of now at) d)))) line (last_name_of at) (behind (step_at rules.exact (open_of now at) d))
+        ≡ open_behind means.reply (stepped means.step s (on_line line (bad_character_error rules.exact d ++ tokens_of (step_at rules.exact (open_of now at) d)))) line (last_name_of at) (behind (step_at rules.exact (open_of now at) d))
     after-character = opened-behind s line (last_name_of at) d (step_at rules.exact (open_of now at) d)
 
     -- the bad character, the tokens of its state and then the tag that it ends, told by calls
@@ -189,28 +189,28 @@ module _ {S H : Type 0} (step : S → Told → ℕ → S) (reply : S → Told �
     whole-told : told_here ≡ on_line line (here_tokens ++ tag_in next)
     whole-told = messages-tokens line d (step_at rules.exact (open_of now at) d)
 
-    whole-opened : (u : S) → u ≡ stepped step s (on_line line here_tokens) → behind_here ≡ open_behind reply u line (last_name_of at) next
+    whole-opened : (u : S) → u ≡ stepped means.step s (on_line line here_tokens) → behind_here ≡ open_behind means.reply u line (last_name_of at) next
     whole-opened u e =
-        after-character ∙ ap (λ v. open_behind reply v line (last_name_of at) next) (sym e)
+        after-character ∙ ap (λ v. open_behind means.reply v line (last_name_of at) next) (sym e)
 
-    module _ (t u : S) (bad_told : t ≡ stepped step s (on_line line (bad_character_error rules.exact d))) where
-      both-told : u ≡ stepped step t (on_line line (tokens_of (step_at rules.exact (open_of now at) d))) → u ≡ stepped step s (on_line line here_tokens)
+    module _ (t u : S) (bad_told : t ≡ stepped means.step s (on_line line (bad_character_error rules.exact d))) where
+      both-told : u ≡ stepped means.step t (on_line line (tokens_of (step_at rules.exact (open_of now at) d))) → u ≡ stepped means.step s (on_line line here_tokens)
       both-told e =
-          e ∙ ap (λ v. stepped step v (on_line line (tokens_of (step_at rules.exact (open_of now at) d)))) bad_told
-          ∙ sym (stepped-append step s (on_line line (bad_character_error rules.exact d)) (on_line line (tokens_of (step_at rules.exact (open_of now at) d))))
-          ∙ ap (stepped step s) (sym (map-append (λ (token : Told). record { token = token; line = line }) (bad_character_error rules.exact d) (tokens_of (step_at rules.exact (open_of now at) d))))
+          e ∙ ap (λ v. stepped means.step v (on_line line (tokens_of (step_at rules.exact (open_of now at) d)))) bad_told
+          ∙ sym (stepped-append means.step s (on_line line (bad_character_error rules.exact d)) (on_line line (tokens_of (step_at rules.exact (open_of now at) d))))
+          ∙ ap (stepped means.step s) (sym (map-append (λ (token : Told). record { token = token; line = line }) (bad_character_error rules.exact d) (tokens_of (step_at rules.exact (open_of now at) d))))
 
-      pub tells-ended : {T : Type 0} (faulted : S → Told → ℕ → S) (r : Result T TokenizerError) (told_tag : TagOf) (later : Open) (v : S)
-          → u ≡ stepped step t (on_line line (tokens_of (step_at rules.exact (open_of now at) d))) → Closes told_tag later ≡ next
-          → telling.Tells step faulted r u (on_line line (Tag told_tag ∷ [])) v
-          → telling.Tells step faulted r s (told_here) v
-      tells-ended faulted r told_tag later v e is tells =
-          rw (whole-told, ← is) (told_then step faulted r s u v line here_tokens (Tag told_tag ∷ []) (both-told e) tells)
+      pub tells-ended : {T : Type 0} (r : Result T TokenizerError) (told_tag : TagOf) (later : Open) (v : S)
+          → u ≡ stepped means.step t (on_line line (tokens_of (step_at rules.exact (open_of now at) d))) → Closes told_tag later ≡ next
+          → telling.Tells means.step means.faulted r u (on_line line (Tag told_tag ∷ [])) v
+          → telling.Tells means.step means.faulted r s (told_here) v
+      tells-ended r told_tag later v e is tells =
+          rw (whole-told, ← is) (told_then means.step means.faulted r s u v line here_tokens (Tag told_tag ∷ []) (both-told e) tells)
 
       pub opened-ended : (told_tag : TagOf) (later : Open)
-          → u ≡ stepped step t (on_line line (tokens_of (step_at rules.exact (open_of now at) d))) → Closes told_tag later ≡ next
-          → open_after_reply (last_behind (last_name_of at) told_tag) (reply u (Tag told_tag) line) ≡ behind_here
-      opened-ended told_tag later e is = ap (open_behind reply u line (last_name_of at)) is ∙ sym (whole-opened u (both-told e))
+          → u ≡ stepped means.step t (on_line line (tokens_of (step_at rules.exact (open_of now at) d))) → Closes told_tag later ≡ next
+          → open_after_reply (last_behind (last_name_of at) told_tag) (means.reply u (Tag told_tag) line) ≡ behind_here
+      opened-ended told_tag later e is = ap (open_behind means.reply u line (last_name_of at)) is ∙ sym (whole-opened u (both-told e))
 
       pub last-ended : (told_tag : TagOf) (later : Open) → Closes told_tag later ≡ next
           → last_behind (last_name_of at) told_tag ≡ last_here (last_name_of at) (step_at rules.exact (open_of now at) d)
@@ -219,56 +219,56 @@ module _ {S H : Type 0} (step : S → Told → ℕ → S) (reply : S → Told �
       pub last-going : (later : Open) → Opens later ≡ next → last_name_of at ≡ last_here (last_name_of at) (step_at rules.exact (open_of now at) d)
       last-going later is = ap (last_in (last_name_of at)) is ∙ sym (last_here-behind (last_name_of at) (step_at rules.exact (open_of now at) d))
 
-      pub pause-ended : ((s : S) (told : Told) (line : ℕ) → is_tag told ≡ false → reply s told line ≡ KeepOn)
+      pub pause-ended : ((s : S) (told : Told) (line : ℕ) → is_tag told ≡ false → means.reply s told line ≡ KeepOn)
           → (told_tag : TagOf) (later : Open)
-          → u ≡ stepped step t (on_line line (tokens_of (step_at rules.exact (open_of now at) d))) → Closes told_tag later ≡ next
-          → first_pause step reply u (on_line line (Tag told_tag ∷ [])) ≡ first_pause step reply s (told_here)
+          → u ≡ stepped means.step t (on_line line (tokens_of (step_at rules.exact (open_of now at) d))) → Closes told_tag later ≡ next
+          → first_pause means u (on_line line (Tag told_tag ∷ [])) ≡ first_pause means s (told_here)
       pause-ended keeps_on told_tag later e is =
-          ap (λ v. first_pause step reply v (on_line line (Tag told_tag ∷ []))) (both-told e)
-          ∙ ap (λ m. first_pause step reply (stepped step s (on_line line here_tokens)) (on_line line (tag_in m))) is
+          ap (λ v. first_pause means v (on_line line (Tag told_tag ∷ []))) (both-told e)
+          ∙ ap (λ m. first_pause means (stepped means.step s (on_line line here_tokens)) (on_line line (tag_in m))) is
           ∙ sym (pause-character keeps_on s line d (open_of now at) (tag_in next))
-          ∙ ap (first_pause step reply s) (sym whole-told)
+          ∙ ap (first_pause means s) (sym whole-told)
 
       pub tells-going : (later : Open)
-          → u ≡ stepped step t (on_line line (tokens_of (step_at rules.exact (open_of now at) d))) → Opens later ≡ next
-          → u ≡ stepped step s (told_here)
+          → u ≡ stepped means.step t (on_line line (tokens_of (step_at rules.exact (open_of now at) d))) → Opens later ≡ next
+          → u ≡ stepped means.step s (told_here)
       tells-going later e is =
           both-told e
-          ∙ ap (λ l. stepped step s (on_line line l)) (sym (append-nil here_tokens) ∙ ap (λ m. here_tokens ++ tag_in m) is)
-          ∙ ap (stepped step s) (sym whole-told)
+          ∙ ap (λ l. stepped means.step s (on_line line l)) (sym (append-nil here_tokens) ∙ ap (λ m. here_tokens ++ tag_in m) is)
+          ∙ ap (stepped means.step s) (sym whole-told)
 
       pub opened-going : (later : Open)
-          → u ≡ stepped step t (on_line line (tokens_of (step_at rules.exact (open_of now at) d))) → Opens later ≡ next
+          → u ≡ stepped means.step t (on_line line (tokens_of (step_at rules.exact (open_of now at) d))) → Opens later ≡ next
           → later ≡ behind_here
-      opened-going later e is = ap (open_behind reply u line (last_name_of at)) is ∙ sym (whole-opened u (both-told e))
+      opened-going later e is = ap (open_behind means.reply u line (last_name_of at)) is ∙ sym (whole-opened u (both-told e))
 
-      pub pause-going : ((s : S) (told : Told) (line : ℕ) → is_tag told ≡ false → reply s told line ≡ KeepOn)
+      pub pause-going : ((s : S) (told : Told) (line : ℕ) → is_tag told ≡ false → means.reply s told line ≡ KeepOn)
           → (later : Open) → Opens later ≡ next
-          → KeepOn ≡ first_pause step reply s (told_here)
+          → KeepOn ≡ first_pause means s (told_here)
       pause-going keeps_on later is =
-          sym (first_pause-none step reply (stepped step s (on_line line here_tokens)))
-          ∙ ap (λ m. first_pause step reply (stepped step s (on_line line here_tokens)) (on_line line (tag_in m))) is
+          sym (first_pause-none means (stepped means.step s (on_line line here_tokens)))
+          ∙ ap (λ m. first_pause means (stepped means.step s (on_line line here_tokens)) (on_line line (tag_in m))) is
           ∙ sym (pause-character keeps_on s line d (open_of now at) (tag_in next))
-          ∙ ap (first_pause step reply s) (sym whole-told)
+          ∙ ap (first_pause means s) (sym whole-told)
 
-      pub tells-refused : {T : Type 0} (Z : Type 0) (faulted : S → Told → ℕ → S) (r : Result T TokenizerError) (e : TokenizerError) (opened : Opened Z)
+      pub tells-refused : {T : Type 0} (Z : Type 0) (r : Result T TokenizerError) (e : TokenizerError) (opened : Opened Z)
           → IsErrAnd r (λ x. x ≡ e) → Ends {Z = Z} (Err e) opened next
-          → telling.Stops step faulted e t (on_line line (tokens_of (step_at rules.exact (open_of now at) d))) u
-          → telling.Tells step faulted r s (told_here) u
-      tells-refused Z faulted r e opened h ends stop =
+          → telling.Stops means.step means.faulted e t (on_line line (tokens_of (step_at rules.exact (open_of now at) d))) u
+          → telling.Tells means.step means.faulted r s (told_here) u
+      tells-refused Z r e opened h ends stop =
           rw (whole-told, append_assoc (bad_character_error rules.exact d) (tokens_of (step_at rules.exact (open_of now at) d)) (tag_in next))
-          (told_then step faulted r s t u line (bad_character_error rules.exact d) (tokens_of (step_at rules.exact (open_of now at) d) ++ tag_in next) bad_told
-          (ended_stops Z step faulted r e opened next t u line (tokens_of (step_at rules.exact (open_of now at) d)) h ends stop))
+          (told_then means.step means.faulted r s t u line (bad_character_error rules.exact d) (tokens_of (step_at rules.exact (open_of now at) d) ++ tag_in next) bad_told
+          (ended_stops Z means r e opened next t u line (tokens_of (step_at rules.exact (open_of now at) d)) h ends stop))
 
     pub leads-refused : {T : Type 0} (Z : Type 0) (r : Result T TokenizerError) (e : TokenizerError) (opened : Opened Z) (later : Open)
         → IsErrAnd r (λ x. x ≡ e) → Ends {Z = Z} (Err e) opened next → Leads r later behind_here
     leads-refused Z r e opened later h ends =
-        rw (whole-opened (stepped step s (on_line line here_tokens)) refl)
-        (ended_leads Z reply r e opened later next (stepped step s (on_line line here_tokens)) line (last_name_of at) h ends)
+        rw (whole-opened (stepped means.step s (on_line line here_tokens)) refl)
+        (ended_leads Z means.reply r e opened later next (stepped means.step s (on_line line here_tokens)) line (last_name_of at) h ends)
 
-    pub tells-bad : {T : Type 0} (faulted : S → Told → ℕ → S) (r : Result T TokenizerError) (e : TokenizerError) (t : S)
-        → IsErrAnd r (λ x. x ≡ e) → telling.IsRefusal e → telling.Stops step faulted e s (on_line line (bad_character_error rules.exact d)) t
-        → telling.Tells step faulted r s (told_here) t
-    tells-bad faulted r e t h refusal stop =
+    pub tells-bad : {T : Type 0} (r : Result T TokenizerError) (e : TokenizerError) (t : S)
+        → IsErrAnd r (λ x. x ≡ e) → telling.IsRefusal e → telling.Stops means.step means.faulted e s (on_line line (bad_character_error rules.exact d)) t
+        → telling.Tells means.step means.faulted r s (told_here) t
+    tells-bad r e t h refusal stop =
         rw (whole-told, append_assoc (bad_character_error rules.exact d) (tokens_of (step_at rules.exact (open_of now at) d)) (tag_in next))
-        (told_stop step faulted r e s t line (bad_character_error rules.exact d) (tokens_of (step_at rules.exact (open_of now at) d) ++ tag_in next) h refusal stop)
+        (told_stop means.step means.faulted r e s t line (bad_character_error rules.exact d) (tokens_of (step_at rules.exact (open_of now at) d) ++ tag_in next) h refusal stop)

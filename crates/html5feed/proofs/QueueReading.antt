@@ -1,11 +1,11 @@
 -- A loop that reads the queue: what it has read so far, and what that gives when it goes on, ends or is refused.
-use Rattle.std.proofs.Common.{Bool, ◌≡◌, ℕ, true, false, List, [], ◌∷◌, ◌++◌, refl, ap, sym, ◌∙◌, arith, length, ◌+◌, length-append, Option, None, Some, inl, inr, subst, ◌<◌, ◌^◌}
+use Rattle.std.proofs.Common.{◌≡◌, ℕ, true, false, List, [], ◌∷◌, ◌++◌, refl, ap, sym, ◌∙◌, arith, length, ◌+◌, length-append, Option, None, Some, inl, inr, subst, ◌<◌, ◌^◌}
 use Rattle.std.specs.Prelude.{IfErr, map, encode_utf8}
 use Rattle.std.proofs.lemmas.List.{append_assoc, append-nil}
 use Rattle.markup5ever.specs.BufferQueue.{TextQueue, Takes}
-use Rattle.html5grammar.specs.Reading.{told, messages, after}
+use Rattle.html5grammar.specs.Reading.{messages_so_far, state_after, start_after}
 use Rattle.html5feed.specs.Runs.{ReadsRun}
-use Rattle.html5ever_interface.specs.Sink.{Message, stepped}
+use Rattle.html5ever_interface.specs.Sink.{Means, Message, stepped, on_line}
 use Rattle.html5grammar.specs.Start.{Start, Open, is_clean, Rules}
 use Rattle.html5grammar.specs.Start.Open.{Between, LessThan, LessThanSolidus, InTag, InRaw, InDeclaration, InComment, InBogusComment, InInstruction, InDoctype, InDoctypeKeyword, InCdata, InReference}
 use Rattle.html5states.specs.Telling.{Stops, IsRefusal}
@@ -20,13 +20,12 @@ use Rattle.html5feed.specs.Feed.{Feed, pauses, takes_before, first_pause, feed, 
 use Rattle.html5feed.specs.Refused.{IsRun, IsItem, RefusedBehind}
 use Rattle.html5opened.specs.Runs.{run_tokens, opened_after_run}
 use Rattle.html5feed.proofs.RunLemmas.{told-run, after-run, run-quiet}
-use Rattle.html5ever_interface.specs.Sink.{on_line}
 use Rattle.html5states.specs.Telling.{Tells}
 use Rattle.std.specs.Prelude.{OnOk, IsNone}
 use Rattle.html5feed.proofs.Pauses.{told_beyond-behind, state_behind-append, pause_here, feed-goes_on, feed-takes, feed-pauses}
 use Rattle.html5opened.specs.declared.error.TokenizerError.{TokenizerError}
 use Rattle.html5opened.specs.declared.error.TokenizerError.TheVariants.{Memory, Sink, Failed}
-use Rattle.html5grammar.proofs.ReadingLemmas.{state_behind, told-nil, told-append, after-nil, after-append}
+use Rattle.html5grammar.proofs.ReadingLemmas.{told-nil, told-append, after-nil, after-append}
 use Rattle.html5opened.proofs.Keywords.{cons≢nil}
 use Rattle.html5states.proofs.Tellings.{Memory-at_once, stops_before, stops_after}
 
@@ -90,47 +89,47 @@ nil-from_append (x ∷ xs) ys e = absurd (cons≢nil x (xs ++ ys) e)
 takes_before-twice : {H : Type 0} → (front item : List ℕ) (rest : Feed H) → takes_before front (takes_before item rest) ≡ takes_before (front ++ item) rest
 takes_before-twice front item rest = ap (λ l. record { taken = l; left = rest.left; answer = rest.answer }) (sym (append_assoc front item rest.taken))
 
-module _ {S H : Type 0} (step : S → Told → ℕ → S) (reply : S → Told → ℕ → Reply H) (foreign : S → Bool) (rules : Rules) where
+module _ {X S H : Type 0} (means : Means X S H) (rules : Rules) where
   -- the messages of a text that is taken, and the start after it
   abbrev told_of : Start → S → List ℕ → List Message
-  told_of K s X = messages (told step reply foreign rules K s X)
+  told_of K s X = messages_so_far means rules K s X
 
   abbrev pub fed : Start → S → List ℕ → Feed H
-  fed K s Q = feed step reply foreign rules K s [] Q
+  fed K s Q = feed means rules K s [] Q
 
   -- the characters taken so far were told, the tokenizer stands after them, and none of them paused
   pub record HasRead (K L : Start) (old new : TextQueue) (s t : S) : Type 0 where
     pub front : List ℕ
     pub takes : Takes old new front
-    pub state : t ≡ stepped step s (messages (told step reply foreign rules K s front))
-    pub position : L ≡ after step reply foreign rules K s front
-    pub feeds : feed step reply foreign rules K s [] old.text ≡ takes_before front (feed step reply foreign rules L t [] new.text)
+    pub state : t ≡ state_after means rules K s front
+    pub position : L ≡ start_after means rules K s front
+    pub feeds : feed means rules K s [] old.text ≡ takes_before front (feed means rules L t [] new.text)
 
   pub HasRead-none : (K : Start) (old : TextQueue) (s : S) → HasRead K K old old s s
   unfolding stepped
   HasRead-none K old s = record {
     front = [];
     takes = record { text = refl; handed_in = refl; taken = omega arith };
-    state = rw (told-nil step reply foreign rules K s) refl;
-    position = sym (after-nil step reply foreign rules K s);
+    state = rw (told-nil means.step means.reply means.foreign rules K s) refl;
+    position = sym (after-nil means.step means.reply means.foreign rules K s);
     feeds = refl;
   }
 
-  state-more : (K L : Start) (s t u : S) (front item : List ℕ) → t ≡ state_behind step reply foreign rules K s front → L ≡ after step reply foreign rules K s front
-      → u ≡ stepped step t (told_of L t item) → u ≡ stepped step s (told_of K s (front ++ item))
+  state-more : (K L : Start) (s t u : S) (front item : List ℕ) → t ≡ state_after means rules K s front → L ≡ start_after means rules K s front
+      → u ≡ stepped means.step t (told_of L t item) → u ≡ stepped means.step s (told_of K s (front ++ item))
   state-more K L s t u front item state position told_now =
       told_now
-      ∙ ap (λ P. stepped step t (told_of P t item)) position
-      ∙ ap (λ v. stepped step v (told_of (after step reply foreign rules K s front) v item)) state
-      ∙ sym (state_behind-append step reply foreign rules K s front item)
+      ∙ ap (λ P. stepped means.step t (told_of P t item)) position
+      ∙ ap (λ v. stepped means.step v (told_of (start_after means rules K s front) v item)) state
+      ∙ sym (state_behind-append means rules K s front item)
 
-  position-more : (K L N : Start) (s t : S) (front item : List ℕ) → t ≡ state_behind step reply foreign rules K s front → L ≡ after step reply foreign rules K s front
-      → N ≡ after step reply foreign rules L t item → N ≡ after step reply foreign rules K s (front ++ item)
+  position-more : (K L N : Start) (s t : S) (front item : List ℕ) → t ≡ state_after means rules K s front → L ≡ start_after means rules K s front
+      → N ≡ start_after means rules L t item → N ≡ start_after means rules K s (front ++ item)
   position-more K L N s t front item state position moved =
       moved
-      ∙ ap (λ P. after step reply foreign rules P t item) position
-      ∙ ap (λ v. after step reply foreign rules (after step reply foreign rules K s front) v item) state
-      ∙ sym (after-append step reply foreign rules K s front item)
+      ∙ ap (λ P. start_after means rules P t item) position
+      ∙ ap (λ v. start_after means rules (start_after means rules K s front) v item) state
+      ∙ sym (after-append means.step means.reply means.foreign rules K s front item)
 
   takes-more : (old mid new : TextQueue) (front item : List ℕ) → Takes old mid front → Takes mid new item → Takes old new (front ++ item)
   takes-more old mid new front item first taken = record {
@@ -141,8 +140,8 @@ module _ {S H : Type 0} (step : S → Told → ℕ → S) (reply : S → Told �
 
   pub HasRead-more : (K L N : Start) (old mid new : TextQueue) (s t u : S) (item : List ℕ)
       → HasRead K L old mid s t → Takes mid new item
-      → u ≡ stepped step t (messages (told step reply foreign rules L t item)) → N ≡ after step reply foreign rules L t item
-      → pauses (first_pause step reply t (messages (told step reply foreign rules L t item))) ≡ false
+      → u ≡ state_after means rules L t item → N ≡ start_after means rules L t item
+      → pauses (first_pause means t (messages_so_far means rules L t item)) ≡ false
       → HasRead K N old new s u
   HasRead-more K L N old mid new s t u item read taken told_now moved quiet = record {
     front = read.front ++ item;
@@ -152,8 +151,8 @@ module _ {S H : Type 0} (step : S → Told → ℕ → S) (reply : S → Told �
     feeds =
         read.feeds
         ∙ ap (takes_before read.front)
-        (ap (fed L t) taken.text ∙ feed-goes_on step reply foreign rules L t item new.text quiet
-        ∙ ap (λ P. takes_before item (fed P (stepped step t (told_of L t item)) new.text)) (sym moved)
+        (ap (fed L t) taken.text ∙ feed-goes_on means rules L t item new.text quiet
+        ∙ ap (λ P. takes_before item (fed P (stepped means.step t (told_of L t item)) new.text)) (sym moved)
         ∙ ap (λ v. takes_before item (fed N v new.text)) (sym told_now))
         ∙ takes_before-twice read.front item (fed N u new.text);
   }
@@ -161,90 +160,90 @@ module _ {S H : Type 0} (step : S → Told → ℕ → S) (reply : S → Told �
   -- an item that was taken is a beginning of what a feed takes
   pub record IsTaken (L : Start) (t : S) (item rest : List ℕ) : Type 0 where
     pub more : List ℕ
-    pub parts : (feed step reply foreign rules L t [] (item ++ rest)).taken ≡ item ++ more
+    pub parts : (feed means rules L t [] (item ++ rest)).taken ≡ item ++ more
 
   pub character-taken : (L : Start) (t : S) (c : ℕ) (rest : List ℕ) → IsTaken L t (c ∷ []) rest
-  character-taken L t c rest = let takes = feed-takes step reply foreign rules L t c rest in record { more = takes.0; parts = takes.1 }
+  character-taken L t c rest = let takes = feed-takes means rules L t c rest in record { more = takes.0; parts = takes.1 }
 
-  pub quiet-taken : (L : Start) (t : S) (run rest : List ℕ) → first_pause step reply t (messages (told step reply foreign rules L t run)) ≡ KeepOn → IsTaken L t run rest
+  pub quiet-taken : (L : Start) (t : S) (run rest : List ℕ) → first_pause means t (messages_so_far means rules L t run) ≡ KeepOn → IsTaken L t run rest
   quiet-taken L t run rest quiet = record {
-    more = (fed (after step reply foreign rules L t run) (state_behind step reply foreign rules L t run) rest).taken;
-    parts = ap (λ (f : Feed H). f.taken) (feed-goes_on step reply foreign rules L t run rest (ap pauses quiet));
+    more = (fed (start_after means rules L t run) (state_after means rules L t run) rest).taken;
+    parts = ap (λ (f : Feed H). f.taken) (feed-goes_on means rules L t run rest (ap pauses quiet));
   }
 
   -- a run that was read
-  pub HasRead-run : {T : Type 0} {x : T} (faulted : S → Told → ℕ → S) (K L N : Start) (old mid new : TextQueue) (s t u : S)
-      → HasRead K L old mid s t → ReadsRun {T = T} step reply foreign faulted rules (Ok x) L N mid new t u → HasRead K N old new s u
-  HasRead-run faulted K L N old mid new s t u read run =
+  pub HasRead-run : {T : Type 0} {x : T} (K L N : Start) (old mid new : TextQueue) (s t u : S)
+      → HasRead K L old mid s t → ReadsRun {T = T} means rules (Ok x) L N mid new t u → HasRead K N old new s u
+  HasRead-run K L N old mid new s t u read run =
       HasRead-more K L N old mid new s t u run.run read run.takes run.tells run.moves (ap pauses run.quiet)
 
   -- nothing was read at once
-  pub ReadsRun-none : {T : Type 0} (faulted : S → Told → ℕ → S) (x : T) (K : Start) (old : TextQueue) (s : S)
-      → ReadsRun {T = T} step reply foreign faulted rules (Ok x) K K old old s s
+  pub ReadsRun-none : {T : Type 0} (x : T) (K : Start) (old : TextQueue) (s : S)
+      → ReadsRun {T = T} means rules (Ok x) K K old old s s
   unfolding stepped first_pause
-  ReadsRun-none faulted x K old s = record {
+  ReadsRun-none x K old s = record {
     run = [];
     takes = record { text = refl; handed_in = refl; taken = omega arith };
     is_item = inl (omega arith);
-    tells = rw (told-nil step reply foreign rules K s) refl;
-    moves = sym (after-nil step reply foreign rules K s);
-    quiet = rw (told-nil step reply foreign rules K s) refl;
+    tells = rw (told-nil means.step means.reply means.foreign rules K s) refl;
+    moves = sym (after-nil means.step means.reply means.foreign rules K s);
+    quiet = rw (told-nil means.step means.reply means.foreign rules K s) refl;
   }
 
-  tells_nothing : {T : Type 0} (faulted : S → Told → ℕ → S) (r : Result T TokenizerError) (s : S) → IfErr r (λ e. e ≡ Memory) → Tells step faulted r s [] s
+  tells_nothing : {T : Type 0} (r : Result T TokenizerError) (s : S) → IfErr r (λ e. e ≡ Memory) → Tells means.step means.faulted r s [] s
   unfolding stepped
-  tells_nothing faulted (Ok x) s memory = refl
-  tells_nothing faulted (Err e) s memory = rw memory (Memory-at_once step faulted s [])
+  tells_nothing (Ok x) s memory = refl
+  tells_nothing (Err e) s memory = rw memory (Memory-at_once means.step means.faulted s [])
 
   run_moves : {T : Type 0} (r : Result T TokenizerError) (K L : Start) (s : S) (run : List ℕ) → IsRun rules K run → K.input.line < 2 ^ 64
-      → OnOk r (L.opened ≡ opened_after_run K.opened run) → L.last_start_tag ≡ K.last_start_tag → L.input ≡ K.input → OnOk r (L ≡ after step reply foreign rules K s run)
-  run_moves (Ok x) K L s run is_run fits opened last input = rw (after-run step reply foreign rules K s run is_run fits, ← opened, ← last, ← input) refl
+      → OnOk r (L.opened ≡ opened_after_run K.opened run) → L.last_start_tag ≡ K.last_start_tag → L.input ≡ K.input → OnOk r (L ≡ start_after means rules K s run)
+  run_moves (Ok x) K L s run is_run fits opened last input = rw (after-run means rules K s run is_run fits, ← opened, ← last, ← input) refl
   run_moves (Err e) K L s run is_run fits opened last input = tt
 
   -- a run was read, or refused
-  pub ReadsRun-run : {T : Type 0} (faulted : S → Told → ℕ → S) (r : Result T TokenizerError)
-      → ((s : S) (told : Told) (line : ℕ) → is_tag told ≡ false → reply s told line ≡ KeepOn)
+  pub ReadsRun-run : {T : Type 0} (r : Result T TokenizerError)
+      → ((s : S) (told : Told) (line : ℕ) → is_tag told ≡ false → means.reply s told line ≡ KeepOn)
       → (K L : Start) (old new : TextQueue) (s t : S) (run : List ℕ) → IsRun rules K run → K.input.line < 2 ^ 64 → Takes old new run
-      → Tells step faulted r s (on_line K.input.line (run_tokens K.opened run)) t
+      → Tells means.step means.faulted r s (on_line K.input.line (run_tokens K.opened run)) t
       → OnOk r (L.opened ≡ opened_after_run K.opened run) → L.last_start_tag ≡ K.last_start_tag → L.input ≡ K.input
-      → ReadsRun step reply foreign faulted rules r K L old new s t
-  ReadsRun-run faulted r keeps_on K L old new s t run is_run fits takes tells opened last input = record {
+      → ReadsRun means rules r K L old new s t
+  ReadsRun-run r keeps_on K L old new s t run is_run fits takes tells opened last input = record {
     run = run;
     takes = takes;
     is_item = inr is_run;
-    tells = rw (told-run step reply foreign rules K s run is_run fits) tells;
+    tells = rw (told-run means rules K s run is_run fits) tells;
     moves = run_moves r K L s run is_run fits opened last input;
-    quiet = run-quiet step reply foreign keeps_on rules K s run is_run fits;
+    quiet = run-quiet means keeps_on rules K s run is_run fits;
   }
 
   -- a run of text was told, or refused
-  pub ReadsRun-text : {T : Type 0} (faulted : S → Told → ℕ → S) (r : Result T TokenizerError)
-      → ((s : S) (told : Told) (line : ℕ) → is_tag told ≡ false → reply s told line ≡ KeepOn)
+  pub ReadsRun-text : {T : Type 0} (r : Result T TokenizerError)
+      → ((s : S) (told : Told) (line : ℕ) → is_tag told ≡ false → means.reply s told line ≡ KeepOn)
       → (K : Start) (old new : TextQueue) (s t : S) (run : List ℕ) → IsRun rules K run → is_clean K.opened ≡ true → K.input.line < 2 ^ 64 → Takes old new run
-      → Tells step faulted r s (on_line K.input.line (map (λ (c : ℕ). Text (encode_utf8 c)) run)) t
-      → ReadsRun step reply foreign faulted rules r K K old new s t
-  ReadsRun-text faulted r keeps_on K old new s t run is_run clean fits takes tells =
-      ReadsRun-run faulted r keeps_on K K old new s t run is_run fits takes
-      (subst (λ (tokens : List Told). Tells step faulted r s (on_line K.input.line tokens) t) (sym (run_tokens-clean K.opened run clean)) tells)
+      → Tells means.step means.faulted r s (on_line K.input.line (map (λ (c : ℕ). Text (encode_utf8 c)) run)) t
+      → ReadsRun means rules r K K old new s t
+  ReadsRun-text r keeps_on K old new s t run is_run clean fits takes tells =
+      ReadsRun-run r keeps_on K K old new s t run is_run fits takes
+      (subst (λ (tokens : List Told). Tells means.step means.faulted r s (on_line K.input.line tokens) t) (sym (run_tokens-clean K.opened run clean)) tells)
       (on_ok r (sym (opened_after_run-clean K.opened run clean))) refl refl
 
   -- there was no memory for a run of text
-  pub ReadsRun-memory : {T : Type 0} (faulted : S → Told → ℕ → S)
-      → ((s : S) (told : Told) (line : ℕ) → is_tag told ≡ false → reply s told line ≡ KeepOn)
+  pub ReadsRun-memory : {T : Type 0}
+      → ((s : S) (told : Told) (line : ℕ) → is_tag told ≡ false → means.reply s told line ≡ KeepOn)
       → (K : Start) (old new : TextQueue) (s : S) (run : List ℕ) → IsRun rules K run → K.input.line < 2 ^ 64 → Takes old new run
-      → ReadsRun {T = T} step reply foreign faulted rules (Err Memory) K K old new s s
-  ReadsRun-memory faulted keeps_on K old new s run is_run fits takes =
-      ReadsRun-run faulted (Err Memory) keeps_on K K old new s s run is_run fits takes (Memory-at_once step faulted s _) tt refl refl
+      → ReadsRun {T = T} means rules (Err Memory) K K old new s s
+  ReadsRun-memory keeps_on K old new s run is_run fits takes =
+      ReadsRun-run (Err Memory) keeps_on K K old new s s run is_run fits takes (Memory-at_once means.step means.faulted s _) tt refl refl
 
   -- a run was put to the open name or value, or there was no memory for it
-  pub ReadsRun-open : {T : Type 0} (faulted : S → Told → ℕ → S) (r : Result T TokenizerError)
-      → ((s : S) (told : Told) (line : ℕ) → is_tag told ≡ false → reply s told line ≡ KeepOn)
+  pub ReadsRun-open : {T : Type 0} (r : Result T TokenizerError)
+      → ((s : S) (told : Told) (line : ℕ) → is_tag told ≡ false → means.reply s told line ≡ KeepOn)
       → (K L : Start) (old new : TextQueue) (s : S) (run : List ℕ) → IsRun rules K run → is_clean K.opened ≡ false → K.input.line < 2 ^ 64 → Takes old new run
       → IfErr r (λ e. e ≡ Memory) → OnOk r (L.opened ≡ opened_after_run K.opened run) → L.last_start_tag ≡ K.last_start_tag → L.input ≡ K.input
-      → ReadsRun step reply foreign faulted rules r K L old new s s
-  ReadsRun-open faulted r keeps_on K L old new s run is_run not_clean fits takes memory opened last input =
-      ReadsRun-run faulted r keeps_on K L old new s s run is_run fits takes
-      (subst (λ (tokens : List Told). Tells step faulted r s (on_line K.input.line tokens) s) (sym (run_tokens-open K.opened run not_clean)) (tells_nothing faulted r s memory))
+      → ReadsRun means rules r K L old new s s
+  ReadsRun-open r keeps_on K L old new s run is_run not_clean fits takes memory opened last input =
+      ReadsRun-run r keeps_on K L old new s s run is_run fits takes
+      (subst (λ (tokens : List Told). Tells means.step means.faulted r s (on_line K.input.line tokens) s) (sym (run_tokens-open K.opened run not_clean)) (tells_nothing r s memory))
       opened last input
 
   -- what the whole feed takes, around an item
@@ -258,61 +257,60 @@ module _ {S H : Type 0} (step : S → Told → ℕ → S) (reply : S → Told �
   told-parts : (K L : Start) (old mid new : TextQueue) (s t : S) (item : List ℕ) → (read : HasRead K L old mid s t) → Takes mid new item
       → (is_taken : IsTaken L t item new.text)
       → told_of K s (fed K s old.text).taken
-      ≡ told_of K s read.front ++ (told_of L t item ++ told_of (after step reply foreign rules L t item) (state_behind step reply foreign rules L t item) is_taken.more)
+      ≡ told_of K s read.front ++ (told_of L t item ++ told_of (start_after means rules L t item) (state_after means rules L t item) is_taken.more)
   told-parts K L old mid new s t item read taken is_taken =
       ap (told_of K s) (taken-parts K L old mid new s t item read taken is_taken)
-      ∙ told-append step reply foreign rules K s read.front (item ++ is_taken.more)
-      ∙ ap (λ P. told_of K s read.front ++ told_of P (state_behind step reply foreign rules K s read.front) (item ++ is_taken.more)) (sym read.position)
+      ∙ told-append means.step means.reply means.foreign rules K s read.front (item ++ is_taken.more)
+      ∙ ap (λ P. told_of K s read.front ++ told_of P (state_after means rules K s read.front) (item ++ is_taken.more)) (sym read.position)
       ∙ ap (λ v. told_of K s read.front ++ told_of L v (item ++ is_taken.more)) (sym read.state)
-      ∙ ap (λ M. told_of K s read.front ++ M) (told-append step reply foreign rules L t item is_taken.more)
+      ∙ ap (λ M. told_of K s read.front ++ M) (told-append means.step means.reply means.foreign rules L t item is_taken.more)
 
   -- the start after it
   after-parts : (K L : Start) (old mid new : TextQueue) (s t : S) (item : List ℕ) → (read : HasRead K L old mid s t) → Takes mid new item
       → (is_taken : IsTaken L t item new.text)
-      → after step reply foreign rules K s (fed K s old.text).taken
-      ≡ after step reply foreign rules (after step reply foreign rules L t item) (state_behind step reply foreign rules L t item) is_taken.more
+      → start_after means rules K s (fed K s old.text).taken
+      ≡ start_after means rules (start_after means rules L t item) (state_after means rules L t item) is_taken.more
   after-parts K L old mid new s t item read taken is_taken =
-      ap (after step reply foreign rules K s) (taken-parts K L old mid new s t item read taken is_taken)
-      ∙ after-append step reply foreign rules K s read.front (item ++ is_taken.more)
-      ∙ ap (λ P. after step reply foreign rules P (state_behind step reply foreign rules K s read.front) (item ++ is_taken.more)) (sym read.position)
-      ∙ ap (λ v. after step reply foreign rules L v (item ++ is_taken.more)) (sym read.state)
-      ∙ after-append step reply foreign rules L t item is_taken.more
+      ap (start_after means rules K s) (taken-parts K L old mid new s t item read taken is_taken)
+      ∙ after-append means.step means.reply means.foreign rules K s read.front (item ++ is_taken.more)
+      ∙ ap (λ P. start_after means rules P (state_after means rules K s read.front) (item ++ is_taken.more)) (sym read.position)
+      ∙ ap (λ v. start_after means rules L v (item ++ is_taken.more)) (sym read.state)
+      ∙ after-append means.step means.reply means.foreign rules L t item is_taken.more
 
   -- a start is what is open and how characters come in
-  pub moved-behind : (N K : Start) (s : S) (X : List ℕ) → N.opened ≡ (after step reply foreign rules K s X).opened → N.last_start_tag ≡ (after step reply foreign rules K s X).last_start_tag → N.input ≡ input_after K.input X → N ≡ after step reply foreign rules K s X
+  pub moved-behind : (N K : Start) (s : S) (X : List ℕ) → N.opened ≡ (start_after means rules K s X).opened → N.last_start_tag ≡ (start_after means rules K s X).last_start_tag → N.input ≡ input_after K.input X → N ≡ start_after means rules K s X
   moved-behind N K s X opened last input = rw (← opened, ← last, ← input) refl
 
-  module _ (faulted : S → Told → ℕ → S) where
-    pub HasRead-stops : (e : TokenizerError) (K L : Start) (old mid new : TextQueue) (s t u : S) (item : List ℕ)
-        → HasRead K L old mid s t → Takes mid new item → IsTaken L t item new.text → IsRefusal e
-        → Stops step faulted e t (told_of L t item) u
-        → Stops step faulted e s (told_of K s (fed K s old.text).taken) u
-    HasRead-stops e K L old mid new s t u item read taken is_taken refusal stops =
-        rw (told-parts K L old mid new s t item read taken is_taken)
-        (stops_after step faulted e s t u (told_of K s read.front) _ read.state
-        (stops_before step faulted e t u (told_of L t item) _ refusal stops))
+  pub HasRead-stops : (e : TokenizerError) (K L : Start) (old mid new : TextQueue) (s t u : S) (item : List ℕ)
+      → HasRead K L old mid s t → Takes mid new item → IsTaken L t item new.text → IsRefusal e
+      → Stops means.step means.faulted e t (told_of L t item) u
+      → Stops means.step means.faulted e s (told_of K s (fed K s old.text).taken) u
+  HasRead-stops e K L old mid new s t u item read taken is_taken refusal stops =
+      rw (told-parts K L old mid new s t item read taken is_taken)
+      (stops_after means.step means.faulted e s t u (told_of K s read.front) _ read.state
+      (stops_before means.step means.faulted e t u (told_of L t item) _ refusal stops))
 
-    -- a refusal at an item is one within all that the feed tells
-    pub HasRead-refused : (e : TokenizerError) (K L : Start) (old mid new : TextQueue) (s t u : S) (item : List ℕ)
-        → HasRead K L old mid s t → Takes mid new item → IsTaken L t item new.text
-        → Stops step faulted e t (messages (told step reply foreign rules L t item)) u
-        → Stops step faulted e s (messages (told step reply foreign rules K s (feed step reply foreign rules K s [] old.text).taken)) u
-    HasRead-refused Memory K L old mid new s t u item read taken is_taken stops = HasRead-stops Memory K L old mid new s t u item read taken is_taken tt stops
-    HasRead-refused Sink K L old mid new s t u item read taken is_taken stops = HasRead-stops Sink K L old mid new s t u item read taken is_taken tt stops
-    HasRead-refused Failed K L old mid new s t u item read taken is_taken stops = stops
+  -- a refusal at an item is one within all that the feed tells
+  pub HasRead-refused : (e : TokenizerError) (K L : Start) (old mid new : TextQueue) (s t u : S) (item : List ℕ)
+      → HasRead K L old mid s t → Takes mid new item → IsTaken L t item new.text
+      → Stops means.step means.faulted e t (messages_so_far means rules L t item) u
+      → Stops means.step means.faulted e s (messages_so_far means rules K s (feed means rules K s [] old.text).taken) u
+  HasRead-refused Memory K L old mid new s t u item read taken is_taken stops = HasRead-stops Memory K L old mid new s t u item read taken is_taken tt stops
+  HasRead-refused Sink K L old mid new s t u item read taken is_taken stops = HasRead-stops Sink K L old mid new s t u item read taken is_taken tt stops
+  HasRead-refused Failed K L old mid new s t u item read taken is_taken stops = stops
 
-    -- what is left where an item was refused
-    pub HasRead-leaves : (e : TokenizerError) (K L : Start) (old mid new : TextQueue) (s t u : S) (item : List ℕ)
-        → HasRead K L old mid s t → Takes mid new item → IsItem rules L item
-        → Stops step faulted e t (messages (told step reply foreign rules L t item)) u
-        → RefusedBehind step reply foreign faulted rules e K s [] old.text new.text u
-    HasRead-leaves e K L old mid new s t u item read taken is_item stops = record {
-      front = read.front;
-      item = item;
-      parts = read.takes.text ∙ ap (λ l. read.front ++ l) taken.text;
-      is_item = subst (λ P. IsItem rules P item) read.position is_item;
-      stopped = rw (told_beyond-behind step reply foreign rules K s read.front item, ← read.state, ← read.position) stops;
-    }
+  -- what is left where an item was refused
+  pub HasRead-leaves : (e : TokenizerError) (K L : Start) (old mid new : TextQueue) (s t u : S) (item : List ℕ)
+      → HasRead K L old mid s t → Takes mid new item → IsItem rules L item
+      → Stops means.step means.faulted e t (messages_so_far means rules L t item) u
+      → RefusedBehind means rules e K s [] old.text new.text u
+  HasRead-leaves e K L old mid new s t u item read taken is_item stops = record {
+    front = read.front;
+    item = item;
+    parts = read.takes.text ∙ ap (λ l. read.front ++ l) taken.text;
+    is_item = subst (λ P. IsItem rules P item) read.position is_item;
+    stopped = rw (told_beyond-behind means rules K s read.front item, ← read.state, ← read.position) stops;
+  }
 
   -- what is left after an item is an end of the text
   pub end-behind : (K L : Start) (old mid new : TextQueue) (s t : S) (item : List ℕ) → HasRead K L old mid s t → Takes mid new item → IsEndOf new.text old.text
@@ -337,10 +335,10 @@ module _ {S H : Type 0} (step : S → Told → ℕ → S) (reply : S → Told �
 
   -- the end of a feed: all was taken, or it pauses after an item
   pub record HasFed (K N : Start) (old new : TextQueue) (s u : S) (answer : Reply H) : Type 0 where
-    pub told_all : u ≡ stepped step s (messages (told step reply foreign rules K s (feed step reply foreign rules K s [] old.text).taken))
-    pub position : N ≡ after step reply foreign rules K s (feed step reply foreign rules K s [] old.text).taken
-    pub answers : answer ≡ (feed step reply foreign rules K s [] old.text).answer
-    pub left : new.text ≡ (feed step reply foreign rules K s [] old.text).left
+    pub told_all : u ≡ stepped means.step s (messages_so_far means rules K s (feed means rules K s [] old.text).taken)
+    pub position : N ≡ start_after means rules K s (feed means rules K s [] old.text).taken
+    pub answers : answer ≡ (feed means rules K s [] old.text).answer
+    pub left : new.text ≡ (feed means rules K s [] old.text).left
 
   pub HasFed-all : (K L : Start) (old new : TextQueue) (s t : S) → HasRead K L old new s t → new.text ≡ [] → HasFed K L old new s t KeepOn
   unfolding feed
@@ -348,16 +346,16 @@ module _ {S H : Type 0} (step : S → Told → ℕ → S) (reply : S → Told �
       let whole : fed K s old.text ≡ record { taken = read.front; left = []; answer = KeepOn } =
       read.feeds ∙ ap (λ Q. takes_before read.front (fed L t Q)) none ∙ ap (λ l. record { taken = l; left = []; answer = KeepOn }) (append-nil read.front) in
       record {
-        told_all = read.state ∙ ap (λ (f : Feed H). stepped step s (told_of K s f.taken)) (sym whole);
-        position = read.position ∙ ap (λ (f : Feed H). after step reply foreign rules K s f.taken) (sym whole);
+        told_all = read.state ∙ ap (λ (f : Feed H). stepped means.step s (told_of K s f.taken)) (sym whole);
+        position = read.position ∙ ap (λ (f : Feed H). start_after means rules K s f.taken) (sym whole);
         answers = ap (λ (f : Feed H). f.answer) (sym whole);
         left = none ∙ ap (λ (f : Feed H). f.left) (sym whole);
       }
 
   pub HasFed-pause : (K L N : Start) (old mid new : TextQueue) (s t u : S) (c : ℕ) (answer : Reply H)
       → HasRead K L old mid s t → Takes mid new (c ∷ [])
-      → u ≡ stepped step t (messages (told step reply foreign rules L t (c ∷ []))) → N ≡ after step reply foreign rules L t (c ∷ [])
-      → answer ≡ first_pause step reply t (messages (told step reply foreign rules L t (c ∷ []))) → pauses answer ≡ true
+      → u ≡ state_after means rules L t (c ∷ []) → N ≡ start_after means rules L t (c ∷ [])
+      → answer ≡ first_pause means t (messages_so_far means rules L t (c ∷ [])) → pauses answer ≡ true
       → HasFed K N old new s u answer
   unfolding pause_here
   HasFed-pause K L N old mid new s t u c answer read taken told_now moved is_first pausing =
@@ -365,11 +363,11 @@ module _ {S H : Type 0} (step : S → Told → ℕ → S) (reply : S → Told �
       read.feeds
       ∙ ap (takes_before read.front)
       (ap (fed L t) taken.text
-      ∙ feed-pauses step reply foreign rules L t c new.text (sym (ap pauses is_first) ∙ pausing)
+      ∙ feed-pauses means rules L t c new.text (sym (ap pauses is_first) ∙ pausing)
       ∙ ap (λ r. record { taken = c ∷ []; left = new.text; answer = r }) (sym is_first)) in
       record {
-        told_all = state-more K L s t u read.front (c ∷ []) read.state read.position told_now ∙ ap (λ (f : Feed H). stepped step s (told_of K s f.taken)) (sym whole);
-        position = position-more K L N s t read.front (c ∷ []) read.state read.position moved ∙ ap (λ (f : Feed H). after step reply foreign rules K s f.taken) (sym whole);
+        told_all = state-more K L s t u read.front (c ∷ []) read.state read.position told_now ∙ ap (λ (f : Feed H). stepped means.step s (told_of K s f.taken)) (sym whole);
+        position = position-more K L N s t read.front (c ∷ []) read.state read.position moved ∙ ap (λ (f : Feed H). start_after means rules K s f.taken) (sym whole);
         answers = ap (λ (f : Feed H). f.answer) (sym whole);
         left = ap (λ (f : Feed H). f.left) (sym whole);
       }

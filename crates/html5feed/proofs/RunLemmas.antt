@@ -11,13 +11,13 @@ use Rattle.markup5ever.proofs.TextLemmas.{filled_chars}
 use Rattle.std.proofs.lemmas.List.{append_assoc, append-nil, map-append}
 use Rattle.std.proofs.lemmas.List.Elements.{All-head, All-tail, All-weaker}
 use Rattle.std.proofs.lemmas.List.Sums.{sum_by-append}
-use Rattle.html5ever_interface.specs.Sink.{Message, stepped, on_line}
-use Rattle.html5ever_interface.specs.Token.{Told, Reply, is_tag}
+use Rattle.html5ever_interface.specs.Sink.{Means, Message, stepped, on_line}
+use Rattle.html5ever_interface.specs.Token.{Told, is_tag}
 use Rattle.html5ever_interface.specs.Token.Reply.{KeepOn}
 use Rattle.html5ever_interface.specs.Token.Told.{Text}
 use Rattle.html5grammar.specs.Characters.{null, line_feed, carriage_return}
 use Rattle.html5grammar.specs.NormalisedText.{with_line_feeds, without_dropped_first, normalised, line_after, input_after, ends_with_carriage_return}
-use Rattle.html5grammar.specs.Reading.{told, messages, after}
+use Rattle.html5grammar.specs.Reading.{messages_so_far, start_after}
 use Rattle.html5grammar.specs.Start.{Input, Start, Open, Rules, is_undecided_open}
 use Rattle.html5grammar.specs.Start.Open.{Between, LessThan, LessThanSolidus, InTag, InRaw, InDeclaration, InComment, InBogusComment, InInstruction, InDoctype, InDoctypeKeyword, InCdata, InReference}
 use Rattle.html5grammar.proofs.InputLemmas.{line_past, line_after-none}
@@ -168,10 +168,10 @@ run-decided (InDeclaration held) others has = cc
 run-decided (InDoctypeKeyword held d) others has = cc
 run-decided opened others has = refl
 
-module _ {S H : Type 0} (step : S → Told → ℕ → S) (reply : S → Told → ℕ → Reply H) (foreign : S → Bool) where
+module _ {X S H : Type 0} (means : Means X S H) where
   trace-run : (rules : Rules) → rules.exact ≡ false → (s : S) (line : ℕ) (last : List ℕ) (opened : Open) (others run : List ℕ) → line < 2 ^ 64 → other_run_ends opened ≡ Some others
       → All (λ c. ¬ Contains (run_ends others) c) run
-      → trace step reply foreign rules s line last opened run ≡ record { messages = on_line line (run_tokens opened run); opened = opened_after_run opened run; last_start_tag = last }
+      → trace means.step means.reply means.foreign rules s line last opened run ≡ record { messages = on_line line (run_tokens opened run); opened = opened_after_run opened run; last_start_tag = last }
   unfolding trace trace_brought trace_here stepped
   trace-run rules not_exact s line last opened others [] h has all = rw (run_tokens-nil opened, opened_after_run-nil opened) refl
   trace-run rules not_exact s line last opened others (c ∷ run) h has all =
@@ -179,35 +179,35 @@ module _ {S H : Type 0} (step : S → Told → ℕ → S) (reply : S → Told �
       let M : List Message = on_line line (run_tokens opened (c ∷ [])) in
       let later : Open = opened_after_run opened (c ∷ []) in
       let here : step_at rules.exact opened c ≡ Tells (run_tokens opened (c ∷ [])) later = ap (λ b. step_at b opened c) not_exact ∙ step-run opened others c has out in
-      rw (brought-tells rules (foreign s) opened c (Tells (run_tokens opened (c ∷ [])) later) (run-decided opened others has) here, line_past-ordinary line c (ordinary others c out) h, not_exact)
-      (ap (with_messages M) (trace-run rules not_exact (stepped step s M) line last later others run h (other_run_ends-after opened others c has out ∙ has) (All-tail (λ d. ¬ Contains (run_ends others) d) c run all))
+      rw (brought-tells rules (means.foreign s) opened c (Tells (run_tokens opened (c ∷ [])) later) (run-decided opened others has) here, line_past-ordinary line c (ordinary others c out) h, not_exact)
+      (ap (with_messages M) (trace-run rules not_exact (stepped means.step s M) line last later others run h (other_run_ends-after opened others c has out ∙ has) (All-tail (λ d. ¬ Contains (run_ends others) d) c run all))
       ∙ trace_is (sym (map-append (λ (token : Told). record { token = token; line = line }) (run_tokens opened (c ∷ [])) (run_tokens later run)) ∙ ap (on_line line) (sym (run_tokens-cons opened c run)))
       (sym (opened_after_run-cons opened c run)))
 
   run-trace : (rules : Rules) (K : Start) (s : S) (run : List ℕ) → IsRun rules K run → K.input.line < 2 ^ 64
-      → trace step reply foreign rules s (line_after K.input []) K.last_start_tag K.opened (normalised K.input run)
+      → trace means.step means.reply means.foreign rules s (line_after K.input []) K.last_start_tag K.opened (normalised K.input run)
       ≡ record { messages = on_line K.input.line (run_tokens K.opened run); opened = opened_after_run K.opened run; last_start_tag = K.last_start_tag }
   run-trace rules K s run r h =
       rw (line_after-none K.input h, normalised-run rules K run r) (trace-run rules r.not_exact s K.input.line K.last_start_tag K.opened r.is_run.others run h r.is_run.has_runs r.is_run.ordinary)
 
   pub told-run : (rules : Rules) (K : Start) (s : S) (run : List ℕ) → IsRun rules K run → K.input.line < 2 ^ 64
-      → messages (told step reply foreign rules K s run) ≡ on_line K.input.line (run_tokens K.opened run)
+      → messages_so_far means rules K s run ≡ on_line K.input.line (run_tokens K.opened run)
   told-run rules K s run r h =
-      told-trace step reply foreign rules K s run ∙ ap (λ (t : Trace). t.messages) (run-trace rules K s run r h)
+      told-trace means.step means.reply means.foreign rules K s run ∙ ap (λ (t : Trace). t.messages) (run-trace rules K s run r h)
 
   pub after-run : (rules : Rules) (K : Start) (s : S) (run : List ℕ) → IsRun rules K run → K.input.line < 2 ^ 64
-      → after step reply foreign rules K s run ≡ record K { opened = opened_after_run K.opened run }
+      → start_after means rules K s run ≡ record K { opened = opened_after_run K.opened run }
   after-run rules K s run r h =
-      let opened : (after step reply foreign rules K s run).opened ≡ opened_after_run K.opened run =
-      after-opened step reply foreign rules K s run ∙ ap (λ (t : Trace). t.opened) (run-trace rules K s run r h) in
-      let last : (after step reply foreign rules K s run).last_start_tag ≡ K.last_start_tag =
-      after-last step reply foreign rules K s run ∙ ap (λ (t : Trace). t.last_start_tag) (run-trace rules K s run r h) in
+      let opened : (start_after means rules K s run).opened ≡ opened_after_run K.opened run =
+      after-opened means.step means.reply means.foreign rules K s run ∙ ap (λ (t : Trace). t.opened) (run-trace rules K s run r h) in
+      let last : (start_after means rules K s run).last_start_tag ≡ K.last_start_tag =
+      after-last means.step means.reply means.foreign rules K s run ∙ ap (λ (t : Trace). t.last_start_tag) (run-trace rules K s run r h) in
       rw (opened, last, input_after-run rules K run r h) refl
 
   -- nothing pauses in a run
-  pub run-quiet : ((s : S) (told : Told) (line : ℕ) → is_tag told ≡ false → reply s told line ≡ KeepOn)
+  pub run-quiet : ((s : S) (told : Told) (line : ℕ) → is_tag told ≡ false → means.reply s told line ≡ KeepOn)
       → (rules : Rules) (K : Start) (s : S) (run : List ℕ) → IsRun rules K run → K.input.line < 2 ^ 64
-      → first_pause step reply s (messages (told step reply foreign rules K s run)) ≡ KeepOn
+      → first_pause means s (messages_so_far means rules K s run) ≡ KeepOn
   run-quiet keeps_on rules K s run r h =
-      ap (first_pause step reply s) (told-run rules K s run r h)
-      ∙ first_pause-no_tags step reply keeps_on s _ (no_tag_messages K.input.line (run_tokens K.opened run) (no_tags-run K.opened run))
+      ap (first_pause means s) (told-run rules K s run r h)
+      ∙ first_pause-no_tags means keeps_on s _ (no_tag_messages K.input.line (run_tokens K.opened run) (no_tags-run K.opened run))

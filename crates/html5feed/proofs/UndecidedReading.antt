@@ -2,11 +2,11 @@
 use Rattle.std.proofs.Common.{◌≡◌, ℕ, ◌≤◌, ◌+◌, Bool, true, false, List, [], ◌∷◌, ◌++◌, refl, ap, sym, ◌∙◌, Some, None, Result, Ok, length-append, arith}
 use Rattle.std.specs.Prelude.{◌==◌, ◌<◌, ◌^◌, if◌then◌else◌}
 use Rattle.std.proofs.lemmas.Bool.{false≢true, eqb-true, and_parts}
-use Rattle.html5ever_interface.specs.Sink.{stepped, on_line}
+use Rattle.html5ever_interface.specs.Sink.{Means, stepped, on_line}
 use Rattle.std.proofs.Math.Bool.{and-false}
 use Rattle.std.proofs.lemmas.List.{append-nil}
 use Rattle.std.specs.Result.{IsErrAnd}
-use Rattle.html5ever_interface.specs.Token.{Told, Reply, is_tag}
+use Rattle.html5ever_interface.specs.Token.{Told, is_tag}
 use Rattle.html5ever_interface.specs.Token.Reply.{KeepOn}
 use Rattle.html5grammar.proofs.InputLemmas.{line_after-none}
 use Rattle.html5grammar.proofs.NoTags.{no_tags-settled}
@@ -22,7 +22,7 @@ use Rattle.html5feed.specs.Feed.{first_pause}
 use Rattle.html5feed.proofs.Pauses.{first_pause-append, first_pause-no_tags, no_tag_messages}
 use Rattle.html5grammar.specs.Machine.{step_at, brought_at, reference_step, messages_here, opened_here, last_here}
 use Rattle.html5grammar.specs.Characters.{number_sign, semicolon, is_bad_character}
-use Rattle.html5grammar.specs.Reading.{Brought, told, messages, after}
+use Rattle.html5grammar.specs.Reading.{Brought, messages_so_far, start_after}
 use Rattle.html5grammar.specs.Reading.Here.{Tells}
 use Rattle.html5grammar.specs.Reference.{in_value, reference, is_undecided, ends_number, has_digits, late_tokens, opened_in, opened_behind}
 use Rattle.html5grammar.specs.Start.{Stand, Start, Open, Rules, is_undecided_open, held_len}
@@ -146,97 +146,97 @@ end-reference rules is_in held opened inside = rw inside refl
 
 -- one character of the stream, for which d is read
 
-module _ {S H : Type 0} (step : S → Told → ℕ → S) (reply : S → Told → ℕ → Reply H) (foreign : S → Bool) (rules : Rules) (K : Start) (s : S) (c d : ℕ)
+module _ {X S H : Type 0} (means : Means X S H) (rules : Rules) (K : Start) (s : S) (c d : ℕ)
     (one : normalised K.input (c ∷ []) ≡ d ∷ []) (fits : K.input.line < 2 ^ 64) where
   abbrev line : ℕ
   line = (input_after K.input (c ∷ [])).line
 
   abbrev settled : List Told
-  settled = tokens_of_late (brought_at rules (foreign s) K.opened d).settled
+  settled = tokens_of_late (brought_at rules (means.foreign s) K.opened d).settled
 
-  told-parts : messages (told step reply foreign rules K s (c ∷ []))
-      ≡ on_line K.input.line settled ++ messages_here step reply rules line d (brought_at rules (foreign s) K.opened d).here
-  told-parts = told-one step reply foreign rules K s c d one ∙ rw (line_after-none K.input fits) refl
+  told-parts : messages_so_far means rules K s (c ∷ [])
+      ≡ on_line K.input.line settled ++ messages_here means.step means.reply rules line d (brought_at rules (means.foreign s) K.opened d).here
+  told-parts = told-one means.step means.reply means.foreign rules K s c d one ∙ rw (line_after-none K.input fits) refl
 
-  after-parts : (after step reply foreign rules K s (c ∷ [])).opened
-      ≡ opened_here step reply rules (stepped step s (on_line K.input.line settled)) line K.last_start_tag d (brought_at rules (foreign s) K.opened d).here
-  after-parts = ap (λ (P : Start). P.opened) (after-one step reply foreign rules K s c d one) ∙ rw (line_after-none K.input fits) refl
+  after-parts : (start_after means rules K s (c ∷ [])).opened
+      ≡ opened_here means.step means.reply rules (stepped means.step s (on_line K.input.line settled)) line K.last_start_tag d (brought_at rules (means.foreign s) K.opened d).here
+  after-parts = ap (λ (P : Start). P.opened) (after-one means.step means.reply means.foreign rules K s c d one) ∙ rw (line_after-none K.input fits) refl
 
-  last-parts : (after step reply foreign rules K s (c ∷ [])).last_start_tag ≡ last_here K.last_start_tag (brought_at rules (foreign s) K.opened d).here
-  last-parts = ap (λ (P : Start). P.last_start_tag) (after-one step reply foreign rules K s c d one)
+  last-parts : (start_after means rules K s (c ∷ [])).last_start_tag ≡ last_here K.last_start_tag (brought_at rules (means.foreign s) K.opened d).here
+  last-parts = ap (λ (P : Start). P.last_start_tag) (after-one means.step means.reply means.foreign rules K s c d one)
 
   pub last-plain : is_undecided_open K.opened ≡ false
-      → (after step reply foreign rules K s (c ∷ [])).last_start_tag ≡ last_here K.last_start_tag (step_at rules.exact K.opened d)
-  last-plain none = last-parts ∙ rw (brought-step rules (foreign s) K.opened d none) refl
+      → (start_after means rules K s (c ∷ [])).last_start_tag ≡ last_here K.last_start_tag (step_at rules.exact K.opened d)
+  last-plain none = last-parts ∙ rw (brought-step rules (means.foreign s) K.opened d none) refl
 
-  pub last-belongs : (later : Open) → BelongsTo rules (foreign s) K.opened d later → (after step reply foreign rules K s (c ∷ [])).last_start_tag ≡ K.last_start_tag
+  pub last-belongs : (later : Open) → BelongsTo rules (means.foreign s) K.opened d later → (start_after means rules K s (c ∷ [])).last_start_tag ≡ K.last_start_tag
   unfolding last_here
   last-belongs later b = last-parts ∙ rw b.here refl
 
-  pub last-decides : (later : Open) → Decides rules (foreign s) K.opened d later
-      → (after step reply foreign rules K s (c ∷ [])).last_start_tag ≡ last_here K.last_start_tag (step_at rules.exact later d)
+  pub last-decides : (later : Open) → Decides rules (means.foreign s) K.opened d later
+      → (start_after means rules K s (c ∷ [])).last_start_tag ≡ last_here K.last_start_tag (step_at rules.exact later d)
   last-decides later b = last-parts ∙ rw b.here refl
 
   -- nothing is undecided
   pub told-plain : is_undecided_open K.opened ≡ false
-      → messages (told step reply foreign rules K s (c ∷ [])) ≡ messages_here step reply rules line d (step_at rules.exact K.opened d)
-  told-plain none = told-parts ∙ rw (brought-step rules (foreign s) K.opened d none) refl
+      → messages_so_far means rules K s (c ∷ []) ≡ messages_here means.step means.reply rules line d (step_at rules.exact K.opened d)
+  told-plain none = told-parts ∙ rw (brought-step rules (means.foreign s) K.opened d none) refl
 
   pub after-plain : is_undecided_open K.opened ≡ false
-      → (after step reply foreign rules K s (c ∷ [])).opened ≡ opened_here step reply rules s line K.last_start_tag d (step_at rules.exact K.opened d)
+      → (start_after means rules K s (c ∷ [])).opened ≡ opened_here means.step means.reply rules s line K.last_start_tag d (step_at rules.exact K.opened d)
   unfolding stepped
-  after-plain none = after-parts ∙ rw (brought-step rules (foreign s) K.opened d none) refl
+  after-plain none = after-parts ∙ rw (brought-step rules (means.foreign s) K.opened d none) refl
 
   -- it belongs to what is undecided
-  pub told-belongs : (later : Open) → BelongsTo rules (foreign s) K.opened d later → messages (told step reply foreign rules K s (c ∷ [])) ≡ on_line K.input.line settled
+  pub told-belongs : (later : Open) → BelongsTo rules (means.foreign s) K.opened d later → messages_so_far means rules K s (c ∷ []) ≡ on_line K.input.line settled
   unfolding messages_here
   told-belongs later b = told-parts ∙ rw (b.here, b.good, and-false rules.exact) (append-nil (on_line K.input.line settled))
 
-  pub after-belongs : (later : Open) → BelongsTo rules (foreign s) K.opened d later → (after step reply foreign rules K s (c ∷ [])).opened ≡ later
+  pub after-belongs : (later : Open) → BelongsTo rules (means.foreign s) K.opened d later → (start_after means rules K s (c ∷ [])).opened ≡ later
   unfolding opened_here
   after-belongs later b = after-parts ∙ rw b.here refl
 
   -- it decides, and is then read
-  pub told-decides : (later : Open) → Decides rules (foreign s) K.opened d later
-      → messages (told step reply foreign rules K s (c ∷ [])) ≡ on_line K.input.line settled ++ messages_here step reply rules line d (step_at rules.exact later d)
+  pub told-decides : (later : Open) → Decides rules (means.foreign s) K.opened d later
+      → messages_so_far means rules K s (c ∷ []) ≡ on_line K.input.line settled ++ messages_here means.step means.reply rules line d (step_at rules.exact later d)
   told-decides later b = told-parts ∙ rw b.here refl
 
-  pub after-decides : (later : Open) → Decides rules (foreign s) K.opened d later
-      → (after step reply foreign rules K s (c ∷ [])).opened ≡ opened_here step reply rules (stepped step s (on_line K.input.line settled)) line K.last_start_tag d (step_at rules.exact later d)
+  pub after-decides : (later : Open) → Decides rules (means.foreign s) K.opened d later
+      → (start_after means rules K s (c ∷ [])).opened ≡ opened_here means.step means.reply rules (stepped means.step s (on_line K.input.line settled)) line K.last_start_tag d (step_at rules.exact later d)
   after-decides later b = after-parts ∙ rw b.here refl
 
-  module _ (keeps_on : (s : S) (told : Told) (line : ℕ) → is_tag told ≡ false → reply s told line ≡ KeepOn) where
+  module _ (keeps_on : (s : S) (told : Told) (line : ℕ) → is_tag told ≡ false → means.reply s told line ≡ KeepOn) where
     -- nothing that is decided late pauses
-    pub quiet : first_pause step reply s (on_line K.input.line settled) ≡ KeepOn
-    quiet = first_pause-no_tags step reply keeps_on s _ (no_tag_messages K.input.line settled (no_tags-settled rules (foreign s) K.opened d))
+    pub quiet : first_pause means s (on_line K.input.line settled) ≡ KeepOn
+    quiet = first_pause-no_tags means keeps_on s _ (no_tag_messages K.input.line settled (no_tags-settled rules (means.foreign s) K.opened d))
 
-    pub pause-belongs : (later : Open) → BelongsTo rules (foreign s) K.opened d later → KeepOn ≡ first_pause step reply s (messages (told step reply foreign rules K s (c ∷ [])))
-    pause-belongs later b = sym (ap (first_pause step reply s) (told-belongs later b) ∙ quiet)
+    pub pause-belongs : (later : Open) → BelongsTo rules (means.foreign s) K.opened d later → KeepOn ≡ first_pause means s (messages_so_far means rules K s (c ∷ []))
+    pause-belongs later b = sym (ap (first_pause means s) (told-belongs later b) ∙ quiet)
 
-    pub pause-decides : (later : Open) → Decides rules (foreign s) K.opened d later
-        → first_pause step reply (stepped step s (on_line K.input.line settled)) (messages_here step reply rules line d (step_at rules.exact later d))
-        ≡ first_pause step reply s (messages (told step reply foreign rules K s (c ∷ [])))
+    pub pause-decides : (later : Open) → Decides rules (means.foreign s) K.opened d later
+        → first_pause means (stepped means.step s (on_line K.input.line settled)) (messages_here means.step means.reply rules line d (step_at rules.exact later d))
+        ≡ first_pause means s (messages_so_far means rules K s (c ∷ []))
     pause-decides later b =
-        sym (ap (first_pause step reply s) (told-decides later b)
-        ∙ first_pause-append step reply s (on_line K.input.line settled) _
+        sym (ap (first_pause means s) (told-decides later b)
+        ∙ first_pause-append means s (on_line K.input.line settled) _
         ∙ rw quiet refl)
 
   -- a refusal within what is decided late
-  pub tells-late : {T : Type 0} (faulted : S → Told → ℕ → S) (r : Result T TokenizerError) (e : TokenizerError) (t : S)
-      → IsErrAnd r (λ x. x ≡ e) → telling.IsRefusal e → telling.Stops step faulted e s (on_line K.input.line settled) t
-      → telling.Tells step faulted r s (messages (told step reply foreign rules K s (c ∷ []))) t
-  tells-late faulted r e t h refusal stop =
-      rw told-parts (tells_stop step faulted r e s t _ h (stops_before step faulted e s t (on_line K.input.line settled) _ refusal stop))
+  pub tells-late : {T : Type 0} (r : Result T TokenizerError) (e : TokenizerError) (t : S)
+      → IsErrAnd r (λ x. x ≡ e) → telling.IsRefusal e → telling.Stops means.step means.faulted e s (on_line K.input.line settled) t
+      → telling.Tells means.step means.faulted r s (messages_so_far means rules K s (c ∷ [])) t
+  tells-late r e t h refusal stop =
+      rw told-parts (tells_stop means.step means.faulted r e s t _ h (stops_before means.step means.faulted e s t (on_line K.input.line settled) _ refusal stop))
 
   pub leads-late : {T : Type 0} (r : Result T TokenizerError) (e : TokenizerError) (later : Open)
-      → IsErrAnd r (λ x. x ≡ e) → telling.IsRefusal e → Leads r later (after step reply foreign rules K s (c ∷ [])).opened
+      → IsErrAnd r (λ x. x ≡ e) → telling.IsRefusal e → Leads r later (start_after means rules K s (c ∷ [])).opened
   leads-late r Memory later h refusal = let p = err_from_is_err_and r h in rw (p.1, p.2) tt
   leads-late r Sink later h refusal = let p = err_from_is_err_and r h in rw (p.1, p.2) tt
   leads-late r Failed later h refusal = absurd refusal
 
-  pub tells-decides : {T : Type 0} (faulted : S → Told → ℕ → S) (r : Result T TokenizerError) (t u : S) (later : Open) → Decides rules (foreign s) K.opened d later
-      → t ≡ stepped step s (on_line K.input.line settled)
-      → telling.Tells step faulted r t (messages_here step reply rules line d (step_at rules.exact later d)) u
-      → telling.Tells step faulted r s (messages (told step reply foreign rules K s (c ∷ []))) u
-  tells-decides faulted r t u later b told_late tells =
-      rw (told-decides later b) (tells_after step faulted r s t u (on_line K.input.line settled) _ told_late tells)
+  pub tells-decides : {T : Type 0} (r : Result T TokenizerError) (t u : S) (later : Open) → Decides rules (means.foreign s) K.opened d later
+      → t ≡ stepped means.step s (on_line K.input.line settled)
+      → telling.Tells means.step means.faulted r t (messages_here means.step means.reply rules line d (step_at rules.exact later d)) u
+      → telling.Tells means.step means.faulted r s (messages_so_far means rules K s (c ∷ [])) u
+  tells-decides r t u later b told_late tells =
+      rw (told-decides later b) (tells_after means.step means.faulted r s t u (on_line K.input.line settled) _ told_late tells)

@@ -1,10 +1,10 @@
 -- What a feed takes of the text that waits and what it answers, what is told of a text that goes on or ends, and what a
 -- feed may cost.
 use Rattle.std.specs.Prelude.{◌≡◌, ℕ, ◌+◌, ◌*◌, ◌≤◌, Bool, true, false, List, [], ◌∷◌, ◌++◌, length, drop, if◌then◌else◌}
-use Rattle.html5ever_interface.specs.Sink.{Message, stepped}
-use Rattle.html5ever_interface.specs.Token.{Told, Reply}
+use Rattle.html5ever_interface.specs.Sink.{Means, Message}
+use Rattle.html5ever_interface.specs.Token.{Reply}
 use Rattle.html5ever_interface.specs.Token.Reply.{KeepOn, RunScript, SwitchEncoding}
-use Rattle.html5grammar.specs.Reading.{reading, told, messages}
+use Rattle.html5grammar.specs.Reading.{all_messages, messages_so_far, state_after}
 use Rattle.html5grammar.specs.Start.{Start, Rules}
 use Rattle.markup5ever.specs.BufferQueue.{TextQueue}
 use Rattle.markup5ever.specs.declared.tokenizer_result.TokenizerResult.{TokenizerResult}
@@ -38,28 +38,24 @@ up_to_pause reply c text rest =
     if pauses reply then record { taken = c ∷ []; left = text; answer = reply }
     else takes_before (c ∷ []) rest
 
-module _ {S H : Type 0} (step : S → Told → ℕ → S) (reply : S → Told → ℕ → Reply H) (foreign : S → Bool) (rules : Rules) where
+module _ {X S H : Type 0} (means : Means X S H) where
   -- what is told of a text that goes on, beyond what was told of it before
-  abbrev pub told_beyond : Start → S → List ℕ → List ℕ → List Message
-  told_beyond K s text more =
-      drop (length (told step reply foreign rules K s text)) (messages (told step reply foreign rules K s (text ++ more)))
+  abbrev pub told_beyond : Rules → Start → S → List ℕ → List ℕ → List Message
+  told_beyond rules K s text more = drop (length (messages_so_far means rules K s text)) (messages_so_far means rules K s (text ++ more))
 
   -- what is told at the end of a text, beyond what was told of it before
-  abbrev pub told_at_end : Start → S → List ℕ → List Message
-  told_at_end K s text = drop (length (told step reply foreign rules K s text)) (messages (reading step reply foreign rules K s text))
+  abbrev pub told_at_end : Rules → Start → S → List ℕ → List Message
+  told_at_end rules K s text = drop (length (messages_so_far means rules K s text)) (all_messages means rules K s text)
 
-module _ {S H : Type 0} (step : S → Told → ℕ → S) (reply : S → Told → ℕ → Reply H) where
   -- the first reply to some messages that pauses, and to keep on where none does
   unfoldable pub first_pause : S → List Message → Reply H
   first_pause s [] = KeepOn
   first_pause s (m ∷ M) =
-      if pauses (reply s m.token m.line) then reply s m.token m.line else first_pause (step s m.token m.line) M
+      if pauses (means.reply s m.token m.line) then means.reply s m.token m.line else first_pause (means.step s m.token m.line) M
 
-module _ {S H : Type 0} (step : S → Told → ℕ → S) (reply : S → Told → ℕ → Reply H) (foreign : S → Bool) where
   -- the reply that pauses at c, after a text, where one does
   abbrev pub pause_at : Rules → Start → S → List ℕ → ℕ → Reply H
-  pause_at rules K s text c =
-      first_pause step reply (stepped step s (messages (told step reply foreign rules K s text))) (told_beyond step reply foreign rules K s text (c ∷ []))
+  pause_at rules K s text c = first_pause (state_after means rules K s text) (told_beyond rules K s text (c ∷ []))
 
   -- what a feed of a queue's text does after `text`: it ends after the first tag whose reply pauses
   unfoldable pub feed : Rules → Start → S → List ℕ → List ℕ → Feed H

@@ -1,8 +1,7 @@
 -- What a refused feed leaves: which beginning of the queue's text is gone, and how much of what it tells was told.
-use Rattle.std.specs.Prelude.{Bool, ◌≡◌, ◌≤◌, ◌⊎◌, ℕ, false, List, ◌++◌, length}
-use Rattle.html5ever_interface.specs.Sink.{stepped}
-use Rattle.html5ever_interface.specs.Token.{Told, Reply}
-use Rattle.html5grammar.specs.Reading.{told, messages, after}
+use Rattle.std.specs.Prelude.{◌≡◌, ◌≤◌, ◌⊎◌, ℕ, false, List, ◌++◌, length}
+use Rattle.html5ever_interface.specs.Sink.{Means}
+use Rattle.html5grammar.specs.Reading.{state_after, start_after}
 use Rattle.html5grammar.specs.Start.{Start, Rules}
 use Rattle.html5feed.specs.Feed.{told_beyond}
 use Rattle.html5opened.specs.Runs.{IsRunAt}
@@ -20,13 +19,12 @@ pub record IsRun (rules : Rules) (K : Start) (run : List ℕ) : Type 0 where
 abbrev pub IsItem : Rules → Start → List ℕ → Type 0
 IsItem rules K item = (length item ≤ 1) ⊎ IsRun rules K item
 
-module _ {S H : Type 0} (step : S → Told → ℕ → S) (reply : S → Told → ℕ → Reply H) (foreign : S → Bool) (faulted : S → Told → ℕ → S) (rules : Rules) where
+module _ {X S H : Type 0} (means : Means X S H) (rules : Rules) where
   -- after `text` a feed of `queue` was refused: all that the characters `front` tell was told, the feed stopped within
   -- what the item after them tells, and what follows that item is left
   pub record RefusedBehind (e : TokenizerError) (K : Start) (s : S) (text queue left : List ℕ) (t : S) : Type 0 where
     pub front : List ℕ
     pub item : List ℕ
     pub parts : queue ≡ front ++ (item ++ left)
-    pub is_item : IsItem rules (after step reply foreign rules K s (text ++ front)) item
-    pub stopped : Stops step faulted e (stepped step s (messages (told step reply foreign rules K s (text ++ front))))
-        (told_beyond step reply foreign rules K s (text ++ front) item) t
+    pub is_item : IsItem rules (start_after means rules K s (text ++ front)) item
+    pub stopped : Stops means.step means.faulted e (state_after means rules K s (text ++ front)) (told_beyond means rules K s (text ++ front) item) t

@@ -61,7 +61,7 @@ fn tell_tag<S: TokenSink<Token<A>>, A: Allocator + Copy>(
     ensures last { OnOk result
         (position.new.last_start_tag ≡ last_behind position.old.last_start_tag (tag_of tag)) }
     ensures answer { IfOk result (λ answer. reply_in string_bytes answer
-        ≡ first_pause S.means.step S.means.reply (S.means.state teller.old.sink.now)
+        ≡ first_pause S.means (S.means.state teller.old.sink.now)
         (on_line teller.old.line (Told.Tag (tag_of tag) ∷ []))) }
     ensures input { position.new.input ≡ position.old.input }
     ensures held { held_len position.new.opened ≡ 0 }
@@ -101,7 +101,7 @@ fn read_opened<S: TokenSink<Token<A>>, A: Allocator + Copy>(
     ensures last { OnOk result (position.new.last_start_tag
         ≡ last_here position.old.last_start_tag (step_at rules.now.exact position.old.opened c)) }
     ensures answer { IfOk result (λ answer. reply_in string_bytes answer
-        ≡ first_pause S.means.step S.means.reply (S.means.state sink.old)
+        ≡ first_pause S.means (S.means.state sink.old)
         (messages_here S.means.step S.means.reply rules.now position.old.input.line c
         (step_at rules.now.exact position.old.opened c))) }
     ensures input { position.new.input ≡ position.old.input }
@@ -147,7 +147,7 @@ pub fn read_character<S: TokenSink<Token<A>>, A: Allocator + Copy>(
         ≡ (start_after S.means rules.now position.old (S.means.state sink.old)
         (c ∷ [])).last_start_tag) }
     ensures answer { IfOk result (λ answer. reply_in string_bytes answer
-        ≡ first_pause S.means.step S.means.reply (S.means.state sink.old)
+        ≡ first_pause S.means (S.means.state sink.old)
         (messages_so_far S.means rules.now position.old (S.means.state sink.old) (c ∷ []))) }
     ensures input { position.new.input ≡ input_after position.old.input (c ∷ []) }
     ensures held { held_len position.new.opened ≤ held_len position.old.opened + 1 }

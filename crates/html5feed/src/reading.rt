@@ -34,9 +34,8 @@ fn tell_waiting_run<S: TokenSink<Token<A>>, A: Allocator + Copy>(
     requires rest_utf8 { IsUtf8 (drop bytes (encode_utf8_all queue.old.text)) }
     requires is_run { IsRun rules.now position.now (chars (take bytes (encode_utf8_all queue.old.text))) }
     requires fits { position.now.input.line < 2 ^ 64 }
-    ensures reads { ReadsRun S.means.step S.means.reply S.means.foreign S.means.faulted rules.now result position.now
-        position.now
-        queue.old queue.new (S.means.state sink.old) (S.means.state sink.new) }
+    ensures reads { ReadsRun S.means rules.now result position.now position.now queue.old queue.new
+        (S.means.state sink.old) (S.means.state sink.new) }
     ensures refusal { IfErr result IsRefusal }
     ensures faults { S.faults sink.new ≡ S.faults sink.old + faults_of result }
 {
@@ -57,9 +56,8 @@ fn read_waiting_run<S: TokenSink<Token<A>>, A: Allocator + Copy>(
     position: &mut Position<A>,
     queue: &mut BufferQueue<A>,
 ) -> Result<(), TokenizerError>
-    ensures reads { ReadsRun S.means.step S.means.reply S.means.foreign S.means.faulted rules.now result position.old
-        position.new
-        queue.old queue.new (S.means.state sink.old) (S.means.state sink.new) }
+    ensures reads { ReadsRun S.means rules.now result position.old position.new queue.old queue.new
+        (S.means.state sink.old) (S.means.state sink.new) }
     ensures refusal { IfErr result IsRefusal }
     ensures faults { S.faults sink.new ≡ S.faults sink.old + faults_of result }
     ensures held { held_len position.new.opened + length queue.new.text
@@ -88,21 +86,15 @@ pub fn read_queue<S: TokenSink<Token<A>>, A: Allocator + Copy>(
 ) -> Result<TokenizerResult<S::Handle, String<A>>, TokenizerError>
     ensures tells { Tells S.means.step S.means.faulted result (S.means.state sink.old)
         (messages_so_far S.means rules.now position.old (S.means.state sink.old)
-        (feed S.means.step S.means.reply S.means.foreign rules.now position.old
-        (S.means.state sink.old) [] queue.old.text).taken) (S.means.state sink.new) }
-    ensures moves { OnOk result
-        (position.new ≡ start_after S.means rules.now position.old (S.means.state sink.old)
-        (feed S.means.step S.means.reply S.means.foreign rules.now position.old
-        (S.means.state sink.old) [] queue.old.text).taken) }
+        (feed S.means rules.now position.old (S.means.state sink.old) [] queue.old.text).taken) (S.means.state sink.new) }
+    ensures moves { OnOk result (position.new ≡ start_after S.means rules.now position.old (S.means.state sink.old)
+        (feed S.means rules.now position.old (S.means.state sink.old) [] queue.old.text).taken) }
     ensures answer { IfOk result (λ answer. reply_in string_bytes answer
-        ≡ (feed S.means.step S.means.reply S.means.foreign rules.now position.old
-        (S.means.state sink.old) [] queue.old.text).answer) }
+        ≡ (feed S.means rules.now position.old (S.means.state sink.old) [] queue.old.text).answer) }
     ensures left { OnOk result
-        (queue.new.text ≡ (feed S.means.step S.means.reply S.means.foreign rules.now position.old
-        (S.means.state sink.old) [] queue.old.text).left) }
+        (queue.new.text ≡ (feed S.means rules.now position.old (S.means.state sink.old) [] queue.old.text).left) }
     ensures refusal { IfErr result IsRefusal }
-    ensures refused { IfErr result (λ error. RefusedBehind S.means.step S.means.reply S.means.foreign S.means.faulted
-        rules.now error
+    ensures refused { IfErr result (λ error. RefusedBehind S.means rules.now error
         position.old (S.means.state sink.old) [] queue.old.text queue.new.text (S.means.state sink.new)) }
     ensures end_of_queue { IsEndOf queue.new.text queue.old.text }
     ensures taken { queue.new.taken + length queue.new.text ≡ queue.old.taken + length queue.old.text }

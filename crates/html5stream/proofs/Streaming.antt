@@ -278,7 +278,7 @@ module _ {X S H : Type 0} (means : Means X S H) where
       → StopsWithin means.step means.faulted s (all_messages means t.rules K s text) (means.state t.sink)
   stops-here t K s text stands =
       whole-end_stops means tokenizer.Memory t K s (means.state t.sink) text stands
-      (StopsWithin-none (means.state t.sink) (told_at_end means.step means.reply means.foreign t.rules K s text))
+      (StopsWithin-none (means.state t.sink) (told_at_end means t.rules K s text))
 
   -- a refused feed
   pub StopsTelling-feed : (e : TokenizerError) (t : Tokenizing X) (queue more : List ℕ) (v : S) → queue ≡ more
@@ -293,7 +293,7 @@ module _ {X S H : Type 0} (means : Means X S H) where
   pub StopsTelling-memory : (t : Tokenizing X) (more : List ℕ) → StopsTelling means Memory t more (means.state t.sink)
   StopsTelling-memory t more =
       StopsTelling-feed tokenizer.Memory t more more (means.state t.sink) refl
-      (λ K s front stands. StopsWithin-none (means.state t.sink) (told_beyond means.step means.reply means.foreign t.rules K s front more))
+      (λ K s front stands. StopsWithin-none (means.state t.sink) (told_beyond means t.rules K s front more))
 
   -- a refused end
   pub StopsAtEnd-end : (e : TokenizerError) (t : Tokenizing X) (v : S) → StopsEnding means e t v

@@ -8,7 +8,7 @@ use Rattle.html5feed.proofs.QueueReading.{ReadsRun-none, ReadsRun-open}
 use Rattle.html5feed.proofs.reading.read_waiting_run.Goals as goal
 
 pub returns-then-bytes-eq0-clause-reads : goal.returns-then-bytes-eq0-clause-reads
-returns-then-bytes-eq0-clause-reads g c = ReadsRun-none g.S.TokenSink.means.step g.S.TokenSink.means.reply g.S.TokenSink.means.foreign c.args.rules.now g.S.TokenSink.means.faulted _ c.args.position.now c.args.queue.now (g.S.TokenSink.means.state c.args.sink.now)
+returns-then-bytes-eq0-clause-reads g c = ReadsRun-none g.S.TokenSink.means c.args.rules.now _ c.args.position.now c.args.queue.now (g.S.TokenSink.means.state c.args.sink.now)
 
 pub range-requires-clause-end_boundary : goal.range-requires-clause-end_boundary
 range-requires-clause-end_boundary g c =
@@ -21,7 +21,7 @@ returns-clause-reads g c =
     let text = encode_utf8_all c.args.queue.now.text in
     let cut : c.range.result.now ≡ take bytes text = c.range.ensures.value ∙ range_from_start c.front_text-2.result.now bytes ∙ ap (take bytes) c.front_text-2.ensures in
     let run : IsRun c.args.rules.now c.args.position.now (chars (take bytes text)) = rw c.front_text.ensures at (c.run_len-bytes.ensures.run c.if-bytes-eq0.false) in
-    ReadsRun-open g.S.TokenSink.means.step g.S.TokenSink.means.reply g.S.TokenSink.means.foreign c.args.rules.now g.S.TokenSink.means.faulted c.push_run-read.result g.met.S.TokenSink.keeps_on c.args.position.now _ _ _ _ (chars (take bytes text))
+    ReadsRun-open g.S.TokenSink.means c.args.rules.now c.push_run-read.result g.met.S.TokenSink.keeps_on c.args.position.now _ _ _ _ (chars (take bytes text))
     run (sym c.is_clean.ensures ∙ c.if-is_clean.false) (c.run_len-bytes.ensures.fits c.if-bytes-eq0.false) c.skip.ensures c.push_run-read.ensures.memory (rw cut at c.push_run-read.ensures.opened) c.push_run-read.ensures.last c.push_run-read.ensures.input
 
 pub returns-clause-empty : goal.returns-clause-empty

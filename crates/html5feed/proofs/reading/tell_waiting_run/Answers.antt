@@ -6,10 +6,10 @@ use Rattle.html5feed.proofs.reading.tell_waiting_run.Goals as goal
 
 pub returns-in_default-clause-reads : goal.returns-in_default-clause-reads
 returns-in_default-clause-reads g c =
-    ReadsRun-memory g.S.TokenSink.means.step g.S.TokenSink.means.reply g.S.TokenSink.means.foreign c.args.rules.now g.S.TokenSink.means.faulted g.met.S.TokenSink.keeps_on c.args.position.now _ _ _ (chars (take c.args.bytes (encode_utf8_all c.args.queue.now.text)))
+    ReadsRun-memory g.S.TokenSink.means c.args.rules.now g.met.S.TokenSink.keeps_on c.args.position.now _ _ _ (chars (take c.args.bytes (encode_utf8_all c.args.queue.now.text)))
     c.requires.is_run c.requires.fits (rw c.in_default.ensures.err at c.skip.ensures)
 
 pub returns-clause-reads : goal.returns-clause-reads
 returns-clause-reads g c =
-    ReadsRun-text g.S.TokenSink.means.step g.S.TokenSink.means.reply g.S.TokenSink.means.foreign c.args.rules.now g.S.TokenSink.means.faulted c.tell_run.result g.met.S.TokenSink.keeps_on c.args.position.now _ _ _ _ (chars (take c.args.bytes (encode_utf8_all c.args.queue.now.text)))
+    ReadsRun-text g.S.TokenSink.means c.args.rules.now c.tell_run.result g.met.S.TokenSink.keeps_on c.args.position.now _ _ _ _ (chars (take c.args.bytes (encode_utf8_all c.args.queue.now.text)))
     c.requires.is_run c.requires.clean c.requires.fits c.in-Ok.ensures.takes (rw c.in-Ok.ensures.bytes at c.tell_run.ensures.tells)
