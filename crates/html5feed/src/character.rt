@@ -1,7 +1,7 @@
 //! One character of a stream.
 #![tactic(auto, unfolding(html5opened::specs::CharRef::with_reference))]
 
-ghost use Rattle.std.specs.Prelude.{◌≡◌, ◌<◌, ◌≤◌, ◌+◌, ◌∷◌, [], false, Some, IfOk, IfErr, OnOk, string_bytes};
+ghost use Rattle.std.specs.Prelude.{◌≡◌, ◌≤◌, ◌+◌, ◌∷◌, [], false, IfOk, IfErr, OnOk, string_bytes};
 ghost use Rattle.html5ever_interface.specs.Sink.{on_line};
 ghost use Rattle.html5ever_interface.specs.Token.{Told, tag_of};
 ghost use Rattle.html5grammar.specs.NormalisedText.{input_after};
@@ -9,7 +9,7 @@ ghost use Rattle.html5grammar.specs.Reading.{messages_so_far, start_after, last_
 ghost use Rattle.html5grammar.specs.Start.{is_undecided_open, held_len};
 ghost use Rattle.html5grammar.specs.Start.Mode.{Data};
 ghost use Rattle.html5grammar.specs.Start.Open.{Between};
-ghost use Rattle.html5opened.specs.CurrentTag.{opened_of, last_name_of};
+ghost use Rattle.html5opened.specs.CurrentTag.{opened_of};
 ghost use Rattle.html5feed.specs.Feed.{reply_in, first_pause};
 ghost use Rattle.html5grammar.specs.Machine.{step_at, messages_here, opened_here, last_here};
 ghost use Rattle.html5opened.specs.Steps.{Leads};

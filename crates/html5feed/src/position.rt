@@ -1,12 +1,12 @@
 //! Where a tokenizer stands in its stream.
 #![tactic(auto, unfolding(html5opened::specs::CharRef::with_reference))]
 
-ghost use Rattle.std.specs.Prelude.{◌≡◌, ◌≢◌, ◌^◌, ◌<◌, ◌≤◌, ◌+◌, ◌&&◌, ℕ, List, ◌∷◌, [], true, false, length, take, drop, Contains, Some, IfErr, IfSome, OnOk, option_map, string_bytes};
+ghost use Rattle.std.specs.Prelude.{◌≡◌, ◌≢◌, ◌^◌, ◌<◌, ◌≤◌, ◌+◌, ℕ, List, ◌∷◌, [], true, false, length, take, drop, Contains, IfErr, IfSome, OnOk, option_map, string_bytes};
 ghost use Rattle.html5ever_interface.specs.Options.{options_of};
 ghost use Rattle.html5ever_interface.specs.Sink.{on_line};
 ghost use Rattle.html5ever_interface.specs.Token.{tag_of};
 ghost use Rattle.html5ever_interface.specs.Token.Told.{Text};
-ghost use Rattle.html5grammar.specs.EndOfInput.{late_at_end_of, open_at_end_of, told_at_end_of, tokens_at_end};
+ghost use Rattle.html5grammar.specs.EndOfInput.{late_at_end_of, open_at_end_of, tokens_at_end};
 ghost use Rattle.html5grammar.specs.Reading.{last_behind};
 ghost use Rattle.html5grammar.specs.Slice.{tokens_of_late};
 ghost use Rattle.html5grammar.specs.Start.{start_of, initial_name, raw_of, is_clean, is_undecided_open, held_len};

@@ -1,7 +1,7 @@
 //! One character where a reference is not decided, or what may begin a keyword.
 #![tactic(auto, unfolding(html5opened::specs::CharRef::with_reference))]
 
-ghost use Rattle.std.specs.Prelude.{◌≡◌, ◌+◌, ◌&&◌, ℕ, List, true, false, Some, IfOk, IfErr, OnOk};
+ghost use Rattle.std.specs.Prelude.{◌≡◌, ◌&&◌, List, true};
 ghost use Rattle.html5grammar.specs.EndOfInput.{late_at_end_of, open_at_end_of};
 ghost use Rattle.html5grammar.specs.Slice.{tokens_of_late};
 ghost use Rattle.html5grammar.specs.Start.{is_undecided_open};
@@ -43,7 +43,8 @@ fn asked_about_foreign<S: TokenSink<Token<A>>, A: Allocator>(
     }
 }
 
-/// Tells that no keyword stands where characters are held that may begin one.
+/// Tells that no keyword stands where characters are held that may begin one. No name of the table
+/// has a part in that, so it holds with every table.
 pub fn decide_keyword<S: TokenSink<Token<A>>, A: Allocator + Copy>(
     teller: &mut Teller<'_, S, A>,
     opened: &mut Opened<A>,

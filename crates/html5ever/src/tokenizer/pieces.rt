@@ -1,5 +1,5 @@
 //! Pieces that are fed one after another.
-ghost use Rattle.std.specs.Prelude.{◌≡◌, ◌↔◌, ◌+◌, ◌++◌, false, true, map, Err, IfErr, OnOk, OnErr, is_err, string_bytes};
+ghost use Rattle.std.specs.Prelude.{◌≡◌, ◌↔◌, ◌+◌, ◌++◌, false, true, map, Err, IfErr, OnOk, OnErr, string_bytes};
 ghost use Rattle.html5grammar.specs.Start.{held_len};
 ghost use Rattle.html5states.specs.Telling.{IsRefusal, faults_of};
 ghost use Rattle.html5ever.specs.FedPieces.{fed_text, left_of, IsLinearFor, StandsWithin};

@@ -1,12 +1,11 @@
-use Rattle.std.proofs.Common.{refl, ◌∙◌, ◌++◌, ap, sym, arith, length, map}
+use Rattle.std.proofs.Common.{refl, ◌∙◌, ◌++◌, ap, arith, length, map}
 use Rattle.std.proofs.lemmas.List.{append_assoc}
 use Rattle.std.proofs.lemmas.Result.{err_from_is_err_and}
 use Rattle.std.specs.Str.{chars}
 use Rattle.std.specs.String.{string_bytes}
 use Rattle.std.specs.Vec.Iter.{into_iter_items}
 use Rattle.html5ever.specs.Pieces.{text_of}
-use Rattle.html5ever.proofs.FeedingPieces.{HasFed-none, HasFed-more, HasFed-linear, HasFed-all, HasFed-left, HasFed-within, HasFed-stops, HasFed-no_room}
-use Rattle.html5ever.proofs.StepRuns.{nothing_left}
+use Rattle.html5ever.proofs.FeedingPieces.{HasFed-none, HasFed-more, HasFed-linear, HasFed-stops, HasFed-no_room}
 use Rattle.html5ever.proofs.tokenizer.pieces.feed_each.Goals as goal
 
 pub loop-piece-init : goal.loop-piece-init
