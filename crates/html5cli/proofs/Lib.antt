@@ -2,3 +2,4 @@ pub mod Cuts
 pub mod Feeding
 pub mod PrintedPages
 pub mod SettingsLemmas
+pub mod PrintedItems

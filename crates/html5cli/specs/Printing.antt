@@ -1,13 +1,14 @@
 -- The printed reading of bytes, and what printing it leaves at the reader and the writer.
-use Rattle.std.specs.Prelude.{◌≡◌, ℕ, List, Option}
+use Rattle.std.specs.Prelude.{◌≡◌, ◌++◌, ℕ, List, Option}
 use Rattle.std.specs.Io.KnownBytes.{Appends, Consumes, IsAtEnd, Keeps}
 use Rattle.std.specs.Str.{IsUtf8, chars}
 use Rattle.devices.specs.Device.{AppendsBeginning}
 use Rattle.token_printer.specs.Page.{Page, Printer, blank_page, page_step, page_reply, page_foreign, page_faulted}
 use Rattle.token_printer.specs.Printed.{printed}
-use Rattle.html5ever_interface.specs.Sink.{Means}
+use Rattle.html5ever_interface.specs.Sink.{Means, Message}
 use Rattle.html5grammar.specs.Reading.{all_messages}
 use Rattle.html5grammar.specs.Start.{start_of}
+use Rattle.html5items.specs.Items.{Items}
 use Rattle.html5cli.specs.Settings.{SettingsOf}
 use Rattle.html5ever.specs.Tokenizer.{rules_of}
 use Rattle.markup5ever.specs.NamedReferences.{NamedReference}
@@ -55,7 +56,18 @@ pub record PrintsReading (settings : SettingsOf) (names : List NamedReference) (
   pub utf8 : IsUtf8 bytes
   pub printed : Appends known.written known.after (printed_reading settings names bytes)
 
--- the same, but only a beginning was written
+-- the same by items: what was written are the lines of what the items of the text tell, and of what its end tells
+pub record PrintsItems (settings : SettingsOf) (names : List NamedReference) (known : Traffic) : Type 0 where
+  pub bytes : List ℕ
+  pub consumed : Consumes known.unread known.left bytes
+  pub at_end : IsAtEnd known.left
+  pub utf8 : IsUtf8 bytes
+  pub tells : List Message
+  pub ends : List Message
+  pub items : Items printer_means (rules_of settings.opts names) (start_of settings.opts) (blank_page settings.foreign) (chars bytes) tells ends
+  pub printed : Appends known.written known.after (printed (tells ++ ends))
+
+-- the same as the printed reading, but only a beginning was written
 pub record PrintsBeginning (settings : SettingsOf) (names : List NamedReference) (known : Traffic) : Type 0 where
   pub bytes : List ℕ
   pub consumed : Consumes known.unread known.left bytes

@@ -4,7 +4,7 @@ ghost use Rattle.std.specs.Str.{IsUtf8, chars};
 ghost use Rattle.devices.specs.Device.{IsRefusal, reported_failures};
 ghost use Rattle.html5ever_interface.specs.Options.{options_of};
 ghost use Rattle.html5cli.specs.Settings.{options_said, said_by};
-ghost use Rattle.html5cli.specs.Printing.{printer_means, printed_reading, traffic_of, PrintsReading, PrintsBeginning, PrintsNothing};
+ghost use Rattle.html5cli.specs.Printing.{printer_means, printed_reading, traffic_of, PrintsReading, PrintsItems, PrintsBeginning, PrintsNothing};
 ghost use Rattle.html5feed.specs.Starting.{CanStart};
 ghost use Rattle.html5ever.specs.Tokenizer.{ReadsOn};
 
@@ -239,6 +239,8 @@ pub fn print_tokens<R: Source, W: Target, A: Allocator + Copy>(
     requires start { CanStart settings.now.initial_state }
     ensures ok { OnOk result (PrintsReading (said_by settings.now) names.now
         (traffic_of R.remaining W.contents reader.old reader.new writer.old writer.new)) }
+    ensures items { OnOk result (PrintsItems (said_by settings.now) names.now
+        (traffic_of R.remaining W.contents reader.old reader.new writer.old writer.new)) }
 
     // When each fault comes, and what it leaves.
     ensures not_utf8 { result ≡ Err Fault.NotUtf8
@@ -251,6 +253,7 @@ pub fn print_tokens<R: Source, W: Target, A: Allocator + Copy>(
     ensures device { R.failures reader.new + W.failures writer.new
         ≡ R.failures reader.old + W.failures writer.old + reported_failures result }
 {
+    names.table_laws();
     let bytes = read_to_end(alloc, reader)?;
     let text = text_of(bytes)?;
     let sink = print_text(alloc, text, settings, names)?;

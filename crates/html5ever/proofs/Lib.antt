@@ -4,3 +4,4 @@ pub mod Draining
 pub mod StepRuns
 pub mod Handing
 pub mod FeedingPieces
+pub mod ByItems

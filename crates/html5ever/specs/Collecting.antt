@@ -2,10 +2,12 @@
 use Rattle.std.specs.Prelude.{◌≡◌, ℕ, Bool, List, Result, IfOk, IfErr}
 use Rattle.html5ever_interface.specs.Collected.{Collected, Collecting, none_collected, collected_step, collected_reply, collected_foreign, collected_faulted, collected_finish}
 use Rattle.html5ever_interface.specs.Options.{OptionsOf}
-use Rattle.html5ever_interface.specs.Sink.{Means}
+use Rattle.html5ever_interface.specs.Sink.{Means, Message, stepped}
 use Rattle.html5states.specs.Telling.{IsRefusal}
 use Rattle.html5opened.specs.declared.error.TokenizerError.{TokenizerError}
-use Rattle.html5ever.specs.Tokenizer.{finished_reading}
+use Rattle.html5ever.specs.Tokenizer.{rules_of, finished_reading}
+use Rattle.html5grammar.specs.Start.{start_of}
+use Rattle.html5items.specs.Items.{Composed}
 use Rattle.markup5ever.specs.NamedReferences.{NamedReference}
 
 -- what a collector makes of what it is told
@@ -23,6 +25,14 @@ collector_means = record {
 -- what a collector holds after a whole text
 abbrev pub collected_of : OptionsOf → List NamedReference → Bool → List ℕ → Collected
 collected_of opts names foreign text = finished_reading collector_means opts names (none_collected foreign) text
+
+-- a collector holds these messages, adjacent texts joined, and has finished
+abbrev pub Collects : Collecting → Bool → List Message → Type 0
+Collects sink foreign M = sink.collected ≡ collected_finish (stepped collected_step (none_collected foreign) M)
+
+-- a whole text as items, where a collector is told
+abbrev pub ComposedOf : OptionsOf → List NamedReference → Bool → List ℕ → Type 0
+ComposedOf opts names foreign text = Composed collector_means (rules_of opts names) (start_of opts) (none_collected foreign) text
 
 -- what reading a whole text by a collector answers
 pub record CollectsText (result : Result Collecting TokenizerError) (opts : OptionsOf) (names : List NamedReference) (foreign : Bool)

@@ -1,10 +1,11 @@
 -- Where a tokenizer stands in a text, and what its calls make of that.
-use Rattle.std.specs.Prelude.{◌≡◌, ℕ, Bool, false, List, [], ◌++◌, ◌⊎◌}
+use Rattle.std.specs.Prelude.{◌≡◌, ℕ, Bool, true, false, List, [], ◌++◌, ◌⊎◌}
 use Rattle.html5ever_interface.specs.Options.{OptionsOf}
 use Rattle.html5ever_interface.specs.Sink.{Means, Message, stepped}
 use Rattle.html5ever_interface.specs.Token.{Reply}
 use Rattle.html5grammar.specs.Reading.{all_messages, state_after, start_after}
-use Rattle.html5grammar.specs.Start.{Start, Rules, start_of}
+use Rattle.html5grammar.specs.Start.{Start, Rules, start_of, is_clean}
+use Rattle.html5items.specs.Items.{ToldItems, FinishedItems}
 use Rattle.html5feed.specs.Feed.{Feed, told_beyond, told_at_end, feed}
 use Rattle.html5feed.specs.Refused.{RefusedBehind}
 use Rattle.html5states.specs.Telling.{Stops, StopsWithin, FaultsWithin}
@@ -38,6 +39,11 @@ module _ {X S H : Type 0} (means : Means X S H) where
   -- the same from the start of a stream, by these options and this table
   abbrev pub finished_reading : OptionsOf → List NamedReference → S → List ℕ → S
   finished_reading opts names state text = state_at_end (rules_of opts names) (start_of opts) state text
+
+  -- from the start of a stream, by these options and this table, exactly what a text's items and its end tell was told, and the sink
+  -- then finished
+  abbrev pub FinishedByItems : OptionsOf → List NamedReference → S → List ℕ → S → Type 0
+  FinishedByItems opts names state text t = FinishedItems means (rules_of opts names) (start_of opts) state text t
 
   -- what a refused end, or the refused reading of a whole text, leaves of the messages that it tells: the sink may also fault at
   -- its own end
@@ -85,6 +91,25 @@ module _ {X S H : Type 0} (means : Means X S H) where
   abbrev pub ReadsWhole : Tokenizing X → List ℕ → S → Type 0
   ReadsWhole old more t =
       (K : Start) (s : S) (text : List ℕ) → StandsAt old K s text → t ≡ state_at_end means old.rules K s (text ++ more)
+
+  -- ---- by items: where nothing was open at the start K, the text after it is items, and at most one unfinished one
+
+  -- after `more`, exactly what the items tell was told
+  abbrev pub ReadsItems : Tokenizing X → Tokenizing X → List ℕ → Type 0
+  ReadsItems old new more =
+      (K : Start) (s : S) (text : List ℕ) → is_clean K.opened ≡ true → StandsAt old K s text
+      → ToldItems means old.rules K s (text ++ more) (means.state new.sink)
+
+  -- after what a feed of a queue's text takes, likewise
+  abbrev pub FeedsItems : Tokenizing X → Tokenizing X → List ℕ → Type 0
+  FeedsItems old new queue =
+      (K : Start) (s : S) (text : List ℕ) → is_clean K.opened ≡ true → StandsAt old K s text
+      → ToldItems means old.rules K s (text ++ (feed means old.rules K s text queue).taken) (means.state new.sink)
+
+  -- what the items and the end tell was told, and the sink then finished
+  abbrev pub FinishesItems : Tokenizing X → S → Type 0
+  FinishesItems old t =
+      (K : Start) (s : S) (text : List ℕ) → is_clean K.opened ≡ true → StandsAt old K s text → FinishedItems means old.rules K s text t
 
   -- ---- refused calls
 

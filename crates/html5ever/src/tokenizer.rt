@@ -9,7 +9,8 @@ ghost use Rattle.html5grammar.specs.Start.Open.{Between};
 ghost use Rattle.html5feed.specs.Feed.{reply_in, IsEndOf, IsLinear};
 ghost use Rattle.html5states.specs.Telling.{faults_of};
 ghost use Rattle.html5feed.specs.Starting.{CanStart};
-ghost use Rattle.html5ever.specs.Tokenizer.{rules_of, StandsAt, Feeds};
+ghost use Rattle.markup5ever.specs.NamedReferences.{IsTable};
+ghost use Rattle.html5ever.specs.Tokenizer.{rules_of, StandsAt, Feeds, FeedsItems, FinishesItems};
 ghost use Rattle.html5ever.specs.Tokenizer.{StopsFeeding, Finishes, StopsEnding, EndStops};
 
 use html5feed::position::Position;
@@ -114,6 +115,7 @@ impl<'t, Sink: TokenSink<Token<A>>, A: Allocator + Copy> Tokenizer<'t, Sink, A> 
         // was told; the rest waits, and the answer is the reply that pauses.
         ensures reads { IfOk result (λ answer.
             Feeds Sink.means self.old self.new queue.old.text queue.new.text (reply_in string_bytes answer)) }
+        ensures items { IsOk result → FeedsItems Sink.means self.old self.new queue.old.text }
 
         // For a loop past the pauses, which asks for no more.
         ensures done { result ≡ Ok TokenizerResult.Done → queue.new.text ≡ [] }
@@ -141,6 +143,7 @@ impl<'t, Sink: TokenSink<Token<A>>, A: Allocator + Copy> Tokenizer<'t, Sink, A> 
         if self.failed {
             return Err(TokenizerError::Failed);
         }
+        table_laws(&self.rules);
         let result = read_queue(
             self.alloc,
             &mut self.sink,
@@ -158,6 +161,7 @@ impl<'t, Sink: TokenSink<Token<A>>, A: Allocator + Copy> Tokenizer<'t, Sink, A> 
 
         // What an `Ok` says: the whole reading was told, and the sink has finished.
         ensures finishes { OnOk result (Finishes Sink.means self.old (Sink.means.state self.new.sink)) }
+        ensures items { OnOk result (FinishesItems Sink.means self.old (Sink.means.state self.new.sink)) }
 
         // When each error comes, and what it leaves.
         ensures failed_before { (result ≡ Err TokenizerError.Failed) ↔ (self.old.failed ≡ true) }
@@ -170,6 +174,7 @@ impl<'t, Sink: TokenSink<Token<A>>, A: Allocator + Copy> Tokenizer<'t, Sink, A> 
         if self.failed {
             return Err(TokenizerError::Failed);
         }
+        table_laws(&self.rules);
         let result = tell_end(self.alloc, &mut self.sink, &self.rules, &mut self.position);
         self.failed = result.is_err();
         self.ended = result.is_ok();
@@ -180,6 +185,7 @@ impl<'t, Sink: TokenSink<Token<A>>, A: Allocator + Copy> Tokenizer<'t, Sink, A> 
     pub fn finish(mut self) -> (Sink, Result<(), TokenizerError>)
         requires { self.ended ≡ false }
         ensures finishes { OnOk result.1 (Finishes Sink.means self.entry (Sink.means.state result.0)) }
+        ensures items { OnOk result.1 (FinishesItems Sink.means self.entry (Sink.means.state result.0)) }
         ensures failed_before { (result.1 ≡ Err TokenizerError.Failed) ↔ (self.entry.failed ≡ true) }
         ensures unchanged { self.entry.failed ≡ true → result.0 ≡ self.entry.sink }
         ensures stops { IfErr result.1 (λ error. StopsEnding Sink.means error self.entry (Sink.means.state result.0)) }
@@ -236,6 +242,14 @@ impl<'t, Sink: TokenSink<Token<A>>, A: Allocator + Copy> Tokenizer<'t, Sink, A> 
     {
         self.sink
     }
+}
+
+// The laws of the table that is gone by.
+fn table_laws<A: Allocator>(rules: &Rules<'_, A>)
+    ensures { IsTable rules.now.names }
+{
+    let names = rules.names;
+    names.table_laws();
 }
 
 // Tells the end of the input, and has the sink finish.

@@ -38,8 +38,7 @@ use Rattle.html5grammar.specs.RawText.{ends_name, raw_state, kind_of, is_rcdata,
 use Rattle.html5grammar.specs.Text.{plain_text}
 use Rattle.html5grammar.specs.Lawful.{has_no_null, IsLawfulTag, IsLawfulDoctype}
 use Rattle.html5grammar.specs.Machine.{closing_step, tag_name_step, part_step, attribute_name_step, after_attribute_name_step, quoted_step, unquoted_step, before_value_step, tag_step, data_step, less_than_step, solidus_step, bogus_comment_step, comment_step, instruction_step, skipped_step, wanted_name_step, doctype_name_step, keyword_or_end_step, wanted_identifier_step, system_or_end_step, identifier_step, behind_identifier_step, space_step, doctype_step, raw_step, tag_name_end_step, end_name_step, switch_step, mark_step, mark_and_dash_step, raw_solidus_step, raw_less_than_step, raw_place_step, step_at, cdata_step}
-use Rattle.html5grammar.proofs.OneTagSteps.{letter-in_tag_name}
-use Rattle.html5grammar.proofs.WrittenRawSteps.{letter-no_null}
+use Rattle.html5grammar.proofs.Letters.{letter-in_tag_name, letter-no_null}
 use Rattle.html5grammar.proofs.LawfulBytes.{no_null-append, no_null-encode, letters-no_null, all-append}
 use Rattle.html5grammar.proofs.LawfulReferences.{AllLawful, lawful-append, lawful-where, lawful-texts, no_null-parts, no_null-cons, no_null-nil}
 use Rattle.html5grammar.proofs.LawfulTags.{IsFitTag, fit-name, fit-begun, fit-value, fit-last_name, fit-last_attribute, lawful-told, lawful-quirks, lawful-name, lawful-first, lawful-begun_identifier, lawful-identifier}

@@ -14,13 +14,5 @@ pub mod RawText
 pub mod EndOfInput
 pub mod Cutting
 pub mod Reading
-pub mod OneTag
-pub mod OneReference
-pub mod WrittenRaw
-pub mod OneComment
-pub mod OneInstruction
-pub mod OneDoctype
-pub mod OneCdata
 pub mod Lawful
-pub mod Anywhere
 pub mod Machine

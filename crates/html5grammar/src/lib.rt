@@ -2,26 +2,18 @@
 //! stand the laws that readers of a text in pieces rest on.
 #![tactic(auto)]
 
-ghost use Rattle.std.specs.Prelude.{◌≡◌, ◌≢◌, ℕ, Bool, List, [], ◌++◌, All, length, take_while, true, false, codes, None, Some, if◌then◌else◌};
-ghost use Rattle.std.specs.List.{list_all};
-ghost use Rattle.std.specs.Str.{bytes_eq};
+ghost use Rattle.std.specs.Prelude.{◌≡◌, ◌≢◌, ℕ, List, [], ◌++◌, All, length, take_while, true, None, Some, if◌then◌else◌};
 ghost use Rattle.std.specs.Char.{is_ascii_alphanumeric};
 ghost use Rattle.std.specs.Option.{is_none};
 ghost use Rattle.html5ever_interface.specs.Sink.{Message};
 ghost use Rattle.html5grammar.specs.Reading.{reading, told, is_among, all_messages, messages_so_far, state_after, start_after};
 ghost use Rattle.html5grammar.specs.Lawful.{IsLawful, TellsNoTagBehind};
-ghost use Rattle.html5grammar.specs.Characters.{lower_case, number_sign};
-ghost use Rattle.html5grammar.specs.Doctype.{in_skipped_rest};
+ghost use Rattle.html5grammar.specs.Characters.{number_sign};
 ghost use Rattle.html5grammar.specs.NormalisedText.{normalised};
-ghost use Rattle.html5grammar.specs.OneCdata.{IsCdataText};
-ghost use Rattle.html5grammar.specs.OneComment.{occurs};
-ghost use Rattle.html5grammar.specs.OneDoctype.{IsDoctypeText};
 ghost use Rattle.html5grammar.specs.Reference.{first_or, is_undecided, longest_name};
 ghost use Rattle.html5grammar.specs.Slice.{run_of, run_while};
 ghost use Rattle.html5grammar.specs.Start.{Start, Rules, is_clean};
 ghost use Rattle.markup5ever.specs.NamedReferences.{NamedReference, IsTable, begins_name};
-
-pub mod anywhere;
 
 use html5ever_interface::interface::sink::TokenSink;
 use html5ever_interface::interface::token::Token;
@@ -70,21 +62,6 @@ pub fn longest_name_of_text()
         run_while (is_undecided names) [] text
         ≡ (if is_none (longest_name names text) then run_of is_ascii_alphanumeric text
         else run_while (begins_name names) [] text) }
-{}
-
-/// Each text of `<!`, `doctype` in any case, characters other than `>`, and `>` is one doctype, written
-/// out. So what is said of one doctype is said of all.
-pub fn each_doctype()
-    ensures { (word text : List ℕ) → bytes_eq (lower_case word) (codes "doctype") ≡ true
-        → list_all in_skipped_rest text ≡ true → IsDoctypeText word text }
-{}
-
-/// Each text in which `]]>` stands nowhere is that of one CDATA section, written out, between its
-/// `<![CDATA[` and its `]]>`, or without one of them or both. So what is said of one section is said
-/// of all.
-pub fn each_cdata()
-    ensures { (has_opening is_ended : Bool) (text : List ℕ) → occurs (codes "]]>") text ≡ false
-        → IsCdataText has_opening is_ended text }
 {}
 
 /// A tag that the end of input cuts off is never told: what the end decides and tells has no tag.

@@ -14,7 +14,7 @@ use Rattle.std.proofs.lemmas.List.Folds.{list_all-append, list_all_at}
 use Rattle.std.proofs.lemmas.Nat.{mul-mod_first}
 use Rattle.html5grammar.specs.Characters.{null, is_no_character, replacement_character}
 use Rattle.html5grammar.specs.Reference.{is_x, is_number, is_digit_of, base_of, behind_x, character_of_number, is_invalid_number, invalid_number}
-use Rattle.html5grammar.proofs.OneReferenceReading.{is_number-cons}
+use Rattle.html5grammar.proofs.Numbers.{is_number-cons}
 use Rattle.markup5ever.specs.C1.{c1_characters, character_of_c1}
 
 -- ---- what is a number

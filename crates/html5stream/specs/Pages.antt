@@ -8,6 +8,7 @@ use Rattle.html5ever_interface.specs.Sink.{Means, Message, stepped}
 use Rattle.html5ever_interface.specs.Token.{TagOf, Told}
 use Rattle.html5grammar.specs.Reading.{all_messages}
 use Rattle.html5grammar.specs.Start.{start_of}
+use Rattle.html5items.specs.Items.{Items}
 use Rattle.html5ever.specs.Tokenizer.{rules_of}
 use Rattle.html5sinks.specs.Replies.{standard_reply}
 use Rattle.html5sinks.specs.Tags.{Tagged, tags_step, tags_reply}
@@ -20,6 +21,19 @@ pub record ReadsPage {S : Type 0} (behind : S → List ℕ → S) (unread left :
   pub at_end : IsAtEnd left
   pub utf8 : IsUtf8 bytes
   pub told : after ≡ behind before bytes
+
+-- the same by items: the text of the page is items that tell `tells`, and its end tells `ends`, and a state became what these make
+-- of it
+pub record ReadsPageItems {S : Type 0} (composes : S → List ℕ → List Message → List Message → Type 0) (handed : S → List Message → S)
+    (unread left : Option (List ℕ)) (before after : S) : Type 0 where
+  pub bytes : List ℕ
+  pub consumed : Consumes unread left bytes
+  pub at_end : IsAtEnd left
+  pub utf8 : IsUtf8 bytes
+  pub tells : List Message
+  pub ends : List Message
+  pub items : composes before bytes tells ends
+  pub told : after ≡ handed before (tells ++ ends)
 
 -- the source gave a text first, and a state became what a beginning of that text's messages makes of it
 pub record StopsPage {S : Type 0} (page : S → List ℕ → List Message) (handed : S → List Message → S)
@@ -67,6 +81,11 @@ module _ {S : Type 0} where
   tags_page step names s bytes =
       all_messages (tags_means (λ t. t) step) (rules_of default_options names) (start_of default_options) (tags_start s) (chars bytes)
 
+  -- the items of such a page
+  abbrev pub TagsItems : (S → TagOf → ℕ → S) → List NamedReference → S → List ℕ → List Message → List Message → Type 0
+  TagsItems step names s bytes tells ends =
+      Items (tags_means (λ t. t) step) (rules_of default_options names) (start_of default_options) (tags_start s) (chars bytes) tells ends
+
   -- a handler after some messages: it was handed each tag of them
   unfoldable pub tags_handed : (S → TagOf → ℕ → S) → S → List Message → S
   tags_handed step s told = (stepped (tags_step step) (tags_start s) told).handler
@@ -83,6 +102,11 @@ module _ {S : Type 0} where
   unfoldable pub runs_page : (S → List ℕ → Told → ℕ → S) → List NamedReference → S → List ℕ → List Message
   runs_page step names s bytes =
       all_messages (runs_means (λ t. t) step) (rules_of default_options names) (start_of default_options) (runs_start s) (chars bytes)
+
+  -- the items of such a page
+  abbrev pub RunsItems : (S → List ℕ → Told → ℕ → S) → List NamedReference → S → List ℕ → List Message → List Message → Type 0
+  RunsItems step names s bytes tells ends =
+      Items (runs_means (λ t. t) step) (rules_of default_options names) (start_of default_options) (runs_start s) (chars bytes) tells ends
 
   -- a handler after some messages: it was handed each run of text that another token of them ends, with that token
   unfoldable pub runs_handed : (S → List ℕ → Told → ℕ → S) → S → List Message → S

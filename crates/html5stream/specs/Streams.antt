@@ -7,7 +7,7 @@ use Rattle.html5ever_interface.specs.Sink.{Means, Message, stepped}
 use Rattle.html5grammar.specs.Reading.{all_messages, state_after}
 use Rattle.html5grammar.specs.Start.{start_of}
 use Rattle.html5states.specs.Telling.{StopsWithin, FaultsWithin}
-use Rattle.html5ever.specs.Tokenizer.{rules_of, finished_reading}
+use Rattle.html5ever.specs.Tokenizer.{rules_of, finished_reading, FinishedByItems}
 use Rattle.markup5ever.specs.NamedReferences.{NamedReference}
 use Rattle.utf8_pieces.specs.Pieces.{IsCutCharacter, IsFault, IsNeverUtf8}
 use Rattle.utf8_pieces.specs.declared.error.DecodeError.TheVariants as decoder
@@ -65,6 +65,14 @@ module _ {X S H : Type 0} (means : Means X S H) where
     pub at_end : IsAtEnd after
     pub utf8 : IsUtf8 bytes
     pub told : t ≡ finished_reading means opts names s (chars bytes)
+
+  -- the same by items: what the items of the text tell, and its end, was told
+  pub record ReadsSourceItems (opts : OptionsOf) (names : List NamedReference) (s : S) (before after : Option (List ℕ)) (t : S) : Type 0 where
+    pub bytes : List ℕ
+    pub given : Consumes before after bytes
+    pub at_end : IsAtEnd after
+    pub utf8 : IsUtf8 bytes
+    pub told : FinishedByItems means opts names s (chars bytes) t
 
   -- what the source gave begins with a text, and the sink stopped within the reading of that; where the error is not of the bytes,
   -- they can still become a text

@@ -1,6 +1,6 @@
 //! Pages, which one call reads from a source for a handler.
 ghost use Rattle.std.specs.Prelude.{◌≡◌, ℕ, ◌+◌, Err, OnOk, OnErr};
-ghost use Rattle.html5stream.specs.Pages.{ReadsPage, StopsPage, tags_page, tags_handed, tags_behind, runs_page, runs_handed, runs_behind};
+ghost use Rattle.html5stream.specs.Pages.{ReadsPage, ReadsPageItems, StopsPage, TagsItems, RunsItems, tags_page, tags_handed, tags_behind, runs_page, runs_handed, runs_behind};
 ghost use Rattle.html5stream.specs.Streams.{GivesNoText, failed_reads};
 
 use crate::error::StreamError;
@@ -23,12 +23,15 @@ pub fn read_tags<R: Source, H: TagHandler<Tag<A>>, A: Allocator + Copy>(
 ) -> (H, Result<(), StreamError>)
     ensures finishes { OnOk result.1 (ReadsPage (tags_behind H.step names.now)
         (R.remaining source.old) (R.remaining source.new) (H.state handler) (H.state result.0)) }
+    ensures items { OnOk result.1 (ReadsPageItems (TagsItems H.step names.now) (tags_handed H.step)
+        (R.remaining source.old) (R.remaining source.new) (H.state handler) (H.state result.0)) }
     ensures beginning { OnErr result.1 (StopsPage (tags_page H.step names.now) (tags_handed H.step)
         (R.remaining source.old) (R.remaining source.new) (H.state handler) (H.state result.0)) }
     ensures not_utf8 { (place : ℕ) → result.1 ≡ Err (StreamError.NotUtf8 place)
         → GivesNoText place (R.remaining source.old) (R.remaining source.new) }
     ensures read { R.failures source.new ≡ R.failures source.old + failed_reads result.1 }
 {
+    names.table_laws();
     let tags = TagsOnly::new(handler);
     let opts = TokenizerOpts::default();
     let (told, read) = read_source(alloc, source, tags, opts, names);
@@ -45,12 +48,15 @@ pub fn read_runs<R: Source, H: RunHandler<Token<A>>, A: Allocator + Copy>(
 ) -> (H, Result<(), StreamError>)
     ensures finishes { OnOk result.1 (ReadsPage (runs_behind H.step names.now)
         (R.remaining source.old) (R.remaining source.new) (H.state handler) (H.state result.0)) }
+    ensures items { OnOk result.1 (ReadsPageItems (RunsItems H.step names.now) (runs_handed H.step)
+        (R.remaining source.old) (R.remaining source.new) (H.state handler) (H.state result.0)) }
     ensures beginning { OnErr result.1 (StopsPage (runs_page H.step names.now) (runs_handed H.step)
         (R.remaining source.old) (R.remaining source.new) (H.state handler) (H.state result.0)) }
     ensures not_utf8 { (place : ℕ) → result.1 ≡ Err (StreamError.NotUtf8 place)
         → GivesNoText place (R.remaining source.old) (R.remaining source.new) }
     ensures read { R.failures source.new ≡ R.failures source.old + failed_reads result.1 }
 {
+    names.table_laws();
     let runs = TextRuns::new(alloc, handler);
     let opts = TokenizerOpts::default();
     let (joined, read) = read_source(alloc, source, runs, opts, names);

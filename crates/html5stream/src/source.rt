@@ -7,7 +7,7 @@ ghost use Rattle.html5states.specs.Telling.{faults_of};
 ghost use Rattle.html5feed.specs.Starting.{CanStart};
 ghost use Rattle.html5ever.specs.Tokenizer.{ReadsOn, Finishes};
 ghost use Rattle.html5stream.specs.Errors.{stream_error};
-ghost use Rattle.html5stream.specs.Streams.{ReadsSource, StopsSource, TellsGiven, GivesNoText, failed_read, failed_reads, sink_fault, sink_faults};
+ghost use Rattle.html5stream.specs.Streams.{ReadsSource, ReadsSourceItems, StopsSource, TellsGiven, GivesNoText, failed_read, failed_reads, sink_fault, sink_faults};
 ghost use Rattle.html5stream.specs.Taking.{TakesBytes, TakesText, FinishesText, StopsTelling, StopsAtEnd, StopsBytes, StopsText};
 
 use crate::error::StreamError;
@@ -205,6 +205,8 @@ pub fn read_source<R: Source, S: TokenSink<Token<A>>, A: Allocator + Copy>(
     // What an `Ok` says: the source is at its end, and the whole reading of its text was told.
     ensures finishes { OnOk result.1 (ReadsSource S.means (options_of opts) names.now (S.means.state sink)
         (R.remaining source.old) (R.remaining source.new) (S.means.state result.0)) }
+    ensures items { OnOk result.1 (ReadsSourceItems S.means (options_of opts) names.now (S.means.state sink)
+        (R.remaining source.old) (R.remaining source.new) (S.means.state result.0)) }
 
     // When each error comes, and what it leaves.
     ensures decided { result.1 ≡ Err StreamError.Read → TellsGiven S.means (options_of opts) names.now
@@ -216,6 +218,7 @@ pub fn read_source<R: Source, S: TokenSink<Token<A>>, A: Allocator + Copy>(
     ensures read { R.failures source.new ≡ R.failures source.old + failed_reads result.1 }
     ensures faults { S.faults result.0 ≡ S.faults sink + sink_faults result.1 }
 {
+    names.table_laws();
     let mut tokenizer = Tokenizer::new(alloc, sink, opts, names);
     let result = read_all(alloc, source, &mut tokenizer);
     (tokenizer.into_sink(), result)

@@ -1,23 +1,25 @@
 //! Laws of whole texts, on calls that read one.
-ghost use Rattle.std.specs.Prelude.{◌≡◌, ℕ, true, List, [], map, IfOk, string_bytes};
+ghost use Rattle.std.specs.Prelude.{◌≡◌, ◌++◌, ℕ, true, List, [], map, IfOk, string_bytes};
 ghost use Rattle.std.specs.List.{concat};
 ghost use Rattle.std.specs.Str.{chars};
 ghost use Rattle.html5ever_interface.specs.Collected.{none_collected, collected_step, collected_finish};
 ghost use Rattle.html5ever_interface.specs.Options.{options_of};
 ghost use Rattle.html5ever_interface.specs.Sink.{stepped};
-ghost use Rattle.html5grammar.specs.OneCdata.{WrittenCdata, IsCdata, kept_messages};
-ghost use Rattle.html5grammar.specs.OneComment.{WrittenComment, IsComment, comment_messages};
-ghost use Rattle.html5grammar.specs.OneDoctype.{WrittenDoctype, IsDoctype, doctype_messages};
-ghost use Rattle.html5grammar.specs.OneInstruction.{WrittenInstruction, IsInstruction, instruction_messages};
-ghost use Rattle.html5grammar.specs.OneReference.{WrittenReference, IsReference, reference_messages};
-ghost use Rattle.html5grammar.specs.OneTag.{WrittenTag, IsTag, tag_messages};
-ghost use Rattle.html5grammar.specs.WrittenRaw.{WrittenRaw, IsRawText, raw_messages};
-ghost use Rattle.html5grammar.specs.Start.{Raw, Start, Rules, start_of};
-ghost use Rattle.html5ever.specs.Collecting.{CollectsText};
+ghost use Rattle.html5items.specs.Cdata.{WrittenCdata, IsCdata, kept_messages};
+ghost use Rattle.html5items.specs.Comment.{WrittenComment, IsComment, comment_messages};
+ghost use Rattle.html5items.specs.Doctype.{WrittenDoctype, IsDoctype, doctype_messages};
+ghost use Rattle.html5items.specs.Instruction.{WrittenInstruction, IsInstruction, instruction_messages};
+ghost use Rattle.html5items.specs.Reference.{WrittenReference, IsReference, reference_messages};
+ghost use Rattle.html5items.specs.Declarations.{IsOpenBogusDeclaration, IsOpenDoctype};
+ghost use Rattle.html5items.specs.Items.{IsTextRun, IsOpenComment, IsOpenBogus, text_run_messages, open_comment_messages, open_bogus_messages, open_declaration_messages, whole_open_doctype_messages};
+ghost use Rattle.html5items.specs.Tag.{WrittenTag, IsTag, tag_messages};
+ghost use Rattle.html5items.specs.RawText.{WrittenRaw, IsRawText, raw_messages};
+ghost use Rattle.html5grammar.specs.Start.{Mode, Raw, Start, Rules, start_of};
+ghost use Rattle.html5ever.specs.Collecting.{CollectsText, Collects, ComposedOf};
 ghost use Rattle.html5ever.specs.RunSteps.{run_text};
 ghost use Rattle.html5ever.specs.RunSteps.StepOf.{AtBack};
 ghost use Rattle.html5feed.specs.Starting.{CanStart};
-ghost use Rattle.html5ever.specs.Tokenizer.{state_at_end};
+ghost use Rattle.html5ever.specs.Tokenizer.{state_at_end, rules_of};
 
 pub use crate::tokenizer::pieces::feed_pieces;
 use crate::tokenizer::whole::read_whole;
@@ -50,8 +52,8 @@ fn collect<A: Allocator + Copy>(
     }
 }
 
-/// Reads a whole text by a collector. Where the text is one tag, written out, the collector then
-/// holds the errors of the tag, each at its character, the tag, and the end.
+/// Reads a whole text by a collector. Where the text is one tag, written out, with references in its
+/// values, the collector then holds the errors of the tag, each at its character, the tag, and the end.
 pub fn tag<A: Allocator + Copy>(
     alloc: A,
     opts: TokenizerOpts<A>,
@@ -64,16 +66,17 @@ pub fn tag<A: Allocator + Copy>(
     ensures tag { IfOk result (λ sink. (tag : WrittenTag) →
         IsTag (start_of (options_of opts)) (chars (string_bytes text)) tag →
         sink.collected ≡ record {
-          messages = tag_messages opts.exact_errors (start_of (options_of opts)).input tag;
+          messages = tag_messages (rules_of (options_of opts) names.now) (start_of (options_of opts)).input tag;
           finished = true;
           foreign = foreign;
         }) }
 {
+    names.table_laws();
     collect(alloc, opts, foreign, names, text)
 }
 
-/// Reads a whole text by a collector. Where the text is one character reference, written out, the
-/// collector then holds its errors, its characters as one text, and the end.
+/// Reads a whole text by a collector. Where the text is one character reference, written out, read in
+/// Data or in RCDATA, the collector then holds its errors, its characters as one text, and the end.
 pub fn reference<A: Allocator + Copy>(
     alloc: A,
     opts: TokenizerOpts<A>,
@@ -95,9 +98,11 @@ pub fn reference<A: Allocator + Copy>(
     collect(alloc, opts, foreign, names, text)
 }
 
-/// Reads a whole text by a collector. Where the text is raw text, written out, up to its end or to the
-/// end tag that ends it, the collector then holds what its items tell, adjacent texts joined, the end
-/// tag, and the end. `opts` choose the kind of raw text, and the name of the end tag.
+/// Reads a whole text by a collector. Where the text is characters of Data or of plain text that are
+/// text, the collector then holds them as one text, NULs apart, and the end. Where it is raw text,
+/// written out, up to its end or to the end tag that ends it, the collector then holds what its items
+/// tell, adjacent texts joined, the end tag, and the end. `opts` choose the kind of raw text, and the
+/// name of the end tag.
 pub fn raw<A: Allocator + Copy>(
     alloc: A,
     opts: TokenizerOpts<A>,
@@ -109,14 +114,20 @@ pub fn raw<A: Allocator + Copy>(
     ensures reads { CollectsText result (options_of opts) names.now foreign (chars (string_bytes text)) }
     ensures raw { IfOk result (λ sink. (raw : Raw) (name : List ℕ) (written : WrittenRaw) →
         IsRawText (start_of (options_of opts)) (chars (string_bytes text)) raw name written →
-        sink.collected ≡ collected_finish (stepped collected_step (none_collected foreign)
-        (raw_messages opts.exact_errors (start_of (options_of opts)).input raw written))) }
+        Collects sink foreign
+        (raw_messages (rules_of (options_of opts) names.now) (start_of (options_of opts)).input raw written)) }
+    ensures text { IfOk result (λ sink. (mode : Mode) (run : List ℕ) →
+        IsTextRun (start_of (options_of opts)) (chars (string_bytes text)) mode run →
+        Collects sink foreign (text_run_messages opts.exact_errors (start_of (options_of opts)).input
+        (chars (string_bytes text)) mode run)) }
 {
+    names.table_laws();
     collect(alloc, opts, foreign, names, text)
 }
 
 /// Reads a whole text by a collector. Where the text is one comment, written out, also a bogus one,
-/// the collector then holds its errors, each at its character, the comment, and the end.
+/// the collector then holds its errors, each at its character, the comment, and the end; where it is a
+/// comment without its end, what its characters tell, and what the end tells.
 pub fn comment<A: Allocator + Copy>(
     alloc: A,
     opts: TokenizerOpts<A>,
@@ -133,7 +144,20 @@ pub fn comment<A: Allocator + Copy>(
           finished = true;
           foreign = foreign;
         }) }
+    ensures open { IfOk result (λ sink. (content : List ℕ) →
+        IsOpenComment (start_of (options_of opts)) (chars (string_bytes text)) content →
+        Collects sink foreign (open_comment_messages opts.exact_errors (start_of (options_of opts)).input
+        (chars (string_bytes text)) content)) }
+    ensures open_bogus { IfOk result (λ sink. (content : List ℕ) →
+        IsOpenBogus (start_of (options_of opts)) (chars (string_bytes text)) content →
+        Collects sink foreign (open_bogus_messages opts.exact_errors (start_of (options_of opts)).input
+        (chars (string_bytes text)) content)) }
+    ensures open_declaration { IfOk result (λ sink. (content : List ℕ) →
+        IsOpenBogusDeclaration (start_of (options_of opts)) foreign (chars (string_bytes text)) content →
+        Collects sink foreign (open_declaration_messages opts.exact_errors (start_of (options_of opts)).input
+        (chars (string_bytes text)) content)) }
 {
+    names.table_laws();
     collect(alloc, opts, foreign, names, text)
 }
 
@@ -161,7 +185,8 @@ pub fn instruction<A: Allocator + Copy>(
 }
 
 /// Reads a whole text by a collector. Where the text is one doctype, written out, the collector then
-/// holds its errors, each at its character, the doctype, and the end.
+/// holds its errors, each at its character, the doctype, and the end; where its `>` is missing, what
+/// its characters tell, and what the end tells.
 pub fn doctype<A: Allocator + Copy>(
     alloc: A,
     opts: TokenizerOpts<A>,
@@ -178,7 +203,12 @@ pub fn doctype<A: Allocator + Copy>(
           finished = true;
           foreign = foreign;
         }) }
+    ensures open { IfOk result (λ sink. (doctype : WrittenDoctype) →
+        IsOpenDoctype (start_of (options_of opts)) (chars (string_bytes text)) doctype →
+        Collects sink foreign (whole_open_doctype_messages opts.exact_errors (start_of (options_of opts)).input
+        (chars (string_bytes text)) doctype)) }
 {
+    names.table_laws();
     collect(alloc, opts, foreign, names, text)
 }
 
@@ -201,6 +231,25 @@ pub fn cdata<A: Allocator + Copy>(
           foreign = foreign;
         }) }
 {
+    collect(alloc, opts, foreign, names, text)
+}
+
+/// Reads a whole text by a collector. However the text is taken as items and at most one unfinished
+/// one, the collector then holds what the items tell and what the end tells, adjacent texts joined.
+pub fn items<A: Allocator + Copy>(
+    alloc: A,
+    opts: TokenizerOpts<A>,
+    foreign: bool,
+    names: &NamedReferences<A>,
+    text: String<A>,
+) -> Result<Collector<A>, TokenizerError>
+    requires { CanStart opts.initial_state }
+    ensures reads { CollectsText result (options_of opts) names.now foreign (chars (string_bytes text)) }
+    ensures items { IfOk result (λ sink.
+        (one : ComposedOf (options_of opts) names.now foreign (chars (string_bytes text))) →
+        Collects sink foreign (one.tells ++ one.ends)) }
+{
+    names.table_laws();
     collect(alloc, opts, foreign, names, text)
 }
 

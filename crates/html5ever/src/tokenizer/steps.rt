@@ -7,10 +7,10 @@ ghost use Rattle.html5feed.specs.Feed.{IsEndOf, IsLinear};
 ghost use Rattle.html5states.specs.Telling.{faults_of};
 ghost use Rattle.html5ever.specs.RunSteps.{step_of, waiting_with, text_of_steps, FinishesRun, StopsRun};
 ghost use Rattle.html5feed.specs.Starting.{CanStart};
-ghost use Rattle.html5ever.specs.Tokenizer.{finished_reading, StoppedReading, ReadsOn, StopsReading};
+ghost use Rattle.html5ever.specs.Tokenizer.{finished_reading, FinishedByItems, StoppedReading, ReadsOn, ReadsItems, StopsReading};
 ghost use Rattle.html5ever.specs.Tokenizer.{Feeds, StopsFeeding};
 
-use crate::tokenizer::Tokenizer;
+use crate::tokenizer::{Tokenizer, table_laws};
 use html5ever_interface::interface::sink::TokenSink;
 use html5ever_interface::interface::token::Token;
 use html5ever_interface::options::TokenizerOpts;
@@ -29,6 +29,7 @@ pub fn feed_until_done<S: TokenSink<Token<A>>, A: Allocator + Copy>(
 
     // What an `Ok` says: all that waited was taken, and exactly what it decides was told.
     ensures reads { OnOk result (ReadsOn S.means tokenizer.old tokenizer.new queue.old.text) }
+    ensures items { OnOk result (ReadsItems S.means tokenizer.old tokenizer.new queue.old.text) }
     ensures taken { OnOk result (queue.new.text ≡ []) }
 
     // When each error comes, and what it leaves.
@@ -47,6 +48,7 @@ pub fn feed_until_done<S: TokenSink<Token<A>>, A: Allocator + Copy>(
     ensures rules { tokenizer.new.rules ≡ tokenizer.old.rules }
     ensures going_on { tokenizer.new.ended ≡ false }
 {
+    table_laws(&tokenizer.rules);
     loop {
         match tokenizer.feed(queue)? {
             TokenizerResult::Done => return Ok(()),
@@ -139,12 +141,16 @@ pub fn run_steps<S: TokenSink<Token<A>>, A: Allocator + Copy>(
     ensures finishes { OnOk result.1 (S.means.state result.0
         ≡ finished_reading S.means (options_of opts) names.now (S.means.state sink)
         (text_of_steps S.means (options_of opts) names.now (S.means.state sink) (map step_of steps.items))) }
+    ensures items { OnOk result.1 (FinishedByItems S.means (options_of opts) names.now (S.means.state sink)
+        (text_of_steps S.means (options_of opts) names.now (S.means.state sink) (map step_of steps.items))
+        (S.means.state result.0)) }
     ensures stops { IfErr result.1 (λ error. StoppedReading S.means (options_of opts) names.now
         error (S.means.state sink)
         (text_of_steps S.means (options_of opts) names.now (S.means.state sink) (map step_of steps.items))
         (S.means.state result.0)) }
     ensures faults { S.faults result.0 ≡ S.faults sink + faults_of result.1 }
 {
+    names.table_laws();
     let mut tokenizer = Tokenizer::new(alloc, sink, opts, names);
     let result = take_steps(alloc, &mut tokenizer, steps);
     (tokenizer.into_sink(), result)

@@ -5,7 +5,7 @@ ghost use Rattle.html5ever_interface.specs.Options.{options_of};
 ghost use Rattle.html5states.specs.Telling.{faults_of};
 ghost use Rattle.html5feed.specs.Starting.{CanStart};
 ghost use Rattle.html5ever.specs.Pieces.{text_of};
-ghost use Rattle.html5ever.specs.Tokenizer.{finished_reading, StoppedReading, ReadsWhole, StopsWhole};
+ghost use Rattle.html5ever.specs.Tokenizer.{finished_reading, FinishedByItems, StoppedReading, ReadsWhole, StopsWhole};
 
 use crate::tokenizer::Tokenizer;
 use crate::tokenizer::steps::feed_until_done;
@@ -45,10 +45,13 @@ fn read_from_start<S: TokenSink<Token<A>>, A: Allocator + Copy>(
     requires { CanStart opts.initial_state }
     ensures finishes { OnOk result.1 (S.means.state result.0
         ≡ finished_reading S.means (options_of opts) names.now (S.means.state sink) queue.old.text) }
+    ensures items { OnOk result.1 (FinishedByItems S.means (options_of opts) names.now
+        (S.means.state sink) queue.old.text (S.means.state result.0)) }
     ensures stops { IfErr result.1 (λ error. StoppedReading S.means (options_of opts) names.now
         error (S.means.state sink) queue.old.text (S.means.state result.0)) }
     ensures faults { S.faults result.0 ≡ S.faults sink + faults_of result.1 }
 {
+    names.table_laws();
     let mut tokenizer = Tokenizer::new(alloc, sink, opts, names);
     let result = read_waiting(&mut tokenizer, queue);
     (tokenizer.into_sink(), result)
@@ -82,6 +85,8 @@ pub fn read_whole<S: TokenSink<Token<A>>, A: Allocator + Copy>(
     requires { CanStart opts.initial_state }
     ensures finishes { OnOk result.1 (S.means.state result.0
         ≡ finished_reading S.means (options_of opts) names.now (S.means.state sink) (chars (string_bytes text))) }
+    ensures items { OnOk result.1 (FinishedByItems S.means (options_of opts) names.now
+        (S.means.state sink) (chars (string_bytes text)) (S.means.state result.0)) }
     ensures stops { IfErr result.1 (λ error. StoppedReading S.means (options_of opts) names.now
         error (S.means.state sink) (chars (string_bytes text)) (S.means.state result.0)) }
     ensures faults { S.faults result.0 ≡ S.faults sink + faults_of result.1 }
@@ -106,6 +111,8 @@ pub fn read_pieces<S: TokenSink<Token<A>>, A: Allocator + Copy>(
     ensures finishes { OnOk result.1 (S.means.state result.0
         ≡ finished_reading S.means (options_of opts) names.now (S.means.state sink)
         (text_of (map string_bytes pieces.items))) }
+    ensures items { OnOk result.1 (FinishedByItems S.means (options_of opts) names.now
+        (S.means.state sink) (text_of (map string_bytes pieces.items)) (S.means.state result.0)) }
     ensures stops { IfErr result.1 (λ error. StoppedReading S.means (options_of opts) names.now
         error (S.means.state sink) (text_of (map string_bytes pieces.items)) (S.means.state result.0)) }
     ensures faults { S.faults result.0 ≡ S.faults sink + faults_of result.1 }

@@ -8,6 +8,7 @@ use Rattle.html5cli.specs.Printing.{printed_reading}
 use Rattle.html5cli.proofs.Feeding.{fault_is}
 use Rattle.html5cli.specs.Settings.{said_by}
 use Rattle.html5cli.proofs.PrintedPages.{Consumes-whole, Keeps-same}
+use Rattle.html5cli.proofs.PrintedItems.{prints-items}
 use Rattle.html5cli.proofs.print.print_tokens.Goals as goal
 
 pub returns-in_err-text-clause-not_utf8 : goal.returns-in_err-text-clause-not_utf8
@@ -31,6 +32,9 @@ returns-clause-ok g c =
       utf8 = subst (λ (l : List ℕ). IsUtf8 l) text (IsUtf8-string_bytes c.in_ok-text.text);
       printed = subst (λ (l : List ℕ). Appends (g.W.Target.contents c.args.writer.now) (g.W.Target.contents c.write_all.new.target) l) page written;
     }) c.write_all.ensures.ok
+
+pub returns-clause-items : goal.returns-clause-items
+returns-clause-items g c = on_ok_weaker c.write_all.result (prints-items _ _ _ c.table_laws.ensures) (returns-clause-ok g c)
 
 pub returns-clause-beginning : goal.returns-clause-beginning
 returns-clause-beginning g c =

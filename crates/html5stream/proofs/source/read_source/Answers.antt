@@ -1,6 +1,7 @@
 use Rattle.std.proofs.lemmas.Result.{on_ok_weaker, IfErr-weaker}
 use Rattle.html5stream.proofs.Streaming.{ReadsSource-start, StopsSource-start, TellsGiven-start, GivesNoText-stop}
 use Rattle.html5stream.proofs.source.read_source.Goals as goal
+use Rattle.html5stream.proofs.ByItems.{source-items}
 
 pub returns-clause-finishes : goal.returns-clause-finishes
 returns-clause-finishes g c =
@@ -9,6 +10,9 @@ returns-clause-finishes g c =
     (λ read. ReadsSource-start g.S.TokenSink.means
     _ _ _ _ c.new-tokenizer.result _ _ c.new-tokenizer.ensures.stands c.new-tokenizer.ensures.rules read)
     c.read_all-result.ensures.finishes)
+
+pub returns-clause-items : goal.returns-clause-items
+returns-clause-items g c = on_ok_weaker c.read_all-result.result (source-items g.S.TokenSink.means _ _ _ _ _ _ c.table_laws.ensures) (returns-clause-finishes g c)
 
 pub returns-clause-decided : goal.returns-clause-decided
 returns-clause-decided g c =

@@ -3,8 +3,8 @@ use Rattle.std.specs.Str.{chars}
 use Rattle.std.specs.String.{string_bytes}
 use Rattle.html5ever_interface.specs.Collected.{Collecting}
 use Rattle.html5ever_interface.specs.Options.{options_of}
-use Rattle.html5grammar.proofs.OneCdataCollected.{collects-cdata}
-use Rattle.html5grammar.specs.OneCdata.{IsCdata, kept_messages}
+use Rattle.html5items.proofs.Cdata.Collected.{collects-cdata}
+use Rattle.html5items.specs.Cdata.{IsCdata, kept_messages}
 use Rattle.html5grammar.specs.Start.{start_of}
 use Rattle.html5ever.specs.Collecting.{collected_of}
 use Rattle.html5ever.specs.Tokenizer.{rules_of}

@@ -1,10 +1,12 @@
+use Rattle.html5ever.proofs.ByItems.{holds-unfinished}
+use Rattle.html5items.specs.Items.Unfinished.{OpenComment, OpenBogus, OpenBogusDeclaration}
 use Rattle.std.proofs.Common.{true}
 use Rattle.std.specs.Str.{chars}
 use Rattle.std.specs.String.{string_bytes}
 use Rattle.html5ever_interface.specs.Collected.{Collecting}
 use Rattle.html5ever_interface.specs.Options.{options_of}
-use Rattle.html5grammar.proofs.OneCommentCollected.{collects-comment}
-use Rattle.html5grammar.specs.OneComment.{IsComment, comment_messages}
+use Rattle.html5items.proofs.Comment.Collected.{collects-comment}
+use Rattle.html5items.specs.Comment.{IsComment, comment_messages}
 use Rattle.html5grammar.specs.Start.{start_of}
 use Rattle.html5ever.specs.Collecting.{collected_of}
 use Rattle.html5ever.specs.Tokenizer.{rules_of}
@@ -18,3 +20,15 @@ returns-clause-comment g c =
     (λ comment. record { messages = comment_messages c.args.opts.exact_errors (start_of (options_of c.args.opts)).input comment; finished = true; foreign = c.args.foreign })
     c.collect.ensures.reads.holds
     (λ comment one. collects-comment (Unit {0}) (rules_of (options_of c.args.opts) c.args.names.now) (start_of (options_of c.args.opts)) c.args.foreign (chars (string_bytes c.args.text)) comment one)
+
+pub returns-clause-open : goal.returns-clause-open
+returns-clause-open g c =
+    holds-unfinished c.collect.result (options_of c.args.opts) c.args.names.now c.args.foreign (chars (string_bytes c.args.text)) _ _ _ c.table_laws.ensures c.collect.ensures.reads.holds OpenComment
+
+pub returns-clause-open_bogus : goal.returns-clause-open_bogus
+returns-clause-open_bogus g c =
+    holds-unfinished c.collect.result (options_of c.args.opts) c.args.names.now c.args.foreign (chars (string_bytes c.args.text)) _ _ _ c.table_laws.ensures c.collect.ensures.reads.holds OpenBogus
+
+pub returns-clause-open_declaration : goal.returns-clause-open_declaration
+returns-clause-open_declaration g c =
+    holds-unfinished c.collect.result (options_of c.args.opts) c.args.names.now c.args.foreign (chars (string_bytes c.args.text)) _ _ _ c.table_laws.ensures c.collect.ensures.reads.holds OpenBogusDeclaration

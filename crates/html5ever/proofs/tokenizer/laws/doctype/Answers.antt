@@ -1,10 +1,12 @@
+use Rattle.html5ever.proofs.ByItems.{holds-unfinished}
+use Rattle.html5items.specs.Items.Unfinished.{OpenDoctype}
 use Rattle.std.proofs.Common.{true}
 use Rattle.std.specs.Str.{chars}
 use Rattle.std.specs.String.{string_bytes}
 use Rattle.html5ever_interface.specs.Collected.{Collecting}
 use Rattle.html5ever_interface.specs.Options.{options_of}
-use Rattle.html5grammar.proofs.OneDoctypeCollected.{collects-doctype}
-use Rattle.html5grammar.specs.OneDoctype.{IsDoctype, doctype_messages}
+use Rattle.html5items.proofs.Doctype.Collected.{collects-doctype}
+use Rattle.html5items.specs.Doctype.{IsDoctype, doctype_messages}
 use Rattle.html5grammar.specs.Start.{start_of}
 use Rattle.html5ever.specs.Collecting.{collected_of}
 use Rattle.html5ever.specs.Tokenizer.{rules_of}
@@ -18,3 +20,7 @@ returns-clause-doctype g c =
     (λ doctype. record { messages = doctype_messages c.args.opts.exact_errors (start_of (options_of c.args.opts)).input doctype; finished = true; foreign = c.args.foreign })
     c.collect.ensures.reads.holds
     (λ doctype one. collects-doctype (Unit {0}) (rules_of (options_of c.args.opts) c.args.names.now) (start_of (options_of c.args.opts)) c.args.foreign (chars (string_bytes c.args.text)) doctype one)
+
+pub returns-clause-open : goal.returns-clause-open
+returns-clause-open g c =
+    holds-unfinished c.collect.result (options_of c.args.opts) c.args.names.now c.args.foreign (chars (string_bytes c.args.text)) _ _ _ c.table_laws.ensures c.collect.ensures.reads.holds OpenDoctype

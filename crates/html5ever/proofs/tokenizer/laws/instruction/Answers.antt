@@ -3,8 +3,8 @@ use Rattle.std.specs.Str.{chars}
 use Rattle.std.specs.String.{string_bytes}
 use Rattle.html5ever_interface.specs.Collected.{Collecting}
 use Rattle.html5ever_interface.specs.Options.{options_of}
-use Rattle.html5grammar.proofs.OneInstructionCollected.{collects-instruction}
-use Rattle.html5grammar.specs.OneInstruction.{IsInstruction, instruction_messages}
+use Rattle.html5items.proofs.Instruction.Collected.{collects-instruction}
+use Rattle.html5items.specs.Instruction.{IsInstruction, instruction_messages}
 use Rattle.html5grammar.specs.Start.{start_of}
 use Rattle.html5ever.specs.Collecting.{collected_of}
 use Rattle.html5ever.specs.Tokenizer.{rules_of}

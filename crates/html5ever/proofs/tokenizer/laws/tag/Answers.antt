@@ -6,8 +6,8 @@ use Rattle.std.specs.String.{string_bytes}
 use Rattle.html5ever_interface.specs.Collected.{Collecting}
 use Rattle.html5ever_interface.specs.Options.{options_of}
 use Rattle.html5grammar.specs.Start.{start_of}
-use Rattle.html5grammar.specs.OneTag.{IsTag, tag_messages}
-use Rattle.html5grammar.proofs.OneTagCollected.{collects-tag}
+use Rattle.html5items.specs.Tag.{IsTag, tag_messages}
+use Rattle.html5items.proofs.Tag.Collected.{collects-tag}
 use Rattle.html5ever.proofs.Wholes.{holds-one}
 use Rattle.html5ever.proofs.tokenizer.laws.tag.Goals as goal
 
@@ -15,6 +15,6 @@ pub returns-clause-tag : goal.returns-clause-tag
 returns-clause-tag g c =
     holds-one c.collect.result (λ tag. IsTag (start_of (options_of c.args.opts)) (chars (string_bytes c.args.text)) tag)
     (λ (sink : Collecting). sink.collected) (collected_of (options_of c.args.opts) c.args.names.now c.args.foreign (chars (string_bytes c.args.text)))
-    (λ tag. record { messages = tag_messages c.args.opts.exact_errors (start_of (options_of c.args.opts)).input tag; finished = true; foreign = c.args.foreign })
+    (λ tag. record { messages = tag_messages (rules_of (options_of c.args.opts) c.args.names.now) (start_of (options_of c.args.opts)).input tag; finished = true; foreign = c.args.foreign })
     c.collect.ensures.reads.holds
-    (λ tag one. collects-tag (Unit {0}) (rules_of (options_of c.args.opts) c.args.names.now) (start_of (options_of c.args.opts)) c.args.foreign (chars (string_bytes c.args.text)) tag one)
+    (λ tag one. collects-tag (Unit {0}) (rules_of (options_of c.args.opts) c.args.names.now) (start_of (options_of c.args.opts)) c.args.foreign (chars (string_bytes c.args.text)) tag c.table_laws.ensures one)

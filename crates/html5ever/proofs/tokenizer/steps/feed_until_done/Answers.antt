@@ -1,6 +1,8 @@
-use Rattle.std.proofs.Common.{refl, ◌∙◌, ap, sym, Ok, arith}
+use Rattle.std.proofs.Common.{refl, ◌∙◌, ap, sym, subst, Ok, arith}
 use Rattle.std.proofs.lemmas.Result.{err_from_is_err_and}
 use Rattle.html5ever.proofs.Draining.{HasDrained-none, HasDrained-more, HasDrained-all, HasDrained-end, HasDrained-stops, ok-not_failed}
+use Rattle.markup5ever.specs.NamedReferences.{IsTable}
+use Rattle.html5ever.proofs.ByItems.{reads-items}
 use Rattle.html5ever.proofs.tokenizer.steps.feed_until_done.Goals as goal
 
 pub loop-init : goal.loop-init
@@ -21,6 +23,13 @@ returns-in-Done-clause-reads g c =
     c.in_ok-feed.ensures.rules c.in_ok-feed.ensures.going_on
     (c.in_ok-feed.ensures.failed ∙ sym (ok-not_failed c.feed.result _ _ c.in_ok-feed.was c.feed.ensures.failed_before)) c.in_ok-feed.ensures.linear c.in_ok-feed.ensures.handed_in)
     (c.in_ok-feed.ensures.done (ap Ok c.in-Done.is))
+
+pub returns-in-Done-clause-items : goal.returns-in-Done-clause-items
+returns-in-Done-clause-items g c =
+    reads-items g.S.TokenSink.means c.args.tokenizer.now _ _
+    (subst (λ t. IsTable t.rules.names) c.tokenizer.view_is c.table_laws.ensures)
+    (c.in_ok-feed.ensures.rules ∙ c.loop.invariant.0.rules)
+    (returns-in-Done-clause-reads g c)
 
 pub returns-in-Done-clause-end_of_queue : goal.returns-in-Done-clause-end_of_queue
 returns-in-Done-clause-end_of_queue g c = HasDrained-end g.S.TokenSink.means _ _ _ _ _ c.loop.invariant.0 c.feed.ensures.end_of_queue

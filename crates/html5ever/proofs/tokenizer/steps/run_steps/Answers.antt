@@ -5,6 +5,9 @@ use Rattle.html5grammar.specs.Reading.{all_messages}
 use Rattle.html5grammar.specs.Start.{start_of}
 use Rattle.html5ever.specs.RunSteps.{step_of, run_text}
 use Rattle.html5ever.specs.Tokenizer.{EndStops, state_at_end}
+use Rattle.html5ever.proofs.ByItems.{whole-items}
+use Rattle.html5ever.specs.Tokenizer.{rules_of}
+use Rattle.std.proofs.Common.{refl}
 use Rattle.html5ever.proofs.tokenizer.steps.run_steps.Goals as goal
 
 pub returns-clause-finishes : goal.returns-clause-finishes
@@ -14,6 +17,12 @@ returns-clause-finishes g c =
     (λ finishes. subst (λ b. g.S.TokenSink.means.state c.take_steps-result.new.tokenizer.sink ≡ state_at_end g.S.TokenSink.means b (start_of (options_of c.args.opts)) (g.S.TokenSink.means.state c.args.sink) (run_text g.S.TokenSink.means b (start_of (options_of c.args.opts)) (g.S.TokenSink.means.state c.args.sink) [] [] (map step_of c.args.steps.items)))
     c.new-tokenizer.ensures.rules (finishes (start_of (options_of c.args.opts)) (g.S.TokenSink.means.state c.args.sink) c.new-tokenizer.ensures.stands))
     c.take_steps-result.ensures.finishes)
+
+pub returns-clause-items : goal.returns-clause-items
+returns-clause-items g c =
+    on_ok_weaker c.take_steps-result.result
+    (whole-items g.S.TokenSink.means (options_of c.args.opts) c.args.names.now (g.S.TokenSink.means.state c.args.sink) _ _ (rules_of (options_of c.args.opts) c.args.names.now) c.table_laws.ensures refl)
+    (returns-clause-finishes g c)
 
 pub returns-clause-stops : goal.returns-clause-stops
 returns-clause-stops g c =

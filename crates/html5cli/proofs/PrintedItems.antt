@@ -1,0 +1,32 @@
+-- A printed reading is the lines of what the items of the text tell.
+use Rattle.std.proofs.Common.{◌≡◌, ℕ, List, ◌++◌, refl, ap, subst}
+use Rattle.std.specs.Io.KnownBytes.{Appends}
+use Rattle.std.specs.Str.{chars}
+use Rattle.html5ever.specs.Tokenizer.{rules_of}
+use Rattle.html5grammar.specs.Start.{start_of}
+use Rattle.html5items.specs.Items.{Composed}
+use Rattle.html5items.proofs.Completeness.{all-composed}
+use Rattle.html5items.proofs.Soundness.{reading-items}
+use Rattle.html5cli.specs.Printing.{printer_means, printed_reading, Traffic, PrintsReading, PrintsItems}
+use Rattle.html5cli.specs.Settings.{SettingsOf}
+use Rattle.markup5ever.specs.NamedReferences.{NamedReference, IsTable}
+use Rattle.token_printer.specs.Page.{blank_page}
+use Rattle.token_printer.specs.Printed.{printed}
+
+pub prints-items : (settings : SettingsOf) (names : List NamedReference) (known : Traffic) → IsTable names → PrintsReading settings names known → PrintsItems settings names known
+unfolding printed_reading
+prints-items settings names known table p =
+    let c : Composed printer_means (rules_of settings.opts names) (start_of settings.opts) (blank_page settings.foreign) (chars p.bytes) =
+    all-composed printer_means (rules_of settings.opts names) (start_of settings.opts) (blank_page settings.foreign) (chars p.bytes) refl in
+    record {
+      bytes = p.bytes;
+      consumed = p.consumed;
+      at_end = p.at_end;
+      utf8 = p.utf8;
+      tells = c.tells;
+      ends = c.ends;
+      items = c.items;
+      printed =
+          subst (λ M. Appends known.written known.after (printed M))
+          (reading-items printer_means (rules_of settings.opts names) (start_of settings.opts) (blank_page settings.foreign) (chars p.bytes) c.tells c.ends table c.items) p.printed;
+    }

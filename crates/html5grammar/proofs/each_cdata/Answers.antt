@@ -1,5 +1,0 @@
-use Rattle.html5grammar.proofs.OneCdataForms.{each-cdata}
-use Rattle.html5grammar.proofs.each_cdata.Goals as goal
-
-pub returns : goal.returns
-returns c = each-cdata

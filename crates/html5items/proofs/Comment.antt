@@ -1,0 +1,8 @@
+-- What is proved of a comment, as it is written.
+pub mod Text
+pub mod Steps
+pub mod Held
+pub mod Reading
+pub mod Collected
+pub mod Forms
+mod Cases

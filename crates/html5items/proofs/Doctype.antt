@@ -1,0 +1,11 @@
+-- What is proved of a doctype, as it is written.
+pub mod Steps
+pub mod Parts
+pub mod Held
+pub mod Spelled
+pub mod Name
+pub mod Reading
+pub mod Collected
+pub mod Forms
+pub mod Open
+mod Cases

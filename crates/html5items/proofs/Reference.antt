@@ -1,0 +1,6 @@
+-- What is proved of a character reference, as it is written.
+pub mod Reading
+pub mod Collected
+pub mod Within
+pub mod Anywhere
+mod Cases

@@ -1,0 +1,11 @@
+-- What is proved of a tag, as it is written.
+pub mod Steps
+pub mod Attributes
+pub mod Stops
+pub mod Values
+pub mod Parts
+pub mod Reading
+pub mod Collected
+pub mod Forms
+pub mod Open
+mod Cases

@@ -1,0 +1,11 @@
+pub mod Spelled
+pub mod Tag
+pub mod Reference
+pub mod RawText
+pub mod Comment
+pub mod Instruction
+pub mod Doctype
+pub mod Cdata
+pub mod Declarations
+pub mod Anywhere
+pub mod Items

@@ -1,0 +1,67 @@
+-- What is told of a source, or handed to a handler, is what the items of its text tell.
+use Rattle.std.proofs.Common.{◌≡◌, ℕ, List, ◌++◌, Option, refl, ap, ◌∙◌}
+use Rattle.std.specs.Str.{chars}
+use Rattle.html5ever_interface.specs.Options.{OptionsOf, default_options}
+use Rattle.html5ever_interface.specs.Sink.{Means, Message}
+use Rattle.html5ever_interface.specs.Token.{TagOf, Told}
+use Rattle.html5grammar.specs.Start.{start_of}
+use Rattle.html5grammar.specs.Reading.{all_messages}
+use Rattle.html5items.specs.Items.{Items, Composed}
+use Rattle.html5items.proofs.Completeness.{all-composed}
+use Rattle.html5items.proofs.Soundness.{reading-items}
+use Rattle.html5ever.specs.Tokenizer.{rules_of}
+use Rattle.html5ever.proofs.ByItems.{whole-items}
+use Rattle.html5stream.specs.Pages.{ReadsPage, ReadsPageItems, tags_means, runs_means, tags_start, runs_start, TagsItems, RunsItems, tags_page, runs_page, tags_handed, runs_handed, tags_behind, runs_behind}
+use Rattle.html5stream.specs.Streams.{ReadsSource, ReadsSourceItems}
+use Rattle.markup5ever.specs.NamedReferences.{NamedReference, IsTable}
+
+module _ {X S H : Type 0} (means : Means X S H) where
+  pub source-items : (opts : OptionsOf) (names : List NamedReference) (s : S) (before after : Option (List ℕ)) (t : S) → IsTable names
+      → ReadsSource means opts names s before after t → ReadsSourceItems means opts names s before after t
+  source-items opts names s before after t table read = record {
+    bytes = read.bytes;
+    given = read.given;
+    at_end = read.at_end;
+    utf8 = read.utf8;
+    told = whole-items means opts names s (chars read.bytes) t (rules_of opts names) table refl read.told;
+  }
+
+-- what a handler makes of a page is what it makes of the messages of its items
+page-items : {S : Type 0} (page : S → List ℕ → List Message) (handed : S → List Message → S) (composes : S → List ℕ → List Message → List Message → Type 0)
+    (unread left : Option (List ℕ)) (before after : S)
+    → ((bytes : List ℕ) → (M : List Message) × (E : List Message) × composes before bytes M E × (page before bytes ≡ M ++ E))
+    → ReadsPage (λ s bytes. handed s (page s bytes)) unread left before after → ReadsPageItems composes handed unread left before after
+page-items page handed composes unread left before after composed read =
+    let c = composed read.bytes in
+    record {
+      bytes = read.bytes;
+      consumed = read.consumed;
+      at_end = read.at_end;
+      utf8 = read.utf8;
+      tells = c.0;
+      ends = c.1;
+      items = c.2;
+      told = read.told ∙ ap (handed before) c.3;
+    }
+
+-- a whole text by the default options
+composed-page : {X S H : Type 0} (means : Means X S H) (names : List NamedReference) (s : S) (text : List ℕ) → IsTable names
+    → (M : List Message) × (E : List Message) × Items means (rules_of default_options names) (start_of default_options) s text M E
+    × (all_messages means (rules_of default_options names) (start_of default_options) s text ≡ M ++ E)
+composed-page means names s text table =
+    let c : Composed means (rules_of default_options names) (start_of default_options) s text = all-composed means (rules_of default_options names) (start_of default_options) s text refl in
+    (c.tells, c.ends, c.items, reading-items means (rules_of default_options names) (start_of default_options) s text c.tells c.ends table c.items)
+
+pub tags-items : {S : Type 0} (step : S → TagOf → ℕ → S) (names : List NamedReference) (unread left : Option (List ℕ)) (before after : S) → IsTable names
+    → ReadsPage (tags_behind step names) unread left before after → ReadsPageItems (TagsItems step names) (tags_handed step) unread left before after
+unfolding tags_page
+tags-items step names unread left before after table =
+    page-items (tags_page step names) (tags_handed step) (TagsItems step names) unread left before after
+    (λ bytes. composed-page (tags_means (λ t. t) step) names (tags_start before) (chars bytes) table)
+
+pub runs-items : {S : Type 0} (step : S → List ℕ → Told → ℕ → S) (names : List NamedReference) (unread left : Option (List ℕ)) (before after : S) → IsTable names
+    → ReadsPage (runs_behind step names) unread left before after → ReadsPageItems (RunsItems step names) (runs_handed step) unread left before after
+unfolding runs_page
+runs-items step names unread left before after table =
+    page-items (runs_page step names) (runs_handed step) (RunsItems step names) unread left before after
+    (λ bytes. composed-page (runs_means (λ t. t) step) names (runs_start before) (chars bytes) table)
