@@ -13,6 +13,7 @@ use Rattle.html5grammar.specs.Doctype.{with_quirks}
 use Rattle.html5grammar.specs.EndOfInput.{late_at_end_of, open_at_end_of, told_at_doctype_end, told_at_end_of, told_at_raw_end, raw_end_error, state_at}
 use Rattle.html5grammar.specs.ErrorText.{end_error_in}
 use Rattle.html5grammar.specs.NormalisedText.{normalised, line_after}
+use Rattle.html5grammar.specs.RawText.{texts}
 use Rattle.html5grammar.specs.Reading.{Event, end_events, late_events, read, reading, told, messages, after}
 use Rattle.html5grammar.specs.Reading.TextPlace.{EndOfInput}
 use Rattle.html5grammar.specs.Start.{Start, Mode, Open, Rules, start_of}
@@ -55,7 +56,8 @@ told_at_end_of-ends rules (InBogusComment text) = (Comment text ∷ [], refl)
 told_at_end_of-ends rules (InInstruction content) = (end_error_in rules.exact state.ProcessingInstruction ∷ Instruction content ∷ [], refl)
 told_at_end_of-ends rules (InDoctype place doctype) = (told_at_doctype_end rules.exact place doctype, refl)
 told_at_end_of-ends rules (InDoctypeKeyword held doctype) = (told_at_doctype_end rules.exact Skipped (with_quirks doctype), refl)
-told_at_end_of-ends rules (InCdata text) = (Text text ∷ end_error_in rules.exact state.CdataSection ∷ [], refl)
+told_at_end_of-ends rules (InCdata held) =
+    (texts held ++ end_error_in rules.exact state.CdataSection ∷ [], sym (append_assoc (texts held) (end_error_in rules.exact state.CdataSection ∷ []) (End ∷ [])))
 told_at_end_of-ends rules (InReference (InText mode) held) = between-ends rules.exact mode
 told_at_end_of-ends rules (InReference (InAttribute kind tag) held) = (end_error_in rules.exact (state_at (InValue kind)) ∷ [], refl)
 

@@ -34,7 +34,7 @@ unfolding said_after
 said_after-flag s t w [] flag no_value = rw flag refl
 said_after-flag s t w (v ∷ W) flag no_value = rw (flag, no_value v) (option_or-none (said_after t (v ∷ W)))
 
--- a word that wants a value, and has none behind it
+-- a word that wants a value, and has none after it
 pub said_after-no_value : (s : SettingsOf) (w : List ℕ) → flag_said s w ≡ None → said_after s (w ∷ []) ≡ None
 unfolding said_after
 said_after-no_value s w no_flag = rw no_flag refl
@@ -131,7 +131,7 @@ module _ {Z : Type 0} (s : SettingsOf) (texts rest : List (String Z)) (word : St
     pub read-bad_value : value_said s w (string_bytes value) ≡ None → None ≡ all
     read-bad_value said = sym (ap (λ o. option_and_then (λ t. said_after t (map string_bytes later)) o) said) ∙ value_first
 
--- behind the last word
+-- after the last word
 module _ {Z : Type 0} (s : SettingsOf) (texts : List (String Z)) (all : Option SettingsOf) (h : said_after s (map string_bytes texts) ≡ all) (e : texts ≡ []) where
   pub read-end : Some s ≡ all
   unfolding said_after

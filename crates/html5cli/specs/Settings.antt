@@ -83,7 +83,7 @@ flag_said s word =
     else if bytes_eq word (codes "--foreign") then Some (with_foreign s)
     else None
 
--- a word with a value behind it
+-- a word with a value after it
 unfoldable pub value_said : SettingsOf → List ℕ → List ℕ → Option SettingsOf
 value_said s word value =
     if bytes_eq word (codes "--state") then option_map (with_state s) (state_said value)
@@ -92,7 +92,7 @@ value_said s word value =
     else if bytes_eq word (codes "--table") then option_map (with_table s) (listed value)
     else None
 
--- what the words say behind those that said s, if they say anything
+-- what the words say after those that said s, if they say anything
 unfoldable pub said_after : SettingsOf → List (List ℕ) → Option SettingsOf
 said_after s [] = Some s
 said_after s (word ∷ []) = option_and_then (λ t. said_after t []) (flag_said s word)

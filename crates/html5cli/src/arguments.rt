@@ -10,7 +10,7 @@ use html5ever_interface::states::{RawKind, State};
 use html5table::{has_form, profile};
 use std::alloc::Allocator;
 
-/// The settings that the words behind the program's name say, if they are ones that it knows. Of an
+/// The settings that the words after the program's name say, if they are ones that it knows. Of an
 /// option that is given more than once the last counts.
 pub fn settings_of<A: Allocator>(words: &[String<A>]) -> Option<Settings<'_>>
     ensures said { option_map said_by result ≡ settings_said (map string_bytes words.now) }

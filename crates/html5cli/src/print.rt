@@ -99,7 +99,7 @@ fn begun_within(bytes: &[u8], from: usize) -> usize
     usize::from(begun)
 }
 
-// The place behind `count` characters that begin at this place or behind it, or the end.
+// The place after `count` characters that begin at this place or after it, or the end.
 #[inline(always)]
 fn place_behind(text: &str, from: usize, count: usize) -> usize
     requires within { from ≤ length text.now }

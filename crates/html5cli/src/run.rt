@@ -172,7 +172,7 @@ pub fn report<E: Target>(errors: &mut E, ending: Ending) -> u8
     ending.status()
 }
 
-/// Runs the program: `words` are those behind its name. Answers the status that the process ends with.
+/// Runs the program: `words` are those after its name. Answers the status that the process ends with.
 pub fn run<R: Source, W: Target, E: Target, A: Allocator + Copy>(
     alloc: A,
     words: Vec<String<A>, A>,

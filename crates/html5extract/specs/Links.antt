@@ -42,6 +42,6 @@ abbrev pub line_of : ℕ → Option (List ℕ) → List ℕ
 line_of line None = []
 line_of line (Some link) = decimal line ++ codes " " ++ flat_map kept link ++ codes "\n"
 
--- what was printed behind a tag
+-- what was printed after a tag
 abbrev pub links_step : List ℕ → TagOf → ℕ → List ℕ
 links_step printed tag line = printed ++ line_of line (link_of tag)

@@ -29,12 +29,12 @@ reading_of showing = record { printed = showing.printer.printed; within = showin
 unfoldable pub is_skipped : List ℕ → Bool
 is_skipped name = bytes_eq name (codes "script") || bytes_eq name (codes "style")
 
--- whether behind a tag of this kind and name one is open
+-- whether after a tag of this kind and name one is open
 abbrev pub opens : TagKind → List ℕ → Bool
 opens StartTag name = is_skipped name
 opens EndTag name = false
 
--- whether behind a token one is open
+-- whether after a token one is open
 abbrev pub within_behind : Bool → Told → Bool
 within_behind within (Tag tag) = opens tag.kind tag.name
 within_behind within other = within
@@ -43,6 +43,6 @@ within_behind within other = within
 abbrev pub shown : Bool → List ℕ → List ℕ
 shown within run = if within then [] else run
 
--- a run and the token behind it
+-- a run and the token after it
 abbrev pub text_step : Reading → List ℕ → Told → ℕ → Reading
 text_step s run told line = record { printed = s.printed ++ shown s.within run; within = within_behind s.within told }

@@ -17,7 +17,7 @@ fn is_skipped(name: &str) -> bool
     matches!(name, "script" | "style")
 }
 
-// Whether behind a token a script or a style is open.
+// Whether after a token a script or a style is open.
 fn is_within_behind<A: Allocator>(within: bool, token: &Token<A>) -> bool
     ensures { result ≡ within_behind within (told_by token.now) }
 {

@@ -1,5 +1,10 @@
 -- Reading one character: what the machine tells of it, with the error of a bad character in front.
-use Rattle.std.proofs.Common.{◌≡◌, ℕ, false, List, [], ◌∷◌, ◌++◌, refl, ap, sym, ◌∙◌, Result, Err}
+use Rattle.std.proofs.Common.{◌≡◌, ℕ, Bool, true, false, List, [], ◌∷◌, ◌++◌, length, refl, ap, sym, ◌∙◌, Result, Err}
+use Rattle.std.specs.Prelude.{◌==◌, encode_utf8_all}
+use Rattle.std.specs.Str.{IsUtf8, chars}
+use Rattle.std.proofs.lemmas.Bool.{false≢true, eqb-true}
+use Rattle.std.proofs.lemmas.List.{nil_from_length}
+use Rattle.std.proofs.lemmas.Str.{chars-nil, encodes-chars}
 use Rattle.std.proofs.lemmas.List.{append-nil, append_assoc, map-append}
 use Rattle.html5ever_interface.specs.Sink.{Means, Message, stepped, on_line}
 use Rattle.html5ever_interface.specs.Token.{Told, TagOf, Reply}
@@ -19,7 +24,7 @@ use Rattle.html5grammar.specs.Machine.{step_at, messages_here, opened_here, last
 use Rattle.html5ever_interface.proofs.Steppings.{stepped-append}
 use Rattle.html5ever_interface.specs.Token.{DoctypeOf}
 use Rattle.std.proofs.Common.{◌≤◌, ◌≢◌}
-use Rattle.html5opened.specs.CurrentTag.{open_of, behind_doctype_name, last_name_of}
+use Rattle.html5opened.specs.CurrentTag.{open_of, is_between, behind_doctype_name, last_name_of}
 use Rattle.html5opened.specs.Steps.{tokens_of, Next, behind}
 use Rattle.html5opened.specs.Steps.Next.{Opens, Closes}
 use Rattle.html5opened.specs.declared.opened.Opened.{Opened}
@@ -72,6 +77,17 @@ closes-open (TellsTag told ended) tag later e = cc
 behind_name≢data : (held : List ℕ) (d : DoctypeOf) → behind_doctype_name held d ≢ Between Data
 behind_name≢data [] d = λ e. cc
 behind_name≢data (c ∷ held) d = λ e. cc
+
+-- no text of a section is held where there are no bytes of it
+section-filled : (held : List ℕ) → held ≢ [] → is_between state.CdataSection held ≡ false
+section-filled [] filled = absurd (filled refl)
+section-filled (c ∷ held) filled = refl
+
+pub section-between : (text : List ℕ) → IsUtf8 text → (t : Bool) → (length text == 0) ≡ t → t ≡ is_between state.CdataSection (chars text)
+section-between text utf8 true e =
+    sym (ap (λ l. is_between state.CdataSection (chars l)) (nil_from_length text (eqb-true (length text) 0 e)) ∙ ap (is_between state.CdataSection) chars-nil)
+section-between text utf8 false e =
+    sym (section-filled (chars text) (λ none. false≢true (sym e ∙ ap (λ l. length l == 0) (sym (encodes-chars text utf8) ∙ ap encode_utf8_all none))))
 
 section≢data : (held : List ℕ) → open_cdata held ≢ Between Data
 section≢data [] = λ e. cc

@@ -1,6 +1,7 @@
 pub mod RunLemmas
 pub mod Pauses
 pub mod QueueReading
+pub mod QuietReading
 pub mod CharacterReading
 pub mod UndecidedReading
 pub mod Starting

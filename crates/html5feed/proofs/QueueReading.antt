@@ -7,7 +7,6 @@ use Rattle.html5grammar.specs.Reading.{messages_so_far, state_after, start_after
 use Rattle.html5feed.specs.Runs.{ReadsRun}
 use Rattle.html5ever_interface.specs.Sink.{Means, Message, stepped, on_line}
 use Rattle.html5grammar.specs.Start.{Start, Open, is_clean, Rules}
-use Rattle.html5grammar.specs.Start.Open.{Between, LessThan, LessThanSolidus, InTag, InRaw, InDeclaration, InComment, InBogusComment, InInstruction, InDoctype, InDoctypeKeyword, InCdata, InReference}
 use Rattle.html5states.specs.Telling.{Stops, IsRefusal}
 use Rattle.html5grammar.specs.NormalisedText.{input_after}
 use Rattle.std.specs.Result.{IsErrAnd}
@@ -15,7 +14,6 @@ use Rattle.std.proofs.Common.{Result, Ok, Err}
 use Rattle.html5ever_interface.specs.Token.{Told, Reply, is_tag}
 use Rattle.html5ever_interface.specs.Token.Told.{Text}
 use Rattle.html5ever_interface.specs.Token.Reply.{KeepOn}
-use Rattle.std.proofs.lemmas.Bool.{false≢true}
 use Rattle.html5feed.specs.Feed.{Feed, pauses, takes_before, first_pause, feed, IsEndOf}
 use Rattle.html5feed.specs.Refused.{IsRun, IsItem, RefusedBehind}
 use Rattle.html5opened.specs.Runs.{run_tokens, opened_after_run}
@@ -25,56 +23,17 @@ use Rattle.std.specs.Prelude.{OnOk, IsNone}
 use Rattle.html5feed.proofs.Pauses.{told_beyond-behind, state_behind-append, pause_here, feed-goes_on, feed-takes, feed-pauses}
 use Rattle.html5opened.specs.declared.error.TokenizerError.{TokenizerError}
 use Rattle.html5opened.specs.declared.error.TokenizerError.TheVariants.{Memory, Sink, Failed}
-use Rattle.html5grammar.proofs.ReadingLemmas.{told-nil, told-append, after-nil, after-append}
+use Rattle.html5quiet.proofs.Runs.{run_tokens-open}
+use Rattle.html5grammar.proofs.ReadingLemmas.{clean-mode, told-nil, told-append, after-nil, after-append}
 use Rattle.html5opened.proofs.Keywords.{cons≢nil}
 use Rattle.html5states.proofs.Tellings.{Memory-at_once, stops_before, stops_after}
 
 -- between tags a run tells its characters and opens nothing
 opened_after_run-clean : (opened : Open) (run : List ℕ) → is_clean opened ≡ true → opened_after_run opened run ≡ opened
-opened_after_run-clean (Between mode) run clean = refl
-opened_after_run-clean LessThan run clean = absurd (false≢true clean)
-opened_after_run-clean LessThanSolidus run clean = absurd (false≢true clean)
-opened_after_run-clean (InTag place tag) run clean = absurd (false≢true clean)
-opened_after_run-clean (InRaw place name) run clean = absurd (false≢true clean)
-opened_after_run-clean (InDeclaration held) run clean = absurd (false≢true clean)
-opened_after_run-clean (InComment text) run clean = absurd (false≢true clean)
-opened_after_run-clean (InBogusComment text) run clean = absurd (false≢true clean)
-opened_after_run-clean (InInstruction content) run clean = absurd (false≢true clean)
-opened_after_run-clean (InCdata text) run clean = absurd (false≢true clean)
-opened_after_run-clean (InDoctype place doctype) run clean = absurd (false≢true clean)
-opened_after_run-clean (InDoctypeKeyword held doctype) run clean = absurd (false≢true clean)
-opened_after_run-clean (InReference stand held) run clean = absurd (false≢true clean)
+opened_after_run-clean opened run clean = let is = clean-mode opened clean in rw is.1 refl
 
 run_tokens-clean : (opened : Open) (run : List ℕ) → is_clean opened ≡ true → run_tokens opened run ≡ map (λ (c : ℕ). Text (encode_utf8 c)) run
-run_tokens-clean (Between mode) run clean = refl
-run_tokens-clean LessThan run clean = absurd (false≢true clean)
-run_tokens-clean LessThanSolidus run clean = absurd (false≢true clean)
-run_tokens-clean (InTag place tag) run clean = absurd (false≢true clean)
-run_tokens-clean (InRaw place name) run clean = absurd (false≢true clean)
-run_tokens-clean (InDeclaration held) run clean = absurd (false≢true clean)
-run_tokens-clean (InComment text) run clean = absurd (false≢true clean)
-run_tokens-clean (InBogusComment text) run clean = absurd (false≢true clean)
-run_tokens-clean (InInstruction content) run clean = absurd (false≢true clean)
-run_tokens-clean (InCdata text) run clean = absurd (false≢true clean)
-run_tokens-clean (InDoctype place doctype) run clean = absurd (false≢true clean)
-run_tokens-clean (InDoctypeKeyword held doctype) run clean = absurd (false≢true clean)
-run_tokens-clean (InReference stand held) run clean = absurd (false≢true clean)
-
--- within a tag or a comment it tells nothing
-run_tokens-open : (opened : Open) (run : List ℕ) → is_clean opened ≡ false → run_tokens opened run ≡ []
-run_tokens-open (Between mode) run not_clean = absurd (false≢true (sym not_clean))
-run_tokens-open LessThan run not_clean = refl
-run_tokens-open LessThanSolidus run not_clean = refl
-run_tokens-open (InTag place tag) run not_clean = refl
-run_tokens-open (InRaw place name) run not_clean = refl
-run_tokens-open (InDeclaration held) run not_clean = refl
-run_tokens-open (InComment text) run not_clean = refl
-run_tokens-open (InBogusComment text) run not_clean = refl
-run_tokens-open (InInstruction content) run not_clean = refl
-run_tokens-open (InCdata text) run not_clean = refl
-run_tokens-open (InDoctype place doctype) run not_clean = refl
-run_tokens-open (InDoctypeKeyword held doctype) run not_clean = refl
-run_tokens-open (InReference stand held) run not_clean = refl
+run_tokens-clean opened run clean = let is = clean-mode opened clean in rw is.1 refl
 
 pub on_ok : {T E : Type 0} {P : Type 0} (r : Result T E) → P → OnOk r P
 on_ok (Ok x) p = p

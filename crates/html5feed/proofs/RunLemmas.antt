@@ -1,13 +1,11 @@
 -- A run tells its characters on the line that is reached, and leaves the tokenizer where it stands.
 use Rattle.html5grammar.specs.Reading.Here.{Tells}
 use Rattle.html5grammar.specs.Machine.{step_at}
-use Rattle.std.proofs.Common.{◌≡◌, ◌≢◌, ℕ, ◌<◌, ◌^◌, Bool, false, cond, List, [], ◌∷◌, ◌++◌, refl, ap, sym, ◌∙◌, arith, Option, None, Some, true, zero, suc, length, length-take-le, take, drop, subst, ◌↔◌}
+use Rattle.std.proofs.Common.{◌≡◌, ◌≢◌, ℕ, ◌<◌, ◌^◌, Bool, false, cond, List, [], ◌∷◌, ◌++◌, refl, ap, sym, ◌∙◌, arith, Some, true, take, drop, subst, ◌↔◌}
 use Rattle.std.specs.Prelude.{map, ◌==◌, All, Contains, encode_utf8, is_some, IfSome}
 use Rattle.std.specs.Str.{IsUtf8, chars}
-use Rattle.std.proofs.lemmas.Bool.{ne_eqb, false≢true}
-use Rattle.std.proofs.lemmas.Str.{IsUtf8-take, IsCharBoundary-from_drop}
+use Rattle.std.proofs.lemmas.Bool.{ne_eqb}
 use Rattle.markup5ever.specs.SmallCharSet.{IsMember, BeginsOutside}
-use Rattle.markup5ever.proofs.TextLemmas.{filled_chars}
 use Rattle.std.proofs.lemmas.List.{append_assoc, append-nil, map-append}
 use Rattle.std.proofs.lemmas.List.Elements.{All-head, All-tail, All-weaker}
 use Rattle.std.proofs.lemmas.List.Sums.{sum_by-append}
@@ -15,34 +13,30 @@ use Rattle.html5ever_interface.specs.Sink.{Means, Message, stepped, on_line}
 use Rattle.html5ever_interface.specs.Token.{Told, is_tag}
 use Rattle.html5ever_interface.specs.Token.Reply.{KeepOn}
 use Rattle.html5ever_interface.specs.Token.Told.{Text}
-use Rattle.html5grammar.specs.Characters.{null, line_feed, carriage_return}
+use Rattle.html5grammar.specs.Characters.{line_feed, carriage_return}
 use Rattle.html5grammar.specs.NormalisedText.{with_line_feeds, without_dropped_first, normalised, line_after, input_after, ends_with_carriage_return}
 use Rattle.html5grammar.specs.Reading.{messages_so_far, start_after}
-use Rattle.html5grammar.specs.Start.{Input, Start, Open, Rules, is_undecided_open}
+use Rattle.html5grammar.specs.Start.{Input, Start, Open, Rules}
 use Rattle.html5grammar.specs.Start.Open.{Between, LessThan, LessThanSolidus, InTag, InRaw, InDeclaration, InComment, InBogusComment, InInstruction, InDoctype, InDoctypeKeyword, InCdata, InReference}
 use Rattle.html5grammar.proofs.InputLemmas.{line_past, line_after-none}
 use Rattle.html5grammar.proofs.NoTags.{NoTags}
 use Rattle.html5grammar.proofs.ReadingLemmas.{told-trace, after-opened, after-last}
 use Rattle.html5grammar.proofs.Traces.{Trace, trace, trace_here, with_messages, brought-tells, trace_brought}
 use Rattle.html5opened.specs.Runs.{other_run_ends, run_ends, run_tokens, opened_after_run}
-use Rattle.html5opened.proofs.RunSteps.{step-run, run_tokens-nil, run_tokens-cons, opened_after_run-nil, opened_after_run-cons, other_run_ends-after, no_null, no_line_feed, no_carriage_return}
+use Rattle.html5opened.proofs.RunSteps.{step-run, run_tokens-nil, run_tokens-cons, opened_after_run-nil, opened_after_run-cons, other_run_ends-after, no_line_feed, no_carriage_return}
+use Rattle.html5quiet.proofs.Runs as quiet
+use Rattle.html5quiet.proofs.Runs.{run-decided, some_of}
 use Rattle.html5feed.specs.Feed.{first_pause}
 use Rattle.html5feed.specs.Refused.{IsRun}
 use Rattle.html5feed.proofs.Pauses.{first_pause-no_tags, no_tag_messages}
 
--- a character that is neither NUL nor part of a line break
+-- a character that is no part of a line break
 pub record IsOrdinary (c : ℕ) : Type 0 where
-  pub no_null : c ≢ null
   pub no_line_feed : c ≢ line_feed
   pub no_carriage_return : c ≢ carriage_return
 
-positive : (n : ℕ) → n ≢ 0 → 0 < n
-positive zero some = absurd (some refl)
-positive (suc n) some = omega arith
-
 ordinary : (others : List ℕ) (c : ℕ) → ¬ Contains (run_ends others) c → IsOrdinary c
 ordinary others c out = record {
-  no_null = no_null others c out;
   no_line_feed = no_line_feed others c out;
   no_carriage_return = no_carriage_return others c out;
 }
@@ -57,10 +51,14 @@ with_line_feeds-run (c ∷ run) all =
     rw (ne_eqb c carriage_return (All-head IsOrdinary c run all).no_carriage_return)
     (ap (λ l. c ∷ l) (with_line_feeds-run run (All-tail IsOrdinary c run all)))
 
-normalised-run : (rules : Rules) (K : Start) (run : List ℕ) → IsRun rules K run → normalised K.input run ≡ run
+-- such characters come in as they are, where none is dropped
+pub normalised-ordinary : (I : Input) (run : List ℕ) → I.after_carriage_return ≡ false → I.drops_byte_order_mark ≡ false → All IsOrdinary run → normalised I run ≡ run
 unfolding normalised without_dropped_first
-normalised-run rules K [] r = with_line_feeds-run [] (all_ordinary rules K [] r)
-normalised-run rules K (c ∷ run) r = rw (r.past_line_break, r.past_stream_start) (with_line_feeds-run (c ∷ run) (all_ordinary rules K (c ∷ run) r))
+normalised-ordinary I [] line_break start all = with_line_feeds-run [] all
+normalised-ordinary I (c ∷ run) line_break start all = rw (line_break, start) (with_line_feeds-run (c ∷ run) all)
+
+normalised-run : (rules : Rules) (K : Start) (run : List ℕ) → IsRun rules K run → normalised K.input run ≡ run
+normalised-run rules K run r = normalised-ordinary K.input run r.past_line_break r.past_stream_start (all_ordinary rules K run r)
 
 ends-run : (b : Bool) (run : List ℕ) → b ≡ false → All IsOrdinary run → ends_with_carriage_return b run ≡ false
 unfolding ends_with_carriage_return
@@ -81,48 +79,38 @@ line_after-run I before (c ∷ run) all =
     ∙ line_after-run I (before ++ c ∷ []) run (All-tail IsOrdinary c run all)
     ∙ line_after-ordinary I before c (All-head IsOrdinary c run all)
 
-line_past-ordinary : (line c : ℕ) → IsOrdinary c → line < 2 ^ 64 → line_past line c ≡ line
+pub line_past-ordinary : (line c : ℕ) → IsOrdinary c → line < 2 ^ 64 → line_past line c ≡ line
 unfolding line_past
 line_past-ordinary line c o h = rw (ne_eqb c line_feed o.no_line_feed) (omega (arith, h))
 
-input_after-run : (rules : Rules) (K : Start) (run : List ℕ) → IsRun rules K run → K.input.line < 2 ^ 64 → input_after K.input run ≡ K.input
+-- and leave the input as it is
+pub input_after-ordinary : (I : Input) (run : List ℕ) → I.after_carriage_return ≡ false → I.drops_byte_order_mark ≡ false → All IsOrdinary run → I.line < 2 ^ 64 → input_after I run ≡ I
 unfolding input_after
-input_after-run rules K [] r h = refl
-input_after-run rules K (c ∷ run) r h =
-    let same : (line : ℕ) (b d : Bool) → line ≡ K.input.line → b ≡ K.input.after_carriage_return → d ≡ K.input.drops_byte_order_mark
-    → record { line = line; after_carriage_return = b; drops_byte_order_mark = d } ≡ K.input =
+input_after-ordinary I [] line_break start all h = refl
+input_after-ordinary I (c ∷ run) line_break start all h =
+    let same : (line : ℕ) (b d : Bool) → line ≡ I.line → b ≡ I.after_carriage_return → d ≡ I.drops_byte_order_mark
+    → record { line = line; after_carriage_return = b; drops_byte_order_mark = d } ≡ I =
     λ line b d l e f. rw (l, e, f) refl in
-    same (line_after K.input (normalised K.input (c ∷ run))) (ends_with_carriage_return false (c ∷ run)) false
-    (ap (line_after K.input) (normalised-run rules K (c ∷ run) r) ∙ line_after-run K.input [] (c ∷ run) (all_ordinary rules K (c ∷ run) r) ∙ line_after-none K.input h)
-    (ends-run false (c ∷ run) refl (all_ordinary rules K (c ∷ run) r) ∙ sym r.past_line_break)
-    (sym r.past_stream_start)
+    same (line_after I (normalised I (c ∷ run))) (ends_with_carriage_return false (c ∷ run)) false
+    (ap (line_after I) (normalised-ordinary I (c ∷ run) line_break start all) ∙ line_after-run I [] (c ∷ run) all ∙ line_after-none I h)
+    (ends-run false (c ∷ run) refl all ∙ sym line_break)
+    (sym start)
+
+input_after-run : (rules : Rules) (K : Start) (run : List ℕ) → IsRun rules K run → K.input.line < 2 ^ 64 → input_after K.input run ≡ K.input
+input_after-run rules K run r h = input_after-ordinary K.input run r.past_line_break r.past_stream_start (all_ordinary rules K run r) h
 
 -- the beginning of a text that is outside the set is a run, where the set has what ends one
-some_of : {X : Type 0} (o : Option X) → is_some o ≡ true → (x : X) × (o ≡ Some x)
-some_of (Some x) has = (x, refl)
-some_of None has = absurd (false≢true has)
-
 pub run-begins : (rules : Rules) (K : Start) (set : ℕ) (text : List ℕ) (len : ℕ) → rules.exact ≡ false
     → (K.input.after_carriage_return ≡ false) × (K.input.drops_byte_order_mark ≡ false)
     → is_some (other_run_ends K.opened) ≡ true
     → IfSome (other_run_ends K.opened) (λ others. (c : ℕ) → IsMember set c ↔ Contains (run_ends others) c)
     → IsUtf8 text → BeginsOutside set text len → len ≢ 0 → IsRun rules K (chars (take len text))
-run-begins rules K set text len not_exact past has ends utf8 begins some =
-    let found = some_of (other_run_ends K.opened) has in
-    let same : (c : ℕ) → IsMember set c ↔ Contains (run_ends found.0) c = rw found.1 at ends in
-    let run_utf8 : IsUtf8 (take len text) = IsUtf8-take text len utf8 (IsCharBoundary-from_drop text len begins.within begins.rest_utf8) in
-    let width : length (take len text) ≡ len = length-take-le len text begins.within in
-    record {
-      not_exact = not_exact;
-      past_line_break = past.0;
-      past_stream_start = past.1;
-      is_run = record {
-        others = found.0;
-        has_runs = found.1;
-        filled = λ none. absurd (omega (arith, filled_chars (take len text) run_utf8 (rw width (positive len some)), ap length none));
-        ordinary = All-weaker (λ c. ¬ IsMember set c) (λ c. ¬ Contains (run_ends found.0) c) (λ c out. λ contained. out ((same c).1 contained)) (chars (take len text)) begins.outside;
-      };
-    }
+run-begins rules K set text len not_exact past has ends utf8 begins some = record {
+  not_exact = not_exact;
+  past_line_break = past.0;
+  past_stream_start = past.1;
+  is_run = quiet.run-begins K.opened set text len has ends utf8 begins some;
+}
 
 -- where the first character of a text ends no run, a run is found
 pub run-found : (K : Start) (set : ℕ) (text : List ℕ) (len : ℕ)
@@ -160,13 +148,6 @@ no_tags-run (InReference stand held) run = tt
 trace_is : {M N : List Message} {o p : Open} {last : List ℕ} → M ≡ N → o ≡ p
     → ◌≡◌ {A = Trace} (record { messages = M; opened = o; last_start_tag = last }) (record { messages = N; opened = p; last_start_tag = last })
 trace_is e f = rw (e, f) refl
-
--- nothing is undecided where runs are read
-run-decided : (opened : Open) (others : List ℕ) → other_run_ends opened ≡ Some others → is_undecided_open opened ≡ false
-run-decided (InReference stand held) others has = cc
-run-decided (InDeclaration held) others has = cc
-run-decided (InDoctypeKeyword held d) others has = cc
-run-decided opened others has = refl
 
 module _ {X S H : Type 0} (means : Means X S H) where
   trace-run : (rules : Rules) → rules.exact ≡ false → (s : S) (line : ℕ) (last : List ℕ) (opened : Open) (others run : List ℕ) → line < 2 ^ 64 → other_run_ends opened ≡ Some others

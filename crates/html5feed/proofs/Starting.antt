@@ -2,6 +2,8 @@
 use Rattle.std.proofs.Common.{◌≡◌, string_bytes, [], refl, ap, ◌∙◌}
 use Rattle.std.specs.Prelude.{Option, None, Some}
 use Rattle.std.specs.Option.{unwrap_or}
+use Rattle.std.specs.Str.{chars}
+use Rattle.std.proofs.lemmas.Str.{chars-nil}
 use Rattle.html5ever_interface.specs.declared.states.State.{State}
 use Rattle.html5ever_interface.specs.declared.states.State.TheVariants as state
 use Rattle.html5grammar.specs.Cdata.{open_cdata}
@@ -18,7 +20,7 @@ starts-mode None at none can = refl
 starts-mode (Some state.Data) at none can = refl
 starts-mode (Some state.Plaintext) at none can = refl
 starts-mode (Some (state.RawData kind)) at none can = refl
-starts-mode (Some state.CdataSection) at none can = ap open_cdata none
+starts-mode (Some state.CdataSection) at none can = ap (λ l. open_cdata (chars l)) none ∙ ap open_cdata chars-nil
 starts-mode (Some other) at none can = absurd cc
 
 pub starts-in : {Z : Type 0} → (chosen : Option State) (at : Opened Z) → at.state ≡ unwrap_or chosen state.Data → string_bytes at.comment ≡ [] → CanStart chosen

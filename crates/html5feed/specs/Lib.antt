@@ -3,3 +3,4 @@ pub mod Refused
 pub mod Runs
 pub mod Starting
 pub mod Undecided
+pub mod Quiet

@@ -1,7 +1,7 @@
 //! Where a tokenizer stands in its stream.
 #![tactic(auto, unfolding(html5opened::specs::CharRef::with_reference))]
 
-ghost use Rattle.std.specs.Prelude.{◌≡◌, ◌≢◌, ◌^◌, ◌<◌, ◌≤◌, ◌+◌, ℕ, List, ◌∷◌, [], true, false, length, take, drop, Contains, IfErr, IfSome, OnOk, option_map, string_bytes};
+ghost use Rattle.std.specs.Prelude.{◌≡◌, ◌≢◌, ◌^◌, ◌<◌, ◌≤◌, ◌+◌, ℕ, List, ◌∷◌, [], true, false, length, take, drop, Contains, IfOk, IfErr, IfSome, OnOk, option_map, string_bytes};
 ghost use Rattle.html5ever_interface.specs.Options.{options_of};
 ghost use Rattle.html5ever_interface.specs.Sink.{on_line};
 ghost use Rattle.html5ever_interface.specs.Token.{tag_of};
@@ -18,6 +18,7 @@ ghost use Rattle.html5feed.specs.Refused.{IsRun};
 ghost use Rattle.html5opened.specs.Runs.{IsRunAt, other_run_ends, run_ends, opened_after_run};
 ghost use Rattle.std.specs.Str.{IsUtf8, chars};
 ghost use Rattle.html5states.specs.Telling.{Emits, Tells, IsRefusal, tokens_in, faults_of};
+ghost use Rattle.html5feed.specs.Quiet.{IsQuietText, StopsAtCharacter};
 ghost use Rattle.html5feed.specs.Starting.{CanStart};
 ghost use Rattle.html5feed.specs.Undecided.{rules_with};
 
@@ -34,6 +35,7 @@ use html5opened::error::TokenizerError;
 use html5opened::keyword::holds_keyword;
 use html5opened::opened::Opened;
 use html5opened::runs::{push_run, run_ends};
+use html5quiet::texts::{Refused, read_quietly};
 use html5states::teller::Teller;
 use markup5ever::data::NamedReferences;
 use std::alloc::{AllocError, Allocator, Global};
@@ -269,6 +271,35 @@ impl<A: Allocator + Copy> Position<A> {
         teller.tell(Token::CharacterTokens(run))
     }
 
+    /// Reads a text, from its front, as long as its characters tell nothing; none where errors are
+    /// exact, where a reference is open, or where a first character may be dropped. Answers how many
+    /// bytes it read.
+    #[inline(always)]
+    pub fn read_quietly(
+        &mut self,
+        alloc: A,
+        rules: &Rules<'_, A>,
+        text: &str,
+    ) -> Result<usize, Refused>
+        ensures within { IfOk result (λ bytes. bytes ≤ length text.now) }
+        ensures rest_utf8 { IfOk result (λ bytes. IsUtf8 (drop bytes text.now)) }
+        ensures quiet { IfOk result (λ bytes. bytes ≢ 0
+            → IsQuietText rules.now self.old (chars (take bytes text.now)) self.new.opened) }
+        ensures none { IfOk result (λ bytes. bytes ≡ 0 → self.new.opened ≡ self.old.opened) }
+        ensures refused_within { IfErr result (λ refused. refused.bytes ≤ length text.now) }
+        ensures refused_utf8 { IfErr result (λ refused. IsUtf8 (drop refused.bytes text.now)) }
+        ensures refused { IfErr result (λ refused.
+            StopsAtCharacter rules.now self.old (chars (take refused.bytes text.now))) }
+        ensures last { self.new.last_start_tag ≡ self.old.last_start_tag }
+        ensures input { self.new.input ≡ self.old.input }
+        ensures held { held_len self.new.opened ≤ held_len self.old.opened }
+    {
+        if rules.exact_errors || self.in_reference || !self.input.is_past_start() {
+            return Ok(0);
+        }
+        read_quietly(&mut self.opened, alloc, text)
+    }
+
     /// Puts a run to the open name, value or comment.
     #[inline(always)]
     pub fn push_run(&mut self, run: &str) -> Result<(), TokenizerError>
@@ -298,7 +329,7 @@ fn name_or_empty<A: Allocator>(alloc: A, name: Option<String<A>>) -> String<A>
 // Whether nothing is open in the state, where no reference is and this is held of a CDATA section.
 #[inline(always)]
 fn is_between(state: State, held: &str) -> bool
-    ensures { result ≡ is_between state held.now }
+    ensures { result ≡ is_between state (chars held.now) }
 {
     match state {
         State::Data | State::Plaintext | State::RawData(_) => true,

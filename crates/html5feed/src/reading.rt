@@ -1,9 +1,10 @@
 //! Reading the queue.
-ghost use Rattle.std.specs.Prelude.{◌≡◌, ◌^◌, ◌+◌, ◌<◌, ◌≤◌, [], true, IsOk, IfOk, IfErr, OnOk, length, take, drop, encode_utf8_all, string_bytes};
+ghost use Rattle.std.specs.Prelude.{◌≡◌, ◌≢◌, ◌^◌, ◌+◌, ◌<◌, ◌≤◌, [], true, IsOk, IfOk, IfErr, OnOk, length, take, drop, encode_utf8_all, string_bytes};
 ghost use Rattle.std.specs.Str.{IsUtf8, chars};
 ghost use Rattle.html5grammar.specs.Reading.{messages_so_far, start_after};
 ghost use Rattle.html5grammar.specs.Start.{is_clean, held_len};
 ghost use Rattle.html5feed.specs.Feed.{IsEndOf, reply_in, feed};
+ghost use Rattle.html5feed.specs.Quiet.{TakesQuietly};
 ghost use Rattle.html5feed.specs.Refused.{IsRun, RefusedBehind};
 ghost use Rattle.html5feed.specs.Runs.{ReadsRun};
 ghost use Rattle.html5states.specs.Telling.{Tells, IsRefusal, faults_of};
@@ -76,6 +77,38 @@ fn read_waiting_run<S: TokenSink<Token<A>>, A: Allocator + Copy>(
     read
 }
 
+// Reads the characters with which the queue's text begins, as long as they tell nothing. One for
+// which memory is refused leaves the queue, too.
+#[inline(always)]
+fn read_waiting_quietly<A: Allocator + Copy>(
+    alloc: A,
+    rules: &Rules<'_, A>,
+    position: &mut Position<A>,
+    queue: &mut BufferQueue<A>,
+) -> Result<(), TokenizerError>
+    ensures reads { TakesQuietly rules.now result position.old position.new queue.old queue.new }
+    ensures memory { IfErr result (λ error. error ≡ TokenizerError.Memory) }
+    ensures filled { IfErr result (λ error. queue.old.text ≢ []) }
+    ensures held { held_len position.new.opened + length queue.new.text
+        ≤ held_len position.old.opened + length queue.old.text }
+{
+    let text = queue.front_text();
+    if text.is_empty() {
+        return Ok(());
+    }
+    match position.read_quietly(alloc, rules, text) {
+        Ok(0) => Ok(()),
+        Ok(bytes) => {
+            queue.skip(bytes);
+            Ok(())
+        }
+        Err(refused) => {
+            queue.skip(refused.bytes);
+            Err(TokenizerError::Memory)
+        }
+    }
+}
+
 /// Reads what waits in the queue, up to the first tag whose reply pauses.
 pub fn read_queue<S: TokenSink<Token<A>>, A: Allocator + Copy>(
     alloc: A,
@@ -106,6 +139,7 @@ pub fn read_queue<S: TokenSink<Token<A>>, A: Allocator + Copy>(
 {
     loop {
         read_waiting_run(alloc, sink, rules, position, queue)?;
+        read_waiting_quietly(alloc, rules, position, queue)?;
         let Some(c) = queue.next() else {
             return Ok(TokenizerResult::Done);
         };

@@ -1,4 +1,4 @@
--- Behind a character that is read nothing is held but that character: what begins to be held begins empty, or with the first
+-- After a character that is read nothing is held but that character: what begins to be held begins empty, or with the first
 -- character of a keyword of a doctype.
 use Rattle.std.proofs.lemmas.Bool.{false≢true}
 use Rattle.std.proofs.Common.{◌≡◌, sym, ℕ, ◌≤◌, Bool, true, false, List, [], ◌∷◌, arith}

@@ -50,7 +50,7 @@ unfolding with_line_feeds normalised without_dropped_first
 with_line_feeds-restart I b [] cr bom = refl
 with_line_feeds-restart I b (c ∷ Z) cr bom = rw (bom, cr) (with_line_feeds-first b c Z (b && (c == line_feed)) refl)
 
--- what follows a text is normalised from the start behind it
+-- what follows a text is normalised from the start after it
 normalised-cons-append : (I : Input) (c : ℕ) (X Z : List ℕ) (d : Bool) → drops_first I c ≡ d
     → with_line_feeds false (cond d (X ++ Z) (c ∷ X ++ Z))
     ≡ with_line_feeds false (cond d X (c ∷ X)) ++ with_line_feeds (ends_with_carriage_return false (c ∷ X)) Z
@@ -66,11 +66,11 @@ normalised-append I (c ∷ X) Z =
     ∙ ap (λ l. normalised I (c ∷ X) ++ l)
     (with_line_feeds-restart (input_after I (c ∷ X)) (ends_with_carriage_return false (c ∷ X)) Z refl refl)
 
--- the line behind a character
+-- the line after a character
 unfoldable pub line_past : ℕ → ℕ → ℕ
 line_past line c = min (line + cond (c == line_feed) 1 0) last_line
 
--- the line behind a text
+-- the line after a text
 unfoldable pub lines_past : ℕ → List ℕ → ℕ
 lines_past line [] = line
 lines_past line (c ∷ Y) = lines_past (line_past line c) Y
@@ -140,7 +140,7 @@ pub normalised-kept : (I : Input) (c : ℕ) → drops_first I c ≡ false → no
 unfolding normalised without_dropped_first with_line_feeds
 normalised-kept I c d = rw d refl
 
--- the start behind a character for which Y is read
+-- the start after a character for which Y is read
 input_after-reads : (I : Input) (c : ℕ) (Y : List ℕ) → normalised I (c ∷ []) ≡ Y
     → input_after I (c ∷ []) ≡ record { line = line_after I Y; after_carriage_return = c == carriage_return; drops_byte_order_mark = false }
 unfolding input_after ends_with_carriage_return

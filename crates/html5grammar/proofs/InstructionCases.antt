@@ -66,7 +66,7 @@ cut_off_at_once : events true (codes "<?") ≡ event (Error (codes "Unexpected E
 unfolding reading encode stepped is_bad_character is_letter shown value_bytes rest_of next_slice slice_at told_at_end_of bad_character saw saw_end normalised with_line_feeds without_dropped_first read read_from here brought events_at late_events late_at_end_of open_at_end_of end_events line_after behind_run run_of behind_solidus behind_less_than data_text in_bogus_comment behind_bogus_comment bogus_comment bogus_comment_from in_instruction behind_instruction instruction
 cut_off_at_once = refl
 
--- behind `</` that is a bogus comment
+-- after `</` that is a bogus comment
 solidus_first : events false (codes "</?x>") ≡ event (Error (codes "Saw ? in state EndTagOpen")) (Character 2) (Character 2) 1 ∷ event (Comment (codes "?x")) (Character 4) (Character 4) 1 ∷ event End EndOfInput EndOfInput 1 ∷ []
 unfolding reading encode stepped is_bad_character is_letter shown value_bytes rest_of next_slice slice_at told_at_end_of bad_character saw saw_end normalised with_line_feeds without_dropped_first read read_from here brought events_at late_events late_at_end_of open_at_end_of end_events line_after behind_run run_of behind_solidus behind_less_than data_text in_bogus_comment behind_bogus_comment bogus_comment bogus_comment_from in_instruction behind_instruction instruction
 solidus_first = refl

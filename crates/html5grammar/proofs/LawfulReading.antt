@@ -1,6 +1,5 @@
 -- What a reading tells is lawful, where it starts with nothing open.
 use Rattle.std.proofs.Common.{◌≡◌, ℕ, Bool, true, false, ◌&&◌, List, [], ◌∷◌, ◌++◌, refl, sym, ap, ◌∙◌, subst, None, Some}
-use Rattle.std.proofs.lemmas.Bool.{false≢true}
 use Rattle.std.proofs.lemmas.List.Elements.{All-nil, All-cons, All-append}
 use Rattle.std.specs.Prelude.{All, codes, if◌then◌else◌}
 use Rattle.std.specs.Str.{bytes_eq}
@@ -17,6 +16,7 @@ use Rattle.html5grammar.specs.ErrorText.{bad_character_error}
 use Rattle.html5grammar.specs.Lawful.{has_no_null, IsLawful, IsLawfulTag}
 use Rattle.html5grammar.specs.NormalisedText.{normalised, line_after}
 use Rattle.html5grammar.specs.RawText.{texts}
+use Rattle.html5grammar.proofs.ReadingLemmas.{clean-mode}
 use Rattle.html5grammar.specs.Reading.{Here, Brought, reading, told, messages, after, open_after_reply}
 use Rattle.html5grammar.specs.Reading.Here.{Tells, TellsTag}
 use Rattle.html5grammar.specs.Reference.{Found, in_value, reference, is_undecided, ends_number, late_tokens, opened_in, opened_behind}
@@ -29,7 +29,7 @@ use Rattle.html5grammar.specs.Start.RawPlace.{AfterLessThan, InEndName, AfterMar
 use Rattle.html5grammar.specs.Start.DoctypePlace.{Skipped}
 use Rattle.html5grammar.specs.Start.Open.{Between, LessThan, LessThanSolidus, InTag, InRaw, InDeclaration, InComment, InBogusComment, InInstruction, InDoctype, InDoctypeKeyword, InCdata, InReference}
 use Rattle.html5grammar.proofs.InputLemmas.{line_past}
-use Rattle.html5grammar.proofs.LawfulReferences.{AllLawful, lawful-append, no_null-undecided, lawful-late_tokens}
+use Rattle.html5grammar.proofs.LawfulReferences.{AllLawful, lawful-append, lawful-texts, no_null-undecided, lawful-late_tokens}
 use Rattle.html5grammar.proofs.LawfulSteps.{IsFitStand, IsFit, LawfulHere, lawful-bad, lawful-nil, lawful-told_behind, lawful-letters, lawful-step_at, lawful-skipped, lawful-bogus_comment}
 use Rattle.html5grammar.proofs.LawfulTags.{fit-value, lawful-empty, lawful-quirks}
 use Rattle.html5grammar.specs.Machine.{brought_at, reference_step, declaration_step, declaration_answer_step, doctype_keyword_step}
@@ -158,7 +158,7 @@ lawful-told_at_end exact (InInstruction text) fit = (tt, (tt, (tt, tt)))
 lawful-told_at_end exact (InDoctype Skipped d) fit = (fit, (tt, tt))
 lawful-told_at_end exact (InDoctype place d) fit = (tt, (lawful-quirks d fit, (tt, tt)))
 lawful-told_at_end exact (InDoctypeKeyword held d) fit = tt
-lawful-told_at_end exact (InCdata held) fit = (fit, (tt, (tt, tt)))
+lawful-told_at_end exact (InCdata held) fit = lawful-append (texts held) _ (lawful-texts held fit) (tt, (tt, tt))
 lawful-told_at_end exact (InReference stand held) fit = tt
 
 module _ (rules : Rules) (table : IsTable rules.names) where
@@ -211,19 +211,7 @@ fit-reply last (SwitchEncoding bytes) = tt
 
 fit-clean : (opened : Open) → is_clean opened ≡ true → IsFit opened
 unfolding IsFit
-fit-clean (Between mode) h = tt
-fit-clean LessThan h = absurd (false≢true h)
-fit-clean LessThanSolidus h = absurd (false≢true h)
-fit-clean (InTag place tag) h = absurd (false≢true h)
-fit-clean (InRaw place name) h = absurd (false≢true h)
-fit-clean (InDeclaration held) h = absurd (false≢true h)
-fit-clean (InComment text) h = absurd (false≢true h)
-fit-clean (InBogusComment text) h = absurd (false≢true h)
-fit-clean (InInstruction text) h = absurd (false≢true h)
-fit-clean (InDoctype place d) h = absurd (false≢true h)
-fit-clean (InDoctypeKeyword held d) h = absurd (false≢true h)
-fit-clean (InCdata held) h = absurd (false≢true h)
-fit-clean (InReference stand held) h = absurd (false≢true h)
+fit-clean opened h = let clean = clean-mode opened h in subst IsFit (sym clean.1) tt
 
 module _ {S H : Type 0} (step : S → Told → ℕ → S) (reply : S → Told → ℕ → Reply H) (foreign : S → Bool) (rules : Rules) where
   lawful-tag_last : (tokens : List Told) (tag : TagOf) → AllLawful tokens → IsLawfulTag tag → AllLawful (tokens ++ Tag tag ∷ [])

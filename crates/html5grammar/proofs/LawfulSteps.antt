@@ -18,7 +18,7 @@ use Rattle.html5ever_interface.specs.declared.states.AttrValueKind.{AttrValueKin
 use Rattle.html5ever_interface.specs.declared.states.AttrValueKind.TheVariants.{Unquoted, SingleQuoted, DoubleQuoted}
 use Rattle.html5ever_interface.specs.declared.interface.token.TagKind.{TagKind}
 use Rattle.html5ever_interface.specs.declared.interface.token.TagKind.TheVariants.{StartTag, EndTag}
-use Rattle.html5grammar.specs.Cdata.{piece_text, ends_cdata, told_at_end_of_cdata}
+use Rattle.html5grammar.specs.Cdata.{ends_cdata, told_at_end_of_cdata}
 use Rattle.html5grammar.specs.Characters.{null, replacement_character, exclamation_mark, quotation_mark, ampersand, apostrophe, hyphen, solidus, less_than, equals_sign, greater_than, question_mark, is_letter, is_white_space, is_bad_character}
 use Rattle.html5grammar.specs.ErrorText.{error_in, bad_character_error}
 use Rattle.html5grammar.specs.Reading.{Here}
@@ -136,7 +136,7 @@ module _ (exact : Bool) (c : ℕ) where
     lawful-told (with_last_attribute tag) self_closing (fit-last_attribute tag fit),
   )
 
-  -- behind a tag's name
+  -- after a tag's name
   lawful-tag_name_end : (tag : OpenTag) → IsFitTag tag → LawfulHere (tag_name_end_step tag c)
   unfolding tag_name_end_step LawfulHere IsFit
   lawful-tag_name_end tag fit =
@@ -255,7 +255,7 @@ module _ (exact : Bool) (c : ℕ) where
       (λ e. lawful-if (is_rcdata raw && (c == ampersand)) _ _ (λ g. (f, (tt, no_null-nil)))
       (λ g. (lawful-append before _ f (lawful-raw_character raw), tt)))
 
-  -- a character that is not NUL is text, also behind another
+  -- a character that is not NUL is text, also after another
   lawful-one : (c == null) ≡ false → AllLawful (texts (c ∷ []))
   lawful-one h = lawful-texts (c ∷ []) (no_null-cons c [] h no_null-nil)
 
@@ -292,7 +292,7 @@ module _ (exact : Bool) (c : ℕ) where
       (λ f. lawful-if (begins_switch kind c) _ _ (λ g. (lawful-two (letter-no_null c (switch-letter kind g)), tt))
       (λ g. lawful-raw (raw_of kind) name _ (lawful-told_behind kind))))
 
-  -- the letters behind `</`, with one more
+  -- the letters after `</`, with one more
   letters-push : (letters : List ℕ) → list_all is_letter letters ≡ true → is_letter c ≡ true → list_all is_letter (letters ++ c ∷ []) ≡ true
   letters-push letters all h = all-append is_letter letters (c ∷ []) all (rw h refl)
 
@@ -336,11 +336,6 @@ module _ (exact : Bool) (c : ℕ) where
   unfolding instruction_step LawfulHere IsFit AllLawful
   lawful-instruction before = lawful-if (c == greater_than) _ _ (λ e. ((tt, tt), tt)) (λ e. (lawful-where _ _ tt, tt))
 
-  lawful-piece : (held : List ℕ) → has_no_null held ≡ true → AllLawful (piece_text held)
-  unfolding AllLawful
-  lawful-piece [] h = tt
-  lawful-piece (b ∷ held) h = (h, tt)
-
   no_null-take : (n : ℕ) (text : List ℕ) → has_no_null text ≡ true → has_no_null (take n text) ≡ true
   no_null-take zero text h = no_null-nil
   no_null-take (suc n) [] h = no_null-nil
@@ -351,9 +346,9 @@ module _ (exact : Bool) (c : ℕ) where
   lawful-cdata : (held : List ℕ) → has_no_null held ≡ true → LawfulHere (cdata_step held c)
   unfolding cdata_step LawfulHere IsFit AllLawful
   lawful-cdata held h =
-      lawful-if ((c == greater_than) && ends_cdata held) (Tells (told_at_end_of_cdata held) (Between Data)) _ (λ e. (lawful-piece (without_last 2 held) (no_null-take _ held h), tt))
-      (λ e. lawful-if (c == null) _ _ (λ f. (lawful-append (piece_text held) _ (lawful-piece held h) (tt, tt), tt))
-      (λ f. (tt, no_null-append held (encode_utf8 c) h (no_null-encode c f))))
+      lawful-if ((c == greater_than) && ends_cdata held) (Tells (told_at_end_of_cdata held) (Between Data)) _ (λ e. (lawful-texts (without_last 2 held) (no_null-take _ held h), tt))
+      (λ e. lawful-if (c == null) _ _ (λ f. (lawful-append (texts held) _ (lawful-texts held h) (tt, tt), tt))
+      (λ f. (tt, no_null-append held (c ∷ []) h (no_null-cons c [] f no_null-nil))))
 
   -- ---- doctypes
 

@@ -1,5 +1,6 @@
 pub mod Slices
 pub mod InputLemmas
+pub mod TextEnds
 pub mod Traces
 pub mod Cases
 pub mod ReadingLemmas

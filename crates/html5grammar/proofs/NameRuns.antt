@@ -1,4 +1,4 @@
--- What is held of a name when it is decided, and what the whole text behind `&` says of it.
+-- What is held of a name when it is decided, and what the whole text after `&` says of it.
 use Rattle.std.proofs.Common.{◌≡◌, ℕ, ◌+◌, ◌-◌, ◌<◌, Bool, true, false, ◌&&◌, ◌||◌, List, [], ◌∷◌, ◌++◌, take, drop, length, length-append, add-one, subst, None, Some, if◌then◌else◌, refl, sym, ap, ◌∙◌, arith, suc}
 use Rattle.std.specs.Prelude.{◌≢◌, All, IsTrue, codes}
 use Rattle.std.specs.Bool.{nat_eq}
@@ -143,7 +143,7 @@ held-named names held (c ∷ text) other some =
     ∙ absorbed (begins_name names front) (list_all is_ascii_alphanumeric front) (is_none (longest_name names front)) (named-front names front text whole) in
     rw (same, held-named names front text (pushed IsNoNumber held c text other) whole) refl
 
--- a plain name goes on behind letters and digits alone
+-- a plain name goes on after letters and digits alone
 pub odd-within : (p : ℕ → Bool) (before : List ℕ) (c : ℕ) (behind : List ℕ) → p c ≡ false → list_all p (before ++ c ∷ behind) ≡ false
 odd-within p before c behind odd = list_all-append p before (c ∷ behind) ∙ rw odd (and-false (list_all p before))
 

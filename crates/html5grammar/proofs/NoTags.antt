@@ -12,7 +12,7 @@ use Rattle.html5ever_interface.specs.declared.states.RawKind.TheVariants as raw_
 use Rattle.html5ever_interface.specs.declared.states.ScriptEscapeKind.TheVariants as escape_kind
 use Rattle.html5ever_interface.specs.declared.states.AttrValueKind.{AttrValueKind}
 use Rattle.html5ever_interface.specs.declared.states.AttrValueKind.TheVariants.{Unquoted, SingleQuoted, DoubleQuoted}
-use Rattle.html5grammar.specs.Cdata.{piece_text, ends_cdata, told_at_end_of_cdata}
+use Rattle.html5grammar.specs.Cdata.{ends_cdata, told_at_end_of_cdata}
 use Rattle.html5grammar.specs.Characters.{null, number_sign, replacement_character, exclamation_mark, quotation_mark, ampersand, apostrophe, hyphen, solidus, less_than, equals_sign, greater_than, question_mark, is_letter, is_white_space, is_bad_character, lower_case}
 use Rattle.html5grammar.specs.ErrorText.{error_in, where_true, bad_character_error}
 use Rattle.html5grammar.specs.Reading.{Here, Brought}
@@ -32,7 +32,7 @@ use Rattle.html5grammar.specs.Tag.{null_error, duplicate_error, end_tag_errors, 
 use Rattle.std.specs.Str.{bytes_eq}
 use Rattle.html5grammar.specs.Comment.{comment_state, ends_comment, comment_content, comment_end_error, comment_errors, mark_error, begins_keyword, without_last, cdata_keyword, begins_cdata}
 use Rattle.html5grammar.specs.Doctype.{with_quirks, in_identifier, is_keyword, begins_doctype_keyword, keyword_error, in_doctype_name, word_error}
-use Rattle.html5grammar.specs.RawText.{ends_name, raw_state, kind_of, is_rcdata, raw_character, ends_raw_text, told_at_less_than, told_behind_less_than, begins_mark, begins_switch}
+use Rattle.html5grammar.specs.RawText.{texts, ends_name, raw_state, kind_of, is_rcdata, raw_character, ends_raw_text, told_at_less_than, told_behind_less_than, begins_mark, begins_switch}
 use Rattle.html5grammar.specs.Text.{plain_text}
 use Rattle.html5grammar.specs.Machine.{closing_step, tag_name_step, part_step, attribute_name_step, after_attribute_name_step, quoted_step, unquoted_step, before_value_step, tag_step, data_step, less_than_step, solidus_step, bogus_comment_step, comment_step, instruction_step, skipped_step, wanted_name_step, doctype_name_step, keyword_or_end_step, wanted_identifier_step, system_or_end_step, identifier_step, behind_identifier_step, space_step, doctype_step, declaration_step, doctype_keyword_step, raw_step, tag_name_end_step, end_name_step, switch_step, mark_step, mark_and_dash_step, raw_solidus_step, raw_less_than_step, raw_place_step, step_at, reference_step, brought_at, cdata_step, declaration_answer_step}
 
@@ -194,16 +194,11 @@ module _ (exact : Bool) (c : ℕ) where
   no_tags-bogus_comment before first f =
       no_tags-if (c == greater_than) _ _ (no_tags-append first _ f (refl, tt)) (no_tags-append first _ f (no_tags-where _ _ refl))
 
-  no_tags-piece : (held : List ℕ) → NoTags (piece_text held)
-  unfolding NoTags
-  no_tags-piece [] = tt
-  no_tags-piece (b ∷ held) = (refl, tt)
-
   no_tags-cdata : (held : List ℕ) → NoTagsHere (cdata_step held c)
   unfolding cdata_step NoTagsHere NoTags
   no_tags-cdata held =
-      no_tags-if ((c == greater_than) && ends_cdata held) (Tells (told_at_end_of_cdata held) (Between Data)) _ (no_tags-piece (without_last 2 held))
-      (no_tags-if (c == null) _ _ (no_tags-append (piece_text held) _ (no_tags-piece held) (refl, tt)) tt)
+      no_tags-if ((c == greater_than) && ends_cdata held) (Tells (told_at_end_of_cdata held) (Between Data)) _ (no_tags-texts (without_last 2 held))
+      (no_tags-if (c == null) _ _ (no_tags-append (texts held) _ (no_tags-texts held) (refl, tt)) tt)
 
   no_tags-comment : (before : List ℕ) → NoTagsHere (comment_step exact before c)
   unfolding comment_step comment_end_error comment_errors mark_error NoTagsHere NoTags

@@ -60,7 +60,7 @@ no_tags-told_at_end exact (InInstruction text) = (refl, (refl, (refl, tt)))
 no_tags-told_at_end exact (InDoctype Skipped d) = (refl, (refl, tt))
 no_tags-told_at_end exact (InDoctype place d) = (refl, (refl, (refl, tt)))
 no_tags-told_at_end exact (InDoctypeKeyword held d) = tt
-no_tags-told_at_end exact (InCdata held) = (refl, (refl, (refl, tt)))
+no_tags-told_at_end exact (InCdata held) = no_tags-append (texts held) _ (no_tags-texts held) (refl, (refl, tt))
 no_tags-told_at_end exact (InReference stand held) = tt
 
 no_tags-late_at_end : (rules : Rules) (opened : Open) → NoTags (tokens_of_late (late_at_end_of rules opened))

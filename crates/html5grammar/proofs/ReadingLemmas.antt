@@ -1,6 +1,7 @@
--- Reading a text in two parts: the second is read anew from the start behind the first.
+-- Reading a text in two parts: the second is read anew from the start after the first.
 use Rattle.std.proofs.Common.{◌≡◌, ℕ, Bool, true, false, List, [], ◌∷◌, ◌++◌, refl, ap, sym, ◌∙◌}
 use Rattle.std.specs.Prelude.{suc, ◌-◌, None, length, drop, map, take_while, if◌then◌else◌}
+use Rattle.std.proofs.lemmas.Bool.{false≢true}
 use Rattle.std.proofs.lemmas.List.{append_assoc, append-nil, map-append}
 use native.Mathlib.Numerals.{one-add}
 use Rattle.html5ever_interface.proofs.Steppings.{stepped-append}
@@ -18,13 +19,29 @@ use Rattle.html5grammar.specs.Reference.{Found, in_value, reference, held_text, 
 use Rattle.html5ever_interface.specs.declared.states.AttrValueKind.{AttrValueKind}
 use Rattle.html5grammar.specs.Reading.Here.{Tells, TellsTag}
 use Rattle.html5grammar.specs.Slice.{Slice, Late, cut_off, tokens_of_late}
-use Rattle.html5grammar.specs.Start.{Input, OpenTag, Stand, Start, Open, Rules}
+use Rattle.html5grammar.specs.Start.{Input, OpenTag, Stand, Start, Open, Mode, Rules, is_clean}
 use Rattle.html5grammar.specs.Start.Mode.{Data, Plain, RawText, Cdata}
 use Rattle.html5grammar.specs.Start.Stand.{InText, InAttribute}
 use Rattle.html5grammar.specs.Start.Open.{Between, LessThan, LessThanSolidus, InTag, InRaw, InDeclaration, InComment, InBogusComment, InInstruction, InDoctype, InDoctypeKeyword, InReference, InCdata}
 use Rattle.html5grammar.specs.Machine.{brought_at, messages_here, opened_here, last_here}
 use Rattle.html5grammar.proofs.InputLemmas.{line_past, lines_past, normalised-append, input_after-line_none, input_after-append, input_after-line_one}
 use Rattle.html5grammar.proofs.Traces.{Trace, Traces, with_messages, trace, trace_here, trace_brought, traces, messages-append, messages-map, messages-late}
+
+-- where nothing is open there is a mode
+pub clean-mode : (opened : Open) → is_clean opened ≡ true → (mode : Mode) × (opened ≡ Between mode)
+clean-mode (Between mode) h = (mode, refl)
+clean-mode LessThan h = absurd (false≢true h)
+clean-mode LessThanSolidus h = absurd (false≢true h)
+clean-mode (InTag place tag) h = absurd (false≢true h)
+clean-mode (InRaw place name) h = absurd (false≢true h)
+clean-mode (InDeclaration held) h = absurd (false≢true h)
+clean-mode (InComment before) h = absurd (false≢true h)
+clean-mode (InBogusComment before) h = absurd (false≢true h)
+clean-mode (InInstruction text) h = absurd (false≢true h)
+clean-mode (InDoctype place d) h = absurd (false≢true h)
+clean-mode (InDoctypeKeyword held d) h = absurd (false≢true h)
+clean-mode (InCdata held) h = absurd (false≢true h)
+clean-mode (InReference stand held) h = absurd (false≢true h)
 
 pub take_while-cons : {X : Type 0} → (p : X → Bool) (x : X) (xs : List X) → p x ≡ true → take_while p (x ∷ xs) ≡ x ∷ take_while p xs
 take_while-cons p x xs h = rw (h, one-add) refl
@@ -266,7 +283,7 @@ module _ {S H : Type 0} (step : S → Told → ℕ → S) (reply : S → Told �
       → (start_behind K s X).last_start_tag ≡ (trace step reply foreign rules s (line_after K.input []) K.last_start_tag K.opened (normalised K.input X)).last_start_tag
   after-last K s X = (read-traces K s X).last_start_tag
 
-  -- forgetting: what a text tells is what its first part tells, then what the rest tells from the start behind that
+  -- forgetting: what a text tells is what its first part tells, then what the rest tells from the start after that
 
   abbrev pub state_behind : Start → S → List ℕ → S
   state_behind K s X = stepped step s (messages (told step reply foreign rules K s X))
@@ -300,7 +317,7 @@ module _ {S H : Type 0} (step : S → Told → ℕ → S) (reply : S → Told �
       ∙ ap (λ (t : Trace). t.last_start_tag) (trace-behind K s X Z)
       ∙ sym (after-last (start_behind K s X) (state_behind K s X) Z)
 
-  -- the start behind two parts is the start behind the second, from the start behind the first
+  -- the start after two parts is the start after the second, from the start after the first
   pub after-append : (K : Start) (s : S) (X Z : List ℕ) → start_behind K s (X ++ Z) ≡ start_behind (start_behind K s X) (state_behind K s X) Z
   after-append K s X Z =
       rw (opened-append K s X Z, last-append K s X Z, input_after-append K.input X Z) refl

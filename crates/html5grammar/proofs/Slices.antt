@@ -613,7 +613,7 @@ module _ (rules : Rules) (foreign : Bool) (c : ℕ) (text : List ℕ) where
   brings-from : (slice : Slice) (step : Here Open) → follows slice step → brings slice (record { settled = []; here = step })
   brings-from slice step f = f.1 ∙ rw f.0 refl
 
-  -- behind a reference c is read as it is where the reference stands
+  -- after a reference c is read as it is where the reference stands
   here-opened_in : (stand : Stand) (characters : List ℕ)
       → here rules (rest_of rules (opened_in stand characters) (c ∷ text)) c text ≡ going rest (step_at rules.exact (opened_in stand characters) c)
   here-opened_in (InText mode) characters = (follows-between mode).0
@@ -642,7 +642,7 @@ module _ (rules : Rules) (foreign : Bool) (c : ℕ) (text : List ℕ) where
   brings-reference stand held false h =
       ap (λ (s : Slice). brought rules foreign s c text) (with_while-none (is_undecided rules.names) (behind_held rules stand) held c text h) ∙ rw h (brings-behind_held stand held)
 
-  -- behind `<!`
+  -- after `<!`
 
   -- the slice brings that by itself
   abbrev brings_unasked : Slice → Brought Open → Type 0

@@ -34,7 +34,7 @@ use Rattle.html5grammar.proofs.Traces.{messages-append, messages-map, messages-l
 -- ---- a text that is read in two parts
 
 module _ {S H : Type 0} (step : S → Told → ℕ → S) (reply : S → Told → ℕ → Reply H) (foreign : S → Bool) (rules : Rules) (K : Start) where
-  -- the whole is a part and then what the tail reads, in the sink's state behind the part
+  -- the whole is a part and then what the tail reads, in the sink's state after the part
   abbrev Splits : S → Read → Read → (S → List ℕ → Open → Read) → Type 0
   Splits s whole part tail = whole ≡ with_events part.events (tail (stepped step s (messages part.events)) part.last_start_tag part.opened)
 
@@ -54,7 +54,7 @@ module _ {S H : Type 0} (step : S → Told → ℕ → S) (reply : S → Told �
   unfolding events_at
   messages-here before c tokens = messages-map _ _ (λ t. refl) tokens
 
-  -- the reading of the text behind c, and of the rest of it
+  -- the reading of the text after c, and of the rest of it
   abbrev from : List ℕ → List ℕ → S → List ℕ → Open → Read
   from before text t name opened = read_from step reply foreign rules K t name before (rest_of rules opened text) text
 
@@ -225,7 +225,7 @@ module _ (I : Input) (n : ℕ) where
   decided_among before l true is within sound = rw (is, le-leb (suc (suc (length before) - l.back)) n (omega (arith, within, sound is))) refl
   decided_among before l false is within sound = rw (is, le-leb (suc (length before)) n within) refl
 
-  -- what the character behind `before` decides is decided by one of the first n characters, where these reach behind it
+  -- what the character after `before` decides is decided by one of the first n characters, where these reach after it
   among-late : (before : List ℕ) (late : List Late) (E : List Event) → suc (length before) ≤ n → IsSound late
       → among n (late_events I before (Character (length before)) late ++ E) ≡ late_events I before (Character (length before)) late ++ among n E
   unfolding late_events
@@ -297,7 +297,7 @@ module _ {S H : Type 0} (step : S → Told → ℕ → S) (reply : S → Told �
       (among-late K.input n before next.settled (here.events ++ E) past (settles-brought rules (foreign s) opened c).late.sound
       ∙ ap (λ l. late ++ l) (among-here _ last before c A E next.here past (read-among (before ++ c ∷ []) A E (rw (length-append before (c ∷ [])) (omega (arith, within))))))
 
-  -- the characters behind the first n decide none of the events that these decide
+  -- the characters after the first n decide none of the events that these decide
 
   abbrev IsBeyond : List ℕ → List ℕ → List Event → Type 0
   IsBeyond before B E = (t : S) (name : List ℕ) (opened : Open) (slice : Slice) → slice ≡ rest_of rules opened B

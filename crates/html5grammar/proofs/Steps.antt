@@ -67,7 +67,7 @@ pub wanted_identifier_step-direct : (exact : Bool) (named : State) (kind : Docty
 unfolding wanted_identifier_step
 wanted_identifier_step-direct exact named kind d c = wanted-direct (c == quotation_mark) (c == apostrophe) (error_in exact named c) _ _ _
 
--- behind `/` or a quoted value another part is read as before an attribute, behind the error of the place
+-- after `/` or a quoted value another part is read as before an attribute, after the error of the place
 pub part-after_solidus : (exact : Bool) (tag : OpenTag) (c : ℕ) → (c == greater_than) ≡ false
     → part_step exact AfterSolidus tag c ≡ told_first (error_in exact state.SelfClosingStartTag c ∷ []) (part_step exact BeforeAttribute tag c)
 unfolding part_step place_error first_error

@@ -35,7 +35,7 @@ use Rattle.html5grammar.specs.Text.{behind_less_than, behind_solidus}
 use Rattle.html5grammar.specs.Machine.{step_at, declaration_answer_step, declaration_step, brought_at}
 use Rattle.html5grammar.proofs.Slices.{going, rest_of-brought_at, with_name-nil, with_last_name-nil, with_value-nil, with_doctype_name-nil, with_identifier-nil}
 
--- the messages of a text, and what is open behind it, with the name of the last start tag
+-- the messages of a text, and what is open after it, with the name of the last start tag
 pub record Trace : Type 0 where
   pub messages : List Message
   pub opened : Open
@@ -143,7 +143,7 @@ rest_of-nil rules (InDoctypeKeyword held d) = refl
 rest_of-nil rules (InCdata held) = refl
 rest_of-nil rules (InReference stand held) = ap (InReference stand) (append-nil held)
 
--- behind a tag a new slice begins
+-- after a tag a new slice begins
 pub rest_of-reply : {H : Type 0} → (rules : Rules) (last : List ℕ) (r : Reply H) (text : List ℕ) → cut_off (open_after_reply last r) ≡ rest_of rules (open_after_reply last r) text
 unfolding rest_of
 rest_of-reply rules last KeepOn text = refl
@@ -180,7 +180,7 @@ module _ {S H : Type 0} (step : S → Told → ℕ → S) (reply : S → Told �
     last_start_tag = t.last_start_tag;
   }
 
-  -- what goes on behind c traces what goes on in the machine
+  -- what goes on after c traces what goes on in the machine
   abbrev TracesBehind : List ℕ → ℕ → List ℕ → Type 0
   TracesBehind before c text = (t : S) (name : List ℕ) (opened : Open)
       → Traces (read_from step reply foreign rules K t name (before ++ c ∷ []) (rest_of rules opened text) text)

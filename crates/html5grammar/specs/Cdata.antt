@@ -1,43 +1,40 @@
--- CDATA sections. Their text is held until `]]>`, a NUL or the end of input tells it.
-use Rattle.std.specs.Prelude.{ℕ, Bool, List, [], ◌∷◌, ◌++◌, ◌==◌, ◌&&◌, codes, encode_utf8, if◌then◌else◌}
+-- CDATA sections. Their characters are held until `]]>`, a NUL or the end of input tells them, each as a text.
+-- The slices below are vocabulary of proofs: how a section is written stands in `html5items/specs/Cdata`.
+use Rattle.std.specs.Prelude.{ℕ, Bool, List, [], ◌∷◌, ◌++◌, ◌==◌, ◌&&◌, codes, if◌then◌else◌}
 use Rattle.html5ever_interface.specs.Token.{Told}
-use Rattle.html5ever_interface.specs.Token.Told.{Text, Null}
+use Rattle.html5ever_interface.specs.Token.Told.{Null}
 use Rattle.html5grammar.specs.Characters.{null, greater_than}
 use Rattle.html5grammar.specs.Comment.{ends_in, without_last}
+use Rattle.html5grammar.specs.RawText.{texts}
 use Rattle.html5grammar.specs.Slice.{Slice, cut_off, one_character, with_character}
 use Rattle.html5grammar.specs.Start.{Open}
 use Rattle.html5grammar.specs.Start.Mode.{Data, Cdata}
 use Rattle.html5grammar.specs.Start.Open.{Between, InCdata}
 
--- what is open in a section, by the text that is held, in bytes
+-- what is open in a section, by the characters that are held
 abbrev pub open_cdata : List ℕ → Open
 open_cdata [] = Between Cdata
 open_cdata (c ∷ held) = InCdata (c ∷ held)
 
--- the text of a section that is told, if there is any
-abbrev pub piece_text : List ℕ → List Told
-piece_text [] = []
-piece_text (c ∷ held) = Text (c ∷ held) ∷ []
-
--- whether `>` ends the section behind this text
+-- whether `>` ends the section after these characters
 unfoldable pub ends_cdata : List ℕ → Bool
 ends_cdata held = ends_in held (codes "]]")
 
 -- what is told at the end of the section: without its brackets
 abbrev pub told_at_end_of_cdata : List ℕ → List Told
-told_at_end_of_cdata held = piece_text (without_last 2 held)
+told_at_end_of_cdata held = texts (without_last 2 held)
 
--- a section of which some text is held: `>` ends it behind `]]`, a NUL is told behind the text that is held, and no text is held
--- then, and another character is text
+-- a section of which some characters are held: `>` ends it after `]]`, a NUL is told after the characters that are held, and none
+-- is held then, and another character is text
 unfoldable pub cdata : List ℕ → List ℕ → Slice
 cdata held [] = cut_off (InCdata held)
 cdata held (c ∷ text) =
     if (c == greater_than) && ends_cdata held then one_character (told_at_end_of_cdata held) (Between Data)
-    else if c == null then one_character (piece_text held ++ Null ∷ []) (Between Cdata)
-    else with_character [] (cdata (held ++ encode_utf8 c) text)
+    else if c == null then one_character (texts held ++ Null ∷ []) (Between Cdata)
+    else with_character [] (cdata (held ++ c ∷ []) text)
 
 -- the same from c on where none is held, and `before` is told first
 unfoldable pub cdata_from : List Told → ℕ → List ℕ → Slice
 cdata_from before c text =
     if c == null then one_character (before ++ Null ∷ []) (Between Cdata)
-    else with_character before (cdata (encode_utf8 c) text)
+    else with_character before (cdata (c ∷ []) text)

@@ -1,4 +1,5 @@
--- Comments, and what stands behind `<!`. What a character of a comment tells is said by the text of the comment before it.
+-- Comments, and what stands after `<!`. What a character of a comment tells is said by the text of the comment before it.
+-- The slices below are vocabulary of proofs: how a comment is written stands in `html5items/specs/Comment`.
 use Rattle.std.specs.Prelude.{ℕ, ◌+◌, ◌-◌, Bool, true, false, List, [], ◌∷◌, ◌++◌, ◌==◌, ◌||◌, ◌&&◌, codes, flat_map, length, nat_eq, not, take, if◌then◌else◌}
 use Rattle.std.specs.List.{ends_with, starts_with}
 use Rattle.std.specs.Str.{bytes_eq}
@@ -29,7 +30,7 @@ is_lone_dash text = bytes_eq text (codes "-")
 
 -- ---- errors
 
--- the state that an error names, where `behind_dashes` is that behind two dashes or more
+-- the state that an error names, where `behind_dashes` is that after two dashes or more
 unfoldable pub comment_state : State → List ℕ → State
 comment_state behind_dashes text =
     if nat_eq (length text) 0 then state.CommentStart
@@ -53,11 +54,11 @@ comment_errors exact text c = mark_error exact text c ++ null_error exact (comme
 
 -- ---- the end of a comment
 
--- whether `>` ends the comment behind this text
+-- whether `>` ends the comment after this text
 unfoldable pub ends_comment : List ℕ → Bool
 ends_comment text = nat_eq (length text) 0 || is_lone_dash text || ends_in text (codes "--") || ends_in text (codes "--!")
 
--- only behind two dashes that is no error
+-- only after two dashes that is no error
 unfoldable pub comment_end_error : Bool → List ℕ → List Told
 comment_end_error exact text = where_true (not (ends_in text (codes "--"))) (error_in exact (comment_state state.Comment text) greater_than)
 
@@ -69,7 +70,7 @@ comment_content text =
     else if ends_in text (codes "-") then without_last 1 text
     else text
 
--- a comment, of which `before` was read behind its `<!--`
+-- a comment, of which `before` was read after its `<!--`
 unfoldable pub comment : Bool → List ℕ → List ℕ → Slice
 comment exact before [] = cut_off (InComment before)
 comment exact before (c ∷ text) =
@@ -98,18 +99,18 @@ bogus_comment_from exact before first c text =
     if c == greater_than then one_character (first ++ Comment before ∷ []) (Between Data)
     else with_character (first ++ null_error exact state.BogusComment c) (bogus_comment exact (before ++ value_bytes c) text)
 
--- ---- behind `<!`
+-- ---- after `<!`
 
 -- the first two keywords, one in any case. What is held of them is ASCII, so its characters are its bytes.
 unfoldable pub begins_keyword : List ℕ → Bool
 begins_keyword held = starts_with nat_eq (codes "--") held || starts_with nat_eq (codes "doctype") (lower_case held)
 
--- where no keyword comes, that is an error at the `!`, and a comment begins behind that
+-- where no keyword comes, that is an error at the `!`, and a comment begins after that
 abbrev pub declaration_error : Bool → List ℕ → List Late
 declaration_error exact held =
     record { token = error_in exact state.MarkupDeclarationOpen exclamation_mark; back = length held + 2; is_at = true; is_held = false } ∷ []
 
--- the first keyword with which the text behind `<!` begins decides, or the first character by which neither of these two begins:
+-- the first keyword with which the text after `<!` begins decides, or the first character by which neither of these two begins:
 -- there the sink is asked whether a CDATA section may begin
 unfoldable pub declaration : Bool → List ℕ → List ℕ → Slice
 declaration exact held [] = cut_off (InDeclaration held)
@@ -127,7 +128,7 @@ unfoldable pub begins_cdata : List ℕ → Bool
 begins_cdata held = starts_with nat_eq cdata_keyword held
 
 -- where c goes on with neither of these two, by the sink's answer whether that is in foreign content: there a CDATA section begins
--- behind its keyword, and else a bogus comment
+-- after its keyword, and else a bogus comment
 unfoldable pub declaration_by_answer : Bool → Bool → List ℕ → ℕ → List ℕ → Slice
 declaration_by_answer exact foreign held c text =
     if foreign && bytes_eq (held ++ c ∷ []) cdata_keyword then one_character [] (Between Cdata)

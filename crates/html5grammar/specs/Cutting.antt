@@ -1,4 +1,4 @@
--- How a text is cut into slices, from whatever is open.
+-- How a text is cut into slices, from whatever is open. Vocabulary of proofs: the grammar is `Items` of `html5items`.
 use Rattle.std.specs.Prelude.{ℕ, List, [], ◌∷◌, ◌++◌}
 use Rattle.html5ever_interface.specs.Token.{Told}
 use Rattle.html5ever_interface.specs.declared.states.AttrValueKind.TheVariants.{Unquoted, SingleQuoted, DoubleQuoted}

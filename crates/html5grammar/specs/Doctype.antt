@@ -1,5 +1,6 @@
--- Doctypes: a name, behind it maybe `public` or `system` with identifiers, and `>`. From what doesn't belong there on the rest is
+-- Doctypes: a name, after it maybe `public` or `system` with identifiers, and `>`. From what doesn't belong there on the rest is
 -- skipped. Below, the parts stand from the last to the first.
+-- The slices below are vocabulary of proofs: how a doctype is written stands in `html5items/specs/Doctype`.
 use Rattle.std.specs.Prelude.{ℕ, ◌+◌, Bool, true, false, List, [], ◌∷◌, ◌++◌, ◌==◌, ◌||◌, codes, flat_map, length, nat_eq, not, Option, Some, option_map, if◌then◌else◌}
 use Rattle.std.specs.List.{starts_with}
 use Rattle.std.specs.Str.{bytes_eq}
@@ -98,7 +99,7 @@ identifier exact quotes kind d text =
     with_run (null_error exact (identifier_state quotes kind)) run
     (behind_in_identifier exact quotes kind (with_identifier kind d run) (behind_run (in_identifier quotes) text))
 
--- where an identifier is wanted a quote begins it, and that is an error where it stands directly behind what came before. Another
+-- where an identifier is wanted a quote begins it, and that is an error where it stands directly after what came before. Another
 -- character is an error, and the first of the skipped rest, with quirks.
 unfoldable pub wanted_identifier : Bool → Bool → State → DoctypeIdKind → DoctypeOf → ℕ → List ℕ → Slice
 wanted_identifier exact is_direct named kind d c text =
@@ -107,12 +108,12 @@ wanted_identifier exact is_direct named kind d c text =
     else if c == apostrophe then with_character (where_true is_direct error) (identifier exact SingleQuotes kind (with_begun_identifier kind d) text)
     else skipped_from exact (error ∷ []) (with_quirks d) c text
 
--- behind a public identifier `>` ends the doctype, and that of the system may stand
+-- after a public identifier `>` ends the doctype, and that of the system may stand
 unfoldable pub system_or_end : Bool → Bool → State → DoctypeOf → ℕ → List ℕ → Slice
 system_or_end exact is_direct named d c text =
     if c == greater_than then told_doctype [] d else wanted_identifier exact is_direct named System d c text
 
--- behind a public identifier and white space
+-- after a public identifier and white space
 unfoldable pub behind_space_between : Bool → DoctypeOf → List ℕ → Slice
 behind_space_between exact d [] = cut_off (InDoctype BetweenIdentifiers d)
 behind_space_between exact d (c ∷ text) = system_or_end exact false state.BetweenDoctypePublicAndSystemIdentifiers d c text
@@ -120,7 +121,7 @@ behind_space_between exact d (c ∷ text) = system_or_end exact false state.Betw
 unfoldable pub between_identifiers : Bool → DoctypeOf → List ℕ → Slice
 between_identifiers exact d text = with_run silent (run_of is_white_space text) (behind_space_between exact d (behind_run is_white_space text))
 
--- what c begins directly behind an identifier: behind that of the system there is only white space up to `>`, and an error is
+-- what c begins directly after an identifier: after that of the system there is only white space up to `>`, and an error is
 -- without quirks
 unfoldable pub behind_identifier : Bool → DoctypeIdKind → DoctypeOf → ℕ → List ℕ → Slice
 behind_identifier exact Public d c text =
@@ -133,7 +134,7 @@ behind_identifier exact System d c text =
 
 -- ---- the keywords `public` and `system`, in any case
 
--- behind a keyword and white space
+-- after a keyword and white space
 unfoldable pub behind_keyword_and_space : Bool → DoctypeIdKind → DoctypeOf → List ℕ → Slice
 behind_keyword_and_space exact kind d [] = cut_off (InDoctype (BeforeIdentifier kind) d)
 behind_keyword_and_space exact kind d (c ∷ text) = wanted_identifier exact false (state.BeforeDoctypeIdentifier kind) kind d c text
@@ -142,7 +143,7 @@ unfoldable pub identifier_behind_space : Bool → DoctypeIdKind → DoctypeOf �
 identifier_behind_space exact kind d text =
     with_run silent (run_of is_white_space text) (behind_keyword_and_space exact kind d (behind_run is_white_space text))
 
--- directly behind a keyword
+-- directly after a keyword
 unfoldable pub behind_keyword : Bool → DoctypeIdKind → DoctypeOf → List ℕ → Slice
 behind_keyword exact kind d [] = cut_off (InDoctype (AfterKeyword kind) d)
 behind_keyword exact kind d (c ∷ text) =
@@ -177,7 +178,7 @@ doctype_keyword exact held d (c ∷ text) =
 
 -- ---- the name
 
--- behind the name and white space stands `>`, or a keyword; another character is an error, and the first of the skipped rest
+-- after the name and white space stands `>`, or a keyword; another character is an error, and the first of the skipped rest
 unfoldable pub keyword_or_end : Bool → DoctypeOf → List ℕ → Slice
 keyword_or_end exact d [] = cut_off (InDoctype AfterName d)
 keyword_or_end exact d (c ∷ text) =
@@ -189,7 +190,7 @@ unfoldable pub behind_doctype_name_and_space : Bool → DoctypeOf → List ℕ �
 behind_doctype_name_and_space exact d text =
     with_run silent (run_of is_white_space text) (keyword_or_end exact d (behind_run is_white_space text))
 
--- directly behind the name
+-- directly after the name
 unfoldable pub behind_doctype_name : Bool → DoctypeOf → List ℕ → Slice
 behind_doctype_name exact d [] = cut_off (InDoctype InDoctypeName d)
 behind_doctype_name exact d (c ∷ text) =
@@ -199,7 +200,7 @@ behind_doctype_name exact d (c ∷ text) =
 unfoldable pub in_doctype_name : ℕ → Bool
 in_doctype_name c = not (is_white_space c || (c == greater_than))
 
--- the name behind its first character
+-- the name after its first character
 unfoldable pub doctype_name : Bool → DoctypeOf → List ℕ → Slice
 doctype_name exact d text =
     let run : List ℕ = run_of in_doctype_name text in
@@ -211,7 +212,7 @@ wanted_name exact errors d c text =
     if c == greater_than then one_character (errors ++ error_in exact state.BeforeDoctypeName c ∷ Doctype (with_quirks d) ∷ []) (Between Data)
     else with_character (errors ++ null_error exact state.BeforeDoctypeName c) (doctype_name exact (with_first_of_name d c) text)
 
--- behind `doctype` and white space
+-- after `doctype` and white space
 unfoldable pub behind_word_and_space : Bool → DoctypeOf → List ℕ → Slice
 behind_word_and_space exact d [] = cut_off (InDoctype BeforeName d)
 behind_word_and_space exact d (c ∷ text) = wanted_name exact [] d c text
@@ -220,11 +221,11 @@ unfoldable pub before_doctype_name : Bool → DoctypeOf → List ℕ → Slice
 before_doctype_name exact d text =
     with_run silent (run_of is_white_space text) (behind_word_and_space exact d (behind_run is_white_space text))
 
--- the error of a name directly behind `doctype`
+-- the error of a name directly after `doctype`
 abbrev pub word_error : Bool → ℕ → List Told
 word_error exact c = where_true (not (c == greater_than)) (error_in exact state.Doctype c)
 
--- directly behind `doctype`
+-- directly after `doctype`
 unfoldable pub doctype : Bool → DoctypeOf → List ℕ → Slice
 doctype exact d [] = cut_off (InDoctype AfterWord d)
 doctype exact d (c ∷ text) =

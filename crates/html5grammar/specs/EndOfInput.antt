@@ -1,4 +1,5 @@
--- What the end of input tells, by what is open there.
+-- What the end of input tells, by what is open there. Vocabulary of proofs: what it tells of each unfinished item stands in
+-- `html5items/specs/Items`.
 use Rattle.std.specs.Prelude.{Bool, List, [], ◌∷◌, ◌++◌, codes, None}
 use Rattle.html5ever_interface.specs.Token.{Told, DoctypeOf}
 use Rattle.html5ever_interface.specs.Token.Told.{Text, Comment, Instruction, Doctype, End}
@@ -65,7 +66,7 @@ raw_end_error exact (Escaped dashes) = end_error_in exact (raw_state (Escaped da
 raw_end_error exact (DoubleEscaped dashes) = end_error_in exact (raw_state (DoubleEscaped dashes)) ∷ []
 raw_end_error exact other = []
 
--- what is held there is text, and comes first; behind `<` and letters the error names double-escaped script data
+-- what is held there is text, and comes first; after `<` and letters the error names double-escaped script data
 unfoldable pub told_at_raw_end : Bool → RawPlace → List Told
 told_at_raw_end exact (AfterLessThan kind) = told_behind_less_than kind ++ raw_end_error exact (raw_of kind)
 told_at_raw_end exact (InEndName kind letters) = texts (less_than ∷ solidus ∷ letters) ++ raw_end_error exact (raw_of kind)
@@ -93,9 +94,9 @@ told_at_end_of exact (InBogusComment text) = Comment text ∷ End ∷ []
 told_at_end_of exact (InInstruction text) = end_error_in exact state.ProcessingInstruction ∷ Instruction text ∷ End ∷ []
 told_at_end_of exact (InDoctype place d) = told_at_doctype_end exact place d ++ End ∷ []
 told_at_end_of exact (InDoctypeKeyword held d) = []
-told_at_end_of exact (InCdata held) = Text held ∷ end_error_in exact state.CdataSection ∷ End ∷ []
+told_at_end_of exact (InCdata held) = texts held ++ end_error_in exact state.CdataSection ∷ End ∷ []
 told_at_end_of exact (InReference stand held) = []
 
--- all that the end tells: what it decides, and then what it tells of what is open behind that
+-- all that the end tells: what it decides, and then what it tells of what is open after that
 abbrev pub tokens_at_end : Rules → Open → List Told
 tokens_at_end rules opened = tokens_of_late (late_at_end_of rules opened) ++ told_at_end_of rules.exact (open_at_end_of rules opened)

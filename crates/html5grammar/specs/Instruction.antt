@@ -1,4 +1,5 @@
 -- Processing instructions: a rule of this project's own. The standard has a bogus comment in their place.
+-- The slices below are vocabulary of proofs: how one is written stands in `html5items/specs/Instruction`.
 use Rattle.std.specs.Prelude.{ℕ, Bool, List, [], ◌∷◌, ◌++◌, ◌==◌, flat_map, not}
 use Rattle.html5ever_interface.specs.Token.Told.{Instruction}
 use Rattle.html5ever_interface.specs.declared.states.State.TheVariants as state
@@ -15,7 +16,7 @@ unfoldable pub behind_instruction : List ℕ → List ℕ → Slice
 behind_instruction content [] = cut_off (InInstruction content)
 behind_instruction content (c ∷ text) = one_character (Instruction content ∷ []) (Between Data)
 
--- a processing instruction, of which `before` was read behind its `<?`, runs to `>`
+-- a processing instruction, of which `before` was read after its `<?`, runs to `>`
 unfoldable pub instruction : Bool → List ℕ → List ℕ → Slice
 instruction exact before text =
     let run : List ℕ = run_of in_instruction text in

@@ -16,7 +16,7 @@ use Rattle.html5ever_interface.specs.declared.states.ScriptEscapeKind.{ScriptEsc
 use Rattle.html5ever_interface.specs.declared.states.ScriptEscapeKind.TheVariants as escape_kind
 use Rattle.html5ever_interface.specs.declared.states.State.{State}
 use Rattle.html5ever_interface.specs.declared.states.State.TheVariants as state
-use Rattle.html5grammar.specs.Cdata.{piece_text, ends_cdata, told_at_end_of_cdata}
+use Rattle.html5grammar.specs.Cdata.{ends_cdata, told_at_end_of_cdata}
 use Rattle.html5grammar.specs.Characters.{null, exclamation_mark, quotation_mark, ampersand, apostrophe, hyphen, solidus, less_than, equals_sign, greater_than, question_mark, is_letter, is_white_space, value_bytes, lower_case}
 use Rattle.html5grammar.specs.Comment.{comment_errors, ends_comment, comment_end_error, comment_content, begins_keyword, declaration_error, cdata_keyword, begins_cdata}
 use Rattle.html5grammar.specs.Doctype.{with_quirks, with_doctype_name, with_first_of_name, with_begun_identifier, with_identifier, identifier_state, in_identifier, is_keyword, begins_doctype_keyword, keyword_error, in_doctype_name, word_error}
@@ -136,13 +136,13 @@ instruction_step exact before c =
     if c == greater_than then Tells (Instruction before ∷ []) (Between Data)
     else Tells (null_error exact state.ProcessingInstruction c) (InInstruction (before ++ value_bytes c))
 
--- CDATA sections, with the text that is held
+-- CDATA sections, with the characters that are held
 
 unfoldable pub cdata_step : List ℕ → ℕ → Here Open
 cdata_step held c =
     if (c == greater_than) && ends_cdata held then Tells (told_at_end_of_cdata held) (Between Data)
-    else if c == null then Tells (piece_text held ++ Null ∷ []) (Between Cdata)
-    else Tells [] (InCdata (held ++ encode_utf8 c))
+    else if c == null then Tells (texts held ++ Null ∷ []) (Between Cdata)
+    else Tells [] (InCdata (held ++ c ∷ []))
 
 -- doctypes
 
@@ -194,7 +194,7 @@ behind_identifier_step exact System d c =
     else if c == greater_than then Tells (Doctype d ∷ []) (Between Data)
     else skipped_step exact (error_in exact (state.AfterDoctypeIdentifier System) c ∷ []) d c
 
--- where white space is skipped, behind which the place is this
+-- where white space is skipped, after which the place is this
 unfoldable pub space_step : DoctypePlace → DoctypeOf → ℕ → Here Open → Here Open
 space_step place d c next = if is_white_space c then Tells [] (InDoctype place d) else next
 
@@ -232,7 +232,7 @@ raw_step exact raw name before c =
     else if is_rcdata raw && (c == ampersand) then Tells before (InReference (InText (RawText raw name)) [])
     else Tells (before ++ raw_character exact raw c) (Between (RawText (raw_behind raw c) name))
 
--- behind the letters of an end tag's name
+-- after the letters of an end tag's name
 unfoldable pub tag_name_end_step : OpenTag → ℕ → Here Open
 tag_name_end_step tag c =
     if is_white_space c then Tells [] (InTag BeforeAttribute tag)
@@ -294,7 +294,7 @@ step_at exact (InDoctype place d) c = doctype_step exact place d c
 step_at exact (InCdata held) c = cdata_step held c
 step_at exact undecided c = Tells [] undecided
 
--- a character behind what is held of a reference
+-- a character after what is held of a reference
 unfoldable pub reference_step : Rules → Stand → List ℕ → ℕ → Brought Open
 reference_step rules stand held c =
     let found : Found = reference rules (in_value stand) held (Some c) in
@@ -302,14 +302,14 @@ reference_step rules stand held c =
     else if ends_number held c then record { settled = late_tokens stand found held; here = Tells [] (opened_behind stand found held) }
     else record { settled = late_tokens stand found held; here = step_at rules.exact (opened_behind stand found held) c }
 
--- a character behind `<!` and what is held there, where the first two keywords stand no more, by the sink's answer
+-- a character after `<!` and what is held there, where the first two keywords stand no more, by the sink's answer
 unfoldable pub declaration_answer_step : Bool → Bool → List ℕ → ℕ → Brought Open
 declaration_answer_step exact foreign held c =
     if foreign && bytes_eq (held ++ c ∷ []) cdata_keyword then record { settled = []; here = Tells [] (Between Cdata) }
     else if foreign && begins_cdata (held ++ c ∷ []) then record { settled = []; here = Tells [] (InDeclaration (held ++ c ∷ [])) }
     else record { settled = declaration_error exact held; here = bogus_comment_step exact held [] c }
 
--- a character behind `<!` and what is held there
+-- a character after `<!` and what is held there
 unfoldable pub declaration_step : Bool → Bool → List ℕ → ℕ → Brought Open
 declaration_step exact foreign held c =
     if bytes_eq (held ++ c ∷ []) (codes "--") then record { settled = []; here = Tells [] (InComment []) }
@@ -317,7 +317,7 @@ declaration_step exact foreign held c =
     else if begins_keyword (held ++ c ∷ []) then record { settled = []; here = Tells [] (InDeclaration (held ++ c ∷ [])) }
     else declaration_answer_step exact foreign held c
 
--- a character behind what may begin a keyword of a doctype
+-- a character after what may begin a keyword of a doctype
 unfoldable pub doctype_keyword_step : Bool → List ℕ → DoctypeOf → ℕ → Brought Open
 doctype_keyword_step exact held d c =
     if is_keyword Public (held ++ c ∷ []) then record { settled = []; here = Tells [] (InDoctype (AfterKeyword Public) d) }
@@ -343,7 +343,7 @@ brought_at rules foreign (InRaw place name) c = record { settled = []; here = st
 brought_at rules foreign (InCdata held) c = record { settled = []; here = step_at rules.exact (InCdata held) c }
 
 module _ {S H : Type 0} (step : S → Told → ℕ → S) (reply : S → Told → ℕ → Reply H) (rules : Rules) where
-  -- the messages at c, and what is open behind it
+  -- the messages at c, and what is open after it
 
   unfoldable pub messages_here : ℕ → ℕ → Here Open → List Message
   messages_here line c (Tells told later) = on_line line (bad_character_error rules.exact c ++ told)
@@ -354,7 +354,7 @@ module _ {S H : Type 0} (step : S → Told → ℕ → S) (reply : S → Told �
   opened_here s line last c (TellsTag told tag) =
       open_after_reply (last_behind last tag) (reply (stepped step s (on_line line (bad_character_error rules.exact c ++ told))) (Tag tag) line)
 
--- the name of the last start tag behind a character
+-- the name of the last start tag after a character
 unfoldable pub last_here : List ℕ → Here Open → List ℕ
 last_here last (Tells told later) = last
 last_here last (TellsTag told tag) = last_behind last tag

@@ -36,7 +36,7 @@ unfoldable pub ends_with_carriage_return : Bool → List ℕ → Bool
 ends_with_carriage_return otherwise [] = otherwise
 ends_with_carriage_return otherwise (c ∷ X) = ends_with_carriage_return (c == carriage_return) X
 
--- how the characters behind X come in
+-- how the characters after X come in
 unfoldable pub input_after : Input → List ℕ → Input
 input_after input [] = input
 input_after input (c ∷ X) = record {

@@ -1,5 +1,6 @@
 -- Raw text: text in which nothing but the end tag of one name is markup. Script data has `<!--` and `<script` besides, which
 -- hide that end tag.
+-- The slices below are vocabulary of proofs: how raw text is written stands in `html5items/specs/RawText`.
 use Rattle.std.specs.Prelude.{ℕ, Bool, true, false, List, [], ◌∷◌, ◌++◌, ◌==◌, ◌||◌, ◌&&◌, codes, encode_utf8, flat_map, map, length, nat_eq, not, if◌then◌else◌}
 use Rattle.std.specs.Str.{bytes_eq}
 use Rattle.html5ever_interface.specs.Token.{Told}
@@ -72,11 +73,11 @@ abbrev pub one_more : Dashes → Dashes
 one_more NoDash = OneDash
 one_more other = TwoDashes
 
--- the dashes behind a character
+-- the dashes after a character
 unfoldable pub dashes_behind : Dashes → ℕ → Dashes
 dashes_behind dashes c = if c == hyphen then one_more dashes else NoDash
 
--- the raw text behind a character: `>` behind two dashes ends what `<!--` began
+-- the raw text after a character: `>` after two dashes ends what `<!--` began
 unfoldable pub raw_behind : Raw → ℕ → Raw
 raw_behind (Escaped dashes) c = if (c == greater_than) && is_two dashes then ScriptData else Escaped (dashes_behind dashes c)
 raw_behind (DoubleEscaped dashes) c = if (c == greater_than) && is_two dashes then ScriptData else DoubleEscaped (dashes_behind dashes c)
@@ -98,7 +99,7 @@ lower letters = flat_map name_bytes letters
 unfoldable pub ends_raw_text : List ℕ → List ℕ → ℕ → Bool
 ends_raw_text name letters c = not (nat_eq (length name) 0) && (ends_name c && bytes_eq (lower letters) name)
 
--- behind the letters an end tag goes on, or all of it is text
+-- after the letters an end tag goes on, or all of it is text
 unfoldable pub behind_end_name : RawKind → List ℕ → List ℕ → List ℕ → Slice
 behind_end_name kind name letters [] = cut_off (InRaw (InEndName kind letters) name)
 behind_end_name kind name letters (c ∷ text) =
@@ -156,13 +157,13 @@ abbrev pub told_behind_less_than : RawKind → List Told
 told_behind_less_than (raw_kind.ScriptDataEscaped escape_kind.DoubleEscaped) = []
 told_behind_less_than kind = texts (less_than ∷ [])
 
--- the text behind `</`
+-- the text after `</`
 unfoldable pub behind_raw_solidus : RawKind → List ℕ → List ℕ → Slice
 behind_raw_solidus (raw_kind.ScriptDataEscaped escape_kind.DoubleEscaped) name text =
     with_character (texts (solidus ∷ [])) (switch escape_kind.DoubleEscaped name [] text)
 behind_raw_solidus kind name text = with_character [] (end_name kind name [] text)
 
--- whether c behind `<` begins a mark, or a switch
+-- whether c after `<` begins a mark, or a switch
 unfoldable pub begins_mark : RawKind → ℕ → Bool
 begins_mark raw_kind.ScriptData c = c == exclamation_mark
 begins_mark kind c = false

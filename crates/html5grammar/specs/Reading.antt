@@ -1,4 +1,5 @@
--- The reading of a text: its events, which of them its characters decide, and the start behind it.
+-- The reading of a text: its events, which of them its characters decide, and the start after it. It walks from slice to slice;
+-- `sound` of `html5items` says that its messages are those of the items.
 use Rattle.std.specs.Prelude.{ℕ, suc, leb, ◌-◌, Bool, true, false, List, [], ◌∷◌, ◌++◌, length, map, take_while, if◌then◌else◌}
 use Rattle.html5ever_interface.specs.Sink.{Means, Message, stepped, on_line}
 use Rattle.html5ever_interface.specs.Token.{Told, TagOf, Reply}
@@ -51,7 +52,7 @@ events_at input before c tokens =
     } in
     map event tokens
 
--- the events of what `decided_by` decides, behind the text `before`: a reference's own tokens stand before the first character
+-- the events of what `decided_by` decides, after the text `before`: a reference's own tokens stand before the first character
 -- that it doesn't take, characters that were held stand at their places, the error of a declaration stands at its `!`, and that
 -- of a keyword at its first character. There is no line break among them.
 abbrev pub late_event : Input → List ℕ → TextPlace → Late → Event
@@ -66,7 +67,7 @@ late_event input before decided_by late =
 unfoldable pub late_events : Input → List ℕ → TextPlace → List Late → List Event
 late_events input before decided_by late = map (late_event input before decided_by) late
 
--- what is told at a character besides a bad character, and how the text goes on behind it
+-- what is told at a character besides a bad character, and how the text goes on after it
 pub data Here (G : Type 0) : Type 0 where
   Tells : List Told → G → Here G
   -- a tag is told last, and the sink's reply chooses
@@ -107,7 +108,7 @@ brought_by rules foreign cells behind c text = brought_without_answer rules cell
 unfoldable pub brought : Rules → Bool → Slice → ℕ → List ℕ → Brought Slice
 brought rules foreign slice c text = brought_by rules foreign slice.cells slice.behind c text
 
--- the events of a text, and what is open behind it, with the name of the last start tag
+-- the events of a text, and what is open after it, with the name of the last start tag
 pub record Read : Type 0 where
   pub events : List Event
   pub opened : Open
@@ -116,17 +117,17 @@ pub record Read : Type 0 where
 abbrev pub with_events : List Event → Read → Read
 with_events events read = record { events = events ++ read.events; opened = read.opened; last_start_tag = read.last_start_tag }
 
--- what is open behind the last character of a text
+-- what is open after the last character of a text
 abbrev pub open_behind : Behind → Open
 open_behind (Leaves before opened) = opened
 open_behind (Settles late opened) = opened
 open_behind (Asks held) = InDeclaration held
 
--- the name of the last start tag behind a tag
+-- the name of the last start tag after a tag
 unfoldable pub last_behind : List ℕ → TagOf → List ℕ
 last_behind last tag = if is_end_tag tag.kind then last else tag.name
 
--- what is open behind a tag, by the sink's reply and the name of the last start tag
+-- what is open after a tag, by the sink's reply and the name of the last start tag
 abbrev pub open_after_reply : {H : Type 0} → List ℕ → Reply H → Open
 open_after_reply last KeepOn = Between Data
 open_after_reply last ReadPlainText = Between Plain
@@ -135,7 +136,7 @@ open_after_reply last (RunScript handle) = Between Data
 open_after_reply last (SwitchEncoding text) = Between Data
 
 module _ {S H : Type 0} (step : S → Told → ℕ → S) (reply : S → Told → ℕ → Reply H) (foreign : S → Bool) (rules : Rules) (K : Start) where
-  -- the events at the place of c, and those behind it, which `rest` reads from a sink's state and what goes on
+  -- the events at the place of c, and those after it, which `rest` reads from a sink's state and what goes on
   abbrev pub read_here : {G : Type 0} → (S → List ℕ → G → Read) → (Open → G) → S → List ℕ → List ℕ → ℕ → Here G → Read
   read_here rest begin s last before c (Tells told goes_on) =
       let tokens : List Told = bad_character_error rules.exact c ++ told in
@@ -149,7 +150,7 @@ module _ {S H : Type 0} (step : S → Told → ℕ → S) (reply : S → Told �
       (rest (step t (Tag tag) line) name (begin (open_after_reply name (reply t (Tag tag) line))))
 
   -- the events at the places of a text, with `before` in front of it, where the sink has the state s and the last start tag
-  -- had the name `last`. The sink is asked about foreign content in the state behind all events before the `<!`, since nothing is
+  -- had the name `last`. The sink is asked about foreign content in the state after all events before the `<!`, since nothing is
   -- told between that and the answer.
   unfoldable pub read_from : S → List ℕ → List ℕ → Slice → List ℕ → Read
   read_from s last before slice [] = record { events = []; opened = open_behind slice.behind; last_start_tag = last }
@@ -159,7 +160,7 @@ module _ {S H : Type 0} (step : S → Told → ℕ → S) (reply : S → Told �
       (read_here (λ t name rest. read_from t name (before ++ c ∷ []) rest text) cut_off
       (stepped step s (on_line (line_after K.input before) (tokens_of_late next.settled))) last before c next.here)
 
-  -- the events that the characters of X decide, and what is open behind them
+  -- the events that the characters of X decide, and what is open after them
   unfoldable pub read : S → List ℕ → Read
   read s X = let Y = normalised K.input X in read_from s K.last_start_tag [] (rest_of rules K.opened Y) Y
 

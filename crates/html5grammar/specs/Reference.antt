@@ -1,5 +1,6 @@
 -- Character references: `&` and a name of the table, or `&#` and a number. What is held is the longest beginning of the text
--- behind `&` that leaves the reference undecided; the character behind it decides, or the end.
+-- after `&` that leaves the reference undecided; the character after it decides, or the end. The slices at the end are vocabulary of
+-- proofs: how a reference is written stands in `html5items/specs/Reference`.
 use Rattle.std.specs.Prelude.{ℕ, ◌+◌, ◌-◌, ◌%◌, ◌^◌, suc, Bool, true, false, List, [], ◌∷◌, ◌++◌, ◌==◌, ◌||◌, ◌&&◌, nat_lt, nat_eq, length, drop, replicate, codes, encode_utf8, map, Option, Some, None, not, flat_map, encode_utf8_all, if◌then◌else◌}
 use Rattle.std.specs.Option.{is_none, unwrap_or}
 use Rattle.std.specs.List.{list_all, starts_with}
@@ -20,7 +21,7 @@ use Rattle.html5grammar.specs.Start.Stand.{InText, InAttribute}
 use Rattle.markup5ever.specs.C1.{character_of_c1}
 use Rattle.markup5ever.specs.NamedReferences.{NamedReference, begins_name}
 
--- what a reference comes to: how many characters behind `&` it takes, its errors, and its characters
+-- what a reference comes to: how many characters after `&` it takes, its errors, and its characters
 pub record Found : Type 0 where
   pub taken : ℕ
   pub errors : List Told
@@ -41,12 +42,12 @@ error message = Error message ∷ []
 abbrev pub with_value : OpenTag → List ℕ → OpenTag
 with_value tag run = record tag { last_value = tag.last_value ++ flat_map value_bytes run }
 
--- ---- numbers: what stands behind `&#`
+-- ---- numbers: what stands after `&#`
 
 abbrev pub is_x : ℕ → Bool
 is_x c = (c == small_x) || (c == capital_x)
 
--- the digits behind an `x` are those of base 16, and else of base 10
+-- the digits after an `x` are those of base 16, and else of base 10
 abbrev pub base_of : List ℕ → ℕ
 base_of [] = 10
 base_of (c ∷ text) = if is_x c then 16 else 10
@@ -55,7 +56,7 @@ abbrev pub is_digit_of : List ℕ → ℕ → Bool
 is_digit_of [] d = is_ascii_digit d
 is_digit_of (c ∷ text) d = if is_x c then is_ascii_hexdigit d else is_ascii_digit d
 
--- what stands behind the `x`, where there is one
+-- what stands after the `x`, where there is one
 abbrev pub behind_x : List ℕ → List ℕ
 behind_x [] = []
 behind_x (c ∷ text) = if is_x c then text else c ∷ text
@@ -89,12 +90,12 @@ invalid_number exact v =
     if exact then codes "Invalid numeric character reference value 0x" ++ six_digits (v % 2 ^ 32)
     else codes "Invalid numeric character reference"
 
--- a semicolon behind a number belongs to it
+-- a semicolon after a number belongs to it
 abbrev pub semicolon_len : Option ℕ → ℕ
 semicolon_len None = 0
 semicolon_len (Some c) = if c == semicolon then 1 else 0
 
--- the error of a number behind which no semicolon stands
+-- the error of a number after which no semicolon stands
 unfoldable pub unended_number : Option ℕ → List Told
 unended_number None = error (codes "EOF in numeric character reference")
 unended_number (Some c) = where_true (not (c == semicolon)) (Error (codes "Semicolon missing after numeric character reference"))
@@ -171,7 +172,7 @@ named_reference exact in_value held next (Some entry) =
 
 -- ---- references
 
--- whether what stands behind `&` leaves a reference undecided
+-- whether what stands after `&` leaves a reference undecided
 unfoldable pub is_undecided : List NamedReference → List ℕ → Bool
 is_undecided names [] = true
 is_undecided names (c ∷ held) =
@@ -217,7 +218,7 @@ late_tokens stand found held =
 abbrev pub opened_behind : Stand → Found → List ℕ → Open
 opened_behind stand found held = opened_in stand (characters_in found ++ drop found.taken held)
 
--- behind what is held
+-- after what is held
 unfoldable pub behind_held : Rules → Stand → List ℕ → List ℕ → Slice
 behind_held rules stand held [] = cut_off (InReference stand held)
 behind_held rules stand held (c ∷ text) =

@@ -1,4 +1,4 @@
--- Slices of a text: what is told at each of their characters, and how the text goes on behind them.
+-- Slices of a text: what is told at each of their characters, and how the text goes on after them. Vocabulary of proofs.
 use Rattle.std.specs.Prelude.{ℕ, Bool, List, [], ◌∷◌, ◌++◌, map, if◌then◌else◌}
 use Rattle.html5ever_interface.specs.Token.{Told, TagOf}
 use Rattle.html5grammar.specs.Start.{Open}
@@ -6,7 +6,7 @@ use Rattle.html5grammar.specs.Start.{Open}
 -- what is told only when a later character, the last one of its own item, or the end decides it
 pub record Late : Type 0 where
   pub token : Told
-  -- how many characters before the place behind the deciding one the token stands
+  -- how many characters before the place after the deciding one the token stands
   pub back : ℕ
   -- whether it stands at the character there, and not before it
   pub is_at : Bool
@@ -21,13 +21,13 @@ pub data Cell : Type 0 where
   -- the character decides this, and ends the slice within another, of which this is open
   Returns : List Late → Open → Cell
 
--- how a text goes on behind a slice
+-- how a text goes on after a slice
 pub data Behind : Type 0 where
   -- first something is told at the next character, and this is open
   Leaves : List Told → Open → Behind
   -- the next character decides what is told before it, and then this is open; what the end decides is said in `EndOfInput`
   Settles : List Late → Open → Behind
-  -- behind `<!` and what is held the next character begins no comment and no doctype: whether a CDATA section may begin there is
+  -- after `<!` and what is held the next character begins no comment and no doctype: whether a CDATA section may begin there is
   -- asked of the sink
   Asks : List ℕ → Behind
 

@@ -25,9 +25,9 @@ pub data Raw : Type 0 where
   Rcdata : Raw
   Rawtext : Raw
   ScriptData : Raw
-  -- script data behind `<!--`
+  -- script data after `<!--`
   Escaped : Dashes → Raw
-  -- the same behind a `<script`
+  -- the same after a `<script`
   DoubleEscaped : Dashes → Raw
 
 -- how the characters of the text are read between items
@@ -56,26 +56,26 @@ pub data Place : Type 0 where
   InName : Place
   BeforeAttribute : Place
   InAttributeName : Place
-  -- in white space behind an attribute's name
+  -- in white space after an attribute's name
   AfterAttributeName : Place
-  -- behind `=`
+  -- after `=`
   BeforeValue : Place
   InValue : AttrValueKind → Place
-  -- directly behind the closing quote of a value
+  -- directly after the closing quote of a value
   AfterQuotedValue : Place
-  -- directly behind a `/` outside a value
+  -- directly after a `/` outside a value
   AfterSolidus : Place
 
 -- a place in raw text where something is open
 pub data RawPlace : Type 0 where
-  -- behind `<`
+  -- after `<`
   AfterLessThan : RawKind → RawPlace
-  -- behind `</` and letters, which may be the name of an end tag
+  -- after `</` and letters, which may be the name of an end tag
   InEndName : RawKind → List ℕ → RawPlace
-  -- behind the `<!` of script data, and behind its `<!-`
+  -- after the `<!` of script data, and after its `<!-`
   AfterMark : RawPlace
   AfterMarkAndDash : RawPlace
-  -- behind `<` and letters in escaped script data, and behind `</` and letters in double-escaped script data
+  -- after `<` and letters in escaped script data, and after `</` and letters in double-escaped script data
   InSwitch : ScriptEscapeKind → List ℕ → RawPlace
 
 -- the quotes of an identifier
@@ -85,21 +85,21 @@ pub data Quotes : Type 0 where
 
 -- a place in a doctype
 pub data DoctypePlace : Type 0 where
-  -- directly behind `doctype`
+  -- directly after `doctype`
   AfterWord : DoctypePlace
   -- in white space before the name
   BeforeName : DoctypePlace
   InDoctypeName : DoctypePlace
-  -- in white space behind the name
+  -- in white space after the name
   AfterName : DoctypePlace
-  -- directly behind `public` or `system`
+  -- directly after `public` or `system`
   AfterKeyword : DoctypeIdKind → DoctypePlace
-  -- in white space behind that
+  -- in white space after that
   BeforeIdentifier : DoctypeIdKind → DoctypePlace
   InIdentifier : Quotes → DoctypeIdKind → DoctypePlace
-  -- directly behind an identifier, and behind that of the system also in white space
+  -- directly after an identifier, and after that of the system also in white space
   AfterIdentifier : DoctypeIdKind → DoctypePlace
-  -- in white space behind a public identifier
+  -- in white space after a public identifier
   BetweenIdentifiers : DoctypePlace
   -- in what is skipped up to `>`
   Skipped : DoctypePlace
@@ -121,7 +121,7 @@ pub data Open : Type 0 where
   InTag : Place → OpenTag → Open
   -- in raw text, with the name whose end tag ends it
   InRaw : RawPlace → List ℕ → Open
-  -- behind `<!`, with the characters that may begin a keyword
+  -- after `<!`, with the characters that may begin a keyword
   InDeclaration : List ℕ → Open
   -- in a comment, with its text in bytes, and in a bogus one
   InComment : List ℕ → Open
@@ -130,11 +130,11 @@ pub data Open : Type 0 where
   InInstruction : List ℕ → Open
   -- in a doctype, with what it has so far
   InDoctype : DoctypePlace → DoctypeOf → Open
-  -- behind a doctype's name and white space, with the characters, at least one, that may begin `public` or `system`
+  -- after a doctype's name and white space, with the characters, at least one, that may begin `public` or `system`
   InDoctypeKeyword : List ℕ → DoctypeOf → Open
-  -- inside a CDATA section, with its text that is not told yet, in bytes: it is never empty, and its brackets belong to it
+  -- inside a CDATA section, with its characters that are not told yet: there is one, and its brackets belong to them
   InCdata : List ℕ → Open
-  -- a reference that is not decided, with the characters behind its `&`
+  -- a reference that is not decided, with the characters after its `&`
   InReference : Stand → List ℕ → Open
 
 -- nothing is open, so that what follows can be read anew
@@ -180,7 +180,7 @@ pub record Start : Type 0 where
 abbrev pub begun : TagKind → OpenTag
 begun kind = record { kind = kind; name = []; attributes = []; had_duplicate_attributes = false; last_name = []; last_value = [] }
 
--- script data behind `<!--`, with the dashes directly before
+-- script data after `<!--`, with the dashes directly before
 abbrev pub escaped : ScriptEscapeKind → Dashes → Raw
 escaped escape_kind.Escaped dashes = Escaped dashes
 escaped escape_kind.DoubleEscaped dashes = DoubleEscaped dashes

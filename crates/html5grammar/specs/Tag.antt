@@ -1,5 +1,6 @@
 -- Tags: a name, then parts up to `>`. The parts are white space, `/`, and attributes, each a name and, where white space
 -- and `=` follow it, a value.
+-- The slices below are vocabulary of proofs: how a tag is written stands in `html5items/specs/Tag`.
 use Rattle.std.specs.Prelude.{ℕ, Bool, true, false, List, [], ◌∷◌, ◌++◌, ◌==◌, ◌||◌, ◌&&◌, flat_map, codes, not, length, nat_eq, if◌then◌else◌}
 use Rattle.std.specs.Str.{bytes_eq}
 use Rattle.html5ever_interface.specs.Token.{Told, TagOf}
@@ -42,7 +43,7 @@ has_attribute (a ∷ attributes) name = bytes_eq a.name.local name || has_attrib
 unfoldable pub repeats_attribute : OpenTag → Bool
 repeats_attribute tag = has_attribute tag.attributes tag.last_name
 
--- the tag behind its last attribute: one whose name stands in the tag already is dropped
+-- the tag after its last attribute: one whose name stands in the tag already is dropped
 unfoldable pub with_last_attribute : OpenTag → OpenTag
 with_last_attribute tag =
     if not (has_last tag) then tag
@@ -137,7 +138,7 @@ unquoted_value rules tag text =
     let run : List ℕ = run_of in_unquoted text in
     with_run (unquoted_error rules.exact) run (behind_unquoted rules (with_value tag run) (behind_run in_unquoted text))
 
--- a value, behind `=` and white space
+-- a value, after `=` and white space
 unfoldable pub value : Rules → OpenTag → List ℕ → Slice
 value rules tag [] = cut_off (InTag BeforeValue tag)
 value rules tag (c ∷ text) =
@@ -152,7 +153,7 @@ value_behind_space rules tag text =
 
 -- ---- attributes
 
--- behind an attribute's name and white space
+-- after an attribute's name and white space
 unfoldable pub value_or_next : Rules → OpenTag → List ℕ → Slice
 value_or_next rules tag [] = cut_off (InTag AfterAttributeName tag)
 value_or_next rules tag (c ∷ text) =
@@ -163,7 +164,7 @@ unfoldable pub behind_name_and_space : Rules → OpenTag → List ℕ → Slice
 behind_name_and_space rules tag text =
     with_run silent (run_of is_white_space text) (value_or_next rules tag (behind_run is_white_space text))
 
--- behind an attribute's name
+-- after an attribute's name
 unfoldable pub behind_attribute_name : Rules → OpenTag → List ℕ → Slice
 behind_attribute_name rules tag [] = cut_off (InTag InAttributeName tag)
 behind_attribute_name rules tag (c ∷ text) =
@@ -189,7 +190,7 @@ attribute_name_error exact c = where_true (is_odd_in_name c) (error_in exact sta
 abbrev pub with_last_name : OpenTag → List ℕ → OpenTag
 with_last_name tag run = record tag { last_name = tag.last_name ++ flat_map name_bytes run }
 
--- an attribute behind the first character of its name
+-- an attribute after the first character of its name
 unfoldable pub attribute_behind_first : Rules → OpenTag → List ℕ → Slice
 attribute_behind_first rules tag text =
     let run : List ℕ = run_of in_attribute_name text in

@@ -1,4 +1,5 @@
 -- Text between tags: plain text, and the text of the mode Data with the choice that `<` opens there.
+-- The slices below are vocabulary of proofs: how text is written stands in `html5items/specs/Items`.
 use Rattle.std.specs.Prelude.{ℕ, Bool, List, [], ◌∷◌, ◌++◌, ◌==◌, codes, encode_utf8, if◌then◌else◌}
 use Rattle.html5ever_interface.specs.Token.{Told}
 use Rattle.html5ever_interface.specs.Token.Told.{Text, Null}
@@ -23,7 +24,7 @@ plain_text exact c =
     if c == null then error_in exact state.Plaintext c ∷ Text (encode_utf8 replacement_character) ∷ []
     else Text (encode_utf8 c) ∷ []
 
--- behind `</`: a letter begins an end tag, `>` leaves nothing, and another character a bogus comment, with an error
+-- after `</`: a letter begins an end tag, `>` leaves nothing, and another character a bogus comment, with an error
 unfoldable pub behind_solidus : Bool → List ℕ → Slice
 behind_solidus exact [] = cut_off LessThanSolidus
 behind_solidus exact (c ∷ text) =
@@ -31,7 +32,7 @@ behind_solidus exact (c ∷ text) =
     else if c == greater_than then one_character (error_in exact state.EndTagOpen c ∷ []) (Between Data)
     else no_character (Leaves (error_in exact state.EndTagOpen c ∷ []) (InBogusComment []))
 
--- behind `<`: a letter begins a start tag, `/` and `!` lead on, and `?` begins a processing instruction; before another character `<` is text,
+-- after `<`: a letter begins a start tag, `/` and `!` lead on, and `?` begins a processing instruction; before another character `<` is text,
 -- with an error
 unfoldable pub behind_less_than : Bool → List ℕ → Slice
 behind_less_than exact [] = cut_off LessThan

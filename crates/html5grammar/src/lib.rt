@@ -20,7 +20,7 @@ use html5ever_interface::interface::token::Token;
 use std::alloc::Allocator;
 
 /// Forgetting: what a text tells is what its first part tells, then what its rest tells from the
-/// start behind that part, in the state of the sink that the first part leaves. So a reader may
+/// start after that part, in the state of the sink that the first part leaves. So a reader may
 /// forget all but that start, wherever a text is cut.
 pub fn forgetting<S: TokenSink<Token<A>>, A: Allocator>()
     ensures told { (rules : Rules) (K : Start) (s : S.State) (text rest : List ℕ) →
@@ -42,7 +42,7 @@ pub fn beginning<S: TokenSink<Token<A>>, A: Allocator>()
 {}
 
 /// What is told of a text, however it goes on: the events of the reading of the whole before the first
-/// that a character behind the text decides, or the end.
+/// that a character after the text decides, or the end.
 pub fn told_of_a_split<S: TokenSink<Token<A>>, A: Allocator>()
     ensures { (rules : Rules) (K : Start) (s : S.State) (text more : List ℕ) →
         told S.means.step S.means.reply S.means.foreign rules K s text
@@ -50,7 +50,7 @@ pub fn told_of_a_split<S: TokenSink<Token<A>>, A: Allocator>()
         (reading S.means.step S.means.reply S.means.foreign rules K s (text ++ more)) }
 {}
 
-/// Names behind an `&` that no `#` follows: the longest name that begins what is held when a reference
+/// Names after an `&` that no `#` follows: the longest name that begins what is held when a reference
 /// is decided is the longest that begins the whole text. By a table what is held is the longest
 /// beginning of the text that begins a name, or, where no name begins the text, its letters and digits
 /// up to another character.

@@ -1,6 +1,5 @@
 -- What is proved of a CDATA section, as it is written.
 pub mod Steps
 pub mod Reading
-pub mod Collected
 pub mod Forms
 mod Cases

@@ -15,8 +15,9 @@ use Rattle.html5items.specs.Comment.WrittenComment.{Proper, Bogus}
 use Rattle.html5items.specs.Comment.Opening.{Solidus, ExclamationMark}
 use Rattle.html5grammar.specs.Comment.{in_bogus_comment}
 use Rattle.html5grammar.specs.Start.{Start, Mode, Raw, Open, Rules, is_clean}
+use Rattle.html5grammar.proofs.ReadingLemmas.{clean-mode}
 use Rattle.html5grammar.specs.Start.Mode.{Data, Plain, RawText, Cdata}
-use Rattle.html5grammar.specs.Start.Open.{Between, LessThan, LessThanSolidus, InTag, InRaw, InDeclaration, InComment, InBogusComment, InInstruction, InDoctype, InDoctypeKeyword, InCdata, InReference}
+use Rattle.html5grammar.specs.Start.Open.{Between, LessThan}
 use Rattle.html5items.specs.Reference.{has_references}
 use Rattle.html5items.specs.Items.{is_text, is_lone_before, Item, Unfinished, Items, Composed, ToldItems, FinishedItems, is_text_at_once, is_text_later}
 use Rattle.html5items.specs.Items.Item.{OneTag, OneCharacter, OneLone, OneLoneBefore, OneEmptyEnd, OneComment, OneInstruction, OneReferenceIn, OneDoctype, OneRawCharacter, OneCdata, OneRawMark, OneRawLessThan, OneRawLessThanBefore, OneRawEnd}
@@ -64,22 +65,6 @@ use Rattle.html5items.proofs.Soundness.{tells-items, reading-items}
 use Rattle.html5items.proofs.Split.{Split, split, nil≢cons, cons_first, cons_rest}
 use Rattle.html5items.proofs.Comment.Forms.{Behind, behind, begins-parts}
 use Rattle.html5items.proofs.Comment.Forms.Behind.{Ends, Open as Endless}
-
--- where nothing is open there is a mode
-pub clean-mode : (opened : Open) → is_clean opened ≡ true → (mode : Mode) × (opened ≡ Between mode)
-clean-mode (Between mode) h = (mode, refl)
-clean-mode LessThan h = absurd (false≢true h)
-clean-mode LessThanSolidus h = absurd (false≢true h)
-clean-mode (InTag place tag) h = absurd (false≢true h)
-clean-mode (InRaw place name) h = absurd (false≢true h)
-clean-mode (InDeclaration held) h = absurd (false≢true h)
-clean-mode (InComment before) h = absurd (false≢true h)
-clean-mode (InBogusComment before) h = absurd (false≢true h)
-clean-mode (InInstruction text) h = absurd (false≢true h)
-clean-mode (InDoctype place d) h = absurd (false≢true h)
-clean-mode (InDoctypeKeyword held d) h = absurd (false≢true h)
-clean-mode (InCdata held) h = absurd (false≢true h)
-clean-mode (InReference stand held) h = absurd (false≢true h)
 
 begins-longer : (word front later : List ℕ) → begins_with word front ≡ true → begins_with word (front ++ later) ≡ true
 begins-longer word front later h =
@@ -289,7 +274,7 @@ module _ {X S H : Type 0} (means : Means X S H) (rules : Rules) where
         text = front ∙ sym w.is_text;
       }) w.ends)
 
-  -- a doctype, and a bogus comment behind `<!`
+  -- a doctype, and a bogus comment after `<!`
   next-ended : (K : Start) (s : S) (X content later : List ℕ) → begins_with (codes "--") content ≡ false → (means.foreign s && begins_with (codes "[CDATA[") content) ≡ false → list_all in_bogus_comment content ≡ true
       → (d : Bool) → begins_with (codes "doctype") (lower_case content) ≡ d → K.opened ≡ Between Data → normalised K.input X ≡ codes "<!" ++ ((content ++ greater_than ∷ []) ++ later) → Next K s X
   unfolding one_comment.written is_written
@@ -304,7 +289,7 @@ module _ {X S H : Type 0} (means : Means X S H) (rules : Rules) where
       next-item K s X less_than (exclamation_mark ∷ content ++ greater_than ∷ []) later _ (Between Data) K.last_start_tag e refl
       (λ Y Z front behind_it. OneComment (Bogus ExclamationMark content) (record { starts = starts; is_comment = rw (no_dashes, d, no_cdata, all) refl; text = front }))
 
-  -- a bogus comment behind `</`
+  -- a bogus comment after `</`
   next-bogus : (K : Start) (s : S) (X T : List ℕ) → ((content : List ℕ) → UpTo T content → (can_open false Solidus content ≡ true) × ((answer : Bool) → can_open answer Solidus content ≡ true))
       → K.opened ≡ Between Data → normalised K.input X ≡ codes "</" ++ T → UpTo_end T → Next K s X
   unfolding one_comment.written is_written
@@ -321,7 +306,7 @@ module _ {X S H : Type 0} (means : Means X S H) (rules : Rules) where
         text = text;
       }))
 
-  -- behind `<?`
+  -- after `<?`
   next-instruction : (K : Start) (s : S) (X T : List ℕ) → K.opened ≡ Between Data → normalised K.input X ≡ codes "<?" ++ T → UpTo_end T → Next K s X
   unfolding one_instruction.written one_instruction.is_written in_bogus_comment in_instruction
   next-instruction K s X T starts e (NoEnd all) =
@@ -361,7 +346,7 @@ module _ {X S H : Type 0} (means : Means X S H) (rules : Rules) where
   next-open_declaration K s X T no_dashes no_cdata all false false d e starts text =
       Cut _ _ (OpenBogusDeclaration T (record { starts = starts; opens = rw (no_dashes, d, no_cdata) refl; decided = e; within = all; text = text }))
 
-  -- behind `<!--`
+  -- after `<!--`
   next-comment : (K : Start) (s : S) (X T : List ℕ) → K.opened ≡ Between Data → normalised K.input X ≡ codes "<!--" ++ T → Behind T → Next K s X
   unfolding one_comment.written is_written
   next-comment K s X T starts e (Endless h) = Cut _ _ (OpenComment T (record { starts = starts; is_content = h; text = e }))

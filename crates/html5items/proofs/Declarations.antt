@@ -1,4 +1,4 @@
--- What stands behind `<!` and has no `>`: a keyword that only the end decides, and a bogus comment.
+-- What stands after `<!` and has no `>`: a keyword that only the end decides, and a bogus comment.
 use Rattle.std.proofs.Common.{◌≡◌, inl, inr, ℕ, Bool, true, false, List, [], ◌∷◌, ◌++◌, length, drop, refl, ap, sym, ◌∙◌, subst}
 use Rattle.std.specs.Prelude.{◌==◌, ◌&&◌, ◌||◌, not, codes, nat_eq, if◌then◌else◌}
 use Rattle.std.specs.Char.{to_ascii_lowercase}
@@ -129,7 +129,7 @@ module _ {X S H : Type 0} (means : Means X S H) (rules : Rules) where
       ∙ ap (λ l. trace means.step means.reply means.foreign rules s (line_after K.input (codes "<!")) last (InDeclaration []) l) (sym (append-nil held))
       ∙ trace-held means.step means.reply means.foreign rules InDeclaration K.input (codes "<!") s last [] held [] are plain.good))
 
-  -- the content of a bogus comment behind `<!`, and what is open behind it
+  -- the content of a bogus comment after `<!`, and what is open after it
   trace-open_bogus : (K : Start) (s : S) (content : List ℕ) → can_open (means.foreign s) ExclamationMark content ≡ true → begins_declaration (means.foreign s) content ≡ false
       → list_all in_bogus_comment content ≡ true
       → trace means.step means.reply means.foreign rules s (line_after K.input []) K.last_start_tag (Between Data) (codes "<!" ++ content)

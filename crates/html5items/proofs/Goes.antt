@@ -25,7 +25,7 @@ pub characters-spell : (tells : ℕ → List Told) (run : List ℕ) → characte
 characters-spell tells [] = refl
 characters-spell tells (c ∷ run) = ap (λ l. c ∷ l) (characters-spell tells run)
 
--- two pieces behind one another
+-- two pieces after one another
 pub characters-two : (xs ys : List Spelled) (X Y : List ℕ) → characters xs ≡ X → characters ys ≡ Y → characters (xs ++ ys) ≡ X ++ Y
 characters-two xs ys X Y e f = characters-append xs ys ∙ rw (e, f) refl
 

@@ -144,7 +144,7 @@ begins-while begins before (c ∷ text) h =
       | false ↦ λ e. ap begins (append-nil before) ∙ h
     ] refl
 
--- the character behind what is held decides, be it a `>`, with which nothing begins
+-- the character after what is held decides, be it a `>`, with which nothing begins
 pub decides-while : (begins : List ℕ → Bool) → ((text : List ℕ) → begins (text ++ greater_than ∷ []) ≡ false) → (before text : List ℕ)
     → next_is (λ d. not (begins ((before ++ run_while begins before text) ++ d ∷ []))) (behind_while begins before text ++ greater_than ∷ []) ≡ true
 unfolding run_while behind_while

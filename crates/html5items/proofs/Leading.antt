@@ -1,4 +1,4 @@
--- Characters that tell what they spell, also behind `<!`, where a keyword is undecided.
+-- Characters that tell what they spell, also after `<!`, where a keyword is undecided.
 use Rattle.std.proofs.Common.{◌≡◌, ℕ, Bool, false, List, [], ◌∷◌, ◌++◌, refl, ap, ◌∙◌, sym, subst}
 use Rattle.std.proofs.lemmas.List.{append_assoc, append-nil}
 use Rattle.html5ever_interface.proofs.Steppings.{stepped-append}
@@ -61,7 +61,7 @@ module _ {S H : Type 0} (step : S → Told → ℕ → S) (reply : S → Told �
       rw (stepped-append step s M N)
       (ap (λ l. record { messages = l; opened = rest.opened; last_start_tag = rest.last_start_tag }) (sym (append_assoc M N rest.messages)))
 
-  -- what is spelled is told, and the machine goes on behind it
+  -- what is spelled is told, and the machine goes on after it
   pub trace-leads : (input : Input) (before : List ℕ) (s : S) (last : List ℕ) (opened behind : Open) (cells : List Spelled) (text : List ℕ)
       → Leads rules opened cells behind
       → trace step reply foreign rules s (line_after input before) last opened (characters cells ++ text)
@@ -78,7 +78,7 @@ module _ {S H : Type 0} (step : S → Told → ℕ → S) (reply : S → Told �
       ∙ with-two s M N (line_after input (past ++ characters more)) last behind text
       ∙ ap (λ b. with_messages (M ++ N) (trace step reply foreign rules (stepped step s (M ++ N)) (line_after input b) last behind text)) (append_assoc before (here.character ∷ []) (characters more)))
 
-  -- the same, where the text ends behind it
+  -- the same, where the text ends after it
   pub trace-ends : (input : Input) (before : List ℕ) (s : S) (last : List ℕ) (opened behind : Open) (cells : List Spelled)
       → Leads rules opened cells behind
       → trace step reply foreign rules s (line_after input before) last opened (characters cells)

@@ -1,6 +1,6 @@
 -- A text that is composed of items tells what they tell.
 use Rattle.std.proofs.Common.{◌≡◌, ℕ, Bool, true, false, List, [], ◌∷◌, ◌++◌, refl, ap, sym, ◌∙◌, subst}
-use Rattle.std.specs.Prelude.{◌==◌, ◌&&◌, not, codes, drop, encode_utf8, encode_utf8_all, None, if◌then◌else◌}
+use Rattle.std.specs.Prelude.{◌==◌, ◌&&◌, not, codes, drop, encode_utf8, None, if◌then◌else◌}
 use Rattle.std.specs.Option.{is_none}
 use Rattle.std.proofs.lemmas.Bool.{eqb-true, and_parts, not-true, false≢true}
 use Rattle.std.proofs.lemmas.List.{append-nil}
@@ -129,7 +129,7 @@ module _ {X S H : Type 0} (means : Means X S H) (rules : Rules) where
       trace-by_itself means rules K s Y (spelled_messages rules.exact K.input [] cells) later K.last_start_tag
       (rw (starts, e) (trace-text means.step means.reply means.foreign rules K.input [] s K.last_start_tag opened later cells text f leads))
 
-  -- what `<` tells where c begins something behind it
+  -- what `<` tells where c begins something after it
   lone-step : (c : ℕ) → is_lone_before c ≡ true → is_text Data c ≡ false → step_at rules.exact LessThan c ≡ told_first (error_in rules.exact state.TagOpen c ∷ Text (codes "<") ∷ []) (step_at rules.exact (Between Data) c)
   unfolding step_at less_than_step data_step
   lone-step c lone markup =
@@ -149,7 +149,7 @@ module _ {X S H : Type 0} (means : Means X S H) (rules : Rules) where
       at false true e = refl
       at false false e = absurd (false≢true (sym e))
 
-  -- which is read as behind the text `<`
+  -- which is read as after the text `<`
   trace-lone_at : (s : S) (line : ℕ) (last : List ℕ) (c : ℕ) (rest : List ℕ) (later : Open) (E : List Told) → bad_character_error rules.exact c ≡ [] → line_past line c ≡ line
       → step_at rules.exact LessThan c ≡ Tells E later → step_at rules.exact (Between Data) c ≡ Tells [] later
       → trace means.step means.reply means.foreign rules s line last LessThan (c ∷ rest)
@@ -226,7 +226,7 @@ module _ {X S H : Type 0} (means : Means X S H) (rules : Rules) where
       tells-before_with means rules Z K s Y N (Between Data) K.last_start_tag
       (trace-by_itself means rules K s Y N (Between Data) K.last_start_tag
       (reads means.step means.reply means.foreign rules K s Y cdata one
-      ∙ ap (λ b. record { messages = N; opened = if b then Between Data else open_cdata (encode_utf8_all cdata.last); last_start_tag = K.last_start_tag }) ended) Z)
+      ∙ ap (λ b. record { messages = N; opened = if b then Between Data else open_cdata cdata.last; last_start_tag = K.last_start_tag }) ended) Z)
   item-tells Z K s Y M later table (OneReferenceIn mode F one) =
       tells-before_with means rules Z K s Y _ (Between mode) K.last_start_tag (reference-before_all means rules Z K s Y mode F table one)
   item-tells Z K s Y M later table (OneRawCharacter raw name c one) =
@@ -350,10 +350,10 @@ module _ {X S H : Type 0} (means : Means X S H) (rules : Rules) where
   tells-unfinished K s X M E table (OpenDoctype doctype one) = tells-open_doctype means rules K s X doctype one
   tells-unfinished K s X M E table (OpenCdata cdata one unended) =
       let N : List Message = spelled_messages rules.exact K.input (one_cdata.opening_text cdata.has_opening) (one_cdata.spell_cdata cdata) in
-      subst (λ tokens. TellsAll means rules K s X N (on_line (line_after (input_after K.input X) []) tokens)) (tokens-cdata rules (encode_utf8_all cdata.last))
-      (tells-trace means rules K s X N (open_cdata (encode_utf8_all cdata.last)) K.last_start_tag
+      subst (λ tokens. TellsAll means rules K s X N (on_line (line_after (input_after K.input X) []) tokens)) (tokens-cdata rules cdata.last)
+      (tells-trace means rules K s X N (open_cdata cdata.last) K.last_start_tag
       (reads means.step means.reply means.foreign rules K s X cdata one
-      ∙ ap (λ b. record { messages = N; opened = if b then Between Data else open_cdata (encode_utf8_all cdata.last); last_start_tag = K.last_start_tag }) unended))
+      ∙ ap (λ b. record { messages = N; opened = if b then Between Data else open_cdata cdata.last; last_start_tag = K.last_start_tag }) unended))
   tells-unfinished K s X M E table (OpenComment content one) =
       tells-trace means rules K s X (spelled_messages rules.exact K.input [] (spell_open_comment rules.exact content)) (InComment (bytes_of content)) K.last_start_tag
       (rw (one.starts, one.text)

@@ -1,14 +1,14 @@
 -- One CDATA section as it is written, and what it tells.
-use Rattle.std.specs.Prelude.{◌≡◌, ℕ, Bool, true, List, [], ◌∷◌, ◌++◌, ◌==◌, ◌||◌, ◌&&◌, not, map, codes, encode_utf8_all, Option, Some, None, if◌then◌else◌}
+use Rattle.std.specs.Prelude.{◌≡◌, ℕ, Bool, true, List, [], ◌∷◌, ◌++◌, ◌==◌, ◌||◌, ◌&&◌, not, codes, if◌then◌else◌}
 use Rattle.std.specs.List.{list_all}
-use Rattle.html5ever_interface.specs.Collected.{told_text, kept_text}
 use Rattle.html5ever_interface.specs.Sink.{Message, on_line}
 use Rattle.html5ever_interface.specs.Token.{Told}
 use Rattle.html5ever_interface.specs.Token.Told.{Null, End}
 use Rattle.html5ever_interface.specs.declared.states.State.TheVariants as state
-use Rattle.html5grammar.specs.Cdata.{open_cdata, piece_text}
+use Rattle.html5grammar.specs.Cdata.{open_cdata}
 use Rattle.html5grammar.specs.Characters.{null, greater_than}
 use Rattle.html5grammar.specs.ErrorText.{end_error_in}
+use Rattle.html5grammar.specs.RawText.{texts}
 use Rattle.html5grammar.specs.NormalisedText.{normalised, line_after}
 use Rattle.html5items.specs.Comment.{occurs}
 use Rattle.html5items.specs.Spelled.{Spelled, spell_silent, spelled_messages}
@@ -21,9 +21,9 @@ use Rattle.html5grammar.specs.Start.Open.{Between}
 pub record WrittenCdata : Type 0 where
   -- whether it begins with `<![CDATA[`: else it is read from inside a section on
   pub has_opening : Bool
-  -- the pieces of its text that have a NUL behind them
+  -- the pieces of its text that have a NUL after them
   pub pieces : List (List ℕ)
-  -- the piece behind the last NUL
+  -- the piece after the last NUL
   pub last : List ℕ
   -- whether it ends with `]]>`
   pub is_ended : Bool
@@ -36,7 +36,7 @@ opening_text has_opening = if has_opening then codes "<![CDATA[" else []
 abbrev pub end_text : Bool → List ℕ
 end_text is_ended = if is_ended then codes "]]>" else []
 
--- pieces, each with a NUL behind it, and the last one
+-- pieces, each with a NUL after it, and the last one
 unfoldable pub pieces_text : List (List ℕ) → List ℕ → List ℕ
 pieces_text [] last = last
 pieces_text (piece ∷ pieces) last = piece ++ null ∷ pieces_text pieces last
@@ -56,28 +56,28 @@ is_written foreign cdata = (not cdata.has_opening || foreign) && (list_all is_pi
 
 -- ---- what it tells
 
--- a NUL tells the piece before it, if that has any text, and itself
+-- a NUL tells the piece before it, each character as a text, and itself
 abbrev pub spell_null : List ℕ → List Spelled
-spell_null piece = record { character = null; told = piece_text (encode_utf8_all piece) ++ Null ∷ [] } ∷ []
+spell_null piece = record { character = null; told = texts piece ++ Null ∷ [] } ∷ []
 
 unfoldable pub spell_pieces : List (List ℕ) → List Spelled
 spell_pieces [] = []
 spell_pieces (piece ∷ pieces) = (spell_silent piece ++ spell_null piece) ++ spell_pieces pieces
 
--- the `>` behind `]]` tells the last piece, if that has any text
+-- the `>` after `]]` tells the last piece, each character as a text
 abbrev pub spell_end : Bool → List ℕ → List Spelled
 spell_end is_ended last =
-    if is_ended then spell_silent (codes "]]") ++ record { character = greater_than; told = piece_text (encode_utf8_all last) } ∷ []
+    if is_ended then spell_silent (codes "]]") ++ record { character = greater_than; told = texts last } ∷ []
     else []
 
--- what stands behind the opening, which tells nothing
+-- what stands after the opening, which tells nothing
 abbrev pub spell_cdata : WrittenCdata → List Spelled
 spell_cdata cdata = spell_pieces cdata.pieces ++ (spell_silent cdata.last ++ spell_end cdata.is_ended cdata.last)
 
 -- the end of input tells the last piece where no `]]>` did, and that is an error
 abbrev pub told_at_end : Bool → Bool → List ℕ → List Told
 told_at_end exact is_ended last =
-    if is_ended then End ∷ [] else piece_text (encode_utf8_all last) ++ end_error_in exact state.CdataSection ∷ End ∷ []
+    if is_ended then End ∷ [] else texts last ++ end_error_in exact state.CdataSection ∷ End ∷ []
 
 -- the messages of a text that is one section
 unfoldable pub cdata_messages : Bool → Input → WrittenCdata → List Message
@@ -85,18 +85,9 @@ cdata_messages exact input cdata =
     spelled_messages exact input (opening_text cdata.has_opening) (spell_cdata cdata)
     ++ on_line (line_after input (written cdata)) (told_at_end exact cdata.is_ended cdata.last)
 
--- a message as a collector keeps it: a text is kept on no line
-abbrev pub kept_as : Option (List ℕ) → Message → Message
-kept_as (Some text) m = kept_text text
-kept_as None m = m
-
--- the messages that a collector keeps of it: no text is empty, and none follows a text
-unfoldable pub kept_messages : Bool → Input → WrittenCdata → List Message
-kept_messages exact input cdata = map (λ (m : Message). kept_as (told_text m.token) m) (cdata_messages exact input cdata)
-
--- what is open behind it
+-- what is open after it
 abbrev pub open_behind_cdata : WrittenCdata → Open
-open_behind_cdata cdata = if cdata.is_ended then Between Data else open_cdata (encode_utf8_all cdata.last)
+open_behind_cdata cdata = if cdata.is_ended then Between Data else open_cdata cdata.last
 
 -- the text X, read from the start K, in foreign content or not, is this section, written out
 pub record IsCdata (K : Start) (foreign : Bool) (X : List ℕ) (cdata : WrittenCdata) : Type 0 where

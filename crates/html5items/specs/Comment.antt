@@ -24,9 +24,9 @@ pub data Ending : Type 0 where
   Dashes : Ending
   -- `--!>`
   Bang : Ending
-  -- `>` directly behind `<!--`
+  -- `>` directly after `<!--`
   AtOnce : Ending
-  -- `->` directly behind `<!--`
+  -- `->` directly after `<!--`
   AfterDash : Ending
 
 -- what a bogus comment begins with, before its content
@@ -85,7 +85,7 @@ can_end_with content Bang = is_content content
 can_end_with content AtOnce = is_empty content
 can_end_with content AfterDash = is_empty content
 
--- behind `</` a letter begins a tag, and behind `<!` two dashes begin a comment, `doctype`, in any case, a doctype, and `[CDATA[`
+-- after `</` a letter begins a tag, and after `<!` two dashes begin a comment, `doctype`, in any case, a doctype, and `[CDATA[`
 -- in foreign content a CDATA section
 abbrev pub can_open : Bool → Opening → List ℕ → Bool
 can_open foreign Solidus [] = false
@@ -105,7 +105,7 @@ is_written foreign (Bogus opening content) = can_open foreign opening content &&
 abbrev pub behind_one_dash : List ℕ → Bool
 behind_one_dash before = ends_in before (codes "-") && not (ends_in before (codes "--"))
 
--- a `<!--` within the content is an error at the character behind it, unless that is `>`
+-- a `<!--` within the content is an error at the character after it, unless that is `>`
 unfoldable pub behind_mark_error : Bool → List ℕ → ℕ → List Told
 behind_mark_error exact before c =
     where_true (ends_in before (codes "<!--") && not (c == greater_than))
@@ -141,13 +141,13 @@ spell_end errors content = record { character = greater_than; told = errors ++ C
 abbrev pub spell_bogus : Bool → List ℕ → List Spelled
 spell_bogus exact content = spell (null_error exact state.BogusComment) content
 
--- the content of a bogus comment behind `</`, whose first character is an error
+-- the content of a bogus comment after `</`, whose first character is an error
 abbrev pub spell_odd : Bool → List ℕ → List Spelled
 spell_odd exact [] = []
 spell_odd exact (c ∷ content) =
     record { character = c; told = error_in exact state.EndTagOpen c ∷ null_error exact state.BogusComment c } ∷ spell_bogus exact content
 
--- the messages of a comment. Where no keyword stands behind `<!`, that is an error on the line of its `!`, and what could have begun
+-- the messages of a comment. Where no keyword stands after `<!`, that is an error on the line of its `!`, and what could have begun
 -- one tells nothing, so the error comes first.
 unfoldable pub messages_of : Bool → Input → WrittenComment → List Message
 messages_of exact input (Proper content ending) =

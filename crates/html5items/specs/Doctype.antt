@@ -1,6 +1,15 @@
 -- One doctype as it is written, and what it tells. Written right that is `<!doctype`, white space, a name, maybe white space and
 -- `public` or `system` with identifiers in quotes, and `>`. But each text is one that is `<!` and `doctype` in any case, then
--- what has no `>`, and then `>`: the rest behind what is right is skipped.
+-- what has no `>`, and then `>`: the rest after what is right is skipped.
+--
+-- From the top down (below, each part stands before the whole that has it):
+--   doctype      `<!`, the word, white space, the content, `>`
+--   content      nothing (`NoName`); or a name, white space, and what stands after them (`Named`)
+--   after that   a rest (`NoKeyword`); or `public` or `system`, white space, and what stands where its identifier can
+--   identifier   its quote, a run, the quote again, white space, and what stands after them (`Closed`); the same without its second
+--                quote (`Unclosed`); or a rest (`Missing`). After a public identifier that of the system can stand, after that of
+--                the system only a rest
+--   rest         what is skipped, up to the `>`
 use Rattle.std.specs.Prelude.{◌≡◌, ℕ, Bool, true, false, List, [], ◌∷◌, ◌++◌, ◌==◌, ◌||◌, ◌&&◌, not, flat_map, codes, Option, None, Some, if◌then◌else◌}
 use Rattle.std.specs.List.{list_all}
 use Rattle.std.specs.Str.{bytes_eq}
@@ -26,23 +35,23 @@ use Rattle.html5items.specs.RawText.{next_is}
 
 -- ---- how a doctype is written
 
--- what stands where an identifier can, with what can stand behind it. A rest is skipped; it is maybe empty.
+-- what stands where an identifier can, with what can stand after it. A rest is skipped; it is maybe empty.
 pub data Identifier (Behind : Type 0) : Type 0 where
   -- none, but a rest
   Missing : List ℕ → Identifier Behind
   -- a quote and the identifier, which the `>` cuts off
   Unclosed : Quotes → List ℕ → Identifier Behind
-  -- the identifier in its quotes, white space, and what stands behind that
+  -- the identifier in its quotes, white space, and what stands after that
   Closed : Quotes → List ℕ → List ℕ → Behind → Identifier Behind
 
--- behind the identifier of the system stands a rest, and behind the public one that of the system can stand
+-- after the identifier of the system stands a rest, and after the public one that of the system can stand
 abbrev pub SystemIdentifier : Type 0
 SystemIdentifier = Identifier (List ℕ)
 
 abbrev pub PublicIdentifier : Type 0
 PublicIdentifier = Identifier SystemIdentifier
 
--- what stands behind a name and white space
+-- what stands after a name and white space
 pub data BehindName : Type 0 where
   -- no keyword, but a rest
   NoKeyword : List ℕ → BehindName
@@ -53,10 +62,10 @@ pub data BehindName : Type 0 where
 
 pub data Content : Type 0 where
   NoName : Content
-  -- the first character of the name, the rest of it, white space, and what stands behind that
+  -- the first character of the name, the rest of it, white space, and what stands after that
   Named : ℕ → List ℕ → List ℕ → BehindName → Content
 
--- behind `<!` the word `doctype` in any case, white space, the content, and `>`
+-- after `<!` the word `doctype` in any case, white space, the content, and `>`
 pub record WrittenDoctype : Type 0 where
   pub word : List ℕ
   pub space : List ℕ
@@ -114,7 +123,7 @@ is_system identifier = is_identifier (is_rest is_white_space) identifier
 abbrev pub is_public : PublicIdentifier → Bool
 is_public identifier = is_identifier is_system identifier
 
--- whether a rest behind the name begins with no keyword, in any case
+-- whether a rest after the name begins with no keyword, in any case
 abbrev pub begins_no_keyword : List ℕ → Bool
 begins_no_keyword rest = not (begins_with (keyword_of Public) (lower_case rest)) && not (begins_with (keyword_of System) (lower_case rest))
 
@@ -123,7 +132,7 @@ is_behind_name (NoKeyword rest) = begins_no_keyword rest && is_rest is_white_spa
 is_behind_name (PublicKeyword keyword space identifier) = is_keyword Public keyword && (list_all is_white_space space && is_public identifier)
 is_behind_name (SystemKeyword keyword space identifier) = is_keyword System keyword && (list_all is_white_space space && is_system identifier)
 
--- a name runs to white space or `>`, so behind it stands white space, or nothing
+-- a name runs to white space or `>`, so after it stands white space, or nothing
 abbrev pub can_stand_behind : List ℕ → BehindName → Bool
 can_stand_behind [] (NoKeyword []) = true
 can_stand_behind [] behind = false
@@ -146,7 +155,7 @@ identifier_told (Missing rest) = None
 identifier_told (Unclosed quotes run) = Some (flat_map value_bytes run)
 identifier_told (Closed quotes run space behind) = Some (flat_map value_bytes run)
 
--- the identifier of the system behind a public one
+-- the identifier of the system after a public one
 abbrev pub system_told : PublicIdentifier → Option (List ℕ)
 system_told (Missing rest) = None
 system_told (Unclosed quotes run) = None
@@ -158,7 +167,7 @@ is_not_closed (Missing rest) = true
 is_not_closed (Unclosed quotes run) = true
 is_not_closed (Closed quotes run space behind) = false
 
--- behind a public identifier that of the system is not wanted: also nothing can stand there
+-- after a public identifier that of the system is not wanted: also nothing can stand there
 abbrev pub has_system_quirks : SystemIdentifier → Bool
 has_system_quirks (Missing []) = false
 has_system_quirks system = is_not_closed system
@@ -204,7 +213,7 @@ abbrev pub spell_rest : Bool → State → DoctypeOf → List ℕ → List Spell
 spell_rest exact named d [] = spell_end [] d
 spell_rest exact named d (c ∷ rest) = spell_odd exact named d (c ∷ rest)
 
--- the first, directly behind what came before, or the second, where this white space stands between
+-- the first, directly after what came before, or the second, where this white space stands between
 abbrev pub behind_space : {X : Type 0} → List ℕ → X → X → X
 behind_space [] direct spaced = direct
 behind_space (c ∷ space) direct spaced = spaced
@@ -213,7 +222,7 @@ behind_space (c ∷ space) direct spaced = spaced
 abbrev pub direct_error : List ℕ → Told → List Told
 direct_error space error = where_true (behind_space space true false) error
 
--- the state that an error names behind a keyword, and behind a public identifier
+-- the state that an error names after a keyword, and after a public identifier
 abbrev pub keyword_state : DoctypeIdKind → List ℕ → State
 keyword_state kind space = behind_space space (state.AfterDoctypeKeyword kind) (state.BeforeDoctypeIdentifier kind)
 
@@ -226,7 +235,7 @@ spell_begun exact kind named space quotes run =
     record { character = quote_mark quotes; told = direct_error space (error_in exact named (quote_mark quotes)) }
     ∷ spell (null_error exact (identifier_state quotes kind)) run
 
--- what stands where an identifier can, behind white space
+-- what stands where an identifier can, after white space
 abbrev pub spell_identifier : {B : Type 0} → Bool → DoctypeIdKind → State → DoctypeOf → List ℕ → (List ℕ → B → List Spelled) → Identifier B → List Spelled
 spell_identifier exact kind named d space spell_behind (Missing rest) = spell_odd exact named d rest
 spell_identifier exact kind named d space spell_behind (Unclosed quotes run) =
@@ -234,7 +243,7 @@ spell_identifier exact kind named d space spell_behind (Unclosed quotes run) =
 spell_identifier exact kind named d space spell_behind (Closed quotes run later behind) =
     spell_begun exact kind named space quotes run ++ (spell_silent (quote_mark quotes ∷ later) ++ spell_behind later behind)
 
--- behind the identifier of the system, and behind the public one
+-- after the identifier of the system, and after the public one
 abbrev pub spell_behind_system : Bool → DoctypeOf → List ℕ → List ℕ → List Spelled
 spell_behind_system exact d space rest = spell_rest exact (state.AfterDoctypeIdentifier System) d rest
 
@@ -243,7 +252,7 @@ spell_behind_public exact d space (Missing []) = spell_end [] d
 spell_behind_public exact d space system =
     spell_identifier exact System (between_state space) d space (spell_behind_system exact d) system
 
--- behind a keyword
+-- after a keyword
 abbrev pub spell_wanted : {B : Type 0} → Bool → DoctypeIdKind → DoctypeOf → List ℕ → (List ℕ → B → List Spelled) → Identifier B → List Spelled
 spell_wanted exact kind d space spell_behind identifier =
     spell_silent space
@@ -256,7 +265,7 @@ spell_behind_name exact d (PublicKeyword keyword space identifier) =
 spell_behind_name exact d (SystemKeyword keyword space identifier) =
     spell_silent keyword ++ spell_wanted exact System d space (spell_behind_system exact d) identifier
 
--- up to the name and the white space behind it: a name directly behind `doctype` is an error
+-- up to the name and the white space after it: a name directly after `doctype` is an error
 abbrev pub spell_name : Bool → List ℕ → List ℕ → ℕ → List ℕ → List ℕ → List Spelled
 spell_name exact word space first rest later =
     spell_silent (opening word space)
@@ -270,8 +279,8 @@ held_of rest = run_while begins_doctype_keyword [] rest
 abbrev pub behind_held_of : List ℕ → List ℕ
 behind_held_of rest = behind_while begins_doctype_keyword [] rest
 
--- the messages behind the name and white space, with `before` up to there. Where a rest begins as a keyword does, that is an
--- error on the line of its first character, which it names; it is told when the first character behind what could begin a
+-- the messages after the name and white space, with `before` up to there. Where a rest begins as a keyword does, that is an
+-- error on the line of its first character, which it names; it is told when the first character after what could begin a
 -- keyword shows it, before what that character tells.
 unfoldable pub messages_behind_name : Bool → Input → List ℕ → DoctypeOf → BehindName → List Message
 messages_behind_name exact input before d (NoKeyword (c ∷ rest)) =

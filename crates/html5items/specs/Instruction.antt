@@ -18,7 +18,7 @@ use Rattle.html5grammar.specs.Tag.{null_error}
 -- ---- how an instruction is written
 
 pub record WrittenInstruction : Type 0 where
-  -- what stands behind `<?`
+  -- what stands after `<?`
   pub content : List ℕ
   -- whether it ends with `>`
   pub is_ended : Bool
@@ -65,7 +65,7 @@ instruction_messages exact input instruction =
     messages_of exact input instruction
     ++ on_line (line_after input (written instruction)) (told_at_end exact instruction.is_ended instruction.content)
 
--- what is open behind it
+-- what is open after it
 abbrev pub open_behind_instruction : WrittenInstruction → Open
 open_behind_instruction instruction =
     if instruction.is_ended then Between Data else InInstruction (flat_map value_bytes instruction.content)

@@ -30,7 +30,7 @@ pub data RawItem : Type 0 where
   Character : ℕ → RawItem
   -- a `<` that begins neither an end tag nor one of the items below
   LessThan : RawItem
-  -- `</` and letters, maybe none, behind which no end tag goes on
+  -- `</` and letters, maybe none, after which no end tag goes on
   Letters : List ℕ → RawItem
   -- the `<!--` of script data
   Mark : RawItem
@@ -43,13 +43,13 @@ pub record WrittenRaw : Type 0 where
   pub items : List RawItem
   pub end_tag : Option WrittenTag
 
--- ---- the raw text behind an item
+-- ---- the raw text after an item
 
 abbrev pub switched_kind : RawKind → List ℕ → RawKind
 switched_kind (ScriptDataEscaped kind) letters = ScriptDataEscaped (switched kind letters)
 switched_kind kind letters = kind
 
--- behind `<` or letters no dash stands directly before
+-- after `<` or letters no dash stands directly before
 abbrev pub raw_behind_item : Raw → RawItem → Raw
 raw_behind_item raw (Character c) = raw_behind raw c
 raw_behind_item raw LessThan = raw_of (kind_of raw)
@@ -67,7 +67,7 @@ abbrev pub switch_text : RawKind → List ℕ → ℕ → List ℕ
 switch_text (ScriptDataEscaped escape_kind.DoubleEscaped) letters c = solidus ∷ letters ++ c ∷ []
 switch_text kind letters c = letters ++ c ∷ []
 
--- an item behind its `<`
+-- an item after its `<`
 abbrev pub text_behind_less_than : RawKind → RawItem → List ℕ
 text_behind_less_than kind (Character c) = []
 text_behind_less_than kind LessThan = []
@@ -79,7 +79,7 @@ abbrev pub item_text : Raw → RawItem → List ℕ
 item_text raw (Character c) = c ∷ []
 item_text raw item = less_than ∷ text_behind_less_than (kind_of raw) item
 
--- the text of items, with `later` behind them
+-- the text of items, with `later` after them
 unfoldable pub items_text : Raw → List RawItem → List ℕ → List ℕ
 items_text raw [] later = later
 items_text raw (item ∷ items) later = item_text raw item ++ items_text (raw_behind_item raw item) items later
@@ -131,7 +131,7 @@ can_switch (ScriptDataEscaped escape_kind.DoubleEscaped) letters = true
 can_switch (ScriptDataEscaped escape_kind.Escaped) letters = not (nat_eq (length letters) 0)
 can_switch kind letters = false
 
--- whether an item can stand in such raw text, with `text` behind it
+-- whether an item can stand in such raw text, with `text` after it
 abbrev pub can_stand : List ℕ → Raw → RawItem → List ℕ → Bool
 can_stand name raw (Character c) text = not (c == less_than) && not (is_rcdata raw && (c == ampersand))
 can_stand name raw LessThan text = is_alone_before (kind_of raw) text
@@ -175,7 +175,7 @@ carried_to before (here ∷ more) = record { character = here.character; told = 
 abbrev pub spell_text : List ℕ → List Spelled
 spell_text run = spell (λ c. texts (c ∷ [])) run
 
--- an item behind its `<`
+-- an item after its `<`
 abbrev pub spell_behind_less_than : RawKind → RawItem → List Spelled
 spell_behind_less_than kind (Character c) = []
 spell_behind_less_than kind LessThan = []
@@ -194,7 +194,7 @@ spell_items exact raw before [] = []
 spell_items exact raw before (item ∷ items) =
     carried_to before (spell_item exact raw item) ++ spell_items exact (raw_behind_item raw item) (carried raw item) items
 
--- what is carried behind items
+-- what is carried after items
 unfoldable pub carried_behind : Raw → List Told → List RawItem → List Told
 carried_behind raw before [] = before
 carried_behind raw before (item ∷ items) = carried_behind (raw_behind_item raw item) (carried raw item) items
@@ -208,19 +208,19 @@ abbrev pub spell_raw : Rules → Raw → WrittenRaw → List Spelled
 spell_raw rules raw written_as =
     spell_items rules.exact raw [] written_as.items ++ spell_end_tag rules (carried_behind raw [] written_as.items) written_as.end_tag
 
--- whether the `<` of escaped script data has nothing but letters behind it, one at least
+-- whether the `<` of escaped script data has nothing but letters after it, one at least
 abbrev pub ends_in_letters : RawItem → RawKind → List ℕ → Bool
 ends_in_letters LessThan (ScriptDataEscaped escape_kind.Escaped) (c ∷ text) = is_letter c && list_all is_letter text
 ends_in_letters item kind text = false
 
--- the raw text that the error of the end speaks of: behind such letters it is double-escaped
+-- the raw text that the error of the end speaks of: after such letters it is double-escaped
 unfoldable pub raw_at_end : Raw → List RawItem → Raw
 raw_at_end raw [] = raw
 raw_at_end raw (item ∷ items) =
     if ends_in_letters item (kind_of raw) (items_text (raw_behind_item raw item) items []) then DoubleEscaped NoDash
     else raw_at_end (raw_behind_item raw item) items
 
--- what the end tells: behind an end tag nothing is open
+-- what the end tells: after an end tag nothing is open
 abbrev pub told_at_end : Bool → Raw → List RawItem → Option WrittenTag → List Told
 told_at_end exact raw items None = (carried_behind raw [] items ++ raw_end_error exact (raw_at_end raw items)) ++ End ∷ []
 told_at_end exact raw items (Some tag) = End ∷ []

@@ -47,7 +47,7 @@ abbrev pub is_base : Option ℕ → Bool
 is_base None = true
 is_base (Some x) = is_x x
 
--- whether d is a digit of base 10, or of base 16 behind an `x`
+-- whether d is a digit of base 10, or of base 16 after an `x`
 abbrev pub is_base_digit : Option ℕ → ℕ → Bool
 is_base_digit None d = is_ascii_digit d
 is_base_digit (Some x) d = is_ascii_hexdigit d

@@ -1,4 +1,4 @@
-//! Items of a text as they are written, wherever they stand: what each tells by itself, behind any
+//! Items of a text as they are written, wherever they stand: what each tells by itself, after any
 //! text that leads to where it is read, and before any text.
 #![tactic(auto)]
 
@@ -33,7 +33,7 @@ use html5ever_interface::interface::sink::TokenSink;
 use html5ever_interface::interface::token::Token;
 use std::alloc::Allocator;
 
-/// A tag, with references in its values. What is open behind it is by the sink's reply to it.
+/// A tag, with references in its values. What is open after it is by the sink's reply to it.
 pub fn tag<S: TokenSink<Token<A>>, A: Allocator>()
     ensures { (rules : Rules) (K : Start) (s : S.State) (Y : List ℕ) (tag : WrittenTag) → IsTable rules.names
         → IsTag K Y tag
@@ -63,7 +63,7 @@ pub fn reference<S: TokenSink<Token<A>>, A: Allocator>()
 {}
 
 /// Raw text up to its end tag, or without one: then letters and marks at its end may be told only
-/// behind it.
+/// after it.
 pub fn raw<S: TokenSink<Token<A>>, A: Allocator>()
     ensures ended { (rules : Rules) (K : Start) (s : S.State) (Y : List ℕ) (raw : Raw) (name : List ℕ)
         (written_as : WrittenRaw) (tag : WrittenTag)
@@ -86,7 +86,7 @@ pub fn comment<S: TokenSink<Token<A>>, A: Allocator>()
         (start_behind K Y (Between Data) K.last_start_tag) }
 {}
 
-/// A processing instruction, also one without its `>`: then it is open behind it, and is not told yet.
+/// A processing instruction, also one without its `>`: then it is open after it, and is not told yet.
 pub fn instruction<S: TokenSink<Token<A>>, A: Allocator>()
     ensures { (rules : Rules) (K : Start) (s : S.State) (Y : List ℕ) (instruction : WrittenInstruction)
         → IsInstruction K Y instruction
@@ -102,7 +102,7 @@ pub fn doctype<S: TokenSink<Token<A>>, A: Allocator>()
         (start_behind K Y (Between Data) K.last_start_tag) }
 {}
 
-/// A CDATA section, also one that is open already or doesn't end: then what is open behind it is the
+/// A CDATA section, also one that is open already or doesn't end: then what is open after it is the
 /// section with its last piece, of which nothing is told yet.
 pub fn cdata<S: TokenSink<Token<A>>, A: Allocator>()
     ensures { (rules : Rules) (K : Start) (s : S.State) (Y : List ℕ) (cdata : WrittenCdata) → IsCdata K

@@ -1,6 +1,7 @@
 -- Where a reference is not decided, or what may begin a keyword, and where nothing is undecided.
 use Rattle.std.proofs.Common.{◌≡◌, ◌≢◌, ℕ, suc, ◌≤◌, ◌+◌, Bool, true, false, List, [], ◌∷◌, refl, ap, sym, ◌∙◌, None, Some, string_bytes, arith}
 use Rattle.std.specs.Prelude.{◌==◌, length, not}
+use Rattle.std.specs.Str.{chars}
 use Rattle.std.proofs.lemmas.Bool.{false≢true, ne_eqb}
 use Rattle.html5ever_interface.specs.Token.{DoctypeOf, doctype_of}
 use Rattle.html5ever_interface.specs.declared.states.ScriptEscapeKind.TheVariants as escape_kind
@@ -98,7 +99,7 @@ state-holds (state.DoctypeIdentifierSingleQuoted kind) at = (refl, refl)
 state-holds (state.AfterDoctypeIdentifier kind) at = (refl, refl)
 state-holds state.BetweenDoctypePublicAndSystemIdentifiers at = (refl, refl)
 state-holds state.BogusDoctype at = (refl, refl)
-state-holds state.CdataSection at = section-holds (string_bytes at.comment)
+state-holds state.CdataSection at = section-holds (chars (string_bytes at.comment))
 state-holds other at = (refl, refl)
 
 pub state-no_reference : {Z : Type 0} → (q : State) (at : Opened Z) → is_reference (open_of q at) ≡ false
@@ -126,7 +127,7 @@ keyword-undecided (InReference stand held) none = absurd (false≢true (sym none
 pub state-keyword : {Z : Type 0} → (q : State) (at : Opened Z) → is_keyword_open (open_of q at) ≡ holds_keyword_in q (string_bytes at.comment)
 state-keyword q at = keyword-undecided (open_of q at) (state-no_reference q at) ∙ state-undecided q at
 
--- it is one behind `<!`, or one behind the name of a doctype
+-- it is one after `<!`, or one after the name of a doctype
 pub record HoldsDoctypeKeyword {Z : Type 0} (q : State) (at : Opened Z) : Type 0 where
   pub state : q ≡ state.AfterDoctypeName
   pub holds : string_bytes at.comment ≢ []

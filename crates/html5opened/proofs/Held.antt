@@ -98,7 +98,7 @@ undecided-odd names (d ∷ held) c table other wrong odd =
     let none : begins_name names (d ∷ (held ++ c ∷ [])) ≡ false = none_begins names (d ∷ (held ++ c ∷ [])) table.plain (odd-within is_name_character (d ∷ held) c [] odd) in
     rw (ne_eqb d number_sign first, none, odd-within is_ascii_alphanumeric (d ∷ held) c [] letter) refl
 
--- ---- as functions find them: the bytes that are held before and behind a call
+-- ---- as functions find them: the bytes that are held before and after a call
 
 pub pushed_bytes : (held pushed bytes : List ℕ) (c : ℕ) → pushed ≡ held ++ bytes → bytes ≡ c ∷ [] → pushed ≡ held ++ c ∷ []
 pushed_bytes held pushed bytes c push ascii = push ∙ ap (λ l. held ++ l) ascii
@@ -124,7 +124,7 @@ undecided-name_pushed names held now pushed c is all undecided view push ok othe
     ∙ sym (undecided-name names held c (no_number-push held c here (plain-name c name).1))
     ∙ ap (λ h. is_undecided names (h ++ c ∷ [])) view
 
--- a `#` behind nothing
+-- a `#` after nothing
 pub begun-number : (names : List NamedReference) (held : List ℕ) (c : ℕ) → ((length held == 0) && (c == number_sign)) ≡ true → IsNumberHeld (held ++ c ∷ []) × (is_undecided names (held ++ c ∷ []) ≡ true)
 unfolding is_undecided
 begun-number names [] c begins =

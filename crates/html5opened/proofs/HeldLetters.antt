@@ -36,14 +36,14 @@ chars-end_name letters =
     chars-append (codes "</") letters utf8
     ∙ ap (λ l. l ++ chars letters) (sym (chars_from_encodes (less_than ∷ solidus ∷ []) (codes "</") utf8 refl))
 
--- behind letters that end raw text a name ends
+-- after letters that end raw text a name ends
 pub ends_name-raw : (name letters : List ℕ) (c : ℕ) → ends_raw_text name letters c ≡ true → ends_name c ≡ true
 unfolding ends_raw_text
 ends_name-raw name letters c ends =
     let p = and_parts (not (nat_eq (length name) 0)) (ends_name c && bytes_eq (lower letters) name) ends in
     (and_parts (ends_name c) (bytes_eq (lower letters) name) p.1).0
 
--- where a name ends, a tag goes on behind it
+-- where a name ends, a tag goes on after it
 pub tag_name_step-ends : (exact : Bool) (tag : OpenTag) (c : ℕ) → ends_name c ≡ true → tag_name_step exact tag c ≡ tag_name_end_step tag c
 unfolding tag_name_step tag_name_end_step in_tag_name ends_name
 tag_name_step-ends exact tag c ends = rw ends refl

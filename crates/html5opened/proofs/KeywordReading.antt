@@ -1,4 +1,4 @@
--- A character behind what may begin a keyword.
+-- A character after what may begin a keyword.
 use Rattle.std.proofs.Common.{◌≡◌, ◌≢◌, ℕ, Bool, true, false, ◌&&◌, List, [], ◌∷◌, ◌++◌, refl, ap, sym, ◌∙◌}
 use Rattle.std.proofs.lemmas.Bool.{false≢true}
 use Rattle.html5ever_interface.specs.Token.{DoctypeOf}
@@ -16,7 +16,7 @@ use Rattle.html5opened.specs.CharRef.{with_reference}
 use Rattle.html5opened.specs.Undecided.{GoesOn, EndsKeyword, asks, is_keyword_open}
 use Rattle.html5opened.proofs.Decided.{is_decided, keyword-out, with_reference-false}
 
--- ---- behind `<!`
+-- ---- after `<!`
 
 pub declaration-goes_on : (foreign : Bool) (held : List ℕ) (c : ℕ) (later : Open)
     → ((exact : Bool) → declaration_step exact foreign held c ≡ record { settled = []; here = Tells [] later })
@@ -42,7 +42,7 @@ declaration-ends foreign held c step = record {
   };
 }
 
--- ---- behind the name of a doctype
+-- ---- after the name of a doctype
 
 pub doctype_keyword-goes_on : (foreign : Bool) (held : List ℕ) (d : DoctypeOf) (c : ℕ) (later : Open) → held ≢ []
     → ((exact : Bool) → doctype_keyword_step exact held d c ≡ record { settled = []; here = Tells [] later })
@@ -118,7 +118,7 @@ keyword-end rules (InDeclaration held) keyword = refl
 keyword-end rules (InDoctypeKeyword held d) keyword = refl
 keyword-end rules other keyword = absurd (false≢true keyword)
 
--- where the later is what is open behind no keyword
+-- where the later is what is open after no keyword
 module _ (rules : Rules) (opened later : Open) (keyword : is_keyword_open opened ≡ true) (is : later ≡ open_at_end_of rules opened) where
   pub end-decided : is_undecided_open later ≡ false
   end-decided = ap is_undecided_open is ∙ keyword-end rules opened keyword
@@ -135,6 +135,6 @@ module _ (is_in : Bool) (held : List ℕ) (opened : Open) (keyword : is_keyword_
   pub keyword-opened : is_keyword_open opened ≡ true
   keyword-opened = (keyword-out is_in held opened keyword).1
 
-  -- what is open is what the state says, before and behind it
+  -- what is open is what the state says, before and after it
   pub beside : (later : Open) → with_reference is_in held later ≡ later
   beside later = with_reference-false is_in held later no_reference-keyword

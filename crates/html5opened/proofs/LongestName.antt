@@ -20,6 +20,13 @@ named-found names text name len first second is within e =
     let found = longest-found names (take (len + 1) text) first second (ap (characters_of_name names) (sym cut) ∙ sym e) in
     rw found.is (omega arith, found.name_is, sym found.first_is, sym found.second_is)
 
+-- a text that is a name
+pub named-all : (names : List NamedReference) (text : List ℕ) (first : ℕ) (second : Option ℕ) → Some (first, second) ≡ characters_of_name names text
+    → IsNamed text (Some (record { len = length text; first = first; second = second })) (longest_name names text)
+named-all names text first second e =
+    let found = longest-found names text first second (sym e) in
+    rw found.is (omega arith, found.name_is ∙ sym (take_all (length text) text (omega arith)), sym found.first_is, sym found.second_is)
+
 pub named-push : (names : List NamedReference) (text name : List ℕ) (len : ℕ) (found : Option Named) → name ≡ slice_range text 0 (len + 1) → len < length text
     → None ≡ characters_of_name names name → IsNamed text found (longest_name names (take len text)) → IsNamed text found (longest_name names (take (len + 1) text))
 named-push names text name len found is within e named =

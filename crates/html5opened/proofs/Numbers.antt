@@ -54,7 +54,7 @@ is_number-push (d ∷ text) c number filled =
 
 -- ---- its digits
 
--- the digits of base 16 stand behind an ASCII byte
+-- the digits of base 16 stand after an ASCII byte
 pub x_first : (number : List ℕ) → base_of number ≡ 16 → (0 < length number) × (get_or number 0 0 < 128) × (behind_x number ≡ drop 1 number)
 x_first [] base = absurd (omega arith)
 x_first (d ∷ text) base =

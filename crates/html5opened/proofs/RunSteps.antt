@@ -14,9 +14,9 @@ use Rattle.html5grammar.specs.Start.Mode.{Data, Plain, RawText, Cdata}
 use Rattle.html5grammar.specs.Start.Place.{InName, BeforeAttribute, InAttributeName, AfterAttributeName, BeforeValue, InValue, AfterQuotedValue, AfterSolidus}
 use Rattle.html5grammar.specs.Start.Open.{Between, LessThan, LessThanSolidus, InTag, InRaw, InDeclaration, InComment, InBogusComment, InInstruction, InDoctype, InDoctypeKeyword, InCdata, InReference}
 use Rattle.html5grammar.specs.Tag.{in_tag_name, in_attribute_name, in_quoted, in_unquoted, unquoted_error, is_odd_in_name}
-use Rattle.std.proofs.lemmas.List.{append-nil}
+use Rattle.std.proofs.lemmas.List.{append-nil, append_assoc}
 use Rattle.html5grammar.specs.Comment.{ends_in, comment_errors, mark_error}
-use Rattle.html5opened.proofs.CommentEnds.{NoDashLast, comment_ends, ends_in_dash-none, ends_in_mark-none, value_bytes-last}
+use Rattle.html5opened.proofs.CommentEnds.{comment_ends, ends_in_dash-none, ends_in_mark-none}
 use Rattle.html5grammar.specs.RawText.{raw_character, raw_behind, dashes_behind}
 use Rattle.html5grammar.specs.Text.{plain_text}
 use Rattle.html5grammar.specs.Machine.{step_at, tag_step, data_step, raw_step, comment_step, bogus_comment_step, instruction_step, cdata_step, tag_name_step, attribute_name_step, quoted_step, unquoted_step}
@@ -76,10 +76,10 @@ opened_after_run-cons (InBogusComment text) c run = ap InBogusComment (bytes-con
 opened_after_run-cons (InInstruction content) c run = ap InInstruction (bytes-cons value_bytes content c run)
 opened_after_run-cons (InDoctype place doctype) c run = refl
 opened_after_run-cons (InDoctypeKeyword held doctype) c run = refl
-opened_after_run-cons (InCdata text) c run = ap InCdata (bytes-cons encode_utf8 text c run)
+opened_after_run-cons (InCdata text) c run = ap InCdata (sym (append_assoc text (c ∷ []) run))
 opened_after_run-cons (InReference stand held) c run = refl
 
--- behind a character of a run the same characters end it
+-- after a character of a run the same characters end it
 pub other_run_ends-after : (opened : Open) (others : List ℕ) (c : ℕ) → other_run_ends opened ≡ Some others → ¬ Contains (run_ends others) c
     → other_run_ends (opened_after_run opened (c ∷ [])) ≡ other_run_ends opened
 other_run_ends-after (Between mode) others c has out = refl
@@ -98,7 +98,7 @@ other_run_ends-after (InDeclaration held) others c has out = refl
 other_run_ends-after (InComment text) others c has out =
     let known_ends : (others ≡ hyphen ∷ greater_than ∷ []) × (ends_in text (codes "-") ≡ false) = comment_ends text others has in
     let ordinary : ¬ Contains (run_ends (hyphen ∷ greater_than ∷ [])) c = subst (λ l. ¬ Contains (run_ends l) c) known_ends.0 out in
-    rw (known_ends.1, ends_in_dash-none text (flat_map value_bytes (c ∷ [])) (subst NoDashLast (sym (append-nil (value_bytes c))) (value_bytes-last c (λ e. ordinary (3, lit< tt, sym e))))) refl
+    rw (known_ends.1, append-nil (value_bytes c), ends_in_dash-none text c (λ e. ordinary (3, lit< tt, sym e))) refl
 other_run_ends-after (InBogusComment text) others c has out = refl
 other_run_ends-after (InInstruction content) others c has out = refl
 other_run_ends-after (InDoctype place doctype) others c has out = refl
@@ -227,5 +227,5 @@ step-run (InDoctype place doctype) others c has other = absurd (none≢some has)
 step-run (InDoctypeKeyword held doctype) others c has other = absurd (none≢some has)
 step-run (InCdata text) others c has other =
     let out : ¬ Contains (run_ends (greater_than ∷ [])) c = known (greater_than ∷ []) others c has other in
-    rw (no (greater_than ∷ []) c out 3 greater_than (lit< tt) refl, no (greater_than ∷ []) c out 0 null (lit< tt) refl, append-nil (encode_utf8 c)) refl
+    rw (no (greater_than ∷ []) c out 3 greater_than (lit< tt) refl, no (greater_than ∷ []) c out 0 null (lit< tt) refl) refl
 step-run (InReference stand held) others c has other = absurd (none≢some has)

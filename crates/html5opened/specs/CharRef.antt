@@ -28,7 +28,7 @@ stand_of (InTag (InValue kind) tag) = InAttribute kind tag
 stand_of (Between mode) = InText mode
 stand_of other = InText Data
 
--- what stands behind `#` are digits of the base alone
+-- what stands after `#` are digits of the base alone
 abbrev pub IsNumberHeld : List ℕ → Type 0
 IsNumberHeld [] = Unit {0}
 IsNumberHeld (c ∷ text) = c ≡ number_sign → is_number text ≡ true
@@ -60,7 +60,7 @@ IsNamed text other entry = ⊥
 unfoldable pub with_reference : Bool → List ℕ → Open → Open
 with_reference is_in held opened = if is_in then InReference (stand_of opened) held else opened
 
--- what is open behind the `&` of a reference
+-- what is open after the `&` of a reference
 abbrev pub begun_reference : Open → Open
 begun_reference opened = InReference (stand_of opened) []
 

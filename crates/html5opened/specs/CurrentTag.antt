@@ -28,7 +28,7 @@ open_tag tag = record {
   last_value = string_bytes tag.attr_value;
 }
 
--- behind the name and white space, with what may begin a keyword
+-- after the name and white space, with what may begin a keyword
 abbrev pub behind_doctype_name : List ℕ → DoctypeOf → Open
 behind_doctype_name [] doctype = InDoctype AfterName doctype
 behind_doctype_name (c ∷ held) doctype = InDoctypeKeyword (c ∷ held) doctype
@@ -80,7 +80,7 @@ open_of (state.DoctypeIdentifierSingleQuoted kind) at = InDoctype (InIdentifier 
 open_of (state.AfterDoctypeIdentifier kind) at = InDoctype (AfterIdentifier kind) (doctype_of at.doctype)
 open_of state.BetweenDoctypePublicAndSystemIdentifiers at = InDoctype BetweenIdentifiers (doctype_of at.doctype)
 open_of state.BogusDoctype at = InDoctype Skipped (doctype_of at.doctype)
-open_of state.CdataSection at = open_cdata (string_bytes at.comment)
+open_of state.CdataSection at = open_cdata (chars (string_bytes at.comment))
 open_of other at = InComment (string_bytes at.comment)
 
 abbrev pub opened_of : {Z : Type 0} → Opened Z → Open

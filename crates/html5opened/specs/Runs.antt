@@ -51,7 +51,7 @@ pub record IsRunAt (opened : Open) (run : List ℕ) : Type 0 where
   pub filled : run ≢ []
   pub ordinary : All (λ c. ¬ Contains (run_ends others) c) run
 
--- what is open behind a run
+-- what is open after a run
 abbrev pub opened_after_run : Open → List ℕ → Open
 opened_after_run (InTag InName tag) run = InTag InName (with_name tag run)
 opened_after_run (InTag InAttributeName tag) run = InTag InAttributeName (with_last_name tag run)
@@ -59,7 +59,7 @@ opened_after_run (InTag (InValue kind) tag) run = InTag (InValue kind) (with_val
 opened_after_run (InComment text) run = InComment (text ++ flat_map value_bytes run)
 opened_after_run (InBogusComment text) run = InBogusComment (text ++ flat_map value_bytes run)
 opened_after_run (InInstruction content) run = InInstruction (content ++ flat_map value_bytes run)
-opened_after_run (InCdata text) run = InCdata (text ++ flat_map encode_utf8 run)
+opened_after_run (InCdata text) run = InCdata (text ++ run)
 opened_after_run other run = other
 
 -- what a run tells: between tags each character is a text

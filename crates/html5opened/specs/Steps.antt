@@ -1,4 +1,4 @@
--- What reading one character tells, and what is behind it.
+-- What reading one character tells, and what is after it.
 use Rattle.std.specs.Prelude.{◌≡◌, List, Result, Ok, Err}
 use Rattle.html5ever_interface.specs.Token.{Told, TagOf}
 use Rattle.html5grammar.specs.Reading.{Here}
@@ -20,7 +20,7 @@ unfoldable pub tokens_of : Here Open → List Told
 tokens_of (Tells told later) = told
 tokens_of (TellsTag told tag) = told
 
--- what is behind a character: something is open; or a tag has ended, and this is open unless the sink's reply chooses
+-- what is after a character: something is open; or a tag has ended, and this is open unless the sink's reply chooses
 pub data Next : Type 0 where
   Opens : Open → Next
   Closes : TagOf → Open → Next
@@ -36,7 +36,7 @@ Leads (Err Memory) now later = Unit {0}
 Leads (Err Sink) now later = Unit {0}
 Leads (Err Failed) now later = ⊥
 
--- what is behind a character, where a call answers so and leaves this open
+-- what is after a character, where a call answers so and leaves this open
 abbrev pub next_of : {Z : Type 0} → Progress → Opened Z → Next
 next_of Continues at = Opens (opened_of at)
 next_of BeginsReference at = Opens (begun_reference (opened_of at))

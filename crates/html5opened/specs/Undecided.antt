@@ -15,7 +15,7 @@ abbrev pub is_reference : Open → Bool
 is_reference (InReference stand held) = true
 is_reference other = false
 
--- what stands behind `<!` is not decided, or characters that may begin a keyword of a doctype
+-- what stands after `<!` is not decided, or characters that may begin a keyword of a doctype
 abbrev pub is_keyword_open : Open → Bool
 is_keyword_open (InDeclaration held) = true
 is_keyword_open (InDoctypeKeyword held doctype) = true
@@ -37,7 +37,7 @@ pub record BelongsTo (rules : Rules) (foreign : Bool) (opened : Open) (c : ℕ) 
   pub here : (brought_at rules foreign opened c).here ≡ Tells [] later
   pub good : is_bad_character c ≡ false
 
--- it decides, and is then read as what is open behind that says
+-- it decides, and is then read as what is open after that says
 pub record Decides (rules : Rules) (foreign : Bool) (opened : Open) (c : ℕ) (later : Open) : Type 0 where
   pub here : (brought_at rules foreign opened c).here ≡ step_at rules.exact later c
   pub decided : is_undecided_open later ≡ false

@@ -14,7 +14,7 @@ use markup5ever::data::{NamedReferences, c1_replacement};
 use std::alloc::{AllocError, Allocator, Global};
 use std::marker::Model;
 
-/// What stands behind the `&` of a reference that is not decided.
+/// What stands after the `&` of a reference that is not decided.
 #[derive(Drop)]
 pub struct CharRef<A: Allocator = Global> {
     held: String<A>,
@@ -33,7 +33,7 @@ impl<A: Allocator> Model for CharRef<A> {
     ghost invariant = { λ r. IsHeld (string_bytes r.held) r.is_alphanumeric };
 }
 
-/// What a reference comes to, beside its errors: how many bytes behind the `&` it takes, with the
+/// What a reference comes to, beside its errors: how many bytes after the `&` it takes, with the
 /// semicolon of a number, and its one or two characters.
 #[derive(Clone, Copy, Debug, PartialEq, Eq)]
 pub struct Found {
@@ -77,7 +77,7 @@ impl<A: Allocator> CharRef<A> {
         &self.held
     }
 
-    /// What stands behind the `#` of a number, where a number is held.
+    /// What stands after the `#` of a number, where a number is held.
     pub fn number(&self) -> Option<&str>
         ensures { MatchOption result (first_or self.now None ≢ Some number_sign)
             (λ number. (self.now ≡ number_sign ∷ number.now) × (is_number number.now ≡ true)) }
@@ -171,7 +171,7 @@ fn is_undecided_name<A: Allocator>(
     names.is_prefix(text) || is_alphanumeric && longest_name(names, text).is_none()
 }
 
-// The base of what stands behind a number's `#`.
+// The base of what stands after a number's `#`.
 fn base_of(number: &str) -> u32
     ensures base { result ≡ base_of number.now }
     ensures bounds { (10 ≤ result) × (result ≤ 16) }
@@ -182,14 +182,14 @@ fn base_of(number: &str) -> u32
     }
 }
 
-// Whether the digits behind the character are those of base 16.
+// Whether the digits after the character are those of base 16.
 fn is_x(c: char) -> bool
     ensures { result ≡ is_x c }
 {
     matches!(c, 'x' | 'X')
 }
 
-// Whether the character goes on with what stands behind a number's `#`.
+// Whether the character goes on with what stands after a number's `#`.
 fn continues_number(number: &str, c: char) -> bool
     requires { is_number number.now ≡ true }
     ensures goes_on { result ≡ is_number (number.now ++ c ∷ []) }
@@ -205,7 +205,7 @@ fn continues_number(number: &str, c: char) -> bool
     }
 }
 
-// The digits of what stands behind a number's `#`.
+// The digits of what stands after a number's `#`.
 fn digits_of(number: &str) -> &str
     ensures { result.now ≡ behind_x number.now }
 {
@@ -216,7 +216,7 @@ fn digits_of(number: &str) -> &str
     }
 }
 
-/// Whether digits stand behind a number's `#`, and an `x` where there is one.
+/// Whether digits stand after a number's `#`, and an `x` where there is one.
 #[tactic(auto, unfolding(html5grammar::specs::Reference::has_digits))]
 pub fn has_digits(number: &str) -> bool
     ensures { result ≡ has_digits number.now }
@@ -235,7 +235,7 @@ pub struct Number {
     pub low_bits: u32,
 }
 
-/// The value of what stands behind a number's `#`.
+/// The value of what stands after a number's `#`.
 pub fn number_value(number: &str) -> Number
     requires { is_number number.now ≡ true }
     ensures value { result.value ≡ min (number_value number.now) 0x11_0000 }
@@ -283,8 +283,24 @@ impl Number {
     }
 }
 
-/// The longest name of the table with which the text begins.
+/// The longest name of the table with which the text begins: most texts are a name, and found by one
+/// search.
 pub fn longest_name<A: Allocator>(names: &NamedReferences<A>, text: &str) -> Option<Named>
+    requires { IsAscii text.now }
+    ensures { IsNamed text.now result (longest_name names.now text.now) }
+{
+    if let Some((first, second)) = names.get(text) {
+        return Some(Named {
+            len: text.len(),
+            first,
+            second,
+        });
+    }
+    longest_by_beginnings(names, text)
+}
+
+// The longest name with which the text begins, by its beginnings, as long as a name begins so.
+fn longest_by_beginnings<A: Allocator>(names: &NamedReferences<A>, text: &str) -> Option<Named>
     requires { IsAscii text.now }
     ensures { IsNamed text.now result (longest_name names.now text.now) }
 {

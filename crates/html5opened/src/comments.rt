@@ -17,7 +17,7 @@ pub fn ends_in(text: &str, word: &[u8]) -> bool
     text.as_bytes().ends_with(word)
 }
 
-/// The state that an error names, where `behind_dashes` is that behind two dashes or more.
+/// The state that an error names, where `behind_dashes` is that after two dashes or more.
 pub fn state_in_comment(behind_dashes: State, text: &str) -> State
     ensures { result ≡ comment_state behind_dashes text.now }
 {
@@ -46,14 +46,14 @@ pub fn ends_in_mark(text: &str) -> bool
     ends_in(text, b"<!--")
 }
 
-/// Whether the character stands behind a mark, and is an error there.
+/// Whether the character stands after a mark, and is an error there.
 pub fn is_behind_mark(text: &str, c: char) -> bool
     ensures { result ≡ ends_in_mark text.now && not (c == greater_than) }
 {
     ends_in_mark(text) && c != '>'
 }
 
-/// Whether `>` ends the comment behind this text.
+/// Whether `>` ends the comment after this text.
 pub fn ends_comment(text: &str) -> bool
     ensures { result ≡ ends_comment text.now }
 {

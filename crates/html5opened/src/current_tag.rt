@@ -1,7 +1,7 @@
 //! The tag that is open, and what the standard does with it.
 #![tactic(auto, unfolding(html5grammar::specs::Characters::name_bytes, html5grammar::specs::Characters::value_bytes, html5grammar::specs::Characters::shown, html5grammar::specs::Characters::is_letter, html5grammar::specs::Tag::has_attribute, html5grammar::specs::Tag::with_last_attribute, html5grammar::specs::Tag::duplicate_error, html5grammar::specs::Tag::repeats_attribute))]
 
-ghost use Rattle.std.specs.Prelude.{◌≡◌, ◌&&◌, ◌∷◌, [], ◌++◌, map, IfOk, OnOk, string_bytes};
+ghost use Rattle.std.specs.Prelude.{◌≡◌, ◌&&◌, ◌∷◌, [], ◌++◌, true, false, not, map, IfOk, OnOk, string_bytes};
 ghost use Rattle.html5grammar.specs.Characters.{name_bytes, value_bytes};
 ghost use Rattle.html5grammar.specs.Start.{begun};
 ghost use Rattle.html5grammar.specs.Tag.{attribute, has_attribute, has_last, repeats_attribute, told_tag, with_last_attribute};
@@ -55,6 +55,27 @@ impl<A: Allocator + Copy> CurrentTag<A> {
         }
     }
 
+    /// Ends the last attribute, where there is one, unless its name stands in the tag already: then
+    /// nothing changes. Answers whether it ended.
+    pub fn keep_attribute(&mut self, alloc: A) -> Result<bool, AllocError>
+        ensures kept { IfOk result (λ kept. kept
+            ≡ not (has_last (open_tag self.old) && repeats_attribute (open_tag self.old))) }
+        ensures finished { IfOk result (λ kept. kept ≡ true
+            → open_tag self.new ≡ with_last_attribute (open_tag self.old)) }
+        ensures unchanged { IfOk result (λ kept. kept ≡ false → self.new ≡ self.old) }
+    {
+        if self.attr_name.is_empty() {
+            return Ok(true);
+        }
+        if has_attribute(&self.attrs, &self.attr_name) {
+            return Ok(false);
+        }
+        let name = mem::replace(&mut self.attr_name, String::new(alloc));
+        let value = mem::replace(&mut self.attr_value, String::new(alloc));
+        push_attribute(alloc, &mut self.attrs, name, value)?;
+        Ok(true)
+    }
+
     /// Ends the last attribute, where there is one: it is dropped where its name stands in the tag
     /// already. Answers whether that is so.
     pub fn end_attribute(&mut self, alloc: A) -> Result<bool, AllocError>
@@ -62,17 +83,13 @@ impl<A: Allocator + Copy> CurrentTag<A> {
             ≡ (has_last (open_tag self.old) && repeats_attribute (open_tag self.old))) }
         ensures finished { OnOk result (open_tag self.new ≡ with_last_attribute (open_tag self.old)) }
     {
-        if self.attr_name.is_empty() {
+        if self.keep_attribute(alloc)? {
             return Ok(false);
         }
-        let name = mem::replace(&mut self.attr_name, String::new(alloc));
-        let value = mem::replace(&mut self.attr_value, String::new(alloc));
-        if has_attribute(&self.attrs, &name) {
-            self.had_duplicate_attributes = true;
-            return Ok(true);
-        }
-        push_attribute(alloc, &mut self.attrs, name, value)?;
-        Ok(false)
+        self.had_duplicate_attributes = true;
+        self.attr_name.clear();
+        self.attr_value.clear();
+        Ok(true)
     }
 }
 

@@ -1,4 +1,4 @@
-//! What stands behind `<!`: the keyword of a comment, of a doctype or, in foreign content, of a CDATA
+//! What stands after `<!`: the keyword of a comment, of a doctype or, in foreign content, of a CDATA
 //! section, or else a bogus comment.
 #![tactic(auto, unfolding(html5grammar::specs::Machine::declaration_step, html5grammar::specs::Machine::declaration_answer_step, html5grammar::specs::Comment::begins_keyword, html5grammar::specs::Comment::begins_cdata))]
 
@@ -40,7 +40,7 @@ fn begins_cdata(held: &[u8]) -> bool
     b"[CDATA[".starts_with(held)
 }
 
-/// Whether a character behind `<!` belongs to the keyword of a CDATA section, which is one only in
+/// Whether a character after `<!` belongs to the keyword of a CDATA section, which is one only in
 /// foreign content: what the character brings depends on the sink.
 pub fn depends_on_sink<A: Allocator>(at: &Opened<A>, c: char) -> bool
     ensures { result ≡ begins_cdata (string_bytes at.now.comment ++ c ∷ []) }
@@ -66,7 +66,7 @@ fn open_cdata<A: Allocator>(at: &mut Opened<A>)
     }
 }
 
-/// Holds a character behind `<!`, and answers whether it belongs to a keyword. A whole keyword begins
+/// Holds a character after `<!`, and answers whether it belongs to a keyword. A whole keyword begins
 /// what it stands for; that of a CDATA section is one where the content is foreign. A character by
 /// which no keyword begins is still to be read.
 pub fn hold_declaration<A: Allocator>(

@@ -4,7 +4,7 @@ ghost use Rattle.html5opened.specs.declared.error.TokenizerError.TheVariants.{Me
 use std::alloc::AllocError;
 use thiserror::Error;
 
-/// Why a call of the tokenizer stopped. Behind each of these every further call is refused.
+/// Why a call of the tokenizer stopped. After each of these every further call is refused.
 #[derive(Clone, Copy, Debug, PartialEq, Eq, Error)]
 pub enum TokenizerError {
     /// A growth was refused: the sink was told a beginning of what was due.

@@ -1,4 +1,4 @@
-//! Letters that raw text holds: behind `</`, where they may be the name of an end tag, and behind
+//! Letters that raw text holds: after `</`, where they may be the name of an end tag, and after
 //! the `<` and `</` that may switch between escaped and double-escaped script data.
 #![tactic(auto, unfolding(html5grammar::specs::RawText::switched, html5grammar::specs::RawText::ends_raw_text))]
 
@@ -36,7 +36,7 @@ fn lower<A: Allocator>(alloc: A, letters: &str) -> Result<String<A>, AllocError>
     Ok(name)
 }
 
-// The script data behind letters: `script` switches.
+// The script data after letters: `script` switches.
 fn other_escape(kind: ScriptEscapeKind) -> ScriptEscapeKind
     ensures { result ≡ other_escape kind }
 {
@@ -46,7 +46,7 @@ fn other_escape(kind: ScriptEscapeKind) -> ScriptEscapeKind
     }
 }
 
-/// The kind of script data behind letters and the end of their name.
+/// The kind of script data after letters and the end of their name.
 pub fn switched<A: Allocator>(
     alloc: A,
     kind: ScriptEscapeKind,
@@ -61,7 +61,7 @@ pub fn switched<A: Allocator>(
     Ok(kind)
 }
 
-/// The name of the end tag that ends raw text, in lower case, where the letters behind `</` are that
+/// The name of the end tag that ends raw text, in lower case, where the letters after `</` are that
 /// name and the character ends it.
 pub fn end_tag_name<A: Allocator>(
     alloc: A,

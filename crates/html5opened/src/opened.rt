@@ -15,7 +15,7 @@ pub struct Opened<A: Allocator = Global> {
     pub comment: String<A>,
     /// The DOCTYPE that was begun, up to here.
     pub doctype: Doctype<A>,
-    /// In raw text the letters behind `</`, or behind the `<` of escaped script data.
+    /// In raw text the letters after `</`, or after the `<` of escaped script data.
     pub letters: String<A>,
     /// The name whose end tag ends raw text, that of the last start tag. The empty name is none.
     pub last_start_tag: String<A>,

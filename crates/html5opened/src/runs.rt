@@ -47,8 +47,8 @@ fn raw_ends(kind: RawKind) -> SmallCharSet
 // The characters that end a run in a CDATA section, where text of it is held.
 #[inline(always)]
 fn section_ends(text: &str) -> Option<SmallCharSet>
-    ensures has_runs { is_some result ≡ is_some (other_run_ends (open_cdata text.now)) }
-    ensures ends { IfSome result (λ set. IfSome (other_run_ends (open_cdata text.now)) (λ others.
+    ensures has_runs { is_some result ≡ is_some (other_run_ends (open_cdata (chars text.now))) }
+    ensures ends { IfSome result (λ set. IfSome (other_run_ends (open_cdata (chars text.now))) (λ others.
         (c : ℕ) → IsMember set c ↔ Contains (run_ends others) c)) }
 {
     if text.is_empty() {

@@ -28,8 +28,8 @@ pub trait Filter<W: Target + Drop>: Drop {
 
     ghost printed: { State → List ℕ };
 
-    // Where a page begins, behind what was read before; a page's messages, by a table of names; and a
-    // filter behind some of them.
+    // Where a page begins, after what was read before; a page's messages, by a table of names; and a
+    // filter after some of them.
     ghost begun: { State → State };
 
     ghost page: { List NamedReference → State → List ℕ → List Message };
@@ -178,7 +178,7 @@ fn filter_files<
     }
 }
 
-/// Runs a program by the words behind its name, and answers the status that the process ends with.
+/// Runs a program by the words after its name, and answers the status that the process ends with.
 /// Where the reader of the output goes away it ends without a word.
 pub fn run<
     F: Filter<Output<O>>,

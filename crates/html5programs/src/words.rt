@@ -24,7 +24,7 @@ impl<'w, A: Allocator + Copy> Words<'w, A> {
         }
     }
 
-    // Takes a word that is no option with a word behind it.
+    // Takes a word that is no option with a word after it.
     fn take(&mut self, word: &'w str) -> Result<(), AllocError> {
         if word == "--help" {
             self.help = true;
@@ -37,7 +37,7 @@ impl<'w, A: Allocator + Copy> Words<'w, A> {
     }
 }
 
-/// What the words ask for that stand behind the program's name.
+/// What the words ask for that stand after the program's name.
 pub fn words_of<'w, A: Allocator + Copy>(
     alloc: A,
     words: &'w [String<A>],

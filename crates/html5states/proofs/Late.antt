@@ -1,4 +1,4 @@
--- What a reference tells, late as it is, is its errors and then its characters with what was held behind them.
+-- What a reference tells, late as it is, is its errors and then its characters with what was held after them.
 use Rattle.std.proofs.Common.{◌≡◌, ℕ, suc, ◌≤◌, Bool, true, false, ◌&&◌, List, [], ◌∷◌, ◌++◌, drop, length, Option, None, Some, refl, sym, ap, ◌∙◌, arith, subst, ◌-◌, map, append_assoc}
 use Rattle.std.specs.Prelude.{◌≢◌, ◌==◌, nat_lt, encode_utf8}
 use Rattle.std.proofs.lemmas.Bool.{ne_eqb}
@@ -33,7 +33,7 @@ decided-name exact names in_value (c ∷ held) next table other =
     let letter : c ≢ number_sign = λ e. other (ap Some e) in
     rw (ne_eqb c number_sign letter) refl
 
--- the character behind a number is its semicolon where the number takes one more than is held
+-- the character after a number is its semicolon where the number takes one more than is held
 pub ends-number : (exact : Bool) (held number : List ℕ) (c : ℕ) (found : Found) → held ≡ number_sign ∷ number → IsFound found (number_reference exact number (Some c)) → nat_lt (length held) found.taken ≡ ends_number held c
 unfolding ends_number
 ends-number exact held number c found is ok =
@@ -84,7 +84,7 @@ pub late-decided : (exact : Bool) (names : List NamedReference) (is_in : Bool) (
 late-decided exact names is_in stand held next inside =
     rw inside (late-told stand (found_at exact names stand held next) held)
 
--- a function finds what the grammar finds, and puts the rest behind it
+-- a function finds what the grammar finds, and puts the rest after it
 pub told-found : (exact : Bool) (names : List NamedReference) (is_in : Bool) (stand : Stand) (held text rest : List ℕ) (next : Option ℕ) (found : Found) → is_in ≡ in_value stand
     → IsFound found (decided exact names is_in held next) → text ≡ held → rest ≡ drop found.taken text
     → tokens_of_late (late_tokens stand (found_at exact names stand held next) held) ≡ (decided exact names is_in held next).errors ++ text_in stand (found.first ∷ (more_of found.second ++ rest))

@@ -199,7 +199,7 @@ module _ {S : Type 0} (step faulted : S → Told → ℕ → S) where
       subst (λ M. Tells step faulted r s M t) (sym (map-append (λ (token : Told). record { token = token; line = line }) A B))
       (tells_from_stop r e s t (on_line line A) (on_line line B) h refusal stop)
 
-  -- the exit of a `?` behind all that is told
+  -- the exit of a `?` after all that is told
   pub tells_stop : {T : Type 0} → (r : Result T TokenizerError) (e : TokenizerError) (s t : S) (M : List Message)
       → IsErrAnd r (λ x. x ≡ e) → Stops step faulted e s M t → Tells step faulted r s M t
   tells_stop r e s t M h stop = let p = err_from_is_err_and r h in rw (p.1, p.2) stop
@@ -210,7 +210,7 @@ module _ {S : Type 0} (step faulted : S → Told → ℕ → S) where
       let p = err_from_is_err_and r h in
       rw (p.1, p.2) (record { before = M; rest = []; parts = sym (append-nil M); state = told })
 
-  -- a step behind what is told first
+  -- a step after what is told first
   tokens-told_first : (before : List Told) (step : Here Open) → tokens_of (told_first before step) ≡ before ++ tokens_of step
   unfolding tokens_of
   tokens-told_first before (Here.Tells told later) = refl
@@ -257,7 +257,7 @@ refused_leads r Memory at next h refusal = let p = err_from_is_err_and r h in rw
 refused_leads r Sink at next h refusal = let p = err_from_is_err_and r h in rw (p.1, p.2) tt
 refused_leads r Failed at next h refusal = absurd refusal
 
--- calls of a teller, one behind the other: what it is stays, and a call that tells comes before one that tells or reads
+-- calls of a teller, one after the other: what it is stays, and a call that tells comes before one that tells or reads
 kept_then : {Q Z : Type 0} {before middle after : Teller Q Z} → IsKept before middle → IsKept middle after → IsKept before after
 kept_then first later = record {
   sink = later.sink ∙ first.sink;
@@ -288,7 +288,7 @@ module _ {Q S H Z : Type 0} {means : Means Q S H} {count : Q → ℕ} where
         kept = first.kept;
       }
 
-  -- a state that is read behind what is told first
+  -- a state that is read after what is told first
   pub reads_then : {U : Type 0} {x : U} {r : Result Progress TokenizerError} {before middle after : Teller Q Z} {A : List Told} {all later : Here Open} {was then_at at : Opened Z}
       → Emits means count {T = U} (Ok x) before middle A → Reads means count r middle after later then_at at → all ≡ told_first A later
       → last_name_of then_at ≡ last_name_of was

@@ -3,10 +3,12 @@
 #![tactic(auto, using(crate::proofs::Tellings::tells_from_memory), unfolding(html5grammar::specs::Machine::cdata_step, html5opened::specs::Steps::tokens_of, html5opened::specs::Steps::behind, html5ever_interface::specs::Sink::stepped))]
 
 ghost use Rattle.std.specs.Prelude.{◌≡◌, ◌∷◌, [], ◌++◌, true, string_bytes};
+ghost use Rattle.std.specs.Str.{chars};
 ghost use Rattle.html5ever_interface.specs.Token.Told.{Null, End};
 ghost use Rattle.html5grammar.specs.Machine.{cdata_step};
-ghost use Rattle.html5grammar.specs.Cdata.{ends_cdata, piece_text, told_at_end_of_cdata};
+ghost use Rattle.html5grammar.specs.Cdata.{ends_cdata, told_at_end_of_cdata};
 ghost use Rattle.html5grammar.specs.ErrorText.{end_error_in};
+ghost use Rattle.html5grammar.specs.RawText.{texts};
 ghost use Rattle.html5grammar.specs.Reading.Here.{Tells};
 ghost use Rattle.html5grammar.specs.Start.Mode.{Cdata, Data};
 ghost use Rattle.html5grammar.specs.Start.Open.{Between};
@@ -27,7 +29,7 @@ impl<S: TokenSink<Token<A>>, A: Allocator + Copy> Teller<'_, S, A> {
     pub fn cdata_section_state(&mut self, at: &mut Opened<A>, c: char) -> Step
         requires { at.old.state ≡ State.CdataSection }
         ensures { Reads S.means S.faults result self.old self.new
-            (cdata_step (string_bytes at.old.comment) c) at.old at.new }
+            (cdata_step (chars (string_bytes at.old.comment)) c) at.old at.new }
     {
         if c == '>' && ends_section(&at.comment) {
             return self.end_section(at);
@@ -43,7 +45,7 @@ impl<S: TokenSink<Token<A>>, A: Allocator + Copy> Teller<'_, S, A> {
     fn cut_section(&mut self, at: &mut Opened<A>) -> Step
         requires { at.old.state ≡ State.CdataSection }
         ensures { Reads S.means S.faults result self.old self.new
-            (Tells (piece_text (string_bytes at.old.comment) ++ Null ∷ []) (Between Cdata)) at.old at.new }
+            (Tells (texts (chars (string_bytes at.old.comment)) ++ Null ∷ []) (Between Cdata)) at.old at.new }
     {
         let text = mem::replace(&mut at.comment, String::new(self.alloc));
         self.emit_cdata_null(text)?;
@@ -53,7 +55,7 @@ impl<S: TokenSink<Token<A>>, A: Allocator + Copy> Teller<'_, S, A> {
     // Tells a text, where there is one, and NUL.
     fn emit_cdata_null(&mut self, text: String<A>) -> Result<(), TokenizerError>
         ensures { Emits S.means S.faults result self.old self.new
-            (piece_text (string_bytes text) ++ Null ∷ []) }
+            (texts (chars (string_bytes text)) ++ Null ∷ []) }
     {
         self.emit_piece(text)?;
         self.tell(Token::NullCharacterToken)
@@ -61,9 +63,9 @@ impl<S: TokenSink<Token<A>>, A: Allocator + Copy> Teller<'_, S, A> {
 
     // Ends a section at its `>`.
     fn end_section(&mut self, at: &mut Opened<A>) -> Step
-        requires { ends_cdata (string_bytes at.old.comment) ≡ true }
+        requires { ends_cdata (chars (string_bytes at.old.comment)) ≡ true }
         ensures { Reads S.means S.faults result self.old self.new
-            (Tells (told_at_end_of_cdata (string_bytes at.old.comment)) (Between Data)) at.old at.new }
+            (Tells (told_at_end_of_cdata (chars (string_bytes at.old.comment))) (Between Data)) at.old at.new }
     {
         at.state = State::Data;
         let len = section_len(&at.comment);
@@ -76,7 +78,7 @@ impl<S: TokenSink<Token<A>>, A: Allocator + Copy> Teller<'_, S, A> {
     // Tells a text, where there is one.
     fn emit_piece(&mut self, text: String<A>) -> Result<(), TokenizerError>
         ensures { Emits S.means S.faults result self.old self.new
-            (piece_text (string_bytes text)) }
+            (texts (chars (string_bytes text))) }
     {
         if text.is_empty() {
             return Ok(());
@@ -87,7 +89,7 @@ impl<S: TokenSink<Token<A>>, A: Allocator + Copy> Teller<'_, S, A> {
     /// Ends in a section, whose text is told as it stands.
     pub fn end_in_cdata(&mut self, text: &str) -> Result<(), TokenizerError>
         ensures { Emits S.means S.faults result self.old self.new
-            (piece_text text.now ++ end_error_in self.old.exact_errors State.CdataSection ∷ End ∷ []) }
+            (texts (chars text.now) ++ end_error_in self.old.exact_errors State.CdataSection ∷ End ∷ []) }
     {
         self.emit_piece(String::from_str(self.alloc, text)?)?;
         self.end_unexpected(State::CdataSection)

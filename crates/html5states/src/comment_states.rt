@@ -38,7 +38,7 @@ impl<S: TokenSink<Token<A>>, A: Allocator + Copy> Teller<'_, S, A> {
         Ok(Progress::Continues)
     }
 
-    // Tells what is wrong with a character of a comment: one behind a mark, and NUL.
+    // Tells what is wrong with a character of a comment: one after a mark, and NUL.
     fn emit_comment_errors(&mut self, before: &str, c: char) -> Result<(), TokenizerError>
         ensures { Emits S.means S.faults result self.old self.new
             (comment_errors self.old.exact_errors before.now c) }
@@ -65,7 +65,7 @@ impl<S: TokenSink<Token<A>>, A: Allocator + Copy> Teller<'_, S, A> {
         Ok(Progress::Continues)
     }
 
-    // Tells a comment, where its end is wrong behind an error that names the state.
+    // Tells a comment, where its end is wrong after an error that names the state.
     fn emit_ended_comment(
         &mut self,
         wrong: bool,

@@ -27,7 +27,7 @@ use html5opened::error::TokenizerError;
 use html5opened::opened::Opened;
 use std::alloc::Allocator;
 
-// The state that the error of the end names behind letters that may switch.
+// The state that the error of the end names after letters that may switch.
 const DOUBLE_ESCAPED: State = State::RawData(RawKind::ScriptDataEscaped(
     ScriptEscapeKind::DoubleEscaped,
 ));
@@ -42,7 +42,7 @@ impl<S: TokenSink<Token<A>>, A: Allocator + Copy> Teller<'_, S, A> {
         self.tell(Token::EOFToken)
     }
 
-    // Ends behind a text of one character.
+    // Ends after a text of one character.
     fn end_behind(&mut self, c: char) -> Result<(), TokenizerError>
         ensures { Emits S.means S.faults result self.old self.new
             (Text (encode_utf8 c) ∷ End ∷ []) }
@@ -51,7 +51,7 @@ impl<S: TokenSink<Token<A>>, A: Allocator + Copy> Teller<'_, S, A> {
         self.tell(Token::EOFToken)
     }
 
-    // Ends behind `</`, which is text.
+    // Ends after `</`, which is text.
     fn end_behind_solidus(&mut self) -> Result<(), TokenizerError>
         ensures { Emits S.means S.faults result self.old self.new
             (Text (codes "<") ∷ Text (codes "/") ∷ End ∷ []) }
@@ -90,7 +90,7 @@ impl<S: TokenSink<Token<A>>, A: Allocator + Copy> Teller<'_, S, A> {
         }
     }
 
-    // Ends behind a `<` of raw text.
+    // Ends after a `<` of raw text.
     fn end_behind_less_than(&mut self, kind: RawKind) -> Result<(), TokenizerError>
         ensures { Emits S.means S.faults result self.old self.new
             (told_behind_less_than kind ++ (raw_end_error self.old.exact_errors (raw_of kind) ++ End ∷ [])) }
@@ -99,7 +99,7 @@ impl<S: TokenSink<Token<A>>, A: Allocator + Copy> Teller<'_, S, A> {
         self.end_raw_text(kind)
     }
 
-    // Ends behind `</` and letters of raw text, which are text.
+    // Ends after `</` and letters of raw text, which are text.
     fn end_behind_end_name(&mut self, kind: RawKind, letters: &str) -> Result<(), TokenizerError>
         ensures { Emits S.means S.faults result self.old self.new
             (texts (less_than ∷ solidus ∷ chars letters.now) ++
@@ -109,7 +109,7 @@ impl<S: TokenSink<Token<A>>, A: Allocator + Copy> Teller<'_, S, A> {
         self.end_raw_text(kind)
     }
 
-    // Ends behind a comment with that text.
+    // Ends after a comment with that text.
     fn end_behind_comment(&mut self, text: &str) -> Result<(), TokenizerError>
         ensures { Emits S.means S.faults result self.old self.new
             (Comment text.now ∷ End ∷ []) }
@@ -136,7 +136,7 @@ impl<S: TokenSink<Token<A>>, A: Allocator + Copy> Teller<'_, S, A> {
         self.end_behind_comment(&text[..content_len(text)])
     }
 
-    // Ends behind a DOCTYPE, with quirks or without.
+    // Ends after a DOCTYPE, with quirks or without.
     fn end_behind_doctype(
         &mut self,
         doctype: &Doctype<A>,

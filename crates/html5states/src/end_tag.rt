@@ -69,7 +69,7 @@ impl<S: TokenSink<Token<A>>, A: Allocator + Copy> Teller<'_, S, A> {
         self.emit_end_tag_errors(tag, self_closing)
     }
 
-    /// Ends the open tag at its `>`. It is told behind this, and the sink's reply to it may choose
+    /// Ends the open tag at its `>`. It is told after this, and the sink's reply to it may choose
     /// another state than Data.
     pub fn end_tag(&mut self, at: &mut Opened<A>, self_closing: bool) -> Step
         ensures { Reads S.means S.faults result self.old self.new

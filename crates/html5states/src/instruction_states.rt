@@ -51,7 +51,7 @@ impl<S: TokenSink<Token<A>>, A: Allocator + Copy> Teller<'_, S, A> {
         self.emit_instruction(String::from_str(self.alloc, content)?)
     }
 
-    // Ends behind a processing instruction with that content.
+    // Ends after a processing instruction with that content.
     fn end_behind_instruction(&mut self, content: &str) -> Result<(), TokenizerError>
         ensures { Emits S.means S.faults result self.old self.new
             (Instruction content.now ∷ End ∷ []) }

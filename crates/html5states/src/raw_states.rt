@@ -156,7 +156,7 @@ impl<S: TokenSink<Token<A>>, A: Allocator + Copy> Teller<'_, S, A> {
         }
     }
 
-    // Reads the `/` behind `<`, which is told at once in double-escaped script data.
+    // Reads the `/` after `<`, which is told at once in double-escaped script data.
     fn open_end_tag(&mut self, at: &mut Opened<A>, kind: RawKind) -> Step
         ensures { Reads S.means S.faults result self.old self.new
             (raw_solidus_step kind (last_name_of at.old)) at.old at.new }
@@ -172,7 +172,7 @@ impl<S: TokenSink<Token<A>>, A: Allocator + Copy> Teller<'_, S, A> {
         Ok(Progress::Continues)
     }
 
-    // Tells a `<` with the character behind it.
+    // Tells a `<` with the character after it.
     fn emit_less_than_and(&mut self, c: char) -> Result<(), TokenizerError>
         ensures { Emits S.means S.faults result self.old self.new (texts (less_than ∷ c ∷ [])) }
     {
@@ -180,7 +180,7 @@ impl<S: TokenSink<Token<A>>, A: Allocator + Copy> Teller<'_, S, A> {
         self.emit_char(c)
     }
 
-    // Reads the `!` behind the `<` of script data.
+    // Reads the `!` after the `<` of script data.
     fn open_mark(&mut self, at: &mut Opened<A>) -> Step
         ensures { Reads S.means S.faults result self.old self.new
             (Tells (texts (less_than ∷ exclamation_mark ∷ [])) (InRaw AfterMark (last_name_of at.old))) at.old at.new }
@@ -190,7 +190,7 @@ impl<S: TokenSink<Token<A>>, A: Allocator + Copy> Teller<'_, S, A> {
         Ok(Progress::Continues)
     }
 
-    // Reads the first letter behind the `<` of escaped script data.
+    // Reads the first letter after the `<` of escaped script data.
     fn open_switch(&mut self, at: &mut Opened<A>, c: char) -> Step
         ensures { Reads S.means S.faults result self.old self.new
             (Tells (texts (less_than ∷ c ∷ [])) (InRaw (InSwitch ScriptEscapeKind.Escaped (c ∷ []))
@@ -309,7 +309,7 @@ impl<S: TokenSink<Token<A>>, A: Allocator + Copy> Teller<'_, S, A> {
         }
     }
 
-    // Reads behind the `<!` of script data.
+    // Reads after the `<!` of script data.
     fn read_behind_mark(&mut self, at: &mut Opened<A>, c: char) -> Step
         ensures { Reads S.means S.faults result self.old self.new
             (mark_step self.old.exact_errors (last_name_of at.old) c) at.old at.new }
@@ -344,7 +344,7 @@ impl<S: TokenSink<Token<A>>, A: Allocator + Copy> Teller<'_, S, A> {
         self.read_switch(at, ScriptEscapeKind::DoubleEscaped, c)
     }
 
-    // Reads behind letters that may switch between escaped and double-escaped script data.
+    // Reads after letters that may switch between escaped and double-escaped script data.
     fn read_switch(&mut self, at: &mut Opened<A>, kind: ScriptEscapeKind, c: char) -> Step
         ensures { Reads S.means S.faults result self.old self.new
             (switch_step self.old.exact_errors kind (last_name_of at.old) (chars (string_bytes at.old.letters)) c)

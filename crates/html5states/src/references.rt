@@ -64,7 +64,7 @@ impl<S: TokenSink<Token<A>>, A: Allocator + Copy> Teller<'_, S, A> {
         })
     }
 
-    // Tells the error of a number behind which no semicolon stands.
+    // Tells the error of a number after which no semicolon stands.
     #[tactic(auto, using(crate::proofs::Tellings::tells_from_memory), unfolding(html5grammar::specs::Reference::unended_number, html5ever_interface::specs::Sink::stepped))]
     fn emit_unended_number(&mut self, next: Option<char>) -> Result<(), TokenizerError>
         ensures { Emits S.means S.faults result self.old self.new (unended_number next) }
@@ -185,7 +185,7 @@ impl<S: TokenSink<Token<A>>, A: Allocator + Copy> Teller<'_, S, A> {
         }
     }
 
-    /// Tells what the character behind a reference, or the end, decides of it, and puts its
+    /// Tells what the character after a reference, or the end, decides of it, and puts its
     /// characters where it stands. Answers whether that character is the semicolon of a number.
     pub fn finish_reference(
         &mut self,

@@ -12,7 +12,7 @@ pub struct WorkedCase {
     pub output: String,
     pub errors: String,
     pub status: u8,
-    /// Whether nothing is pending behind the input, where this may go on.
+    /// Whether nothing is pending after the input, where this may go on.
     pub clean: Option<bool>,
     /// Whether exact errors have the same messages.
     pub exact_too: bool,
@@ -58,7 +58,7 @@ impl Case for WorkedCase {
         }
     }
 
-    // A mark, and what stands behind the space that follows it.
+    // A mark, and what stands after the space that follows it.
     fn read_line(&mut self, alloc: Global, line: &str) -> Result<(), CaseError> {
         let (mark, text) = line.split_once(' ').unwrap_or((line, ""));
         match mark {

@@ -1,5 +1,5 @@
 //! Runs the worked cases of its input: each whole, in pieces of each length, and cut in two at each place.
-//! By the word `sweep` it reads each beginning of their inputs, too, with each short text behind it.
+//! By the word `sweep` it reads each beginning of their inputs, too, with each short text after it.
 #![tactic(auto)]
 
 mod case;

@@ -1,4 +1,4 @@
-//! The pieces of an input, fed one after another to a tokenizer, and what must be told behind each.
+//! The pieces of an input, fed one after another to a tokenizer, and what must be told after each.
 ghost use Rattle.html5feed.specs.Starting.{CanStart};
 
 use crate::so_far::SoFar;
@@ -16,7 +16,7 @@ use test_lines::CaseError;
 /// How an input is cut.
 #[derive(Clone, Copy, Debug, PartialEq, Eq)]
 pub enum Cutting {
-    /// In two, behind so many characters.
+    /// In two, after so many characters.
     Behind(usize),
     /// Into its characters.
     Characters,
@@ -58,12 +58,12 @@ pub fn pieces_of(alloc: Global, text: &str, cutting: Cutting) -> Result<Vec<Stri
     }
 }
 
-/// What must be told in all: behind the end, or behind an input that may go on.
+/// What must be told in all: after the end, or after an input that may go on.
 #[derive(Drop)]
 pub struct Due {
     /// The lines. Where the input may go on, a text at their end is open.
     pub lines: String,
-    /// Whether nothing is pending behind the input, where this may go on.
+    /// Whether nothing is pending after the input, where this may go on.
     pub clean: Option<bool>,
 }
 
@@ -98,7 +98,7 @@ fn feed_piece<S: TokenSink<Token> + SoFar>(
     answered(feed_until_done(tokenizer, queue))
 }
 
-// Feeds the pieces. Answers whether behind each a beginning of what is due was told.
+// Feeds the pieces. Answers whether after each a beginning of what is due was told.
 fn feed_all<S: TokenSink<Token> + SoFar>(
     alloc: Global,
     tokenizer: &mut Tokenizer<'_, S>,
@@ -136,7 +136,7 @@ fn is_told<S: TokenSink<Token> + SoFar>(
 }
 
 /// Feeds a new tokenizer the pieces one after another, and ends it. Answers whether its sink was told
-/// behind each piece a beginning of what is due, and all of it in the end; and the sink.
+/// after each piece a beginning of what is due, and all of it in the end; and the sink.
 pub fn feed_pieces<S: TokenSink<Token> + SoFar>(
     alloc: Global,
     sink: S,

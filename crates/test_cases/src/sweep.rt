@@ -1,4 +1,4 @@
-//! Each beginning of the inputs, with each short text behind it, read by a collector at once and by its
+//! Each beginning of the inputs, with each short text after it, read by a collector at once and by its
 //! characters.
 ghost use Rattle.std.specs.Prelude.{IsSome};
 ghost use Rattle.html5feed.specs.Starting.{CanStart};
@@ -15,7 +15,7 @@ use std::alloc::{AllocError, Global};
 use std::collections::BTreeSet;
 use test_lines::{CaseError, cases_of, push_line};
 
-// The characters of the texts behind a beginning, of which each has at most two.
+// The characters of the texts after a beginning, of which each has at most two.
 const BEHIND: &str = "a-!</>=&;\" \0";
 
 /// What the runs told: a line for each text of which they told different things.
@@ -105,7 +105,7 @@ impl Swept {
         Ok(())
     }
 
-    // Reads a beginning with each text of at most two characters behind it.
+    // Reads a beginning with each text of at most two characters after it.
     fn try_beginning(
         &mut self,
         alloc: Global,

@@ -25,7 +25,7 @@ fn told_by<R: Source>(rt: &impl Abort, alloc: Global, source: &mut R) -> Outcome
     read_source(alloc, source, sink, TokenizerOpts::default(), &names)
 }
 
-// What a source tells that gives a byte a read, and fails behind so many reads.
+// What a source tells that gives a byte a read, and fails after so many reads.
 fn told_by_bytes(rt: &impl Abort, alloc: Global, bytes: &[u8], reads: usize) -> Outcome {
     told_by(rt, alloc, &mut FailingSource::new(bytes, reads))
 }
@@ -103,7 +103,7 @@ fn a_page_by_single_bytes_and_at_once(rt: HostRuntime) {
 
 #[test]
 fn a_read_that_fails(rt: HostRuntime) {
-    // How many entries were told where the reads fail behind so many bytes of `<b>xy`, and whether all
+    // How many entries were told where the reads fail after so many bytes of `<b>xy`, and whether all
     // was read.
     let told = [
         (0usize, false),
@@ -127,7 +127,7 @@ fn a_read_that_fails(rt: HostRuntime) {
     }
 }
 
-// Reads bytes that are no text behind `ab`.
+// Reads bytes that are no text after `ab`.
 fn check_fault(rt: &impl Abort, alloc: Global, bytes: &[u8]) {
     let fault = Err(StreamError::NotUtf8 { valid_up_to: 2 });
     let (sink, read) = told_by_bytes(rt, alloc, bytes, 1000);

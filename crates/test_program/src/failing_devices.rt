@@ -53,7 +53,7 @@ fn tells_that_a_read_failed(rt: HostRuntime) -> Result<(), Fail> {
     Ok(())
 }
 
-// Prints a page on a target that fails behind so many writes of a byte each.
+// Prints a page on a target that fails after so many writes of a byte each.
 fn check_writes(
     rt: &impl Abort,
     alloc: Global,

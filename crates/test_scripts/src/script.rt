@@ -34,7 +34,7 @@ pub enum Whole {
     Steps,
 }
 
-/// The item that a whole text is.
+/// The item that a whole text is, or that it is items.
 #[derive(Clone, Copy, Debug, PartialEq, Eq)]
 pub enum Law {
     Tag,
@@ -44,6 +44,7 @@ pub enum Law {
     Doctype,
     Cdata,
     Raw,
+    Items,
 }
 
 /// A call that has an answer.
@@ -62,11 +63,11 @@ pub enum Call {
 /// A step of a script.
 #[derive(Drop)]
 pub enum Step {
-    /// A text behind what waits.
+    /// A text after what waits.
     Push(String),
     /// A text in front of what waits.
     Insert(String),
-    /// A part of a whole text, behind those before it.
+    /// A part of a whole text, after those before it.
     Piece(String),
     /// A part of a whole text, in front of what waits.
     Front(String),
@@ -112,6 +113,7 @@ fn law_of(words: &str) -> Option<Call> {
         "law doctype" => Law::Doctype,
         "law cdata" => Law::Cdata,
         "law raw" => Law::Raw,
+        "law items" => Law::Items,
         _ => return None,
     };
     Some(Call::Law(law))

@@ -3,7 +3,9 @@ ghost use Rattle.html5feed.specs.Starting.{CanStart};
 
 use crate::script::{Law, Whole};
 use html5ever::TokenizerError;
-use html5ever::tokenizer::laws::{cdata, comment, doctype, instruction, raw, reference, tag};
+use html5ever::tokenizer::laws::{
+    cdata, comment, doctype, instruction, items, raw, reference, tag,
+};
 use html5ever::tokenizer::steps::{Step, run_steps};
 use html5ever::tokenizer::whole::{read_pieces, read_whole};
 use html5ever_interface::collect::Collector;
@@ -65,7 +67,7 @@ pub fn read<S: TokenSink<Token<A>> + Drop, A: Allocator + Copy>(
     }
 }
 
-/// Reads a whole text that is one item.
+/// Reads a whole text that is one item, or items.
 pub fn read_item<A: Allocator + Copy>(
     alloc: A,
     opts: TokenizerOpts<A>,
@@ -84,5 +86,6 @@ pub fn read_item<A: Allocator + Copy>(
         Law::Doctype => doctype(alloc, opts, foreign, names, text),
         Law::Cdata => cdata(alloc, opts, foreign, names, text),
         Law::Raw => raw(alloc, opts, foreign, names, text),
+        Law::Items => items(alloc, opts, foreign, names, text),
     }
 }

@@ -5,7 +5,7 @@ ghost use Rattle.std.specs.Str.{chars};
 ghost use Rattle.html5ever_interface.specs.Collected.{none_collected, collected_step, collected_finish};
 ghost use Rattle.html5ever_interface.specs.Options.{options_of};
 ghost use Rattle.html5ever_interface.specs.Sink.{stepped};
-ghost use Rattle.html5items.specs.Cdata.{WrittenCdata, IsCdata, kept_messages};
+ghost use Rattle.html5items.specs.Cdata.{WrittenCdata, IsCdata, cdata_messages};
 ghost use Rattle.html5items.specs.Comment.{WrittenComment, IsComment, comment_messages};
 ghost use Rattle.html5items.specs.Doctype.{WrittenDoctype, IsDoctype, doctype_messages};
 ghost use Rattle.html5items.specs.Instruction.{WrittenInstruction, IsInstruction, instruction_messages};
@@ -213,7 +213,7 @@ pub fn doctype<A: Allocator + Copy>(
 }
 
 /// Reads a whole text by a collector. Where the text is one CDATA section, written out, the collector
-/// then holds the texts between its NULs, the NULs, and the end.
+/// then holds the texts between its NULs, each joined to one, the NULs, and the end.
 pub fn cdata<A: Allocator + Copy>(
     alloc: A,
     opts: TokenizerOpts<A>,
@@ -225,11 +225,7 @@ pub fn cdata<A: Allocator + Copy>(
     ensures reads { CollectsText result (options_of opts) names.now foreign (chars (string_bytes text)) }
     ensures cdata { IfOk result (λ sink. (cdata : WrittenCdata) →
         IsCdata (start_of (options_of opts)) foreign (chars (string_bytes text)) cdata →
-        sink.collected ≡ record {
-          messages = kept_messages opts.exact_errors (start_of (options_of opts)).input cdata;
-          finished = true;
-          foreign = foreign;
-        }) }
+        Collects sink foreign (cdata_messages opts.exact_errors (start_of (options_of opts)).input cdata)) }
 {
     collect(alloc, opts, foreign, names, text)
 }

@@ -3,20 +3,21 @@ use Rattle.html5grammar.specs.ErrorText.{end_error_in}
 use Rattle.html5ever_interface.specs.Token.Told.{End}
 use Rattle.std.specs.List.{list_all}
 use Rattle.std.proofs.Common.{◌≡◌, ℕ, Bool, true, false, List, [], ◌∷◌, ◌++◌, refl, ap, sym, ◌∙◌}
-use Rattle.std.specs.Prelude.{◌&&◌, codes, encode_utf8_all, if◌then◌else◌, ◌||◌, not}
+use Rattle.std.specs.Prelude.{◌&&◌, codes, if◌then◌else◌, ◌||◌, not}
 use Rattle.std.proofs.Math.Bool.{and-false}
 use Rattle.std.proofs.lemmas.Bool.{and_parts}
 use Rattle.std.proofs.lemmas.List.{append_assoc}
 use Rattle.html5ever_interface.specs.Sink.{stepped}
 use Rattle.html5ever_interface.specs.Token.{Told, Reply}
 use Rattle.html5ever_interface.specs.declared.states.State.TheVariants as state
-use Rattle.html5grammar.specs.Cdata.{open_cdata, piece_text}
+use Rattle.html5grammar.specs.Cdata.{open_cdata}
 use Rattle.html5grammar.specs.Characters.{null, is_bad_character}
 use Rattle.html5grammar.specs.Comment.{begins_keyword, begins_cdata}
 use Rattle.html5grammar.specs.EndOfInput.{late_at_end_of, open_at_end_of, told_at_end_of, tokens_at_end}
 use Rattle.html5grammar.specs.NormalisedText.{normalised, line_after}
 use Rattle.html5items.specs.Cdata.{WrittenCdata, opening_text, end_text, pieces_text, written, is_written, spell_null, spell_pieces, spell_end, spell_cdata, told_at_end, cdata_messages, open_behind_cdata, IsCdata, is_piece}
 use Rattle.html5items.specs.Spelled.{Spelled, spell_silent, spelled_messages}
+use Rattle.html5grammar.specs.RawText.{texts}
 use Rattle.html5grammar.specs.Reading.{reading, told, messages, after}
 use Rattle.html5grammar.specs.Reading.Here.{Tells}
 use Rattle.html5grammar.specs.Slice.{silent}
@@ -67,24 +68,24 @@ opening_begins rules foreign e = rw e refl
 
 -- ---- what the end tells
 
-pub tokens-cdata : (rules : Rules) (held : List ℕ) → tokens_at_end rules (open_cdata held) ≡ piece_text held ++ end_error_in rules.exact state.CdataSection ∷ End ∷ []
+pub tokens-cdata : (rules : Rules) (held : List ℕ) → tokens_at_end rules (open_cdata held) ≡ texts held ++ end_error_in rules.exact state.CdataSection ∷ End ∷ []
 unfolding late_at_end_of open_at_end_of told_at_end_of
 tokens-cdata rules [] = refl
 tokens-cdata rules (b ∷ held) = refl
 
 tokens_at_end-cdata : (rules : Rules) (last : List ℕ) (is_ended : Bool)
-    → tokens_at_end rules (if is_ended then Between Data else open_cdata (encode_utf8_all last)) ≡ told_at_end rules.exact is_ended last
+    → tokens_at_end rules (if is_ended then Between Data else open_cdata last) ≡ told_at_end rules.exact is_ended last
 unfolding late_at_end_of open_at_end_of told_at_end_of
 tokens_at_end-cdata rules last true = refl
-tokens_at_end-cdata rules last false = tokens-cdata rules (encode_utf8_all last)
+tokens_at_end-cdata rules last false = tokens-cdata rules last
 
 decided-section : (held : List ℕ) → is_undecided_open (open_cdata held) ≡ false
 decided-section [] = refl
 decided-section (b ∷ held) = refl
 
-decided-behind : (last : List ℕ) (is_ended : Bool) → is_undecided_open (if is_ended then Between Data else open_cdata (encode_utf8_all last)) ≡ false
+decided-behind : (last : List ℕ) (is_ended : Bool) → is_undecided_open (if is_ended then Between Data else open_cdata last) ≡ false
 decided-behind last true = refl
-decided-behind last false = decided-section (encode_utf8_all last)
+decided-behind last false = decided-section last
 
 module _ {S H : Type 0} (step : S → Told → ℕ → S) (reply : S → Told → ℕ → Reply H) (foreign : S → Bool) (rules : Rules) where
   trace-begins : (K : Start) (s : S) (before text : List ℕ) → foreign s ≡ true
@@ -104,7 +105,7 @@ module _ {S H : Type 0} (step : S → Told → ℕ → S) (reply : S → Told �
       ∙ trace-held step reply foreign rules InDeclaration K.input (codes "<!") s K.last_start_tag [] (codes "[CDATA") (codes "[" ++ text) (opening_held rules (foreign s) e) refl
       ∙ trace-begins K s (codes "<![CDATA") text e
 
-  -- a section is open behind the opening
+  -- a section is open after the opening
   trace-start : (K : Start) (s : S) (has_opening : Bool) (text : List ℕ) → (not has_opening || foreign s) ≡ true
       → trace step reply foreign rules s (line_after K.input []) K.last_start_tag (if has_opening then Between Data else Between Cdata) (opening_text has_opening ++ text)
       ≡ trace step reply foreign rules s (line_after K.input (opening_text has_opening)) K.last_start_tag (Between Cdata) text

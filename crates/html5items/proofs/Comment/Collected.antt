@@ -74,7 +74,7 @@ module _ (exact : Bool) where
       let line : ℕ = line_after input (written comment) in
       keeps-append (messages_of exact input comment) (on_line line (End ∷ [])) (keeps-comment input comment) (λ c. collected-on_line c line (End ∷ []) (refl, tt))
 
--- what a collector holds behind a text that is one comment
+-- what a collector holds after a text that is one comment
 pub collects-comment : (H : Type 0) (rules : Rules) (K : Start) (foreign : Bool) (X : List ℕ) (comment : WrittenComment) → IsComment K foreign X comment
     → collected_finish (stepped collected_step (none_collected foreign) (messages (reading collected_step (collected_reply {H = H}) (λ (c : Collected). c.foreign) rules K (none_collected foreign) X)))
     ≡ record { messages = comment_messages rules.exact K.input comment; finished = true; foreign = foreign }

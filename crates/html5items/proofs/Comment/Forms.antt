@@ -1,4 +1,4 @@
--- Each text behind `<!--` is the content and the end of a comment, and more, or has no end.
+-- Each text after `<!--` is the content and the end of a comment, and more, or has no end.
 use Rattle.std.proofs.Common.{◌≡◌, inl, inr, ℕ, Bool, true, false, List, [], ◌∷◌, ◌++◌, length, take, drop, refl, ap, sym, ◌∙◌, subst}
 use Rattle.std.specs.Prelude.{◌==◌, ◌&&◌, ◌||◌, not, codes, nat_eq}
 use Rattle.std.specs.Cmp.Lexicographic.{same_text}
@@ -9,7 +9,7 @@ use Rattle.html5grammar.specs.Comment.{ends_in, without_last, is_lone_dash, ends
 use Rattle.html5items.specs.Comment.{Ending, before_greater_than, begins_with, occurs, is_content, can_end_with}
 use Rattle.html5items.specs.Comment.Ending.{Dashes, Bang, AtOnce, AfterDash}
 use Rattle.html5items.proofs.Comment.Steps.{runs_on}
-use Rattle.html5items.proofs.Comment.Text.{ends_in-front, ends_in-append}
+use Rattle.html5grammar.proofs.TextEnds.{ends_in-front, ends_in-append}
 
 -- ---- no end in a text, in two parts
 
@@ -134,7 +134,7 @@ ended before h ends =
       | inr e ↦ ended-by before (codes "--!") Bang refl (λ content c. c) h e
     ]
 
--- a text behind `<!--`
+-- a text after `<!--`
 pub data Behind (text : List ℕ) : Type 0 where
   Ends : (content : List ℕ) (ending : Ending) (later : List ℕ) → can_end_with content ending ≡ true
       → text ≡ (content ++ before_greater_than ending) ++ greater_than ∷ later → Behind text

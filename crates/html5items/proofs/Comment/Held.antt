@@ -1,4 +1,4 @@
--- What is held of a keyword behind `<!`, where none comes.
+-- What is held of a keyword after `<!`, where none comes.
 use Rattle.std.proofs.Common.{◌≡◌, ℕ, Bool, true, false, List, [], ◌∷◌, ◌++◌, take, length, refl, ap, sym, ◌∙◌, subst, arith}
 use Rattle.std.specs.Prelude.{◌==◌, ◌||◌, not, codes, nat_eq, ◌&&◌, nat_le, if◌then◌else◌}
 use Rattle.std.specs.Char.{to_ascii_lowercase}

@@ -51,13 +51,13 @@ characters-three opening cells text errors content e =
 -- ---- the machine reads them
 
 module _ (rules : Rules) where
-  -- behind `<!--` a comment is open
+  -- after `<!--` a comment is open
   leads-opening : (cells : List Spelled) (later : Open) → Leads rules (InComment []) cells later
       → Leads rules (Between Data) (spell_silent (codes "<!--") ++ cells) later
   unfolding Leads brought_at step_at data_step less_than_step declaration_step begins_keyword is_letter
   leads-opening cells later leads = (LessThan, λ foreign. refl, (InDeclaration [], λ foreign. refl, (InDeclaration (codes "-"), λ foreign. refl, (InComment [], λ foreign. refl, leads))))
 
-  -- behind `<!` a keyword is undecided
+  -- after `<!` a keyword is undecided
   pub leads-mark : Leads rules (Between Data) (spell_silent (codes "<!")) (InDeclaration [])
   unfolding Leads brought_at step_at data_step less_than_step is_letter
   leads-mark = (LessThan, λ foreign. refl, (InDeclaration [], λ foreign. refl, refl))
@@ -109,7 +109,7 @@ module _ {S H : Type 0} (step : S → Told → ℕ → S) (reply : S → Told �
       ∙ ap (λ M. with_messages M (trace step reply foreign rules (stepped step s M) (line_after K.input (codes "<!")) K.last_start_tag (InDeclaration []) text))
       (spelled-nothing rules.exact K.input silent (λ c g. refl) [] (codes "<!") refl)
 
-  -- behind `<!` a bogus comment is open once it is decided that no keyword comes
+  -- after `<!` a bogus comment is open once it is decided that no keyword comes
   reads_declaration : (K : Start) (s : S) (content : List ℕ) → can_open (foreign s) ExclamationMark content ≡ true → list_all in_bogus_comment content ≡ true
       → IsRead step reply foreign rules K s (written (Bogus ExclamationMark content)) (messages_of rules.exact K.input (Bogus ExclamationMark content))
   unfolding written messages_of

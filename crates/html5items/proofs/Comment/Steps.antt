@@ -20,7 +20,8 @@ use Rattle.html5grammar.specs.Start.Mode.{Data}
 use Rattle.html5grammar.specs.Start.Open.{Between, LessThan, LessThanSolidus, InComment, InBogusComment}
 use Rattle.html5grammar.specs.Tag.{null_error}
 use Rattle.html5grammar.specs.Machine.{step_at, data_step, less_than_step, solidus_step, comment_step, bogus_comment_step}
-use Rattle.html5items.proofs.Comment.Text.{bytes_of, bytes-push, bytes-append, ends_in-front, ends_in-append, ends_in-other, without_last-append, comment_errors-bytes, ends_comment-bytes}
+use Rattle.html5grammar.proofs.TextEnds.{ends_in-front, ends_in-append, ends_in-other, without_last-append}
+use Rattle.html5items.proofs.Comment.Text.{bytes_of, bytes-push, bytes-append, comment_errors-bytes, ends_comment-bytes}
 use Rattle.html5items.proofs.Goes.{Goes, Goes-append, Goes-one}
 
 -- ---- no `>` of the content ends the comment
@@ -196,7 +197,7 @@ module _ (exact : Bool) where
   runs_on-front content AtOnce h = subst (λ l. runs_on [] (l ++ []) ≡ true) (sym (nil_from_length content (eqb-true (length content) 0 h))) refl
   runs_on-front content AfterDash h = subst (λ l. runs_on [] (l ++ codes "-") ≡ true) (sym (nil_from_length content (eqb-true (length content) 0 h))) refl
 
-  -- a comment behind its `<!--`
+  -- a comment after its `<!--`
   pub goes-proper : (content : List ℕ) (ending : Ending) → can_end_with content ending ≡ true
       → Goes exact (InComment []) (spell_content exact [] (content ++ before_greater_than ending) ++ spell_end (ending_errors exact ending) content) (Between Data)
   goes-proper content ending h =
@@ -218,7 +219,7 @@ module _ (exact : Bool) where
         subst (λ l. Goes exact (InBogusComment (bytes_of (before ++ c ∷ []))) (spell_bogus exact text) (InBogusComment (bytes_of l))) (append_assoc before (c ∷ []) text) (goes-bogus (before ++ c ∷ []) text p.1),
       )
 
-  -- up to its `>`, behind a part of its content
+  -- up to its `>`, after a part of its content
   pub goes-bogus_end : (before text : List ℕ) → list_all in_bogus_comment text ≡ true
       → Goes exact (InBogusComment (bytes_of before)) (spell_bogus exact text ++ spell_end [] (before ++ text)) (Between Data)
   unfolding step_at bogus_comment_step
@@ -227,7 +228,7 @@ module _ (exact : Bool) where
       (goes-bogus before text h)
       (Goes-one exact (InBogusComment (bytes_of (before ++ text))) (Between Data) greater_than (Comment (bytes_of (before ++ text)) ∷ []) refl)
 
-  -- one behind `</`, whose first character is an error
+  -- one after `</`, whose first character is an error
   pub goes-solidus : (foreign : Bool) (content : List ℕ) → is_written foreign (Bogus Solidus content) ≡ true
       → Goes exact (Between Data) (spell_silent (codes "</") ++ (spell_odd exact content ++ spell_end [] content)) (Between Data)
   unfolding is_written Goes step_at data_step less_than_step solidus_step bogus_comment_step is_letter in_bogus_comment

@@ -143,7 +143,7 @@ module _ (exact : Bool) where
       keeps-append (messages_of exact input doctype.word doctype.space doctype.content) (on_line line (End ∷ []))
       (keeps-content input doctype.word doctype.space doctype.content) (λ c. collected-on_line c line (End ∷ []) (refl, tt))
 
--- what a collector holds behind a text that is one doctype
+-- what a collector holds after a text that is one doctype
 pub collects-doctype : (H : Type 0) (rules : Rules) (K : Start) (foreign : Bool) (X : List ℕ) (doctype : WrittenDoctype) → IsDoctype K X doctype
     → collected_finish (stepped collected_step (none_collected foreign) (messages (reading collected_step (collected_reply {H = H}) (λ (c : Collected). c.foreign) rules K (none_collected foreign) X)))
     ≡ record { messages = doctype_messages rules.exact K.input doctype; finished = true; foreign = foreign }

@@ -59,7 +59,7 @@ record Form {B : Type 0} (is_form : B → Bool) (text_of : B → List ℕ) (text
   fits : is_form form ≡ true
   is_text : text_of form ≡ text
 
--- each text behind white space, without `>`, has a form
+-- each text after white space, without `>`, has a form
 abbrev Covers : {B : Type 0} → (B → Bool) → (B → List ℕ) → Type 0
 Covers is_form text_of = (text : List ℕ) → HasNoEnd text → next_is is_white_space text ≡ false → Form is_form text_of text
 
@@ -76,7 +76,7 @@ unfolding in_identifier
 closes quotes c h no_end = eqb-true c (quote_mark quotes) (the_other (c == quote_mark quotes) (c == greater_than) h no_end)
 
 module _ {B : Type 0} (is_behind : B → Bool) (text_behind : B → List ℕ) (covers : Covers is_behind text_behind) where
-  -- behind a quote
+  -- after a quote
   covers-quoted : (quotes : Quotes) (text : List ℕ) → HasNoEnd text → Form (is_identifier is_behind) (identifier_text text_behind) (quote_mark quotes ∷ text)
   covers-quoted quotes text h = by s.rest refl
     where
@@ -119,7 +119,7 @@ covers-system text h next = covers-identifier (is_rest is_white_space) (λ rest.
 covers-public : Covers is_public public_text
 covers-public text h next = covers-identifier is_system system_text covers-system text h next
 
--- ---- behind the name
+-- ---- after the name
 
 -- what begins with a keyword
 record Keyword (kind : DoctypeIdKind) (text : List ℕ) : Type 0 where
@@ -173,7 +173,7 @@ covers-behind_name text h next = by (begins_with (keyword_of Public) (lower_case
 
 -- ---- the content
 
--- behind a name stands white space, or nothing
+-- after a name stands white space, or nothing
 white_behind_name : (c : ℕ) → in_doctype_name c ≡ false → (c == greater_than) ≡ false → is_white_space c ≡ true
 unfolding in_doctype_name
 white_behind_name c h no_end = the_other (is_white_space c) (c == greater_than) h no_end

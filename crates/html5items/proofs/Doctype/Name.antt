@@ -1,4 +1,4 @@
--- What the machine does at one doctype up to its name and the white space behind it.
+-- What the machine does at one doctype up to its name and the white space after it.
 use Rattle.std.proofs.Common.{◌≡◌, ℕ, Bool, true, false, List, [], ◌∷◌, ◌++◌, refl, sym, subst}
 use Rattle.std.specs.Prelude.{◌==◌, ◌||◌, not, flat_map, codes, None}
 use Rattle.std.specs.List.{list_all}

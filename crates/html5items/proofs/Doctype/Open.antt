@@ -213,7 +213,7 @@ module _ (exact : Bool) where
       (wants (quote_mark quotes) (quote-no_white quotes) (quote-no_end quotes)) p.0
       (cut-behind_system d later rest q.0 q.1)
 
-  -- ---- behind a public identifier
+  -- ---- after a public identifier
 
   ends-between : (d : DoctypeOf) (space : List ℕ) → Ends (behind_public exact d space) (between_state space) d
   unfolding told_at_doctype_end doctype_state_at
@@ -272,7 +272,7 @@ module _ (exact : Bool) where
       (wants (quote_mark quotes) (quote-no_white quotes)) p.0
       (cut-behind_public name id later system q.0 q.1)
 
-  -- ---- behind a keyword
+  -- ---- after a keyword
 
   ends-keyword : (kind : DoctypeIdKind) (d : DoctypeOf) (space : List ℕ) → Ends (behind_keyword exact kind d space) (keyword_state kind space) d
   unfolding told_at_doctype_end doctype_state_at
@@ -308,7 +308,7 @@ unfolding begins_doctype_keyword
 closed-doctype_keyword = closed-or (λ text. starts_with nat_eq (keyword_of Public) (lower_case text)) (λ text. starts_with nat_eq (keyword_of System) (lower_case text)) (closed-lower (keyword_of Public)) (closed-lower (keyword_of System))
 
 module _ {X S H : Type 0} (means : Means X S H) (rules : Rules) where
-  -- the text behind the name is read, up to where it ends
+  -- the text after the name is read, up to where it ends
   record ReadsOpen (input : Input) (before : List ℕ) (s : S) (last : List ℕ) (opened : Open) (text : List ℕ) (M : List Message) (E : List Told) : Type 0 where
     later : Open
     is : trace means.step means.reply means.foreign rules s (line_after input before) last opened text ≡ record { messages = M; opened = later; last_start_tag = last }
@@ -348,7 +348,7 @@ module _ {X S H : Type 0} (means : Means X S H) (rules : Rules) where
         at_end = cut.at_end;
       }
 
-  -- what stands behind a name and white space is read, and tells its messages
+  -- what stands after a name and white space is read, and tells its messages
   abbrev ReadsBehind : Input → List ℕ → S → List ℕ → List ℕ → Open → List ℕ → BehindName → Type 0
   ReadsBehind input before s last name opened space behind =
       ReadsOpen input before s last opened (behind_name_text behind) (messages_behind_open_name rules.exact input before (told_behind_name name behind) behind)

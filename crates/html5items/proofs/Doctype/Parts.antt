@@ -83,7 +83,7 @@ module _ (exact : Bool) where
       (wants (quote_mark quotes) (quote-no_white quotes) (quote-no_end quotes)) p.0
       (goes-behind_system exact d later rest q.0 q.1)
 
-  -- ---- behind a public identifier
+  -- ---- after a public identifier
 
   abbrev pub behind_public : DoctypeOf → List ℕ → Open
   behind_public d space = behind_space space (InDoctype (AfterIdentifier Public) d) (InDoctype BetweenIdentifiers d)
@@ -149,7 +149,7 @@ module _ (exact : Bool) where
       (wants (quote_mark quotes) (quote-no_white quotes)) p.0
       (goes-behind_public name id later system q.0 q.1)
 
-  -- ---- behind a keyword
+  -- ---- after a keyword
 
   abbrev pub behind_keyword : DoctypeIdKind → DoctypeOf → List ℕ → Open
   behind_keyword kind d space = behind_space space (InDoctype (AfterKeyword kind) d) (InDoctype (BeforeIdentifier kind) d)

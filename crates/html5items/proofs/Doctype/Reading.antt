@@ -38,13 +38,13 @@ use Rattle.html5items.proofs.Doctype.Steps.{named_doctype, goes-skipped, goes-od
 use Rattle.html5items.proofs.Goes.{characters, characters-spell, characters-two, Goes-one}
 use Rattle.html5grammar.proofs.Traces.{trace, with_messages}
 
--- ---- behind the name
+-- ---- after the name
 
 module _ {S H : Type 0} (step : S → Told → ℕ → S) (reply : S → Told → ℕ → Reply H) (foreign : S → Bool) (rules : Rules) (input : Input) (before : List ℕ) (last name : List ℕ) where
   abbrev d : DoctypeOf
   d = named_doctype name None None false
 
-  -- what stands behind the name is read, and tells its messages
+  -- what stands after the name is read, and tells its messages
   abbrev IsReadBehind : S → Open → BehindName → Type 0
   IsReadBehind s opened behind =
       trace step reply foreign rules s (line_after input before) last opened (behind_name_text behind ++ greater_than ∷ [])
@@ -126,7 +126,7 @@ module _ {S H : Type 0} (step : S → Told → ℕ → S) (reply : S → Told �
       (leads-goes rules (InDoctype Skipped (with_quirks d)) (Between Data) cells refl (goes-skipped rules.exact (with_quirks d) behind within))))
       ∙ ap (λ l. record { messages = M ++ (l ++ N); opened = Between Data; last_start_tag = last }) (held-error line c rest begins ∙ ap error (line-first c rest begins))
 
-  -- behind the name and white space
+  -- after the name and white space
   reads-behind_name : (s : S) (behind : BehindName) → is_behind_name behind ≡ true → IsReadBehind s (InDoctype AfterName d) behind
   unfolding messages_behind_name step_at doctype_step space_step keyword_or_end_step is_white_space
   reads-behind_name s (NoKeyword []) h = reads-nothing s (InDoctype AfterName d) refl
@@ -157,7 +157,7 @@ module _ {S H : Type 0} (step : S → Told → ℕ → S) (reply : S → Told �
 -- ---- the whole doctype
 
 module _ {S H : Type 0} (step : S → Told → ℕ → S) (reply : S → Told → ℕ → Reply H) (foreign : S → Bool) (rules : Rules) where
-  -- behind a name and this white space
+  -- after a name and this white space
   reads-behind : (input : Input) (before : List ℕ) (last name : List ℕ) (s : S) (space : List ℕ) (behind : BehindName) → can_stand_behind space behind ≡ true
       → IsReadBehind step reply foreign rules input before last name s (behind_name rules (named_doctype name None None false) space) behind
   unfolding step_at doctype_step doctype_name_step in_doctype_name is_white_space

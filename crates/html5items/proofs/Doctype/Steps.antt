@@ -1,4 +1,4 @@
--- What the machine does at the characters of one doctype behind its name.
+-- What the machine does at the characters of one doctype after its name.
 use Rattle.std.proofs.Common.{◌≡◌, ℕ, Bool, true, false, List, [], ◌∷◌, ◌++◌, refl, ◌∙◌}
 use Rattle.std.specs.Prelude.{◌==◌, not, Option, Some}
 use Rattle.std.specs.List.{list_all}
@@ -53,7 +53,7 @@ module _ (exact : Bool) where
       let p = and_parts (is_white_space c) (list_all is_white_space space) all in
       (opened, step c p.0, goes-stay opened step space p.1)
 
-  -- or it is another behind white space
+  -- or it is another after white space
   pub goes-space : (direct spaced : Open) → ((c : ℕ) → is_white_space c ≡ true → step_at exact direct c ≡ Tells [] spaced)
       → ((c : ℕ) → is_white_space c ≡ true → step_at exact spaced c ≡ Tells [] spaced)
       → (space : List ℕ) → list_all is_white_space space ≡ true → Goes exact direct (spell_silent space) (behind_space space direct spaced)
@@ -172,7 +172,7 @@ module _ (exact : Bool) where
       Goes-append exact opened (InDoctype (InIdentifier quotes kind) (whole kind d run)) (Between Data) (spell_begun exact kind named space quotes run) (record { character = quote_mark quotes; told = [] } ∷ cells)
       (goes-begun opened space named kind d quotes run wants all) closes
 
-  -- ---- behind identifiers
+  -- ---- after identifiers
 
   pub step-behind_system : (d : DoctypeOf) (c : ℕ) → is_white_space c ≡ true → step_at exact (InDoctype (AfterIdentifier System) d) c ≡ Tells [] (InDoctype (AfterIdentifier System) d)
   unfolding step_at doctype_step behind_identifier_step

@@ -41,7 +41,7 @@ module _ (exact : Bool) where
       (λ c. collected-spelled_messages exact input [] c (spell_instruction exact instruction) (TellNoText-instruction instruction))
       (λ c. collected-on_line c line at_end (HasNoText-at_end instruction.is_ended instruction.content))
 
--- what a collector holds behind a text that is one instruction
+-- what a collector holds after a text that is one instruction
 pub collects-instruction : (H : Type 0) (rules : Rules) (K : Start) (foreign : Bool) (X : List ℕ) (instruction : WrittenInstruction) → IsInstruction K X instruction
     → collected_finish (stepped collected_step (none_collected foreign) (messages (reading collected_step (collected_reply {H = H}) (λ (c : Collected). c.foreign) rules K (none_collected foreign) X)))
     ≡ record { messages = instruction_messages rules.exact K.input instruction; finished = true; foreign = foreign }

@@ -1,4 +1,4 @@
--- Each text behind a `<` in raw text goes on as one of the items of raw text, or as one that it ends.
+-- Each text after a `<` in raw text goes on as one of the items of raw text, or as one that it ends.
 use Rattle.std.proofs.Common.{◌≡◌, ℕ, Bool, true, false, List, [], ◌∷◌, ◌++◌, Option, None, Some, refl, ap, sym, ◌∙◌, arith}
 use Rattle.std.specs.Prelude.{◌==◌, ◌||◌, ◌&&◌, not, flat_map, length, nat_eq, if◌then◌else◌}
 use Rattle.std.specs.List.{list_all}
@@ -25,11 +25,11 @@ use Rattle.html5items.proofs.Split.{nil≢cons}
 use Rattle.html5items.proofs.Tag.Forms.{Parts, parts-from, Ending}
 use Rattle.html5items.proofs.Tag.Forms.Ending.{Closed, CutOff, CutWithin}
 
--- how a `<` with T behind it goes on
+-- how a `<` with T after it goes on
 pub data RawForm (raw : Raw) (name T : List ℕ) : Type 0 where
   -- a mark or a switch, and F
   AtOnce : (item : RawItem) (F : List ℕ) → is_text_at_once item ≡ true → can_stand name raw item [] ≡ true → less_than ∷ T ≡ item_text raw item ++ F → RawForm raw name T
-  -- `<`, or `</` and letters, and c behind it, which is text, and F
+  -- `<`, or `</` and letters, and c after it, which is text, and F
   Later : (item : RawItem) (c : ℕ) (F : List ℕ) → is_text_later item ≡ true → stands_before name raw item (c ∷ F) ≡ true → is_raw_text raw c ≡ true
       → less_than ∷ T ≡ (item_text raw item ++ c ∷ []) ++ F → RawForm raw name T
   -- the same before a `<`, or before the `&` of a reference
@@ -144,7 +144,7 @@ whole-end first rest parts Z =
     let flat : List ℕ = flat_map part_text parts in
     ap (λ l. less_than ∷ solidus ∷ first ∷ l) (sym (append_assoc rest flat (greater_than ∷ Z)) ∙ sym (append_assoc (rest ++ flat) (greater_than ∷ []) Z))
 
--- behind the name something stands
+-- after the name something stands
 some-cut : (c : ℕ) (F : List ℕ) (parts : List Part) (tail : List ℕ) → c ∷ F ≡ flat_map part_text parts ++ tail → tail ≡ [] → nat_eq (length parts) 0 ≡ false
 some-cut c F [] tail e none = absurd (nil≢cons (sym none ∙ sym e))
 some-cut c F (part ∷ parts) tail e none = not-none part parts
@@ -182,7 +182,7 @@ form-end raw (d ∷ name) (first ∷ rest) c F T single all n e =
     let p : Parts InName (c ∷ F) = parts-from c F (ends-no_name c n.ends) in
     form-ending raw (d ∷ name) first rest c F p.list p.tail T (rw (single, (and_parts (is_letter first) (list_all is_letter rest) all).1, n.same) refl) all p.follow p.parts p.ending e
 
--- behind `</` where no switch stands
+-- after `</` where no switch stands
 form-letters : (raw : Raw) (name letters rest T : List ℕ) → is_double_escaped (kind_of raw) ≡ false → list_all is_letter letters ≡ true → next_is is_letter rest ≡ false
     → T ≡ solidus ∷ letters ++ rest → RawForm raw name T
 form-letters raw name letters [] T single all ends e =

@@ -80,7 +80,7 @@ step-text : (exact : Bool) (raw : Raw) (name : List ℕ) (c : ℕ) → (c == les
 unfolding step_at raw_step
 step-text exact raw name c no_less_than no_ampersand = rw (no_less_than, no_ampersand) refl
 
--- behind `<` and letters the raw text has references where it had them before
+-- after `<` and letters the raw text has references where it had them before
 same-rcdata : (raw : Raw) (item : RawItem) → is_text_later item ≡ true → is_rcdata (raw_behind_item raw item) ≡ is_rcdata raw
 unfolding kind_of
 same-rcdata raw (Character c) h = absurd (false≢true h)
@@ -100,7 +100,7 @@ same-rcdata (DoubleEscaped dashes) (Letters letters) h = refl
 line-behind : (K : Start) (Y : List ℕ) → line_after (input_after K.input Y) [] ≡ line_after K.input (normalised K.input Y)
 line-behind K Y = input_after-line_none K.input Y ∙ sym (line_after-lines_past K.input [] (normalised K.input Y))
 
--- `<` or the `&` of a reference, which the machine reads alike behind any text that is carried to it
+-- `<` or the `&` of a reference, which the machine reads alike after any text that is carried to it
 record IsMarkup (exact : Bool) (raw : Raw) (name : List ℕ) (c : ℕ) : Type 0 where
   told : List Told
   later : Open
@@ -137,7 +137,7 @@ is-markup exact raw name c h = at (c == less_than) (is_rcdata raw && (c == amper
         })
     at false false e f g = absurd (false≢true (sym g))
 
--- ---- the machine behind `<`, or `</` and letters
+-- ---- the machine after `<`, or `</` and letters
 
 -- where it stands there, before this text
 record Behind (exact : Bool) (name : List ℕ) (raw : Raw) (item : RawItem) (text : List ℕ) : Type 0 where
@@ -252,7 +252,7 @@ module _ {X S H : Type 0} (means : Means X S H) (rules : Rules) where
 
   -- ---- items
 
-  -- the item tells what it spells, and the text F behind it is told as if nothing were open
+  -- the item tells what it spells, and the text F after it is told as if nothing were open
   tells-goes : (Z : List ℕ) (K : Start) (s : S) (Y : List ℕ) (opened behind later : Open) (cells : List Spelled) (F : List ℕ)
       → K.opened ≡ opened → normalised K.input Y ≡ characters cells → normalised (input_after K.input Y) Z ≡ F → is_undecided_open behind ≡ false
       → Goes rules.exact opened cells behind → Alike means rules behind later F
@@ -282,7 +282,7 @@ module _ {X S H : Type 0} (means : Means X S H) (rules : Rules) where
       tells-goes Z K s Y (Between (RawText raw name)) later later (spell_item rules.exact raw item) F one.starts
       (one.text ∙ sym (characters-item rules.exact raw item)) refl refl (goes-at_once name raw item one.at_once one.stands) (alike-refl later F)
 
-  -- `<`, or `</` and letters, with a character behind that
+  -- `<`, or `</` and letters, with a character after that
   pub tells-raw_less_than : (Z : List ℕ) (K : Start) (s : S) (Y : List ℕ) (raw : Raw) (name : List ℕ) (item : RawItem) (c : ℕ) (F : List ℕ) → IsRawLessThan K Y Z raw name item c F
       → TellsWith means rules Z K s Y (spelled_messages rules.exact K.input [] (spell_raw_less_than rules.exact raw item c))
       (start_behind K Y (Between (RawText (raw_behind (raw_behind_item raw item) c) name)) K.last_start_tag)
@@ -372,7 +372,7 @@ module _ {X S H : Type 0} (means : Means X S H) (rules : Rules) where
       (rw starts
       (trace-text means.step means.reply means.foreign rules K.input [] s K.last_start_tag opened behind cells (normalised K.input Y) (sym text) (leads-goes rules opened behind cells decided goes))))
 
-  -- behind `<` alone, or `</` and letters, no letters of a switch stand
+  -- after `<` alone, or `</` and letters, no letters of a switch stand
   no_letters : (item : RawItem) (kind : RawKind) → ends_in_letters item kind [] ≡ false
   no_letters (Character c) kind = refl
   no_letters (Letters letters) kind = refl

@@ -83,7 +83,7 @@ characters-items exact raw before (item ∷ items) later =
 -- ---- the machine reads items
 
 module _ (exact : Bool) (name : List ℕ) where
-  -- items, and where the machine stands behind them
+  -- items, and where the machine stands after them
   record ReadsItems (standing : Standing) (raw : Raw) (before : List Told) (items : List RawItem) : Type 0 where
     behind : Standing
     goes : Goes exact (opened_at name standing) (spell_items exact raw before items) (opened_at name behind)
@@ -152,7 +152,7 @@ pub greater_than-ends : ends_name greater_than ≡ true
 unfolding ends_name is_white_space
 greater_than-ends = refl
 
--- what stands behind the name of a tag ends it
+-- what stands after the name of a tag ends it
 pub parts-end_name : (parts : List Part) (text : List ℕ) → one_tag.can_follow InName parts ≡ true → (nat_eq (length parts) 0 ≡ true → next_is ends_name text ≡ true)
     → next_is ends_name (flat_map part_text parts ++ text) ≡ true
 unfolding one_tag.can_follow ends_name is_white_space
@@ -248,7 +248,7 @@ module _ (exact : Bool) (name : List ℕ) where
             (goes-end_tag r.behind first rest (ap (λ later. is_double_escaped (kind_of later)) r.raw_is ∙ ended.single) ended.letters));
       }
 
-  -- where the name of the end tag ends, the machine goes on as behind the name of any tag
+  -- where the name of the end tag ends, the machine goes on as after the name of any tag
   pub step-end_name : (kind : RawKind) (letters : List ℕ) (c : ℕ) → ends_name c ≡ true → ends_raw_text name letters c ≡ true
       → step_at exact (InRaw (InEndName kind letters) name) c ≡ step_at exact (InTag InName (with_name (begun EndTag) letters)) c
   unfolding step_at raw_place_step end_name_step tag_name_end_step tag_step tag_name_step
@@ -265,11 +265,11 @@ module _ {Q S H : Type 0} (means : Means Q S H) (rules : Rules) where
   trace-same s line last a b is_kind [] no_a no_b h same = absurd (false≢true h)
   trace-same s line last a b is_kind (c ∷ text) no_a no_b h same = rw (brought-step rules (means.foreign s) a c no_a, brought-step rules (means.foreign s) b c no_b, same c h) refl
 
-  -- the sink keeps on behind the end tag, where there is one
+  -- the sink keeps on after the end tag, where there is one
   abbrev pub KeepsOn : Option WrittenTag → Type 0
   KeepsOn end_tag = (tag : WrittenTag) (t : S) (line : ℕ) → end_tag ≡ Some tag → means.reply t (Tag (tag_told rules tag)) line ≡ KeepOn
 
-  -- what a text tells, and what is open behind it
+  -- what a text tells, and what is open after it
   record Reads (K : Start) (s : S) (X : List ℕ) (raw : Raw) (items : List RawItem) (end_tag : Option WrittenTag) : Type 0 where
     behind : Open
     last : List ℕ
@@ -277,7 +277,7 @@ module _ {Q S H : Type 0} (means : Means Q S H) (rules : Rules) where
         ≡ record { messages = spelled_messages rules.exact K.input [] (spell_raw rules raw (record { items = items; end_tag = end_tag })); opened = behind; last_start_tag = last }
     end_is : tokens_at_end rules behind ≡ told_at_end rules.exact raw items end_tag
 
-  -- the same where the last message is this tag, and the sink's reply to it says what is open behind it
+  -- the same where the last message is this tag, and the sink's reply to it says what is open after it
   abbrev IsReadByReply : Start → S → List ℕ → Raw → WrittenRaw → WrittenTag → Type 0
   IsReadByReply K s X raw written_as tag =
       let M : List Message = spelled_messages rules.exact K.input [] (spell_raw rules raw written_as) in
@@ -304,7 +304,7 @@ module _ {Q S H : Type 0} (means : Means Q S H) (rules : Rules) where
             ∙ ap (λ end. (carried_behind raw [] items ++ raw_end_error rules.exact end) ++ End ∷ []) (sym r.end_is);
       }
 
-  -- the end tag behind items
+  -- the end tag after items
 
   characters-tag : (before : List Told) (tag : WrittenTag) → characters (carried_to before (spelled rules tag)) ≡ one_tag.written tag
   unfolding spelled
@@ -465,7 +465,7 @@ module _ {Q S H : Type 0} (means : Means Q S H) (rules : Rules) where
   reads_raw K s X raw name items None table keeps one = reads_open K s X raw name items one
   reads_raw K s X raw name items (Some tag) table keeps one = reads_ended K s X raw name items tag.kind tag.first tag.rest tag.parts table (λ t line. keeps tag t line refl) one
 
-  -- a text that is raw text, where the sink keeps on behind the end tag
+  -- a text that is raw text, where the sink keeps on after the end tag
   pub reading-raw : (K : Start) (s : S) (X : List ℕ) (raw : Raw) (name : List ℕ) (written_as : WrittenRaw)
       → IsTable rules.names → KeepsOn written_as.end_tag → IsRawText K X raw name written_as
       → messages (reading means.step means.reply means.foreign rules K s X) ≡ raw_messages rules K.input raw written_as

@@ -57,7 +57,7 @@ carried_at (Within AfterMark) = []
 carried_at (Within AfterMarkAndDash) = []
 carried_at (Within (InSwitch kind letters)) = []
 
--- whether nothing that is open there goes on to its end in the text behind
+-- whether nothing that is open there goes on to its end in the text after
 abbrev pub fits : List ℕ → Standing → List ℕ → Bool
 fits name (Free raw) text = true
 fits name (Within (AfterLessThan kind)) text = is_alone_before kind text
@@ -66,13 +66,13 @@ fits name (Within AfterMark) text = not (begins_dashes text)
 fits name (Within AfterMarkAndDash) text = not (begins_dash text)
 fits name (Within (InSwitch kind letters)) text = not (begins_name_and_end text)
 
--- whether the text ends there, or in letters, behind the `<` of escaped script data and a letter
+-- whether the text ends there, or in letters, after the `<` of escaped script data and a letter
 abbrev pub in_letters : Standing → List ℕ → Bool
 in_letters (Within (AfterLessThan kind)) text = ends_in_letters LessThan kind text
 in_letters (Within (InSwitch escape_kind.Escaped letters)) text = list_all is_letter text
 in_letters standing text = false
 
--- the raw text that the error of the end speaks of, where that is `raw` behind this text
+-- the raw text that the error of the end speaks of, where that is `raw` after this text
 abbrev pub end_from : Standing → List ℕ → Raw → Raw
 end_from standing text raw = if in_letters standing text then DoubleEscaped NoDash else raw
 
@@ -101,7 +101,7 @@ unfolding raw_character
 told-plain exact raw c h = rw h refl
 
 module _ (exact : Bool) (name : List ℕ) where
-  -- what does not continue what is open is read as raw text, behind what is carried
+  -- what does not continue what is open is read as raw text, after what is carried
   pub reads_anew : (standing : Standing) (c : ℕ) → continues name standing c ≡ false
       → step_at exact (opened_at name standing) c ≡ raw_step exact (raw_at standing) name (carried_at standing) c
   unfolding step_at raw_place_step raw_less_than_step end_name_step mark_step mark_and_dash_step switch_step
@@ -139,7 +139,7 @@ module _ (exact : Bool) (name : List ℕ) where
   unfolding raw_step
   reads_less_than standing = reads_anew standing less_than (less_than-anew standing)
 
-  -- a character that is text, and what is open behind it
+  -- a character that is text, and what is open after it
   pub record ReadsCharacter (standing : Standing) (c : ℕ) (text : List ℕ) : Type 0 where
     pub next : Standing
     pub step : step_at exact (opened_at name standing) c ≡ Tells (carried_at standing ++ raw_character exact (raw_at standing) c) (opened_at name next)
@@ -175,7 +175,7 @@ module _ (exact : Bool) (name : List ℕ) where
     letters_is = λ T. letters-anew standing c T h;
   }
 
-  -- behind a letter nothing has changed
+  -- after a letter nothing has changed
   behind-letter : (c : ℕ) → is_letter c ≡ true → raw_behind (Escaped NoDash) c ≡ Escaped NoDash
   unfolding raw_behind dashes_behind is_letter
   behind-letter c h = rw (and-false (c == greater_than), is_not is_letter c hyphen refl h) refl
@@ -357,7 +357,7 @@ module _ (exact : Bool) (name : List ℕ) where
   goes-switch (raw_kind.ScriptDataEscaped escape_kind.DoubleEscaped) letters c can all ends =
       (InRaw (InSwitch escape_kind.DoubleEscaped []) name, refl, goes-switch_letters escape_kind.DoubleEscaped [] letters c all ends)
 
-  -- an item, and where the machine stands behind it
+  -- an item, and where the machine stands after it
   pub record ReadsItem (standing : Standing) (item : RawItem) (text : List ℕ) : Type 0 where
     pub next : Standing
     pub goes : Goes exact (opened_at name standing) (carried_to (carried_at standing) (spell_item exact (raw_at standing) item)) (opened_at name next)

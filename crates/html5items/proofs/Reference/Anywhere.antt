@@ -288,7 +288,7 @@ ends-held (d ∷ held) c h =
     let q = and_parts (has_digits held) (c == semicolon) p.1 in
     subst (λ e. (is_ascii_alphanumeric e || (e == number_sign) || (e == semicolon)) ≡ true) (sym (eqb-true c semicolon q.1)) refl
 
--- the character behind what is held decides
+-- the character after what is held decides
 behind-decides : (begins : List ℕ → Bool) (before text : List ℕ) (c : ℕ) (more : List ℕ) → behind_while begins before text ≡ c ∷ more
     → begins ((before ++ run_while begins before text) ++ c ∷ []) ≡ false
 unfolding run_while behind_while
@@ -383,7 +383,7 @@ module _ {X S H : Type 0} (means : Means X S H) (rules : Rules) where
   unfolding trace trace_brought trace_here brought_at reference_step stepped
   trace-ended_step stand s line last run c more same h e f = rw (e, f, good-held c h, and-false rules.exact, same c (none-line_feed c h)) refl
 
-  -- the character behind what is held decides, and is read anew
+  -- the character after what is held decides, and is read anew
   trace-decided : (stand : Stand) (s : S) (line : ℕ) (last run : List ℕ) (c : ℕ) (more : List ℕ) → takes_reference stand ≡ true → IsLine line → list_all is_held_character run ≡ true
       → is_undecided rules.names (run ++ c ∷ []) ≡ false → (ends : Bool) → ends_number run c ≡ ends
       → let found : Found = reference rules (in_value stand) run (Some c) in
@@ -419,7 +419,7 @@ module _ {X S H : Type 0} (means : Means X S H) (rules : Rules) where
       ∙ ap (with_messages M) (sym (trace-plain stand (stepped means.step s M) line last (characters_in found) held (c ∷ more) takes same (held-drop found.taken run all)))
       ∙ ap (λ l. with_messages M (trace means.step means.reply means.foreign rules (stepped means.step s M) line last (opened_in stand (characters_in found)) l)) (sym (drop-append-le found.taken run (c ∷ more) (taken-within rules (in_value stand) run c ends)))
 
-  -- a reference behind its `&`: by what is held of the text F and the character behind that
+  -- a reference after its `&`: by what is held of the text F and the character after that
   pub trace-reference : (stand : Stand) (s : S) (line : ℕ) (last F : List ℕ) (c : ℕ) (more : List ℕ) → takes_reference stand ≡ true → IsLine line
       → All (λ entry. IsTrue (is_plain_name entry.name)) rules.names
       → behind_while (is_undecided rules.names) [] F ≡ c ∷ more
@@ -441,7 +441,7 @@ module _ {X S H : Type 0} (means : Means X S H) (rules : Rules) where
 
   -- ---- an `&` between items
 
-  -- a text behind which the line is the same
+  -- a text after which the line is the same
   pub lines-same : (line : ℕ) (text : List ℕ) → IsLine line → list_all is_held_character text ≡ true → lines_past line text ≡ line
   unfolding lines_past
   lines-same line [] same all = refl

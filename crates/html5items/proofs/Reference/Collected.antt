@@ -1,4 +1,4 @@
--- A collector joins the characters of a reference to one text, behind its errors.
+-- A collector joins the characters of a reference to one text, after its errors.
 use Rattle.std.proofs.Common.{◌≡◌, ℕ, Bool, true, false, cond, List, [], ◌∷◌, ◌++◌, map, Some, refl, ap, sym, ◌∙◌, ltb, ◌+◌, ◌/◌}
 use Rattle.std.specs.Prelude.{not, codes, encode_utf8, encode_utf8_all}
 use Rattle.std.proofs.lemmas.List.{append-nil, append_assoc, map-append}
@@ -20,9 +20,9 @@ use Rattle.html5items.proofs.Reference.Reading.{reading-reference}
 use Rattle.html5items.proofs.Collected.{HasNoText, HasNoText-append, HasNoText-where, collected-on_line}
 use Rattle.markup5ever.specs.NamedReferences.{IsTable}
 
--- ---- texts behind messages
+-- ---- texts after messages
 
--- a text behind messages without one
+-- a text after messages without one
 from_first-behind : (line : ℕ) (token : Told) (tokens : List Told) (text : List ℕ) → HasNoText (token ∷ tokens)
     → from_first_with_text (record { token = token; line = line }) (on_line line tokens) text ≡ on_line line (token ∷ tokens) ++ kept_text text ∷ []
 unfolding from_first_with_text
@@ -35,7 +35,7 @@ unfolding with_text
 with_text-behind line [] text none = refl
 with_text-behind line (token ∷ tokens) text none = from_first-behind line token tokens text none
 
--- a text behind another
+-- a text after another
 with_text-joined : (M : List Message) (before text : List ℕ) → with_text (M ++ kept_text before ∷ []) text ≡ M ++ kept_text (before ++ text) ∷ []
 unfolding with_text from_first_with_text
 with_text-joined [] before text = refl
@@ -126,7 +126,7 @@ collected-reference exact foreign input (Number x digits ends) =
 collected-reference exact foreign input (Named entry) =
     collected-characters foreign _ (reference_errors exact (Named entry)) entry.first (second_of entry.second) (HasNoText-errors exact (Named entry))
 
--- what a collector holds behind a text that is one reference
+-- what a collector holds after a text that is one reference
 pub collects-reference : (H : Type 0) (rules : Rules) (K : Start) (foreign : Bool) (X : List ℕ) (written_as : WrittenReference) → IsTable rules.names → IsReference rules.names K X written_as
     → collected_finish (stepped collected_step (none_collected foreign) (messages (reading collected_step (collected_reply {H = H}) (λ (c : Collected). c.foreign) rules K (none_collected foreign) X)))
     ≡ record { messages = reference_messages rules.exact K.input written_as; finished = true; foreign = foreign }

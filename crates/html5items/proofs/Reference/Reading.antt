@@ -220,7 +220,7 @@ good-semicolon : is_bad_character semicolon ≡ false
 unfolding is_bad_character
 good-semicolon = refl
 
--- what is open behind the last character: only the semicolon of a number decides a reference
+-- what is open after the last character: only the semicolon of a number decides a reference
 abbrev pub open_behind_reference : Mode → WrittenReference → Open
 open_behind_reference mode Ampersand = InReference (InText mode) []
 open_behind_reference mode (Number x digits false) = InReference (InText mode) (number_sign ∷ (x_text x ++ digits))
@@ -257,7 +257,7 @@ module _ {S H : Type 0} (step : S → Told → ℕ → S) (reply : S → Told �
       rw (decides, ends, is, good-semicolon, and-false rules.exact)
       (ap (λ M. record { messages = M; opened = Between mode; last_start_tag = last }) (append-nil (on_line line (tokens_of_late (late_tokens (InText mode) found held))) ∙ ap (on_line line) (tokens-taken mode found held taken)))
 
-  -- what was held is open behind it, on the line that it reached
+  -- what was held is open after it, on the line that it reached
   pub trace-run : (mode : Mode) (K : Start) (s : S) (X run more : List ℕ) → has_references mode ≡ true → K.opened ≡ Between mode → normalised K.input X ≡ (ampersand ∷ run) ++ more → Holds rules.names [] run
       → trace step reply foreign rules s (line_after K.input []) K.last_start_tag K.opened (normalised K.input X)
       ≡ trace step reply foreign rules s (line_after K.input (ampersand ∷ run)) K.last_start_tag (InReference (InText mode) run) more

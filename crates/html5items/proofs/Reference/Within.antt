@@ -56,7 +56,7 @@ unfolding unended_number
 found-unended exact x digits c e = rw e refl
 
 module _ {X S H : Type 0} (means : Means X S H) (rules : Rules) where
-  -- the character that decides a reference is read as behind it
+  -- the character that decides a reference is read as after it
   trace-decided : (mode : Mode) (s : S) (line : ℕ) (last held : List ℕ) (c : ℕ) (more : List ℕ) (found : Found)
       → is_undecided rules.names (held ++ c ∷ []) ≡ false → ends_number held c ≡ false
       → reference rules false held (Some c) ≡ found → drop found.taken held ≡ []
@@ -66,7 +66,7 @@ module _ {X S H : Type 0} (means : Means X S H) (rules : Rules) where
   trace-decided mode s line last held c more found decides ends is taken =
       rw (decides, ends, is, tokens-taken mode found held taken) refl
 
-  -- what was held is decided by the first character behind it
+  -- what was held is decided by the first character after it
   before-held : (mode : Mode) (Z : List ℕ) (K : Start) (s : S) (Y run : List ℕ) (c : ℕ) (more : List ℕ) (found : Found)
       → has_references mode ≡ true → K.opened ≡ Between mode → normalised K.input Y ≡ ampersand ∷ run → normalised (input_after K.input Y) Z ≡ c ∷ more → Holds rules.names [] run
       → is_undecided rules.names (run ++ c ∷ []) ≡ false → ends_number run c ≡ false

@@ -120,7 +120,7 @@ name-some first rest = (IsFilled-encode _).some _
 -- ---- parts
 
 module _ (exact : Bool) where
-  -- white space and `=` behind an attribute's name
+  -- white space and `=` after an attribute's name
   pub goes-equals : (tag : OpenTag) (space behind : List ℕ) → list_all is_white_space space ≡ true → list_all is_white_space behind ≡ true
       → Goes exact (InTag InAttributeName tag) (spell_silent space ++ spell_silent (equals_sign ∷ behind)) (InTag BeforeValue tag)
   unfolding Goes step_at tag_step attribute_name_step after_attribute_name_step in_attribute_name is_white_space place_error

@@ -183,7 +183,7 @@ collecting H = record {
   end_faulted = λ c. c;
 }
 
--- what a collector holds behind a text that is one tag
+-- what a collector holds after a text that is one tag
 pub collects-tag : (H : Type 0) (rules : Rules) (K : Start) (foreign : Bool) (X : List ℕ) (tag : WrittenTag) → IsTable rules.names → IsTag K X tag
     → collected_finish (stepped collected_step (none_collected foreign) (messages (reading collected_step (collected_reply {H = H}) (λ (c : Collected). c.foreign) rules K (none_collected foreign) X)))
     ≡ record { messages = tag_messages rules K.input tag; finished = true; foreign = foreign }

@@ -1,4 +1,4 @@
--- Each text behind the first letter of a tag's name is the rest of a tag as it is written, and more, or one without its end.
+-- Each text after the first letter of a tag's name is the rest of a tag as it is written, and more, or one without its end.
 use Rattle.std.proofs.Common.{◌≡◌, ◌⊎◌, inl, inr, ℕ, Bool, true, false, List, [], ◌∷◌, ◌++◌, refl, ap, sym, ◌∙◌, subst}
 use Rattle.std.specs.Prelude.{◌==◌, flat_map}
 use Rattle.std.specs.List.{list_all}
@@ -14,7 +14,7 @@ use Rattle.html5grammar.specs.Start.{Place}
 use Rattle.html5grammar.specs.Start.Place.{InName, BeforeAttribute, InAttributeName, AfterAttributeName, BeforeValue, InValue, AfterQuotedValue, AfterSolidus}
 use Rattle.html5grammar.specs.Tag.{in_tag_name, in_attribute_name, quote_of}
 
--- a value that the text ends, behind an attribute's name
+-- a value that the text ends, after an attribute's name
 pub record OpenValue (text : List ℕ) : Type 0 where
   pub space : List ℕ
   pub behind : List ℕ
@@ -39,13 +39,13 @@ pub record Parts (place : Place) (text : List ℕ) : Type 0 where
   pub parts : text ≡ flat_map part_text list ++ tail
   pub ending : Ending (place_behind_parts place list) tail
 
--- an attribute's value, from the white space behind its name on
+-- an attribute's value, from the white space after its name on
 pub data Assigned (text : List ℕ) : Type 0 where
   Given : (space behind : List ℕ) (value : Value) (later : List ℕ) → list_all is_white_space space ≡ true → list_all is_white_space behind ≡ true → is_value value ≡ true
       → text ≡ (space ++ (equals_sign ∷ behind ++ value_text value)) ++ later → Parts (place_behind_value value) later → Assigned text
   Open : OpenValue text → Assigned text
 
--- the same from the `=` on, behind it
+-- the same from the `=` on, after it
 pub data ValueRest (text : List ℕ) : Type 0 where
   GivenRest : (behind : List ℕ) (value : Value) (later : List ℕ) → list_all is_white_space behind ≡ true → is_value value ≡ true
       → text ≡ (behind ++ value_text value) ++ later → Parts (place_behind_value value) later → ValueRest text
@@ -305,7 +305,7 @@ all-forms (c ∷ text) =
       bare = bare-cons c text (c == greater_than) (is_white_space c) refl refl all;
     }
 
--- ---- behind the first letter of a tag's name
+-- ---- after the first letter of a tag's name
 
 pub record TagRest (text : List ℕ) : Type 0 where
   pub rest : List ℕ

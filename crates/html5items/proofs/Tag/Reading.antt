@@ -1,4 +1,4 @@
--- A text that is one tag, behind which the sink keeps on, tells the tag's messages.
+-- A text that is one tag, after which the sink keeps on, tells the tag's messages.
 use Rattle.std.proofs.Common.{◌≡◌, ℕ, List, [], refl, ap, ◌∙◌}
 use Rattle.html5ever_interface.specs.Sink.{Means}
 use Rattle.html5ever_interface.specs.Token.Told.{Tag}

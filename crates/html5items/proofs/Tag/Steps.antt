@@ -145,7 +145,7 @@ module _ (exact : Bool) where
 
   -- ---- where nothing is open
 
-  -- behind `<`, or `</`, a letter begins the name
+  -- after `<`, or `</`, a letter begins the name
   pub goes-opening : (kind : TagKind) (cells : List Spelled) (later : Open) (c : ℕ)
       → is_letter c ≡ true
       → Goes exact (InTag InName (with_name (begun kind) (c ∷ []))) cells later

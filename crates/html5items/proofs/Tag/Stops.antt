@@ -14,7 +14,7 @@ use Rattle.html5items.specs.Tag.{found_in, held_in, deciding_in}
 use Rattle.html5items.proofs.Reference.Anywhere.{is_held_character, held-undecided}
 use Rattle.markup5ever.specs.NamedReferences.{NamedReference, is_plain_name}
 
--- a character that no reference holds, and behind which a name without its semicolon is one
+-- a character that no reference holds, and after which a name without its semicolon is one
 pub record IsStop (c : ℕ) : Type 0 where
   pub other : is_held_character c ≡ false
   pub no_equals : (c == equals_sign) ≡ false

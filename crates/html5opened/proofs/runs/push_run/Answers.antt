@@ -2,7 +2,7 @@ use Rattle.std.proofs.Common.{◌≡◌, ◌≢◌, ◌++◌, false, refl, ap, s
 use Rattle.std.specs.Prelude.{Contains, flat_map}
 use Rattle.std.specs.Str.{chars}
 use Rattle.std.proofs.lemmas.List.Elements.{All-weaker}
-use Rattle.std.proofs.lemmas.Str.{encodes-chars}
+use Rattle.std.proofs.lemmas.Str.{encodes-chars, chars-append, IsUtf8-string_bytes}
 use Rattle.html5grammar.specs.Characters.{null, value_bytes}
 use Rattle.html5grammar.specs.Cdata.{open_cdata}
 use Rattle.html5grammar.specs.Start.{is_clean, held_len}
@@ -62,11 +62,12 @@ returns-in_ok-push_str-in-ProcessingInstruction-clause-run g c =
 pub returns-in_ok-push_str-in-CdataSection-clause-run : goal.returns-in_ok-push_str-in-CdataSection-clause-run
 returns-in_ok-push_str-in-CdataSection-clause-run g c =
     let run = chars c.args.run.now in
-    let held = string_bytes c.args.at.now.comment in
-    let not_clean : is_clean (open_cdata held) ≡ false = rw c.in-CdataSection.is at c.requires.not_clean in
+    let bytes = string_bytes c.args.at.now.comment in
+    let not_clean : is_clean (open_cdata (chars bytes)) ≡ false = rw c.in-CdataSection.is at c.requires.not_clean in
     rw c.in-CdataSection.is
-    (ap open_cdata (c.in_ok-push_str-in-CdataSection.ensures.bytes ∙ ap (λ l. held ++ l) (sym (encodes-chars c.args.run.now c.utf8.run)))
-    ∙ section-run held run not_clean)
+    (ap (λ l. open_cdata (chars l)) c.in_ok-push_str-in-CdataSection.ensures.bytes
+    ∙ ap open_cdata (chars-append bytes c.args.run.now (IsUtf8-string_bytes c.args.at.now.comment))
+    ∙ section-run (chars bytes) run not_clean)
 
 pub returns-in_ok-push_str-in-CdataSection-clause-held : goal.returns-in_ok-push_str-in-CdataSection-clause-held
 returns-in_ok-push_str-in-CdataSection-clause-held g c = rw c.in-CdataSection.is (held_len-section _)

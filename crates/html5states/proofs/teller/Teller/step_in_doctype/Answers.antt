@@ -8,7 +8,7 @@ use Rattle.html5opened.specs.CurrentTag.{behind_doctype_name}
 use Rattle.html5states.proofs.Tellings.{reads_as}
 use Rattle.html5states.proofs.teller.Teller.step_in_doctype.Goals as goal
 
--- nothing is held behind the name where nothing is undecided
+-- nothing is held after the name where nothing is undecided
 step-behind_name : (exact : Bool) (held : List ℕ) (d : DoctypeOf) (c : ℕ) → is_undecided_open (behind_doctype_name held d) ≡ false
     → step_at exact (behind_doctype_name held d) c ≡ doctype_step exact AfterName d c
 unfolding step_at

@@ -1,7 +1,7 @@
 use Rattle.std.proofs.Common.{◌≤◌, ◌-◌, length, take}
 use Rattle.html5grammar.specs.Reference.{longest_name}
 use Rattle.html5opened.specs.CharRef.{IsNamed}
-use Rattle.html5opened.proofs.char_ref.longest_name.Given as goal
+use Rattle.html5opened.proofs.char_ref.longest_by_beginnings.Given as goal
 
 -- so far the longest name is the one with which the text up to there begins
 abbrev pub invariant-loop-len : goal.invariant-loop-len

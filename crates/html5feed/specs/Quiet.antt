@@ -1,0 +1,34 @@
+-- Characters that tell nothing and are read at once, without the sink.
+use Rattle.std.specs.Prelude.{◌≡◌, ◌⊎◌, ◌≤◌, ◌<◌, ◌^◌, ℕ, false, List, [], ◌++◌, length, Result, OnOk}
+use Rattle.html5grammar.specs.Start.{Open, Rules, Start}
+use Rattle.html5opened.specs.declared.error.TokenizerError.{TokenizerError}
+use Rattle.html5quiet.specs.Quiet.{ReadsQuietly}
+use Rattle.markup5ever.specs.BufferQueue.{TextQueue, Takes}
+
+-- from K on the text tells nothing, and `later` is open after it: errors are not exact, and no first character may be dropped
+pub record IsQuietText (rules : Rules) (K : Start) (text : List ℕ) (later : Open) : Type 0 where
+  pub not_exact : rules.exact ≡ false
+  pub past_line_break : K.input.after_carriage_return ≡ false
+  pub past_stream_start : K.input.drops_byte_order_mark ≡ false
+  pub fits : K.input.line < 2 ^ 64
+  pub reads : ReadsQuietly K.opened text later
+
+-- the text is one that tells nothing, and then a character for which memory was refused
+pub record StopsAtCharacter (rules : Rules) (K : Start) (text : List ℕ) : Type 0 where
+  pub front : List ℕ
+  pub item : List ℕ
+  pub parts : text ≡ front ++ item
+  pub is_one : length item ≤ 1
+  pub later : Open
+  pub quiet : IsQuietText rules K front later
+
+-- such a text, or none, was taken of the queue and read; a refusal is one at the character after it
+pub record TakesQuietly {T : Type 0} (rules : Rules) (result : Result T TokenizerError) (K L : Start) (old new : TextQueue) : Type 0 where
+  pub front : List ℕ
+  pub item : List ℕ
+  pub takes : Takes old new (front ++ item)
+  pub is_one : length item ≤ 1
+  pub later : Open
+  pub quiet : IsQuietText rules K front later ⊎ ((front ≡ []) × (later ≡ K.opened))
+  pub all : OnOk result (item ≡ [])
+  pub moves : OnOk result (L ≡ record K { opened = later })

@@ -1,0 +1,4 @@
+pub mod FirstLetters
+pub mod InComments
+pub mod Runs
+pub mod Beginnings

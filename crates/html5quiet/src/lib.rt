@@ -1,0 +1,6 @@
+//! Characters that tell nothing, as most of a tag's are: they are read without a sink, and many at
+//! once.
+#![tactic(auto)]
+
+pub mod characters;
+pub mod texts;

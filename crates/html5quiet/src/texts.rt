@@ -1,0 +1,183 @@
+//! Texts that tell nothing.
+ghost use Rattle.std.specs.Prelude.{◌≡◌, ◌≤◌, true, false, IfOk, IfErr, IfSome, length, take, drop};
+ghost use Rattle.std.specs.Str.{IsUtf8, chars};
+ghost use Rattle.html5grammar.specs.Start.{is_clean, held_len};
+ghost use Rattle.html5opened.specs.CurrentTag.{opened_of, last_name_of};
+ghost use Rattle.html5quiet.specs.Quiet.{BeginsWith, IsQuiet, ReadsQuietly, StopsQuietly};
+
+use crate::characters::{read_first_letter, read_in_comment, read_sign};
+use html5ever_interface::states::State;
+use html5opened::opened::Opened;
+use html5opened::runs::{push_run, run_ends};
+use std::alloc::{AllocError, Allocator};
+
+/// Memory was refused at a character of a text.
+#[derive(Clone, Copy, Debug, PartialEq, Eq)]
+pub struct Refused {
+    /// How many bytes of the text stand up to the end of that character.
+    pub bytes: usize,
+}
+
+// Whether a name, a value, a comment or an instruction is open, whose runs tell nothing.
+#[inline(always)]
+fn reads_open_runs<A: Allocator>(at: &Opened<A>) -> bool
+    ensures { result ≡ true → is_clean (opened_of at.now) ≡ false }
+{
+    matches!(
+        at.state,
+        State::TagName
+            | State::AttributeName
+            | State::AttributeValue(_)
+            | State::Comment
+            | State::BogusComment
+            | State::ProcessingInstruction
+    )
+}
+
+// Reads the run with which a text begins, where something is open that takes runs. Answers how many bytes it takes.
+#[inline(always)]
+fn read_run<A: Allocator>(at: &mut Opened<A>, text: &str) -> Result<usize, AllocError>
+    ensures within { IfOk result (λ bytes. bytes ≤ length text.now) }
+    ensures rest_utf8 { IfOk result (λ bytes. IsUtf8 (drop bytes text.now)) }
+    ensures quiet { IfOk result (λ bytes.
+        ReadsQuietly (opened_of at.old) (chars (take bytes text.now)) (opened_of at.new)) }
+    ensures last { last_name_of at.new ≡ last_name_of at.old }
+    ensures held { held_len (opened_of at.new) ≤ held_len (opened_of at.old) }
+{
+    if !reads_open_runs(at) {
+        return Ok(0);
+    }
+    let Some(ends) = run_ends(at) else {
+        return Ok(0);
+    };
+    let bytes = ends.nonmember_prefix_len(text);
+    if bytes == 0 {
+        return Ok(0);
+    }
+    push_run(at, &text[..bytes])?;
+    Ok(bytes)
+}
+
+// The character with which a text begins, where it is ASCII.
+#[inline(always)]
+fn first_ascii(text: &str) -> Option<char>
+    ensures { IfSome result (λ c. BeginsWith text.now c) }
+{
+    let Some(first) = text.as_bytes().first() else {
+        return None;
+    };
+    if !first.is_ascii() {
+        return None;
+    }
+    Some(char::from(*first))
+}
+
+// Reads a character, where it tells nothing. Answers whether it did; else nothing changes.
+#[inline(always)]
+fn read_character<A: Allocator + Copy>(
+    at: &mut Opened<A>,
+    alloc: A,
+    c: char,
+) -> Result<bool, AllocError>
+    ensures quiet { IfOk result (λ read. read ≡ true → IsQuiet (opened_of at.old) (opened_of at.new) c) }
+    ensures unchanged { IfOk result (λ read. read ≡ false → at.new ≡ at.old) }
+    ensures last { last_name_of at.new ≡ last_name_of at.old }
+    ensures held { held_len (opened_of at.new) ≤ held_len (opened_of at.old) }
+{
+    if read_sign(at, c) || read_in_comment(at, c)? {
+        return Ok(true);
+    }
+    read_first_letter(at, alloc, c)
+}
+
+// Reads the character with which a text begins, where it tells nothing. Answers how many bytes it
+// takes.
+#[inline(always)]
+fn read_first<A: Allocator + Copy>(
+    at: &mut Opened<A>,
+    alloc: A,
+    text: &str,
+) -> Result<usize, AllocError>
+    ensures within { IfOk result (λ bytes. bytes ≤ length text.now) }
+    ensures rest_utf8 { IfOk result (λ bytes. IsUtf8 (drop bytes text.now)) }
+    ensures quiet { IfOk result (λ bytes.
+        ReadsQuietly (opened_of at.old) (chars (take bytes text.now)) (opened_of at.new)) }
+    ensures last { last_name_of at.new ≡ last_name_of at.old }
+    ensures held { held_len (opened_of at.new) ≤ held_len (opened_of at.old) }
+{
+    let Some(c) = first_ascii(text) else {
+        return Ok(0);
+    };
+    if !read_character(at, alloc, c)? {
+        return Ok(0);
+    }
+    Ok(1)
+}
+
+// Reads what a text begins with, where that tells nothing: a run, or a character. Answers how many
+// bytes it takes.
+#[inline(always)]
+fn read_next<A: Allocator + Copy>(
+    at: &mut Opened<A>,
+    alloc: A,
+    text: &str,
+) -> Result<usize, AllocError>
+    ensures within { IfOk result (λ bytes. bytes ≤ length text.now) }
+    ensures rest_utf8 { IfOk result (λ bytes. IsUtf8 (drop bytes text.now)) }
+    ensures quiet { IfOk result (λ bytes.
+        ReadsQuietly (opened_of at.old) (chars (take bytes text.now)) (opened_of at.new)) }
+    ensures last { last_name_of at.new ≡ last_name_of at.old }
+    ensures held { held_len (opened_of at.new) ≤ held_len (opened_of at.old) }
+{
+    match read_run(at, text)? {
+        0 => read_first(at, alloc, text),
+        bytes => Ok(bytes),
+    }
+}
+
+// How many bytes the first character of a text takes.
+fn first_len(text: &str) -> usize
+    ensures within { result ≤ length text.now }
+    ensures rest_utf8 { IsUtf8 (drop result text.now) }
+    ensures one { length (chars (take result text.now)) ≤ 1 }
+{
+    match text.chars().next() {
+        Some(c) => c.len_utf8(),
+        None => 0,
+    }
+}
+
+/// Reads a text, from its front, as long as its characters tell nothing. Answers how many bytes it
+/// read; what follows tells something, or is left to the states. Errors must not be exact, and no
+/// first character may be dropped.
+pub fn read_quietly<A: Allocator + Copy>(
+    at: &mut Opened<A>,
+    alloc: A,
+    text: &str,
+) -> Result<usize, Refused>
+    ensures within { IfOk result (λ bytes. bytes ≤ length text.now) }
+    ensures rest_utf8 { IfOk result (λ bytes. IsUtf8 (drop bytes text.now)) }
+    ensures quiet { IfOk result (λ bytes.
+        ReadsQuietly (opened_of at.old) (chars (take bytes text.now)) (opened_of at.new)) }
+    ensures last { last_name_of at.new ≡ last_name_of at.old }
+    ensures held { held_len (opened_of at.new) ≤ held_len (opened_of at.old) }
+    ensures refused_within { IfErr result (λ refused. refused.bytes ≤ length text.now) }
+    ensures refused_utf8 { IfErr result (λ refused. IsUtf8 (drop refused.bytes text.now)) }
+    ensures refused { IfErr result (λ refused.
+        StopsQuietly (opened_of at.old) (chars (take refused.bytes text.now))) }
+{
+    let mut read = 0;
+    while read < text.len() {
+        let rest = &text[read..];
+        match read_next(at, alloc, rest) {
+            Ok(0) => return Ok(read),
+            Ok(bytes) => read += bytes,
+            Err(_) => {
+                return Err(Refused {
+                    bytes: read + first_len(rest),
+                });
+            }
+        }
+    }
+    Ok(read)
+}
