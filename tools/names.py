@@ -1,9 +1,15 @@
-"""Writes the standard's named character references as a table's list, from Python's `html.entities`.
+"""The standard's named character references as a table's list, from Python's `html.entities`.
 
-    python3 tools/names.py > crates/html5text/data/names.txt
+    python3 tools/names.py          # prints the list
+    python3 tools/names.py --check  # says whether crates/html5names has it
 """
 
 import html.entities
+import pathlib
+import re
+import sys
+
+SPECS = pathlib.Path(__file__).resolve().parent.parent / "crates" / "html5names" / "specs" / "Standard.antt"
 
 
 def entry(name, characters):
@@ -11,9 +17,20 @@ def entry(name, characters):
     return name + "=" + "+".join(f"{ord(character):X}" for character in characters)
 
 
-def main():
-    print(",".join(entry(name, html.entities.html5[name]) for name in sorted(html.entities.html5)), end="")
+def standard_list():
+    """The entries, in the order of their names."""
+    return ",".join(entry(name, html.entities.html5[name]) for name in sorted(html.entities.html5))
+
+
+def check():
+    """Compares the list of the crate's specs with it."""
+    found = re.search(r'^standard_list = codes "(.*)"$', SPECS.read_text(), re.MULTILINE)
+    if found is None or found.group(1) != standard_list():
+        sys.exit(f"{SPECS}: this is not the standard's list")
 
 
 if __name__ == "__main__":
-    main()
+    if sys.argv[1:] == ["--check"]:
+        check()
+    else:
+        print(standard_list(), end="")

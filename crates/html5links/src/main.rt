@@ -10,7 +10,7 @@ Prints the links of HTML pages as they arrive, a line each: the number of the li
 the tag ends, a space, and the link. Links are the href of a, area and link, and the src of
 img, script and iframe, as they are written: <base> is neglected. Without a FILE, or where
 it is -, standard input is read.
-  --names FILE  the table of named character references
+  --names FILE  the table of named character references, in place of the standard's
   --help        this text
 ";
 

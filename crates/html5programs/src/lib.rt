@@ -7,7 +7,7 @@ mod output;
 mod running;
 mod words;
 
-pub use crate::names::{NamesError, few_names, read_names};
+pub use crate::names::{NamesError, read_names};
 pub use crate::output::Output;
 pub use crate::running::{Filter, Program, run, run_by_words};
 pub use crate::words::{Words, words_of};

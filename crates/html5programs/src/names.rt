@@ -1,4 +1,5 @@
-use html5table::{has_form, names_of, profile};
+use html5names::standard_names;
+use html5table::{has_form, names_of};
 use markup5ever::data::{NamedReferences, TableError};
 use std::alloc::Allocator;
 use std::fs;
@@ -16,7 +17,7 @@ pub enum NamesError {
     Table(TableError),
 }
 
-/// The table of names of a file, or else a few names.
+/// The table of names of a file, or else that of the standard's names.
 pub fn read_names<R: Files + Alloc>(
     rt: &R,
     path: Option<&str>,
@@ -25,7 +26,7 @@ where
     R::A: Copy,
 {
     let Some(path) = path else {
-        return few_names(rt.alloc());
+        return names_or_error(standard_names(rt.alloc()));
     };
     let Ok(list) = fs::read_to_string(rt, path) else {
         return Err(NamesError::Unreadable);
@@ -33,17 +34,19 @@ where
     table_of(rt.alloc(), list.trim_end())
 }
 
-/// The table of a few of the standard's names.
-pub fn few_names<A: Allocator + Copy>(alloc: A) -> Result<NamedReferences<A>, NamesError> {
-    table_of(alloc, profile())
-}
-
 // The table of a list.
 fn table_of<A: Allocator + Copy>(alloc: A, list: &str) -> Result<NamedReferences<A>, NamesError> {
     if !has_form(list) {
         return Err(NamesError::NoList);
     }
-    match names_of(alloc, list) {
+    names_or_error(names_of(alloc, list))
+}
+
+// The table, or why there is none.
+fn names_or_error<A: Allocator>(
+    names: Result<NamedReferences<A>, TableError>,
+) -> Result<NamedReferences<A>, NamesError> {
+    match names {
         Ok(names) => Ok(names),
         Err(error) => Err(NamesError::Table(error)),
     }

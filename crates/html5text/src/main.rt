@@ -8,7 +8,7 @@ use std::process::ExitCode;
 const HELP: &str = "usage: html5text [--names FILE] [FILE...]
 Prints what stands between the tags of HTML pages as it arrives, references decoded, without
 scripts and styles. Without a FILE, or where it is -, standard input is read.
-  --names FILE  the table of named character references
+  --names FILE  the table of named character references, in place of the standard's
   --help        this text
 ";
 

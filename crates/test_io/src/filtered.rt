@@ -1,8 +1,9 @@
 //! What a filter prints of pages.
 use devices::{Printer, Target, WriteTarget};
-use html5programs::{Filter, NamesError, few_names};
+use html5programs::Filter;
 use html5stream::StreamError;
-use markup5ever::data::NamedReferences;
+use html5table::{names_of, profile};
+use markup5ever::data::{NamedReferences, TableError};
 use std::alloc::Global;
 use test_devices::PieceSource;
 
@@ -30,8 +31,8 @@ pub fn filtered<F: Filter<WriteTarget<Vec<u8>>>>(
     alloc: Global,
     pages: &[&[u8]],
     size: usize,
-) -> Result<(Vec<u8>, Result<(), StreamError>), NamesError> {
-    let names = few_names(alloc)?;
+) -> Result<(Vec<u8>, Result<(), StreamError>), TableError> {
+    let names = names_of(alloc, profile())?;
     let printer = Printer::new(alloc, WriteTarget::new(Vec::new(alloc)));
     let (filter, read) = read_pages(alloc, F::new(alloc, printer), &names, pages, size);
     let (target, _) = filter.into_printer().finish();
