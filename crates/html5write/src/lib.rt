@@ -1,0 +1,4 @@
+//! Pages that are written piece by piece, and read again as what they were written for.
+#![tactic(auto)]
+
+pub mod laws;
