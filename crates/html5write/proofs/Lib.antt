@@ -4,3 +4,4 @@ pub mod Texts
 pub mod Values
 pub mod Names
 pub mod Shapes
+pub mod Told
