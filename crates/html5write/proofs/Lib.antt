@@ -5,3 +5,5 @@ pub mod Values
 pub mod Names
 pub mod Shapes
 pub mod Told
+pub mod Front
+pub mod Tags

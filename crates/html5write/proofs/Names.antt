@@ -92,6 +92,11 @@ names-attribute (c ∷ name) h =
     let p = and_parts (is_attribute_character c) (list_all is_attribute_character name) h in
     rw ((attribute-parts c p.0).name) (names-attribute name p.1)
 
+pub names-attribute_name : (name : List ℕ) → is_attribute_name name ≡ true → list_all is_name_character name ≡ true
+unfolding is_attribute_name
+names-attribute_name [] h = refl
+names-attribute_name (c ∷ name) h = names-attribute (c ∷ name) h
+
 pub in_attribute_name-all : (name : List ℕ) → list_all is_attribute_character name ≡ true → list_all in_attribute_name name ≡ true
 unfolding in_attribute_name
 in_attribute_name-all [] h = refl

@@ -107,7 +107,7 @@ spells-tag_name exact (c ∷ name) h =
     let p = and_parts (is_name_character c) (list_all is_name_character name) h in
     rw ((name-parts c p.0).no_null, spells-tag_name exact name p.1) refl
 
-names-tag : (name : List ℕ) → is_tag_name name ≡ true → list_all is_name_character name ≡ true
+pub names-tag : (name : List ℕ) → is_tag_name name ≡ true → list_all is_name_character name ≡ true
 unfolding is_tag_name
 names-tag [] h = absurd (false≢true h)
 names-tag (c ∷ name) h =
@@ -185,7 +185,7 @@ module _ (rules : Rules) where
 
   -- ---- tags
 
-  told-start_tag : (name : List ℕ) (attributes : List NameAndValue) → is_tag_name name ≡ true → list_all is_attribute attributes ≡ true → are_distinct attributes ≡ true
+  pub told-start_tag : (name : List ℕ) (attributes : List NameAndValue) → is_tag_name name ≡ true → list_all is_attribute attributes ≡ true → are_distinct attributes ≡ true
       → tag_told rules (tag_of StartTag name attributes) ≡ start_tag_told name attributes
   unfolding is_tag_name kept
   told-start_tag [] attributes h g distinct = absurd (false≢true h)
@@ -193,7 +193,7 @@ module _ (rules : Rules) where
       let n : AreNew [] attributes = all-new attributes distinct in
       rw (shown-name (c ∷ name) (names-tag (c ∷ name) h), with-all [] attributes g, kept-all [] attributes n, repeated-all [] attributes n, (ends-outside attributes g).no_solidus) refl
 
-  told-end_tag : (name : List ℕ) → is_tag_name name ≡ true → tag_told rules (tag_of EndTag name []) ≡ end_tag_told name
+  pub told-end_tag : (name : List ℕ) → is_tag_name name ≡ true → tag_told rules (tag_of EndTag name []) ≡ end_tag_told name
   unfolding is_tag_name kept has_repeated attributes_with_parts place_behind_parts
   told-end_tag [] h = absurd (false≢true h)
   told-end_tag (c ∷ name) h = rw (shown-name (c ∷ name) (names-tag (c ∷ name) h)) refl
