@@ -7,3 +7,4 @@ pub mod Shapes
 pub mod Told
 pub mod Front
 pub mod Tags
+pub mod Comments

@@ -18,6 +18,14 @@ use Rattle.html5write.specs.Pieces.{has_no_null}
 use Rattle.html5write.specs.Told.{spell_escaped}
 use Rattle.html5write.proofs.Characters.{IsPlain, each_character, escaped-plain}
 
+-- a value without NUL is shown as it is
+pub shows-value : (value : List ℕ) → has_no_null value ≡ true → flat_map value_bytes value ≡ encode_utf8_all value
+unfolding value_bytes shown
+shows-value [] h = refl
+shows-value (c ∷ value) h =
+    let p = and_parts (not (c == null)) (has_no_null value) h in
+    rw (not-true (c == null) p.0) (ap (λ l. encode_utf8 c ++ l) (shows-value value p.1))
+
 module _ (rules : Rules) where
   -- ---- what a character of a value tells
 
@@ -67,13 +75,6 @@ module _ (rules : Rules) where
   unfolding decoded
   decodes-value [] = refl
   decodes-value (c ∷ value) = decodes-character c (escaped_text value) ∙ ap (λ l. c ∷ l) (decodes-value value)
-
-  shows-value : (value : List ℕ) → has_no_null value ≡ true → flat_map value_bytes value ≡ encode_utf8_all value
-  unfolding value_bytes shown
-  shows-value [] h = refl
-  shows-value (c ∷ value) h =
-      let p = and_parts (not (c == null)) (has_no_null value) h in
-      rw (not-true (c == null) p.0) (ap (λ l. encode_utf8 c ++ l) (shows-value value p.1))
 
   pub shown-value : (value : List ℕ) → has_no_null value ≡ true → shown_run rules DoubleQuoted (escaped_text value) ≡ encode_utf8_all value
   shown-value value h = ap (flat_map value_bytes) (decodes-value value) ∙ shows-value value h
