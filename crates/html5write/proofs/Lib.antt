@@ -8,3 +8,5 @@ pub mod Told
 pub mod Front
 pub mod Tags
 pub mod Comments
+pub mod Pages
+pub mod ProperTokens

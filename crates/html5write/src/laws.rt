@@ -1,20 +1,81 @@
 //! What is written is read again as what it was written for.
-ghost use Rattle.std.specs.Prelude.{◌≡◌, ℕ, true, List};
+ghost use Rattle.std.specs.Prelude.{◌≡◌, ℕ, List, [], ◌∷◌, ◌++◌, encode_utf8_all, true};
+ghost use Rattle.std.specs.List.{list_all};
+ghost use Rattle.html5ever_interface.specs.Sink.{on_line};
+ghost use Rattle.html5ever_interface.specs.Token.Told.{End};
+ghost use Rattle.html5grammar.specs.NormalisedText.{normalised, line_after};
+ghost use Rattle.html5grammar.specs.Reading.{all_messages};
 ghost use Rattle.html5grammar.specs.Start.{Start, Rules};
 ghost use Rattle.html5grammar.specs.Start.Mode.{Data};
 ghost use Rattle.html5grammar.specs.Start.Open.{Between};
 ghost use Rattle.html5items.specs.Anywhere.{TellsByItself, start_behind};
+ghost use Rattle.html5items.specs.Spelled.{spelled_messages};
+ghost use Rattle.markup5ever.specs.NamedReferences.{IsTable};
 ghost use Rattle.html5write.specs.Escaped.{escaped_text};
-ghost use Rattle.html5write.specs.Pieces.{has_no_null};
-ghost use Rattle.html5write.specs.Told.{IsOpen, text_messages};
+ghost use Rattle.html5write.specs.Pieces.{NameAndValue, Piece, piece_text, page_text, can_write, has_no_null};
+ghost use Rattle.html5write.specs.Pieces.Piece.{StartTagPiece, EndTagPiece, CommentPiece};
+ghost use Rattle.html5write.specs.Told.{IsOpen, KeepsOn, KeepsOnBehind, end_tag_told, page_messages, page_tokens, proper, spell_comment, spell_end_tag, spell_start_tag, start_behind_page, start_tag_told, text_messages};
 
 use html5ever_interface::interface::sink::TokenSink;
 use html5ever_interface::interface::token::Token;
 use std::alloc::Allocator;
 
 /// A text as it is written, wherever it stands in Data, tells that text, however what follows goes on.
+/// No table is needed.
 pub fn text<S: TokenSink<Token<A>>, A: Allocator>()
     ensures { (rules : Rules) (K : Start) (s : S.State) (text : List ℕ) → IsOpen K → has_no_null text ≡ true
         → TellsByItself S.means rules K s (escaped_text text) (text_messages rules.exact K.input text)
         (start_behind K (escaped_text text) (Between Data) K.last_start_tag) }
+{}
+
+/// A start tag as it is written tells that tag at its `>`: its name, and its attributes in order, each
+/// with its value.
+pub fn start_tag<S: TokenSink<Token<A>>, A: Allocator>()
+    ensures { (rules : Rules) (K : Start) (s : S.State) (name : List ℕ) (attributes : List NameAndValue)
+        → IsTable rules.names → IsOpen K → can_write (StartTagPiece name attributes) ≡ true
+        → KeepsOnBehind {S = S.State} S.means.reply (start_tag_told name attributes)
+        → TellsByItself S.means rules K s (piece_text (StartTagPiece name attributes))
+        (spelled_messages rules.exact K.input [] (spell_start_tag rules.exact name attributes))
+        (start_behind K (piece_text (StartTagPiece name attributes)) (Between Data) (encode_utf8_all name)) }
+{}
+
+/// An end tag as it is written tells that tag at its `>`.
+pub fn end_tag<S: TokenSink<Token<A>>, A: Allocator>()
+    ensures { (rules : Rules) (K : Start) (s : S.State) (name : List ℕ) → IsTable rules.names → IsOpen K
+        → can_write (EndTagPiece name) ≡ true
+        → KeepsOnBehind {S = S.State} S.means.reply (end_tag_told name)
+        → TellsByItself S.means rules K s (piece_text (EndTagPiece name))
+        (spelled_messages rules.exact K.input [] (spell_end_tag name))
+        (start_behind K (piece_text (EndTagPiece name)) (Between Data) K.last_start_tag) }
+{}
+
+/// A comment as it is written tells its text at its last character. No table is needed.
+pub fn comment<S: TokenSink<Token<A>>, A: Allocator>()
+    ensures { (rules : Rules) (K : Start) (s : S.State) (text : List ℕ) → IsOpen K
+        → can_write (CommentPiece text) ≡ true
+        → TellsByItself S.means rules K s (piece_text (CommentPiece text))
+        (spelled_messages rules.exact K.input [] (spell_comment text))
+        (start_behind K (piece_text (CommentPiece text)) (Between Data) K.last_start_tag) }
+{}
+
+/// A page that is written piece by piece, wherever it is put in Data, tells its pieces, and is read to
+/// where nothing is open: what follows it is read as it would be without it.
+pub fn page<S: TokenSink<Token<A>>, A: Allocator>()
+    ensures { (rules : Rules) (K : Start) (s : S.State) (pieces : List Piece) → IsTable rules.names → IsOpen K
+        → list_all can_write pieces ≡ true → KeepsOn {S = S.State} S.means.reply pieces
+        → TellsByItself S.means rules K s (page_text pieces) (page_messages rules.exact K.input pieces)
+        (start_behind_page K pieces) }
+{}
+
+/// A page that is written piece by piece and read by itself tells its pieces and the end, and but for
+/// errors exactly their tokens: a tag or a comment for each such piece, and each character of a text.
+pub fn whole_page<S: TokenSink<Token<A>>, A: Allocator>()
+    ensures messages { (rules : Rules) (K : Start) (s : S.State) (pieces : List Piece) → IsTable rules.names
+        → IsOpen K → list_all can_write pieces ≡ true → KeepsOn {S = S.State} S.means.reply pieces
+        → all_messages S.means rules K s (page_text pieces)
+        ≡ page_messages rules.exact K.input pieces
+        ++ on_line (line_after K.input (normalised K.input (page_text pieces))) (End ∷ []) }
+    ensures tokens { (rules : Rules) (K : Start) (s : S.State) (pieces : List Piece) → IsTable rules.names
+        → IsOpen K → list_all can_write pieces ≡ true → KeepsOn {S = S.State} S.means.reply pieces
+        → proper (all_messages S.means rules K s (page_text pieces)) ≡ page_tokens pieces ++ End ∷ [] }
 {}
