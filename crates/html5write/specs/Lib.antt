@@ -1,3 +1,4 @@
 pub mod Escaped
 pub mod Pieces
 pub mod Told
+pub mod Writing

@@ -2,3 +2,7 @@
 #![tactic(auto)]
 
 pub mod laws;
+mod piece;
+mod trail;
+
+pub use crate::piece::{Attribute, Piece};
