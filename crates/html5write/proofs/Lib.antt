@@ -10,3 +10,6 @@ pub mod Tags
 pub mod Comments
 pub mod Pages
 pub mod ProperTokens
+pub mod FirstCharacters
+pub mod LoneDashes
+pub mod Repeats

@@ -2,3 +2,4 @@ pub mod Escaped
 pub mod Pieces
 pub mod Told
 pub mod Writing
+pub mod Refusals

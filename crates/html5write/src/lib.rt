@@ -1,8 +1,12 @@
 //! Pages that are written piece by piece, and read again as what they were written for.
 #![tactic(auto)]
 
+mod checks;
+mod error;
 pub mod laws;
 mod piece;
 mod trail;
 
+pub use crate::checks::refusal_of;
+pub use crate::error::WriteError;
 pub use crate::piece::{Attribute, Piece};
