@@ -13,3 +13,5 @@ pub mod ProperTokens
 pub mod FirstCharacters
 pub mod LoneDashes
 pub mod Repeats
+pub mod Refused
+pub mod Bytes

@@ -1,6 +1,7 @@
 //! Pages that are written piece by piece, and read again as what they were written for.
 #![tactic(auto)]
 
+mod appending;
 mod checks;
 mod error;
 pub mod laws;
