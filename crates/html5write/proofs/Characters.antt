@@ -1,9 +1,7 @@
 -- The characters that are written as references, and the others.
-use Rattle.std.proofs.Common.{◌≡◌, ℕ, Bool, true, false, List, [], ◌∷◌, None, refl, sym, ap, ◌∙◌, subst}
-use Rattle.std.specs.Prelude.{◌==◌, not}
-use Rattle.std.specs.List.{list_all}
+use Rattle.std.proofs.Common.{◌≡◌, ℕ, true, false, [], ◌∷◌, None, refl, sym, subst}
+use Rattle.std.specs.Prelude.{◌==◌}
 use Rattle.std.proofs.lemmas.Bool.{eqb-true}
-use Rattle.html5grammar.specs.Characters.{carriage_return}
 use Rattle.html5write.specs.Escaped.{reference_of, escaped}
 
 -- a character is the one that it is compared with, or another

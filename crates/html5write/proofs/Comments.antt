@@ -5,7 +5,7 @@ use Rattle.std.specs.List.{list_all}
 use Rattle.std.proofs.Math.Bool.{and-false}
 use Rattle.std.proofs.lemmas.Bool.{and_parts, not-true, false≢true, eq-eqb, ne_eqb, false_from_ne_true}
 use Rattle.std.proofs.lemmas.List.{append_assoc, map-append}
-use Rattle.html5ever_interface.specs.Sink.{Means, Message}
+use Rattle.html5ever_interface.specs.Sink.{Means}
 use Rattle.html5ever_interface.specs.Token.Told.{Comment}
 use Rattle.html5grammar.specs.Characters.{null, carriage_return, hyphen, greater_than, value_bytes}
 use Rattle.html5grammar.specs.Comment.{ends_in, without_last}
@@ -15,7 +15,7 @@ use Rattle.html5grammar.specs.Start.Mode.{Data}
 use Rattle.html5grammar.specs.Start.Open.{Between}
 use Rattle.html5grammar.specs.Tag.{null_error}
 use Rattle.html5items.specs.Anywhere.{TellsByItself, start_behind}
-use Rattle.html5items.specs.Comment.{WrittenComment, IsComment, written, is_written, is_content, begins_with, occurs, behind_mark_error, null_state, spell_content, messages_of}
+use Rattle.html5items.specs.Comment.{IsComment, written, is_written, is_content, begins_with, occurs, behind_mark_error, null_state, spell_content, messages_of}
 use Rattle.html5items.specs.Comment.Ending.{Dashes}
 use Rattle.html5items.specs.Comment.WrittenComment.{Proper}
 use Rattle.html5items.specs.Spelled.{Spelled, spell_silent, spelled_messages}
@@ -23,7 +23,7 @@ use Rattle.html5items.proofs.ByItself.{trace-by_itself}
 use Rattle.html5items.proofs.Comment.Reading.{reads_comment}
 use Rattle.html5items.proofs.Comment.Text.{ends_in-front, ends_in-append, ends_in-push, ends_in-other}
 use Rattle.html5items.proofs.Tag.Values.{both-none}
-use Rattle.html5write.specs.Pieces.{piece_text, is_comment_character, is_behind_dash, has_lone_dashes, begins_comment, is_comment_text, can_write, has_no_null}
+use Rattle.html5write.specs.Pieces.{piece_text, is_comment_character, is_behind_dash, has_lone_dashes, begins_comment, can_write, has_no_null}
 use Rattle.html5write.specs.Pieces.Piece.{CommentPiece}
 use Rattle.html5write.specs.Told.{IsOpen, spell_end, spell_comment}
 use Rattle.html5write.proofs.Front.{normalised-markup, no_break-markup}

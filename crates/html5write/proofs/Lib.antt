@@ -15,3 +15,4 @@ pub mod LoneDashes
 pub mod Repeats
 pub mod Refused
 pub mod Bytes
+pub mod PageLemmas

@@ -5,8 +5,8 @@ use Rattle.std.proofs.lemmas.List.{append-nil, append_assoc}
 use Rattle.std.proofs.lemmas.List.Concat.{flat_map-append}
 use Rattle.html5ever_interface.specs.Sink.{Message, on_line}
 use Rattle.html5ever_interface.specs.Token.{Told}
-use Rattle.html5ever_interface.specs.Token.Told.{Text, Error, Tag, Comment, End}
-use Rattle.html5grammar.specs.Characters.{carriage_return, greater_than}
+use Rattle.html5ever_interface.specs.Token.Told.{Text, Error, End}
+use Rattle.html5grammar.specs.Characters.{greater_than}
 use Rattle.html5grammar.specs.ErrorText.{where_true, bad_character_error}
 use Rattle.html5grammar.specs.NormalisedText.{line_after, input_after}
 use Rattle.html5grammar.specs.Start.{Input}
@@ -14,7 +14,7 @@ use Rattle.html5items.specs.Spelled.{Spelled, spell_silent, spelled_messages}
 use Rattle.html5write.specs.Escaped.{escaped}
 use Rattle.html5write.specs.Pieces.{NameAndValue, Piece, piece_text}
 use Rattle.html5write.specs.Pieces.Piece.{TextPiece, StartTagPiece, EndTagPiece, CommentPiece}
-use Rattle.html5write.specs.Told.{return_error, character_told, text_messages, start_tag_told, spell_first, spell_escaped, spell_attribute, spell_end, spell_start_tag, piece_messages, page_messages, proper_token, proper, piece_tokens, page_tokens}
+use Rattle.html5write.specs.Told.{return_error, character_told, text_messages, spell_first, spell_escaped, spell_attribute, spell_end, piece_messages, page_messages, proper_token, proper, piece_tokens, page_tokens}
 
 -- ---- tokens that are errors alone
 

@@ -1,6 +1,6 @@
 -- A tag as it is written, in the parts of which the grammar makes tags.
 use Rattle.std.proofs.Common.{◌≡◌, ℕ, Bool, true, false, List, [], ◌∷◌, ◌++◌, refl, ap, sym, ◌∙◌, subst}
-use Rattle.std.specs.Prelude.{◌==◌, ◌&&◌, flat_map, codes}
+use Rattle.std.specs.Prelude.{flat_map, codes}
 use Rattle.std.specs.List.{list_all}
 use Rattle.std.proofs.lemmas.Bool.{and_parts, false≢true}
 use Rattle.std.proofs.lemmas.List.{append_assoc}
@@ -9,14 +9,14 @@ use Rattle.html5ever_interface.specs.declared.interface.token.TagKind.TheVariant
 use Rattle.html5grammar.specs.Characters.{space, is_white_space}
 use Rattle.html5grammar.specs.Start.{Place}
 use Rattle.html5grammar.specs.Start.Place.{InName, BeforeAttribute, AfterQuotedValue}
-use Rattle.html5items.specs.Tag.{Part, WrittenTag, part_text, opening, written, is_written, can_follow, end_place, place_behind_parts, end_error}
+use Rattle.html5items.specs.Tag.{Part, WrittenTag, part_text, written, is_written, can_follow, place_behind_parts, end_error}
 use Rattle.html5items.specs.Tag.Part.{Blank, Solidus, Attribute}
 use Rattle.html5items.specs.Tag.Value.{InDoubleQuotes}
 use Rattle.html5grammar.specs.Tag.{is_after_solidus}
 use Rattle.html5write.specs.Escaped.{escaped_text}
-use Rattle.html5write.specs.Pieces.{NameAndValue, Piece, piece_text, attribute_text, is_tag_name, is_name_character, is_attribute_name, is_attribute_character, is_attribute, has_no_null}
+use Rattle.html5write.specs.Pieces.{NameAndValue, piece_text, attribute_text, is_tag_name, is_name_character, is_attribute_name, is_attribute_character, is_attribute, has_no_null}
 use Rattle.html5write.specs.Pieces.Piece.{StartTagPiece, EndTagPiece}
-use Rattle.html5write.proofs.Names.{IsSmallLetter, small-letter, in_tag_name-all, IsAttributeName, attribute-parts, name-parts, begins-attribute, in_attribute_name-all}
+use Rattle.html5write.proofs.Names.{small-letter, in_tag_name-all, IsAttributeName, attribute-parts, name-parts, begins-attribute, in_attribute_name-all}
 use Rattle.html5write.proofs.Values.{in_value-text}
 
 abbrev pub attribute_part : List ℕ → List ℕ → Part

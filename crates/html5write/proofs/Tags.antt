@@ -1,5 +1,5 @@
 -- A tag as it is written tells itself.
-use Rattle.std.proofs.Common.{◌≡◌, ℕ, Bool, true, false, List, [], ◌∷◌, ◌++◌, refl, ap, sym, ◌∙◌, subst}
+use Rattle.std.proofs.Common.{◌≡◌, ℕ, true, false, List, [], ◌∷◌, ◌++◌, refl, sym, ◌∙◌, subst}
 use Rattle.std.specs.Prelude.{flat_map, codes, encode_utf8_all}
 use Rattle.std.specs.List.{list_all}
 use Rattle.std.proofs.lemmas.Bool.{and_parts}
@@ -7,20 +7,20 @@ use Rattle.html5ever_interface.specs.Sink.{Means, Message}
 use Rattle.html5ever_interface.specs.Token.{TagOf}
 use Rattle.html5ever_interface.specs.Token.Reply.{KeepOn}
 use Rattle.html5ever_interface.specs.declared.interface.token.TagKind.TheVariants.{StartTag, EndTag}
-use Rattle.html5grammar.specs.Characters.{less_than, greater_than}
-use Rattle.html5grammar.specs.NormalisedText.{normalised, input_after}
+use Rattle.html5grammar.specs.Characters.{greater_than}
+use Rattle.html5grammar.specs.NormalisedText.{input_after}
 use Rattle.html5grammar.specs.Reading.{last_behind, open_after_reply}
 use Rattle.html5grammar.specs.Start.{Input, Start, Rules}
 use Rattle.html5grammar.specs.Start.Mode.{Data}
 use Rattle.html5grammar.specs.Start.Open.{Between}
-use Rattle.html5items.specs.Anywhere.{TellsByItself, start_behind, start_behind_tag, last_reply}
+use Rattle.html5items.specs.Anywhere.{TellsByItself, start_behind, last_reply}
 use Rattle.html5items.specs.Spelled.{Spelled, spelled_messages}
 use Rattle.html5items.specs.Tag.{WrittenTag, body, end_errors, tag_told, spelled, IsTag}
 use Rattle.html5items.proofs.LastReply.{last_reply-keeps}
 use Rattle.html5items.proofs.Tag.Parts.{tag-by_itself}
 use Rattle.markup5ever.specs.NamedReferences.{IsTable}
 use Rattle.html5write.specs.Escaped.{escaped_text}
-use Rattle.html5write.specs.Pieces.{NameAndValue, piece_text, attribute_text, is_tag_name, is_attribute_name, is_attribute, is_attribute_character, has_no_null, are_distinct, can_write}
+use Rattle.html5write.specs.Pieces.{NameAndValue, piece_text, attribute_text, is_tag_name, is_attribute_name, is_attribute, has_no_null, are_distinct, can_write}
 use Rattle.html5write.specs.Pieces.Piece.{StartTagPiece, EndTagPiece}
 use Rattle.html5write.specs.Told.{IsOpen, start_tag_told, end_tag_told, spell_start_tag, spell_end_tag, KeepsOnBehind}
 use Rattle.html5write.proofs.Front.{normalised-markup, no_break-markup}

@@ -1,28 +1,27 @@
 -- What a tag tells as it is written.
-use Rattle.std.proofs.Common.{◌≡◌, ℕ, Bool, true, false, List, [], ◌∷◌, ◌++◌, refl, ap, sym, ◌∙◌, subst}
-use Rattle.std.specs.Prelude.{◌==◌, ◌||◌, not, flat_map, map, codes, encode_utf8_all}
+use Rattle.std.proofs.Common.{◌≡◌, ℕ, Bool, true, false, List, [], ◌∷◌, ◌++◌, refl, ap, sym, ◌∙◌}
+use Rattle.std.specs.Prelude.{not, flat_map, map, codes, encode_utf8_all}
 use Rattle.std.specs.List.{list_all}
 use Rattle.std.specs.Str.{bytes_eq}
 use Rattle.std.proofs.lemmas.Bool.{and_parts, not-true, false≢true}
 use Rattle.std.proofs.lemmas.List.{append_assoc, append-nil}
-use Rattle.html5ever_interface.specs.Token.{Told}
 use Rattle.html5ever_interface.specs.Token.Told.{Tag}
 use Rattle.html5ever_interface.specs.declared.interface.token.TagKind.{TagKind}
 use Rattle.html5ever_interface.specs.declared.interface.token.TagKind.TheVariants.{StartTag, EndTag}
 use Rattle.html5ever_interface.specs.declared.states.State.TheVariants as state
-use Rattle.html5grammar.specs.Characters.{null, space, is_white_space, greater_than}
-use Rattle.html5grammar.specs.Start.{Place, Rules}
+use Rattle.html5grammar.specs.Characters.{is_white_space, greater_than}
+use Rattle.html5grammar.specs.Start.{Rules}
 use Rattle.html5grammar.specs.Start.Place.{InName, BeforeAttribute, AfterQuotedValue}
-use Rattle.html5grammar.specs.Tag.{attribute, has_attribute, null_error, attribute_name_error, place_error, first_error, end_tag_errors, is_after_solidus}
+use Rattle.html5grammar.specs.Tag.{attribute, has_attribute, null_error, attribute_name_error, place_error, first_error, end_tag_errors}
 use Rattle.html5items.specs.Spelled.{Spelled, spell, spell_silent}
-use Rattle.html5items.specs.Tag.{Part, WrittenTag, name_shown, attributes_with, attributes_with_parts, all_attributes, repeats, has_repeated, kept, spell_part, spell_parts, place_behind_parts, end_place, end_errors, tag_told, opening, spelled}
+use Rattle.html5items.specs.Tag.{Part, WrittenTag, attributes_with, attributes_with_parts, repeats, has_repeated, kept, spell_part, spell_parts, place_behind_parts, end_errors, tag_told, opening, spelled}
 use Rattle.html5items.proofs.Tag.Values.{both-none}
 use Rattle.markup5ever.specs.Names.{AttributeOf}
 use Rattle.html5write.specs.Escaped.{escaped_text}
 use Rattle.html5write.specs.Pieces.{NameAndValue, is_tag_name, is_name_character, is_attribute_name, is_attribute_character, is_attribute, has_no_null, differs_from, are_distinct}
 use Rattle.html5write.specs.Told.{attribute_told, start_tag_told, end_tag_told, spell_escaped, spell_attribute, spell_end, spell_start_tag, spell_end_tag}
-use Rattle.html5write.proofs.Names.{IsAttributeName, attribute-parts, name-parts, names-attribute, no_odd, no_odd_first, shown-name, small-letter}
-use Rattle.html5write.proofs.Shapes.{attribute_part, attribute_parts, parts_of, tag_of, EndsOutside, ends-outside}
+use Rattle.html5write.proofs.Names.{attribute-parts, name-parts, names-attribute, no_odd, no_odd_first, shown-name, small-letter}
+use Rattle.html5write.proofs.Shapes.{attribute_part, parts_of, tag_of, ends-outside}
 use Rattle.html5write.proofs.Values.{spells-value, shown-value}
 
 -- ---- attributes in the order of the grammar, the last one first

@@ -1,5 +1,5 @@
 -- Why a piece can't be written.
-use Rattle.std.specs.Prelude.{ℕ, ◌+◌, suc, Bool, List, [], ◌∷◌, ◌==◌, length, encode_utf8, Option, None, Some, option_map, if◌then◌else◌}
+use Rattle.std.specs.Prelude.{ℕ, ◌+◌, List, [], ◌∷◌, ◌==◌, length, encode_utf8, Option, None, Some, option_map, if◌then◌else◌}
 use Rattle.std.specs.Option.{option_or}
 use Rattle.html5grammar.specs.Characters.{null}
 use Rattle.html5write.specs.Pieces.{NameAndValue, Piece, is_tag_name, is_attribute_name, is_comment_text, differs_from}

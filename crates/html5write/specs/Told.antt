@@ -8,7 +8,6 @@ use Rattle.html5ever_interface.specs.declared.interface.token.TagKind.TheVariant
 use Rattle.html5grammar.specs.Characters.{carriage_return, greater_than}
 use Rattle.html5grammar.specs.ErrorText.{where_true, bad_character_error}
 use Rattle.html5grammar.specs.NormalisedText.{line_after, input_after}
-use Rattle.html5grammar.specs.Reading.{last_behind}
 use Rattle.html5grammar.specs.Reference.{invalid_number}
 use Rattle.html5grammar.specs.Start.{Input, Start}
 use Rattle.html5grammar.specs.Start.Mode.{Data}

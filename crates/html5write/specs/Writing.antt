@@ -1,7 +1,11 @@
 -- The pieces that a program names, in characters.
-use Rattle.std.specs.Prelude.{ℕ, List, map, chars}
-use Rattle.html5write.specs.Pieces.{NameAndValue, Piece}
+use Rattle.std.specs.Prelude.{◌≡◌, ℕ, true, List, [], ◌∷◌, ◌++◌, map, chars, encode_utf8_all, Result, Err, OnOk, OnErr, IsOkUnless, None, Some}
+use Rattle.std.specs.List.{list_all}
+use Rattle.html5write.specs.Pieces.{NameAndValue, Piece, page_text, can_write}
 use Rattle.html5write.specs.Pieces.Piece.{TextPiece, StartTagPiece, EndTagPiece, CommentPiece}
+use Rattle.html5write.specs.Refusals.{refusal_of}
+use Rattle.html5write.specs.declared.error.WriteError.{WriteError}
+use Rattle.html5write.specs.declared.error.WriteError.TheVariants.{Memory}
 use Rattle.html5write.specs.declared.piece.Attribute.{Attribute}
 use Rattle.html5write.specs.declared.piece.Piece.{Piece as RustPiece}
 use Rattle.html5write.specs.declared.piece.Piece.TheVariants.{Text, StartTag, EndTag, Comment}
@@ -14,3 +18,19 @@ piece_of (Text text) = TextPiece (chars text.now)
 piece_of (StartTag name attributes) = StartTagPiece (chars name.now) (map attribute_of attributes.now)
 piece_of (EndTag name) = EndTagPiece (chars name.now)
 piece_of (Comment text) = CommentPiece (chars text.now)
+
+-- these bytes are the page of these pieces, which can all be written
+pub record IsPage (bytes : List ℕ) (pieces : List Piece) : Type 0 where
+  pub text : bytes ≡ encode_utf8_all (page_text pieces)
+  pub can : list_all can_write pieces ≡ true
+
+-- what a call that writes a piece answers, where these pieces stood before it and those stand after it
+pub record Writes (result : Result (Unit {0}) WriteError) (before after : List Piece) (piece : Piece) : Type 0 where
+  -- the piece stands last
+  pub written : OnOk result (after ≡ before ++ piece ∷ [])
+  -- nothing was written
+  pub unchanged : OnErr result (after ≡ before)
+  -- a piece that can't be written is refused with its error
+  pub refused : (error : WriteError) → refusal_of piece ≡ Some error → result ≡ Err error
+  -- and another only where memory is
+  pub memory : refusal_of piece ≡ None → IsOkUnless result Memory

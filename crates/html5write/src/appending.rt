@@ -117,10 +117,7 @@ fn push_comment<A: Allocator>(out: &mut String<A>, text: &str) -> Result<(), All
 }
 
 // Appends a piece, whether it can be written or not.
-pub fn push_piece<A: Allocator>(
-    out: &mut String<A>,
-    piece: &Piece<'_>,
-) -> Result<(), AllocError>
+pub fn push_piece<A: Allocator>(out: &mut String<A>, piece: &Piece<'_>) -> Result<(), AllocError>
     ensures { OnOk result (string_bytes out.new
         ≡ string_bytes out.old ++ encode_utf8_all (piece_text (piece_of piece.now))) }
 {

@@ -17,7 +17,10 @@ use crate::piece::{Attribute, Piece};
 fn is_name_character(c: char) -> bool
     ensures { result ≡ is_name_character c }
 {
-    !matches!(c, '\t' | '\n' | '\x0C' | ' ' | '/' | '>' | '\0' | '\r' | 'A'..='Z')
+    !matches!(
+        c,
+        '\t' | '\n' | '\x0C' | ' ' | '/' | '>' | '\0' | '\r' | 'A'..='Z'
+    )
 }
 
 // Whether a character can stand in the name of an attribute.
@@ -131,11 +134,7 @@ fn are_different(name: &str, other: &str) -> bool
 }
 
 // The first of later attributes that has the name of this one, where they are counted from `index`.
-fn repeat_from(
-    attribute: &Attribute<'_>,
-    index: usize,
-    later: &[Attribute<'_>],
-) -> Option<usize>
+fn repeat_from(attribute: &Attribute<'_>, index: usize, later: &[Attribute<'_>]) -> Option<usize>
     requires { index + length later.now < 2 ^ 64 }
     ensures { result ≡ repeat_from (attribute_of attribute.now) index (map attribute_of later.now) }
 {

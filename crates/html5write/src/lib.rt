@@ -7,7 +7,9 @@ mod error;
 pub mod laws;
 mod piece;
 mod trail;
+mod writer;
 
 pub use crate::checks::refusal_of;
 pub use crate::error::WriteError;
 pub use crate::piece::{Attribute, Piece};
+pub use crate::writer::Writer;

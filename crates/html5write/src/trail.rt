@@ -25,10 +25,17 @@ impl Trail {
         Trail {}
     }
 
-    /// The trail `_before` and `_piece`, which is not read.
-    pub fn grown(_before: &Trail, _piece: &Piece<'_>) -> Trail
+    // The trail `_before` and `_piece`, which is not read.
+    fn grown(_before: &Trail, _piece: &Piece<'_>) -> Trail
         ensures { result.pieces ≡ _before.now.pieces ++ piece_of _piece.now ∷ [] }
     {
         Trail {}
+    }
+
+    /// Adds the piece, which is not read.
+    pub fn add(&mut self, piece: &Piece<'_>)
+        ensures { self.new.pieces ≡ self.old.pieces ++ piece_of piece.now ∷ [] }
+    {
+        *self = Trail::grown(self, piece);
     }
 }

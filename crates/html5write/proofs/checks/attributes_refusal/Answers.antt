@@ -1,4 +1,4 @@
-use Rattle.std.proofs.Common.{◌≡◌, ◌+◌, sym, ap, ◌∙◌, drop, map}
+use Rattle.std.proofs.Common.{◌+◌, sym, ap, ◌∙◌, drop, map}
 use Rattle.std.specs.Option.{option_or}
 use Rattle.html5write.specs.Refusals.{attributes_refusal}
 use Rattle.html5write.specs.Writing.{attribute_of}

@@ -1,4 +1,4 @@
-use Rattle.std.proofs.Common.{◌≡◌, ◌+◌, drop, map}
+use Rattle.std.proofs.Common.{◌≡◌, drop, map}
 use Rattle.html5write.specs.Refusals.{attributes_refusal}
 use Rattle.html5write.specs.Writing.{attribute_of}
 use Rattle.html5write.proofs.checks.attributes_refusal.Given as goal

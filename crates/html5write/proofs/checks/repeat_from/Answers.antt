@@ -1,4 +1,4 @@
-use Rattle.std.proofs.Common.{◌≡◌, ◌+◌, Some, sym, ap, ◌∙◌, drop, map}
+use Rattle.std.proofs.Common.{◌+◌, Some, sym, ap, ◌∙◌, drop, map}
 use Rattle.std.specs.Prelude.{if◌then◌else◌}
 use Rattle.html5write.specs.Refusals.{repeat_from}
 use Rattle.html5write.specs.Writing.{attribute_of}
