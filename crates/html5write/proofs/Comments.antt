@@ -25,9 +25,9 @@ use Rattle.html5items.proofs.Comment.Text.{ends_in-front, ends_in-append, ends_i
 use Rattle.html5items.proofs.Tag.Values.{both-none}
 use Rattle.html5write.specs.Pieces.{piece_text, is_comment_character, is_behind_dash, has_lone_dashes, begins_comment, can_write, has_no_null}
 use Rattle.html5write.specs.Pieces.Piece.{CommentPiece}
-use Rattle.html5write.specs.Told.{IsOpen, spell_end, spell_comment}
+use Rattle.html5write.specs.Told.{has_no_return, IsOpen, spell_end, spell_comment}
 use Rattle.html5write.proofs.Front.{normalised-markup, no_break-markup}
-use Rattle.html5write.proofs.Values.{has_no_return, no_return-append, shows-value}
+use Rattle.html5write.proofs.Values.{no_return-append, shows-value}
 
 -- the same comparison from the other side
 other-way : (c d : ℕ) → (c == d) ≡ false → nat_eq d c ≡ false

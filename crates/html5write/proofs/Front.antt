@@ -6,7 +6,7 @@ use Rattle.std.proofs.lemmas.Bool.{and_parts, not-true}
 use Rattle.html5grammar.specs.Characters.{less_than, carriage_return}
 use Rattle.html5grammar.specs.NormalisedText.{normalised, without_dropped_first, with_line_feeds, input_after, ends_with_carriage_return}
 use Rattle.html5grammar.specs.Start.{Input}
-use Rattle.html5write.proofs.Values.{has_no_return}
+use Rattle.html5write.specs.Told.{has_no_return}
 
 with_line_feeds-none : (text : List ℕ) → has_no_return text ≡ true → with_line_feeds false text ≡ text
 unfolding with_line_feeds

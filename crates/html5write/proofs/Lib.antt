@@ -10,6 +10,7 @@ pub mod Tags
 pub mod Comments
 pub mod Pages
 pub mod ProperTokens
+pub mod Silent
 pub mod FirstCharacters
 pub mod LoneDashes
 pub mod Repeats

@@ -10,7 +10,7 @@ use Rattle.html5grammar.specs.Tag.{in_tag_name, in_attribute_name, is_odd_in_nam
 use Rattle.html5items.specs.Tag.{begins_attribute}
 use Rattle.html5items.proofs.Tag.Values.{both-none}
 use Rattle.html5write.specs.Pieces.{is_capital, is_name_character, is_attribute_character, is_attribute_name}
-use Rattle.html5write.proofs.Values.{has_no_return}
+use Rattle.html5write.specs.Told.{has_no_return}
 
 -- a character that can stand in a name
 pub record IsName (c : ℕ) : Type 0 where

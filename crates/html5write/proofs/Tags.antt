@@ -22,12 +22,12 @@ use Rattle.markup5ever.specs.NamedReferences.{IsTable}
 use Rattle.html5write.specs.Escaped.{escaped_text}
 use Rattle.html5write.specs.Pieces.{NameAndValue, piece_text, attribute_text, is_tag_name, is_attribute_name, is_attribute, has_no_null, are_distinct, can_write}
 use Rattle.html5write.specs.Pieces.Piece.{StartTagPiece, EndTagPiece}
-use Rattle.html5write.specs.Told.{IsOpen, start_tag_told, end_tag_told, spell_start_tag, spell_end_tag, KeepsOnBehind}
+use Rattle.html5write.specs.Told.{has_no_return, IsOpen, start_tag_told, end_tag_told, spell_start_tag, spell_end_tag, KeepsOnBehind}
 use Rattle.html5write.proofs.Front.{normalised-markup, no_break-markup}
 use Rattle.html5write.proofs.Names.{no_return-name, names-attribute_name}
 use Rattle.html5write.proofs.Shapes.{tag_of, text-start_tag, text-end_tag, is_written-tag}
 use Rattle.html5write.proofs.Told.{names-tag, spells-start_tag, spells-end_tag, told-start_tag, told-end_tag}
-use Rattle.html5write.proofs.Values.{has_no_return, no_return-append, no_return-text}
+use Rattle.html5write.proofs.Values.{no_return-append, no_return-text}
 
 -- ---- there is no CR in it
 

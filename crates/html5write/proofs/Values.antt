@@ -13,7 +13,7 @@ use Rattle.html5items.specs.Tag.{decoded, is_in_value, shown_run, spell_run}
 use Rattle.markup5ever.specs.C1.{character_of_c1}
 use Rattle.html5write.specs.Escaped.{reference_of, escaped, escaped_text}
 use Rattle.html5write.specs.Pieces.{has_no_null}
-use Rattle.html5write.specs.Told.{spell_escaped}
+use Rattle.html5write.specs.Told.{has_no_return, spell_escaped}
 use Rattle.html5write.proofs.Characters.{IsPlain, each_character, escaped-plain}
 
 -- a value without NUL is shown as it is
@@ -96,8 +96,6 @@ in_value-text (c ∷ value) =
     list_all-append (is_in_value DoubleQuoted) (escaped c) (escaped_text value) ∙ rw (in_value-character c, in_value-text value) refl
 
 -- and no CR
-abbrev pub has_no_return : List ℕ → Bool
-has_no_return text = list_all (λ c. not (c == carriage_return)) text
 
 no_return-plain : (c : ℕ) → IsPlain c → has_no_return (escaped c) ≡ true
 no_return-plain c p = rw (escaped-plain c p) (rw p.no_return refl)

@@ -1,5 +1,6 @@
 -- What a page that is written piece by piece tells.
-use Rattle.std.specs.Prelude.{◌≡◌, ℕ, Bool, false, List, [], ◌∷◌, ◌++◌, ◌==◌, flat_map, map, codes, encode_utf8, encode_utf8_all}
+use Rattle.std.specs.Prelude.{◌≡◌, ℕ, Bool, true, false, not, List, [], ◌∷◌, ◌++◌, ◌==◌, flat_map, map, codes, encode_utf8, encode_utf8_all}
+use Rattle.std.specs.List.{list_all}
 use Rattle.html5ever_interface.specs.Sink.{Message, on_line}
 use Rattle.html5ever_interface.specs.Token.{Told, TagOf, Reply}
 use Rattle.html5ever_interface.specs.Token.Told.{Text, Error, Tag, Comment}
@@ -149,3 +150,18 @@ piece_tokens (CommentPiece text) = Comment (encode_utf8_all text) ∷ []
 
 abbrev pub page_tokens : List Piece → List Told
 page_tokens pieces = flat_map piece_tokens pieces
+
+-- the tokens of messages
+abbrev pub tokens_of : List Message → List Told
+tokens_of told = map (λ (m : Message). m.token) told
+
+-- ---- pages without errors
+
+-- a CR stands in no text and in no value
+abbrev pub has_no_return : List ℕ → Bool
+has_no_return text = list_all (λ c. not (c == carriage_return)) text
+
+abbrev pub is_without_return : Piece → Bool
+is_without_return (TextPiece text) = has_no_return text
+is_without_return (StartTagPiece name attributes) = list_all (λ (a : NameAndValue). has_no_return a.value) attributes
+is_without_return other = true

@@ -1,6 +1,7 @@
 //! What is written is read again as what it was written for.
-ghost use Rattle.std.specs.Prelude.{◌≡◌, ℕ, List, [], ◌∷◌, ◌++◌, encode_utf8_all, true};
+ghost use Rattle.std.specs.Prelude.{◌≡◌, ℕ, List, [], ◌∷◌, ◌++◌, encode_utf8_all, false, true};
 ghost use Rattle.std.specs.List.{list_all};
+ghost use Rattle.std.specs.Option.{is_none};
 ghost use Rattle.html5ever_interface.specs.Sink.{on_line};
 ghost use Rattle.html5ever_interface.specs.Token.Told.{End};
 ghost use Rattle.html5grammar.specs.NormalisedText.{normalised, line_after};
@@ -14,8 +15,10 @@ ghost use Rattle.markup5ever.specs.NamedReferences.{IsTable};
 ghost use Rattle.html5write.specs.Escaped.{escaped_text};
 ghost use Rattle.html5write.specs.Pieces.{NameAndValue, Piece, piece_text, page_text, can_write, has_no_null};
 ghost use Rattle.html5write.specs.Pieces.Piece.{StartTagPiece, EndTagPiece, CommentPiece};
-ghost use Rattle.html5write.specs.Told.{IsOpen, KeepsOn, KeepsOnBehind, end_tag_told, page_messages, page_tokens, proper, spell_comment, spell_end_tag, spell_start_tag, start_behind_page, start_tag_told, text_messages};
+ghost use Rattle.html5write.specs.Refusals.{refusal_of};
+ghost use Rattle.html5write.specs.Told.{IsOpen, KeepsOn, KeepsOnBehind, end_tag_told, page_messages, page_tokens, is_without_return, proper, spell_comment, spell_end_tag, spell_start_tag, start_behind_page, start_tag_told, text_messages, tokens_of};
 
+use crate::writer::Writer;
 use html5ever_interface::interface::sink::TokenSink;
 use html5ever_interface::interface::token::Token;
 use std::alloc::Allocator;
@@ -69,6 +72,7 @@ pub fn page<S: TokenSink<Token<A>>, A: Allocator>()
 
 /// A page that is written piece by piece and read by itself tells its pieces and the end, and but for
 /// errors exactly their tokens: a tag or a comment for each such piece, and each character of a text.
+/// Where errors are not exact, and no CR stands in its texts and values, there are no errors.
 pub fn whole_page<S: TokenSink<Token<A>>, A: Allocator>()
     ensures messages { (rules : Rules) (K : Start) (s : S.State) (pieces : List Piece) → IsTable rules.names
         → IsOpen K → list_all can_write pieces ≡ true → KeepsOn {S = S.State} S.means.reply pieces
@@ -78,4 +82,23 @@ pub fn whole_page<S: TokenSink<Token<A>>, A: Allocator>()
     ensures tokens { (rules : Rules) (K : Start) (s : S.State) (pieces : List Piece) → IsTable rules.names
         → IsOpen K → list_all can_write pieces ≡ true → KeepsOn {S = S.State} S.means.reply pieces
         → proper (all_messages S.means rules K s (page_text pieces)) ≡ page_tokens pieces ++ End ∷ [] }
+    ensures silent { (rules : Rules) (K : Start) (s : S.State) (pieces : List Piece) → IsTable rules.names
+        → IsOpen K → list_all can_write pieces ≡ true → KeepsOn {S = S.State} S.means.reply pieces
+        → rules.exact ≡ false → list_all is_without_return pieces ≡ true
+        → tokens_of (all_messages S.means rules K s (page_text pieces)) ≡ page_tokens pieces ++ End ∷ [] }
+{}
+
+/// The page of a writer is such a page: it is read, but for errors, as exactly the pieces that were
+/// written and the end.
+pub fn read_back<S: TokenSink<Token<A>>, A: Allocator + Copy>(writer: &Writer<A>)
+    ensures { (rules : Rules) (K : Start) (s : S.State) → IsTable rules.names → IsOpen K
+        → KeepsOn {S = S.State} S.means.reply writer.now
+        → proper (all_messages S.means rules K s (page_text writer.now)) ≡ page_tokens writer.now ++ End ∷ [] }
+{
+    let _page = writer.as_str();
+}
+
+/// A piece is refused for some reason exactly where it can't be written.
+pub fn refusals()
+    ensures { (piece : Piece) → is_none (refusal_of piece) ≡ can_write piece }
 {}
