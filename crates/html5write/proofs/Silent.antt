@@ -1,12 +1,12 @@
 -- A page without CR tells its pieces and no error, where errors are not exact.
 use Rattle.std.proofs.Common.{◌≡◌, ℕ, Bool, true, false, List, [], ◌∷◌, ◌++◌, refl, ap, sym, ◌∙◌}
-use Rattle.std.specs.Prelude.{◌==◌, ◌&&◌, not, flat_map, map, codes, encode_utf8}
+use Rattle.std.specs.Prelude.{◌==◌, not, flat_map, map, codes, encode_utf8}
 use Rattle.std.specs.List.{list_all}
 use Rattle.std.proofs.lemmas.Bool.{and_parts, not-true}
 use Rattle.std.proofs.lemmas.List.{append_assoc, map-append}
 use Rattle.html5ever_interface.specs.Sink.{Message, on_line}
 use Rattle.html5ever_interface.specs.Token.{Told}
-use Rattle.html5ever_interface.specs.Token.Told.{Text, Tag, Comment, End}
+use Rattle.html5ever_interface.specs.Token.Told.{Text, End}
 use Rattle.html5grammar.specs.Characters.{carriage_return}
 use Rattle.html5grammar.specs.NormalisedText.{line_after, input_after}
 use Rattle.html5grammar.specs.Start.{Input}

@@ -13,15 +13,16 @@ use crate::checks::refusal_of;
 use crate::error::WriteError;
 use crate::piece::{Attribute, Piece};
 use crate::trail::Trail;
-use std::alloc::{AllocError, Allocator, Global};
+use std::alloc::{Allocator, Global};
 use std::marker::Model;
 
 /// A page that is written piece by piece. Contracts see the pieces that it has, in order: all of them can
 /// be written, and so `laws::page` and `laws::whole_page` say how the page is read.
 #[derive(Drop)]
 pub struct Writer<A: Allocator = Global> {
-    alloc: A,
     page: String<A>,
+    // The piece that is being written, until it is whole.
+    piece: String<A>,
     trail: Trail,
 }
 
@@ -33,23 +34,14 @@ impl<A: Allocator> Model for Writer<A> {
     ghost invariant = { λ w. IsPage (string_bytes w.page) w.trail.pieces };
 }
 
-// The bytes of a piece.
-fn written<A: Allocator + Copy>(alloc: A, piece: &Piece<'_>) -> Result<String<A>, AllocError>
-    ensures { IfOk result (λ text. string_bytes text ≡ encode_utf8_all (piece_text (piece_of piece.now))) }
-{
-    let mut text = String::new(alloc);
-    push_piece(&mut text, piece)?;
-    Ok(text)
-}
-
 impl<A: Allocator + Copy> Writer<A> {
     /// A writer of a page on which nothing stands yet.
     pub fn new(alloc: A) -> Writer<A>
         ensures { result ≡ [] }
     {
         Writer {
-            alloc,
             page: String::new(alloc),
+            piece: String::new(alloc),
             trail: Trail::new(),
         }
     }
@@ -71,8 +63,9 @@ impl<A: Allocator + Copy> Writer<A> {
         ensures unchanged { OnErr result (self.new ≡ self.old) }
         ensures memory { IsOkUnless result Memory }
     {
-        let text = written(self.alloc, piece)?;
-        self.page.push_str(text.as_str())?;
+        self.piece.clear();
+        push_piece(&mut self.piece, piece)?;
+        self.page.push_str(self.piece.as_str())?;
         self.trail.add(piece);
         Ok(())
     }
