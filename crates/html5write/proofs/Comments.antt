@@ -23,7 +23,7 @@ use Rattle.html5items.proofs.ByItself.{trace-by_itself}
 use Rattle.html5items.proofs.Comment.Reading.{reads_comment}
 use Rattle.html5items.proofs.Comment.Text.{ends_in-front, ends_in-append, ends_in-push, ends_in-other}
 use Rattle.html5items.proofs.Tag.Values.{both-none}
-use Rattle.html5write.specs.Pieces.{piece_text, is_comment_character, is_behind_dash, has_lone_dashes, begins_comment, can_write, has_no_null}
+use Rattle.html5write.specs.Pieces.{piece_text, is_comment_character, can_follow_dash, has_lone_dashes, can_begin_comment, can_write, has_no_null}
 use Rattle.html5write.specs.Pieces.Piece.{CommentPiece}
 use Rattle.html5write.specs.Told.{has_no_return, IsOpen, spell_end, spell_comment}
 use Rattle.html5write.proofs.Front.{normalised-markup, no_break-markup}
@@ -46,18 +46,18 @@ ends_in-none text front word none =
 -- what stands before some text of a comment, in which no two dashes meet
 record Quiet (before content : List ℕ) : Type 0 where
   no_two : ends_in before (codes "--") ≡ false
-  link : ends_in before (codes "-") ≡ true → is_behind_dash content ≡ true
+  link : ends_in before (codes "-") ≡ true → can_follow_dash content ≡ true
 
 quiet-start : (content : List ℕ) → Quiet [] content
 quiet-start content = record { no_two = refl; link = λ h. absurd (false≢true h) }
 
-quiet-dash : (before content : List ℕ) (c : ℕ) → Quiet before (c ∷ content) → (c == hyphen) ≡ true → is_behind_dash content ≡ true → Quiet (before ++ c ∷ []) content
-unfolding is_behind_dash
-quiet-dash before content c quiet dash behind = record {
+quiet-dash : (before content : List ℕ) (c : ℕ) → Quiet before (c ∷ content) → (c == hyphen) ≡ true → can_follow_dash content ≡ true → Quiet (before ++ c ∷ []) content
+unfolding can_follow_dash
+quiet-dash before content c quiet dash next = record {
   no_two =
       ends_in-push before (codes "-") c hyphen
       ∙ ap (λ b. b && nat_eq hyphen c) (false_from_ne_true (ends_in before (codes "-")) (λ h. false≢true (ap not (sym dash) ∙ quiet.link h)));
-  link = λ h. behind;
+  link = λ h. next;
 }
 
 quiet-other : (before content : List ℕ) (c : ℕ) → (c == hyphen) ≡ false → Quiet (before ++ c ∷ []) content
@@ -66,10 +66,10 @@ quiet-other before content c other = record {
   link = λ h. absurd (false≢true (sym (ends_in-other before [] c hyphen (other-way c hyphen other)) ∙ h));
 }
 
-quiet-next : (before content : List ℕ) (c : ℕ) → Quiet before (c ∷ content) → (not (c == hyphen) || is_behind_dash content) ≡ true → Quiet (before ++ c ∷ []) content
+quiet-next : (before content : List ℕ) (c : ℕ) → Quiet before (c ∷ content) → (not (c == hyphen) || can_follow_dash content) ≡ true → Quiet (before ++ c ∷ []) content
 quiet-next before content c quiet lone =
-    (elim (c == hyphen) as (λ b. (c == hyphen) ≡ b → (not b || is_behind_dash content) ≡ true → Quiet (before ++ c ∷ []) content) [
-      | true ↦ λ e behind. quiet-dash before content c quiet e behind
+    (elim (c == hyphen) as (λ b. (c == hyphen) ≡ b → (not b || can_follow_dash content) ≡ true → Quiet (before ++ c ∷ []) content) [
+      | true ↦ λ e next. quiet-dash before content c quiet e next
       | false ↦ λ e h. quiet-other before content c e
     ]) refl lone
 
@@ -80,7 +80,7 @@ unfolding behind_mark_error
 silent-character exact before c none no_null = rw (ends_in-none before (codes "<!") (codes "--") none, no_null) refl
 
 silent-end : (exact : Bool) (before : List ℕ) → Quiet before [] → spell_content exact before (codes "--") ≡ spell_silent (codes "--")
-unfolding spell_content is_behind_dash
+unfolding spell_content can_follow_dash
 silent-end exact before quiet =
     let none : ends_in before (codes "-") ≡ false = false_from_ne_true (ends_in before (codes "-")) (λ h. false≢true (quiet.link h)) in
     let next : ends_in (before ++ hyphen ∷ []) (codes "--") ≡ false = ends_in-push before (codes "-") hyphen hyphen ∙ ap (λ b. b && true) none in
@@ -92,14 +92,14 @@ unfolding spell_content has_lone_dashes
 silent-content exact before [] quiet h lone = silent-end exact before quiet
 silent-content exact before (c ∷ content) quiet h lone =
     let p = and_parts (is_comment_character c) (list_all is_comment_character content) h in
-    let q = and_parts (not (c == hyphen) || is_behind_dash content) (has_lone_dashes content) lone in
+    let q = and_parts (not (c == hyphen) || can_follow_dash content) (has_lone_dashes content) lone in
     rw (silent-character exact before c quiet.no_two (both-none (c == null) (c == carriage_return) (not-true _ p.0)).0)
     (ap (λ l. record { character = c; told = [] } ∷ l) (silent-content exact (before ++ c ∷ []) content (quiet-next before content c quiet q.0) p.1 q.1))
 
 -- ---- it is a comment, written out
 
-begins-none : (c : ℕ) (content word : List ℕ) → (not (c == hyphen) || is_behind_dash content) ≡ true → begins_with (hyphen ∷ hyphen ∷ word) (c ∷ content) ≡ false
-unfolding is_behind_dash
+begins-none : (c : ℕ) (content word : List ℕ) → (not (c == hyphen) || can_follow_dash content) ≡ true → begins_with (hyphen ∷ hyphen ∷ word) (c ∷ content) ≡ false
+unfolding can_follow_dash
 begins-none c [] word h = and-false (nat_eq hyphen c)
 begins-none c (d ∷ content) word h =
     (elim (c == hyphen) as (λ b. (c == hyphen) ≡ b → (not b || not (d == hyphen)) ≡ true → begins_with (hyphen ∷ hyphen ∷ word) (c ∷ d ∷ content) ≡ false) [
@@ -111,11 +111,11 @@ no_end : (content word : List ℕ) → has_lone_dashes content ≡ true → occu
 unfolding occurs has_lone_dashes
 no_end [] word lone = refl
 no_end (c ∷ content) word lone =
-    let p = and_parts (not (c == hyphen) || is_behind_dash content) (has_lone_dashes content) lone in
+    let p = and_parts (not (c == hyphen) || can_follow_dash content) (has_lone_dashes content) lone in
     ap (λ b. b || occurs (hyphen ∷ hyphen ∷ word) content) (begins-none c content word p.0) ∙ no_end content word p.1
 
-is_content-text : (content : List ℕ) → begins_comment content ≡ true → has_lone_dashes content ≡ true → is_content content ≡ true
-unfolding is_content begins_comment
+is_content-text : (content : List ℕ) → can_begin_comment content ≡ true → has_lone_dashes content ≡ true → is_content content ≡ true
+unfolding is_content can_begin_comment
 is_content-text [] begins lone = rw (no_end [] (codes ">") lone, no_end [] (codes "!>") lone) refl
 is_content-text (c ∷ content) begins lone =
     let p = and_parts (not (c == greater_than)) (not (c == hyphen)) begins in
@@ -151,7 +151,7 @@ messages-comment : (exact : Bool) (input : Input) (content : List ℕ) → can_w
 unfolding messages_of
 messages-comment exact input content h =
     let p = and_parts (list_all is_comment_character content) _ h in
-    let q = and_parts (begins_comment content) (has_lone_dashes content) p.1 in
+    let q = and_parts (can_begin_comment content) (has_lone_dashes content) p.1 in
     let last : List ℕ → List Spelled = λ text. spell_end (Comment text) in
     ap (λ cells. spelled_messages exact input [] (spell_silent (codes "<!--") ++ (cells ++ last (flat_map value_bytes content))))
     (silent-content exact [] content (quiet-start content) p.0 q.1 ∙ map-append (λ c. record { character = c; told = [] }) content (codes "--"))
@@ -165,7 +165,7 @@ module _ {X S H : Type 0} (means : Means X S H) (rules : Rules) where
   unfolding is_written
   comment-told K s content here can =
       let p = and_parts (list_all is_comment_character content) _ can in
-      let q = and_parts (begins_comment content) (has_lone_dashes content) p.1 in
+      let q = and_parts (can_begin_comment content) (has_lone_dashes content) p.1 in
       let Y : List ℕ = piece_text (CommentPiece content) in
       let one : IsComment K (means.foreign s) Y (Proper content Dashes) = record {
         starts = here.starts;

@@ -6,7 +6,7 @@ use Rattle.std.specs.Str.{IsUtf8, chars}
 use Rattle.std.proofs.lemmas.Bool.{eq-eqb, ne_eqb}
 use Rattle.std.proofs.lemmas.Str.{chars_past_char, chars-nil}
 use Rattle.html5grammar.specs.Characters.{null, greater_than, hyphen, is_between}
-use Rattle.html5write.specs.Pieces.{is_tag_name, is_name_character, is_attribute_name, is_attribute_character, begins_comment}
+use Rattle.html5write.specs.Pieces.{is_tag_name, is_name_character, is_attribute_name, is_attribute_character, can_begin_comment}
 use Rattle.html5write.specs.Refusals.{null_from}
 
 pub tag_name-first : (name rest : List ℕ) (c : ℕ) → IsUtf8 name → name ≡ encode_utf8 c ++ rest
@@ -28,13 +28,13 @@ unfolding is_attribute_name
 attribute_name-none name none = ap is_attribute_name (ap chars none ∙ chars-nil)
 
 pub comment-first : (text rest : List ℕ) (c : ℕ) → IsUtf8 text → text ≡ encode_utf8 c ++ rest
-    → begins_comment (chars text) ≡ not (c == greater_than) && not (c == hyphen)
-unfolding begins_comment
+    → can_begin_comment (chars text) ≡ not (c == greater_than) && not (c == hyphen)
+unfolding can_begin_comment
 comment-first text rest c utf8 first = rw (chars_past_char text rest c utf8 first) refl
 
-pub comment-none : (text : List ℕ) → text ≡ [] → begins_comment (chars text) ≡ true
-unfolding begins_comment
-comment-none text none = ap begins_comment (ap chars none ∙ chars-nil)
+pub comment-none : (text : List ℕ) → text ≡ [] → can_begin_comment (chars text) ≡ true
+unfolding can_begin_comment
+comment-none text none = ap can_begin_comment (ap chars none ∙ chars-nil)
 
 -- ---- where a NUL stands
 

@@ -22,7 +22,7 @@ use Rattle.markup5ever.specs.NamedReferences.{IsTable}
 use Rattle.html5write.specs.Escaped.{escaped_text}
 use Rattle.html5write.specs.Pieces.{NameAndValue, piece_text, attribute_text, is_tag_name, is_attribute_name, is_attribute, has_no_null, are_distinct, can_write}
 use Rattle.html5write.specs.Pieces.Piece.{StartTagPiece, EndTagPiece}
-use Rattle.html5write.specs.Told.{has_no_return, IsOpen, start_tag_told, end_tag_told, spell_start_tag, spell_end_tag, KeepsOnBehind}
+use Rattle.html5write.specs.Told.{has_no_return, IsOpen, start_tag_told, end_tag_told, spell_start_tag, spell_end_tag, KeepsOnAfter}
 use Rattle.html5write.proofs.Front.{normalised-markup, no_break-markup}
 use Rattle.html5write.proofs.Names.{no_return-name, names-attribute_name}
 use Rattle.html5write.proofs.Shapes.{tag_of, text-start_tag, text-end_tag, is_written-tag}
@@ -62,14 +62,14 @@ pub no_break-end_tag : (input : Input) (name : List ℕ) → can_write (EndTagPi
 no_break-end_tag input name h = no_break-markup input (codes "/" ++ (name ++ codes ">")) (no_return-end_tag name h)
 
 module _ {X S H : Type 0} (means : Means X S H) (rules : Rules) where
-  -- a tag behind which the sink keeps on, from what it spells and tells
+  -- a tag after which the sink keeps on, from what it spells and tells
   tag-told : (K : Start) (s : S) (Y : List ℕ) (tag : WrittenTag) (cells : List Spelled) (told : TagOf) → IsTable rules.names → IsTag K Y tag
-      → spelled rules tag ≡ cells → tag_told rules tag ≡ told → KeepsOnBehind means.reply told
+      → spelled rules tag ≡ cells → tag_told rules tag ≡ told → KeepsOnAfter means.reply told
       → TellsByItself means rules K s Y (spelled_messages rules.exact K.input [] cells) (start_behind K Y (Between Data) (last_behind K.last_start_tag told))
   unfolding spelled
   tag-told K s Y tag cells told table one spells tells keeps =
       let M : List Message = spelled_messages rules.exact K.input [] (spelled rules tag) in
-      let keeps_tag : KeepsOnBehind means.reply (tag_told rules tag) = subst (λ t. KeepsOnBehind means.reply t) (sym tells) keeps in
+      let keeps_tag : KeepsOnAfter means.reply (tag_told rules tag) = subst (λ t. KeepsOnAfter means.reply t) (sym tells) keeps in
       let reply : last_reply means.step means.reply s M ≡ KeepOn =
       last_reply-keeps means.step means.reply means.foreign rules s K.input [] (body rules tag) greater_than (end_errors rules tag) (tag_told rules tag) keeps_tag in
       subst (λ t. TellsByItself means rules K s Y (spelled_messages rules.exact K.input [] cells) (start_behind K Y (Between Data) (last_behind K.last_start_tag t))) tells
@@ -78,7 +78,7 @@ module _ {X S H : Type 0} (means : Means X S H) (rules : Rules) where
       (tag-by_itself means rules K s Y tag table one)))
 
   pub start_tag-told : (K : Start) (s : S) (name : List ℕ) (attributes : List NameAndValue) → IsTable rules.names → IsOpen K → can_write (StartTagPiece name attributes) ≡ true
-      → KeepsOnBehind means.reply (start_tag_told name attributes)
+      → KeepsOnAfter means.reply (start_tag_told name attributes)
       → TellsByItself means rules K s (piece_text (StartTagPiece name attributes)) (spelled_messages rules.exact K.input [] (spell_start_tag rules.exact name attributes))
       (start_behind K (piece_text (StartTagPiece name attributes)) (Between Data) (encode_utf8_all name))
   unfolding last_behind
@@ -97,7 +97,7 @@ module _ {X S H : Type 0} (means : Means X S H) (rules : Rules) where
       (spells-start_tag rules name attributes p.0 q.0 q.1) (told-start_tag rules name attributes p.0 q.0 q.1) keeps
 
   pub end_tag-told : (K : Start) (s : S) (name : List ℕ) → IsTable rules.names → IsOpen K → can_write (EndTagPiece name) ≡ true
-      → KeepsOnBehind means.reply (end_tag_told name)
+      → KeepsOnAfter means.reply (end_tag_told name)
       → TellsByItself means rules K s (piece_text (EndTagPiece name)) (spelled_messages rules.exact K.input [] (spell_end_tag name))
       (start_behind K (piece_text (EndTagPiece name)) (Between Data) K.last_start_tag)
   unfolding last_behind

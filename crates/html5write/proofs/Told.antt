@@ -26,9 +26,9 @@ use Rattle.html5write.proofs.Values.{spells-value, shown-value}
 
 -- ---- attributes in the order of the grammar, the last one first
 
-abbrev told_behind : List AttributeOf → List NameAndValue → List AttributeOf
-told_behind before [] = before
-told_behind before (a ∷ attributes) = told_behind (attribute_told a ∷ before) attributes
+abbrev told_after : List AttributeOf → List NameAndValue → List AttributeOf
+told_after before [] = before
+told_after before (a ∷ attributes) = told_after (attribute_told a ∷ before) attributes
 
 -- none of them has the name of one before them
 abbrev are_new : List AttributeOf → List NameAndValue → Bool
@@ -49,7 +49,7 @@ new-one a before (b ∷ attributes) h g =
     rw (not-true (bytes_eq (encode_utf8_all a.name) (encode_utf8_all b.name)) q.0, not-true (has_attribute before (encode_utf8_all b.name)) p.0)
     (new-one a before attributes p.1 q.1)
 
--- what is known of attributes behind others
+-- what is known of attributes after others
 record AreNew (before : List AttributeOf) (attributes : List NameAndValue) : Type 0 where
   repeated : has_repeated before ≡ false
   new : are_new before attributes ≡ true
@@ -74,12 +74,12 @@ all-new : (attributes : List NameAndValue) → are_distinct attributes ≡ true 
 unfolding has_repeated
 all-new attributes h = record { repeated = refl; new = new-none attributes; distinct = h }
 
-repeated-all : (before : List AttributeOf) (attributes : List NameAndValue) → AreNew before attributes → has_repeated (told_behind before attributes) ≡ false
+repeated-all : (before : List AttributeOf) (attributes : List NameAndValue) → AreNew before attributes → has_repeated (told_after before attributes) ≡ false
 repeated-all before [] n = n.repeated
 repeated-all before (a ∷ attributes) n = repeated-all (attribute_told a ∷ before) attributes (new-next before a attributes n)
 
 kept-all : (before : List AttributeOf) (attributes : List NameAndValue) → AreNew before attributes
-    → kept (told_behind before attributes) ≡ kept before ++ map attribute_told attributes
+    → kept (told_after before attributes) ≡ kept before ++ map attribute_told attributes
 unfolding kept repeats
 kept-all before [] n = sym (append-nil (kept before))
 kept-all before (a ∷ attributes) n =
@@ -133,7 +133,7 @@ module _ (rules : Rules) where
       rw (shown-name (c ∷ name) (names-attribute (c ∷ name) h), shown-value rules value g) refl
 
   with-all : (before : List AttributeOf) (attributes : List NameAndValue) → list_all is_attribute attributes ≡ true
-      → attributes_with_parts rules before (parts_of attributes) ≡ told_behind before attributes
+      → attributes_with_parts rules before (parts_of attributes) ≡ told_after before attributes
   unfolding attributes_with_parts
   with-all before [] h = refl
   with-all before (a ∷ attributes) h =
@@ -142,12 +142,12 @@ module _ (rules : Rules) where
       ap (λ l. attributes_with_parts rules l (parts_of attributes)) (with-attribute before a.name a.value q.0 q.1)
       ∙ with-all (attribute_told a ∷ before) attributes p.1
 
-  behind-attribute : (before : List AttributeOf) (name run : List ℕ) (later : List Part) → is_attribute_name name ≡ true
+  after-attribute : (before : List AttributeOf) (name run : List ℕ) (later : List Part) → is_attribute_name name ≡ true
       → spell_parts rules BeforeAttribute before (attribute_part name run ∷ later)
       ≡ spell_part rules BeforeAttribute before (attribute_part name run) ++ spell_parts rules AfterQuotedValue (attributes_with rules before (attribute_part name run)) later
   unfolding spell_parts is_attribute_name
-  behind-attribute before [] run later h = absurd (false≢true h)
-  behind-attribute before (c ∷ name) run later h = refl
+  after-attribute before [] run later h = absurd (false≢true h)
+  after-attribute before (c ∷ name) run later h = refl
 
   -- the parts of an attribute, and then those of others
   spells-parts_of : (before : List AttributeOf) (a : NameAndValue) (attributes : List NameAndValue) (cells : List Spelled) → is_attribute a ≡ true
@@ -156,7 +156,7 @@ module _ (rules : Rules) where
       ≡ (spell_silent a.name ++ (spell_silent (codes "=\"") ++ (flat_map (spell_escaped rules.exact) a.value ++ spell_silent (codes "\"")))) ++ cells
   spells-parts_of before a attributes cells h new later =
       let q = and_parts (is_attribute_name a.name) (has_no_null a.value) h in
-      behind-attribute before a.name (escaped_text a.value) (parts_of attributes) q.0
+      after-attribute before a.name (escaped_text a.value) (parts_of attributes) q.0
       ∙ ap (λ l. l ++ spell_parts rules AfterQuotedValue (attributes_with rules before (attribute_part a.name (escaped_text a.value))) (parts_of attributes)) (spells-attribute before a.name a.value q.0 q.1 new)
       ∙ ap (λ l. (spell_silent a.name ++ (spell_silent (codes "=\"") ++ (flat_map (spell_escaped rules.exact) a.value ++ spell_silent (codes "\"")))) ++ l)
       (ap (λ l. spell_parts rules AfterQuotedValue l (parts_of attributes)) (with-attribute before a.name a.value q.0 q.1) ∙ later)

@@ -77,23 +77,23 @@ are_distinct (a ∷ attributes) = list_all (differs_from a) attributes && are_di
 abbrev pub is_comment_character : ℕ → Bool
 is_comment_character c = not ((c == null) || (c == carriage_return))
 
--- whether what follows a character is no `-` where the character is one, nor the end
-unfoldable pub is_behind_dash : List ℕ → Bool
-is_behind_dash [] = false
-is_behind_dash (c ∷ text) = not (c == hyphen)
+-- what can follow a dash in a comment: not another, nor the end
+unfoldable pub can_follow_dash : List ℕ → Bool
+can_follow_dash [] = false
+can_follow_dash (c ∷ text) = not (c == hyphen)
 
 -- in a comment no two dashes stand together, and none at the end
 unfoldable pub has_lone_dashes : List ℕ → Bool
 has_lone_dashes [] = true
-has_lone_dashes (c ∷ text) = (not (c == hyphen) || is_behind_dash text) && has_lone_dashes text
+has_lone_dashes (c ∷ text) = (not (c == hyphen) || can_follow_dash text) && has_lone_dashes text
 
--- nor does it begin with `>` or `-`, since `<!-->` and `<!--->` are whole comments
-unfoldable pub begins_comment : List ℕ → Bool
-begins_comment [] = true
-begins_comment (c ∷ text) = not (c == greater_than) && not (c == hyphen)
+-- and it doesn't begin with `>` or `-`, since `<!-->` and `<!--->` are whole comments
+unfoldable pub can_begin_comment : List ℕ → Bool
+can_begin_comment [] = true
+can_begin_comment (c ∷ text) = not (c == greater_than) && not (c == hyphen)
 
 abbrev pub is_comment_text : List ℕ → Bool
-is_comment_text text = list_all is_comment_character text && (begins_comment text && has_lone_dashes text)
+is_comment_text text = list_all is_comment_character text && (can_begin_comment text && has_lone_dashes text)
 
 abbrev pub can_write : Piece → Bool
 can_write (TextPiece text) = has_no_null text

@@ -100,36 +100,36 @@ page_messages exact input [] = []
 page_messages exact input (piece ∷ pieces) =
     piece_messages exact input piece ++ page_messages exact (input_after input (piece_text piece)) pieces
 
--- the name of the last start tag behind a piece
-abbrev pub last_behind_piece : List ℕ → Piece → List ℕ
-last_behind_piece last (StartTagPiece name attributes) = encode_utf8_all name
-last_behind_piece last other = last
+-- the name of the last start tag after a piece
+abbrev pub last_after_piece : List ℕ → Piece → List ℕ
+last_after_piece last (StartTagPiece name attributes) = encode_utf8_all name
+last_after_piece last other = last
 
-unfoldable pub last_behind_page : List ℕ → List Piece → List ℕ
-last_behind_page last [] = last
-last_behind_page last (piece ∷ pieces) = last_behind_page (last_behind_piece last piece) pieces
+unfoldable pub last_after_page : List ℕ → List Piece → List ℕ
+last_after_page last [] = last
+last_after_page last (piece ∷ pieces) = last_after_page (last_after_piece last piece) pieces
 
--- the start behind a page
-abbrev pub start_behind_page : Start → List Piece → Start
-start_behind_page K pieces = record {
+-- the start after a page
+abbrev pub start_after_page : Start → List Piece → Start
+start_after_page K pieces = record {
   opened = Between Data;
-  last_start_tag = last_behind_page K.last_start_tag pieces;
+  last_start_tag = last_after_page K.last_start_tag pieces;
   input = input_after K.input (page_text pieces);
 }
 
--- the sink keeps on behind a tag, whatever it was told before it
-abbrev pub KeepsOnBehind : {S H : Type 0} → (S → Told → ℕ → Reply H) → TagOf → Type 0
-KeepsOnBehind {S = S} reply tag = (t : S) (line : ℕ) → reply t (Tag tag) line ≡ KeepOn
+-- the sink keeps on after a tag, whatever it was told before it
+abbrev pub KeepsOnAfter : {S H : Type 0} → (S → Told → ℕ → Reply H) → TagOf → Type 0
+KeepsOnAfter {S = S} reply tag = (t : S) (line : ℕ) → reply t (Tag tag) line ≡ KeepOn
 
-abbrev pub KeepsOnBehindPiece : {S H : Type 0} → (S → Told → ℕ → Reply H) → Piece → Type 0
-KeepsOnBehindPiece reply (StartTagPiece name attributes) = KeepsOnBehind reply (start_tag_told name attributes)
-KeepsOnBehindPiece reply (EndTagPiece name) = KeepsOnBehind reply (end_tag_told name)
-KeepsOnBehindPiece reply other = Unit {0}
+abbrev pub KeepsOnAfterPiece : {S H : Type 0} → (S → Told → ℕ → Reply H) → Piece → Type 0
+KeepsOnAfterPiece reply (StartTagPiece name attributes) = KeepsOnAfter reply (start_tag_told name attributes)
+KeepsOnAfterPiece reply (EndTagPiece name) = KeepsOnAfter reply (end_tag_told name)
+KeepsOnAfterPiece reply other = Unit {0}
 
--- behind each tag of a page
+-- after each tag of a page
 abbrev pub KeepsOn : {S H : Type 0} → (S → Told → ℕ → Reply H) → List Piece → Type 0
 KeepsOn reply [] = Unit {0}
-KeepsOn reply (piece ∷ pieces) = KeepsOnBehindPiece reply piece × KeepsOn reply pieces
+KeepsOn reply (piece ∷ pieces) = KeepsOnAfterPiece reply piece × KeepsOn reply pieces
 
 -- ---- what it tells but for errors
 

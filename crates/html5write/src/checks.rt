@@ -3,7 +3,7 @@ ghost use Rattle.std.specs.Prelude.{◌≡◌, ◌+◌, ◌<◌, ◌^◌, encode
 ghost use Rattle.std.specs.List.{list_all};
 ghost use Rattle.std.specs.Option.{option_or};
 ghost use Rattle.std.specs.Str.{chars, bytes_eq};
-ghost use Rattle.html5write.specs.Pieces.{is_attribute_character, is_attribute_name, is_comment_character, is_comment_text, is_name_character, is_tag_name, has_lone_dashes, begins_comment};
+ghost use Rattle.html5write.specs.Pieces.{is_attribute_character, is_attribute_name, is_comment_character, is_comment_text, is_name_character, is_tag_name, has_lone_dashes, can_begin_comment};
 ghost use Rattle.html5write.specs.Pieces.Piece.{StartTagPiece};
 ghost use Rattle.html5write.specs.Refusals.{attribute_refusal, attributes_refusal, null_from, refusal_of, repeat_from};
 ghost use Rattle.html5write.specs.Writing.{attribute_of, piece_of};
@@ -81,9 +81,9 @@ fn null_in(text: &str) -> Option<usize>
     None
 }
 
-// Whether a text neither is a comment's end nor begins with one.
-fn begins_comment(text: &str) -> bool
-    ensures { result ≡ begins_comment (chars text.now) }
+// Whether the text of a comment can begin so.
+fn can_begin_comment(text: &str) -> bool
+    ensures { result ≡ can_begin_comment (chars text.now) }
 {
     match text.chars().next() {
         Some(first) => first != '>' && first != '-',
@@ -95,14 +95,14 @@ fn begins_comment(text: &str) -> bool
 fn has_lone_dashes(text: &str) -> bool
     ensures { result ≡ has_lone_dashes (chars text.now) }
 {
-    let mut behind_dash = false;
+    let mut after_dash = false;
     for c in text.chars() {
-        if behind_dash && c == '-' {
+        if after_dash && c == '-' {
             return false;
         }
-        behind_dash = c == '-';
+        after_dash = c == '-';
     }
-    !behind_dash
+    !after_dash
 }
 
 // Whether a character can stand in a comment.
@@ -123,7 +123,7 @@ fn has_comment_characters(text: &str) -> bool
 fn is_comment_text(text: &str) -> bool
     ensures { result ≡ is_comment_text (chars text.now) }
 {
-    has_comment_characters(text) && begins_comment(text) && has_lone_dashes(text)
+    has_comment_characters(text) && can_begin_comment(text) && has_lone_dashes(text)
 }
 
 // Whether two names are told as different ones.

@@ -16,7 +16,7 @@ ghost use Rattle.html5write.specs.Escaped.{escaped_text};
 ghost use Rattle.html5write.specs.Pieces.{NameAndValue, Piece, piece_text, page_text, can_write, has_no_null};
 ghost use Rattle.html5write.specs.Pieces.Piece.{StartTagPiece, EndTagPiece, CommentPiece};
 ghost use Rattle.html5write.specs.Refusals.{refusal_of};
-ghost use Rattle.html5write.specs.Told.{IsOpen, KeepsOn, KeepsOnBehind, end_tag_told, page_messages, page_tokens, is_without_return, proper, spell_comment, spell_end_tag, spell_start_tag, start_behind_page, start_tag_told, text_messages, tokens_of};
+ghost use Rattle.html5write.specs.Told.{IsOpen, KeepsOn, KeepsOnAfter, end_tag_told, page_messages, page_tokens, is_without_return, proper, spell_comment, spell_end_tag, spell_start_tag, start_after_page, start_tag_told, text_messages, tokens_of};
 
 use crate::writer::Writer;
 use html5ever_interface::interface::sink::TokenSink;
@@ -36,7 +36,7 @@ pub fn text<S: TokenSink<Token<A>>, A: Allocator>()
 pub fn start_tag<S: TokenSink<Token<A>>, A: Allocator>()
     ensures { (rules : Rules) (K : Start) (s : S.State) (name : List ℕ) (attributes : List NameAndValue)
         → IsTable rules.names → IsOpen K → can_write (StartTagPiece name attributes) ≡ true
-        → KeepsOnBehind {S = S.State} S.means.reply (start_tag_told name attributes)
+        → KeepsOnAfter {S = S.State} S.means.reply (start_tag_told name attributes)
         → TellsByItself S.means rules K s (piece_text (StartTagPiece name attributes))
         (spelled_messages rules.exact K.input [] (spell_start_tag rules.exact name attributes))
         (start_behind K (piece_text (StartTagPiece name attributes)) (Between Data) (encode_utf8_all name)) }
@@ -46,7 +46,7 @@ pub fn start_tag<S: TokenSink<Token<A>>, A: Allocator>()
 pub fn end_tag<S: TokenSink<Token<A>>, A: Allocator>()
     ensures { (rules : Rules) (K : Start) (s : S.State) (name : List ℕ) → IsTable rules.names → IsOpen K
         → can_write (EndTagPiece name) ≡ true
-        → KeepsOnBehind {S = S.State} S.means.reply (end_tag_told name)
+        → KeepsOnAfter {S = S.State} S.means.reply (end_tag_told name)
         → TellsByItself S.means rules K s (piece_text (EndTagPiece name))
         (spelled_messages rules.exact K.input [] (spell_end_tag name))
         (start_behind K (piece_text (EndTagPiece name)) (Between Data) K.last_start_tag) }
@@ -67,7 +67,7 @@ pub fn page<S: TokenSink<Token<A>>, A: Allocator>()
     ensures { (rules : Rules) (K : Start) (s : S.State) (pieces : List Piece) → IsTable rules.names → IsOpen K
         → list_all can_write pieces ≡ true → KeepsOn {S = S.State} S.means.reply pieces
         → TellsByItself S.means rules K s (page_text pieces) (page_messages rules.exact K.input pieces)
-        (start_behind_page K pieces) }
+        (start_after_page K pieces) }
 {}
 
 /// A page that is written piece by piece and read by itself tells its pieces and the end, and but for

@@ -10,7 +10,7 @@ use Rattle.html5grammar.specs.Characters.{hyphen}
 use Rattle.html5write.specs.Pieces.{has_lone_dashes}
 use Rattle.html5write.proofs.LoneDashes.{lone_from, lone-next, lone-double, lone-end}
 use Rattle.html5write.proofs.checks.has_lone_dashes.Goals as goal
-use Rattle.html5write.proofs.checks.has_lone_dashes.Goals.{else-behind_dash-via-then-behind_dash+else-c-eq45, else-behind_dash-via-else-behind_dash}
+use Rattle.html5write.proofs.checks.has_lone_dashes.Goals.{else-after_dash-via-then-after_dash+else-c-eq45, else-after_dash-via-else-after_dash}
 
 pub loop-c-init : goal.loop-c-init
 loop-c-init c =
@@ -22,12 +22,12 @@ loop-c-preserved c =
     let before = chars_rest c.loop-c.c-iterator in
     let after = chars_rest c.next.new.self in
     let utf8 : IsUtf8 before = c.loop-c.invariant.2 in
-    let dash : Bool = c.loop-c.behind_dash in
+    let dash : Bool = c.loop-c.after_dash in
     let first = c.in-Some.ensures.steps.0 in
     let not_double : (dash && (c.in-Some.c == hyphen)) ≡ false =
-    elim c.else-behind_dash.branch [
-      | else-behind_dash-via-then-behind_dash+else-c-eq45 w ↦ ap (λ b. dash && b) (ne_eqb c.in-Some.c hyphen w.if-c-eq45.false) ∙ and-false dash
-      | else-behind_dash-via-else-behind_dash w ↦ ap (λ b. b && (c.in-Some.c == hyphen)) w.if-behind_dash.false
+    elim c.else-after_dash.branch [
+      | else-after_dash-via-then-after_dash+else-c-eq45 w ↦ ap (λ b. dash && b) (ne_eqb c.in-Some.c hyphen w.if-c-eq45.false) ∙ and-false dash
+      | else-after_dash-via-else-after_dash w ↦ ap (λ b. b && (c.in-Some.c == hyphen)) w.if-after_dash.false
     ] in (
       tt,
       tt,
@@ -40,7 +40,7 @@ returns-then-c-eq45 c =
     let before = chars_rest c.loop-c.c-iterator in
     let after = chars_rest c.next.new.self in
     sym (c.loop-c.invariant.3
-    ∙ ap (λ b. lone_from b (chars before)) c.if-behind_dash.true
+    ∙ ap (λ b. lone_from b (chars before)) c.if-after_dash.true
     ∙ ap (lone_from true) (chars_past_char before after c.in-Some.c c.loop-c.invariant.2 c.in-Some.ensures.steps.0)
     ∙ lone-double c.in-Some.c (chars after) (eq-eqb c.in-Some.c hyphen c.if-c-eq45.true))
 
@@ -48,5 +48,5 @@ pub returns : goal.returns
 returns c =
     let before = chars_rest c.loop-c.c-iterator in
     sym (c.loop-c.invariant.3
-    ∙ ap (lone_from c.loop-c.behind_dash) (ap chars (nil_from_length before c.in-None.ensures.steps.0.0) ∙ chars-nil)
-    ∙ lone-end c.loop-c.behind_dash)
+    ∙ ap (lone_from c.loop-c.after_dash) (ap chars (nil_from_length before c.in-None.ensures.steps.0.0) ∙ chars-nil)
+    ∙ lone-end c.loop-c.after_dash)

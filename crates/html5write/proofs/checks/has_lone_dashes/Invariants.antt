@@ -9,4 +9,4 @@ abbrev pub invariant-loop-c : goal.invariant-loop-c
 invariant-loop-c l =
     (goal.iterator-loop-c).can_next l.c-iterator × (goal.iterator-loop-c).is_finite l.c-iterator
     × IsUtf8 (chars_rest l.c-iterator)
-    × (has_lone_dashes (chars l.text) ≡ lone_from l.behind_dash (chars (chars_rest l.c-iterator)))
+    × (has_lone_dashes (chars l.text) ≡ lone_from l.after_dash (chars (chars_rest l.c-iterator)))

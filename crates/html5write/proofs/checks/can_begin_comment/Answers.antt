@@ -5,7 +5,7 @@ use Rattle.std.proofs.lemmas.Bool.{eq-eqb, ne_eqb}
 use Rattle.std.proofs.lemmas.List.{nil_from_length}
 use Rattle.html5grammar.specs.Characters.{greater_than, hyphen}
 use Rattle.html5write.proofs.FirstCharacters.{comment-first, comment-none}
-use Rattle.html5write.proofs.checks.begins_comment.Goals as goal
+use Rattle.html5write.proofs.checks.can_begin_comment.Goals as goal
 
 pub returns-then-first-ne62 : goal.returns-then-first-ne62
 returns-then-first-ne62 c =
