@@ -16,4 +16,5 @@ pub mod LoneDashes
 pub mod Repeats
 pub mod Refused
 pub mod Bytes
+pub mod Said
 pub mod PageLemmas

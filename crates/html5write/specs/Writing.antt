@@ -1,6 +1,12 @@
 -- The pieces that a program names, in characters.
-use Rattle.std.specs.Prelude.{◌≡◌, ℕ, true, List, [], ◌∷◌, ◌++◌, map, chars, encode_utf8_all, Result, Err, OnOk, OnErr, IsOkUnless, None, Some}
+use Rattle.std.specs.Prelude.{◌≡◌, ℕ, true, false, List, [], ◌∷◌, ◌++◌, map, chars, encode_utf8, encode_utf8_all, Result, Err, OnOk, OnErr, IsOkUnless, None, Some}
 use Rattle.std.specs.List.{list_all}
+use Rattle.html5ever_interface.specs.Token.{Told, TagOf}
+use Rattle.html5ever_interface.specs.Token.Told.{Text as ToldText, Tag as ToldTag, Comment as ToldComment}
+use Rattle.html5ever_interface.specs.declared.interface.token.TagKind.{TagKind}
+use Rattle.html5ever_interface.specs.declared.interface.token.TagKind.TheVariants as kind
+use Rattle.html5grammar.specs.Tag.{attribute}
+use Rattle.markup5ever.specs.Names.{AttributeOf}
 use Rattle.html5write.specs.Pieces.{NameAndValue, Piece, page_text, can_write}
 use Rattle.html5write.specs.Pieces.Piece.{TextPiece, StartTagPiece, EndTagPiece, CommentPiece}
 use Rattle.html5write.specs.Refusals.{refusal_of}
@@ -34,3 +40,17 @@ pub record Writes (result : Result (Unit {0}) WriteError) (before after : List P
   pub refused : (error : WriteError) → refusal_of piece ≡ Some error → result ≡ Err error
   -- and another only where memory is
   pub memory : refusal_of piece ≡ None → IsOkUnless result Memory
+
+-- ---- what is told of a piece, in the very bytes that were handed in
+
+abbrev pub attribute_said : Attribute → AttributeOf
+attribute_said a = attribute a.name.now a.value.now
+
+abbrev pub tag_said : TagKind → List ℕ → List Attribute → TagOf
+tag_said kind name attributes = record { kind = kind; name = name; self_closing = false; attributes = map attribute_said attributes; had_duplicate_attributes = false }
+
+abbrev pub tokens_said : RustPiece → List Told
+tokens_said (Text text) = map (λ c. ToldText (encode_utf8 c)) (chars text.now)
+tokens_said (StartTag name attributes) = ToldTag (tag_said kind.StartTag name.now attributes.now) ∷ []
+tokens_said (EndTag name) = ToldTag (tag_said kind.EndTag name.now []) ∷ []
+tokens_said (Comment text) = ToldComment text.now ∷ []

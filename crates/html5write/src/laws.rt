@@ -13,11 +13,15 @@ ghost use Rattle.html5items.specs.Anywhere.{TellsByItself, start_behind};
 ghost use Rattle.html5items.specs.Spelled.{spelled_messages};
 ghost use Rattle.markup5ever.specs.NamedReferences.{IsTable};
 ghost use Rattle.html5write.specs.Escaped.{escaped_text};
-ghost use Rattle.html5write.specs.Pieces.{NameAndValue, Piece, piece_text, page_text, can_write, has_no_null};
+ghost use Rattle.html5write.specs.Pieces as pieces;
+ghost use Rattle.html5write.specs.Pieces.{NameAndValue, piece_text, page_text, can_write, has_no_null};
 ghost use Rattle.html5write.specs.Pieces.Piece.{StartTagPiece, EndTagPiece, CommentPiece};
 ghost use Rattle.html5write.specs.Refusals.{refusal_of};
-ghost use Rattle.html5write.specs.Told.{IsOpen, KeepsOn, KeepsOnAfter, end_tag_told, page_messages, page_tokens, is_without_return, proper, spell_comment, spell_end_tag, spell_start_tag, start_after_page, start_tag_told, text_messages, tokens_of};
+ghost use Rattle.html5write.specs.Told.{IsOpen, KeepsOn, KeepsOnAfter, end_tag_told, page_messages, page_tokens, piece_tokens, is_without_return, proper, spell_comment, spell_end_tag, spell_start_tag, start_after_page, start_tag_told, text_messages, tokens_of};
+ghost use Rattle.html5write.specs.Writing.{piece_of, tokens_said};
 
+use crate::piece::Piece;
+use crate::utf8::{are_texts, is_text};
 use crate::writer::Writer;
 use html5ever_interface::interface::sink::TokenSink;
 use html5ever_interface::interface::token::Token;
@@ -64,7 +68,7 @@ pub fn comment<S: TokenSink<Token<A>>, A: Allocator>()
 /// A page that is written piece by piece, wherever it is put in Data, tells its pieces, and is read to
 /// where nothing is open: what follows it is read as it would be without it.
 pub fn page<S: TokenSink<Token<A>>, A: Allocator>()
-    ensures { (rules : Rules) (K : Start) (s : S.State) (pieces : List Piece) → IsTable rules.names → IsOpen K
+    ensures { (rules : Rules) (K : Start) (s : S.State) (pieces : List pieces.Piece) → IsTable rules.names → IsOpen K
         → list_all can_write pieces ≡ true → KeepsOn {S = S.State} S.means.reply pieces
         → TellsByItself S.means rules K s (page_text pieces) (page_messages rules.exact K.input pieces)
         (start_after_page K pieces) }
@@ -74,15 +78,15 @@ pub fn page<S: TokenSink<Token<A>>, A: Allocator>()
 /// errors exactly their tokens: a tag or a comment for each such piece, and each character of a text.
 /// Where errors are not exact, and no CR stands in its texts and values, there are no errors.
 pub fn whole_page<S: TokenSink<Token<A>>, A: Allocator>()
-    ensures messages { (rules : Rules) (K : Start) (s : S.State) (pieces : List Piece) → IsTable rules.names
+    ensures messages { (rules : Rules) (K : Start) (s : S.State) (pieces : List pieces.Piece) → IsTable rules.names
         → IsOpen K → list_all can_write pieces ≡ true → KeepsOn {S = S.State} S.means.reply pieces
         → all_messages S.means rules K s (page_text pieces)
         ≡ page_messages rules.exact K.input pieces
         ++ on_line (line_after K.input (normalised K.input (page_text pieces))) (End ∷ []) }
-    ensures tokens { (rules : Rules) (K : Start) (s : S.State) (pieces : List Piece) → IsTable rules.names
+    ensures tokens { (rules : Rules) (K : Start) (s : S.State) (pieces : List pieces.Piece) → IsTable rules.names
         → IsOpen K → list_all can_write pieces ≡ true → KeepsOn {S = S.State} S.means.reply pieces
         → proper (all_messages S.means rules K s (page_text pieces)) ≡ page_tokens pieces ++ End ∷ [] }
-    ensures silent { (rules : Rules) (K : Start) (s : S.State) (pieces : List Piece) → IsTable rules.names
+    ensures silent { (rules : Rules) (K : Start) (s : S.State) (pieces : List pieces.Piece) → IsTable rules.names
         → IsOpen K → list_all can_write pieces ≡ true → KeepsOn {S = S.State} S.means.reply pieces
         → rules.exact ≡ false → list_all is_without_return pieces ≡ true
         → tokens_of (all_messages S.means rules K s (page_text pieces)) ≡ page_tokens pieces ++ End ∷ [] }
@@ -100,5 +104,20 @@ pub fn read_back<S: TokenSink<Token<A>>, A: Allocator + Copy>(writer: &Writer<A>
 
 /// A piece is refused for some reason exactly where it can't be written.
 pub fn refusals()
-    ensures { (piece : Piece) → is_none (refusal_of piece) ≡ can_write piece }
+    ensures { (piece : pieces.Piece) → is_none (refusal_of piece) ≡ can_write piece }
 {}
+
+/// The tokens of a piece have the very bytes of its names, values and texts. It does nothing at run time.
+pub fn bytes(piece: &Piece<'_>)
+    ensures { piece_tokens (piece_of piece.now) ≡ tokens_said piece.now }
+{
+    match piece {
+        Piece::Text(_) => {}
+        Piece::StartTag { name, attributes } => {
+            is_text(name);
+            are_texts(attributes);
+        }
+        Piece::EndTag(name) => is_text(name),
+        Piece::Comment(text) => is_text(text),
+    }
+}

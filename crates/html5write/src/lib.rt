@@ -7,6 +7,7 @@ mod error;
 pub mod laws;
 mod piece;
 mod trail;
+mod utf8;
 mod writer;
 
 pub use crate::checks::refusal_of;
