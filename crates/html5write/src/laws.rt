@@ -68,8 +68,8 @@ pub fn comment<S: TokenSink<Token<A>>, A: Allocator>()
 /// A page that is written piece by piece, wherever it is put in Data, tells its pieces, and is read to
 /// where nothing is open: what follows it is read as it would be without it.
 pub fn page<S: TokenSink<Token<A>>, A: Allocator>()
-    ensures { (rules : Rules) (K : Start) (s : S.State) (pieces : List pieces.Piece) → IsTable rules.names → IsOpen K
-        → list_all can_write pieces ≡ true → KeepsOn {S = S.State} S.means.reply pieces
+    ensures { (rules : Rules) (K : Start) (s : S.State) (pieces : List pieces.Piece) → IsTable rules.names
+        → IsOpen K → list_all can_write pieces ≡ true → KeepsOn {S = S.State} S.means.reply pieces
         → TellsByItself S.means rules K s (page_text pieces) (page_messages rules.exact K.input pieces)
         (start_after_page K pieces) }
 {}
