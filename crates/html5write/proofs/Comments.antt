@@ -14,6 +14,7 @@ use Rattle.html5grammar.specs.Start.{Input, Start, Rules}
 use Rattle.html5grammar.specs.Start.Mode.{Data}
 use Rattle.html5grammar.specs.Start.Open.{Between}
 use Rattle.html5grammar.specs.Tag.{null_error}
+use Rattle.html5grammar.proofs.TextEnds.{ends_in-front, ends_in-append, ends_in-push, ends_in-other}
 use Rattle.html5items.specs.Anywhere.{TellsByItself, start_behind}
 use Rattle.html5items.specs.Comment.{IsComment, written, is_written, is_content, begins_with, occurs, behind_mark_error, null_state, spell_content, messages_of}
 use Rattle.html5items.specs.Comment.Ending.{Dashes}
@@ -21,7 +22,6 @@ use Rattle.html5items.specs.Comment.WrittenComment.{Proper}
 use Rattle.html5items.specs.Spelled.{Spelled, spell_silent, spelled_messages}
 use Rattle.html5items.proofs.ByItself.{trace-by_itself}
 use Rattle.html5items.proofs.Comment.Reading.{reads_comment}
-use Rattle.html5items.proofs.Comment.Text.{ends_in-front, ends_in-append, ends_in-push, ends_in-other}
 use Rattle.html5items.proofs.Tag.Values.{both-none}
 use Rattle.html5write.specs.Pieces.{piece_text, is_comment_character, can_follow_dash, has_lone_dashes, can_begin_comment, can_write, has_no_null}
 use Rattle.html5write.specs.Pieces.Piece.{CommentPiece}
