@@ -1,0 +1,68 @@
+-- A page that is written piece by piece tells its pieces.
+use Rattle.std.proofs.Common.{◌≡◌, ℕ, true, false, List, [], ◌∷◌, ◌++◌, refl, ap, sym, ◌∙◌, subst}
+use Rattle.std.specs.List.{list_all}
+use Rattle.std.proofs.lemmas.Bool.{and_parts}
+use Rattle.html5ever_interface.specs.Sink.{Means, Message, stepped, on_line}
+use Rattle.html5ever_interface.specs.Token.Told.{End}
+use Rattle.html5grammar.specs.EndOfInput.{late_at_end_of, open_at_end_of, told_at_end_of, tokens_at_end}
+use Rattle.html5grammar.specs.NormalisedText.{normalised, line_after, input_after}
+use Rattle.html5grammar.specs.Reading.{messages, told, all_messages, messages_so_far, start_after}
+use Rattle.html5grammar.specs.Start.{Input, Start, Rules}
+use Rattle.html5grammar.specs.Start.Mode.{Data}
+use Rattle.html5grammar.specs.Start.Open.{Between}
+use Rattle.html5grammar.proofs.InputLemmas.{input_after-append}
+use Rattle.html5grammar.proofs.ReadingLemmas.{reading-events, messages-at_end}
+use Rattle.html5grammar.proofs.Traces.{messages-append}
+use Rattle.html5items.specs.Anywhere.{TellsByItself, start_behind}
+use Rattle.markup5ever.specs.NamedReferences.{IsTable}
+use Rattle.html5write.specs.Pieces.{Piece, piece_text, page_text, can_write}
+use Rattle.html5write.specs.Pieces.Piece.{TextPiece, StartTagPiece, EndTagPiece, CommentPiece}
+use Rattle.html5write.specs.Told.{IsOpen, piece_messages, page_messages, last_after_piece, last_after_page, start_after_page, KeepsOnAfterPiece, KeepsOn}
+use Rattle.html5write.proofs.Comments.{no_break-comment, comment-told}
+use Rattle.html5write.proofs.Sequence.{in_sequence, told-alone, after-alone}
+use Rattle.html5write.proofs.Tags.{no_break-start_tag, no_break-end_tag, start_tag-told, end_tag-told}
+use Rattle.html5write.proofs.Texts.{no_break-text, none-told, text-told}
+
+no_break-piece : (input : Input) (piece : Piece) → can_write piece ≡ true → input.after_carriage_return ≡ false → (input_after input (piece_text piece)).after_carriage_return ≡ false
+no_break-piece input (TextPiece text) can h = no_break-text input text h
+no_break-piece input (StartTagPiece name attributes) can h = no_break-start_tag input name attributes can
+no_break-piece input (EndTagPiece name) can h = no_break-end_tag input name can
+no_break-piece input (CommentPiece text) can h = no_break-comment input text can
+
+module _ {X S H : Type 0} (means : Means X S H) (rules : Rules) where
+  piece-told : (K : Start) (s : S) (piece : Piece) → IsTable rules.names → IsOpen K → can_write piece ≡ true → KeepsOnAfterPiece means.reply piece
+      → TellsByItself means rules K s (piece_text piece) (piece_messages rules.exact K.input piece) (start_behind K (piece_text piece) (Between Data) (last_after_piece K.last_start_tag piece))
+  piece-told K s (TextPiece text) table here can keeps = text-told means rules K s text here can
+  piece-told K s (StartTagPiece name attributes) table here can keeps = start_tag-told means rules K s name attributes table here can keeps
+  piece-told K s (EndTagPiece name) table here can keeps = end_tag-told means rules K s name table here can keeps
+  piece-told K s (CommentPiece text) table here can keeps = comment-told means rules K s text here can
+
+  pub page-told : (K : Start) (s : S) (pieces : List Piece) → IsTable rules.names → IsOpen K → list_all can_write pieces ≡ true → KeepsOn means.reply pieces
+      → TellsByItself means rules K s (page_text pieces) (page_messages rules.exact K.input pieces) (start_after_page K pieces)
+  unfolding page_messages last_after_page
+  page-told K s [] table here can keeps = none-told means rules K s here.starts
+  page-told K s (piece ∷ pieces) table here can keeps =
+      let p = and_parts (can_write piece) (list_all can_write pieces) can in
+      let M : List Message = piece_messages rules.exact K.input piece in
+      let between : Start = start_behind K (piece_text piece) (Between Data) (last_after_piece K.last_start_tag piece) in
+      subst (λ input. TellsByItself means rules K s (piece_text piece ++ page_text pieces) (M ++ page_messages rules.exact between.input pieces) (record { opened = Between Data; last_start_tag = last_after_page between.last_start_tag pieces; input = input }))
+      (sym (input_after-append K.input (piece_text piece) (page_text pieces)))
+      (in_sequence means rules K s (piece_text piece) M between (page_text pieces) (page_messages rules.exact between.input pieces) (start_after_page between pieces)
+      (piece-told K s piece table here p.0 keeps.0)
+      (page-told between (stepped means.step s M) pieces table (record { starts = refl; no_break = no_break-piece K.input piece p.0 here.no_break }) p.1 keeps.1))
+
+  -- and by itself its end besides
+  pub page-reading : (K : Start) (s : S) (pieces : List Piece) → IsTable rules.names → IsOpen K → list_all can_write pieces ≡ true → KeepsOn means.reply pieces
+      → all_messages means rules K s (page_text pieces)
+      ≡ page_messages rules.exact K.input pieces ++ on_line (line_after K.input (normalised K.input (page_text pieces))) (End ∷ [])
+  unfolding late_at_end_of open_at_end_of told_at_end_of
+  page-reading K s pieces table here can keeps =
+      let Y : List ℕ = page_text pieces in
+      let M : List Message = page_messages rules.exact K.input pieces in
+      let line : ℕ = line_after K.input (normalised K.input Y) in
+      let item : TellsByItself means rules K s Y M (start_after_page K pieces) = page-told K s pieces table here can keeps in
+      ap messages (reading-events means.step means.reply means.foreign rules K s Y)
+      ∙ messages-append (told means.step means.reply means.foreign rules K s Y) _
+      ∙ ap (λ N. messages_so_far means rules K s Y ++ N) (messages-at_end means.step means.reply means.foreign rules K s Y)
+      ∙ ap (λ N. N ++ on_line line (tokens_at_end rules (start_after means rules K s Y).opened)) (told-alone means rules K s Y M (start_after_page K pieces) item)
+      ∙ ap (λ (k : Start). M ++ on_line line (tokens_at_end rules k.opened)) (after-alone means rules K s Y M (start_after_page K pieces) item)

@@ -1,0 +1,13 @@
+use Rattle.std.proofs.Common.{ap, ◌∙◌}
+use Rattle.html5grammar.specs.NormalisedText.{normalised, line_after}
+use Rattle.html5write.specs.Pieces.{page_text}
+use Rattle.html5write.specs.Told.{proper}
+use Rattle.html5write.proofs.Pages.{page-reading}
+use Rattle.html5write.proofs.ProperTokens.{proper-whole}
+use Rattle.html5write.proofs.laws.read_back.Goals as goal
+
+pub returns : goal.returns
+returns g c = λ rules K s table here keeps.
+    let pieces = c.args.writer.now in
+    ap proper (page-reading g.S.TokenSink.means rules K s pieces table here c.as_str-page.ensures.can keeps)
+    ∙ proper-whole rules.exact K.input pieces (line_after K.input (normalised K.input (page_text pieces)))

@@ -1,0 +1,5 @@
+pub mod Escaped
+pub mod Pieces
+pub mod Told
+pub mod Writing
+pub mod Refusals

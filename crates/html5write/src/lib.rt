@@ -1,0 +1,16 @@
+//! Pages that are written piece by piece, and read again as what they were written for.
+#![tactic(auto)]
+
+mod appending;
+mod checks;
+mod error;
+pub mod laws;
+mod piece;
+mod trail;
+mod utf8;
+mod writer;
+
+pub use crate::checks::refusal_of;
+pub use crate::error::WriteError;
+pub use crate::piece::{Attribute, Piece};
+pub use crate::writer::Writer;

@@ -1,0 +1,117 @@
+//! A writer of pages.
+ghost use Rattle.std.specs.Prelude.{◌≡◌, ◌++◌, ◌∷◌, [], List, IfOk, IsOkUnless, None, OnErr, OnOk, chars, encode_utf8_all, map, string_bytes, true};
+ghost use Rattle.std.specs.List.{list_all};
+ghost use Rattle.html5write.specs.Pieces as pieces;
+ghost use Rattle.html5write.specs.Pieces.{can_write, page_text, piece_text};
+ghost use Rattle.html5write.specs.Pieces.Piece.{CommentPiece, EndTagPiece, StartTagPiece, TextPiece};
+ghost use Rattle.html5write.specs.Refusals.{refusal_of};
+ghost use Rattle.html5write.specs.Writing.{IsPage, Writes, attribute_of, piece_of};
+ghost use Rattle.html5write.specs.declared.error.WriteError.TheVariants.{Memory};
+
+use crate::appending::push_piece;
+use crate::checks::refusal_of;
+use crate::error::WriteError;
+use crate::piece::{Attribute, Piece};
+use crate::trail::Trail;
+use std::alloc::{Allocator, Global};
+use std::marker::Model;
+
+/// A page that is written piece by piece. Contracts see the pieces that it has, in order: all of them can
+/// be written, and so `laws::page` and `laws::whole_page` say how the page is read.
+#[derive(Drop)]
+pub struct Writer<A: Allocator = Global> {
+    page: String<A>,
+    // The piece that is being written, until it is whole.
+    piece: String<A>,
+    trail: Trail,
+}
+
+impl<A: Allocator> Model for Writer<A> {
+    ghost Value = { List pieces.Piece };
+
+    ghost view = { λ w. w.trail.pieces };
+
+    ghost invariant = { λ w. IsPage (string_bytes w.page) w.trail.pieces };
+}
+
+impl<A: Allocator + Copy> Writer<A> {
+    /// A writer of a page on which nothing stands yet.
+    pub fn new(alloc: A) -> Writer<A>
+        ensures { result ≡ [] }
+    {
+        Writer {
+            page: String::new(alloc),
+            piece: String::new(alloc),
+            trail: Trail::new(),
+        }
+    }
+
+    /// Writes a piece after the others. Where it is refused, nothing is written.
+    pub fn write(&mut self, piece: &Piece<'_>) -> Result<(), WriteError>
+        ensures { Writes result self.old self.new (piece_of piece.now) }
+    {
+        match refusal_of(piece) {
+            Some(error) => Err(error),
+            None => self.put(piece),
+        }
+    }
+
+    // Puts a piece that can be written after the others.
+    fn put(&mut self, piece: &Piece<'_>) -> Result<(), WriteError>
+        requires { refusal_of (piece_of piece.now) ≡ None }
+        ensures written { OnOk result (self.new ≡ self.old ++ piece_of piece.now ∷ []) }
+        ensures unchanged { OnErr result (self.new ≡ self.old) }
+        ensures memory { IsOkUnless result Memory }
+    {
+        self.piece.clear();
+        push_piece(&mut self.piece, piece)?;
+        self.page.push_str(self.piece.as_str())?;
+        self.trail.add(piece);
+        Ok(())
+    }
+
+    /// Writes a text, as it is to be read.
+    pub fn text(&mut self, text: &str) -> Result<(), WriteError>
+        ensures { Writes result self.old self.new (TextPiece (chars text.now)) }
+    {
+        self.write(&Piece::Text(text))
+    }
+
+    /// Writes a start tag with these attributes, whose values are as they are to be read.
+    pub fn start_tag(&mut self, name: &str, attributes: &[Attribute<'_>]) -> Result<(), WriteError>
+        ensures { Writes result self.old self.new
+            (StartTagPiece (chars name.now) (map attribute_of attributes.now)) }
+    {
+        self.write(&Piece::StartTag { name, attributes })
+    }
+
+    /// Writes an end tag.
+    pub fn end_tag(&mut self, name: &str) -> Result<(), WriteError>
+        ensures { Writes result self.old self.new (EndTagPiece (chars name.now)) }
+    {
+        self.write(&Piece::EndTag(name))
+    }
+
+    /// Writes a comment.
+    pub fn comment(&mut self, text: &str) -> Result<(), WriteError>
+        ensures { Writes result self.old self.new (CommentPiece (chars text.now)) }
+    {
+        self.write(&Piece::Comment(text))
+    }
+
+    /// The page as it stands.
+    pub fn as_str(&self) -> &str
+        ensures page { chars result.now ≡ page_text self.now }
+        ensures can { list_all can_write self.now ≡ true }
+    {
+        self.page.as_str()
+    }
+
+    /// The page.
+    pub fn into_string(self) -> String<A>
+        ensures page { chars (string_bytes result) ≡ page_text self }
+        ensures can { list_all can_write self ≡ true }
+    {
+        self.page
+    }
+}
