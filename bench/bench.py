@@ -3,7 +3,7 @@
 
     python3 bench/bench.py [--quick] [--real] [--program PATH] [--without-beside]
 
-html5ever is Debian's package of it, behind a program of ours that prints the same lines (beside/main.rs); build.py
+html5ever is Debian's package of it, under a program of ours that prints the same lines (beside/main.rs); build.py
 builds it anew in each call. Where it can't be built, html5tok is timed alone. A time is the processor time of a
 process, user and system, the best of some runs in which the programs take turns. MB are 1,000,000 bytes.
 """
@@ -194,12 +194,12 @@ def beside(folder):
     """The program over html5ever, in a list, or an empty one where it can't be built."""
     folder.mkdir()
     try:
-        program, words = build.build(folder)
+        programs, words = build.build(folder)
     except build.CannotBuild as error:
         print(f"html5ever is left out: {error}", file=sys.stderr)
         return []
     print(f"Beside {words}.")
-    return [program]
+    return [programs / "beside"]
 
 
 def main():

@@ -1,10 +1,10 @@
-"""Builds beside/main.rs over html5ever as Debian packs it, in a scratch folder and without the network."""
+"""Builds the programs of beside/ over html5ever as Debian packs it, in a scratch folder and without the network."""
 
 import pathlib
 import shutil
 import subprocess
 
-MAIN = pathlib.Path(__file__).resolve().parent / "beside" / "main.rs"
+SOURCES = pathlib.Path(__file__).resolve().parent / "beside"
 REGISTRY = pathlib.Path("/usr/share/cargo/registry")
 INSTALL = "apt-get install librust-html5ever-dev"
 
@@ -56,10 +56,11 @@ def copy_tendril(folder):
 
 
 def lay_out(folder):
-    """The files of a crate that has beside/main.rs as its program."""
-    (folder / "src").mkdir()
+    """The files of a crate that has the sources of beside/ as its programs."""
+    (folder / "src" / "bin").mkdir(parents=True)
     (folder / ".cargo").mkdir()
-    shutil.copy(MAIN, folder / "src" / "main.rs")
+    shutil.copy(SOURCES / "main.rs", folder / "src" / "main.rs")
+    shutil.copy(SOURCES / "pages.rs", folder / "src" / "bin" / "pages.rs")
     (folder / "Cargo.toml").write_text(MANIFEST)
     (folder / ".cargo" / "config.toml").write_text(CONFIG)
     copy_tendril(folder)
@@ -77,9 +78,9 @@ def said(words, folder):
 
 
 def build(folder):
-    """Builds the program in an empty folder; answers its path, and in words what it was built from."""
+    """Builds the programs in an empty folder; answers where they are, and in words what they were built from."""
     name = packed("html5ever").name.replace("-", " ")
     lay_out(folder)
     said(["cargo", "build", "--offline", "--release", "--quiet", "--target-dir", "target"], folder)
     compiler = " ".join(said(["rustc", "--version"], folder).split()[:2])
-    return folder / "target" / "release" / "beside", f"{name}, built by {compiler}"
+    return folder / "target" / "release", f"{name}, built by {compiler}"

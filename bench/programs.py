@@ -1,28 +1,31 @@
 #!/usr/bin/env python3
-"""Times html5links and html5text, which read pages as they arrive, and prints a table of their time and memory.
+"""Times html5links and html5text beside a program of the same work over html5ever, and prints a table.
 
-    python3 bench/programs.py [--quick]
+    python3 bench/programs.py [--quick] [--real]
 
-A time is the processor time of a process, user and system, the best of some runs. The peak of memory is read where all
-but the end of the input was handed in. MB are 1,000,000 bytes.
+All read pages as they arrive. A time is the processor time of a process, user and system, the best of some runs in
+which the programs take turns. The peak of memory is read where all but the end of the input was handed in. MB are
+1,000,000 bytes. Where html5ever can't be built the programs are timed alone.
 """
 
 import argparse
 import os
 import pathlib
 import subprocess
+import sys
 import tempfile
 
+import build
 import corpora
 import measure
 
 CRATES = pathlib.Path(__file__).resolve().parent.parent / "crates"
-NAMES = CRATES / "html5text" / "data" / "names.txt"
+PROGRAMS = {"html5links": "links", "html5text": "text"}
 
 
-def peak_memory(program, words, corpus):
-    """The most memory that a program had behind the whole input, in bytes."""
-    process = subprocess.Popen([program, *words], stdin=subprocess.PIPE, stdout=subprocess.DEVNULL)
+def peak_memory(program, corpus):
+    """The most memory that a program had after the whole input, in bytes."""
+    process = subprocess.Popen([program], stdin=subprocess.PIPE, stdout=subprocess.DEVNULL)
     with process.stdin, open(corpus, "rb") as source:
         while piece := source.read(1 << 16):
             process.stdin.write(piece)
@@ -33,24 +36,74 @@ def peak_memory(program, words, corpus):
     return peak
 
 
+def without_number(line):
+    """A printed link, without the number of its line."""
+    return line.split(b" ", 1)[-1]
+
+
+def difference(name, turns):
+    """In words how many lines of the outputs of two turns differ, in more than a number where they are links."""
+    files = []
+    for number, (program, words, corpus) in enumerate(turns):
+        files.append(corpus.with_suffix(f".{number}"))
+        measure.print_to(program, words, corpus, files[-1])
+    kept = without_number if name == "html5links" else bytes
+    return f"{measure.lines_apart(*files, kept):,}"
+
+
+def print_program(name, corpus, beside, runs):
+    """Prints the row of a program and a corpus."""
+    program = CRATES / name / "out" / name
+    turns = [(program, [], corpus)]
+    if beside:
+        turns.append((beside, [PROGRAMS[name]], corpus))
+    size = corpus.stat().st_size / corpora.MB
+    ours, *theirs = measure.best_times(turns, runs)
+    peak = peak_memory(program, corpus) / corpora.MB
+    cells = [f"`{name}`", f"{size:.0f}", f"{ours:.2f}", f"{size / ours:.0f}", f"{peak:.1f}"]
+    for seconds in theirs:
+        cells += [f"{seconds:.2f}", f"{seconds / ours:.2f}", difference(name, turns)]
+    print(f"| {' | '.join(cells)} |", flush=True)
+
+
+def built_beside(folder):
+    """The program over html5ever, or none where it can't be built."""
+    folder.mkdir()
+    try:
+        programs, words = build.build(folder)
+    except build.CannotBuild as error:
+        print(f"html5ever is left out: {error}", file=sys.stderr)
+        return None
+    print(f"Beside {words}.\n")
+    return programs / "pages"
+
+
+def texts(chosen):
+    """The pages to read, each made when it is asked for."""
+    if chosen.real:
+        yield corpora.real_pages() or sys.exit("the packages can't be fetched: `apt-get update`, and then again")
+        return
+    for megabytes in [1, 4] if chosen.quick else [1, 10, 100]:
+        yield corpora.full_pages(megabytes)
+
+
 def main():
     parser = argparse.ArgumentParser(description=__doc__.splitlines()[0])
     parser.add_argument("--quick", action="store_true", help="smaller pages, fewer runs")
-    quick = parser.parse_args().quick
-    sizes, runs = ([1, 4], 2) if quick else ([1, 10, 100], 3)
-    print("| Program | MB | Seconds | MB/s | Peak, MB |")
-    print("|---|---|---|---|---|")
-    with tempfile.TemporaryDirectory() as folder:
-        corpus = pathlib.Path(folder) / "pages"
-        for megabytes in sizes:
-            corpus.write_bytes(corpora.full_pages(megabytes))
-            size = corpus.stat().st_size / corpora.MB
-            for name in ("html5links", "html5text"):
-                program = CRATES / name / "out" / name
-                words = ["--names", str(NAMES)]
-                (seconds,) = measure.best_times([(program, words, corpus)], runs)
-                peak = peak_memory(program, words, corpus) / corpora.MB
-                print(f"| `{name}` | {size:.0f} | {seconds:.2f} | {size / seconds:.0f} | {peak:.1f} |", flush=True)
+    parser.add_argument("--real", action="store_true", help="real pages, from Debian's documentation packages")
+    chosen = parser.parse_args()
+    with tempfile.TemporaryDirectory() as name:
+        folder = pathlib.Path(name)
+        beside = built_beside(folder / "beside")
+        header = ["Program", "MB", "Seconds", "MB/s", "Peak, MB"]
+        if beside:
+            header += ["html5ever, s", "Ratio", "Lines that differ"]
+        print(f"| {' | '.join(header)} |\n|{'---|' * len(header)}")
+        corpus = folder / "pages"
+        for text in texts(chosen):
+            corpus.write_bytes(text)
+            for program in PROGRAMS:
+                print_program(program, corpus, beside, 2 if chosen.quick else 3)
 
 
 if __name__ == "__main__":
