@@ -1,0 +1,100 @@
+-- What a sink of records makes of what it is told.
+--
+-- The abstract state is all that was ever written, and whether a text is open at its end: it is the same whether bytes were
+-- taken or not. A text is written as it is told and ends where another token comes, so that two adjacent texts are as one.
+use Rattle.std.specs.Prelude.{◌≡◌, ℕ, ◌-◌, ◌^◌, ◌≤◌, min, Bool, true, false, List, [], ◌∷◌, ◌++◌, length, take, drop}
+use Rattle.html5events.specs.Records.{text_end, record_of}
+use Rattle.html5ever_interface.specs.Collected.{with_told}
+use Rattle.html5ever_interface.specs.Sink.{Message, stepped}
+use Rattle.html5ever_interface.specs.Token.{Told, Reply}
+use Rattle.html5ever_interface.specs.Token.Told.{Text}
+use Rattle.html5ever_interface.specs.Token.Reply.{KeepOn}
+use Rattle.html5sinks.specs.Replies.{standard_reply}
+use Rattle.html5sinks.specs.Runs.{reply_where_tag}
+
+-- the abstract state of the sink
+pub record Recorded : Type 0 where
+  -- the bytes written so far
+  pub bytes : List ℕ
+  -- a text is open at their end
+  pub in_text : Bool
+  -- whether tags are replied to as the standard asks, and the answer about foreign content
+  pub replies : Bool
+  pub foreign : Bool
+
+-- a sink: what it wrote, of which so much was taken and the rest waits, and how many tokens could not be written
+pub record Events : Type 0 where
+  pub recorded : Recorded
+  pub taken : List ℕ
+  pub waiting : List ℕ
+  pub faults : ℕ
+
+-- nothing written
+abbrev pub none_recorded : Bool → Bool → Recorded
+none_recorded replies foreign = record { bytes = []; in_text = false; replies = replies; foreign = foreign }
+
+abbrev pub no_events : Bool → Bool → Events
+no_events replies foreign = record { recorded = none_recorded replies foreign; taken = []; waiting = []; faults = 0 }
+
+-- what comes before the first bytes of a text, where `in_text` says that a text is open
+abbrev pub text_opening : Bool → List ℕ
+text_opening true = []
+text_opening false = 3 ∷ []
+
+-- what comes before the record of another token
+abbrev pub text_closing : Bool → List ℕ
+text_closing true = text_end ∷ []
+text_closing false = []
+
+-- what a text adds
+unfoldable pub added_by_text : Bool → List ℕ → List ℕ
+added_by_text in_text [] = []
+added_by_text in_text (b ∷ bs) = text_opening in_text ++ b ∷ bs
+
+-- what a token adds
+unfoldable pub added_by : Bool → Told → ℕ → List ℕ
+added_by in_text (Text text) line = added_by_text in_text text
+added_by in_text other line = text_closing in_text ++ record_of other line
+
+-- whether a text is open after a token
+unfoldable pub open_after : Bool → Told → Bool
+open_after in_text (Text []) = in_text
+open_after in_text (Text (b ∷ bs)) = true
+open_after in_text other = false
+
+unfoldable pub recorded_step : Recorded → Told → ℕ → Recorded
+recorded_step r told line =
+    record r { bytes = r.bytes ++ added_by r.in_text told line; in_text = open_after r.in_text told }
+
+-- the reply to what is told: where none is wanted it is to read on
+abbrev pub reply_where : Bool → Told → Reply (Unit {0})
+reply_where true told = reply_where_tag standard_reply told
+reply_where false told = KeepOn
+
+abbrev pub recorded_reply : Recorded → Told → ℕ → Reply (Unit {0})
+recorded_reply r told line = reply_where r.replies told
+
+-- the answer about foreign content
+abbrev pub recorded_foreign : Recorded → Bool
+recorded_foreign r = r.foreign
+
+-- a token that could not be written leaves nothing
+abbrev pub recorded_faulted : Recorded → Told → ℕ → Recorded
+recorded_faulted r told line = r
+
+-- what a sink keeps of the bytes of its page, of which so many were skipped, and of how many were taken
+pub record Keeps (page : List ℕ) (skipped : ℕ) (taken : List ℕ) (count : ℕ) : Type 0 where
+  pub within : skipped ≤ length page
+  pub counted : count ≡ min (length taken) (2 ^ 64 - 1)
+
+-- the sink once so many bytes of what waits were taken
+abbrev pub after_taking : Events → ℕ → Events
+after_taking e count = record e { taken = e.taken ++ take count e.waiting; waiting = drop count e.waiting }
+
+-- all that was written, once the open text is ended
+abbrev pub closed_bytes : Recorded → List ℕ
+closed_bytes r = r.bytes ++ text_closing r.in_text
+
+-- messages with their texts joined, where empty texts are gone, and the line of a text is 0
+abbrev pub joined : List Message → List Message
+joined messages = stepped with_told [] messages

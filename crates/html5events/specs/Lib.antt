@@ -1,0 +1,5 @@
+pub mod Records
+pub mod Reading
+pub mod ReadRecords
+pub mod Events
+pub mod EventLaws

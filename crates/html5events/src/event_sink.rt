@@ -1,0 +1,252 @@
+//! A sink that writes what it is told as records of bytes.
+ghost use Rattle.std.specs.Prelude.{◌≡◌, ℕ, false, List, [], ◌∷◌, ◌+◌, ◌-◌, ◌/◌, ◌^◌, ◌≤◌, ◌++◌, length, take, drop, min, vec_len, string_bytes, OnOk, OnErr};
+ghost use Rattle.html5events.specs.Events.{Recorded, no_events, reply_where, added_by, recorded_step, closed_bytes, joined, after_taking};
+ghost use Rattle.html5events.specs.Records.{records_of, BeginsWith};
+ghost use Rattle.html5ever_interface.specs.Sink.{Message, stepped};
+ghost use Rattle.html5ever_interface.specs.Token.Told.{End};
+ghost use Rattle.html5ever_interface.specs.Token.{told_by, reply_of};
+
+use crate::records::{is_open_after, push_token};
+use ghost_counts::{Count, Log};
+use html5ever_interface::interface::sink::TokenSink;
+use html5ever_interface::interface::token::{SinkFault, Token, TokenSinkResult};
+use html5sinks::replies::standard_reply;
+use std::alloc::{AllocError, Allocator, Global};
+use std::marker::Model;
+
+/// What a sink of records answers to the tokenizer.
+#[derive(Clone, Copy, Debug, PartialEq, Eq, Default)]
+pub struct EventOptions {
+    /// Whether tags are replied to as the standard asks by their elements, so that what stands in
+    /// `script`, `style`, `title` and their like is no markup. It never pauses.
+    pub replies: bool,
+    /// The answer about the current node, at each call.
+    pub foreign: bool,
+}
+
+// The reply to a token, where one is wanted.
+fn reply_where<A: Allocator>(replies: bool, token: &Token<A>) -> TokenSinkResult<(), String<A>>
+    ensures { reply_of string_bytes result ≡ reply_where replies (told_by token.now) }
+{
+    match token {
+        Token::TagToken(tag) if replies => standard_reply(tag),
+        _ => TokenSinkResult::Continue,
+    }
+}
+
+// Appends what a token adds, or nothing.
+fn push_whole_token<A: Allocator>(
+    page: &mut Vec<u8, A>,
+    in_text: bool,
+    token: &Token<A>,
+    line: u64,
+) -> Result<(), AllocError>
+    ensures ok { OnOk result
+        (page.new.items ≡ page.old.items ++ added_by in_text (told_by token.now) line) }
+    ensures err { OnErr result (page.new.items ≡ page.old.items) }
+{
+    let written = page.len();
+    match push_token(page, in_text, token, line) {
+        Ok(()) => Ok(()),
+        Err(AllocError) => {
+            page.truncate(written);
+            Err(AllocError)
+        }
+    }
+}
+
+// What is left of the bytes once so many were skipped.
+fn rest_of<A: Allocator>(page: &Vec<u8, A>, skipped: usize) -> &[u8]
+    requires { skipped ≤ vec_len page.now }
+    ensures { result.now ≡ drop skipped page.now.items }
+{
+    &page[skipped..]
+}
+
+// Lets so many bytes at the front go. What is left moves up.
+fn drop_front<A: Allocator>(page: &mut Vec<u8, A>, count: usize)
+    requires { count ≤ vec_len page.old }
+    ensures { page.new.items ≡ drop count page.old.items }
+{
+    let rest = page.len() - count;
+    page.copy_within(count.., 0);
+    page.truncate(rest);
+}
+
+// Counts so many more bytes as skipped. What is left moves up once more than half is skipped, so that each byte moves
+// at most once for each byte that is skipped.
+fn skip_front<A: Allocator>(page: &mut Vec<u8, A>, skipped: &mut usize, count: usize)
+    requires { skipped.old + count ≤ vec_len page.old }
+    ensures rest { drop skipped.new page.new.items ≡ drop (skipped.old + count) page.old.items }
+    ensures within { skipped.new ≤ vec_len page.new / 2 }
+{
+    *skipped += count;
+    if *skipped > page.len() / 2 {
+        drop_front(page, *skipped);
+        *skipped = 0;
+    }
+}
+
+/// What is written for messages is their records, one after the other, where adjacent texts are one and an empty text has
+/// none: once the last text is ended, and at once where the messages end with the end of the input. What was written
+/// before stays in front.
+pub fn writes_records()
+    ensures begins { (r : Recorded) (M : List Message) →
+        BeginsWith (stepped recorded_step r M).bytes r.bytes }
+    ensures closed { (r : Recorded) (M : List Message) → r.in_text ≡ false
+        → closed_bytes (stepped recorded_step r M) ≡ r.bytes ++ records_of (joined M) }
+    ensures ended { (r : Recorded) (M N : List Message) (line : ℕ) → r.in_text ≡ false
+        → M ≡ N ++ record { token = End; line = line } ∷ []
+        → (stepped recorded_step r M).bytes ≡ r.bytes ++ records_of (joined M) }
+{}
+
+/// Writes what it is told as records: a text as it comes, and any other token at once. The bytes wait in the sink until
+/// they are taken. A token whose bytes find no memory is a fault, and leaves none of them.
+#[derive(Drop)]
+pub struct EventSink<A: Allocator = Global> {
+    page: Vec<u8, A>,
+    // How many bytes of the page were taken.
+    skipped: usize,
+    in_text: bool,
+    replies: bool,
+    foreign: bool,
+    taken: Log,
+    taken_len: u64,
+    faults: Count,
+}
+
+impl<A: Allocator> Model for EventSink<A> {
+    ghost use Rattle.std.specs.Prelude.{◌++◌, drop};
+    ghost use Rattle.html5events.specs.Events.{Events, Keeps};
+
+    ghost Value = { Events };
+
+    ghost view = { λ s. record {
+      recorded = record {
+        bytes = s.taken.bytes ++ drop s.skipped s.page.items;
+        in_text = s.in_text;
+        replies = s.replies;
+        foreign = s.foreign;
+      };
+      taken = s.taken.bytes;
+      waiting = drop s.skipped s.page.items;
+      faults = s.faults.total;
+    } };
+
+    ghost invariant = { λ s. Keeps s.page.items s.skipped s.taken.bytes s.taken_len };
+}
+
+impl<A: Allocator> EventSink<A> {
+    /// A sink that was told nothing.
+    pub fn new(alloc: A, options: EventOptions) -> EventSink<A>
+        ensures { result ≡ no_events options.replies options.foreign }
+    {
+        EventSink {
+            page: Vec::new(alloc),
+            skipped: 0,
+            in_text: false,
+            replies: options.replies,
+            foreign: options.foreign,
+            taken: Log::new(),
+            taken_len: 0,
+            faults: Count::new(),
+        }
+    }
+
+    /// The bytes that were not taken yet: they go on waiting. With those that were taken they are all that was written.
+    pub fn waiting(&self) -> &[u8]
+        ensures waiting { result.now ≡ self.now.waiting }
+        ensures written { self.now.taken ++ result.now ≡ self.now.recorded.bytes }
+    {
+        rest_of(&self.page, self.skipped)
+    }
+
+    /// How many bytes were taken so far. It stays at the largest `u64`.
+    pub fn taken_len(&self) -> u64
+        ensures count { result ≡ min (length self.now.taken) (2 ^ 64 - 1) }
+        ensures written { self.now.taken ++ self.now.waiting ≡ self.now.recorded.bytes }
+    {
+        self.taken_len
+    }
+
+    /// Takes so many bytes of what waits. The abstract state stays.
+    pub fn skip(&mut self, count: usize)
+        requires { count ≤ length self.old.waiting }
+        ensures taken { self.new ≡ after_taking self.old count }
+        ensures state { self.new.recorded ≡ self.old.recorded }
+    {
+        let front = rest_of(&self.page, self.skipped);
+        self.taken.add(&front[..count]);
+        self.taken_len = self.taken_len.saturating_add(count as u64);
+        skip_front(&mut self.page, &mut self.skipped, count);
+    }
+
+    /// Takes as many bytes of what waits as there is room for, and copies them. It answers how many. A record may be cut
+    /// in two: what is left of it comes first at the next call.
+    pub fn take(&mut self, into: &mut [u8]) -> usize
+        ensures count { result ≡ min (length into.old) (length self.old.waiting) }
+        ensures copied { into.new ≡ take result self.old.waiting ++ drop result into.old }
+        ensures taken { self.new ≡ after_taking self.old result }
+        ensures state { self.new.recorded ≡ self.old.recorded }
+    {
+        let waiting = self.waiting();
+        let count = into.len().min(waiting.len());
+        into[..count].copy_from_slice(&waiting[..count]);
+        self.skip(count);
+        count
+    }
+}
+
+impl<A: Allocator + Copy> TokenSink<Token<A>> for EventSink<A> {
+    ghost use Rattle.html5events.specs.Events.{Recorded, recorded_step, recorded_reply, recorded_foreign, recorded_faulted};
+    ghost use Rattle.html5events.specs.EventLaws.{recorded_joins, recorded_empty, recorded_any_line, recorded_keeps_on};
+
+    type Handle = ();
+
+    ghost State = { Recorded };
+
+    ghost means = { record {
+      state = λ s. s.recorded;
+      step = recorded_step;
+      reply = recorded_reply;
+      foreign = recorded_foreign;
+      finish = λ r. r;
+      faulted = recorded_faulted;
+      end_faulted = λ r. r;
+    } };
+
+    ghost faults = { λ s. s.faults };
+
+    ghost joins = { recorded_joins };
+
+    ghost empty = { recorded_empty };
+
+    ghost any_line = { recorded_any_line };
+
+    ghost keeps_on = { recorded_keeps_on };
+
+    fn process_token(
+        &mut self,
+        token: Token<A>,
+        line_number: u64,
+    ) -> Result<TokenSinkResult<(), String<A>>, SinkFault> {
+        match push_whole_token(&mut self.page, self.in_text, &token, line_number) {
+            Ok(()) => {
+                self.in_text = is_open_after(self.in_text, &token);
+                Ok(reply_where(self.replies, &token))
+            }
+            Err(AllocError) => {
+                self.faults.add(1);
+                Err(SinkFault)
+            }
+        }
+    }
+
+    fn end(&mut self) -> Result<(), SinkFault> {
+        Ok(())
+    }
+
+    fn adjusted_current_node_present_but_not_in_html_namespace(&self) -> bool {
+        self.foreign
+    }
+}
