@@ -1,0 +1,5 @@
+pub mod Policy
+pub mod Addresses
+pub mod Allowed
+pub mod Clean
+pub mod Kept

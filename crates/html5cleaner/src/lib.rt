@@ -1,0 +1,13 @@
+//! Pages that are cleaned: allowed elements and attributes are kept, and the rest is not.
+#![tactic(auto)]
+
+mod addresses;
+mod attributes;
+mod cleaner;
+mod hidden;
+mod kept;
+mod policy;
+
+pub use crate::addresses::is_safe_address;
+pub use crate::cleaner::Cleaner;
+pub use crate::policy::{is_allowed, is_hider, is_kept};
