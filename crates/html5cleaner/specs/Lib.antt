@@ -3,3 +3,4 @@ pub mod Addresses
 pub mod Allowed
 pub mod Clean
 pub mod Kept
+pub mod Reading

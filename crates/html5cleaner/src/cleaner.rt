@@ -1,6 +1,8 @@
 //! A handler that writes what is kept of a page.
-ghost use Rattle.std.specs.Prelude.{◌≡◌, ◌++◌, OnErr, OnOk};
+ghost use Rattle.std.specs.Prelude.{◌≡◌, ◌++◌, OnErr, OnOk, true};
+ghost use Rattle.std.specs.List.{list_all};
 ghost use Rattle.html5ever_interface.specs.Token.{told_by};
+ghost use Rattle.html5cleaner.specs.Allowed.{is_clean};
 ghost use Rattle.html5cleaner.specs.Clean.{at_start, kept, kept_where};
 
 use crate::attributes::kept_attributes;
@@ -22,11 +24,16 @@ pub struct Cleaner<A: Allocator = Global> {
 }
 
 impl<A: Allocator> Model for Cleaner<A> {
+    ghost use Rattle.std.specs.Prelude.{◌≡◌, true};
+    ghost use Rattle.std.specs.List.{list_all};
+    ghost use Rattle.html5cleaner.specs.Allowed.{is_clean};
     ghost use Rattle.html5cleaner.specs.Clean.{Cleaned, hidden_of};
 
     ghost Value = { Cleaned };
 
     ghost view = { λ c. record { pieces = c.page; hidden = hidden_of c.hidden } };
+
+    ghost invariant = { λ c. list_all is_clean c.page ≡ true };
 }
 
 impl<A: Allocator + Copy> Cleaner<A> {
@@ -41,9 +48,10 @@ impl<A: Allocator + Copy> Cleaner<A> {
         }
     }
 
-    /// The page.
+    /// The page. All of its pieces are clean, and so `laws::cleaned_page` says how it is read.
     pub fn into_page(self) -> Writer<A>
-        ensures { result ≡ self.pieces }
+        ensures page { result ≡ self.pieces }
+        ensures clean { list_all is_clean result ≡ true }
     {
         self.page
     }

@@ -6,6 +6,7 @@ mod attributes;
 mod cleaner;
 mod hidden;
 mod kept;
+pub mod laws;
 mod policy;
 
 pub use crate::addresses::is_safe_address;

@@ -9,7 +9,10 @@ use crate::addresses::is_safe_address;
 fn is_phrase(name: &str) -> bool
     ensures { result ≡ is_phrase name.now }
 {
-    matches!(name, "a" | "abbr" | "b" | "br" | "cite" | "code" | "em" | "i" | "img" | "kbd" | "mark" | "q")
+    matches!(
+        name,
+        "a" | "abbr" | "b" | "br" | "cite" | "code" | "em" | "i" | "img" | "kbd" | "mark" | "q"
+    )
 }
 
 // More of them.
@@ -17,7 +20,21 @@ fn is_phrase(name: &str) -> bool
 fn is_small_phrase(name: &str) -> bool
     ensures { result ≡ is_small_phrase name.now }
 {
-    matches!(name, "del" | "ins" | "s" | "samp" | "small" | "span" | "strong" | "sub" | "sup" | "u" | "var" | "wbr")
+    matches!(
+        name,
+        "del"
+            | "ins"
+            | "s"
+            | "samp"
+            | "small"
+            | "span"
+            | "strong"
+            | "sub"
+            | "sup"
+            | "u"
+            | "var"
+            | "wbr"
+    )
 }
 
 // Blocks and headings.
@@ -25,7 +42,10 @@ fn is_small_phrase(name: &str) -> bool
 fn is_block(name: &str) -> bool
     ensures { result ≡ is_block name.now }
 {
-    matches!(name, "blockquote" | "div" | "h1" | "h2" | "h3" | "h4" | "h5" | "h6" | "hr" | "p" | "pre")
+    matches!(
+        name,
+        "blockquote" | "div" | "h1" | "h2" | "h3" | "h4" | "h5" | "h6" | "hr" | "p" | "pre"
+    )
 }
 
 // Lists.
@@ -41,7 +61,10 @@ fn is_list_part(name: &str) -> bool
 fn is_table_part(name: &str) -> bool
     ensures { result ≡ is_table_part name.now }
 {
-    matches!(name, "caption" | "table" | "tbody" | "td" | "tfoot" | "th" | "thead" | "tr")
+    matches!(
+        name,
+        "caption" | "table" | "tbody" | "td" | "tfoot" | "th" | "thead" | "tr"
+    )
 }
 
 /// Whether an element of this name is kept.
@@ -77,7 +100,22 @@ pub fn is_foreign(name: &str) -> bool
 pub fn is_hider(name: &str) -> bool
     ensures { result ≡ is_hider name.now }
 {
-    matches!(name, "iframe" | "math" | "noembed" | "noframes" | "noscript" | "plaintext" | "script" | "style" | "svg" | "template" | "textarea" | "title" | "xmp")
+    matches!(
+        name,
+        "iframe"
+            | "math"
+            | "noembed"
+            | "noframes"
+            | "noscript"
+            | "plaintext"
+            | "script"
+            | "style"
+            | "svg"
+            | "template"
+            | "textarea"
+            | "title"
+            | "xmp"
+    )
 }
 
 // Whether an attribute of this name is kept in each element.

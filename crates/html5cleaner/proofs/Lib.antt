@@ -1,0 +1,3 @@
+pub mod CleanPieces
+pub mod Replies
+pub mod Tokens

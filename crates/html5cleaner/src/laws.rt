@@ -1,0 +1,39 @@
+//! How a cleaned page is read.
+ghost use Rattle.std.specs.Prelude.{◌≡◌, ℕ, List, [], ◌∷◌, ◌++◌, true};
+ghost use Rattle.std.specs.List.{list_all};
+ghost use Rattle.html5ever_interface.specs.Token.{Told};
+ghost use Rattle.html5ever_interface.specs.Token.Told.{End};
+ghost use Rattle.html5grammar.specs.Reading.{all_messages};
+ghost use Rattle.html5grammar.specs.Start.{Start, Rules};
+ghost use Rattle.markup5ever.specs.NamedReferences.{IsTable};
+ghost use Rattle.html5write.specs.Pieces.{Piece, page_text};
+ghost use Rattle.html5write.specs.Told.{IsOpen, page_tokens, proper};
+ghost use Rattle.html5cleaner.specs.Allowed.{is_clean};
+ghost use Rattle.html5cleaner.specs.Clean.{Cleaned, at_start, clean_step};
+ghost use Rattle.html5cleaner.specs.Reading.{FollowsStandard, is_allowed_token};
+
+use html5ever_interface::interface::sink::TokenSink;
+use html5ever_interface::interface::token::Token;
+use html5write::laws::whole_page;
+use std::alloc::Allocator;
+
+/// A page of clean pieces, read by any sink that follows the standard and with any table, is read but
+/// for errors as exactly these pieces and the end. Each of their tokens is allowed: text, or a tag of an
+/// allowed element, with attributes that are kept and addresses that are safe.
+pub fn cleaned_page<S: TokenSink<Token<A>>, A: Allocator>()
+    ensures tokens { (rules : Rules) (K : Start) (s : S.State) (pieces : List Piece) → IsTable rules.names
+        → IsOpen K → list_all is_clean pieces ≡ true → FollowsStandard {S = S.State} S.means.reply
+        → proper (all_messages S.means rules K s (page_text pieces)) ≡ page_tokens pieces ++ End ∷ [] }
+    ensures allowed { (rules : Rules) (K : Start) (s : S.State) (pieces : List Piece) → IsTable rules.names
+        → IsOpen K → list_all is_clean pieces ≡ true → FollowsStandard {S = S.State} S.means.reply
+        → list_all is_allowed_token (proper (all_messages S.means rules K s (page_text pieces))) ≡ true }
+{
+    whole_page::<S, A>();
+}
+
+/// The pieces that were kept are clean, after each run of text and token.
+pub fn kept_pieces_are_clean()
+    ensures starts { list_all is_clean at_start.pieces ≡ true }
+    ensures stay { (s : Cleaned) (run : List ℕ) (told : Told) (line : ℕ) → list_all is_clean s.pieces ≡ true
+        → list_all is_clean (clean_step s run told line).pieces ≡ true }
+{}
