@@ -7,8 +7,10 @@ mod cleaner;
 mod hidden;
 mod kept;
 pub mod laws;
+mod page;
 mod policy;
 
 pub use crate::addresses::is_safe_address;
 pub use crate::cleaner::Cleaner;
+pub use crate::page::clean_page;
 pub use crate::policy::{is_allowed, is_hider, is_kept};
