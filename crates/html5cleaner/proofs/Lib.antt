@@ -1,3 +1,5 @@
 pub mod CleanPieces
 pub mod Replies
 pub mod Tokens
+pub mod SchemeBytes
+pub mod Schemes

@@ -4,3 +4,4 @@ pub mod Allowed
 pub mod Clean
 pub mod Kept
 pub mod Reading
+pub mod Browsers

@@ -8,7 +8,9 @@ ghost use Rattle.html5grammar.specs.Start.{Start, Rules};
 ghost use Rattle.markup5ever.specs.NamedReferences.{IsTable};
 ghost use Rattle.html5write.specs.Pieces.{Piece, page_text};
 ghost use Rattle.html5write.specs.Told.{IsOpen, page_tokens, proper};
+ghost use Rattle.html5cleaner.specs.Addresses.{is_safe_address};
 ghost use Rattle.html5cleaner.specs.Allowed.{is_clean};
+ghost use Rattle.html5cleaner.specs.Browsers.{RunsNothing, scheme_of};
 ghost use Rattle.html5cleaner.specs.Clean.{Cleaned, at_start, clean_step};
 ghost use Rattle.html5cleaner.specs.Reading.{FollowsStandard, is_allowed_token};
 
@@ -36,4 +38,10 @@ pub fn kept_pieces_are_clean()
     ensures starts { list_all is_clean at_start.pieces ≡ true }
     ensures stay { (s : Cleaned) (run : List ℕ) (told : Told) (line : ℕ) → list_all is_clean s.pieces ≡ true
         → list_all is_clean (clean_step s run told line).pieces ≡ true }
+{}
+
+/// In an address that is kept a browser finds no scheme, or `http`, `https` or `mailto`: it passes over
+/// white space and controls in front, and over tabs and line breaks anywhere.
+pub fn safe_addresses()
+    ensures { (address : List ℕ) → is_safe_address address ≡ true → RunsNothing (scheme_of address) }
 {}
