@@ -1,8 +1,8 @@
 -- Bytes of addresses by their tests.
-use Rattle.std.proofs.Common.{◌≡◌, ℕ, ◌<◌, Bool, true, false, arith, refl}
-use Rattle.std.specs.Prelude.{◌||◌, ◌&&◌, ◌==◌, not, nat_lt}
+use Rattle.std.proofs.Common.{◌≡◌, ℕ, Bool, true, false, arith}
+use Rattle.std.specs.Prelude.{◌||◌, ◌==◌, nat_lt}
 use Rattle.std.proofs.lemmas.Bool.Decides.{nat_tests}
-use Rattle.std.specs.Char.{to_ascii_lowercase, is_ascii_alphanumeric}
+use Rattle.std.specs.Char.{to_ascii_lowercase}
 use Rattle.html5cleaner.specs.Browsers.{is_no_break, is_scheme_byte}
 
 -- a byte after which no scheme can end

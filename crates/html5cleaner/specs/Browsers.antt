@@ -1,5 +1,5 @@
 -- The scheme that a browser finds in an address, by its bytes.
-use Rattle.std.specs.Prelude.{◌≡◌, ℕ, Bool, true, false, not, List, [], ◌∷◌, ◌||◌, ◌==◌, filter, Option, None, Some, option_map, nat_lt, codes, if◌then◌else◌}
+use Rattle.std.specs.Prelude.{◌≡◌, ℕ, Bool, not, List, [], ◌∷◌, ◌||◌, ◌==◌, filter, Option, None, Some, option_map, nat_lt, codes, if◌then◌else◌}
 use Rattle.std.specs.Char.{to_ascii_lowercase, is_ascii_alphabetic, is_ascii_alphanumeric}
 
 -- "remove any leading C0 control or space"
