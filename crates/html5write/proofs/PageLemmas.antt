@@ -1,5 +1,5 @@
 -- Pages in bytes.
-use Rattle.std.proofs.Common.{◌≡◌, ℕ, true, List, [], ◌∷◌, ◌++◌, refl, ap, sym, ◌∙◌}
+use Rattle.std.proofs.Common.{◌≡◌, ℕ, true, List, [], ◌∷◌, ◌++◌, refl, ap, sym, ◌∙◌, append_assoc}
 use Rattle.std.specs.Prelude.{encode_utf8_all}
 use Rattle.std.specs.Str.{IsUtf8, chars}
 use Rattle.std.proofs.lemmas.List.{append-nil}
@@ -22,3 +22,12 @@ page-more before bytes pieces piece page more can = record {
       ∙ encodes-append (page_text pieces) (piece_text piece));
   can = list_all-append can_write pieces (piece ∷ []) ∙ rw (page.can, can) refl;
 }
+
+pub page-both : (before bytes : List ℕ) (pieces : List Piece) (first second : Piece) → IsPage before pieces
+    → bytes ≡ before ++ (encode_utf8_all (piece_text first) ++ encode_utf8_all (piece_text second)) → can_write first ≡ true → can_write second ≡ true
+    → IsPage bytes ((pieces ++ first ∷ []) ++ second ∷ [])
+page-both before bytes pieces first second page more can_first can_second =
+    page-more (before ++ encode_utf8_all (piece_text first)) bytes (pieces ++ first ∷ []) second
+    (page-more before (before ++ encode_utf8_all (piece_text first)) pieces first page refl can_first)
+    (more ∙ sym (append_assoc before (encode_utf8_all (piece_text first)) (encode_utf8_all (piece_text second))))
+    can_second

@@ -41,6 +41,18 @@ pub record Writes (result : Result (Unit {0}) WriteError) (before after : List P
   -- and another only where memory is
   pub memory : refusal_of piece ≡ None → IsOkUnless result Memory
 
+-- what a call that writes two pieces answers
+pub record WritesBoth (result : Result (Unit {0}) WriteError) (before after : List Piece) (first second : Piece) : Type 0 where
+  -- they stand last, in this order
+  pub written : OnOk result (after ≡ (before ++ first ∷ []) ++ second ∷ [])
+  -- nothing was written
+  pub unchanged : OnErr result (after ≡ before)
+  -- where one can't be written, both are refused with the error of the first such one
+  pub refused_first : (error : WriteError) → refusal_of first ≡ Some error → result ≡ Err error
+  pub refused_second : (error : WriteError) → refusal_of first ≡ None → refusal_of second ≡ Some error → result ≡ Err error
+  -- and otherwise only where memory is
+  pub memory : refusal_of first ≡ None → refusal_of second ≡ None → IsOkUnless result Memory
+
 -- ---- what is told of a piece, in the very bytes that were handed in
 
 abbrev pub attribute_said : Attribute → AttributeOf

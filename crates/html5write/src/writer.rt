@@ -5,7 +5,7 @@ ghost use Rattle.html5write.specs.Pieces as pieces;
 ghost use Rattle.html5write.specs.Pieces.{can_write, page_text, piece_text};
 ghost use Rattle.html5write.specs.Pieces.Piece.{CommentPiece, EndTagPiece, StartTagPiece, TextPiece};
 ghost use Rattle.html5write.specs.Refusals.{refusal_of};
-ghost use Rattle.html5write.specs.Writing.{IsPage, Writes, attribute_of, piece_of};
+ghost use Rattle.html5write.specs.Writing.{IsPage, Writes, WritesBoth, attribute_of, piece_of};
 ghost use Rattle.html5write.specs.declared.error.WriteError.TheVariants.{Memory};
 
 use crate::appending::push_piece;
@@ -67,6 +67,37 @@ impl<A: Allocator + Copy> Writer<A> {
         push_piece(&mut self.piece, piece)?;
         self.page.push_str(self.piece.as_str())?;
         self.trail.add(piece);
+        Ok(())
+    }
+
+    /// Writes two pieces after the others, one after the other. Where one is refused, neither is written.
+    pub fn write_both(&mut self, first: &Piece<'_>, second: &Piece<'_>) -> Result<(), WriteError>
+        ensures { WritesBoth result self.old self.new (piece_of first.now) (piece_of second.now) }
+    {
+        if let Some(error) = refusal_of(first) {
+            return Err(error);
+        }
+        match refusal_of(second) {
+            Some(error) => Err(error),
+            None => self.put_both(first, second),
+        }
+    }
+
+    // Puts two pieces that can be written after the others.
+    fn put_both(&mut self, first: &Piece<'_>, second: &Piece<'_>) -> Result<(), WriteError>
+        requires first { refusal_of (piece_of first.now) ≡ None }
+        requires second { refusal_of (piece_of second.now) ≡ None }
+        ensures written { OnOk result
+            (self.new ≡ (self.old ++ piece_of first.now ∷ []) ++ piece_of second.now ∷ []) }
+        ensures unchanged { OnErr result (self.new ≡ self.old) }
+        ensures memory { IsOkUnless result Memory }
+    {
+        self.piece.clear();
+        push_piece(&mut self.piece, first)?;
+        push_piece(&mut self.piece, second)?;
+        self.page.push_str(self.piece.as_str())?;
+        self.trail.add(first);
+        self.trail.add(second);
         Ok(())
     }
 

@@ -1,0 +1,6 @@
+pub mod CleanPieces
+pub mod Replies
+pub mod Tokens
+pub mod SchemeBytes
+pub mod Schemes
+pub mod Printing

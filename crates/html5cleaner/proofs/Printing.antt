@@ -1,0 +1,78 @@
+-- What is printed of a page is what is kept of it.
+use Rattle.std.proofs.Common.{◌≡◌, ℕ, true, List, [], ◌∷◌, ◌++◌, refl, ap, sym, ◌∙◌, append_assoc, encode_utf8_all}
+use Rattle.std.proofs.lemmas.List.{append-nil}
+use Rattle.std.proofs.lemmas.List.Concat.{flat_map-append}
+use Rattle.std.proofs.lemmas.Str.{encodes-append}
+use Rattle.html5ever_interface.specs.Sink.{Message, stepped}
+use Rattle.html5ever_interface.specs.Token.{Told}
+use Rattle.html5ever_interface.specs.Token.Told.{Text, Null, Error, Tag, Comment, Instruction, Doctype, End}
+use Rattle.html5sinks.specs.Runs.{Joined, Running, joined_of, joined_step, runs_step}
+use Rattle.html5stream.specs.Pages.{runs_handed, runs_start}
+use Rattle.html5write.specs.Pieces.{Piece, page_text, piece_text}
+use Rattle.std.specs.List.{list_all}
+use Rattle.html5cleaner.specs.Allowed.{is_clean}
+use Rattle.html5cleaner.proofs.CleanPieces.{clean-more}
+use Rattle.html5cleaner.specs.Clean.{Cleaned, at_start, clean_step, kept_where}
+use Rattle.html5cleaner.specs.Cleaning.{Cleaning, cleaning_step, page_bytes, page_start, printed_after}
+
+page_bytes-append : (first second : List Piece) → page_bytes (first ++ second) ≡ page_bytes first ++ page_bytes second
+page_bytes-append first second = ap encode_utf8_all (flat_map-append piece_text first second) ∙ encodes-append (page_text first) (page_text second)
+
+printed-step : (before : List ℕ) (c : Cleaned) (run : List ℕ) (told : Told) (line : ℕ)
+    → cleaning_step (printed_after before c) run told line ≡ printed_after before (clean_step c run told line)
+printed-step before c run told line =
+    let more = kept_where c.hidden.depth run told in
+    let printed : (before ++ page_bytes c.pieces) ++ page_bytes more ≡ before ++ page_bytes (c.pieces ++ more) =
+    append_assoc before (page_bytes c.pieces) (page_bytes more) ∙ ap (λ l. before ++ l) (sym (page_bytes-append c.pieces more)) in
+    ap (λ l. record { printed = l; hidden = (clean_step c run told line).hidden }) printed
+
+-- the same for a handler to which text may wait
+joined_after : List ℕ → Joined Cleaned → Joined Cleaning
+joined_after before j = joined_of (printed_after before j.handler) j.run
+
+joined-step : (before : List ℕ) (j : Joined Cleaned) (told : Told) (line : ℕ)
+    → joined_step cleaning_step (joined_after before j) told line ≡ joined_after before (joined_step clean_step j told line)
+unfolding joined_after
+joined-step before j (Text text) line = refl
+joined-step before j (Error message) line = ap (λ h. joined_of h j.run) (printed-step before j.handler [] (Error message) line)
+joined-step before j Null line = ap (λ h. joined_of h []) (printed-step before j.handler j.run Null line)
+joined-step before j (Tag tag) line = ap (λ h. joined_of h []) (printed-step before j.handler j.run (Tag tag) line)
+joined-step before j (Comment text) line = ap (λ h. joined_of h []) (printed-step before j.handler j.run (Comment text) line)
+joined-step before j (Instruction content) line = ap (λ h. joined_of h []) (printed-step before j.handler j.run (Instruction content) line)
+joined-step before j (Doctype doctype) line = ap (λ h. joined_of h []) (printed-step before j.handler j.run (Doctype doctype) line)
+joined-step before j End line = ap (λ h. joined_of h []) (printed-step before j.handler j.run End line)
+
+printed-stepped : (before : List ℕ) (s : Running Cleaning) (r : Running Cleaned) (M : List Message) → s.joined ≡ joined_after before r.joined
+    → (stepped (runs_step cleaning_step) s M).joined ≡ joined_after before (stepped (runs_step clean_step) r M).joined
+unfolding stepped
+printed-stepped before s r [] same = same
+printed-stepped before s r (m ∷ M) same =
+    printed-stepped before (runs_step cleaning_step s m.token m.line) (runs_step clean_step r m.token m.line) M
+    (ap (λ j. joined_step cleaning_step j m.token m.line) same ∙ joined-step before r.joined m.token m.line)
+
+pub printed-handed : (before : List ℕ) (M : List Message) → runs_handed cleaning_step (page_start before) M ≡ printed_after before (runs_handed clean_step at_start M)
+unfolding runs_handed joined_after
+printed-handed before M =
+    ap (λ j. j.handler) (printed-stepped before (runs_start (page_start before)) (runs_start at_start) M
+    (ap (λ l. joined_of (record { printed = l; hidden = at_start.hidden }) []) (sym (append-nil before))))
+
+-- what is kept stays clean
+clean-joined : (j : Joined Cleaned) (told : Told) (line : ℕ) → list_all is_clean j.handler.pieces ≡ true → list_all is_clean (joined_step clean_step j told line).handler.pieces ≡ true
+clean-joined j (Text text) line clean = clean
+clean-joined j (Error message) line clean = clean-more j.handler.pieces j.handler.hidden.depth [] (Error message) clean
+clean-joined j Null line clean = clean-more j.handler.pieces j.handler.hidden.depth j.run Null clean
+clean-joined j (Tag tag) line clean = clean-more j.handler.pieces j.handler.hidden.depth j.run (Tag tag) clean
+clean-joined j (Comment text) line clean = clean-more j.handler.pieces j.handler.hidden.depth j.run (Comment text) clean
+clean-joined j (Instruction content) line clean = clean-more j.handler.pieces j.handler.hidden.depth j.run (Instruction content) clean
+clean-joined j (Doctype doctype) line clean = clean-more j.handler.pieces j.handler.hidden.depth j.run (Doctype doctype) clean
+clean-joined j End line clean = clean-more j.handler.pieces j.handler.hidden.depth j.run End clean
+
+clean-stepped : (r : Running Cleaned) (M : List Message) → list_all is_clean r.joined.handler.pieces ≡ true
+    → list_all is_clean (stepped (runs_step clean_step) r M).joined.handler.pieces ≡ true
+unfolding stepped
+clean-stepped r [] clean = clean
+clean-stepped r (m ∷ M) clean = clean-stepped (runs_step clean_step r m.token m.line) M (clean-joined r.joined m.token m.line clean)
+
+pub clean-handed : (M : List Message) → list_all is_clean (runs_handed clean_step at_start M).pieces ≡ true
+unfolding runs_handed
+clean-handed M = clean-stepped (runs_start at_start) M refl

@@ -1,0 +1,215 @@
+-- An address that is kept has no scheme, or one that is kept, as a browser reads it.
+use Rattle.std.proofs.Common.{◌≡◌, ℕ, Bool, true, false, List, [], ◌∷◌, ◌++◌, Option, Some, None, refl, sym, ap, ◌∙◌}
+use Rattle.std.specs.Prelude.{◌||◌, ◌&&◌, ◌==◌, not, nat_lt, codes, option_map, if◌then◌else◌}
+use Rattle.std.specs.List.{list_all}
+use Rattle.std.specs.Char.{to_ascii_lowercase, is_ascii_alphabetic}
+use Rattle.std.proofs.lemmas.Bool.{false≢true}
+use Rattle.html5cleaner.specs.Addresses.{has_scheme, is_relative, is_safe_address}
+use Rattle.html5cleaner.specs.Browsers.{is_no_break, is_scheme_byte, scheme_from, scheme_of, scheme_where, without_breaks, without_front, RunsNothing}
+use Rattle.html5cleaner.specs.Browsers.RunsNothing.{Relative, Http, Https, Mailto}
+use Rattle.html5cleaner.proofs.Replies.{and-left, and-right}
+use Rattle.html5cleaner.proofs.SchemeBytes.{is_stop, passed-no_colon, passed-no_scheme, passed-no_stop, break-no_stop, stop-no_scheme, other-no_break, lower-colon, lower-no_colon, lower-same}
+
+-- ---- relative addresses
+
+relative-later : (byte : ℕ) (address : List ℕ) → is_stop byte ≡ false → is_relative (byte ∷ address) ≡ true → is_relative address ≡ true
+unfolding is_relative
+relative-later byte address no_stop relative =
+    elim (byte == 58) as (λ b. (if b then false else if is_stop byte then true else is_relative address) ≡ true → is_relative address ≡ true) [
+      | true ↦ λ r. absurd (false≢true r)
+      | false ↦ λ r. sym (ap (λ b. if b then true else is_relative address) no_stop) ∙ r
+    ] relative
+
+relative-front_where : (byte : ℕ) (address : List ℕ) (passed : Bool) → nat_lt byte 33 ≡ passed → is_relative (byte ∷ address) ≡ true
+    → (is_relative address ≡ true → is_relative (without_front address) ≡ true)
+    → is_relative (if passed then without_front address else byte ∷ address) ≡ true
+relative-front_where byte address true is relative later = later (relative-later byte address (passed-no_stop byte is) relative)
+relative-front_where byte address false is relative later = relative
+
+relative-front : (address : List ℕ) → is_relative address ≡ true → is_relative (without_front address) ≡ true
+unfolding without_front
+relative-front [] relative = relative
+relative-front (byte ∷ address) relative = relative-front_where byte address (nat_lt byte 33) refl relative (relative-front address)
+
+relative-cons : (byte : ℕ) (address other : List ℕ) → (is_relative address ≡ true → is_relative other ≡ true) → is_relative (byte ∷ address) ≡ true → is_relative (byte ∷ other) ≡ true
+unfolding is_relative
+relative-cons byte address other later relative =
+    elim (byte == 58) as (λ b. (if b then false else if is_stop byte then true else is_relative address) ≡ true → (if b then false else if is_stop byte then true else is_relative other) ≡ true) [
+      | true ↦ λ r. r
+      | false ↦ elim (is_stop byte) as (λ b. (if b then true else is_relative address) ≡ true → (if b then true else is_relative other) ≡ true) [
+        | true ↦ λ r. refl
+        | false ↦ λ r. later r
+      ]
+    ] relative
+
+relative-breaks_where : (byte : ℕ) (address : List ℕ) (stays : Bool) → is_no_break byte ≡ stays → is_relative (byte ∷ address) ≡ true
+    → (is_relative address ≡ true → is_relative (without_breaks address) ≡ true)
+    → is_relative (if stays then byte ∷ without_breaks address else without_breaks address) ≡ true
+relative-breaks_where byte address true is relative later = relative-cons byte address (without_breaks address) later relative
+relative-breaks_where byte address false is relative later = later (relative-later byte address (break-no_stop byte is) relative)
+
+relative-breaks : (address : List ℕ) → is_relative address ≡ true → is_relative (without_breaks address) ≡ true
+relative-breaks [] relative = relative
+relative-breaks (byte ∷ address) relative = relative-breaks_where byte address (is_no_break byte) refl relative (relative-breaks address)
+
+no-scheme_where : (byte : ℕ) (address : List ℕ) (stop : Bool) → is_stop byte ≡ stop → (if stop then true else is_relative address) ≡ true
+    → (is_relative address ≡ true → scheme_from address ≡ None)
+    → (if is_scheme_byte byte then option_map (λ scheme. to_ascii_lowercase byte ∷ scheme) (scheme_from address) else None) ≡ None
+no-scheme_where byte address true is relative later = ap (λ b. if b then option_map (λ scheme. to_ascii_lowercase byte ∷ scheme) (scheme_from address) else None) (stop-no_scheme byte is)
+no-scheme_where byte address false is relative later =
+    elim (is_scheme_byte byte) as (λ b. (if b then option_map (λ scheme. to_ascii_lowercase byte ∷ scheme) (scheme_from address) else None) ≡ None) [
+      | true ↦ ap (option_map (λ scheme. to_ascii_lowercase byte ∷ scheme)) (later relative)
+      | false ↦ refl
+    ]
+
+no-scheme : (address : List ℕ) → is_relative address ≡ true → scheme_from address ≡ None
+unfolding is_relative scheme_from
+no-scheme [] relative = refl
+no-scheme (byte ∷ address) relative =
+    elim (byte == 58) as (λ b. (if b then false else if is_stop byte then true else is_relative address) ≡ true
+    → (if b then Some [] else if is_scheme_byte byte then option_map (λ scheme. to_ascii_lowercase byte ∷ scheme) (scheme_from address) else None) ≡ None) [
+      | true ↦ λ r. absurd (false≢true r)
+      | false ↦ λ r. no-scheme_where byte address (is_stop byte) refl r (no-scheme address)
+    ] relative
+
+-- ---- addresses of a scheme
+
+-- none, or this one
+data Finds (word : List ℕ) (scheme : Option (List ℕ)) : Type 0 where
+  Nothing : scheme ≡ None → Finds word scheme
+  Word : scheme ≡ Some word → Finds word scheme
+
+abbrev no_colon : List ℕ → Bool
+no_colon word = list_all (λ letter. not (letter == 58)) word
+
+not-true : (b : Bool) → not b ≡ true → b ≡ false
+not-true true e = absurd (false≢true e)
+not-true false e = refl
+
+-- the address from a byte on, where the rest of it finds the rest of the word
+abbrev from_byte : ℕ → Bool → List ℕ → Option (List ℕ)
+from_byte byte colon address =
+    if colon then Some [] else if is_scheme_byte byte then option_map (λ scheme. to_ascii_lowercase byte ∷ scheme) (scheme_from address) else None
+
+finds-more : (byte letter : ℕ) (word address : List ℕ) → to_ascii_lowercase byte ≡ letter → Finds word (scheme_from address) → Finds (letter ∷ word) (from_byte byte false address)
+finds-more byte letter word address same (Nothing none) =
+    Nothing (elim (is_scheme_byte byte) as (λ b. (if b then option_map (λ scheme. to_ascii_lowercase byte ∷ scheme) (scheme_from address) else None) ≡ None) [
+      | true ↦ ap (option_map (λ scheme. to_ascii_lowercase byte ∷ scheme)) none
+      | false ↦ refl
+    ])
+finds-more byte letter word address same (Word found) =
+    elim (is_scheme_byte byte) as (λ b. Finds (letter ∷ word) (if b then option_map (λ scheme. to_ascii_lowercase byte ∷ scheme) (scheme_from address) else None)) [
+      | true ↦ Word (ap (option_map (λ scheme. to_ascii_lowercase byte ∷ scheme)) found ∙ ap (λ c. Some (c ∷ word)) same)
+      | false ↦ Nothing refl
+    ]
+
+finds-from : {word : List ℕ} {scheme other : Option (List ℕ)} → scheme ≡ other → Finds word other → Finds word scheme
+finds-from e (Nothing none) = Nothing (e ∙ none)
+finds-from e (Word found) = Word (e ∙ found)
+
+-- a byte that is passed over
+passed-over : (byte : ℕ) (word address : List ℕ) (stays : Bool) → is_no_break byte ≡ stays → nat_lt byte 33 ≡ true → Finds word (scheme_from (without_breaks address))
+    → Finds word (scheme_from (if stays then byte ∷ without_breaks address else without_breaks address))
+unfolding scheme_from
+passed-over byte word address true is passed later =
+    Nothing (ap (λ b. from_byte byte b (without_breaks address)) (passed-no_colon byte passed)
+    ∙ ap (λ b. if b then option_map (λ scheme. to_ascii_lowercase byte ∷ scheme) (scheme_from (without_breaks address)) else None) (passed-no_scheme byte passed))
+passed-over byte word address false is passed later = later
+
+-- another byte stays
+stays-breaks : (byte : ℕ) (address : List ℕ) → nat_lt byte 33 ≡ false → without_breaks (byte ∷ address) ≡ (byte ∷ without_breaks address)
+stays-breaks byte address other = ap (λ b. if b then byte ∷ without_breaks address else without_breaks address) (other-no_break byte other)
+
+colon-found : (byte : ℕ) (address : List ℕ) → nat_lt byte 33 ≡ false → (to_ascii_lowercase byte == 58) ≡ true → Finds [] (scheme_from (without_breaks (byte ∷ address)))
+unfolding scheme_from
+colon-found byte address other same =
+    Word (ap scheme_from (stays-breaks byte address other) ∙ ap (λ b. from_byte byte b (without_breaks address)) (lower-colon byte same))
+
+letter-found : (byte letter : ℕ) (word address : List ℕ) → nat_lt byte 33 ≡ false → (to_ascii_lowercase byte == letter) ≡ true → (letter == 58) ≡ false
+    → Finds word (scheme_from (without_breaks address)) → Finds (letter ∷ word) (scheme_from (without_breaks (byte ∷ address)))
+unfolding scheme_from
+letter-found byte letter word address other same no_colon later =
+    finds-from (ap scheme_from (stays-breaks byte address other) ∙ ap (λ b. from_byte byte b (without_breaks address)) (lower-no_colon byte letter same no_colon))
+    (finds-more byte letter word (without_breaks address) (lower-same byte letter same) later)
+
+found-colon_where : (byte : ℕ) (address : List ℕ) (passed : Bool) → nat_lt byte 33 ≡ passed
+    → (if passed then has_scheme address (58 ∷ []) else (to_ascii_lowercase byte == 58) && has_scheme address []) ≡ true
+    → (has_scheme address (58 ∷ []) ≡ true → Finds [] (scheme_from (without_breaks address)))
+    → Finds [] (scheme_from (without_breaks (byte ∷ address)))
+found-colon_where byte address true is has later = passed-over byte [] address (is_no_break byte) refl is (later has)
+found-colon_where byte address false is has later = colon-found byte address is (and-left (to_ascii_lowercase byte == 58) (has_scheme address []) has)
+
+found-letter_where : (byte letter : ℕ) (word address : List ℕ) (passed : Bool) → nat_lt byte 33 ≡ passed → (letter == 58) ≡ false
+    → (if passed then has_scheme address (letter ∷ (word ++ 58 ∷ [])) else (to_ascii_lowercase byte == letter) && has_scheme address (word ++ 58 ∷ [])) ≡ true
+    → (has_scheme address (letter ∷ (word ++ 58 ∷ [])) ≡ true → Finds (letter ∷ word) (scheme_from (without_breaks address)))
+    → (has_scheme address (word ++ 58 ∷ []) ≡ true → Finds word (scheme_from (without_breaks address)))
+    → Finds (letter ∷ word) (scheme_from (without_breaks (byte ∷ address)))
+found-letter_where byte letter word address true is other has same_word later = passed-over byte (letter ∷ word) address (is_no_break byte) refl is (same_word has)
+found-letter_where byte letter word address false is other has same_word later =
+    letter-found byte letter word address is (and-left (to_ascii_lowercase byte == letter) (has_scheme address (word ++ 58 ∷ [])) has) other
+    (later (and-right (to_ascii_lowercase byte == letter) (has_scheme address (word ++ 58 ∷ [])) has))
+
+found : (address word : List ℕ) → no_colon word ≡ true → has_scheme address (word ++ 58 ∷ []) ≡ true → Finds word (scheme_from (without_breaks address))
+unfolding has_scheme
+found [] [] letters has = absurd (false≢true has)
+found [] (letter ∷ word) letters has = absurd (false≢true has)
+found (byte ∷ address) [] letters has = found-colon_where byte address (nat_lt byte 33) refl has (found address [] letters)
+found (byte ∷ address) (letter ∷ word) letters has =
+    found-letter_where byte letter word address (nat_lt byte 33) refl (not-true (letter == 58) (and-left (not (letter == 58)) (no_colon word) letters)) has
+    (found address (letter ∷ word) letters)
+    (found address word (and-right (not (letter == 58)) (no_colon word) letters))
+
+front-where : (byte letter : ℕ) (address scheme : List ℕ) (passed : Bool) → nat_lt byte 33 ≡ passed → has_scheme (byte ∷ address) (letter ∷ scheme) ≡ true
+    → (has_scheme address (letter ∷ scheme) ≡ true → has_scheme (without_front address) (letter ∷ scheme) ≡ true)
+    → has_scheme (if passed then without_front address else byte ∷ address) (letter ∷ scheme) ≡ true
+unfolding has_scheme
+front-where byte letter address scheme true is has later =
+    later (sym (ap (λ b. if b then has_scheme address (letter ∷ scheme) else (to_ascii_lowercase byte == letter) && has_scheme address scheme) is) ∙ has)
+front-where byte letter address scheme false is has later = has
+
+front : (letter : ℕ) (address scheme : List ℕ) → has_scheme address (letter ∷ scheme) ≡ true → has_scheme (without_front address) (letter ∷ scheme) ≡ true
+unfolding without_front
+front letter [] scheme has = has
+front letter (byte ∷ address) scheme has = front-where byte letter address scheme (nat_lt byte 33) refl has (front letter address scheme)
+
+finds-where : (word address : List ℕ) → Finds word (scheme_from address) → Finds word (scheme_where address)
+unfolding scheme_where
+finds-where word [] finds = Nothing refl
+finds-where word (byte ∷ address) finds = elim (is_ascii_alphabetic byte) as (λ b. Finds word (if b then scheme_from (byte ∷ address) else None)) [ true ↦ finds | false ↦ Nothing refl ]
+
+none-where : (address : List ℕ) → scheme_from address ≡ None → scheme_where address ≡ None
+unfolding scheme_where
+none-where [] none = refl
+none-where (byte ∷ address) none = elim (is_ascii_alphabetic byte) as (λ b. (if b then scheme_from (byte ∷ address) else None) ≡ None) [ true ↦ none | false ↦ refl ]
+
+-- the scheme of an address that begins with a word and a colon
+has-found : (letter : ℕ) (word address : List ℕ) → no_colon (letter ∷ word) ≡ true → has_scheme address (letter ∷ (word ++ 58 ∷ [])) ≡ true → Finds (letter ∷ word) (scheme_of address)
+has-found letter word address letters has =
+    finds-where (letter ∷ word) (without_breaks (without_front address)) (found (without_front address) (letter ∷ word) letters (front letter address (word ++ 58 ∷ []) has))
+
+runs-http : {scheme : Option (List ℕ)} → Finds (codes "http") scheme → RunsNothing scheme
+runs-http (Nothing none) = Relative none
+runs-http (Word found) = Http found
+
+runs-https : {scheme : Option (List ℕ)} → Finds (codes "https") scheme → RunsNothing scheme
+runs-https (Nothing none) = Relative none
+runs-https (Word found) = Https found
+
+runs-mailto : {scheme : Option (List ℕ)} → Finds (codes "mailto") scheme → RunsNothing scheme
+runs-mailto (Nothing none) = Relative none
+runs-mailto (Word found) = Mailto found
+
+safe-cases : (address : List ℕ) (relative http https mailto : Bool) → is_relative address ≡ relative → has_scheme address (codes "http:") ≡ http
+    → has_scheme address (codes "https:") ≡ https → has_scheme address (codes "mailto:") ≡ mailto
+    → (relative || http || https || mailto) ≡ true → RunsNothing (scheme_of address)
+safe-cases address true http https mailto r h s m safe =
+    Relative (none-where (without_breaks (without_front address)) (no-scheme (without_breaks (without_front address)) (relative-breaks (without_front address) (relative-front address r))))
+safe-cases address false true https mailto r h s m safe = runs-http (has-found 0x68 (codes "ttp") address refl h)
+safe-cases address false false true mailto r h s m safe = runs-https (has-found 0x68 (codes "ttps") address refl s)
+safe-cases address false false false true r h s m safe = runs-mailto (has-found 0x6D (codes "ailto") address refl m)
+safe-cases address false false false false r h s m safe = absurd (false≢true safe)
+
+pub safe-runs_nothing : (address : List ℕ) → is_safe_address address ≡ true → RunsNothing (scheme_of address)
+unfolding is_safe_address
+safe-runs_nothing address safe =
+    safe-cases address (is_relative address) (has_scheme address (codes "http:")) (has_scheme address (codes "https:")) (has_scheme address (codes "mailto:")) refl refl refl refl safe

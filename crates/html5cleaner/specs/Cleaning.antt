@@ -1,0 +1,39 @@
+-- A page that is cleaned as it arrives: what is printed of it.
+use Rattle.std.specs.Prelude.{ℕ, List, [], ◌++◌, encode_utf8_all}
+use Rattle.devices.specs.Printing.{Printing}
+use Rattle.html5ever_interface.specs.Token.{Told}
+use Rattle.html5write.specs.Pieces.{Piece, page_text}
+use Rattle.html5cleaner.specs.Clean.{Cleaned, Hidden, hidden_after, kept_where}
+
+-- what was printed, and what is hidden
+pub record Cleaning : Type 0 where
+  pub printed : List ℕ
+  pub hidden : Hidden
+
+-- the printer, and what is hidden
+pub record Printed (W : Type 0) : Type 0 where
+  pub printer : Printing W
+  pub hidden : Hidden
+
+-- where a page begins
+abbrev pub page_start : List ℕ → Cleaning
+page_start printed = record { printed = printed; hidden = record { name = []; depth = 0 } }
+
+-- where a printer of cleaned pages stands
+abbrev pub cleaning_of : {W : Type 0} → Printed W → Cleaning
+cleaning_of p = record { printed = p.printer.printed; hidden = p.hidden }
+
+-- the bytes of pieces
+abbrev pub page_bytes : List Piece → List ℕ
+page_bytes pieces = encode_utf8_all (page_text pieces)
+
+-- a run of text and the token after it: what is kept of them is printed
+abbrev pub cleaning_step : Cleaning → List ℕ → Told → ℕ → Cleaning
+cleaning_step s run told line = record {
+  printed = s.printed ++ page_bytes (kept_where s.hidden.depth run told);
+  hidden = hidden_after s.hidden told;
+}
+
+-- where these pieces were kept, and printed after other bytes
+abbrev pub printed_after : List ℕ → Cleaned → Cleaning
+printed_after before c = record { printed = before ++ page_bytes c.pieces; hidden = c.hidden }

@@ -1,0 +1,107 @@
+//! A handler that prints what is kept of a page, as it arrives.
+ghost use Rattle.std.specs.Prelude.{◌≡◌, ◌++◌, [], OnOk, OnErr, string_bytes};
+ghost use Rattle.html5ever_interface.specs.Token.{told_by};
+ghost use Rattle.html5cleaner.specs.Clean.{kept_where, hidden_of, hidden_after};
+ghost use Rattle.html5cleaner.specs.Cleaning.{page_bytes, page_start, cleaning_of};
+
+use crate::cleaner::keep_where;
+use crate::hidden::Hidden;
+use devices::{Printer, Target};
+use html5ever_interface::interface::token::{SinkFault, Token};
+use html5sinks::text_runs::RunHandler;
+use html5write::Writer;
+use std::alloc::{Allocator, Global};
+use std::marker::Model;
+
+/// Prints what is kept of the runs of text and the tags that it takes.
+#[derive(Drop)]
+pub struct CleanPrinter<W, A: Allocator = Global> {
+    alloc: A,
+    printer: Printer<W, A>,
+    hidden: Hidden<A>,
+}
+
+impl<W, A: Allocator> Model for CleanPrinter<W, A> {
+    ghost use Rattle.html5cleaner.specs.Clean.{hidden_of};
+    ghost use Rattle.html5cleaner.specs.Cleaning.{Printed};
+
+    ghost Value = { Printed W };
+
+    ghost view = { λ c. record { printer = c.printer; hidden = hidden_of c.hidden } };
+}
+
+// Prints what is kept of a run of text and the token after it, all of it or nothing.
+fn print_kept<W: Target, A: Allocator + Copy>(
+    alloc: A,
+    depth: u64,
+    printer: &mut Printer<W, A>,
+    run: &str,
+    token: &Token<A>,
+) -> Result<(), SinkFault>
+    ensures ok { OnOk result (printer.new.printed ≡ printer.old.printed
+        ++ page_bytes (kept_where depth run.now (told_by token.now))) }
+    ensures err { OnErr result (printer.new.printed ≡ printer.old.printed) }
+{
+    let mut page = Writer::new(alloc);
+    let Ok(()) = keep_where(alloc, depth, &mut page, run, token) else {
+        return Err(SinkFault);
+    };
+    match printer.print(page.as_str().as_bytes()) {
+        Ok(()) => Ok(()),
+        Err(_) => Err(SinkFault),
+    }
+}
+
+impl<W: Target, A: Allocator + Copy> CleanPrinter<W, A> {
+    /// Prints to this printer, at the start of a page.
+    pub fn new(alloc: A, printer: Printer<W, A>) -> CleanPrinter<W, A>
+        ensures start { cleaning_of result ≡ page_start printer.printed }
+        ensures printer { result.printer ≡ printer }
+    {
+        CleanPrinter {
+            alloc,
+            printer,
+            hidden: Hidden::none(alloc),
+        }
+    }
+
+    /// Prints to the same printer, at the start of a page.
+    pub fn at_start(self) -> CleanPrinter<W, A>
+        ensures start { cleaning_of result ≡ page_start self.printer.printed }
+        ensures printer { result.printer ≡ self.printer }
+    {
+        CleanPrinter::new(self.alloc, self.printer)
+    }
+
+    /// The printer, with what was printed.
+    pub fn into_inner(self) -> Printer<W, A>
+        ensures { result ≡ self.printer }
+    {
+        self.printer
+    }
+}
+
+impl<W: Target, A: Allocator + Copy> RunHandler<Token<A>> for CleanPrinter<W, A> {
+    ghost use Rattle.html5cleaner.specs.Cleaning.{Cleaning, cleaning_of, cleaning_step};
+
+    ghost State = { Cleaning };
+
+    ghost state = { cleaning_of };
+
+    ghost step = { cleaning_step };
+
+    fn take_run(&mut self, run: &str, token: Token<A>, _line_number: u64) -> Result<(), SinkFault> {
+        let Some(depth) = self.hidden.depth_after(&token) else {
+            return Err(SinkFault);
+        };
+        print_kept(
+            self.alloc,
+            self.hidden.depth,
+            &mut self.printer,
+            run,
+            &token,
+        )?;
+        self.hidden.pass(token, depth);
+        Ok(())
+    }
+}

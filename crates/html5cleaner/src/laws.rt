@@ -1,0 +1,66 @@
+//! How a cleaned page is read.
+ghost use Rattle.std.specs.Prelude.{◌≡◌, ℕ, List, [], ◌∷◌, ◌++◌, true};
+ghost use Rattle.std.specs.List.{list_all};
+ghost use Rattle.html5ever_interface.specs.Token.{Told};
+ghost use Rattle.html5ever_interface.specs.Token.Told.{End};
+ghost use Rattle.html5grammar.specs.Reading.{all_messages};
+ghost use Rattle.html5grammar.specs.Start.{Start, Rules};
+ghost use Rattle.markup5ever.specs.NamedReferences.{IsTable};
+ghost use Rattle.html5write.specs.Pieces.{Piece, page_text};
+ghost use Rattle.html5items.specs.Anywhere.{TellsByItself};
+ghost use Rattle.html5write.specs.Told.{IsOpen, page_messages, page_tokens, proper, start_after_page};
+ghost use Rattle.html5cleaner.specs.Addresses.{is_safe_address};
+ghost use Rattle.html5cleaner.specs.Allowed.{is_clean};
+ghost use Rattle.html5cleaner.specs.Browsers.{RunsNothing, scheme_of};
+ghost use Rattle.html5cleaner.specs.Clean.{Cleaned, at_start, clean_step};
+ghost use Rattle.html5cleaner.specs.Reading.{FollowsStandard, is_allowed_token};
+
+use html5ever_interface::interface::sink::TokenSink;
+use html5ever_interface::interface::token::Token;
+use html5sinks::text_runs::{RunHandler, TextRuns};
+use html5write::laws::{page, whole_page};
+use std::alloc::Allocator;
+
+/// A page of clean pieces, read by any sink that follows the standard and with any table, is read but
+/// for errors as exactly these pieces and the end. Each of their tokens is allowed: text, or a tag of an
+/// allowed element, with attributes that are kept and addresses that are safe.
+pub fn cleaned_page<S: TokenSink<Token<A>>, A: Allocator>()
+    ensures tokens { (rules : Rules) (K : Start) (s : S.State) (pieces : List Piece) → IsTable rules.names
+        → IsOpen K → list_all is_clean pieces ≡ true → FollowsStandard {S = S.State} S.means.reply
+        → proper (all_messages S.means rules K s (page_text pieces)) ≡ page_tokens pieces ++ End ∷ [] }
+    ensures allowed { (rules : Rules) (K : Start) (s : S.State) (pieces : List Piece) → IsTable rules.names
+        → IsOpen K → list_all is_clean pieces ≡ true → FollowsStandard {S = S.State} S.means.reply
+        → list_all is_allowed_token (proper (all_messages S.means rules K s (page_text pieces))) ≡ true }
+{
+    whole_page::<S, A>();
+}
+
+/// Wherever it is put in a page, in Data and with no CR directly before it, such a page tells its pieces,
+/// and is read to where nothing is open: what follows it is read as it would be without it.
+pub fn cleaned_part<S: TokenSink<Token<A>>, A: Allocator>()
+    ensures { (rules : Rules) (K : Start) (s : S.State) (pieces : List Piece) → IsTable rules.names
+        → IsOpen K → list_all is_clean pieces ≡ true → FollowsStandard {S = S.State} S.means.reply
+        → TellsByItself S.means rules K s (page_text pieces) (page_messages rules.exact K.input pieces)
+        (start_after_page K pieces) }
+{
+    page::<S, A>();
+}
+
+/// The pieces that were kept are clean, after each run of text and token.
+pub fn kept_pieces_are_clean()
+    ensures starts { list_all is_clean at_start.pieces ≡ true }
+    ensures stay { (s : Cleaned) (run : List ℕ) (told : Told) (line : ℕ) → list_all is_clean s.pieces ≡ true
+        → list_all is_clean (clean_step s run told line).pieces ≡ true }
+{}
+
+/// In an address that is kept a browser finds no scheme, or `http`, `https` or `mailto`: it passes over
+/// white space and controls in front, and over tabs and line breaks anywhere.
+pub fn safe_addresses()
+    ensures { (address : List ℕ) → is_safe_address address ≡ true → RunsNothing (scheme_of address) }
+{}
+
+/// A sink of runs of text keeps on where the standard does, whatever its handler: so a reading by any
+/// `RunHandler` is such a reading.
+pub fn runs_follow_the_standard<H: RunHandler<Token<A>>, A: Allocator>()
+    ensures { FollowsStandard ⟦<TextRuns<H, A> as TokenSink<Token<A>>>⟧.means.reply }
+{}

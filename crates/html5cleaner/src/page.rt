@@ -1,0 +1,29 @@
+//! Pages that are cleaned as they arrive.
+ghost use Rattle.std.specs.Prelude.{◌≡◌, ℕ, ◌+◌, Err, OnOk, OnErr};
+ghost use Rattle.html5stream.specs.Pages.{ReadsPage, StopsPage, runs_page, runs_handed, runs_behind};
+ghost use Rattle.html5stream.specs.Streams.{GivesNoText, failed_reads};
+ghost use Rattle.html5cleaner.specs.Clean.{at_start, clean_step};
+
+use crate::cleaner::Cleaner;
+use devices::Source;
+use html5stream::{StreamError, read_runs};
+use markup5ever::data::NamedReferences;
+use std::alloc::Allocator;
+
+/// Reads a page as it arrives, and keeps of it what is allowed: of the whole page, or after an error of a
+/// beginning of it. `Cleaner::into_page` gives what was kept.
+pub fn clean_page<R: Source, A: Allocator + Copy>(
+    alloc: A,
+    source: &mut R,
+    names: &NamedReferences<A>,
+) -> (Cleaner<A>, Result<(), StreamError>)
+    ensures finishes { OnOk result.1 (ReadsPage (runs_behind clean_step names.now)
+        (R.remaining source.old) (R.remaining source.new) at_start result.0) }
+    ensures beginning { OnErr result.1 (StopsPage (runs_page clean_step names.now) (runs_handed clean_step)
+        (R.remaining source.old) (R.remaining source.new) at_start result.0) }
+    ensures not_utf8 { (place : ℕ) → result.1 ≡ Err (StreamError.NotUtf8 place)
+        → GivesNoText place (R.remaining source.old) (R.remaining source.new) }
+    ensures read { R.failures source.new ≡ R.failures source.old + failed_reads result.1 }
+{
+    read_runs(alloc, source, Cleaner::new(alloc), names)
+}

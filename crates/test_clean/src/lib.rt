@@ -1,0 +1,9 @@
+//! Worked cases of pages that are cleaned.
+#![tactic(auto)]
+
+#[cfg(test)]
+mod addresses;
+#[cfg(test)]
+mod memory;
+#[cfg(test)]
+mod pages;
