@@ -3,3 +3,4 @@ pub mod Replies
 pub mod Tokens
 pub mod SchemeBytes
 pub mod Schemes
+pub mod WholeTexts

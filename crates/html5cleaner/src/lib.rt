@@ -12,5 +12,5 @@ mod policy;
 
 pub use crate::addresses::is_safe_address;
 pub use crate::cleaner::Cleaner;
-pub use crate::page::clean_page;
+pub use crate::page::{clean_page, clean_text};
 pub use crate::policy::{is_allowed, is_hider, is_kept};
