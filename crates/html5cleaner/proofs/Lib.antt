@@ -4,3 +4,4 @@ pub mod Tokens
 pub mod SchemeBytes
 pub mod Schemes
 pub mod Printing
+pub mod WholeTexts

@@ -15,6 +15,6 @@ mod printed_page;
 pub use crate::addresses::is_safe_address;
 pub use crate::clean_printer::CleanPrinter;
 pub use crate::cleaner::Cleaner;
-pub use crate::page::clean_page;
+pub use crate::page::{clean_page, clean_text};
 pub use crate::policy::{is_allowed, is_hider, is_kept};
 pub use crate::printed_page::{print_cleaned, prints_what_is_kept};

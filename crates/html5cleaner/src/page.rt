@@ -1,12 +1,15 @@
 //! Pages that are cleaned as they arrive.
-ghost use Rattle.std.specs.Prelude.{◌≡◌, ℕ, ◌+◌, Err, OnOk, OnErr};
+ghost use Rattle.std.specs.Prelude.{◌≡◌, ℕ, ◌+◌, Err, IfOk, OnOk, OnErr, true};
+ghost use Rattle.std.specs.List.{list_all};
 ghost use Rattle.html5stream.specs.Pages.{ReadsPage, StopsPage, runs_page, runs_handed, runs_behind};
 ghost use Rattle.html5stream.specs.Streams.{GivesNoText, failed_reads};
+ghost use Rattle.html5cleaner.specs.Allowed.{is_clean};
 ghost use Rattle.html5cleaner.specs.Clean.{at_start, clean_step};
 
 use crate::cleaner::Cleaner;
-use devices::Source;
+use devices::{ReadSource, Source};
 use html5stream::{StreamError, read_runs};
+use html5write::Writer;
 use markup5ever::data::NamedReferences;
 use std::alloc::Allocator;
 
@@ -26,4 +29,22 @@ pub fn clean_page<R: Source, A: Allocator + Copy>(
     ensures read { R.failures source.new ≡ R.failures source.old + failed_reads result.1 }
 {
     read_runs(alloc, source, Cleaner::new(alloc), names)
+}
+
+/// What is kept of a text.
+pub fn clean_text<A: Allocator + Copy>(
+    alloc: A,
+    text: &str,
+    names: &NamedReferences<A>,
+) -> Result<Writer<A>, StreamError>
+    ensures kept { IfOk result (λ page. page
+        ≡ (runs_behind clean_step names.now at_start text.now).pieces) }
+    ensures clean { IfOk result (λ page. list_all is_clean page ≡ true) }
+{
+    let mut source = ReadSource::new(text.as_bytes());
+    let (cleaner, read) = clean_page(alloc, &mut source, names);
+    match read {
+        Ok(()) => Ok(cleaner.into_page()),
+        Err(error) => Err(error),
+    }
 }

@@ -77,10 +77,10 @@ impl<A: Allocator + Copy> Writer<A> {
         if let Some(error) = refusal_of(first) {
             return Err(error);
         }
-        match refusal_of(second) {
-            Some(error) => Err(error),
-            None => self.put_both(first, second),
+        if let Some(error) = refusal_of(second) {
+            return Err(error);
         }
+        self.put_both(first, second)
     }
 
     // Puts two pieces that can be written after the others.

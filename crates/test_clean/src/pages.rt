@@ -1,5 +1,5 @@
 //! What is kept of pages, however they are cut.
-use html5cleaner::clean_page;
+use html5cleaner::{clean_page, clean_text};
 use html5stream::StreamError;
 use markup5ever::data::NamedReferences;
 use test_devices::PieceSource;
@@ -56,5 +56,14 @@ fn a_clean_page_stays_as_it_is(rt: HostRuntime) {
         let kept = cleaner.into_page();
         assert_eq!(rt; read, Ok(()), "{page}");
         assert!(rt; kept.as_str() == wanted, "{page}");
+    }
+}
+
+#[test]
+fn cleans_a_text(rt: HostRuntime) {
+    let names = NamedReferences::check(rt.alloc(), Vec::new(rt.alloc())).expect(&rt, "a table");
+    for (text, wanted) in CASES {
+        let page = clean_text(rt.alloc(), text, &names).expect(&rt, "memory");
+        assert!(rt; page.as_str() == wanted, "{text}");
     }
 }
