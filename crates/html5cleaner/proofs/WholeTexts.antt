@@ -9,7 +9,7 @@ all-consumed text bytes None consumed at_end = absurd consumed
 all-consumed text bytes (Some rest) consumed at_end = sym (consumed ∙ ap (λ l. bytes ++ l) at_end ∙ append-nil bytes)
 
 -- of a source that gives a text the whole text was read
-pub read-whole : {S : Type 0} (behind : S → List ℕ → S) (text : List ℕ) (unread left : Option (List ℕ)) (before after : S) → unread ≡ Some text
-    → ReadsPage behind unread left before after → after ≡ behind before text
-read-whole behind text unread left before after known read =
-    read.told ∙ ap (behind before) (all-consumed text read.bytes left (rw known at read.consumed) read.at_end)
+pub read-whole : {S : Type 0} (made_of : S → List ℕ → S) (text : List ℕ) (unread left : Option (List ℕ)) (before after : S) → unread ≡ Some text
+    → ReadsPage made_of unread left before after → after ≡ made_of before text
+read-whole made_of text unread left before after known read =
+    read.told ∙ ap (made_of before) (all-consumed text read.bytes left (rw known at read.consumed) read.at_end)
