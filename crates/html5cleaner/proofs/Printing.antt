@@ -1,5 +1,5 @@
 -- What is printed of a page is what is kept of it.
-use Rattle.std.proofs.Common.{◌≡◌, ℕ, true, List, [], ◌∷◌, ◌++◌, refl, ap, sym, ◌∙◌, append_assoc, encode_utf8_all}
+use Rattle.std.proofs.Common.{◌≡◌, ℕ, true, Option, List, [], ◌∷◌, ◌++◌, refl, ap, sym, ◌∙◌, append_assoc, encode_utf8_all}
 use Rattle.std.proofs.lemmas.List.{append-nil}
 use Rattle.std.proofs.lemmas.List.Concat.{flat_map-append}
 use Rattle.std.proofs.lemmas.Str.{encodes-append}
@@ -7,13 +7,19 @@ use Rattle.html5ever_interface.specs.Sink.{Message, stepped}
 use Rattle.html5ever_interface.specs.Token.{Told}
 use Rattle.html5ever_interface.specs.Token.Told.{Text, Null, Error, Tag, Comment, Instruction, Doctype, End}
 use Rattle.html5sinks.specs.Runs.{Joined, Running, joined_of, joined_step, runs_step}
-use Rattle.html5stream.specs.Pages.{runs_handed, runs_start}
+use Rattle.html5stream.specs.Pages.{ReadsPage, StopsPage, runs_behind, runs_handed, runs_page, runs_start}
+use Rattle.markup5ever.specs.NamedReferences.{NamedReference}
+use Rattle.html5cleaner.proofs.SameReadings.{page-same}
 use Rattle.html5write.specs.Pieces.{Piece, page_text, piece_text}
 use Rattle.std.specs.List.{list_all}
 use Rattle.html5cleaner.specs.Allowed.{is_clean}
 use Rattle.html5cleaner.proofs.CleanPieces.{clean-more}
 use Rattle.html5cleaner.specs.Clean.{Cleaned, at_start, clean_step, kept_where}
-use Rattle.html5cleaner.specs.Cleaning.{Cleaning, cleaning_step, page_bytes, page_start, printed_after}
+use Rattle.html5cleaner.specs.Cleaning.{Cleaning, cleaning_step, page_bytes, page_messages, page_start, printed_of}
+
+-- where these pieces were kept, and printed after other bytes
+abbrev pub printed_after : List ℕ → Cleaned → Cleaning
+printed_after before c = record { printed = before ++ page_bytes c.pieces; hidden = c.hidden }
 
 page_bytes-append : (first second : List Piece) → page_bytes (first ++ second) ≡ page_bytes first ++ page_bytes second
 page_bytes-append first second = ap encode_utf8_all (flat_map-append piece_text first second) ∙ encodes-append (page_text first) (page_text second)
@@ -76,3 +82,31 @@ clean-stepped r (m ∷ M) clean = clean-stepped (runs_step clean_step r m.token 
 pub clean-handed : (M : List Message) → list_all is_clean (runs_handed clean_step at_start M).pieces ≡ true
 unfolding runs_handed
 clean-handed M = clean-stepped (runs_start at_start) M refl
+
+-- a page that was read is printed as it is kept
+pub reads_printed : (names : List NamedReference) (unread left : Option (List ℕ)) (before : List ℕ) (after : Cleaning)
+    → ReadsPage (runs_behind cleaning_step names) unread left (page_start before) after
+    → ReadsPage (λ s bytes. printed_of s (page_messages names s bytes)) unread left before after.printed
+reads_printed names unread left before after read = record {
+  bytes = read.bytes;
+  consumed = read.consumed;
+  at_end = read.at_end;
+  utf8 = read.utf8;
+  told = ap (λ s. s.printed) (read.told
+      ∙ ap (runs_handed cleaning_step (page_start before)) (page-same cleaning_step clean_step names (page_start before) at_start read.bytes)
+      ∙ printed-handed before (page_messages names before read.bytes));
+}
+
+pub stops_printed : (names : List NamedReference) (unread left : Option (List ℕ)) (before : List ℕ) (after : Cleaning)
+    → StopsPage (runs_page cleaning_step names) (runs_handed cleaning_step) unread left (page_start before) after
+    → StopsPage (page_messages names) printed_of unread left before after.printed
+stops_printed names unread left before after read = record {
+  text = read.text;
+  rest = read.rest;
+  consumed = read.consumed;
+  utf8 = read.utf8;
+  told = read.told;
+  untold = read.untold;
+  parts = page-same clean_step cleaning_step names at_start (page_start before) read.text ∙ read.parts;
+  state = ap (λ s. s.printed) (read.state ∙ printed-handed before read.told);
+}

@@ -1,9 +1,12 @@
 -- A page that is cleaned as it arrives: what is printed of it.
 use Rattle.std.specs.Prelude.{ℕ, List, [], ◌++◌, encode_utf8_all}
 use Rattle.devices.specs.Printing.{Printing}
+use Rattle.html5ever_interface.specs.Sink.{Message}
 use Rattle.html5ever_interface.specs.Token.{Told}
+use Rattle.html5stream.specs.Pages.{runs_handed, runs_page}
 use Rattle.html5write.specs.Pieces.{Piece, page_text}
-use Rattle.html5cleaner.specs.Clean.{Cleaned, Hidden, hidden_after, kept_where}
+use Rattle.html5cleaner.specs.Clean.{Hidden, at_start, clean_step, hidden_after, kept_where}
+use Rattle.markup5ever.specs.NamedReferences.{NamedReference}
 
 -- what was printed, and what is hidden
 pub record Cleaning : Type 0 where
@@ -34,6 +37,10 @@ cleaning_step s run told line = record {
   hidden = hidden_after s.hidden told;
 }
 
--- where these pieces were kept, and printed after other bytes
-abbrev pub printed_after : List ℕ → Cleaned → Cleaning
-printed_after before c = record { printed = before ++ page_bytes c.pieces; hidden = c.hidden }
+-- the messages of a page, which don't depend on what was printed before it
+abbrev pub page_messages : List NamedReference → List ℕ → List ℕ → List Message
+page_messages names before bytes = runs_page clean_step names at_start bytes
+
+-- what was printed after some messages of a page: what was printed before, and the text of the pieces that are kept of them
+abbrev pub printed_of : List ℕ → List Message → List ℕ
+printed_of before messages = before ++ page_bytes (runs_handed clean_step at_start messages).pieces

@@ -17,4 +17,4 @@ pub use crate::clean_printer::CleanPrinter;
 pub use crate::cleaner::Cleaner;
 pub use crate::page::{clean_page, clean_text};
 pub use crate::policy::{is_allowed, is_hider, is_kept};
-pub use crate::printed_page::{print_cleaned, prints_what_is_kept};
+pub use crate::printed_page::{print_cleaned, prints_clean_pieces};

@@ -6,7 +6,7 @@ ghost use Rattle.html5ever_interface.specs.Sink.{Message};
 ghost use Rattle.std.specs.List.{list_all};
 ghost use Rattle.html5cleaner.specs.Allowed.{is_clean};
 ghost use Rattle.html5cleaner.specs.Clean.{at_start, clean_step};
-ghost use Rattle.html5cleaner.specs.Cleaning.{page_start, cleaning_of, cleaning_step, printed_after};
+ghost use Rattle.html5cleaner.specs.Cleaning.{page_start, cleaning_of, cleaning_step, page_messages, printed_of};
 
 use crate::clean_printer::CleanPrinter;
 use devices::{Printer, Source, Target};
@@ -15,18 +15,14 @@ use html5stream::{StreamError, read_runs};
 use markup5ever::data::NamedReferences;
 use std::alloc::{Allocator, Global};
 
-/// After any messages, as those of a page or of a beginning of it, what was printed is what was printed before, and then
-/// the text of the pieces that are kept of these messages; all of them are clean. So `laws::cleaned_page` says how
-/// it is read.
-pub fn prints_what_is_kept()
-    ensures printed { (before : List ℕ) (M : List Message) → runs_handed cleaning_step (page_start before) M
-        ≡ printed_after before (runs_handed clean_step at_start M) }
-    ensures clean { (M : List Message)
-        → list_all is_clean (runs_handed clean_step at_start M).pieces ≡ true }
+/// The pieces that are kept of any messages, as those of a page or of a beginning of it, are clean: so
+/// `laws::cleaned_page` says how what is printed of a page is read.
+pub fn prints_clean_pieces()
+    ensures { (M : List Message) → list_all is_clean (runs_handed clean_step at_start M).pieces ≡ true }
 {}
 
-/// Reads a page, and prints what is kept of it as it arrives.
-pub fn print_cleaned<R: Source, W: Target, A: Allocator + Copy>(
+// Reads a page, and prints what is kept of it, in the words of the handler.
+fn read_printed<R: Source, W: Target, A: Allocator + Copy>(
     alloc: A,
     source: &mut R,
     cleaner: CleanPrinter<W, A>,
@@ -45,21 +41,43 @@ pub fn print_cleaned<R: Source, W: Target, A: Allocator + Copy>(
     read_runs(alloc, source, cleaner.at_start(), names)
 }
 
+/// Reads a page, and prints as it arrives what is kept of it, after what was printed before.
+pub fn print_cleaned<R: Source, W: Target, A: Allocator + Copy>(
+    alloc: A,
+    source: &mut R,
+    cleaner: CleanPrinter<W, A>,
+    names: &NamedReferences<A>,
+) -> (CleanPrinter<W, A>, Result<(), StreamError>)
+    ensures finishes { OnOk result.1 (ReadsPage (λ s bytes. printed_of s (page_messages names.now s bytes))
+        (R.remaining source.old) (R.remaining source.new) cleaner.printer.printed result.0.printer.printed) }
+    ensures beginning { OnErr result.1 (StopsPage (page_messages names.now) printed_of
+        (R.remaining source.old) (R.remaining source.new) cleaner.printer.printed result.0.printer.printed) }
+    ensures not_utf8 { (place : ℕ) → result.1 ≡ Err (StreamError.NotUtf8 place)
+        → GivesNoText place (R.remaining source.old) (R.remaining source.new) }
+    ensures read { R.failures source.new ≡ R.failures source.old + failed_reads result.1 }
+{
+    let (cleaner, read) = read_printed(alloc, source, cleaner, names);
+    match read {
+        Ok(()) => (cleaner, Ok(())),
+        Err(error) => (cleaner, Err(error)),
+    }
+}
+
 impl<W: Target + Drop> Filter<W> for CleanPrinter<W> {
-    ghost use Rattle.html5stream.specs.Pages.{runs_page, runs_handed};
-    ghost use Rattle.html5cleaner.specs.Cleaning.{Cleaning, page_start, cleaning_of, cleaning_step};
+    ghost use Rattle.std.specs.Prelude.{ℕ, List};
+    ghost use Rattle.html5cleaner.specs.Cleaning.{page_messages, printed_of};
 
-    ghost State = { Cleaning };
+    ghost State = { List ℕ };
 
-    ghost state = { cleaning_of };
+    ghost state = { λ c. c.printer.printed };
 
-    ghost printed = { λ s. s.printed };
+    ghost printed = { λ s. s };
 
-    ghost begun = { λ s. page_start s.printed };
+    ghost begun = { λ s. s };
 
-    ghost page = { λ names. runs_page cleaning_step names };
+    ghost page = { page_messages };
 
-    ghost handed = { runs_handed cleaning_step };
+    ghost handed = { printed_of };
 
     fn new(alloc: Global, printer: Printer<W>) -> CleanPrinter<W>
         ensures { result.printer.printed ≡ printer.printed }
