@@ -60,7 +60,8 @@ def lay_out(folder):
     (folder / "src" / "bin").mkdir(parents=True)
     (folder / ".cargo").mkdir()
     shutil.copy(SOURCES / "main.rs", folder / "src" / "main.rs")
-    shutil.copy(SOURCES / "pages.rs", folder / "src" / "bin" / "pages.rs")
+    for name in ["pages.rs", "count.rs"]:
+        shutil.copy(SOURCES / name, folder / "src" / "bin" / name)
     (folder / "Cargo.toml").write_text(MANIFEST)
     (folder / ".cargo" / "config.toml").write_text(CONFIG)
     copy_tendril(folder)

@@ -1,3 +1,4 @@
+pub mod AttributeNames
 pub mod CommentEnds
 pub mod CommentStates
 pub mod Decided

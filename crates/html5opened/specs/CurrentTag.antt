@@ -1,5 +1,5 @@
 -- What a tokenizer keeps of what is open, as the grammar speaks of it.
-use Rattle.std.specs.Prelude.{ℕ, Bool, true, false, List, [], ◌∷◌, map, string_bytes}
+use Rattle.std.specs.Prelude.{ℕ, Bool, true, false, List, [], ◌∷◌, string_bytes}
 use Rattle.std.specs.Str.{chars}
 use Rattle.html5ever_interface.specs.Token.{DoctypeOf, doctype_of}
 use Rattle.html5ever_interface.specs.declared.states.ScriptEscapeKind.TheVariants as escape_kind
@@ -16,13 +16,12 @@ use Rattle.html5grammar.specs.Start.Open.{Between, LessThan, LessThanSolidus, In
 use Rattle.html5grammar.specs.Start.Quotes.{DoubleQuotes, SingleQuotes}
 use Rattle.html5opened.specs.declared.current_tag.CurrentTag.{CurrentTag}
 use Rattle.html5opened.specs.declared.opened.Opened.{Opened}
-use Rattle.markup5ever.specs.Names.{attribute_of}
 
 abbrev pub open_tag : {Z : Type 0} → CurrentTag Z → OpenTag
 open_tag tag = record {
   kind = tag.kind;
   name = string_bytes tag.name;
-  attributes = map attribute_of tag.attrs.items;
+  attributes = tag.attrs;
   had_duplicate_attributes = tag.had_duplicate_attributes;
   last_name = string_bytes tag.attr_name;
   last_value = string_bytes tag.attr_value;

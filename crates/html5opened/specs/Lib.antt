@@ -1,3 +1,4 @@
+pub mod AttributeList
 pub mod CurrentTag
 pub mod Steps
 pub mod Runs

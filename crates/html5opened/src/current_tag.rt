@@ -1,17 +1,17 @@
 //! The tag that is open, and what the standard does with it.
-#![tactic(auto, unfolding(html5grammar::specs::Characters::name_bytes, html5grammar::specs::Characters::value_bytes, html5grammar::specs::Characters::shown, html5grammar::specs::Characters::is_letter, html5grammar::specs::Tag::has_attribute, html5grammar::specs::Tag::with_last_attribute, html5grammar::specs::Tag::duplicate_error, html5grammar::specs::Tag::repeats_attribute))]
+#![tactic(auto, unfolding(html5grammar::specs::Characters::name_bytes, html5grammar::specs::Characters::value_bytes, html5grammar::specs::Characters::shown, html5grammar::specs::Characters::is_letter, html5grammar::specs::Tag::with_last_attribute, html5grammar::specs::Tag::duplicate_error, html5grammar::specs::Tag::repeats_attribute))]
 
-ghost use Rattle.std.specs.Prelude.{◌≡◌, ◌&&◌, ◌∷◌, [], ◌++◌, true, false, not, map, IfOk, OnOk, string_bytes};
+ghost use Rattle.std.specs.Prelude.{◌≡◌, ◌&&◌, ◌++◌, true, false, not, IfOk, OnOk, string_bytes};
 ghost use Rattle.html5grammar.specs.Characters.{name_bytes, value_bytes};
 ghost use Rattle.html5grammar.specs.Start.{begun};
-ghost use Rattle.html5grammar.specs.Tag.{attribute, has_attribute, has_last, repeats_attribute, told_tag, with_last_attribute};
+ghost use Rattle.html5grammar.specs.Tag.{has_last, repeats_attribute, told_tag, with_last_attribute};
 ghost use Rattle.html5opened.specs.CurrentTag.{open_tag};
 ghost use Rattle.html5ever_interface.specs.Token.{tag_of};
-ghost use Rattle.markup5ever.specs.Names.{attribute_of};
 
+use crate::attribute_list::AttributeList;
 use crate::characters::{name_character, shown};
 use html5ever_interface::interface::token::{Tag, TagKind};
-use markup5ever::interface::{Attribute, LocalName, Namespace, QualName};
+use markup5ever::interface::LocalName;
 use std::alloc::{AllocError, Allocator, Global};
 use std::mem;
 
@@ -20,7 +20,7 @@ use std::mem;
 pub struct CurrentTag<A: Allocator = Global> {
     pub kind: TagKind,
     pub name: String<A>,
-    pub attrs: Vec<Attribute<A>, A>,
+    pub attrs: AttributeList<A>,
     pub had_duplicate_attributes: bool,
     pub attr_name: String<A>,
     pub attr_value: String<A>,
@@ -34,7 +34,7 @@ impl<A: Allocator + Copy> CurrentTag<A> {
         CurrentTag {
             kind,
             name: String::new(alloc),
-            attrs: Vec::new(alloc),
+            attrs: AttributeList::new(alloc),
             had_duplicate_attributes: false,
             attr_name: String::new(alloc),
             attr_value: String::new(alloc),
@@ -50,7 +50,7 @@ impl<A: Allocator + Copy> CurrentTag<A> {
             kind: self.kind,
             name: LocalName(mem::replace(&mut self.name, String::new(alloc))),
             self_closing,
-            attrs: mem::replace(&mut self.attrs, Vec::new(alloc)),
+            attrs: mem::replace(&mut self.attrs, AttributeList::new(alloc)).into_vec(),
             had_duplicate_attributes: self.had_duplicate_attributes,
         }
     }
@@ -67,12 +67,12 @@ impl<A: Allocator + Copy> CurrentTag<A> {
         if self.attr_name.is_empty() {
             return Ok(true);
         }
-        if has_attribute(&self.attrs, &self.attr_name) {
+        if self.attrs.has(&self.attr_name) {
             return Ok(false);
         }
         let name = mem::replace(&mut self.attr_name, String::new(alloc));
         let value = mem::replace(&mut self.attr_value, String::new(alloc));
-        push_attribute(alloc, &mut self.attrs, name, value)?;
+        self.attrs.push(alloc, name, value)?;
         Ok(true)
     }
 
@@ -105,31 +105,4 @@ pub fn push_value<A: Allocator>(value: &mut String<A>, c: char) -> Result<(), Al
     ensures { OnOk result (string_bytes value.new ≡ string_bytes value.old ++ value_bytes c) }
 {
     value.push(shown(c))
-}
-
-// Whether one of the attributes has the name.
-fn has_attribute<A: Allocator>(attrs: &[Attribute<A>], name: &str) -> bool
-    ensures { result ≡ has_attribute (map attribute_of attrs.now) name.now }
-{
-    for attr in attrs {
-        if attr.name.local.0.as_str() == name {
-            return true;
-        }
-    }
-    false
-}
-
-// Appends an attribute with no prefix, in no namespace.
-fn push_attribute<A: Allocator + Copy>(
-    alloc: A,
-    attrs: &mut Vec<Attribute<A>, A>,
-    name: String<A>,
-    value: String<A>,
-) -> Result<(), AllocError>
-    ensures { OnOk result (map attribute_of attrs.new.items
-        ≡ map attribute_of attrs.old.items ++ attribute (string_bytes name) (string_bytes value) ∷ []) }
-{
-    let name = QualName::new(None, Namespace(String::new(alloc)), LocalName(name));
-    attrs.push(Attribute { name, value })?;
-    Ok(())
 }

@@ -2,6 +2,7 @@
 //! what is held of references and keywords, and the texts of messages. Nothing here tells.
 #![tactic(auto)]
 
+pub mod attribute_list;
 pub mod cdata;
 pub mod char_ref;
 pub mod characters;

@@ -1,0 +1,197 @@
+//! Tokens, as their records have them.
+
+use std::str;
+
+/// A token. Its texts are borrowed from the tokenizer.
+#[derive(Clone, Debug, PartialEq, Eq)]
+pub enum Token<'t> {
+    StartTag(Tag<'t>),
+    EndTag(Tag<'t>),
+    Text(&'t str),
+    Comment { line: u64, text: &'t str },
+    Instruction { line: u64, content: &'t str },
+    Doctype(Doctype<'t>),
+    NullCharacter { line: u64 },
+    ParseError { line: u64, message: &'t str },
+    End { line: u64 },
+}
+
+/// A tag.
+#[derive(Clone, Debug, PartialEq, Eq)]
+pub struct Tag<'t> {
+    /// The line on which its `>` stands.
+    pub line: u64,
+    pub name: &'t str,
+    pub attributes: Attributes<'t>,
+    pub self_closing: bool,
+    /// An attribute of a repeated name was left out.
+    pub duplicate_attributes: bool,
+}
+
+/// A document type.
+#[derive(Clone, Debug, PartialEq, Eq)]
+pub struct Doctype<'t> {
+    pub line: u64,
+    pub name: Option<&'t str>,
+    pub public_id: Option<&'t str>,
+    pub system_id: Option<&'t str>,
+    pub force_quirks: bool,
+}
+
+/// The attributes of a tag, each a name and a value, in order.
+#[derive(Clone, Debug, PartialEq, Eq)]
+pub struct Attributes<'t> {
+    bytes: &'t [u8],
+    count: u64,
+}
+
+impl<'t> Iterator for Attributes<'t> {
+    type Item = (&'t str, &'t str);
+
+    fn next(&mut self) -> Option<Self::Item> {
+        self.count = self.count.checked_sub(1)?;
+        let (name, rest) = counted(self.bytes)?;
+        let (value, rest) = counted(rest)?;
+        self.bytes = rest;
+        Some((text(name), text(value)))
+    }
+}
+
+// How far the bytes that were taken are read.
+#[derive(Default)]
+pub(crate) struct Read {
+    // Where the next record begins.
+    at: usize,
+    // How far the end of an open text was looked for.
+    searched: usize,
+}
+
+impl Read {
+    // Lets go what was read.
+    pub(crate) fn drop_read(&mut self, taken: &mut Vec<u8>) {
+        taken.drain(..self.at);
+        self.searched = self.searched.saturating_sub(self.at);
+        self.at = 0;
+    }
+}
+
+/// The tokens that were told and not read yet.
+pub struct Tokens<'t> {
+    bytes: &'t [u8],
+    read: &'t mut Read,
+}
+
+impl<'t> Tokens<'t> {
+    pub(crate) fn new(bytes: &'t [u8], read: &'t mut Read) -> Tokens<'t> {
+        Tokens { bytes, read }
+    }
+
+    // The text that begins here, where its end has come.
+    fn next_text(&mut self) -> Option<(Token<'t>, usize)> {
+        let begin = self.read.at + 1;
+        let from = begin.max(self.read.searched);
+        let Some(len) = self.bytes[from..].iter().position(|byte| *byte == 0xFF) else {
+            self.read.searched = self.bytes.len();
+            return None;
+        };
+        Some((Token::Text(text(&self.bytes[begin..from + len])), from + len + 1))
+    }
+
+    fn next_other(&mut self) -> Option<(Token<'t>, usize)> {
+        let bytes = &self.bytes[self.read.at..];
+        let (kind, rest) = bytes.split_first()?;
+        let (line, rest) = number(rest)?;
+        let (token, rest) = token(*kind, line, rest)?;
+        Some((token, self.bytes.len() - rest.len()))
+    }
+}
+
+impl<'t> Iterator for Tokens<'t> {
+    type Item = Token<'t>;
+
+    fn next(&mut self) -> Option<Token<'t>> {
+        let (token, after) = match self.bytes.get(self.read.at)? {
+            3 => self.next_text()?,
+            _ => self.next_other()?,
+        };
+        self.read.at = after;
+        Some(token)
+    }
+}
+
+// The texts of records are UTF-8, as the README of html5events says.
+fn text(bytes: &[u8]) -> &str {
+    str::from_utf8(bytes).expect("the texts of records are UTF-8")
+}
+
+fn number(bytes: &[u8]) -> Option<(u64, &[u8])> {
+    let (number, rest) = bytes.split_first_chunk::<8>()?;
+    Some((u64::from_le_bytes(*number), rest))
+}
+
+// A text with its length in front.
+fn counted(bytes: &[u8]) -> Option<(&[u8], &[u8])> {
+    let (len, rest) = number(bytes)?;
+    rest.split_at_checked(usize::try_from(len).ok()?)
+}
+
+fn counted_where(is_there: bool, bytes: &[u8]) -> Option<(Option<&str>, &[u8])> {
+    if !is_there {
+        return Some((None, bytes));
+    }
+    let (found, rest) = counted(bytes)?;
+    Some((Some(text(found)), rest))
+}
+
+fn attributes(bytes: &[u8]) -> Option<(Attributes<'_>, &[u8])> {
+    let (count, bytes) = number(bytes)?;
+    let mut rest = bytes;
+    for _ in 0..count {
+        rest = counted(counted(rest)?.1)?.1;
+    }
+    Some((Attributes { bytes: &bytes[..bytes.len() - rest.len()], count }, rest))
+}
+
+fn tag(line: u64, bytes: &[u8]) -> Option<(Tag<'_>, &[u8])> {
+    let (flags, rest) = bytes.split_first()?;
+    let (name, rest) = counted(rest)?;
+    let (attributes, rest) = attributes(rest)?;
+    let tag = Tag {
+        line,
+        name: text(name),
+        attributes,
+        self_closing: flags & 1 != 0,
+        duplicate_attributes: flags & 2 != 0,
+    };
+    Some((tag, rest))
+}
+
+fn doctype(line: u64, bytes: &[u8]) -> Option<(Doctype<'_>, &[u8])> {
+    let (flags, rest) = bytes.split_first()?;
+    let (name, rest) = counted_where(flags & 1 != 0, rest)?;
+    let (public_id, rest) = counted_where(flags & 2 != 0, rest)?;
+    let (system_id, rest) = counted_where(flags & 4 != 0, rest)?;
+    Some((Doctype { line, name, public_id, system_id, force_quirks: flags & 8 != 0 }, rest))
+}
+
+// A token of this kind that is no text, from what comes after its line.
+fn token(kind: u8, line: u64, bytes: &[u8]) -> Option<(Token<'_>, &[u8])> {
+    match kind {
+        1 => tag(line, bytes).map(|(tag, rest)| (Token::StartTag(tag), rest)),
+        2 => tag(line, bytes).map(|(tag, rest)| (Token::EndTag(tag), rest)),
+        6 => doctype(line, bytes).map(|(doctype, rest)| (Token::Doctype(doctype), rest)),
+        7 => Some((Token::NullCharacter { line }, bytes)),
+        9 => Some((Token::End { line }, bytes)),
+        _ => {
+            let (found, rest) = counted(bytes)?;
+            let text = text(found);
+            let token = match kind {
+                4 => Token::Comment { line, text },
+                5 => Token::Instruction { line, content: text },
+                8 => Token::ParseError { line, message: text },
+                _ => return None,
+            };
+            Some((token, rest))
+        }
+    }
+}
