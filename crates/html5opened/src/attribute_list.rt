@@ -125,6 +125,22 @@ impl<A: Allocator + Copy> AttributeList<A> {
         }
     }
 
+    /// Appends an attribute.
+    pub fn push(&mut self, alloc: A, name: String<A>, value: String<A>) -> Result<(), AllocError>
+        ensures { OnOk result (self.new ≡ self.old ++ attribute (string_bytes name) (string_bytes value) ∷ []) }
+    {
+        let is_indexed = mem::replace(&mut self.is_indexed, false);
+        if self.items.len() < FEW {
+            return push_attribute(alloc, &mut self.items, name, value);
+        }
+        index_with(&mut self.names, is_indexed, &self.items, &name)?;
+        push_attribute(alloc, &mut self.items, name, value)?;
+        self.is_indexed = true;
+        Ok(())
+    }
+}
+
+impl<A: Allocator> AttributeList<A> {
     /// Whether there are none.
     pub fn is_empty(&self) -> bool
         ensures { IsTrue result ↔ (length self.now ≡ 0) }
@@ -140,20 +156,6 @@ impl<A: Allocator + Copy> AttributeList<A> {
             return self.names.contains(name);
         }
         is_among(&self.items, name)
-    }
-
-    /// Appends an attribute.
-    pub fn push(&mut self, alloc: A, name: String<A>, value: String<A>) -> Result<(), AllocError>
-        ensures { OnOk result (self.new ≡ self.old ++ attribute (string_bytes name) (string_bytes value) ∷ []) }
-    {
-        let is_indexed = mem::replace(&mut self.is_indexed, false);
-        if self.items.len() < FEW {
-            return push_attribute(alloc, &mut self.items, name, value);
-        }
-        index_with(&mut self.names, is_indexed, &self.items, &name)?;
-        push_attribute(alloc, &mut self.items, name, value)?;
-        self.is_indexed = true;
-        Ok(())
     }
 
     /// The attributes, as a tag has them.
