@@ -1,4 +1,5 @@
 //! Programs that read pages, over devices that fail, and by words that are wrong.
+use html5cleaner::CleanPrinter;
 use html5extract::links::Links;
 use html5extract::page_text::PageText;
 use html5programs::{Program, run_by_words};
@@ -88,6 +89,7 @@ fn writer(alloc: Global, room: usize, refusal: Refusal) -> Full {
 enum Taken {
     Links,
     Text,
+    Clean,
 }
 
 // Runs the program. Answers the status, and what was said on standard error.
@@ -106,6 +108,9 @@ fn run_on<R: Files + Alloc<A = Global>, I: Read + Drop>(
         }
         Taken::Text => {
             run_by_words::<PageText<_>, _, _, _, _>(rt, PROGRAM, words, stdin, stdout, errors)
+        }
+        Taken::Clean => {
+            run_by_words::<CleanPrinter<_>, _, _, _, _>(rt, PROGRAM, words, stdin, stdout, errors)
         }
     };
     (status, said)
@@ -133,6 +138,14 @@ const TEXT: Page = Page {
     bytes: b"a<p>bc",
     printed: "abc",
     after: &[(0, ""), (4, "a"), (7, "abc")],
+};
+
+// A tag brings the text in front of it, and the end the last one.
+const CLEAN: Page = Page {
+    taken: Taken::Clean,
+    bytes: b"<p>a<b x>c",
+    printed: "<p>a<b>c",
+    after: &[(0, ""), (3, "<p>"), (9, "<p>a<b>"), (11, "<p>a<b>c")],
 };
 
 // What is printed of the page where so many reads went well.
@@ -172,7 +185,7 @@ fn check_reads(rt: &(impl Abort + Files + Alloc<A = Global>), page: Page, reads:
 
 #[test]
 fn says_that_a_read_failed(rt: HostRuntime) {
-    for page in [LINKS, TEXT] {
+    for page in [LINKS, TEXT, CLEAN] {
         for reads in 0..=page.bytes.len() + 1 {
             check_reads(&rt, page, reads);
         }
@@ -211,7 +224,7 @@ fn check_writes(
 #[test]
 fn says_that_a_write_failed_unless_nobody_reads(rt: HostRuntime) {
     for refusal in [Refusal::Error, Refusal::Closed, Refusal::Nothing] {
-        for page in [LINKS, TEXT] {
+        for page in [LINKS, TEXT, CLEAN] {
             for room in 0..=page.printed.len() {
                 check_writes(&rt, page, room, refusal);
             }
