@@ -11,5 +11,6 @@ pub mod KeywordReading
 pub mod Keywords
 pub mod LongestName
 pub mod Numbers
+pub mod PlainNames
 pub mod RunSteps
 pub mod Sections

@@ -1,5 +1,5 @@
 -- Runs: characters that are read at once, since each of them tells itself alone or is put to the open name or value.
-use Rattle.std.specs.Prelude.{◌≡◌, ◌≢◌, ℕ, List, [], ◌∷◌, ◌++◌, All, Contains, Option, None, Some, codes, flat_map, map, encode_utf8, if◌then◌else◌}
+use Rattle.std.specs.Prelude.{◌≡◌, ◌≢◌, ℕ, Bool, not, ◌==◌, ◌&&◌, ◌||◌, nat_lt, List, [], ◌∷◌, ◌++◌, All, Contains, Option, None, Some, codes, flat_map, map, encode_utf8, if◌then◌else◌}
 use Rattle.html5ever_interface.specs.Token.{Told}
 use Rattle.html5ever_interface.specs.Token.Told.{Text}
 use Rattle.html5ever_interface.specs.declared.states.AttrValueKind.{AttrValueKind}
@@ -50,6 +50,10 @@ pub record IsRunAt (opened : Open) (run : List ℕ) : Type 0 where
   pub has_runs : other_run_ends opened ≡ Some others
   pub filled : run ≢ []
   pub ordinary : All (λ c. ¬ Contains (run_ends others) c) run
+
+-- whether a byte of a run stands in a name as it is: it is no capital letter and not NUL
+abbrev pub stays_in_names : ℕ → Bool
+stays_in_names byte = not (byte == null) && (nat_lt byte 65 || not (nat_lt byte 91))
 
 -- what is open after a run
 abbrev pub opened_after_run : Open → List ℕ → Open

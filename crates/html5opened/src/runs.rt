@@ -9,7 +9,8 @@ ghost use Rattle.html5grammar.specs.Start.{raw_of};
 ghost use Rattle.html5grammar.specs.Start.Mode.{RawText};
 ghost use Rattle.html5grammar.specs.Start.Open.{Between, InComment};
 ghost use Rattle.html5opened.specs.CurrentTag.{opened_of, last_name_of};
-ghost use Rattle.html5opened.specs.Runs.{IsRunAt, other_value_ends, other_run_ends, run_ends, opened_after_run};
+ghost use Rattle.html5opened.specs.Runs.{IsRunAt, other_value_ends, other_run_ends, run_ends, stays_in_names, opened_after_run};
+ghost use Rattle.std.specs.List.{list_all};
 ghost use Rattle.markup5ever.specs.SmallCharSet.{IsMember};
 
 use crate::comments::{ends_in, is_comment_state};
@@ -92,11 +93,35 @@ pub fn run_ends<A: Allocator>(at: &Opened<A>) -> Option<SmallCharSet>
     }
 }
 
+// Whether a byte stands in a name as it is.
+#[inline(always)]
+fn stays_in_names(byte: u8) -> bool
+    ensures { result ≡ stays_in_names byte }
+{
+    byte != 0 && (byte < b'A' || byte > b'Z')
+}
+
+// Whether each byte of a run stands in a name as it is. It looks at all of them, so that the compiler makes it a step
+// over many at once.
+fn is_plain_name(run: &[u8]) -> bool
+    ensures { result ≡ list_all stays_in_names run.now }
+{
+    let mut is_plain = true;
+    for byte in run {
+        is_plain &= stays_in_names(*byte);
+    }
+    is_plain
+}
+
 /// Appends a run to a name, its letters in lower case.
 pub fn push_names<A: Allocator>(name: &mut String<A>, run: &str) -> Result<(), AllocError>
     ensures { OnOk result (string_bytes name.new
         ≡ string_bytes name.old ++ flat_map name_bytes (chars run.now)) }
 {
+    if is_plain_name(run.as_bytes()) {
+        name.push_str(run)?;
+        return Ok(());
+    }
     for c in run.chars() {
         push_name(name, c)?;
     }

@@ -1,10 +1,13 @@
-use Rattle.std.proofs.Common.{◌≡◌, [], ◌++◌, string_bytes, sym, ap, ◌∙◌, subst, append_assoc}
+use Rattle.std.proofs.Common.{◌≡◌, [], ◌++◌, true, string_bytes, sym, ap, ◌∙◌, subst, append_assoc}
 use Rattle.std.specs.Prelude.{flat_map, encode_utf8}
+use Rattle.std.specs.List.{list_all}
 use Rattle.std.specs.Str.{IsUtf8, chars}
 use Rattle.std.specs.Str.Iter.{chars_rest}
 use Rattle.std.proofs.lemmas.List.{append-nil, nil_from_length}
 use Rattle.std.proofs.lemmas.Str.{chars_past_char, IsUtf8-past_char, chars-nil}
 use Rattle.html5grammar.specs.Characters.{name_bytes}
+use Rattle.html5opened.specs.Runs.{stays_in_names}
+use Rattle.html5opened.proofs.PlainNames.{plain-run}
 use Rattle.html5opened.proofs.runs.push_names.Goals as goal
 
 pub loop-c-init : goal.loop-c-init
@@ -31,3 +34,9 @@ returns g c =
     sym (append-nil (string_bytes c.loop-c.name))
     ∙ ap (λ l. string_bytes c.loop-c.name ++ flat_map name_bytes l) (sym (ap chars none ∙ chars-nil))
     ∙ c.loop-c.invariant.3
+
+pub returns-then-is_plain_name : goal.returns-then-is_plain_name
+returns-then-is_plain_name g c =
+    let plain : list_all stays_in_names c.args.run.now ≡ true =
+    ap (list_all stays_in_names) (sym c.as_bytes.ensures.value) ∙ sym c.if-is_plain_name.ensures in
+    c.in_ok-push_str.ensures.bytes ∙ ap (λ l. string_bytes c.args.name.now ++ l) (sym (plain-run c.args.run.now c.utf8.run plain))
