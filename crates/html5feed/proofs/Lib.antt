@@ -1,3 +1,4 @@
+pub mod LineFeeds
 pub mod RunLemmas
 pub mod Pauses
 pub mod QueueReading

@@ -1,4 +1,6 @@
-ghost use Rattle.std.specs.Prelude.{◌≡◌, ◌^◌, ◌<◌, ◌↔◌, [], ◌∷◌, false, IsTrue, MatchOption};
+ghost use Rattle.std.specs.Prelude.{◌≡◌, ◌≢◌, ◌==◌, ◌^◌, ◌<◌, ◌↔◌, [], ◌∷◌, false, All, IsTrue, MatchOption, count_by};
+ghost use Rattle.std.specs.Str.{chars};
+ghost use Rattle.html5grammar.specs.Characters.{line_feed, carriage_return};
 ghost use Rattle.html5grammar.specs.NormalisedText.{normalised, drops_first, input_after};
 
 use std::marker::Model;
@@ -87,4 +89,26 @@ impl Input {
         self.current_line = self.current_line.saturating_add(1);
         Some('\n')
     }
+
+    /// Takes a run, whose characters come in as they stand: none is a CR, and none is dropped.
+    #[inline(always)]
+    pub fn advance_run(&mut self, run: &str)
+        requires past_line_break { self.old.after_carriage_return ≡ false }
+        requires past_stream_start { self.old.drops_byte_order_mark ≡ false }
+        requires no_carriage_return { All (λ c. c ≢ carriage_return) (chars run.now) }
+        ensures moves { self.new ≡ input_after self.old (chars run.now) }
+    {
+        self.current_line = self.current_line.saturating_add(line_feeds(run));
+    }
+}
+
+// How many line feeds a text has.
+fn line_feeds(text: &str) -> u64
+    ensures { result ≡ count_by (λ c. c == line_feed) (chars text.now) }
+{
+    let mut found = 0;
+    for byte in text.as_bytes() {
+        found += u64::from(*byte == b'\n');
+    }
+    found
 }

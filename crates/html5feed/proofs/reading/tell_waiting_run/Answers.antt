@@ -1,6 +1,7 @@
-use Rattle.std.proofs.Common.{take}
+use Rattle.std.proofs.Common.{◌∙◌, sym, take}
 use Rattle.std.specs.Prelude.{encode_utf8_all}
 use Rattle.std.specs.Str.{chars}
+use Rattle.std.proofs.lemmas.Str.{encodes-chars}
 use Rattle.html5feed.proofs.QueueReading.{ReadsRun-text, ReadsRun-memory}
 use Rattle.html5feed.proofs.reading.tell_waiting_run.Goals as goal
 
@@ -11,5 +12,8 @@ returns-in_default-clause-reads g c =
 
 pub returns-clause-reads : goal.returns-clause-reads
 returns-clause-reads g c =
-    ReadsRun-text g.S.TokenSink.means c.args.rules.now c.tell_run.result g.met.S.TokenSink.keeps_on c.args.position.now _ _ _ _ (chars (take c.args.bytes (encode_utf8_all c.args.queue.now.text)))
-    c.requires.is_run c.requires.clean c.requires.fits c.in-Ok.ensures.takes (rw c.in-Ok.ensures.bytes at c.tell_run.ensures.tells)
+    let run = chars (take c.args.bytes (encode_utf8_all c.args.queue.now.text)) in
+    let text = c.in-Ok.ensures.bytes in
+    ReadsRun-text g.S.TokenSink.means c.args.rules.now c.tell_run.result g.met.S.TokenSink.keeps_on c.args.position.now _ _ _ _ _ run _
+    c.requires.is_run c.requires.clean c.requires.fits c.in-Ok.ensures.takes (text ∙ sym (encodes-chars (take c.args.bytes (encode_utf8_all c.args.queue.now.text)) (rw text at c.utf8.run)))
+    c.tell_run.ensures.tells c.tell_run.ensures.opened c.tell_run.ensures.last (rw text at c.tell_run.ensures.input)
