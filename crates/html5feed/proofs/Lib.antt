@@ -1,4 +1,4 @@
-pub mod LineFeeds
+pub mod RunInput
 pub mod RunLemmas
 pub mod Pauses
 pub mod QueueReading

@@ -14,11 +14,11 @@ use Rattle.html5ever_interface.specs.Token.{Told, is_tag}
 use Rattle.html5ever_interface.specs.Token.Reply.{KeepOn}
 use Rattle.html5ever_interface.specs.Token.Told.{Text}
 use Rattle.html5grammar.specs.Characters.{line_feed, carriage_return}
-use Rattle.html5grammar.specs.NormalisedText.{with_line_feeds, without_dropped_first, normalised, line_after, input_after, ends_with_carriage_return}
+use Rattle.html5grammar.specs.NormalisedText.{normalised, line_after, input_after}
 use Rattle.html5grammar.specs.Reading.{messages_so_far, start_after}
 use Rattle.html5grammar.specs.Start.{Input, Start, Open, Mode, Rules, is_clean}
 use Rattle.html5grammar.specs.Start.Open.{Between, LessThan, LessThanSolidus, InTag, InRaw, InDeclaration, InComment, InBogusComment, InInstruction, InDoctype, InDoctypeKeyword, InCdata, InReference}
-use Rattle.html5grammar.proofs.InputLemmas.{line_past, lines_past, line_after-none, line_after-lines_past}
+use Rattle.html5grammar.proofs.InputLemmas.{line_past, lines_past, line_after-none}
 use Rattle.html5grammar.proofs.NoTags.{NoTags}
 use Rattle.html5grammar.proofs.ReadingLemmas.{clean-mode, told-trace, after-opened, after-last}
 use Rattle.html5grammar.proofs.Traces.{Trace, trace, trace_here, with_messages, brought-tells, trace_brought}
@@ -28,6 +28,7 @@ use Rattle.html5quiet.proofs.Runs as quiet
 use Rattle.html5quiet.proofs.Runs.{run-decided, run_tokens-open, open-after, some_of}
 use Rattle.html5feed.specs.Feed.{first_pause}
 use Rattle.html5feed.specs.Refused.{IsRun}
+use Rattle.html5feed.proofs.RunInput.{normalised-run, input_after-run, line-run}
 use Rattle.html5feed.proofs.Pauses.{NoTagMessages, first_pause-no_tags, no_tag_messages}
 use Rattle.html5states.specs.Telling.{IsToldAs}
 use Rattle.html5states.proofs.Tellings.{concat-encoded}
@@ -52,44 +53,8 @@ within-ordinary opened run is_run within =
 ordinary-no_returns : (run : List ℕ) → All IsOrdinary run → All (λ c. c ≢ carriage_return) run
 ordinary-no_returns run all = All-weaker IsOrdinary (λ c. c ≢ carriage_return) (λ c o. o.no_carriage_return) run all
 
-with_line_feeds-run : (run : List ℕ) → All (λ c. c ≢ carriage_return) run → with_line_feeds false run ≡ run
-unfolding with_line_feeds
-with_line_feeds-run [] all = refl
-with_line_feeds-run (c ∷ run) all =
-    rw (ne_eqb c carriage_return (All-head (λ d. d ≢ carriage_return) c run all))
-    (ap (λ l. c ∷ l) (with_line_feeds-run run (All-tail (λ d. d ≢ carriage_return) c run all)))
-
--- such characters come in as they are, where none is dropped
-normalised-run : (I : Input) (run : List ℕ) → I.after_carriage_return ≡ false → I.drops_byte_order_mark ≡ false → All (λ c. c ≢ carriage_return) run
-    → normalised I run ≡ run
-unfolding normalised without_dropped_first
-normalised-run I [] line_break start all = with_line_feeds-run [] all
-normalised-run I (c ∷ run) line_break start all = rw (line_break, start) (with_line_feeds-run (c ∷ run) all)
-
 pub normalised-ordinary : (I : Input) (run : List ℕ) → I.after_carriage_return ≡ false → I.drops_byte_order_mark ≡ false → All IsOrdinary run → normalised I run ≡ run
 normalised-ordinary I run line_break start all = normalised-run I run line_break start (ordinary-no_returns run all)
-
-ends-run : (b : Bool) (run : List ℕ) → b ≡ false → All (λ c. c ≢ carriage_return) run → ends_with_carriage_return b run ≡ false
-unfolding ends_with_carriage_return
-ends-run b [] e all = e
-ends-run b (c ∷ run) e all =
-    ends-run (c == carriage_return) run (ne_eqb c carriage_return (All-head (λ d. d ≢ carriage_return) c run all)) (All-tail (λ d. d ≢ carriage_return) c run all)
-
--- they move the line alone
-pub input_after-run : (I : Input) (run : List ℕ) → I.after_carriage_return ≡ false → I.drops_byte_order_mark ≡ false → All (λ c. c ≢ carriage_return) run → I.line < 2 ^ 64
-    → input_after I run ≡ record I { line = line_after I run }
-unfolding input_after
-input_after-run I [] line_break start all h = rw (line_after-none I h) refl
-input_after-run I (c ∷ run) line_break start all h =
-    rw (normalised-run I (c ∷ run) line_break start all, ends-run false (c ∷ run) refl all, line_break, start) refl
-
--- by their line feeds
-pub line-run : (I : Input) (run : List ℕ) → I.after_carriage_return ≡ false → I.drops_byte_order_mark ≡ false → All (λ c. c ≢ carriage_return) run → I.line < 2 ^ 64
-    → (input_after I run).line ≡ lines_past I.line run
-line-run I run line_break start all h =
-    ap (λ (J : Input). J.line) (input_after-run I run line_break start all h)
-    ∙ line_after-lines_past I [] run
-    ∙ ap (λ line. lines_past line run) (line_after-none I h)
 
 -- the line stays where none is a LF
 line_after-ordinary : (I : Input) (before : List ℕ) (c : ℕ) → IsOrdinary c → line_after I (before ++ c ∷ []) ≡ line_after I before

@@ -1,9 +1,12 @@
-ghost use Rattle.std.specs.Prelude.{◌≡◌, ◌≢◌, ◌==◌, ◌^◌, ◌<◌, ◌↔◌, [], ◌∷◌, false, All, IsTrue, MatchOption, count_by};
+ghost use Rattle.std.specs.Prelude.{◌≡◌, ◌≢◌, ◌==◌, ◌+◌, ◌^◌, ◌<◌, ◌≤◌, ◌↔◌, [], ◌∷◌, false, All, IsTrue, MatchOption, count_by, length, take};
 ghost use Rattle.std.specs.Str.{chars};
 ghost use Rattle.html5grammar.specs.Characters.{line_feed, carriage_return};
 ghost use Rattle.html5grammar.specs.NormalisedText.{normalised, drops_first, input_after};
 
 use std::marker::Model;
+
+// How many bytes are looked at in one step.
+const BLOCK: usize = 16;
 
 /// How the characters of a stream come in: the line that was reached, and whether the next character
 /// may be dropped.
@@ -106,9 +109,29 @@ impl Input {
 fn line_feeds(text: &str) -> u64
     ensures { result ≡ count_by (λ c. c == line_feed) (chars text.now) }
 {
+    let bytes = text.as_bytes();
     let mut found = 0;
-    for byte in text.as_bytes() {
-        found += u64::from(*byte == b'\n');
+    let mut at = 0;
+    while BLOCK <= bytes.len() - at {
+        found += line_feeds_in_block(bytes, at);
+        at += BLOCK;
+    }
+    for place in at..bytes.len() {
+        found += u64::from(bytes[place] == b'\n');
     }
     found
+}
+
+// How many of the bytes of a block are line feeds. It has no exit, so that all are looked at in one step.
+fn line_feeds_in_block(bytes: &[u8], from: usize) -> u64
+    requires { from + 16 ≤ length bytes.now }
+    ensures counts { count_by (λ b. b == line_feed) (take from bytes.now) + result
+        ≡ count_by (λ b. b == line_feed) (take (from + 16) bytes.now) }
+    ensures few { result ≤ 16 }
+{
+    let mut found = 0u8;
+    for k in 0..BLOCK {
+        found += u8::from(bytes[from + k] == b'\n');
+    }
+    u64::from(found)
 }
