@@ -1,12 +1,12 @@
 -- A run tells its characters each on its own line, and moves the line alone; where something is open that takes it, it tells nothing.
 use Rattle.html5grammar.specs.Reading.Here.{Tells}
 use Rattle.html5grammar.specs.Machine.{step_at}
-use Rattle.std.proofs.Common.{◌≡◌, ◌≢◌, ℕ, ◌<◌, ◌^◌, Bool, false, cond, List, [], ◌∷◌, ◌++◌, inr, refl, ap, sym, ◌∙◌, arith, Some, true, take, drop, subst, ◌↔◌}
+use Rattle.std.proofs.Common.{◌≡◌, ◌≢◌, ℕ, ◌<◌, ◌^◌, false, cond, List, [], ◌∷◌, ◌++◌, inr, refl, ap, sym, ◌∙◌, arith, Some, true, take, drop, subst, ◌↔◌}
 use Rattle.std.specs.Prelude.{map, ◌==◌, All, Contains, encode_utf8, encode_utf8_all, is_some, IfSome}
 use Rattle.std.specs.Str.{IsUtf8, chars}
 use Rattle.std.proofs.lemmas.Bool.{ne_eqb}
 use Rattle.markup5ever.specs.SmallCharSet.{IsMember, BeginsOutside}
-use Rattle.std.proofs.lemmas.List.{append_assoc, append-nil, map-append}
+use Rattle.std.proofs.lemmas.List.{append_assoc, append-nil}
 use Rattle.std.proofs.lemmas.List.Elements.{All-head, All-tail, All-weaker}
 use Rattle.std.proofs.lemmas.List.Sums.{sum_by-append}
 use Rattle.html5ever_interface.specs.Sink.{Means, Message, stepped, on_line}

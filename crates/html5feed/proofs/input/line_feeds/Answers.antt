@@ -1,4 +1,4 @@
-use Rattle.std.proofs.Common.{◌∙◌, ap, take}
+use Rattle.std.proofs.Common.{◌∙◌, ap}
 use Rattle.std.specs.Prelude.{◌==◌, count_by}
 use Rattle.std.proofs.lemmas.List.{take_all}
 use Rattle.html5grammar.specs.Characters.{line_feed}
