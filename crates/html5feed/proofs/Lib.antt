@@ -1,3 +1,4 @@
+pub mod RunInput
 pub mod RunLemmas
 pub mod Pauses
 pub mod QueueReading

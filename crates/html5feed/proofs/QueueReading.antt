@@ -1,11 +1,11 @@
 -- A loop that reads the queue: what it has read so far, and what that gives when it goes on, ends or is refused.
 use Rattle.std.proofs.Common.{◌≡◌, ℕ, true, false, List, [], ◌∷◌, ◌++◌, refl, ap, sym, ◌∙◌, arith, length, ◌+◌, length-append, Option, None, Some, inl, inr, subst, ◌<◌, ◌^◌}
-use Rattle.std.specs.Prelude.{IfErr, map, encode_utf8}
+use Rattle.std.specs.Prelude.{IfErr, encode_utf8_all}
 use Rattle.std.proofs.lemmas.List.{append_assoc, append-nil}
 use Rattle.markup5ever.specs.BufferQueue.{TextQueue, Takes}
 use Rattle.html5grammar.specs.Reading.{messages_so_far, state_after, start_after}
 use Rattle.html5feed.specs.Runs.{ReadsRun}
-use Rattle.html5ever_interface.specs.Sink.{Means, Message, stepped, on_line}
+use Rattle.html5ever_interface.specs.Sink.{Means, Message, stepped}
 use Rattle.html5grammar.specs.Start.{Start, Open, is_clean, Rules}
 use Rattle.html5states.specs.Telling.{Stops, IsRefusal}
 use Rattle.html5grammar.specs.NormalisedText.{input_after}
@@ -16,24 +16,20 @@ use Rattle.html5ever_interface.specs.Token.Told.{Text}
 use Rattle.html5ever_interface.specs.Token.Reply.{KeepOn}
 use Rattle.html5feed.specs.Feed.{Feed, pauses, takes_before, first_pause, feed, IsEndOf}
 use Rattle.html5feed.specs.Refused.{IsRun, IsItem, RefusedBehind}
-use Rattle.html5opened.specs.Runs.{run_tokens, opened_after_run}
-use Rattle.html5feed.proofs.RunLemmas.{told-run, after-run, run-quiet}
-use Rattle.html5states.specs.Telling.{Tells}
+use Rattle.html5opened.specs.Runs.{opened_after_run}
+use Rattle.html5feed.proofs.RunLemmas.{run_messages, run_messages-within, run-said, input_after-within, told-run, after-run, run-quiet}
+use Rattle.html5states.specs.Telling.{IsToldAs, Tells}
 use Rattle.std.specs.Prelude.{OnOk, IsNone}
 use Rattle.html5feed.proofs.Pauses.{told_beyond-behind, state_behind-append, pause_here, feed-goes_on, feed-takes, feed-pauses}
 use Rattle.html5opened.specs.declared.error.TokenizerError.{TokenizerError}
 use Rattle.html5opened.specs.declared.error.TokenizerError.TheVariants.{Memory, Sink, Failed}
-use Rattle.html5quiet.proofs.Runs.{run_tokens-open}
 use Rattle.html5grammar.proofs.ReadingLemmas.{clean-mode, told-nil, told-append, after-nil, after-append}
 use Rattle.html5opened.proofs.Keywords.{cons≢nil}
 use Rattle.html5states.proofs.Tellings.{Memory-at_once, stops_before, stops_after}
 
--- between tags a run tells its characters and opens nothing
+-- between tags a run opens nothing
 opened_after_run-clean : (opened : Open) (run : List ℕ) → is_clean opened ≡ true → opened_after_run opened run ≡ opened
 opened_after_run-clean opened run clean = let is = clean-mode opened clean in rw is.1 refl
-
-run_tokens-clean : (opened : Open) (run : List ℕ) → is_clean opened ≡ true → run_tokens opened run ≡ map (λ (c : ℕ). Text (encode_utf8 c)) run
-run_tokens-clean opened run clean = let is = clean-mode opened clean in rw is.1 refl
 
 pub on_ok : {T E : Type 0} {P : Type 0} (r : Result T E) → P → OnOk r P
 on_ok (Ok x) p = p
@@ -155,7 +151,8 @@ module _ {X S H : Type 0} (means : Means X S H) (rules : Rules) where
   tells_nothing (Err e) s memory = rw memory (Memory-at_once means.step means.faulted s [])
 
   run_moves : {T : Type 0} (r : Result T TokenizerError) (K L : Start) (s : S) (run : List ℕ) → IsRun rules K run → K.input.line < 2 ^ 64
-      → OnOk r (L.opened ≡ opened_after_run K.opened run) → L.last_start_tag ≡ K.last_start_tag → L.input ≡ K.input → OnOk r (L ≡ start_after means rules K s run)
+      → OnOk r (L.opened ≡ opened_after_run K.opened run) → L.last_start_tag ≡ K.last_start_tag → OnOk r (L.input ≡ input_after K.input run)
+      → OnOk r (L ≡ start_after means rules K s run)
   run_moves (Ok x) K L s run is_run fits opened last input = rw (after-run means rules K s run is_run fits, ← opened, ← last, ← input) refl
   run_moves (Err e) K L s run is_run fits opened last input = tt
 
@@ -163,8 +160,8 @@ module _ {X S H : Type 0} (means : Means X S H) (rules : Rules) where
   pub ReadsRun-run : {T : Type 0} (r : Result T TokenizerError)
       → ((s : S) (told : Told) (line : ℕ) → is_tag told ≡ false → means.reply s told line ≡ KeepOn)
       → (K L : Start) (old new : TextQueue) (s t : S) (run : List ℕ) → IsRun rules K run → K.input.line < 2 ^ 64 → Takes old new run
-      → Tells means.step means.faulted r s (on_line K.input.line (run_tokens K.opened run)) t
-      → OnOk r (L.opened ≡ opened_after_run K.opened run) → L.last_start_tag ≡ K.last_start_tag → L.input ≡ K.input
+      → Tells means.step means.faulted r s (run_messages K.opened K.input.line run) t
+      → OnOk r (L.opened ≡ opened_after_run K.opened run) → L.last_start_tag ≡ K.last_start_tag → OnOk r (L.input ≡ input_after K.input run)
       → ReadsRun means rules r K L old new s t
   ReadsRun-run r keeps_on K L old new s t run is_run fits takes tells opened last input = record {
     run = run;
@@ -175,16 +172,18 @@ module _ {X S H : Type 0} (means : Means X S H) (rules : Rules) where
     quiet = run-quiet means keeps_on rules K s run is_run fits;
   }
 
-  -- a run of text was told, or refused
+  -- a run of text was told on the line that is reached after it, or refused
   pub ReadsRun-text : {T : Type 0} (r : Result T TokenizerError)
       → ((s : S) (told : Told) (line : ℕ) → is_tag told ≡ false → means.reply s told line ≡ KeepOn)
-      → (K : Start) (old new : TextQueue) (s t : S) (run : List ℕ) → IsRun rules K run → is_clean K.opened ≡ true → K.input.line < 2 ^ 64 → Takes old new run
-      → Tells means.step means.faulted r s (on_line K.input.line (map (λ (c : ℕ). Text (encode_utf8 c)) run)) t
-      → ReadsRun means rules r K K old new s t
-  ReadsRun-text r keeps_on K old new s t run is_run clean fits takes tells =
-      ReadsRun-run r keeps_on K K old new s t run is_run fits takes
-      (subst (λ (tokens : List Told). Tells means.step means.faulted r s (on_line K.input.line tokens) t) (sym (run_tokens-clean K.opened run clean)) tells)
-      (on_ok r (sym (opened_after_run-clean K.opened run clean))) refl refl
+      → (K L : Start) (old new : TextQueue) (s t : S) (run bytes : List ℕ) → IsRun rules K run → is_clean K.opened ≡ true → K.input.line < 2 ^ 64 → Takes old new run
+      → bytes ≡ encode_utf8_all run
+      → ((M : List Message) → IsToldAs (Text bytes) L.input.line M → Tells means.step means.faulted r s M t)
+      → L.opened ≡ K.opened → L.last_start_tag ≡ K.last_start_tag → L.input ≡ input_after K.input run
+      → ReadsRun means rules r K L old new s t
+  ReadsRun-text r keeps_on K L old new s t run bytes is_run clean fits takes same tells opened last input =
+      ReadsRun-run r keeps_on K L old new s t run is_run fits takes
+      (tells (run_messages K.opened K.input.line run) (rw (same, input) (run-said rules K run is_run clean fits)))
+      (on_ok r (opened ∙ sym (opened_after_run-clean K.opened run clean))) last (on_ok r input)
 
   -- there was no memory for a run of text
   pub ReadsRun-memory : {T : Type 0}
@@ -192,7 +191,7 @@ module _ {X S H : Type 0} (means : Means X S H) (rules : Rules) where
       → (K : Start) (old new : TextQueue) (s : S) (run : List ℕ) → IsRun rules K run → K.input.line < 2 ^ 64 → Takes old new run
       → ReadsRun {T = T} means rules (Err Memory) K K old new s s
   ReadsRun-memory keeps_on K old new s run is_run fits takes =
-      ReadsRun-run (Err Memory) keeps_on K K old new s s run is_run fits takes (Memory-at_once means.step means.faulted s _) tt refl refl
+      ReadsRun-run (Err Memory) keeps_on K K old new s s run is_run fits takes (Memory-at_once means.step means.faulted s _) tt refl tt
 
   -- a run was put to the open name or value, or there was no memory for it
   pub ReadsRun-open : {T : Type 0} (r : Result T TokenizerError)
@@ -202,8 +201,8 @@ module _ {X S H : Type 0} (means : Means X S H) (rules : Rules) where
       → ReadsRun means rules r K L old new s s
   ReadsRun-open r keeps_on K L old new s run is_run not_clean fits takes memory opened last input =
       ReadsRun-run r keeps_on K L old new s s run is_run fits takes
-      (subst (λ (tokens : List Told). Tells means.step means.faulted r s (on_line K.input.line tokens) s) (sym (run_tokens-open K.opened run not_clean)) (tells_nothing r s memory))
-      opened last input
+      (subst (λ (M : List Message). Tells means.step means.faulted r s M s) (sym (run_messages-within K.opened K.input.line run not_clean)) (tells_nothing r s memory))
+      opened last (on_ok r (input ∙ sym (input_after-within rules K run is_run not_clean fits)))
 
   -- what the whole feed takes, around an item
   taken-parts : (K L : Start) (old mid new : TextQueue) (s t : S) (item : List ℕ) → (read : HasRead K L old mid s t) → Takes mid new item

@@ -1,7 +1,12 @@
-ghost use Rattle.std.specs.Prelude.{◌≡◌, ◌^◌, ◌<◌, ◌↔◌, [], ◌∷◌, false, IsTrue, MatchOption};
+ghost use Rattle.std.specs.Prelude.{◌≡◌, ◌≢◌, ◌==◌, ◌+◌, ◌^◌, ◌<◌, ◌≤◌, ◌↔◌, [], ◌∷◌, false, All, IsTrue, MatchOption, count_by, length, take};
+ghost use Rattle.std.specs.Str.{chars};
+ghost use Rattle.html5grammar.specs.Characters.{line_feed, carriage_return};
 ghost use Rattle.html5grammar.specs.NormalisedText.{normalised, drops_first, input_after};
 
 use std::marker::Model;
+
+// How many bytes are looked at in one step.
+const BLOCK: usize = 16;
 
 /// How the characters of a stream come in: the line that was reached, and whether the next character
 /// may be dropped.
@@ -87,4 +92,48 @@ impl Input {
         self.current_line = self.current_line.saturating_add(1);
         Some('\n')
     }
+
+    /// Takes a run, whose characters come in as they stand: none is a CR, and none is dropped.
+    #[inline(always)]
+    pub fn advance_run(&mut self, run: &str)
+        requires past_line_break { self.old.after_carriage_return ≡ false }
+        requires past_stream_start { self.old.drops_byte_order_mark ≡ false }
+        requires no_carriage_return { All (λ c. c ≢ carriage_return) (chars run.now) }
+        ensures moves { self.new ≡ input_after self.old (chars run.now) }
+    {
+        self.current_line = self.current_line.saturating_add(line_feeds(run));
+    }
+}
+
+// How many line feeds a text has.
+fn line_feeds(text: &str) -> u64
+    ensures { result ≡ count_by (λ c. c == line_feed) (chars text.now) }
+{
+    let bytes = text.as_bytes();
+    let mut found = 0;
+    let mut at = 0;
+    while BLOCK <= bytes.len() - at {
+        found += line_feeds_in_block(bytes, at);
+        at += BLOCK;
+    }
+    for place in at..bytes.len() {
+        found += u64::from(bytes[place] == b'\n');
+    }
+    found
+}
+
+// How many of the bytes of a block are line feeds. It has no exit, so that all are looked at in one
+// step; as a part of the loop above it would be made many.
+#[inline(never)]
+fn line_feeds_in_block(bytes: &[u8], from: usize) -> u64
+    requires { from + 16 ≤ length bytes.now }
+    ensures counts { count_by (λ b. b == line_feed) (take from bytes.now) + result
+        ≡ count_by (λ b. b == line_feed) (take (from + 16) bytes.now) }
+    ensures few { result ≤ 16 }
+{
+    let mut found = 0u8;
+    for k in 0..BLOCK {
+        found += u8::from(bytes[from + k] == b'\n');
+    }
+    u64::from(found)
 }

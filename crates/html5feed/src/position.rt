@@ -1,12 +1,14 @@
 //! Where a tokenizer stands in its stream.
 #![tactic(auto, unfolding(html5opened::specs::CharRef::with_reference))]
 
-ghost use Rattle.std.specs.Prelude.{◌≡◌, ◌≢◌, ◌^◌, ◌<◌, ◌≤◌, ◌+◌, ℕ, List, ◌∷◌, [], true, false, length, take, drop, Contains, IfOk, IfErr, IfSome, OnOk, option_map, string_bytes};
+ghost use Rattle.std.specs.Prelude.{◌≡◌, ◌≢◌, ◌^◌, ◌<◌, ◌≤◌, ◌+◌, ℕ, List, ◌∷◌, [], true, false, length, take, drop, All, Contains, IfOk, IfErr, IfSome, OnOk, option_map, string_bytes};
 ghost use Rattle.html5ever_interface.specs.Options.{options_of};
-ghost use Rattle.html5ever_interface.specs.Sink.{on_line};
+ghost use Rattle.html5ever_interface.specs.Sink.{Message, on_line};
 ghost use Rattle.html5ever_interface.specs.Token.{tag_of};
 ghost use Rattle.html5ever_interface.specs.Token.Told.{Text};
+ghost use Rattle.html5grammar.specs.Characters.{carriage_return};
 ghost use Rattle.html5grammar.specs.EndOfInput.{late_at_end_of, open_at_end_of, tokens_at_end};
+ghost use Rattle.html5grammar.specs.NormalisedText.{input_after};
 ghost use Rattle.html5grammar.specs.Reading.{last_behind};
 ghost use Rattle.html5grammar.specs.Slice.{tokens_of_late};
 ghost use Rattle.html5grammar.specs.Start.{start_of, initial_name, raw_of, is_clean, is_undecided_open, held_len};
@@ -17,7 +19,7 @@ ghost use Rattle.html5opened.specs.CurrentTag.{is_between, opened_of, last_name_
 ghost use Rattle.html5feed.specs.Refused.{IsRun};
 ghost use Rattle.html5opened.specs.Runs.{IsRunAt, other_run_ends, run_ends, opened_after_run};
 ghost use Rattle.std.specs.Str.{IsUtf8, chars};
-ghost use Rattle.html5states.specs.Telling.{Emits, Tells, IsRefusal, tokens_in, faults_of};
+ghost use Rattle.html5states.specs.Telling.{Emits, Tells, IsRefusal, IsToldAs, faults_of};
 ghost use Rattle.html5feed.specs.Quiet.{IsQuietText, StopsAtCharacter};
 ghost use Rattle.html5feed.specs.Starting.{CanStart};
 ghost use Rattle.html5feed.specs.Undecided.{rules_with};
@@ -247,20 +249,27 @@ impl<A: Allocator + Copy> Position<A> {
         }
     }
 
-    /// Tells a run of text as one token. It leaves the position where it is.
+    /// Tells a run of text as one token, on the line that is reached after it.
     #[inline(always)]
     pub fn tell_run<S: TokenSink<Token<A>>>(
-        &self,
+        &mut self,
         alloc: A,
         sink: &mut S,
         run: String<A>,
     ) -> Result<(), TokenizerError>
-        requires { chars (string_bytes run) ≢ [] }
-        ensures tells { Tells S.means.step S.means.faulted result (S.means.state sink.old)
-            (on_line self.now.input.line (tokens_in (Text (string_bytes run)))) (S.means.state sink.new) }
+        requires filled { chars (string_bytes run) ≢ [] }
+        requires past_line_break { self.old.input.after_carriage_return ≡ false }
+        requires past_stream_start { self.old.input.drops_byte_order_mark ≡ false }
+        requires no_carriage_return { All (λ c. c ≢ carriage_return) (chars (string_bytes run)) }
+        ensures tells { (M : List Message) → IsToldAs (Text (string_bytes run)) self.new.input.line M
+            → Tells S.means.step S.means.faulted result (S.means.state sink.old) M (S.means.state sink.new) }
         ensures faults { S.faults sink.new ≡ S.faults sink.old + faults_of result }
         ensures refusal { IfErr result IsRefusal }
+        ensures opened { self.new.opened ≡ self.old.opened }
+        ensures last { self.new.last_start_tag ≡ self.old.last_start_tag }
+        ensures input { self.new.input ≡ input_after self.old.input (chars (string_bytes run)) }
     {
+        self.input.advance_run(&run);
         let line = self.input.line();
         let mut teller = Teller {
             sink,
@@ -268,7 +277,7 @@ impl<A: Allocator + Copy> Position<A> {
             exact_errors: false,
             line,
         };
-        teller.tell(Token::CharacterTokens(run))
+        teller.hand_on(Token::CharacterTokens(run))
     }
 
     /// Reads a text, from its front, as long as its characters tell nothing; none where errors are

@@ -26,19 +26,20 @@ fn tell_waiting_run<S: TokenSink<Token<A>>, A: Allocator + Copy>(
     alloc: A,
     sink: &mut S,
     rules: &Rules<'_, A>,
-    position: &Position<A>,
+    position: &mut Position<A>,
     queue: &mut BufferQueue<A>,
     bytes: usize,
 ) -> Result<(), TokenizerError>
-    requires clean { is_clean position.now.opened ≡ true }
+    requires clean { is_clean position.old.opened ≡ true }
     requires within { bytes ≤ length (encode_utf8_all queue.old.text) }
     requires rest_utf8 { IsUtf8 (drop bytes (encode_utf8_all queue.old.text)) }
-    requires is_run { IsRun rules.now position.now (chars (take bytes (encode_utf8_all queue.old.text))) }
-    requires fits { position.now.input.line < 2 ^ 64 }
-    ensures reads { ReadsRun S.means rules.now result position.now position.now queue.old queue.new
+    requires is_run { IsRun rules.now position.old (chars (take bytes (encode_utf8_all queue.old.text))) }
+    requires fits { position.old.input.line < 2 ^ 64 }
+    ensures reads { ReadsRun S.means rules.now result position.old position.new queue.old queue.new
         (S.means.state sink.old) (S.means.state sink.new) }
     ensures refusal { IfErr result IsRefusal }
     ensures faults { S.faults sink.new ≡ S.faults sink.old + faults_of result }
+    ensures held { held_len position.new.opened ≡ held_len position.old.opened }
 {
     let Ok(run) = queue.take_text(bytes) else {
         queue.skip(bytes);

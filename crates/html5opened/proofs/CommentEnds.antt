@@ -4,7 +4,7 @@ use Rattle.std.specs.Prelude.{codes, if◌then◌else◌}
 use Rattle.std.specs.Cmp.Lexicographic.{same_text}
 use Rattle.std.proofs.lemmas.Bool.{false≢true}
 use Rattle.std.proofs.lemmas.List.{append_assoc, take-append-drop}
-use Rattle.html5grammar.specs.Characters.{hyphen, greater_than, value_bytes}
+use Rattle.html5grammar.specs.Characters.{line_feed, hyphen, greater_than, value_bytes}
 use Rattle.html5grammar.proofs.TextEnds.{LastByte, value_bytes-last, last_byte-other, ends_in-other, ends_in-append}
 use Rattle.html5grammar.specs.Comment.{ends_in, ends_in_mark}
 use Rattle.html5opened.specs.Runs.{other_run_ends}
@@ -12,9 +12,9 @@ use Rattle.html5grammar.specs.Start.Open.{InComment}
 
 -- where a comment reads runs, and which characters end one
 pub comment_ends : (text others : List ℕ) → other_run_ends (InComment text) ≡ Some others
-    → (others ≡ hyphen ∷ greater_than ∷ []) × (ends_in text (codes "-") ≡ false)
+    → (others ≡ line_feed ∷ hyphen ∷ greater_than ∷ []) × (ends_in text (codes "-") ≡ false)
 comment_ends text others has =
-    elim (ends_in text (codes "-")) as (λ b. (if b then None else Some (hyphen ∷ greater_than ∷ [])) ≡ Some others → (others ≡ hyphen ∷ greater_than ∷ []) × (b ≡ false)) [
+    elim (ends_in text (codes "-")) as (λ b. (if b then None else Some (line_feed ∷ hyphen ∷ greater_than ∷ [])) ≡ Some others → (others ≡ line_feed ∷ hyphen ∷ greater_than ∷ []) × (b ≡ false)) [
       | true ↦ λ e. absurd cc
       | false ↦ λ e. (cc, refl)
     ] has

@@ -1,13 +1,13 @@
 -- A run is read as its characters are, one by one.
 use Rattle.std.proofs.Common.{◌≡◌, ◌≢◌, ℕ, false, List, [], ◌∷◌, ◌++◌, refl, ap, sym, ◌∙◌, None, Some, lit<, length, get_or, ◌<◌, arith, subst}
 use Rattle.std.specs.Prelude.{All, Contains, flat_map, encode_utf8, encode_utf8_all, codes, ◌==◌}
-use Rattle.std.proofs.lemmas.Bool.{ne_eqb}
+use Rattle.std.proofs.lemmas.Bool.{ne_eqb, false≢true}
 use Rattle.std.proofs.Math.Bool.{and-false}
 use Rattle.std.proofs.lemmas.List.Elements.{All-head, All-tail}
 use Rattle.html5ever_interface.specs.declared.states.AttrValueKind.TheVariants.{Unquoted, SingleQuoted, DoubleQuoted}
 use Rattle.html5grammar.specs.Characters.{null, tab, line_feed, form_feed, carriage_return, space, quotation_mark, ampersand, apostrophe, hyphen, solidus, less_than, equals_sign, greater_than, value_bytes, shown, is_white_space}
 use Rattle.html5grammar.specs.Reading.Here.{Tells}
-use Rattle.html5grammar.specs.Start.{Open}
+use Rattle.html5grammar.specs.Start.{Open, is_clean}
 use Rattle.html5grammar.specs.Start.Dashes.{NoDash, OneDash, TwoDashes}
 use Rattle.html5grammar.specs.Start.Raw.{Rcdata, Rawtext, ScriptData, Escaped, DoubleEscaped}
 use Rattle.html5grammar.specs.Start.Mode.{Data, Plain, RawText, Cdata}
@@ -96,8 +96,8 @@ other_run_ends-after (InTag AfterSolidus tag) others c has out = refl
 other_run_ends-after (InRaw place name) others c has out = refl
 other_run_ends-after (InDeclaration held) others c has out = refl
 other_run_ends-after (InComment text) others c has out =
-    let known_ends : (others ≡ hyphen ∷ greater_than ∷ []) × (ends_in text (codes "-") ≡ false) = comment_ends text others has in
-    let ordinary : ¬ Contains (run_ends (hyphen ∷ greater_than ∷ [])) c = subst (λ l. ¬ Contains (run_ends l) c) known_ends.0 out in
+    let known_ends : (others ≡ line_feed ∷ hyphen ∷ greater_than ∷ []) × (ends_in text (codes "-") ≡ false) = comment_ends text others has in
+    let ordinary : ¬ Contains (run_ends (line_feed ∷ hyphen ∷ greater_than ∷ [])) c = subst (λ l. ¬ Contains (run_ends l) c) known_ends.0 out in
     rw (known_ends.1, append-nil (value_bytes c), ends_in_dash-none text c (λ e. ordinary (3, lit< tt, sym e))) refl
 other_run_ends-after (InBogusComment text) others c has out = refl
 other_run_ends-after (InInstruction content) others c has out = refl
@@ -105,45 +105,6 @@ other_run_ends-after (InDoctype place doctype) others c has out = refl
 other_run_ends-after (InDoctypeKeyword held doctype) others c has out = refl
 other_run_ends-after (InCdata text) others c has out = refl
 other_run_ends-after (InReference stand held) others c has out = refl
-
--- what the run tells is what its characters tell
-pub run_tokens-cons : (opened : Open) (c : ℕ) (run : List ℕ)
-    → run_tokens opened (c ∷ run) ≡ run_tokens opened (c ∷ []) ++ run_tokens (opened_after_run opened (c ∷ [])) run
-run_tokens-cons (Between mode) c run = refl
-run_tokens-cons LessThan c run = refl
-run_tokens-cons LessThanSolidus c run = refl
-run_tokens-cons (InTag InName tag) c run = refl
-run_tokens-cons (InTag BeforeAttribute tag) c run = refl
-run_tokens-cons (InTag InAttributeName tag) c run = refl
-run_tokens-cons (InTag AfterAttributeName tag) c run = refl
-run_tokens-cons (InTag BeforeValue tag) c run = refl
-run_tokens-cons (InTag (InValue kind) tag) c run = refl
-run_tokens-cons (InTag AfterQuotedValue tag) c run = refl
-run_tokens-cons (InTag AfterSolidus tag) c run = refl
-run_tokens-cons (InRaw place name) c run = refl
-run_tokens-cons (InDeclaration held) c run = refl
-run_tokens-cons (InComment text) c run = refl
-run_tokens-cons (InBogusComment text) c run = refl
-run_tokens-cons (InInstruction content) c run = refl
-run_tokens-cons (InDoctype place doctype) c run = refl
-run_tokens-cons (InDoctypeKeyword held doctype) c run = refl
-run_tokens-cons (InCdata text) c run = refl
-run_tokens-cons (InReference stand held) c run = refl
-
-pub run_tokens-nil : (opened : Open) → run_tokens opened [] ≡ []
-run_tokens-nil (Between mode) = refl
-run_tokens-nil LessThan = refl
-run_tokens-nil LessThanSolidus = refl
-run_tokens-nil (InTag place tag) = refl
-run_tokens-nil (InRaw place name) = refl
-run_tokens-nil (InDeclaration held) = refl
-run_tokens-nil (InComment text) = refl
-run_tokens-nil (InBogusComment text) = refl
-run_tokens-nil (InInstruction content) = refl
-run_tokens-nil (InDoctype place doctype) = refl
-run_tokens-nil (InDoctypeKeyword held doctype) = refl
-run_tokens-nil (InCdata text) = refl
-run_tokens-nil (InReference stand held) = refl
 
 -- a character that ends no run is none of the characters that end one
 no : (others : List ℕ) (c : ℕ) → ¬ Contains (run_ends others) c → (k e : ℕ) → k < length (run_ends others) → get_or (run_ends others) k c ≡ e → (c == e) ≡ false
@@ -155,11 +116,42 @@ known a b c e out = let same : b ≡ a = cc in subst (λ l. ¬ Contains (run_end
 pub no_null : (others : List ℕ) (c : ℕ) → ¬ Contains (run_ends others) c → c ≢ null
 no_null others c other = λ same. other (0, omega arith, sym same)
 
-pub no_line_feed : (others : List ℕ) (c : ℕ) → ¬ Contains (run_ends others) c → c ≢ line_feed
-no_line_feed others c other = λ same. other (1, omega arith, sym same)
-
 pub no_carriage_return : (others : List ℕ) (c : ℕ) → ¬ Contains (run_ends others) c → c ≢ carriage_return
-no_carriage_return others c other = λ same. other (2, omega arith, sym same)
+no_carriage_return others c other = λ same. other (1, omega arith, sym same)
+
+-- where something is open that takes runs, LF ends one
+line_feed_first : (opened : Open) (others : List ℕ) → is_clean opened ≡ false → other_run_ends opened ≡ Some others → (more : List ℕ) × (others ≡ line_feed ∷ more)
+line_feed_first (Between mode) others within has = absurd (false≢true (sym within))
+line_feed_first LessThan others within has = absurd (none≢some has)
+line_feed_first LessThanSolidus others within has = absurd (none≢some has)
+line_feed_first (InTag InName tag) others within has = (tab ∷ form_feed ∷ space ∷ solidus ∷ greater_than ∷ [], cc)
+line_feed_first (InTag BeforeAttribute tag) others within has = absurd (none≢some has)
+line_feed_first (InTag InAttributeName tag) others within has =
+    (tab ∷ form_feed ∷ space ∷ solidus ∷ greater_than ∷ equals_sign ∷ quotation_mark ∷ apostrophe ∷ less_than ∷ [], cc)
+line_feed_first (InTag AfterAttributeName tag) others within has = absurd (none≢some has)
+line_feed_first (InTag BeforeValue tag) others within has = absurd (none≢some has)
+line_feed_first (InTag (InValue DoubleQuoted) tag) others within has = (quotation_mark ∷ ampersand ∷ [], cc)
+line_feed_first (InTag (InValue SingleQuoted) tag) others within has = (apostrophe ∷ ampersand ∷ [], cc)
+line_feed_first (InTag (InValue Unquoted) tag) others within has = (tab ∷ form_feed ∷ space ∷ ampersand ∷ greater_than ∷ [], cc)
+line_feed_first (InTag AfterQuotedValue tag) others within has = absurd (none≢some has)
+line_feed_first (InTag AfterSolidus tag) others within has = absurd (none≢some has)
+line_feed_first (InRaw place name) others within has = absurd (none≢some has)
+line_feed_first (InDeclaration held) others within has = absurd (none≢some has)
+line_feed_first (InComment text) others within has = (hyphen ∷ greater_than ∷ [], (comment_ends text others has).0)
+line_feed_first (InBogusComment text) others within has = (greater_than ∷ [], cc)
+line_feed_first (InInstruction content) others within has = (greater_than ∷ [], cc)
+line_feed_first (InDoctype place doctype) others within has = absurd (none≢some has)
+line_feed_first (InDoctypeKeyword held doctype) others within has = absurd (none≢some has)
+line_feed_first (InCdata text) others within has = (greater_than ∷ [], cc)
+line_feed_first (InReference stand held) others within has = absurd (none≢some has)
+
+-- so a run that is put to it has no line feed
+pub no_line_feed : (opened : Open) (others : List ℕ) (c : ℕ) → is_clean opened ≡ false → other_run_ends opened ≡ Some others → ¬ Contains (run_ends others) c
+    → c ≢ line_feed
+no_line_feed opened others c within has out =
+    let first = line_feed_first opened others within has in
+    let ordinary : ¬ Contains (run_ends (line_feed ∷ first.0)) c = subst (λ l. ¬ Contains (run_ends l) c) first.1 out in
+    λ same. ordinary (2, omega arith, sym same)
 
 -- a character that ends no run tells itself alone, or is put to the open name or value
 pub step-run : (opened : Open) (others : List ℕ) (c : ℕ) → other_run_ends opened ≡ Some others → ¬ Contains (run_ends others) c
@@ -167,24 +159,24 @@ pub step-run : (opened : Open) (others : List ℕ) (c : ℕ) → other_run_ends 
 unfolding step_at tag_step data_step plain_text raw_step raw_character raw_behind dashes_behind comment_step comment_errors mark_error bogus_comment_step instruction_step cdata_step tag_name_step attribute_name_step quoted_step unquoted_step in_tag_name in_attribute_name in_quoted in_unquoted unquoted_error is_odd_in_name is_white_space
 step-run (Between Data) others c has other =
     let out : ¬ Contains (run_ends (less_than ∷ ampersand ∷ [])) c = known (less_than ∷ ampersand ∷ []) others c has other in
-    rw (no (less_than ∷ ampersand ∷ []) c out 3 less_than (lit< tt) refl, no (less_than ∷ ampersand ∷ []) c out 4 ampersand (lit< tt) refl, no (less_than ∷ ampersand ∷ []) c out 0 null (lit< tt) refl) refl
+    rw (no (less_than ∷ ampersand ∷ []) c out 2 less_than (lit< tt) refl, no (less_than ∷ ampersand ∷ []) c out 3 ampersand (lit< tt) refl, no (less_than ∷ ampersand ∷ []) c out 0 null (lit< tt) refl) refl
 step-run (Between Cdata) others c has other = absurd (none≢some has)
 step-run (Between Plain) others c has other = rw (no others c other 0 null (omega arith) refl) refl
 step-run (Between (RawText Rcdata name)) others c has other =
     let out : ¬ Contains (run_ends (less_than ∷ ampersand ∷ [])) c = known (less_than ∷ ampersand ∷ []) others c has other in
-    rw (no (less_than ∷ ampersand ∷ []) c out 3 less_than (lit< tt) refl, no (less_than ∷ ampersand ∷ []) c out 4 ampersand (lit< tt) refl, no (less_than ∷ ampersand ∷ []) c out 0 null (lit< tt) refl) refl
+    rw (no (less_than ∷ ampersand ∷ []) c out 2 less_than (lit< tt) refl, no (less_than ∷ ampersand ∷ []) c out 3 ampersand (lit< tt) refl, no (less_than ∷ ampersand ∷ []) c out 0 null (lit< tt) refl) refl
 step-run (Between (RawText Rawtext name)) others c has other =
     let out : ¬ Contains (run_ends (less_than ∷ [])) c = known (less_than ∷ []) others c has other in
-    rw (no (less_than ∷ []) c out 3 less_than (lit< tt) refl, no (less_than ∷ []) c out 0 null (lit< tt) refl) refl
+    rw (no (less_than ∷ []) c out 2 less_than (lit< tt) refl, no (less_than ∷ []) c out 0 null (lit< tt) refl) refl
 step-run (Between (RawText ScriptData name)) others c has other =
     let out : ¬ Contains (run_ends (less_than ∷ [])) c = known (less_than ∷ []) others c has other in
-    rw (no (less_than ∷ []) c out 3 less_than (lit< tt) refl, no (less_than ∷ []) c out 0 null (lit< tt) refl) refl
+    rw (no (less_than ∷ []) c out 2 less_than (lit< tt) refl, no (less_than ∷ []) c out 0 null (lit< tt) refl) refl
 step-run (Between (RawText (Escaped NoDash) name)) others c has other =
     let out : ¬ Contains (run_ends (hyphen ∷ less_than ∷ [])) c = known (hyphen ∷ less_than ∷ []) others c has other in
-    rw (no (hyphen ∷ less_than ∷ []) c out 4 less_than (lit< tt) refl, no (hyphen ∷ less_than ∷ []) c out 0 null (lit< tt) refl, and-false (c == greater_than), no (hyphen ∷ less_than ∷ []) c out 3 hyphen (lit< tt) refl) refl
+    rw (no (hyphen ∷ less_than ∷ []) c out 3 less_than (lit< tt) refl, no (hyphen ∷ less_than ∷ []) c out 0 null (lit< tt) refl, and-false (c == greater_than), no (hyphen ∷ less_than ∷ []) c out 2 hyphen (lit< tt) refl) refl
 step-run (Between (RawText (DoubleEscaped NoDash) name)) others c has other =
     let out : ¬ Contains (run_ends (hyphen ∷ less_than ∷ [])) c = known (hyphen ∷ less_than ∷ []) others c has other in
-    rw (no (hyphen ∷ less_than ∷ []) c out 4 less_than (lit< tt) refl, no (hyphen ∷ less_than ∷ []) c out 0 null (lit< tt) refl, and-false (c == greater_than), no (hyphen ∷ less_than ∷ []) c out 3 hyphen (lit< tt) refl) refl
+    rw (no (hyphen ∷ less_than ∷ []) c out 3 less_than (lit< tt) refl, no (hyphen ∷ less_than ∷ []) c out 0 null (lit< tt) refl, and-false (c == greater_than), no (hyphen ∷ less_than ∷ []) c out 2 hyphen (lit< tt) refl) refl
 step-run (Between (RawText (Escaped OneDash) name)) others c has other = absurd (none≢some has)
 step-run (Between (RawText (Escaped TwoDashes) name)) others c has other = absurd (none≢some has)
 step-run (Between (RawText (DoubleEscaped OneDash) name)) others c has other = absurd (none≢some has)
@@ -192,40 +184,40 @@ step-run (Between (RawText (DoubleEscaped TwoDashes) name)) others c has other =
 step-run LessThan others c has other = absurd (none≢some has)
 step-run LessThanSolidus others c has other = absurd (none≢some has)
 step-run (InTag InName tag) others c has other =
-    let out : ¬ Contains (run_ends (tab ∷ form_feed ∷ space ∷ solidus ∷ greater_than ∷ [])) c = known (tab ∷ form_feed ∷ space ∷ solidus ∷ greater_than ∷ []) others c has other in
-    rw (no (tab ∷ form_feed ∷ space ∷ solidus ∷ greater_than ∷ []) c out 3 tab (lit< tt) refl, no (tab ∷ form_feed ∷ space ∷ solidus ∷ greater_than ∷ []) c out 1 line_feed (lit< tt) refl, no (tab ∷ form_feed ∷ space ∷ solidus ∷ greater_than ∷ []) c out 4 form_feed (lit< tt) refl, no (tab ∷ form_feed ∷ space ∷ solidus ∷ greater_than ∷ []) c out 5 space (lit< tt) refl, no (tab ∷ form_feed ∷ space ∷ solidus ∷ greater_than ∷ []) c out 6 solidus (lit< tt) refl, no (tab ∷ form_feed ∷ space ∷ solidus ∷ greater_than ∷ []) c out 7 greater_than (lit< tt) refl, no (tab ∷ form_feed ∷ space ∷ solidus ∷ greater_than ∷ []) c out 0 null (lit< tt) refl) refl
+    let out : ¬ Contains (run_ends (line_feed ∷ tab ∷ form_feed ∷ space ∷ solidus ∷ greater_than ∷ [])) c = known (line_feed ∷ tab ∷ form_feed ∷ space ∷ solidus ∷ greater_than ∷ []) others c has other in
+    rw (no (line_feed ∷ tab ∷ form_feed ∷ space ∷ solidus ∷ greater_than ∷ []) c out 3 tab (lit< tt) refl, no (line_feed ∷ tab ∷ form_feed ∷ space ∷ solidus ∷ greater_than ∷ []) c out 2 line_feed (lit< tt) refl, no (line_feed ∷ tab ∷ form_feed ∷ space ∷ solidus ∷ greater_than ∷ []) c out 4 form_feed (lit< tt) refl, no (line_feed ∷ tab ∷ form_feed ∷ space ∷ solidus ∷ greater_than ∷ []) c out 5 space (lit< tt) refl, no (line_feed ∷ tab ∷ form_feed ∷ space ∷ solidus ∷ greater_than ∷ []) c out 6 solidus (lit< tt) refl, no (line_feed ∷ tab ∷ form_feed ∷ space ∷ solidus ∷ greater_than ∷ []) c out 7 greater_than (lit< tt) refl, no (line_feed ∷ tab ∷ form_feed ∷ space ∷ solidus ∷ greater_than ∷ []) c out 0 null (lit< tt) refl) refl
 step-run (InTag BeforeAttribute tag) others c has other = absurd (none≢some has)
 step-run (InTag InAttributeName tag) others c has other =
-    let out : ¬ Contains (run_ends (tab ∷ form_feed ∷ space ∷ solidus ∷ greater_than ∷ equals_sign ∷ quotation_mark ∷ apostrophe ∷ less_than ∷ [])) c = known (tab ∷ form_feed ∷ space ∷ solidus ∷ greater_than ∷ equals_sign ∷ quotation_mark ∷ apostrophe ∷ less_than ∷ []) others c has other in
-    rw (no (tab ∷ form_feed ∷ space ∷ solidus ∷ greater_than ∷ equals_sign ∷ quotation_mark ∷ apostrophe ∷ less_than ∷ []) c out 3 tab (lit< tt) refl, no (tab ∷ form_feed ∷ space ∷ solidus ∷ greater_than ∷ equals_sign ∷ quotation_mark ∷ apostrophe ∷ less_than ∷ []) c out 1 line_feed (lit< tt) refl, no (tab ∷ form_feed ∷ space ∷ solidus ∷ greater_than ∷ equals_sign ∷ quotation_mark ∷ apostrophe ∷ less_than ∷ []) c out 4 form_feed (lit< tt) refl, no (tab ∷ form_feed ∷ space ∷ solidus ∷ greater_than ∷ equals_sign ∷ quotation_mark ∷ apostrophe ∷ less_than ∷ []) c out 5 space (lit< tt) refl, no (tab ∷ form_feed ∷ space ∷ solidus ∷ greater_than ∷ equals_sign ∷ quotation_mark ∷ apostrophe ∷ less_than ∷ []) c out 6 solidus (lit< tt) refl, no (tab ∷ form_feed ∷ space ∷ solidus ∷ greater_than ∷ equals_sign ∷ quotation_mark ∷ apostrophe ∷ less_than ∷ []) c out 7 greater_than (lit< tt) refl, no (tab ∷ form_feed ∷ space ∷ solidus ∷ greater_than ∷ equals_sign ∷ quotation_mark ∷ apostrophe ∷ less_than ∷ []) c out 8 equals_sign (lit< tt) refl, no (tab ∷ form_feed ∷ space ∷ solidus ∷ greater_than ∷ equals_sign ∷ quotation_mark ∷ apostrophe ∷ less_than ∷ []) c out 0 null (lit< tt) refl, no (tab ∷ form_feed ∷ space ∷ solidus ∷ greater_than ∷ equals_sign ∷ quotation_mark ∷ apostrophe ∷ less_than ∷ []) c out 9 quotation_mark (lit< tt) refl, no (tab ∷ form_feed ∷ space ∷ solidus ∷ greater_than ∷ equals_sign ∷ quotation_mark ∷ apostrophe ∷ less_than ∷ []) c out 10 apostrophe (lit< tt) refl, no (tab ∷ form_feed ∷ space ∷ solidus ∷ greater_than ∷ equals_sign ∷ quotation_mark ∷ apostrophe ∷ less_than ∷ []) c out 11 less_than (lit< tt) refl) refl
+    let out : ¬ Contains (run_ends (line_feed ∷ tab ∷ form_feed ∷ space ∷ solidus ∷ greater_than ∷ equals_sign ∷ quotation_mark ∷ apostrophe ∷ less_than ∷ [])) c = known (line_feed ∷ tab ∷ form_feed ∷ space ∷ solidus ∷ greater_than ∷ equals_sign ∷ quotation_mark ∷ apostrophe ∷ less_than ∷ []) others c has other in
+    rw (no (line_feed ∷ tab ∷ form_feed ∷ space ∷ solidus ∷ greater_than ∷ equals_sign ∷ quotation_mark ∷ apostrophe ∷ less_than ∷ []) c out 3 tab (lit< tt) refl, no (line_feed ∷ tab ∷ form_feed ∷ space ∷ solidus ∷ greater_than ∷ equals_sign ∷ quotation_mark ∷ apostrophe ∷ less_than ∷ []) c out 2 line_feed (lit< tt) refl, no (line_feed ∷ tab ∷ form_feed ∷ space ∷ solidus ∷ greater_than ∷ equals_sign ∷ quotation_mark ∷ apostrophe ∷ less_than ∷ []) c out 4 form_feed (lit< tt) refl, no (line_feed ∷ tab ∷ form_feed ∷ space ∷ solidus ∷ greater_than ∷ equals_sign ∷ quotation_mark ∷ apostrophe ∷ less_than ∷ []) c out 5 space (lit< tt) refl, no (line_feed ∷ tab ∷ form_feed ∷ space ∷ solidus ∷ greater_than ∷ equals_sign ∷ quotation_mark ∷ apostrophe ∷ less_than ∷ []) c out 6 solidus (lit< tt) refl, no (line_feed ∷ tab ∷ form_feed ∷ space ∷ solidus ∷ greater_than ∷ equals_sign ∷ quotation_mark ∷ apostrophe ∷ less_than ∷ []) c out 7 greater_than (lit< tt) refl, no (line_feed ∷ tab ∷ form_feed ∷ space ∷ solidus ∷ greater_than ∷ equals_sign ∷ quotation_mark ∷ apostrophe ∷ less_than ∷ []) c out 8 equals_sign (lit< tt) refl, no (line_feed ∷ tab ∷ form_feed ∷ space ∷ solidus ∷ greater_than ∷ equals_sign ∷ quotation_mark ∷ apostrophe ∷ less_than ∷ []) c out 0 null (lit< tt) refl, no (line_feed ∷ tab ∷ form_feed ∷ space ∷ solidus ∷ greater_than ∷ equals_sign ∷ quotation_mark ∷ apostrophe ∷ less_than ∷ []) c out 9 quotation_mark (lit< tt) refl, no (line_feed ∷ tab ∷ form_feed ∷ space ∷ solidus ∷ greater_than ∷ equals_sign ∷ quotation_mark ∷ apostrophe ∷ less_than ∷ []) c out 10 apostrophe (lit< tt) refl, no (line_feed ∷ tab ∷ form_feed ∷ space ∷ solidus ∷ greater_than ∷ equals_sign ∷ quotation_mark ∷ apostrophe ∷ less_than ∷ []) c out 11 less_than (lit< tt) refl) refl
 step-run (InTag AfterAttributeName tag) others c has other = absurd (none≢some has)
 step-run (InTag BeforeValue tag) others c has other = absurd (none≢some has)
 step-run (InTag (InValue DoubleQuoted) tag) others c has other =
-    let out : ¬ Contains (run_ends (quotation_mark ∷ ampersand ∷ [])) c = known (quotation_mark ∷ ampersand ∷ []) others c has other in
-    rw (no (quotation_mark ∷ ampersand ∷ []) c out 3 quotation_mark (lit< tt) refl, no (quotation_mark ∷ ampersand ∷ []) c out 4 ampersand (lit< tt) refl, no (quotation_mark ∷ ampersand ∷ []) c out 0 null (lit< tt) refl) refl
+    let out : ¬ Contains (run_ends (line_feed ∷ quotation_mark ∷ ampersand ∷ [])) c = known (line_feed ∷ quotation_mark ∷ ampersand ∷ []) others c has other in
+    rw (no (line_feed ∷ quotation_mark ∷ ampersand ∷ []) c out 3 quotation_mark (lit< tt) refl, no (line_feed ∷ quotation_mark ∷ ampersand ∷ []) c out 4 ampersand (lit< tt) refl, no (line_feed ∷ quotation_mark ∷ ampersand ∷ []) c out 0 null (lit< tt) refl) refl
 step-run (InTag (InValue SingleQuoted) tag) others c has other =
-    let out : ¬ Contains (run_ends (apostrophe ∷ ampersand ∷ [])) c = known (apostrophe ∷ ampersand ∷ []) others c has other in
-    rw (no (apostrophe ∷ ampersand ∷ []) c out 3 apostrophe (lit< tt) refl, no (apostrophe ∷ ampersand ∷ []) c out 4 ampersand (lit< tt) refl, no (apostrophe ∷ ampersand ∷ []) c out 0 null (lit< tt) refl) refl
+    let out : ¬ Contains (run_ends (line_feed ∷ apostrophe ∷ ampersand ∷ [])) c = known (line_feed ∷ apostrophe ∷ ampersand ∷ []) others c has other in
+    rw (no (line_feed ∷ apostrophe ∷ ampersand ∷ []) c out 3 apostrophe (lit< tt) refl, no (line_feed ∷ apostrophe ∷ ampersand ∷ []) c out 4 ampersand (lit< tt) refl, no (line_feed ∷ apostrophe ∷ ampersand ∷ []) c out 0 null (lit< tt) refl) refl
 step-run (InTag (InValue Unquoted) tag) others c has other =
-    let out : ¬ Contains (run_ends (tab ∷ form_feed ∷ space ∷ ampersand ∷ greater_than ∷ [])) c = known (tab ∷ form_feed ∷ space ∷ ampersand ∷ greater_than ∷ []) others c has other in
-    rw (no (tab ∷ form_feed ∷ space ∷ ampersand ∷ greater_than ∷ []) c out 3 tab (lit< tt) refl, no (tab ∷ form_feed ∷ space ∷ ampersand ∷ greater_than ∷ []) c out 1 line_feed (lit< tt) refl, no (tab ∷ form_feed ∷ space ∷ ampersand ∷ greater_than ∷ []) c out 4 form_feed (lit< tt) refl, no (tab ∷ form_feed ∷ space ∷ ampersand ∷ greater_than ∷ []) c out 5 space (lit< tt) refl, no (tab ∷ form_feed ∷ space ∷ ampersand ∷ greater_than ∷ []) c out 7 greater_than (lit< tt) refl, no (tab ∷ form_feed ∷ space ∷ ampersand ∷ greater_than ∷ []) c out 6 ampersand (lit< tt) refl, no (tab ∷ form_feed ∷ space ∷ ampersand ∷ greater_than ∷ []) c out 0 null (lit< tt) refl) refl
+    let out : ¬ Contains (run_ends (line_feed ∷ tab ∷ form_feed ∷ space ∷ ampersand ∷ greater_than ∷ [])) c = known (line_feed ∷ tab ∷ form_feed ∷ space ∷ ampersand ∷ greater_than ∷ []) others c has other in
+    rw (no (line_feed ∷ tab ∷ form_feed ∷ space ∷ ampersand ∷ greater_than ∷ []) c out 3 tab (lit< tt) refl, no (line_feed ∷ tab ∷ form_feed ∷ space ∷ ampersand ∷ greater_than ∷ []) c out 2 line_feed (lit< tt) refl, no (line_feed ∷ tab ∷ form_feed ∷ space ∷ ampersand ∷ greater_than ∷ []) c out 4 form_feed (lit< tt) refl, no (line_feed ∷ tab ∷ form_feed ∷ space ∷ ampersand ∷ greater_than ∷ []) c out 5 space (lit< tt) refl, no (line_feed ∷ tab ∷ form_feed ∷ space ∷ ampersand ∷ greater_than ∷ []) c out 7 greater_than (lit< tt) refl, no (line_feed ∷ tab ∷ form_feed ∷ space ∷ ampersand ∷ greater_than ∷ []) c out 6 ampersand (lit< tt) refl, no (line_feed ∷ tab ∷ form_feed ∷ space ∷ ampersand ∷ greater_than ∷ []) c out 0 null (lit< tt) refl) refl
 step-run (InTag AfterQuotedValue tag) others c has other = absurd (none≢some has)
 step-run (InTag AfterSolidus tag) others c has other = absurd (none≢some has)
 step-run (InRaw place name) others c has other = absurd (none≢some has)
 step-run (InDeclaration held) others c has other = absurd (none≢some has)
 step-run (InComment text) others c has other =
-    let ends : (others ≡ hyphen ∷ greater_than ∷ []) × (ends_in text (codes "-") ≡ false) = comment_ends text others has in
-    let out : ¬ Contains (run_ends (hyphen ∷ greater_than ∷ [])) c = subst (λ l. ¬ Contains (run_ends l) c) ends.0 other in
-    rw (no (hyphen ∷ greater_than ∷ []) c out 4 greater_than (lit< tt) refl, no (hyphen ∷ greater_than ∷ []) c out 0 null (lit< tt) refl, ends_in_mark-none text ends.1, append-nil (value_bytes c)) refl
+    let ends : (others ≡ line_feed ∷ hyphen ∷ greater_than ∷ []) × (ends_in text (codes "-") ≡ false) = comment_ends text others has in
+    let out : ¬ Contains (run_ends (line_feed ∷ hyphen ∷ greater_than ∷ [])) c = subst (λ l. ¬ Contains (run_ends l) c) ends.0 other in
+    rw (no (line_feed ∷ hyphen ∷ greater_than ∷ []) c out 4 greater_than (lit< tt) refl, no (line_feed ∷ hyphen ∷ greater_than ∷ []) c out 0 null (lit< tt) refl, ends_in_mark-none text ends.1, append-nil (value_bytes c)) refl
 step-run (InBogusComment text) others c has other =
-    let out : ¬ Contains (run_ends (greater_than ∷ [])) c = known (greater_than ∷ []) others c has other in
-    rw (no (greater_than ∷ []) c out 3 greater_than (lit< tt) refl, no (greater_than ∷ []) c out 0 null (lit< tt) refl, append-nil (value_bytes c)) refl
+    let out : ¬ Contains (run_ends (line_feed ∷ greater_than ∷ [])) c = known (line_feed ∷ greater_than ∷ []) others c has other in
+    rw (no (line_feed ∷ greater_than ∷ []) c out 3 greater_than (lit< tt) refl, no (line_feed ∷ greater_than ∷ []) c out 0 null (lit< tt) refl, append-nil (value_bytes c)) refl
 step-run (InInstruction content) others c has other =
-    let out : ¬ Contains (run_ends (greater_than ∷ [])) c = known (greater_than ∷ []) others c has other in
-    rw (no (greater_than ∷ []) c out 3 greater_than (lit< tt) refl, no (greater_than ∷ []) c out 0 null (lit< tt) refl, append-nil (value_bytes c)) refl
+    let out : ¬ Contains (run_ends (line_feed ∷ greater_than ∷ [])) c = known (line_feed ∷ greater_than ∷ []) others c has other in
+    rw (no (line_feed ∷ greater_than ∷ []) c out 3 greater_than (lit< tt) refl, no (line_feed ∷ greater_than ∷ []) c out 0 null (lit< tt) refl, append-nil (value_bytes c)) refl
 step-run (InDoctype place doctype) others c has other = absurd (none≢some has)
 step-run (InDoctypeKeyword held doctype) others c has other = absurd (none≢some has)
 step-run (InCdata text) others c has other =
-    let out : ¬ Contains (run_ends (greater_than ∷ [])) c = known (greater_than ∷ []) others c has other in
-    rw (no (greater_than ∷ []) c out 3 greater_than (lit< tt) refl, no (greater_than ∷ []) c out 0 null (lit< tt) refl) refl
+    let out : ¬ Contains (run_ends (line_feed ∷ greater_than ∷ [])) c = known (line_feed ∷ greater_than ∷ []) others c has other in
+    rw (no (line_feed ∷ greater_than ∷ []) c out 3 greater_than (lit< tt) refl, no (line_feed ∷ greater_than ∷ []) c out 0 null (lit< tt) refl) refl
 step-run (InReference stand held) others c has other = absurd (none≢some has)

@@ -9,7 +9,7 @@ use Rattle.std.specs.Prelude.{Some, None, ◌==◌, codes, encode_utf8, encode_u
 use Rattle.html5grammar.specs.Cdata.{open_cdata, ends_cdata}
 use Rattle.html5grammar.specs.Comment.{ends_in, without_last}
 use Rattle.html5grammar.proofs.TextEnds.{Carries, carries-none, carries-push, encode-last, ends_in-front, without_last-append}
-use Rattle.html5grammar.specs.Characters.{greater_than}
+use Rattle.html5grammar.specs.Characters.{line_feed, greater_than}
 use Rattle.html5grammar.specs.Start.{held_len, is_clean}
 use Rattle.html5grammar.specs.Start.Open.{InCdata}
 use Rattle.html5opened.specs.Runs.{other_run_ends, opened_after_run}
@@ -19,7 +19,7 @@ pub section-filled : (held : List ℕ) → held ≢ [] → open_cdata held ≡ I
 section-filled [] filled = absurd (filled refl)
 section-filled (c ∷ held) filled = refl
 
-pub section-has_runs : (held : List ℕ) → held ≢ [] → other_run_ends (open_cdata held) ≡ Some (greater_than ∷ [])
+pub section-has_runs : (held : List ℕ) → held ≢ [] → other_run_ends (open_cdata held) ≡ Some (line_feed ∷ greater_than ∷ [])
 section-has_runs [] filled = absurd (filled refl)
 section-has_runs (c ∷ held) filled = refl
 
@@ -34,7 +34,7 @@ pub section-empty : (text : List ℕ) → (length text == 0) ≡ true → other_
 section-empty text h =
     ap (λ l. other_run_ends (open_cdata (chars l))) (nil_from_length text (eqb-true (length text) 0 h)) ∙ ap (λ l. other_run_ends (open_cdata l)) chars-nil
 
-pub section-reads_runs : (text : List ℕ) → IsUtf8 text → (length text == 0) ≡ false → other_run_ends (open_cdata (chars text)) ≡ Some (greater_than ∷ [])
+pub section-reads_runs : (text : List ℕ) → IsUtf8 text → (length text == 0) ≡ false → other_run_ends (open_cdata (chars text)) ≡ Some (line_feed ∷ greater_than ∷ [])
 section-reads_runs text utf8 h =
     section-has_runs (chars text) (λ none. false≢true (sym h ∙ ap (λ l. length l == 0) (sym (encodes-chars text utf8) ∙ ap encode_utf8_all none)))
 

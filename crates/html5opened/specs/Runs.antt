@@ -15,13 +15,13 @@ use Rattle.html5grammar.specs.Comment.{ends_in}
 use Rattle.html5grammar.specs.Reference.{with_value}
 use Rattle.html5grammar.specs.Tag.{with_name, with_last_name}
 
--- the characters that end a run in a value, beside NUL and those of line breaks
+-- the characters that end a run in a value, beside NUL and CR
 abbrev pub other_value_ends : AttrValueKind → List ℕ
-other_value_ends DoubleQuoted = quotation_mark ∷ ampersand ∷ []
-other_value_ends SingleQuoted = apostrophe ∷ ampersand ∷ []
-other_value_ends Unquoted = tab ∷ form_feed ∷ space ∷ ampersand ∷ greater_than ∷ []
+other_value_ends DoubleQuoted = line_feed ∷ quotation_mark ∷ ampersand ∷ []
+other_value_ends SingleQuoted = line_feed ∷ apostrophe ∷ ampersand ∷ []
+other_value_ends Unquoted = line_feed ∷ tab ∷ form_feed ∷ space ∷ ampersand ∷ greater_than ∷ []
 
--- where runs are read, the characters that end one, beside NUL and those of line breaks
+-- where runs are read, the characters that end one, beside NUL and CR: a run of text between tags goes on over LF
 abbrev pub other_run_ends : Open → Option (List ℕ)
 other_run_ends (Between Data) = Some (less_than ∷ ampersand ∷ [])
 other_run_ends (Between Plain) = Some []
@@ -30,19 +30,19 @@ other_run_ends (Between (RawText Rawtext name)) = Some (less_than ∷ [])
 other_run_ends (Between (RawText ScriptData name)) = Some (less_than ∷ [])
 other_run_ends (Between (RawText (Escaped NoDash) name)) = Some (hyphen ∷ less_than ∷ [])
 other_run_ends (Between (RawText (DoubleEscaped NoDash) name)) = Some (hyphen ∷ less_than ∷ [])
-other_run_ends (InTag InName tag) = Some (tab ∷ form_feed ∷ space ∷ solidus ∷ greater_than ∷ [])
+other_run_ends (InTag InName tag) = Some (line_feed ∷ tab ∷ form_feed ∷ space ∷ solidus ∷ greater_than ∷ [])
 other_run_ends (InTag InAttributeName tag) =
-    Some (tab ∷ form_feed ∷ space ∷ solidus ∷ greater_than ∷ equals_sign ∷ quotation_mark ∷ apostrophe ∷ less_than ∷ [])
+    Some (line_feed ∷ tab ∷ form_feed ∷ space ∷ solidus ∷ greater_than ∷ equals_sign ∷ quotation_mark ∷ apostrophe ∷ less_than ∷ [])
 other_run_ends (InTag (InValue kind) tag) = Some (other_value_ends kind)
-other_run_ends (InComment text) = if ends_in text (codes "-") then None else Some (hyphen ∷ greater_than ∷ [])
-other_run_ends (InBogusComment text) = Some (greater_than ∷ [])
-other_run_ends (InInstruction content) = Some (greater_than ∷ [])
-other_run_ends (InCdata text) = Some (greater_than ∷ [])
+other_run_ends (InComment text) = if ends_in text (codes "-") then None else Some (line_feed ∷ hyphen ∷ greater_than ∷ [])
+other_run_ends (InBogusComment text) = Some (line_feed ∷ greater_than ∷ [])
+other_run_ends (InInstruction content) = Some (line_feed ∷ greater_than ∷ [])
+other_run_ends (InCdata text) = Some (line_feed ∷ greater_than ∷ [])
 other_run_ends other = None
 
 -- the characters that end a run
 abbrev pub run_ends : List ℕ → List ℕ
-run_ends others = null ∷ line_feed ∷ carriage_return ∷ others
+run_ends others = null ∷ carriage_return ∷ others
 
 -- characters that can be read at once where this is open
 pub record IsRunAt (opened : Open) (run : List ℕ) : Type 0 where

@@ -1,5 +1,6 @@
 //! Runs: characters that are read at once. A state that reads runs names here the characters that
-//! end one, and where a run within a tag goes. A run between tags is told as one text.
+//! end one, and where a run within a tag goes. A run between tags is told as one text, and goes on
+//! over line feeds.
 ghost use Rattle.std.specs.Prelude.{◌≡◌, ℕ, [], false, ◌↔◌, ◌++◌, Contains, OnOk, IfSome, is_some, string_bytes, flat_map};
 ghost use Rattle.std.specs.Str.{chars};
 ghost use Rattle.html5grammar.specs.Cdata.{open_cdata};
@@ -26,9 +27,9 @@ fn value_ends(kind: AttrValueKind) -> SmallCharSet
     ensures { (c : ℕ) → IsMember result c ↔ Contains (run_ends (other_value_ends kind)) c }
 {
     match kind {
-        AttrValueKind::DoubleQuoted => SmallCharSet::of(b"\0\n\r\"&"),
-        AttrValueKind::SingleQuoted => SmallCharSet::of(b"\0\n\r'&"),
-        AttrValueKind::Unquoted => SmallCharSet::of(b"\0\n\r\t\x0C &>"),
+        AttrValueKind::DoubleQuoted => SmallCharSet::of(b"\0\r\n\"&"),
+        AttrValueKind::SingleQuoted => SmallCharSet::of(b"\0\r\n'&"),
+        AttrValueKind::Unquoted => SmallCharSet::of(b"\0\r\n\t\x0C &>"),
     }
 }
 
@@ -39,9 +40,9 @@ fn raw_ends(kind: RawKind) -> SmallCharSet
         (c : ℕ) → IsMember result c ↔ Contains (run_ends others) c) }
 {
     match kind {
-        RawKind::Rcdata => SmallCharSet::of(b"\0\n\r<&"),
-        RawKind::Rawtext | RawKind::ScriptData => SmallCharSet::of(b"\0\n\r<"),
-        RawKind::ScriptDataEscaped(_) => SmallCharSet::of(b"\0\n\r-<"),
+        RawKind::Rcdata => SmallCharSet::of(b"\0\r<&"),
+        RawKind::Rawtext | RawKind::ScriptData => SmallCharSet::of(b"\0\r<"),
+        RawKind::ScriptDataEscaped(_) => SmallCharSet::of(b"\0\r-<"),
     }
 }
 
@@ -55,7 +56,7 @@ fn section_ends(text: &str) -> Option<SmallCharSet>
     if text.is_empty() {
         return None;
     }
-    Some(SmallCharSet::of(b"\0\n\r>"))
+    Some(SmallCharSet::of(b"\0\r\n>"))
 }
 
 // The characters that end a run in a comment, unless its text so far ends in a dash.
@@ -68,7 +69,7 @@ fn comment_ends(text: &str) -> Option<SmallCharSet>
     if ends_in(text, b"-") {
         return None;
     }
-    Some(SmallCharSet::of(b"\0\n\r->"))
+    Some(SmallCharSet::of(b"\0\r\n->"))
 }
 
 /// The characters that end a run, where the state reads runs.
@@ -79,14 +80,14 @@ pub fn run_ends<A: Allocator>(at: &Opened<A>) -> Option<SmallCharSet>
         (c : ℕ) → IsMember set c ↔ Contains (run_ends others) c)) }
 {
     match at.state {
-        State::Data => Some(SmallCharSet::of(b"\0\n\r<&")),
-        State::Plaintext => Some(SmallCharSet::of(b"\0\n\r")),
-        State::TagName => Some(SmallCharSet::of(b"\0\n\r\t\x0C />")),
-        State::AttributeName => Some(SmallCharSet::of(b"\0\n\r\t\x0C />=\"'<")),
+        State::Data => Some(SmallCharSet::of(b"\0\r<&")),
+        State::Plaintext => Some(SmallCharSet::of(b"\0\r")),
+        State::TagName => Some(SmallCharSet::of(b"\0\r\n\t\x0C />")),
+        State::AttributeName => Some(SmallCharSet::of(b"\0\r\n\t\x0C />=\"'<")),
         State::AttributeValue(kind) => Some(value_ends(kind)),
         State::RawData(kind) => Some(raw_ends(kind)),
-        State::BogusComment => Some(SmallCharSet::of(b"\0\n\r>")),
-        State::ProcessingInstruction => Some(SmallCharSet::of(b"\0\n\r>")),
+        State::BogusComment => Some(SmallCharSet::of(b"\0\r\n>")),
+        State::ProcessingInstruction => Some(SmallCharSet::of(b"\0\r\n>")),
         State::CdataSection => section_ends(&at.comment),
         state if is_comment_state(state) => comment_ends(&at.comment),
         _ => None,

@@ -41,7 +41,7 @@ run_tokens-open (InDoctypeKeyword held doctype) run within = refl
 run_tokens-open (InReference stand held) run within = refl
 
 -- and leaves something within
-open-after : (opened : Open) (run : List ℕ) → is_clean opened ≡ false → is_clean (opened_after_run opened run) ≡ false
+pub open-after : (opened : Open) (run : List ℕ) → is_clean opened ≡ false → is_clean (opened_after_run opened run) ≡ false
 open-after (Between mode) run within = within
 open-after LessThan run within = within
 open-after LessThanSolidus run within = within
@@ -75,7 +75,7 @@ reads-ordinary opened others (c ∷ run) has within all =
         record {
           decided = run-decided opened others has;
           steps = step-run opened others c has out ∙ ap (λ (told : List Told). Tells told next) (run_tokens-open opened (c ∷ []) within);
-          no_line_feed = no_line_feed others c out;
+          no_line_feed = no_line_feed opened others c within has out;
           no_carriage_return = no_carriage_return others c out;
         },
         subst (ReadsQuietly next run) (sym (opened_after_run-cons opened c run))

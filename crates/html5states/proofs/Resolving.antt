@@ -1,13 +1,12 @@
 -- What a reference comes to, by the cases that functions tell apart.
 use Rattle.std.proofs.Common.{◌≡◌, ℕ, suc, ◌+◌, ◌%◌, ◌^◌, Bool, true, false, ◌&&◌, List, [], ◌∷◌, ◌++◌, drop, take, length, Ok, Option, None, Some, refl, sym, ap, ◌∙◌}
-use Rattle.std.specs.Prelude.{◌==◌, min, codes, if◌then◌else◌}
+use Rattle.std.specs.Prelude.{min, codes, if◌then◌else◌}
 use Rattle.std.specs.List.{slice_range}
-use Rattle.std.proofs.lemmas.Bool.{eqb-true}
 use Rattle.std.proofs.lemmas.List.{length-take-le}
 use Rattle.html5ever_interface.specs.Sink.{Means}
 use Rattle.html5ever_interface.specs.Token.{Told}
 use Rattle.html5ever_interface.specs.Token.Told.{Error}
-use Rattle.html5grammar.specs.Characters.{ampersand, semicolon}
+use Rattle.html5grammar.specs.Characters.{ampersand}
 use Rattle.html5grammar.specs.ErrorText.{where_true}
 use Rattle.html5grammar.specs.Reference as grammar
 use Rattle.html5grammar.specs.Reference.{number_reference, named_reference, no_name, no_reference, error, has_digits, number_value, without_digits, semicolon_len, unended_number, is_invalid_number, invalid_number, character_of_number, longest_name, is_ended, goes_on, first_or, second_of}

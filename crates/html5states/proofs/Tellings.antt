@@ -29,18 +29,23 @@ use Rattle.html5ever_interface.specs.Token.{Told, told_by}
 use Rattle.html5ever_interface.specs.Token.Told.{Text}
 
 -- the texts of characters, joined
-concat-encoded : (cs : List ℕ) → concat (map encode_utf8 cs) ≡ encode_utf8_all cs
+pub concat-encoded : (cs : List ℕ) → concat (map encode_utf8 cs) ≡ encode_utf8_all cs
 concat-encoded [] = refl
 concat-encoded (c ∷ cs) = ap (λ l. encode_utf8 c ++ l) (concat-encoded cs)
 
 texts-encoded : (cs : List ℕ) (line : ℕ)
-    → on_line line (map (λ (c : ℕ). Text (encode_utf8 c)) cs) ≡ on_line line (map (λ (text : List ℕ). Text text) (map encode_utf8 cs))
+    → map (λ (m : Message). m.token) (on_line line (map (λ (c : ℕ). Text (encode_utf8 c)) cs)) ≡ map (λ (text : List ℕ). Text text) (map encode_utf8 cs)
 texts-encoded [] line = refl
-texts-encoded (c ∷ cs) line = ap (λ l. record { token = Text (encode_utf8 c); line = line } ∷ l) (texts-encoded cs line)
+texts-encoded (c ∷ cs) line = ap (λ l. Text (encode_utf8 c) ∷ l) (texts-encoded cs line)
 
-encoded≢nil : (cs : List ℕ) → map (λ (c : ℕ). Text (encode_utf8 c)) cs ≢ [] → map encode_utf8 cs ≢ []
-encoded≢nil [] filled = λ h. filled refl
-encoded≢nil (c ∷ cs) filled = λ h. cc
+-- the last of some messages on a line
+last-on_line : (line : ℕ) (tokens : List Told) → tokens ≢ []
+    → (front : List Message) × ((last : Message) × ((on_line line tokens ≡ front ++ last ∷ []) × (line ≡ last.line)))
+last-on_line line [] filled = absurd (filled refl)
+last-on_line line (token ∷ []) filled = ([], (record { token = token; line = line }, (refl, refl)))
+last-on_line line (token ∷ next ∷ tokens) filled =
+    let more = last-on_line line (next ∷ tokens) (λ e. cc) in
+    (record { token = token; line = line } ∷ more.0, (more.1.0, (ap (λ l. record { token = token; line = line } ∷ l) more.1.1.0, more.1.1.1)))
 
 texts≢nil : (cs : List ℕ) → cs ≢ [] → map (λ (c : ℕ). Text (encode_utf8 c)) cs ≢ []
 texts≢nil [] filled = λ e. filled refl
@@ -58,69 +63,58 @@ says-token (TagToken tag) line filled = inl refl
 says-token (CommentToken text) line filled = inl refl
 says-token (ProcessingInstructionToken text) line filled = inl refl
 says-token (CharacterTokens text) line filled =
-    inr (
-      map encode_utf8 (chars (string_bytes text)),
-      encoded≢nil (chars (string_bytes text)) filled,
-      texts-encoded (chars (string_bytes text)) line,
-      ap Text (sym (concat-encoded (chars (string_bytes text)) ∙ encodes-chars (string_bytes text) (IsUtf8-string_bytes text))),
-    )
+    let last = last-on_line line (tokens_in (Text (string_bytes text))) filled in
+    inr (record {
+      texts = map encode_utf8 (chars (string_bytes text));
+      says = texts-encoded (chars (string_bytes text)) line;
+      joined = ap Text (sym (concat-encoded (chars (string_bytes text)) ∙ encodes-chars (string_bytes text) (IsUtf8-string_bytes text)));
+      front = last.0;
+      last = last.1.0;
+      ends = last.1.1.0;
+      on_last_line = last.1.1.1;
+    })
 says-token NullCharacterToken line filled = inl refl
 says-token EOFToken line filled = inl refl
 says-token (ParseError message) line filled = inl refl
 
--- a text steps as its characters do
+-- a text steps as the texts do of which it is made, whatever their lines
 module _ {S : Type 0} (step faulted : S → Told → ℕ → S) where
-  stepped-text : ((s : S) (a b : List ℕ) (line : ℕ) → step (step s (Text a) line) (Text b) line ≡ step s (Text (a ++ b)) line)
+  stepped-texts : ((s : S) (a b : List ℕ) (line : ℕ) → step (step s (Text a) line) (Text b) line ≡ step s (Text (a ++ b)) line)
       → ((s : S) (line : ℕ) → step s (Text []) line ≡ s)
-      → (s : S) (cs : List ℕ) (line : ℕ)
-      → step s (Text (encode_utf8_all cs)) line ≡ stepped step s (on_line line (map (λ c. Text (encode_utf8 c)) cs))
+      → ((s : S) (a : List ℕ) (line other : ℕ) → step s (Text a) line ≡ step s (Text a) other)
+      → (s : S) (line : ℕ) (M : List Message) (texts : List (List ℕ)) → map (λ (m : Message). m.token) M ≡ map (λ (text : List ℕ). Text text) texts
+      → step s (Text (concat texts)) line ≡ stepped step s M
   unfolding stepped
-  stepped-text joins empty s [] line = empty s line
-  stepped-text joins empty s (c ∷ cs) line =
-      sym (joins s (encode_utf8 c) (encode_utf8_all cs) line) ∙ stepped-text joins empty (step s (Text (encode_utf8 c)) line) cs line
+  stepped-texts joins empty any_line s line [] [] same = empty s line
+  stepped-texts joins empty any_line s line [] (text ∷ texts) same = absurd cc
+  stepped-texts joins empty any_line s line (m ∷ M) [] same = absurd cc
+  stepped-texts joins empty any_line s line (m ∷ M) (text ∷ texts) same =
+      let first : m.token ≡ Text text = cc in
+      let more : map (λ (n : Message). n.token) M ≡ map (λ (later : List ℕ). Text later) texts = cc in
+      sym (joins s text (concat texts) line)
+      ∙ stepped-texts joins empty any_line (step s (Text text) line) line M texts more
+      ∙ ap (λ u. stepped step u M) (any_line s text line m.line ∙ ap (λ token. step s token m.line) (sym first))
 
-  stepped-utf8 : ((s : S) (a b : List ℕ) (line : ℕ) → step (step s (Text a) line) (Text b) line ≡ step s (Text (a ++ b)) line)
+  -- a token that was told, whatever messages it says, and one at which the sink faulted
+  pub token-tells : ((s : S) (a b : List ℕ) (line : ℕ) → step (step s (Text a) line) (Text b) line ≡ step s (Text (a ++ b)) line)
       → ((s : S) (line : ℕ) → step s (Text []) line ≡ s)
-      → (s : S) (text : List ℕ) (line : ℕ) → IsUtf8 text
-      → step s (Text text) line ≡ stepped step s (on_line line (tokens_in (Text text)))
-  stepped-utf8 joins empty s text line utf8 =
-      ap (λ bytes. step s (Text bytes) line) (sym (encodes-chars text utf8)) ∙ stepped-text joins empty s (chars text) line
-
-  stepped-token : {Z : Type 0}
-      → ((s : S) (a b : List ℕ) (line : ℕ) → step (step s (Text a) line) (Text b) line ≡ step s (Text (a ++ b)) line)
-      → ((s : S) (line : ℕ) → step s (Text []) line ≡ s)
-      → (s : S) (token : Token Z) (line : ℕ)
-      → step s (told_by token) line ≡ stepped step s (on_line line (tokens_in (told_by token)))
+      → ((s : S) (a : List ℕ) (line other : ℕ) → step s (Text a) line ≡ step s (Text a) other)
+      → (s t : S) (token : Told) (line : ℕ) (M : List Message) → IsToldAs token line M → t ≡ step s token line → t ≡ stepped step s M
   unfolding stepped
-  stepped-token joins empty s (DoctypeToken doctype) line = refl
-  stepped-token joins empty s (TagToken tag) line = refl
-  stepped-token joins empty s (CommentToken text) line = refl
-  stepped-token joins empty s (ProcessingInstructionToken text) line = refl
-  stepped-token joins empty s (CharacterTokens text) line =
-      stepped-utf8 joins empty s (string_bytes text) line (IsUtf8-string_bytes text)
-  stepped-token joins empty s NullCharacterToken line = refl
-  stepped-token joins empty s EOFToken line = refl
-  stepped-token joins empty s (ParseError message) line = refl
+  token-tells joins empty any_line s t token line M (inl one) e = e ∙ ap (stepped step s) (sym one)
+  token-tells joins empty any_line s t token line M (inr text) e =
+      e ∙ ap (λ told. step s told line) text.joined ∙ stepped-texts joins empty any_line s line M text.texts text.says
 
-  -- a token that was told, and one at which the sink faulted
-  pub token-tells : {Z : Type 0}
-      → ((s : S) (a b : List ℕ) (line : ℕ) → step (step s (Text a) line) (Text b) line ≡ step s (Text (a ++ b)) line)
-      → ((s : S) (line : ℕ) → step s (Text []) line ≡ s)
-      → (s t : S) (token : Token Z) (line : ℕ) → t ≡ step s (told_by token) line
-      → Tells step faulted {T = Unit {0}} (Ok tt) s (on_line line (tokens_in (told_by token))) t
-  token-tells joins empty s t token line e = e ∙ stepped-token joins empty s token line
-
-  pub token-faults : {Z : Type 0} → (s t : S) (token : Token Z) (line : ℕ) → tokens_in (told_by token) ≢ [] → t ≡ faulted s (told_by token) line
-      → Stops step faulted Sink s (on_line line (tokens_in (told_by token))) t
+  pub token-faults : (s t : S) (token : Told) (line : ℕ) (M : List Message) → IsToldAs token line M → t ≡ faulted s token line → Stops step faulted Sink s M t
   unfolding stepped
-  token-faults s t token line filled e = record {
+  token-faults s t token line M says e = record {
     before = [];
-    token = told_by token;
+    token = token;
     line = line;
-    next = on_line line (tokens_in (told_by token));
+    next = M;
     rest = [];
-    parts = sym (append-nil (on_line line (tokens_in (told_by token))));
-    says = says-token token line filled;
+    parts = sym (append-nil M);
+    says = says;
     state = e;
   }
 
@@ -329,12 +323,13 @@ module _ {Q S H Z : Type 0} {means : Means Q S H} {count : Q → ℕ} where
   -- a token that the sink took, and one at which it faulted
   pub emits_token : ((s : S) (a b : List ℕ) (line : ℕ) → means.step (means.step s (Text a) line) (Text b) line ≡ means.step s (Text (a ++ b)) line)
       → ((s : S) (line : ℕ) → means.step s (Text []) line ≡ s)
-      → {before after : Teller Q Z} (token : Token Z)
+      → ((s : S) (a : List ℕ) (line other : ℕ) → means.step s (Text a) line ≡ means.step s (Text a) other)
+      → {before after : Teller Q Z} (token : Token Z) → tokens_in (told_by token) ≢ []
       → means.state after.sink.now ≡ means.step (means.state before.sink.now) (told_by token) before.line
       → count after.sink.now ≡ count before.sink.now → IsKept before after
       → Emits means count {T = Unit {0}} (Ok tt) before after (tokens_in (told_by token))
-  emits_token joins empty token steps count kept = record {
-    tells = token-tells means.step means.faulted joins empty _ _ token _ steps;
+  emits_token joins empty any_line {before = before} token filled steps count kept = record {
+    tells = token-tells means.step means.faulted joins empty any_line _ _ (told_by token) before.line _ (says-token token before.line filled) steps;
     refusal = tt;
     faults = count ∙ sym (add-zero _);
     kept = kept;
@@ -379,8 +374,8 @@ module _ {Q S H Z : Type 0} {means : Means Q S H} {count : Q → ℕ} where
       → means.state after.sink.now ≡ means.faulted (means.state before.sink.now) (told_by token) before.line
       → count after.sink.now ≡ count before.sink.now + 1 → IsKept before after
       → Emits means count {T = T} (Err Sink) before after (tokens_in (told_by token))
-  emits_fault token filled fault count kept = record {
-    tells = token-faults means.step means.faulted _ _ token _ filled fault;
+  emits_fault {before = before} token filled fault count kept = record {
+    tells = token-faults means.step means.faulted _ _ (told_by token) before.line _ (says-token token before.line filled) fault;
     refusal = tt;
     faults = count;
     kept = kept;

@@ -1,5 +1,5 @@
 -- How a call that tells its sink some messages may leave it.
-use Rattle.std.specs.Prelude.{◌≡◌, ◌≢◌, ◌⊎◌, ℕ, ◌+◌, List, [], ◌∷◌, ◌++◌, Result, Ok, Err, IfErr, map, encode_utf8}
+use Rattle.std.specs.Prelude.{◌≡◌, ◌⊎◌, ℕ, ◌+◌, List, [], ◌∷◌, ◌++◌, Result, Ok, Err, IfErr, map, encode_utf8}
 use Rattle.std.specs.List.{concat}
 use Rattle.std.specs.Str.{chars}
 use Rattle.html5ever_interface.specs.Sink.{Means, Message, stepped, on_line}
@@ -20,11 +20,19 @@ abbrev pub tokens_in : Told → List Told
 tokens_in (Text text) = map (λ c. Text (encode_utf8 c)) (chars text)
 tokens_in told = told ∷ []
 
--- a token says these messages: it is the one message, or the text that the texts of some messages make on its line
+-- the messages are texts that make this token, whose line is that of the last of them
+pub record IsTextOf (token : Told) (line : ℕ) (messages : List Message) : Type 0 where
+  pub texts : List (List ℕ)
+  pub says : map (λ (m : Message). m.token) messages ≡ map (λ text. Text text) texts
+  pub joined : token ≡ Text (concat texts)
+  pub front : List Message
+  pub last : Message
+  pub ends : messages ≡ front ++ last ∷ []
+  pub on_last_line : line ≡ last.line
+
+-- a token says these messages: it is the one message, or the text that the texts of some messages make, on the line of the last
 abbrev pub IsToldAs : Told → ℕ → List Message → Type 0
-IsToldAs token line messages =
-    (messages ≡ record { token = token; line = line } ∷ [])
-    ⊎ ((texts : List (List ℕ)) × (texts ≢ []) × (messages ≡ on_line line (map (λ text. Text text) texts)) × (token ≡ Text (concat texts)))
+IsToldAs token line messages = (messages ≡ record { token = token; line = line } ∷ []) ⊎ IsTextOf token line messages
 
 module _ {S : Type 0} (step faulted : S → Told → ℕ → S) where
   -- the sink was told a beginning of the messages

@@ -1,11 +1,12 @@
 //! Whom a tokenizer tells, and how.
 #![tactic(auto, using(crate::proofs::Tellings::tells_from_memory), unfolding(html5ever_interface::specs::Sink::stepped))]
 
-ghost use Rattle.std.specs.Prelude.{◌≡◌, ◌≢◌, ◌∷◌, [], false, IfOk, encode_utf8, string_bytes};
+ghost use Rattle.std.specs.Prelude.{◌≡◌, ◌≢◌, List, ◌∷◌, [], false, IfOk, encode_utf8, string_bytes};
 ghost use Rattle.html5grammar.specs.ErrorText.{error_in, end_error_in, where_true, bad_character_error};
+ghost use Rattle.html5ever_interface.specs.Sink.{Message};
 ghost use Rattle.html5ever_interface.specs.Token.{Told, told_by, tag_of, reply_of, is_tag};
 ghost use Rattle.html5ever_interface.specs.Token.Told.{Text, Error};
-ghost use Rattle.html5states.specs.Telling.{Emits, tokens_in};
+ghost use Rattle.html5states.specs.Telling.{Emits, IsToldAs, Tells, tokens_in};
 
 use html5ever_interface::interface::sink::TokenSink;
 use html5ever_interface::interface::token::{SinkFault, Tag, Token, TokenSinkResult};
@@ -37,7 +38,7 @@ impl<S, A: Drop> Drop for Teller<'_, S, A> {
 
 impl<S: TokenSink<Token<A>>, A: Allocator + Copy> Teller<'_, S, A> {
     /// Hands the sink a token that isn't a tag, so the tokenizer keeps on. A text of several characters
-    /// is the same to a sink as each of them by itself.
+    /// is the same to a sink as each of them by itself, also where these stand on lines before.
     #[inline(always)]
     pub fn hand_on(&mut self, token: Token<A>) -> Result<(), TokenizerError>
         requires no_tag { is_tag (told_by token) ≡ false }
@@ -46,6 +47,8 @@ impl<S: TokenSink<Token<A>>, A: Allocator + Copy> Teller<'_, S, A> {
             (told_by token ∷ []) }
         ensures characters { Emits S.means S.faults result self.old self.new
             (tokens_in (told_by token)) }
+        ensures says { (M : List Message) → IsToldAs (told_by token) self.old.line M
+            → Tells S.means.step S.means.faulted result (S.means.state self.old.sink.now) M (S.means.state self.new.sink.now) }
     {
         match self.sink.process_token(token, self.line) {
             Ok(TokenSinkResult::Continue) => Ok(()),
