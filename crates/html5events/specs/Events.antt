@@ -5,7 +5,7 @@
 use Rattle.std.specs.Prelude.{◌≡◌, ℕ, ◌-◌, ◌^◌, ◌≤◌, min, Bool, true, false, List, [], ◌∷◌, ◌++◌, length, take, drop}
 use Rattle.html5events.specs.Records.{text_end, record_of}
 use Rattle.html5ever_interface.specs.Collected.{with_told}
-use Rattle.html5ever_interface.specs.Sink.{Message, stepped}
+use Rattle.html5ever_interface.specs.Sink.{Means, Message, stepped}
 use Rattle.html5ever_interface.specs.Token.{Told, Reply}
 use Rattle.html5ever_interface.specs.Token.Told.{Text}
 use Rattle.html5ever_interface.specs.Token.Reply.{KeepOn}
@@ -85,6 +85,18 @@ recorded_foreign r = r.foreign
 -- a token that could not be written leaves nothing
 abbrev pub recorded_faulted : Recorded → Told → ℕ → Recorded
 recorded_faulted r told line = r
+
+-- what a sink of records makes of what it is told
+abbrev pub recorded_means : Means Events Recorded (Unit {0})
+recorded_means = record {
+  state = λ s. s.recorded;
+  step = recorded_step;
+  reply = recorded_reply;
+  foreign = recorded_foreign;
+  finish = λ r. r;
+  faulted = recorded_faulted;
+  end_faulted = λ r. r;
+}
 
 -- what a sink keeps of the bytes of its page, of which so many were skipped, and of how many were taken
 pub record Keeps (page : List ℕ) (skipped : ℕ) (taken : List ℕ) (count : ℕ) : Type 0 where

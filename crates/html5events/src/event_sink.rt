@@ -245,22 +245,14 @@ impl<A: Allocator> EventSink<A> {
 }
 
 impl<A: Allocator + Copy> TokenSink<Token<A>> for EventSink<A> {
-    ghost use Rattle.html5events.specs.Events.{Recorded, recorded_step, recorded_reply, recorded_foreign, recorded_faulted};
+    ghost use Rattle.html5events.specs.Events.{Recorded, recorded_means};
     ghost use Rattle.html5events.specs.EventLaws.{recorded_joins, recorded_empty, recorded_any_line, recorded_keeps_on};
 
     type Handle = ();
 
     ghost State = { Recorded };
 
-    ghost means = { record {
-      state = λ s. s.recorded;
-      step = recorded_step;
-      reply = recorded_reply;
-      foreign = recorded_foreign;
-      finish = λ r. r;
-      faulted = recorded_faulted;
-      end_faulted = λ r. r;
-    } };
+    ghost means = { recorded_means };
 
     ghost faults = { λ s. s.faults };
 
