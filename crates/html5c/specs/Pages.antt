@@ -2,6 +2,8 @@
 use Rattle.std.specs.Prelude.{◌≡◌, ◌≢◌, ◌⊎◌, ℕ, true, false, List, [], ◌++◌, length, take, drop, min, Option, None, Some}
 use Rattle.std.specs.Str.{IsUtf8, chars}
 use Rattle.html5c.specs.Said.{options_said, replies_said, state_said}
+use Rattle.html5c.specs.declared.opening.OpenError.{OpenError}
+use Rattle.html5c.specs.declared.opening.OpenError.TheVariants as opening
 use Rattle.html5c.specs.declared.options.Options.{Options}
 use Rattle.html5c.specs.declared.page.Page.{Page}
 use Rattle.html5events.specs.Events.{recorded_means, none_recorded, no_events}
@@ -52,9 +54,25 @@ pub record Starts (s : SessionOf) (name : List ℕ) (o : Options) : Type 0 where
   pub going_on : is_over s ≡ false
   pub utf8 : IsUtf8 name
 
+-- there is a session, and it is at the start of a page
+abbrev pub IsStart : Option SessionOf → List ℕ → Options → Type 0
+IsStart None name o = ⊥
+IsStart (Some s) name o = Starts s name o
+
+-- when a page is not opened, by the error
+abbrev pub OpenFails : List ℕ → Options → OpenError → Type 0
+OpenFails name o opening.Memory = Unit {0}
+OpenFails name o opening.NotUtf8 = ¬ (IsUtf8 name)
+OpenFails name o opening.BadOption = (replies_said o.replies ≡ None) ⊎ (state_said o.state ≡ None)
+
+abbrev pub open_status : OpenError → ℕ
+open_status opening.Memory = 3
+open_status opening.NotUtf8 = 4
+open_status opening.BadOption = 9
+
 -- what a status of a new session says: all but DONE leave the handle closed
 pub record NewSays (now : Option SessionOf) (name : List ℕ) (o : Options) (status : ℕ) : Type 0 where
-  pub done : status ≡ 0 → (s : SessionOf) × (now ≡ Some s) × Starts s name o
+  pub done : status ≡ 0 → IsStart now name o
   pub refused : status ≢ 0 → now ≡ None
   pub not_utf8 : status ≡ 4 → ¬ (IsUtf8 name)
   pub bad_option : status ≡ 9 → (replies_said o.replies ≡ None) ⊎ (state_said o.state ≡ None)

@@ -32,11 +32,14 @@ abbrev pub name_said : List ℕ → Option (List ℕ)
 name_said [] = None
 name_said (b ∷ bytes) = Some (b ∷ bytes)
 
--- how the tokenizer reads, after a last start tag
-abbrev pub options_said : Options → List ℕ → OptionsOf
-options_said o name = record {
+-- how the tokenizer reads, after a start tag of this name, if there is one
+abbrev pub options_by : Options → Option (List ℕ) → OptionsOf
+options_by o name = record {
   exact_errors = o.exact_errors;
   discard_bom = not o.keep_bom;
   initial_state = state_said o.state;
-  last_start_tag_name = name_said name;
+  last_start_tag_name = name;
 }
+
+abbrev pub options_said : Options → List ℕ → OptionsOf
+options_said o name = options_by o (name_said name)

@@ -84,7 +84,7 @@ impl Handle {
     }
 
     /// Holds a session. One that it held before would be lost, so there is none.
-    pub fn put(&mut self, _alloc: Global, held: Box<Page, Global>)
+    pub fn put(&mut self, held: Box<Page, Global>)
         requires { self.old.owned.value ≡ None }
         ensures { self.new.owned.value ≡ Some held.value }
     {

@@ -29,10 +29,10 @@ pub extern "C" fn html5_new(
     html5_free(alloc, h);
     match page_of(alloc, last_start_tag, options) {
         Ok(page) => {
-            h.put(alloc, page);
+            h.put(page);
             status::DONE
         }
-        Err(status) => status,
+        Err(error) => error.status(),
     }
 }
 
@@ -46,7 +46,7 @@ pub extern "C" fn html5_feed(alloc: Global, h: &mut Handle, bytes: &[u8]) -> u32
         return status::CLOSED;
     };
     let status = page.feed(bytes);
-    h.put(alloc, page);
+    h.put(page);
     status
 }
 
@@ -59,7 +59,7 @@ pub extern "C" fn html5_insert(alloc: Global, h: &mut Handle, text: &[u8]) -> u3
         return status::CLOSED;
     };
     let status = page.insert(text);
-    h.put(alloc, page);
+    h.put(page);
     status
 }
 
@@ -72,7 +72,7 @@ pub extern "C" fn html5_end(alloc: Global, h: &mut Handle) -> u32
         return status::CLOSED;
     };
     let status = page.end();
-    h.put(alloc, page);
+    h.put(page);
     status
 }
 
@@ -86,7 +86,7 @@ pub extern "C" fn html5_take(alloc: Global, h: &mut Handle, out: &mut [u8]) -> u
         return 0;
     };
     let count = page.take(out);
-    h.put(alloc, page);
+    h.put(page);
     count
 }
 
@@ -101,7 +101,7 @@ pub extern "C" fn html5_error_at(alloc: Global, h: &mut Handle) -> u64
         return 0;
     };
     let place = page.error_at();
-    h.put(alloc, page);
+    h.put(page);
     place
 }
 

@@ -1,6 +1,6 @@
 //! How a page is to be read, as C says it.
-ghost use Rattle.std.specs.Prelude.{◌≡◌, not, IfSome, Some};
-ghost use Rattle.html5c.specs.Said.{state_said, replies_said, options_said};
+ghost use Rattle.std.specs.Prelude.{◌≡◌, option_map, string_bytes, IfSome, IsNone};
+ghost use Rattle.html5c.specs.Said.{state_said, replies_said, options_by};
 ghost use Rattle.html5ever_interface.specs.Options.{options_of};
 ghost use Rattle.html5feed.specs.Starting.{CanStart};
 
@@ -56,28 +56,37 @@ fn replies_of(number: u32) -> Option<Replies>
 }
 
 impl Options {
-    /// What the sink answers, if the numbers name something.
+    /// What the sink answers, if the number of the replies names some.
     pub fn events(&self) -> Option<EventOptions>
-        ensures { IfSome result (λ events. (replies_said self.now.replies ≡ Some events.replies) × (events.foreign ≡ self.now.foreign)) }
+        ensures said { IfSome result (λ events. replies_said self.now.replies ≡ Some events.replies) }
+        ensures foreign { IfSome result (λ events. events.foreign ≡ self.now.foreign) }
+        ensures none { IsNone result → replies_said self.now.replies ≡ None }
     {
-        let replies = replies_of(self.replies)?;
-        Some(EventOptions {
-            replies,
-            foreign: self.foreign,
-        })
+        match replies_of(self.replies) {
+            Some(replies) => Some(EventOptions {
+                replies,
+                foreign: self.foreign,
+            }),
+            None => None,
+        }
     }
 
-    /// How the tokenizer reads, if the numbers name something, after a last start tag, if there is one.
+    /// How the tokenizer reads, if the number of the state names one, after a last start tag, if there
+    /// is one.
     pub fn opts(&self, last_start_tag_name: Option<String<Global>>) -> Option<TokenizerOpts<Global>>
         ensures start { IfSome result (λ opts. CanStart opts.initial_state) }
-        ensures said { IfSome result (λ opts. OptionsSaid self.now last_start_tag_name opts) }
+        ensures said { IfSome result (λ opts. options_of opts
+            ≡ options_by self.now (option_map string_bytes last_start_tag_name)) }
+        ensures none { IsNone result → state_said self.now.state ≡ None }
     {
-        let state = state_of(self.state)?;
-        Some(TokenizerOpts {
-            exact_errors: self.exact_errors,
-            discard_bom: !self.keep_bom,
-            initial_state: Some(state),
-            last_start_tag_name,
-        })
+        match state_of(self.state) {
+            Some(state) => Some(TokenizerOpts {
+                exact_errors: self.exact_errors,
+                discard_bom: !self.keep_bom,
+                initial_state: Some(state),
+                last_start_tag_name,
+            }),
+            None => None,
+        }
     }
 }

@@ -196,13 +196,11 @@ impl<A: Allocator + Copy> Session<A> {
                 return Err(SessionError::NotUtf8 { valid_up_to });
             }
         };
-        match self.queue.push_back(text) {
-            Ok(()) => Ok(()),
-            Err(_) => {
-                self.lost = true;
-                Err(SessionError::Memory)
-            }
-        }
+        let Err(_) = self.queue.push_back(text) else {
+            return Ok(());
+        };
+        self.lost = true;
+        Err(SessionError::Memory)
     }
 
     // Feeds the tokenizer what waits, up to a pause.
