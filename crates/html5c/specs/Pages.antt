@@ -105,10 +105,10 @@ pub record EndSays (old new : SessionOf) (status : ℕ) : Type 0 where
   pub only : (status ≡ 0) ⊎ (status ≡ 3) ⊎ (status ≡ 5) ⊎ (status ≡ 6) ⊎ (status ≡ 7)
 
 -- the next bytes of the records that wait were copied, as many as there was room for, and let go; nothing else changed
-pub record TakeSays (old new : SessionOf) (room out : List ℕ) (count : ℕ) : Type 0 where
-  pub count : count ≡ min (length room) (length old.resting.sink.waiting)
-  pub copied : out ≡ take count old.resting.sink.waiting ++ drop count room
-  pub taken : new ≡ after_session_takes old count
+pub record TakeSays (old new : SessionOf) (room out : List ℕ) (n : ℕ) : Type 0 where
+  pub count : n ≡ min (length room) (length old.resting.sink.waiting)
+  pub copied : out ≡ take n old.resting.sink.waiting ++ drop n room
+  pub taken : new ≡ after_session_takes old n
 
 -- ---- the same, of a handle that is open or closed
 
@@ -128,9 +128,9 @@ Ends None None status = status ≡ 8
 Ends _ _ status = ⊥
 
 abbrev pub Takes : Option SessionOf → Option SessionOf → List ℕ → List ℕ → ℕ → Type 0
-Takes (Some old) (Some new) room out count = TakeSays old new room out count
-Takes None None room out count = (count ≡ 0) × (out ≡ room)
-Takes _ _ room out count = ⊥
+Takes (Some old) (Some new) room out n = TakeSays old new room out n
+Takes None None room out n = (n ≡ 0) × (out ≡ room)
+Takes _ _ room out n = ⊥
 
 -- where the bytes of the last refused piece stop being UTF-8
 abbrev pub place_in : Option ℕ → ℕ

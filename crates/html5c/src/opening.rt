@@ -37,7 +37,11 @@ impl OpenError {
 }
 
 // The name of the last start tag, if it has bytes.
-fn name_of(alloc: Global, bytes: &[u8], options: &Options) -> Result<Option<String<Global>>, OpenError>
+fn name_of(
+    alloc: Global,
+    bytes: &[u8],
+    options: &Options,
+) -> Result<Option<String<Global>>, OpenError>
     ensures name { IfOk result (λ name. option_map string_bytes name ≡ name_said bytes.now) }
     ensures utf8 { OnOk result (IsUtf8 bytes.now) }
     ensures refused { IfErr result (λ error. OpenFails bytes.now options.now error) }

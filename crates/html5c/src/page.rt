@@ -1,5 +1,6 @@
 //! What a handle is of: a session over C's memory.
-ghost use Rattle.html5c.specs.Pages.{Feeds, Inserts, Ends, Takes, error_place};
+ghost use Rattle.std.specs.Prelude.{◌≡◌};
+ghost use Rattle.html5c.specs.Pages.{Feeds, Inserts, Ends, Takes, fed_status, error_status, error_place};
 
 use crate::status;
 use html5session::{Fed, Session, SessionError};

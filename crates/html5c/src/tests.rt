@@ -26,8 +26,7 @@ fn reads_a_page_in_pieces(rt: HostRuntime) -> Result<(), Fail> {
     let n = html5_take(alloc, &mut h, &mut out);
     assert_eq!(rt;
         &out[..n.min(64)],
-        b" \xc3\xa9\xff\x02\x01\0\0\0\0\0\0\0\0\x01\0\0\0\0\0\0\0p\0\0\0\0\0\0\0\0\x09\x01\0\0\0\0\0\0\0"
-            .as_slice()
+        b" \xc3\xa9\xff\x02\x01\0\0\0\0\0\0\0\0\x01\0\0\0\0\0\0\0p\0\0\0\0\0\0\0\0\x09\x01\0\0\0\0\0\0\0".as_slice()
     );
     assert_eq!(rt; html5_take(alloc, &mut h, &mut out), 0);
     assert_eq!(rt; html5_feed(alloc, &mut h, b"x"), status::OVER);
@@ -67,7 +66,10 @@ fn says_where_bytes_are_no_text(rt: HostRuntime) -> Result<(), Fail> {
     let alloc = rt.alloc();
     let mut h = Handle::closed(alloc);
     let mut out = [0u8; 8];
-    assert_eq!(rt; html5_new(alloc, &mut h, b"title", &Options { state: 2, ..ZERO }), status::DONE);
+    assert_eq!(rt;
+        html5_new(alloc, &mut h, b"title", &Options { state: 2, ..ZERO }),
+        status::DONE
+    );
     assert_eq!(rt; html5_error_at(alloc, &mut h), 0);
     assert_eq!(rt; html5_feed(alloc, &mut h, b"<b>"), status::DONE);
     assert_eq!(rt; html5_feed(alloc, &mut h, b"c\xff"), status::NOT_UTF8);
@@ -91,8 +93,14 @@ fn is_closed_until_it_is_opened(rt: HostRuntime) -> Result<(), Fail> {
     assert_eq!(rt; html5_take(alloc, &mut h, &mut out), 0);
     assert_eq!(rt; html5_error_at(alloc, &mut h), 0);
     html5_free(alloc, &mut h);
-    assert_eq!(rt; html5_new(alloc, &mut h, b"", &Options { state: 6, ..ZERO }), status::BAD_OPTION);
-    assert_eq!(rt; html5_new(alloc, &mut h, b"", &Options { replies: 3, ..ZERO }), status::BAD_OPTION);
+    assert_eq!(rt;
+        html5_new(alloc, &mut h, b"", &Options { state: 6, ..ZERO }),
+        status::BAD_OPTION
+    );
+    assert_eq!(rt;
+        html5_new(alloc, &mut h, b"", &Options { replies: 3, ..ZERO }),
+        status::BAD_OPTION
+    );
     assert_eq!(rt; html5_new(alloc, &mut h, b"\xff", &ZERO), status::NOT_UTF8);
     assert_eq!(rt; html5_new(alloc, &mut h, b"", &ZERO), status::DONE);
     assert_eq!(rt; html5_feed(alloc, &mut h, b"x"), status::DONE);

@@ -31,7 +31,10 @@ fn take_all(session: &mut Session<Global>, page: &mut Vec<u8>) -> Result<(), All
 fn names_in(alloc: Global, records: &[u8]) -> Result<Vec<u8>, AllocError> {
     let mut page = Vec::new(alloc);
     let mut rest = records;
-    while let Some((record, after)) = read_record(rest) {
+    for _ in 0..100 {
+        let Some((record, after)) = read_record(rest) else {
+            break;
+        };
         match record.token {
             TokenRecord::Tag(tag) => page.extend_from_slice(tag.name)?,
             TokenRecord::Text(text) => page.extend_from_slice(text)?,

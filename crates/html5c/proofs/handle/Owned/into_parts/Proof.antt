@@ -53,7 +53,7 @@ module _ {M : Type 1} {𝓤 : Ura M} (𝓛 : Logic 𝓤) (at_mem : Memory → SP
       let page = (value_of d.value is).0 in let holds = (value_of d.value is).1 in
       let v : D E = record { ptr = d.at; alloc = d.alloc; value = page } in
       let made : To.Denot = record { ptr = d.at; alloc = d.alloc; value = page } in
-      split ! $ drop ! $ fsplit !  $
+      split ! $ drop ! $ fsplit ! $
       rewrite ! 0 (λ (held : Option Page). ‵ ((Owned.the_row).own_val (record { at = d.at; alloc = d.alloc; value = held }) z.0.4.0)) holds refl $
       use1 𝓛 (‵ ((B E).own_val v z.0.4.0)) (id⊢ 𝓤 _) $
       box_out E ! v z.0.4.0 (λ b o hv e ws fa. box_in E ! v b o v.value e refl $ use1 𝓛 (‵ (To.own_val made (word E hv b o ∷ []))) (id⊢ 𝓤 _) $ move ! (1 ∷ []) $ drop ! $

@@ -79,7 +79,7 @@ module _ (E : Bx) where
         -- [the value in its block, with the right to free it; the allocator; nothing; the tokens; that the types outlive them]
         let w = word E hv b o in
         let owned : List (Item 𝓤) =
-            ‵ (box_owns (token E.al box.alloc) (R E) (block_ptr b o) box.value) ∷ ‵ ((P E).own_val box.alloc (hv ∷ [])) ∷ ‵ ftrue ∷ tokens ∷ outlive ∷ [] in
+        ‵ (box_owns (token E.al box.alloc) (R E) (block_ptr b o) box.value) ∷ ‵ ((P E).own_val box.alloc (hv ∷ [])) ∷ ‵ ftrue ∷ tokens ∷ outlive ∷ [] in
         by ! (subst (λ (ws : List Val). ent 𝓤 (types.Kit.⋆ 𝓛 owned) (WpFn 𝓤 H 𝓣.C 𝓣.Λ called (ws ++ []) Post)) (sym stored)
         (qed 𝓛 owned ∵ enter ! 𝓣.C 𝓣.Λ called (w ∷ []) _ $ alloc_all ! (λ ls. pass_all ! refl (box_typed E hv b o fits, tt) $
         sets ! (of_opd ! (get_in ! (fld ! refl (stop !)) (sub ! 0 refl (whole !)))) refl (tt, tt) $
