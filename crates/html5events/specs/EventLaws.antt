@@ -5,7 +5,9 @@ use Rattle.std.proofs.lemmas.List.{append-nil, append_assoc}
 use Rattle.html5ever_interface.specs.Token.{Told, is_tag}
 use Rattle.html5ever_interface.specs.Token.Told.{Text, Tag}
 use Rattle.html5ever_interface.specs.Token.Reply.{KeepOn}
-use Rattle.html5events.specs.Events.{Recorded, text_opening, added_by_text, added_by, open_after, recorded_step, recorded_reply, reply_where}
+use Rattle.html5events.specs.declared.event_sink.Replies.{Replies}
+use Rattle.html5events.specs.declared.event_sink.Replies.TheVariants.{None, Standard, Pausing}
+use Rattle.html5events.specs.Events.{Recorded, text_opening, added_by_text, added_by, open_after, recorded_step, recorded_reply, reply_by}
 
 pub recorded_joins : (r : Recorded) (a b : List ℕ) (line : ℕ)
     → recorded_step (recorded_step r (Text a) line) (Text b) line ≡ recorded_step r (Text (a ++ b)) line
@@ -26,10 +28,12 @@ pub recorded_any_line : (r : Recorded) (a : List ℕ) (line other : ℕ) → rec
 unfolding recorded_step added_by
 recorded_any_line r a line other = refl
 
-reply_where-other : (replies : Bool) (told : Told) → is_tag told ≡ false → reply_where replies told ≡ KeepOn
-reply_where-other true (Tag tag) no_tag = absurd cc
-reply_where-other true other no_tag = refl
-reply_where-other false told no_tag = refl
+reply_by-other : (replies : Replies) (told : Told) → is_tag told ≡ false → reply_by replies told ≡ KeepOn
+reply_by-other None told no_tag = refl
+reply_by-other Standard (Tag tag) no_tag = absurd cc
+reply_by-other Standard other no_tag = refl
+reply_by-other Pausing (Tag tag) no_tag = absurd cc
+reply_by-other Pausing other no_tag = refl
 
 pub recorded_keeps_on : (r : Recorded) (told : Told) (line : ℕ) → is_tag told ≡ false → recorded_reply r told line ≡ KeepOn
-recorded_keeps_on r told line no_tag = reply_where-other r.replies told no_tag
+recorded_keeps_on r told line no_tag = reply_by-other r.replies told no_tag

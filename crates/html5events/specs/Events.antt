@@ -5,10 +5,13 @@
 use Rattle.std.specs.Prelude.{◌≡◌, ℕ, ◌-◌, ◌^◌, ◌≤◌, min, Bool, true, false, List, [], ◌∷◌, ◌++◌, length, take, drop}
 use Rattle.html5events.specs.Records.{text_end, record_of}
 use Rattle.html5ever_interface.specs.Collected.{with_told}
-use Rattle.html5ever_interface.specs.Sink.{Message, stepped}
+use Rattle.html5ever_interface.specs.Sink.{Means, Message, stepped}
 use Rattle.html5ever_interface.specs.Token.{Told, Reply}
 use Rattle.html5ever_interface.specs.Token.Told.{Text}
 use Rattle.html5ever_interface.specs.Token.Reply.{KeepOn}
+use Rattle.html5events.specs.declared.event_sink.Replies.{Replies}
+use Rattle.html5events.specs.declared.event_sink.Replies.TheVariants.{None, Standard, Pausing}
+use Rattle.html5sinks.specs.Pausing.{pausing_reply}
 use Rattle.html5sinks.specs.Replies.{standard_reply}
 use Rattle.html5sinks.specs.Runs.{reply_where_tag}
 
@@ -18,8 +21,8 @@ pub record Recorded : Type 0 where
   pub bytes : List ℕ
   -- a text is open at their end
   pub in_text : Bool
-  -- whether tags are replied to as the standard asks, and the answer about foreign content
-  pub replies : Bool
+  -- how tags are replied to, and the answer about foreign content
+  pub replies : Replies
   pub foreign : Bool
 
 -- a sink: what it wrote, of which so much was taken and the rest waits, and how many tokens could not be written
@@ -30,10 +33,10 @@ pub record Events : Type 0 where
   pub faults : ℕ
 
 -- nothing written
-abbrev pub none_recorded : Bool → Bool → Recorded
+abbrev pub none_recorded : Replies → Bool → Recorded
 none_recorded replies foreign = record { bytes = []; in_text = false; replies = replies; foreign = foreign }
 
-abbrev pub no_events : Bool → Bool → Events
+abbrev pub no_events : Replies → Bool → Events
 no_events replies foreign = record { recorded = none_recorded replies foreign; taken = []; waiting = []; faults = 0 }
 
 -- what comes before the first bytes of a text, where `in_text` says that a text is open
@@ -67,12 +70,13 @@ recorded_step r told line =
     record r { bytes = r.bytes ++ added_by r.in_text told line; in_text = open_after r.in_text told }
 
 -- the reply to what is told: where none is wanted it is to read on
-abbrev pub reply_where : Bool → Told → Reply (Unit {0})
-reply_where true told = reply_where_tag standard_reply told
-reply_where false told = KeepOn
+abbrev pub reply_by : Replies → Told → Reply (Unit {0})
+reply_by None told = KeepOn
+reply_by Standard told = reply_where_tag standard_reply told
+reply_by Pausing told = pausing_reply told
 
 abbrev pub recorded_reply : Recorded → Told → ℕ → Reply (Unit {0})
-recorded_reply r told line = reply_where r.replies told
+recorded_reply r told line = reply_by r.replies told
 
 -- the answer about foreign content
 abbrev pub recorded_foreign : Recorded → Bool
@@ -81,6 +85,18 @@ recorded_foreign r = r.foreign
 -- a token that could not be written leaves nothing
 abbrev pub recorded_faulted : Recorded → Told → ℕ → Recorded
 recorded_faulted r told line = r
+
+-- what a sink of records makes of what it is told
+abbrev pub recorded_means : Means Events Recorded (Unit {0})
+recorded_means = record {
+  state = λ s. s.recorded;
+  step = recorded_step;
+  reply = recorded_reply;
+  foreign = recorded_foreign;
+  finish = λ r. r;
+  faulted = recorded_faulted;
+  end_faulted = λ r. r;
+}
 
 -- what a sink keeps of the bytes of its page, of which so many were skipped, and of how many were taken
 pub record Keeps (page : List ℕ) (skipped : ℕ) (taken : List ℕ) (count : ℕ) : Type 0 where

@@ -1,6 +1,6 @@
 //! A sink that writes what it is told as records of bytes.
-ghost use Rattle.std.specs.Prelude.{◌≡◌, ℕ, false, List, [], ◌∷◌, ◌+◌, ◌-◌, ◌/◌, ◌^◌, ◌≤◌, ◌++◌, length, take, drop, min, vec_len, string_bytes, OnOk, OnErr};
-ghost use Rattle.html5events.specs.Events.{Recorded, no_events, reply_where, added_by, recorded_step, closed_bytes, joined, after_taking};
+ghost use Rattle.std.specs.Prelude.{◌≡◌, ℕ, false, List, [], ◌∷◌, ◌+◌, ◌-◌, ◌/◌, ◌^◌, ◌≤◌, ◌++◌, length, take, drop, min, vec_len, string_bytes, IfOk, OnOk, OnErr};
+ghost use Rattle.html5events.specs.Events.{Recorded, no_events, reply_by, added_by, recorded_step, closed_bytes, joined, after_taking};
 ghost use Rattle.html5events.specs.Records.{records_of, BeginsWith};
 ghost use Rattle.html5ever_interface.specs.Sink.{Message, stepped};
 ghost use Rattle.html5ever_interface.specs.Token.Told.{End};
@@ -10,27 +10,55 @@ use crate::records::{is_open_after, push_token};
 use ghost_counts::{Count, Log};
 use html5ever_interface::interface::sink::TokenSink;
 use html5ever_interface::interface::token::{SinkFault, Token, TokenSinkResult};
+use html5sinks::pausing::pausing_reply;
 use html5sinks::replies::standard_reply;
 use std::alloc::{AllocError, Allocator, Global};
 use std::marker::Model;
 
+/// How a sink of records replies to tags.
+#[derive(Clone, Copy, Debug, PartialEq, Eq, Default)]
+pub enum Replies {
+    /// To read on, whatever the tag: all that comes after it is markup.
+    None,
+    /// As the standard asks by the tag's element, so that what stands in `script`, `style`, `title` and
+    /// their like is no markup. It never pauses.
+    #[default]
+    Standard,
+    /// As the standard asks, with pauses: after an end tag `script`, and after a start tag `meta` with an
+    /// attribute `charset`.
+    Pausing,
+}
+
 /// What a sink of records answers to the tokenizer.
 #[derive(Clone, Copy, Debug, PartialEq, Eq, Default)]
 pub struct EventOptions {
-    /// Whether tags are replied to as the standard asks by their elements, so that what stands in
-    /// `script`, `style`, `title` and their like is no markup. It never pauses.
-    pub replies: bool,
+    /// The replies to tags.
+    pub replies: Replies,
     /// The answer about the current node, at each call.
     pub foreign: bool,
 }
 
-// The reply to a token, where one is wanted.
-fn reply_where<A: Allocator>(replies: bool, token: &Token<A>) -> TokenSinkResult<(), String<A>>
-    ensures { reply_of string_bytes result ≡ reply_where replies (told_by token.now) }
+// The reply to a token by the standard, without pauses.
+fn standard_reply_to<A: Allocator>(token: &Token<A>) -> TokenSinkResult<(), String<A>>
+    ensures { reply_of string_bytes result ≡ reply_by Replies.Standard (told_by token.now) }
 {
     match token {
-        Token::TagToken(tag) if replies => standard_reply(tag),
+        Token::TagToken(tag) => standard_reply(tag),
         _ => TokenSinkResult::Continue,
+    }
+}
+
+// The reply to a token.
+fn reply_to<A: Allocator + Copy>(
+    replies: Replies,
+    token: &Token<A>,
+) -> Result<TokenSinkResult<(), String<A>>, AllocError>
+    ensures { IfOk result (λ reply. reply_of string_bytes reply ≡ reply_by replies (told_by token.now)) }
+{
+    match replies {
+        Replies::None => Ok(TokenSinkResult::Continue),
+        Replies::Standard => Ok(standard_reply_to(token)),
+        Replies::Pausing => pausing_reply(token),
     }
 }
 
@@ -53,6 +81,25 @@ fn push_whole_token<A: Allocator>(
             Err(AllocError)
         }
     }
+}
+
+// Appends what a token adds, and replies to it, or does nothing.
+fn push_and_reply<A: Allocator + Copy>(
+    page: &mut Vec<u8, A>,
+    in_text: bool,
+    replies: Replies,
+    token: &Token<A>,
+    line: u64,
+) -> Result<TokenSinkResult<(), String<A>>, AllocError>
+    ensures ok { OnOk result
+        (page.new.items ≡ page.old.items ++ added_by in_text (told_by token.now) line) }
+    ensures replies { IfOk result
+        (λ reply. reply_of string_bytes reply ≡ reply_by replies (told_by token.now)) }
+    ensures err { OnErr result (page.new.items ≡ page.old.items) }
+{
+    let reply = reply_to(replies, token)?;
+    push_whole_token(page, in_text, token, line)?;
+    Ok(reply)
 }
 
 // What is left of the bytes once so many were skipped.
@@ -101,14 +148,14 @@ pub fn writes_records()
 {}
 
 /// Writes what it is told as records: a text as it comes, and any other token at once. The bytes wait in the sink until
-/// they are taken. A token whose bytes find no memory is a fault, and leaves none of them.
+/// they are taken. A token whose bytes find no memory, or its reply, is a fault, and leaves none of them.
 #[derive(Drop)]
 pub struct EventSink<A: Allocator = Global> {
     page: Vec<u8, A>,
     // How many bytes of the page were taken.
     skipped: usize,
     in_text: bool,
-    replies: bool,
+    replies: Replies,
     foreign: bool,
     taken: Log,
     taken_len: u64,
@@ -198,22 +245,14 @@ impl<A: Allocator> EventSink<A> {
 }
 
 impl<A: Allocator + Copy> TokenSink<Token<A>> for EventSink<A> {
-    ghost use Rattle.html5events.specs.Events.{Recorded, recorded_step, recorded_reply, recorded_foreign, recorded_faulted};
+    ghost use Rattle.html5events.specs.Events.{Recorded, recorded_means};
     ghost use Rattle.html5events.specs.EventLaws.{recorded_joins, recorded_empty, recorded_any_line, recorded_keeps_on};
 
     type Handle = ();
 
     ghost State = { Recorded };
 
-    ghost means = { record {
-      state = λ s. s.recorded;
-      step = recorded_step;
-      reply = recorded_reply;
-      foreign = recorded_foreign;
-      finish = λ r. r;
-      faulted = recorded_faulted;
-      end_faulted = λ r. r;
-    } };
+    ghost means = { recorded_means };
 
     ghost faults = { λ s. s.faults };
 
@@ -230,10 +269,16 @@ impl<A: Allocator + Copy> TokenSink<Token<A>> for EventSink<A> {
         token: Token<A>,
         line_number: u64,
     ) -> Result<TokenSinkResult<(), String<A>>, SinkFault> {
-        match push_whole_token(&mut self.page, self.in_text, &token, line_number) {
-            Ok(()) => {
+        match push_and_reply(
+            &mut self.page,
+            self.in_text,
+            self.replies,
+            &token,
+            line_number,
+        ) {
+            Ok(reply) => {
                 self.in_text = is_open_after(self.in_text, &token);
-                Ok(reply_where(self.replies, &token))
+                Ok(reply)
             }
             Err(AllocError) => {
                 self.faults.add(1);

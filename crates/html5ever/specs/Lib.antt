@@ -1,4 +1,5 @@
 pub mod Tokenizer
+pub mod Resting
 pub mod Collecting
 pub mod RunSteps
 pub mod Pieces

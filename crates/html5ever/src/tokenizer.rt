@@ -22,11 +22,13 @@ use std::marker::Model;
 pub mod collect;
 pub mod laws;
 pub mod pieces;
+pub mod resting;
 pub mod states;
 pub mod steps;
 pub mod whole;
 
 pub use crate::tokenizer::pieces::feed_pieces;
+pub use crate::tokenizer::resting::Resting;
 pub use crate::tokenizer::steps::{Step, feed_until_done, run_steps};
 pub use crate::tokenizer::whole::{read_pieces, read_whole};
 pub use html5ever_interface::interface::sink::{Says, TokenSink};

@@ -1,4 +1,5 @@
 pub mod Replies
+pub mod Pausing
 pub mod Tags
 pub mod TagLaws
 pub mod Runs

@@ -40,6 +40,7 @@
 //! `tags::ReplyingTagHandler` or a `text_runs::ReplyingRunHandler`.
 #![tactic(auto)]
 
+pub mod pausing;
 pub mod replies;
 pub mod tags;
 pub mod text_runs;

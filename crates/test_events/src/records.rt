@@ -1,5 +1,5 @@
 use crate::made::{RECORDS, TOKENS, bare_tag, token_at};
-use html5events::event_sink::{EventOptions, EventSink};
+use html5events::event_sink::{EventOptions, EventSink, Replies};
 use html5ever_interface::interface::sink::TokenSink;
 use html5ever_interface::interface::token::{TagKind, TokenSinkResult};
 use html5ever_interface::states::RawKind;
@@ -60,15 +60,39 @@ fn a_line_takes_eight_bytes(rt: HostRuntime) {
 
 #[test]
 fn replies_where_it_is_asked_to(rt: HostRuntime) {
+    let start = TagKind::StartTag;
     let cases = [
-        (false, TokenSinkResult::Continue),
-        (true, TokenSinkResult::RawData(RawKind::Rcdata)),
+        (Replies::None, start, "title", TokenSinkResult::Continue),
+        (
+            Replies::Standard,
+            start,
+            "title",
+            TokenSinkResult::RawData(RawKind::Rcdata),
+        ),
+        (
+            Replies::Pausing,
+            start,
+            "title",
+            TokenSinkResult::RawData(RawKind::Rcdata),
+        ),
+        (
+            Replies::Standard,
+            TagKind::EndTag,
+            "script",
+            TokenSinkResult::Continue,
+        ),
+        (
+            Replies::Pausing,
+            TagKind::EndTag,
+            "script",
+            TokenSinkResult::Script(()),
+        ),
     ];
-    for (replies, reply) in cases {
-        let foreign = replies;
+    for (replies, kind, name, reply) in cases {
+        let foreign = replies == Replies::Pausing;
         let mut sink = EventSink::new(rt.alloc(), EventOptions { replies, foreign });
-        let tag = bare_tag(rt.alloc(), TagKind::StartTag, "title").expect(&rt, "memory");
-        assert!(rt; sink.process_token(tag, 1) == Ok(reply), "{replies}");
+        let tag = bare_tag(rt.alloc(), kind, name).expect(&rt, "memory");
+        assert!(rt; sink.process_token(tag, 1) == Ok(reply), "{name}");
         assert_eq!(rt;
             sink.adjusted_current_node_present_but_not_in_html_namespace(),
             foreign

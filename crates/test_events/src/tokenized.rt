@@ -1,5 +1,5 @@
 //! The records of a text that arrives in pieces, as a program in another language would read them.
-use html5events::event_sink::{EventOptions, EventSink};
+use html5events::event_sink::{EventOptions, EventSink, Replies};
 use html5events::reading::{TagRecord, TokenRecord, read_record};
 use html5ever::TokenizerError;
 use html5ever::tokenizer::{
@@ -24,7 +24,7 @@ fn records_of_text(
     second: &str,
 ) -> Result<Vec<u8>, TokenizerError> {
     let options = EventOptions {
-        replies: true,
+        replies: Replies::Standard,
         foreign: false,
     };
     let mut tokenizer = Tokenizer::new(

@@ -1,4 +1,3 @@
-pub mod Replies
 pub mod Printed
 pub mod Page
 pub mod PageLaws

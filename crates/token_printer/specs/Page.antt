@@ -1,7 +1,7 @@
 -- A page of printed lines, and what each token does to it.
 use Rattle.std.specs.Prelude.{◌≡◌, ℕ, Bool, true, false, List, [], ◌∷◌, ◌++◌, codes}
 use Rattle.token_printer.specs.Printed.{quoted_bytes, printed_line}
-use Rattle.token_printer.specs.Replies.{reply_to}
+use Rattle.html5sinks.specs.Pausing.{pausing_reply}
 use Rattle.html5ever_interface.specs.Token.{Told, Reply}
 use Rattle.html5ever_interface.specs.Token.Told.{Text}
 
@@ -58,7 +58,7 @@ page_step p told line =
 
 -- the reply is by the token alone
 abbrev pub page_reply : Page → Told → ℕ → Reply (Unit {0})
-page_reply p told line = reply_to told
+page_reply p told line = pausing_reply told
 
 -- a token that could not be printed leaves nothing
 abbrev pub page_faulted : Page → Told → ℕ → Page

@@ -3,7 +3,7 @@ use Rattle.std.specs.Prelude.{◌≡◌, ℕ, ◌<◌, ◌≤◌, Bool, true, fa
 use Rattle.std.specs.List.{flat_map}
 use Rattle.std.specs.Fmt.{decimal, digits}
 use Rattle.markup5ever.specs.Names.{AttributeOf}
-use Rattle.token_printer.specs.Replies.{reply_to_tag}
+use Rattle.html5sinks.specs.Pausing.{pausing_reply_to_tag}
 use Rattle.html5ever_interface.specs.Sink.{Message}
 use Rattle.html5ever_interface.specs.Token.{is_text, Told, TagOf, DoctypeOf, Reply}
 use Rattle.html5ever_interface.specs.Token.Told.{Text, Null, Error, Tag, Comment, Instruction, Doctype, End}
@@ -104,7 +104,7 @@ unfoldable pub printed_line : Told → ℕ → List ℕ
 printed_line (Text text) line = codes "text " ++ quoted text ++ codes "\n"
 printed_line Null line = line_with_number (codes "null ") line
 printed_line (Error message) line = line_with_text (codes "error ") line message
-printed_line (Tag tag) line = tag_line tag line ++ pause_line (reply_to_tag tag)
+printed_line (Tag tag) line = tag_line tag line ++ pause_line (pausing_reply_to_tag tag)
 printed_line (Comment text) line = line_with_text (codes "comment ") line text
 printed_line (Instruction content) line = line_with_text (codes "pi ") line content
 printed_line (Doctype doctype) line = doctype_line doctype line

@@ -4,4 +4,3 @@
 mod page;
 pub mod print_sink;
 mod printed;
-mod replies;

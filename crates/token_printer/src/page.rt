@@ -2,7 +2,7 @@
 ghost use Rattle.std.specs.Prelude.{◌≡◌, ◌++◌, string_bytes, OnOk, OnErr, decimal};
 ghost use Rattle.token_printer.specs.Page.{BeginsWith, text_closing, added_by_text, added_by, open_behind};
 ghost use Rattle.token_printer.specs.Printed.{numbered_text, line_with_number, line_with_text, tag_line, pause_line, doctype_line};
-ghost use Rattle.token_printer.specs.Replies.{reply_to};
+ghost use Rattle.html5sinks.specs.Pausing.{pausing_reply};
 ghost use Rattle.html5ever_interface.specs.Token.{told_by, tag_of, doctype_of, reply_of};
 
 use crate::printed::{
@@ -177,7 +177,7 @@ pub fn push_token<A: Allocator + Copy>(
     line: u64,
     reply: &TokenSinkResult<(), String<A>>,
 ) -> Result<(), AllocError>
-    requires { reply_of string_bytes reply.now ≡ reply_to (told_by token.now) }
+    requires { reply_of string_bytes reply.now ≡ pausing_reply (told_by token.now) }
     ensures ok { OnOk result
         (page.new.items ≡ page.old.items ++ added_by in_text (told_by token.now) line) }
     ensures err { OnErr result (BeginsWith page.new.items page.old.items) }

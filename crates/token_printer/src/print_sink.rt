@@ -1,14 +1,14 @@
 //! A sink that prints what it is told.
 ghost use Rattle.std.specs.Prelude.{◌≡◌, ◌++◌, string_bytes, IfOk, OnOk, OnErr};
 ghost use Rattle.token_printer.specs.Page.{BeginsWith, blank_page, added_by};
-ghost use Rattle.token_printer.specs.Replies.{reply_to};
+ghost use Rattle.html5sinks.specs.Pausing.{pausing_reply};
 ghost use Rattle.html5ever_interface.specs.Token.{told_by, reply_of};
 
 use crate::page::{is_open_behind, push_token};
-use crate::replies::reply_to;
 use ghost_counts::Count;
 use html5ever_interface::interface::sink::TokenSink;
 use html5ever_interface::interface::token::{SinkFault, Token, TokenSinkResult};
+use html5sinks::pausing::pausing_reply;
 use std::alloc::{AllocError, Allocator, Global};
 use std::marker::Model;
 
@@ -23,10 +23,10 @@ fn print_and_reply<A: Allocator + Copy>(
     ensures ok { OnOk result
         (page.new.items ≡ page.old.items ++ added_by in_text (told_by token.now) line) }
     ensures replies { IfOk result
-        (λ reply. reply_of string_bytes reply ≡ reply_to (told_by token.now)) }
+        (λ reply. reply_of string_bytes reply ≡ pausing_reply (told_by token.now)) }
     ensures err { OnErr result (BeginsWith page.new.items page.old.items) }
 {
-    let reply = reply_to(token)?;
+    let reply = pausing_reply(token)?;
     push_token(page, in_text, token, line, &reply)?;
     Ok(reply)
 }

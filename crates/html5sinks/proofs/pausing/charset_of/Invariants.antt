@@ -1,7 +1,7 @@
 use Rattle.std.proofs.Common.{◌≡◌, map, drop}
-use Rattle.token_printer.specs.Replies.{charset_of}
+use Rattle.html5sinks.specs.Pausing.{charset_of}
 use Rattle.markup5ever.specs.Names.{attribute_of}
-use Rattle.token_printer.proofs.replies.charset_of.Given as goal
+use Rattle.html5sinks.proofs.pausing.charset_of.Given as goal
 
 abbrev pub invariant-loop-attribute : goal.invariant-loop-attribute
 invariant-loop-attribute g l =

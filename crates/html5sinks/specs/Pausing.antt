@@ -1,4 +1,4 @@
--- What the sink replies to what it is told.
+-- What the standard's elements ask for, with the pauses for scripts and encodings.
 use Rattle.std.specs.Prelude.{ℕ, List, [], ◌∷◌, Option, None, Some, codes, if◌then◌else◌}
 use Rattle.std.specs.Str.{bytes_eq}
 use Rattle.markup5ever.specs.Names.{AttributeOf}
@@ -31,15 +31,15 @@ unfoldable pub reply_to_end : List ℕ → Reply (Unit {0})
 reply_to_end name = if bytes_eq name (codes "script") then RunScript tt else KeepOn
 
 -- what is replied to a tag, by its kind, its name and its attributes
-abbrev pub reply_by_kind : TagKind → List ℕ → List AttributeOf → Reply (Unit {0})
-reply_by_kind StartTag name attributes = reply_to_start name attributes
-reply_by_kind EndTag name attributes = reply_to_end name
+abbrev pub pausing_reply_by_kind : TagKind → List ℕ → List AttributeOf → Reply (Unit {0})
+pausing_reply_by_kind StartTag name attributes = reply_to_start name attributes
+pausing_reply_by_kind EndTag name attributes = reply_to_end name
 
 -- what is replied to a tag
-abbrev pub reply_to_tag : TagOf → Reply (Unit {0})
-reply_to_tag tag = reply_by_kind tag.kind tag.name tag.attributes
+abbrev pub pausing_reply_to_tag : TagOf → Reply (Unit {0})
+pausing_reply_to_tag tag = pausing_reply_by_kind tag.kind tag.name tag.attributes
 
 -- what is replied to a token
-abbrev pub reply_to : Told → Reply (Unit {0})
-reply_to (Tag tag) = reply_to_tag tag
-reply_to other = KeepOn
+abbrev pub pausing_reply : Told → Reply (Unit {0})
+pausing_reply (Tag tag) = pausing_reply_to_tag tag
+pausing_reply other = KeepOn

@@ -1,16 +1,16 @@
-//! What is replied to each token.
+//! What the standard's elements ask for, with the pauses for scripts and encodings.
 ghost use Rattle.std.specs.Prelude.{◌≡◌, map, option_map, string_bytes, IfOk};
-ghost use Rattle.token_printer.specs.Replies.{charset_of, reply_to_charset, reply_to_start, reply_to_end, reply_to};
+ghost use Rattle.html5sinks.specs.Pausing.{charset_of, reply_to_charset, reply_to_start, reply_to_end, pausing_reply};
 ghost use Rattle.html5ever_interface.specs.Token.{told_by, reply_of};
 ghost use Rattle.markup5ever.specs.Names.{attribute_of};
 
+use crate::replies::standard_reply_to_start;
 use html5ever_interface::interface::token::{TagKind, Token, TokenSinkResult};
-use html5sinks::replies::standard_reply_to_start;
 use markup5ever::interface::Attribute;
 use std::alloc::{AllocError, Allocator};
 
 // The value of the first attribute named `charset`.
-#[tactic(auto, unfolding(crate::specs::Replies::charset_of))]
+#[tactic(auto, unfolding(crate::specs::Pausing::charset_of))]
 fn charset_of<A: Allocator>(attributes: &[Attribute<A>]) -> Option<&String<A>>
     ensures { option_map (λ charset. string_bytes charset.now) result
         ≡ charset_of (map attribute_of attributes.now) }
@@ -37,7 +37,7 @@ fn reply_to_charset<A: Allocator + Copy>(
 }
 
 // What is replied to a start tag.
-#[tactic(auto, unfolding(crate::specs::Replies::reply_to_start))]
+#[tactic(auto, unfolding(crate::specs::Pausing::reply_to_start))]
 fn reply_to_start<A: Allocator + Copy>(
     name: &str,
     attributes: &[Attribute<A>],
@@ -52,7 +52,7 @@ fn reply_to_start<A: Allocator + Copy>(
 }
 
 // What is replied to an end tag.
-#[tactic(auto, unfolding(crate::specs::Replies::reply_to_end))]
+#[tactic(auto, unfolding(crate::specs::Pausing::reply_to_end))]
 fn reply_to_end<A: Allocator>(name: &str) -> TokenSinkResult<(), String<A>>
     ensures { reply_of string_bytes result ≡ reply_to_end name.now }
 {
@@ -63,12 +63,14 @@ fn reply_to_end<A: Allocator>(name: &str) -> TokenSinkResult<(), String<A>>
     }
 }
 
-/// What is replied to a token.
+/// What is replied to a token: to a start tag `meta` with an attribute `charset` to switch the encoding,
+/// to an end tag `script` to run the script, and to any other tag what `standard_reply` gives. The first
+/// two pause the tokenizer. The only error is want of memory, for the name of the encoding.
 #[inline(always)]
-pub fn reply_to<A: Allocator + Copy>(
+pub fn pausing_reply<A: Allocator + Copy>(
     token: &Token<A>,
 ) -> Result<TokenSinkResult<(), String<A>>, AllocError>
-    ensures { IfOk result (λ reply. reply_of string_bytes reply ≡ reply_to (told_by token.now)) }
+    ensures { IfOk result (λ reply. reply_of string_bytes reply ≡ pausing_reply (told_by token.now)) }
 {
     let Token::TagToken(tag) = token else {
         return Ok(TokenSinkResult::Continue);

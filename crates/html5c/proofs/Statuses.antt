@@ -1,0 +1,151 @@
+-- What a call did, by the status that it answers.
+use Rattle.std.proofs.Common.{◌≡◌, ◌≢◌, ◌⊎◌, ℕ, List, [], Option, None, Some, refl, inl, inr, arith}
+use Rattle.std.specs.Str.{IsUtf8}
+use Rattle.html5c.specs.Pages.{fed_status, error_status, open_status, OpenFails, IsStart, NewSays, FeedSays, EndSays}
+use Rattle.html5c.specs.declared.opening.OpenError.{OpenError}
+use Rattle.html5c.specs.declared.opening.OpenError.TheVariants as opening
+use Rattle.html5c.specs.declared.options.Options.{Options}
+use Rattle.html5session.specs.Session.{SessionOf, FeedsPiece, FeedRefused, EndsSession, EndRefused}
+use Rattle.html5session.specs.declared.error.SessionError.{SessionError}
+use Rattle.html5session.specs.declared.error.SessionError.TheVariants.{Memory, NotUtf8, Cut, Waiting, Over}
+use Rattle.html5session.specs.declared.fed.Fed.{Fed}
+use Rattle.html5session.specs.declared.fed.Fed.TheVariants.{Done, Script, Encoding}
+
+pub feed_says-fed : (old new : SessionOf) (bytes : List ℕ) (fed : Fed) → FeedsPiece old new bytes fed → FeedSays old new bytes (fed_status fed)
+feed_says-fed old new bytes Done feeds = record {
+  done = λ _. feeds;
+  script = λ e. absurd (omega (arith, e));
+  encoding = λ e. absurd (omega (arith, e));
+  no_memory = λ e. absurd (omega (arith, e));
+  not_utf8 = λ e. absurd (omega (arith, e));
+  over = λ e. absurd (omega (arith, e));
+  only = (λ e. omega (arith, e), λ e. omega (arith, e), λ e. omega (arith, e), λ e. omega (arith, e));
+}
+feed_says-fed old new bytes Script feeds = record {
+  done = λ e. absurd (omega (arith, e));
+  script = λ _. feeds;
+  encoding = λ e. absurd (omega (arith, e));
+  no_memory = λ e. absurd (omega (arith, e));
+  not_utf8 = λ e. absurd (omega (arith, e));
+  over = λ e. absurd (omega (arith, e));
+  only = (λ e. omega (arith, e), λ e. omega (arith, e), λ e. omega (arith, e), λ e. omega (arith, e));
+}
+feed_says-fed old new bytes Encoding feeds = record {
+  done = λ e. absurd (omega (arith, e));
+  script = λ e. absurd (omega (arith, e));
+  encoding = λ _. feeds;
+  no_memory = λ e. absurd (omega (arith, e));
+  not_utf8 = λ e. absurd (omega (arith, e));
+  over = λ e. absurd (omega (arith, e));
+  only = (λ e. omega (arith, e), λ e. omega (arith, e), λ e. omega (arith, e), λ e. omega (arith, e));
+}
+
+pub feed_says-error : (old new : SessionOf) (bytes : List ℕ) (error : SessionError) → FeedRefused old new bytes error
+    → FeedSays old new bytes (error_status error)
+feed_says-error old new bytes Memory refused = record {
+  done = λ e. absurd (omega (arith, e));
+  script = λ e. absurd (omega (arith, e));
+  encoding = λ e. absurd (omega (arith, e));
+  no_memory = λ _. refused;
+  not_utf8 = λ e. absurd (omega (arith, e));
+  over = λ e. absurd (omega (arith, e));
+  only = (λ e. omega (arith, e), λ e. omega (arith, e), λ e. omega (arith, e), λ e. omega (arith, e));
+}
+feed_says-error old new bytes (NotUtf8 place) refused = record {
+  done = λ e. absurd (omega (arith, e));
+  script = λ e. absurd (omega (arith, e));
+  encoding = λ e. absurd (omega (arith, e));
+  no_memory = λ e. absurd (omega (arith, e));
+  not_utf8 = λ _. (place, refused);
+  over = λ e. absurd (omega (arith, e));
+  only = (λ e. omega (arith, e), λ e. omega (arith, e), λ e. omega (arith, e), λ e. omega (arith, e));
+}
+feed_says-error old new bytes Cut refused = absurd refused
+feed_says-error old new bytes Waiting refused = absurd refused
+feed_says-error old new bytes Over refused = record {
+  done = λ e. absurd (omega (arith, e));
+  script = λ e. absurd (omega (arith, e));
+  encoding = λ e. absurd (omega (arith, e));
+  no_memory = λ e. absurd (omega (arith, e));
+  not_utf8 = λ e. absurd (omega (arith, e));
+  over = λ _. refused;
+  only = (λ e. omega (arith, e), λ e. omega (arith, e), λ e. omega (arith, e), λ e. omega (arith, e));
+}
+
+pub end_says-done : (old new : SessionOf) → EndsSession old new → EndSays old new 0
+end_says-done old new ends = record {
+  done = λ _. ends;
+  no_memory = λ e. absurd (omega (arith, e));
+  cut = λ e. absurd (omega (arith, e));
+  waiting = λ e. absurd (omega (arith, e));
+  over = λ e. absurd (omega (arith, e));
+  only = inl refl;
+}
+
+pub end_says-error : (old new : SessionOf) (error : SessionError) → EndRefused old new error → EndSays old new (error_status error)
+end_says-error old new Memory refused = record {
+  done = λ e. absurd (omega (arith, e));
+  no_memory = λ _. refused;
+  cut = λ e. absurd (omega (arith, e));
+  waiting = λ e. absurd (omega (arith, e));
+  over = λ e. absurd (omega (arith, e));
+  only = inr (inl refl);
+}
+end_says-error old new (NotUtf8 place) refused = absurd refused
+end_says-error old new Cut refused = record {
+  done = λ e. absurd (omega (arith, e));
+  no_memory = λ e. absurd (omega (arith, e));
+  cut = λ _. refused;
+  waiting = λ e. absurd (omega (arith, e));
+  over = λ e. absurd (omega (arith, e));
+  only = inr (inr (inl refl));
+}
+end_says-error old new Waiting refused = record {
+  done = λ e. absurd (omega (arith, e));
+  no_memory = λ e. absurd (omega (arith, e));
+  cut = λ e. absurd (omega (arith, e));
+  waiting = λ _. refused;
+  over = λ e. absurd (omega (arith, e));
+  only = inr (inr (inr (inl refl)));
+}
+end_says-error old new Over refused = record {
+  done = λ e. absurd (omega (arith, e));
+  no_memory = λ e. absurd (omega (arith, e));
+  cut = λ e. absurd (omega (arith, e));
+  waiting = λ e. absurd (omega (arith, e));
+  over = λ _. refused;
+  only = inr (inr (inr (inr refl)));
+}
+
+pub new_says-done : (now : Option SessionOf) (name : List ℕ) (o : Options) → IsStart now name o → NewSays now name o 0
+new_says-done now name o start = record {
+  done = λ _. start;
+  refused = λ other. absurd (other refl);
+  not_utf8 = λ e. absurd (omega (arith, e));
+  bad_option = λ e. absurd (omega (arith, e));
+  only = inl refl;
+}
+
+pub new_says-error : (now : Option SessionOf) (name : List ℕ) (o : Options) (error : OpenError) → now ≡ None → OpenFails name o error
+    → NewSays now name o (open_status error)
+new_says-error now name o opening.Memory closed fails = record {
+  done = λ e. absurd (omega (arith, e));
+  refused = λ _. closed;
+  not_utf8 = λ e. absurd (omega (arith, e));
+  bad_option = λ e. absurd (omega (arith, e));
+  only = inr (inl refl);
+}
+new_says-error now name o opening.NotUtf8 closed fails = record {
+  done = λ e. absurd (omega (arith, e));
+  refused = λ _. closed;
+  not_utf8 = λ _. fails;
+  bad_option = λ e. absurd (omega (arith, e));
+  only = inr (inr (inl refl));
+}
+new_says-error now name o opening.BadOption closed fails = record {
+  done = λ e. absurd (omega (arith, e));
+  refused = λ _. closed;
+  not_utf8 = λ e. absurd (omega (arith, e));
+  bad_option = λ _. fails;
+  only = inr (inr (inr refl));
+}

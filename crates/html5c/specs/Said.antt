@@ -1,0 +1,45 @@
+-- What the numbers of the options say.
+use Rattle.std.specs.Prelude.{◌≡◌, ◌==◌, ℕ, Bool, not, List, [], ◌∷◌, Option, None, Some, if◌then◌else◌}
+use Rattle.html5c.specs.declared.options.Options.{Options}
+use Rattle.html5events.specs.declared.event_sink.Replies.{Replies}
+use Rattle.html5events.specs.declared.event_sink.Replies.TheVariants as reply
+use Rattle.html5ever_interface.specs.Options.{OptionsOf}
+use Rattle.html5ever_interface.specs.declared.states.RawKind.TheVariants.{Rcdata, Rawtext, ScriptData}
+use Rattle.html5ever_interface.specs.declared.states.State.{State}
+use Rattle.html5ever_interface.specs.declared.states.State.TheVariants.{Data, Plaintext, RawData, CdataSection}
+
+-- the state that a number names, if one does
+abbrev pub state_said : ℕ → Option State
+state_said n =
+    if n == 0 then Some Data
+    else if n == 1 then Some Plaintext
+    else if n == 2 then Some (RawData Rcdata)
+    else if n == 3 then Some (RawData Rawtext)
+    else if n == 4 then Some (RawData ScriptData)
+    else if n == 5 then Some CdataSection
+    else None
+
+-- the replies that a number names, if one does
+abbrev pub replies_said : ℕ → Option Replies
+replies_said n =
+    if n == 0 then Some reply.Standard
+    else if n == 1 then Some reply.None
+    else if n == 2 then Some reply.Pausing
+    else None
+
+-- the name of the last start tag: none where it has no bytes
+abbrev pub name_said : List ℕ → Option (List ℕ)
+name_said [] = None
+name_said (b ∷ bytes) = Some (b ∷ bytes)
+
+-- how the tokenizer reads, after a start tag of this name, if there is one
+abbrev pub options_by : Options → Option (List ℕ) → OptionsOf
+options_by o name = record {
+  exact_errors = o.exact_errors;
+  discard_bom = not o.keep_bom;
+  initial_state = state_said o.state;
+  last_start_tag_name = name;
+}
+
+abbrev pub options_said : Options → List ℕ → OptionsOf
+options_said o name = options_by o (name_said name)

@@ -1,0 +1,117 @@
+//! The tokenizer for C: a page is fed as its bytes arrive, and the records of its tokens are taken.
+#![tactic(auto)]
+
+ghost use Rattle.std.specs.Prelude.{◌≡◌, None};
+ghost use Rattle.html5c.specs.Pages.{session_of, NewSays, Feeds, Inserts, Ends, Takes, error_place};
+
+mod handle;
+mod opening;
+mod options;
+mod page;
+pub mod status;
+
+pub use handle::Handle;
+use opening::page_of;
+pub use options::Options;
+use std::alloc::Global;
+
+/// Opens a handle at the start of a page, by these options and the standard's named references, after a
+/// start tag of a name, if it has bytes. What the handle held before is freed.
+#[unsafe(no_mangle)]
+pub extern "C" fn html5_new(
+    alloc: Global,
+    h: &mut Handle,
+    last_start_tag: &[u8],
+    options: &Options,
+) -> u32
+    ensures { NewSays (session_of h.new.owned.value) last_start_tag.now options.now result }
+{
+    html5_free(alloc, h);
+    match page_of(alloc, last_start_tag, options) {
+        Ok(page) => {
+            h.put(page);
+            status::DONE
+        }
+        Err(error) => error.status(),
+    }
+}
+
+/// Takes a piece of the page, cut anywhere, and reads on, up to a pause. What is left of it is kept:
+/// the next feed goes on with it, also one of no bytes.
+#[unsafe(no_mangle)]
+pub extern "C" fn html5_feed(alloc: Global, h: &mut Handle, bytes: &[u8]) -> u32
+    ensures { Feeds (session_of h.old.owned.value) (session_of h.new.owned.value) bytes.now result }
+{
+    let Some(mut page) = h.take(alloc) else {
+        return status::CLOSED;
+    };
+    let status = page.feed(bytes);
+    h.put(page);
+    status
+}
+
+/// Puts a text in front of what waits. It is read at the next feed.
+#[unsafe(no_mangle)]
+pub extern "C" fn html5_insert(alloc: Global, h: &mut Handle, text: &[u8]) -> u32
+    ensures { Inserts (session_of h.old.owned.value) (session_of h.new.owned.value) text.now result }
+{
+    let Some(mut page) = h.take(alloc) else {
+        return status::CLOSED;
+    };
+    let status = page.insert(text);
+    h.put(page);
+    status
+}
+
+/// Tells the end of the page.
+#[unsafe(no_mangle)]
+pub extern "C" fn html5_end(alloc: Global, h: &mut Handle) -> u32
+    ensures { Ends (session_of h.old.owned.value) (session_of h.new.owned.value) result }
+{
+    let Some(mut page) = h.take(alloc) else {
+        return status::CLOSED;
+    };
+    let status = page.end();
+    h.put(page);
+    status
+}
+
+/// Takes the next bytes of the records, as many as wait and as there is room for, and says how many: 0
+/// where none wait. A record may be cut in two: what is left of it comes first at the next call.
+#[unsafe(no_mangle)]
+pub extern "C" fn html5_take(alloc: Global, h: &mut Handle, out: &mut [u8]) -> usize
+    ensures { Takes (session_of h.old.owned.value) (session_of h.new.owned.value) out.old out.new result }
+{
+    let Some(mut page) = h.take(alloc) else {
+        return 0;
+    };
+    let count = page.take(out);
+    h.put(page);
+    count
+}
+
+/// The place of the first byte that is no UTF-8, after a feed answered `NOT_UTF8`, counted from the
+/// first byte that was fed.
+#[unsafe(no_mangle)]
+pub extern "C" fn html5_error_at(alloc: Global, h: &mut Handle) -> u64
+    ensures place { result ≡ error_place (session_of h.old.owned.value) }
+    ensures kept { h.new.owned.value ≡ h.old.owned.value }
+{
+    let Some(page) = h.take(alloc) else {
+        return 0;
+    };
+    let place = page.error_at();
+    h.put(page);
+    place
+}
+
+/// Gives the handle's memory back, and closes it. It may be opened again.
+#[unsafe(no_mangle)]
+pub extern "C" fn html5_free(alloc: Global, h: &mut Handle)
+    ensures { h.new.owned.value ≡ None }
+{
+    drop(h.take(alloc));
+}
+
+#[cfg(test)]
+mod tests;

@@ -1,0 +1,103 @@
+//! A page at its start.
+ghost use Rattle.std.specs.Prelude.{◌≡◌, option_map, string_bytes, OnOk, IfOk, IfErr};
+ghost use Rattle.std.specs.Str.{IsUtf8};
+ghost use Rattle.html5c.specs.Pages.{Starts, IsStart, OpenFails, open_status};
+ghost use Rattle.html5c.specs.Said.{name_said};
+
+use crate::options::Options;
+use crate::page::Page;
+use crate::status;
+use html5names::standard_names;
+use html5session::Session;
+use std::alloc::Global;
+use std::str;
+
+/// Why no page was opened.
+#[derive(Clone, Copy, Debug, PartialEq, Eq)]
+pub enum OpenError {
+    /// A growth was refused.
+    Memory,
+    /// The name of the last start tag is no UTF-8.
+    NotUtf8,
+    /// A number in the options names nothing.
+    BadOption,
+}
+
+impl OpenError {
+    /// What C is told.
+    pub fn status(self) -> u32
+        ensures { result ≡ open_status self }
+    {
+        match self {
+            OpenError::Memory => status::NO_MEMORY,
+            OpenError::NotUtf8 => status::NOT_UTF8,
+            OpenError::BadOption => status::BAD_OPTION,
+        }
+    }
+}
+
+// The name of the last start tag, if it has bytes.
+fn name_of(
+    alloc: Global,
+    bytes: &[u8],
+    options: &Options,
+) -> Result<Option<String<Global>>, OpenError>
+    ensures name { IfOk result (λ name. option_map string_bytes name ≡ name_said bytes.now) }
+    ensures utf8 { OnOk result (IsUtf8 bytes.now) }
+    ensures refused { IfErr result (λ error. OpenFails bytes.now options.now error) }
+{
+    let Ok(name) = str::from_utf8(bytes) else {
+        return Err(OpenError::NotUtf8);
+    };
+    if name.is_empty() {
+        return Ok(None);
+    }
+    match String::from_str(alloc, name) {
+        Ok(name) => Ok(Some(name)),
+        Err(_) => Err(OpenError::Memory),
+    }
+}
+
+// A session at the start of a page.
+fn session_at_start(
+    alloc: Global,
+    last_start_tag: &[u8],
+    options: &Options,
+) -> Result<Session<Global>, OpenError>
+    ensures starts { IfOk result (λ session. Starts session last_start_tag.now options.now) }
+    ensures refused { IfErr result (λ error. OpenFails last_start_tag.now options.now error) }
+{
+    let Some(events) = options.events() else {
+        return Err(OpenError::BadOption);
+    };
+    let name = match name_of(alloc, last_start_tag, options) {
+        Ok(name) => name,
+        Err(error) => return Err(error),
+    };
+    let Some(opts) = options.opts(name) else {
+        return Err(OpenError::BadOption);
+    };
+    let Ok(names) = standard_names(alloc) else {
+        return Err(OpenError::Memory);
+    };
+    Ok(Session::new(alloc, names, opts, events))
+}
+
+/// A page at its start, in its box.
+pub fn page_of(
+    alloc: Global,
+    last_start_tag: &[u8],
+    options: &Options,
+) -> Result<Box<Page, Global>, OpenError>
+    ensures starts { IfOk result (λ page. IsStart page.value.session last_start_tag.now options.now) }
+    ensures refused { IfErr result (λ error. OpenFails last_start_tag.now options.now error) }
+{
+    let session = match session_at_start(alloc, last_start_tag, options) {
+        Ok(session) => Some(session),
+        Err(error) => return Err(error),
+    };
+    match Box::new(alloc, Page { session }) {
+        Ok(page) => Ok(page),
+        Err(_) => Err(OpenError::Memory),
+    }
+}

@@ -1,0 +1,92 @@
+//! How a page is to be read, as C says it.
+ghost use Rattle.std.specs.Prelude.{◌≡◌, option_map, string_bytes, IfSome, IsNone};
+ghost use Rattle.html5c.specs.Said.{state_said, replies_said, options_by};
+ghost use Rattle.html5ever_interface.specs.Options.{options_of};
+ghost use Rattle.html5feed.specs.Starting.{CanStart};
+
+use html5events::event_sink::{EventOptions, Replies};
+use html5ever::tokenizer::TokenizerOpts;
+use html5ever_interface::states::{RawKind, State};
+use std::alloc::Global;
+
+/// How a page is to be read. Zeros are a page from its start, with the standard's replies.
+#[repr(C)]
+#[derive(Clone, Copy)]
+pub struct Options {
+    /// The state to start in: 0 data, 1 plain text, 2 RCDATA, 3 RAWTEXT, 4 script data, 5 a CDATA
+    /// section.
+    pub state: u32,
+    /// What is replied to tags: 0 what the standard asks for, 1 nothing, 2 what the standard asks for,
+    /// with pauses.
+    pub replies: u32,
+    /// Report every bad character, and name no state in error messages.
+    pub exact_errors: bool,
+    /// Keep U+FEFF where it is the first character.
+    pub keep_bom: bool,
+    /// Whether the current node is outside the HTML namespace, so that `<![CDATA[` begins a section.
+    pub foreign: bool,
+}
+
+// The state that a number names, if one does.
+fn state_of(number: u32) -> Option<State>
+    ensures said { result ≡ state_said number }
+    ensures start { IfSome result (λ state. CanStart (Some state)) }
+{
+    match number {
+        0 => Some(State::Data),
+        1 => Some(State::Plaintext),
+        2 => Some(State::RawData(RawKind::Rcdata)),
+        3 => Some(State::RawData(RawKind::Rawtext)),
+        4 => Some(State::RawData(RawKind::ScriptData)),
+        5 => Some(State::CdataSection),
+        _ => None,
+    }
+}
+
+// The replies that a number names, if one does.
+fn replies_of(number: u32) -> Option<Replies>
+    ensures { result ≡ replies_said number }
+{
+    match number {
+        0 => Some(Replies::Standard),
+        1 => Some(Replies::None),
+        2 => Some(Replies::Pausing),
+        _ => None,
+    }
+}
+
+impl Options {
+    /// What the sink answers, if the number of the replies names some.
+    pub fn events(&self) -> Option<EventOptions>
+        ensures said { IfSome result (λ events. replies_said self.now.replies ≡ Some events.replies) }
+        ensures foreign { IfSome result (λ events. events.foreign ≡ self.now.foreign) }
+        ensures none { IsNone result → replies_said self.now.replies ≡ None }
+    {
+        match replies_of(self.replies) {
+            Some(replies) => Some(EventOptions {
+                replies,
+                foreign: self.foreign,
+            }),
+            None => None,
+        }
+    }
+
+    /// How the tokenizer reads, if the number of the state names one, after a last start tag, if there
+    /// is one.
+    pub fn opts(&self, last_start_tag_name: Option<String<Global>>) -> Option<TokenizerOpts<Global>>
+        ensures start { IfSome result (λ opts. CanStart opts.initial_state) }
+        ensures said { IfSome result (λ opts. options_of opts
+            ≡ options_by self.now (option_map string_bytes last_start_tag_name)) }
+        ensures none { IsNone result → state_said self.now.state ≡ None }
+    {
+        match state_of(self.state) {
+            Some(state) => Some(TokenizerOpts {
+                exact_errors: self.exact_errors,
+                discard_bom: !self.keep_bom,
+                initial_state: Some(state),
+                last_start_tag_name,
+            }),
+            None => None,
+        }
+    }
+}

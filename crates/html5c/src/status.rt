@@ -1,0 +1,31 @@
+//! What a call answers.
+
+/// What was handed in was read, all of it.
+pub const DONE: u32 = 0;
+
+/// The tokenizer pauses after `</script>`: what follows waits.
+pub const SCRIPT: u32 = 1;
+
+/// The tokenizer pauses after `<meta charset=..>`: what follows waits.
+pub const ENCODING: u32 = 2;
+
+/// A growth was refused.
+pub const NO_MEMORY: u32 = 3;
+
+/// The bytes are no UTF-8.
+pub const NOT_UTF8: u32 = 4;
+
+/// The end is told within a character.
+pub const CUT: u32 = 5;
+
+/// The end is told while text waits.
+pub const WAITING: u32 = 6;
+
+/// The end was told, or an earlier call failed.
+pub const OVER: u32 = 7;
+
+/// The handle is closed.
+pub const CLOSED: u32 = 8;
+
+/// A number in the options names nothing.
+pub const BAD_OPTION: u32 = 9;

@@ -1,0 +1,27 @@
+-- What a tokenizer is between two calls, without its table, and what it is with a table.
+use Rattle.std.specs.Prelude.{Bool, List}
+use Rattle.markup5ever.specs.NamedReferences.{NamedReference}
+use Rattle.html5grammar.specs.Start.{Start}
+use Rattle.html5ever.specs.Tokenizer.{Tokenizing}
+
+-- a tokenizer without its table
+pub record RestingOf (X : Type 0) : Type 0 where
+  pub sink : X
+  -- whether error messages are exact
+  pub exact_errors : Bool
+  -- the start of what is read next
+  pub position : Start
+  -- an earlier call was refused
+  pub failed : Bool
+  -- the end of input was told
+  pub ended : Bool
+
+-- the tokenizer that goes on by this table
+abbrev pub tokenizing : {X : Type 0} → RestingOf X → List NamedReference → Tokenizing X
+tokenizing r names = record {
+  sink = r.sink;
+  rules = record { exact = r.exact_errors; names = names };
+  position = r.position;
+  failed = r.failed;
+  ended = r.ended;
+}

@@ -1,0 +1,187 @@
+-- What a call of the tokenizer between `resume` and `rest` says of the session around it.
+use Rattle.std.proofs.Common.{◌≡◌, ◌≢◌, ◌⊎◌, ℕ, ◌+◌, ◌-◌, ◌^◌, ◌<◌, ◌||◌, min, Bool, true, false, List, [], ◌++◌, length, Option, Some, Result, Ok, Err, refl, sym, ap, ◌∙◌, subst, inl, inr, arith}
+use Rattle.std.specs.Prelude.{IfOk, IfErr, is_err}
+use Rattle.std.specs.Str.{IsUtf8, chars}
+use Rattle.utf8_pieces.specs.Pieces.{Decoding, IsFault, IsNeverUtf8}
+use Rattle.utf8_pieces.specs.declared.error.DecodeError.{DecodeError}
+use Rattle.utf8_pieces.specs.declared.error.DecodeError.TheVariants as decoder
+use Rattle.html5ever_interface.specs.Token.{Reply}
+use Rattle.html5grammar.specs.Start.{Rules}
+use Rattle.html5opened.specs.declared.error.TokenizerError.{TokenizerError}
+use Rattle.html5events.specs.Events.{Events, Recorded, recorded_means}
+use Rattle.html5ever.specs.Resting.{RestingOf, tokenizing}
+use Rattle.html5ever.specs.Tokenizer.{Tokenizing, Feeds, StopsFeeding, Finishes, StopsEnding}
+use Rattle.html5session.specs.Session.{SessionOf, tokenizer_of, recorded_by, is_over, KeepsTaken, Completes, TakesPiece, RefusesBytes, FeedsText, fed_by, StopsText, FeedsPiece, LosesPiece, FeedRefused, TextRefused, EndsText, TextEndRefused, EndRefused}
+use Rattle.html5session.specs.declared.error.SessionError.{SessionError}
+use Rattle.html5session.specs.declared.error.SessionError.TheVariants.{Memory, NotUtf8, Cut, Waiting, Over}
+use Rattle.html5session.specs.declared.fed.Fed.{Fed}
+use Rattle.html5session.specs.declared.fed.Fed.TheVariants.{Done}
+use Rattle.markup5ever.specs.NamedReferences.{NamedReference}
+
+-- ---- sessions that are not over
+
+pub goes_on : (lost failed ended : Bool) → (lost || (failed || ended)) ≡ false → (lost ≡ false) × (failed ≡ false) × (ended ≡ false)
+goes_on true failed ended is = absurd cc
+goes_on false true ended is = absurd cc
+goes_on false false true is = absurd cc
+goes_on false false false is = (refl, refl, refl)
+
+over-none : (lost failed ended : Bool) → lost ≡ false → failed ≡ false → ended ≡ false → (lost || (failed || ended)) ≡ false
+over-none lost failed ended l f e = rw (l, f, e) refl
+
+-- ---- the tokenizer
+
+-- after a call it rests, and goes on by the same table
+rests : (r out : RestingOf Events) (names : List NamedReference) (t u : Tokenizing Events)
+    → t ≡ tokenizing r names → u.rules ≡ t.rules → tokenizing out u.rules.names ≡ u → tokenizing out names ≡ u
+rests r out names t u begins rules rested =
+    subst (λ (n : List NamedReference). tokenizing out n ≡ u) (ap (λ (w : Rules). w.names) rules ∙ ap (λ (w : Tokenizing Events). w.rules.names) begins) rested
+
+-- counts that are equal, and below the largest, count as many
+pub keeps_taken : (old was new is : Events) (count : ℕ) → was ≡ old → is ≡ new
+    → count ≡ min (length was.taken) (2 ^ 64 - 1) → min (length is.taken) (2 ^ 64 - 1) ≡ count → count < 2 ^ 64 - 1
+    → is.taken ++ is.waiting ≡ is.recorded.bytes → KeepsTaken old new
+keeps_taken old was new is count begins ends before after below written =
+    let keeps : KeepsTaken was is = record { count = omega arith; written = written } in
+    subst (λ (w : Events). KeepsTaken w new) begins (subst (λ (w : Events). KeepsTaken was w) ends keeps)
+
+pub feeds_text : (r out : RestingOf Events) (names : List NamedReference) (t u : Tokenizing Events) (text left : List ℕ) (fed : Fed) (reply : Reply (Unit {0}))
+    → t ≡ tokenizing r names → u.rules ≡ t.rules → tokenizing out u.rules.names ≡ u
+    → Feeds recorded_means t u text left reply → fed ≡ fed_by reply → (fed ≡ Done → left ≡ []) → (fed ≢ Done → length left < length text)
+    → KeepsTaken r.sink out.sink → u.failed ≡ false → u.ended ≡ false
+    → FeedsText (tokenizing r names) (tokenizing out names) text left fed
+feeds_text r out names t u text left fed reply begins rules rested feeds pause all shorter taken not_failed going_on =
+    let ends = rests r out names t u begins rules rested in
+    record {
+      reply = reply;
+      feeds = subst (λ (w : Tokenizing Events). Feeds recorded_means w (tokenizing out names) text left reply) begins
+          (subst (λ (w : Tokenizing Events). Feeds recorded_means t w text left reply) (sym ends) feeds);
+      pause = pause;
+      all = all;
+      shorter = shorter;
+      taken = taken;
+      rules = ap (λ (w : Tokenizing Events). w.rules) ends ∙ rules ∙ ap (λ (w : Tokenizing Events). w.rules) begins;
+      not_failed = ap (λ (w : Tokenizing Events). w.failed) ends ∙ not_failed;
+      going_on = ap (λ (w : Tokenizing Events). w.ended) ends ∙ going_on;
+    }
+
+pub stops_text : (t s : Tokenizing Events) (text left : List ℕ) (error : TokenizerError) (v told : Recorded) → t ≡ s → v ≡ told
+    → StopsFeeding recorded_means error t text left v → StopsText s text left told
+stops_text t s text left error v told begins same stops = (
+  error,
+  subst (λ (w : Tokenizing Events). StopsFeeding recorded_means error w text left told) begins
+      (subst (λ (w : Recorded). StopsFeeding recorded_means error t text left w) same stops),
+)
+
+pub ends_text : (t s : Tokenizing Events) (v : Recorded) (new : Events) → t ≡ s → v ≡ new.recorded
+    → Finishes recorded_means t v → KeepsTaken s.sink new → EndsText s new
+ends_text t s v new begins same finishes taken = record {
+  finishes = subst (λ (w : Tokenizing Events). Finishes recorded_means w new.recorded) begins (subst (λ (w : Recorded). Finishes recorded_means t w) same finishes);
+  taken = taken;
+}
+
+pub stops_end : (t s : Tokenizing Events) (error : TokenizerError) (v told : Recorded) → t ≡ s → v ≡ told
+    → StopsEnding recorded_means error t v → TextEndRefused s told Memory
+stops_end t s error v told begins same stops = (
+  error,
+  subst (λ (w : Tokenizing Events). StopsEnding recorded_means error w told) begins
+      (subst (λ (w : Recorded). StopsEnding recorded_means error t w) same stops),
+)
+
+-- ---- pieces
+
+-- a session `s` that is seen as `t`
+pub takes_piece : (s t : SessionOf) (d : Decoding) (queue bytes text : List ℕ) → s ≡ t → Completes s.decoder d bytes text → queue ≡ s.text ++ chars text
+    → TakesPiece t (record s { decoder = d; text = queue }) bytes
+takes_piece s t d queue bytes text same completes gains = record {
+  text = text;
+  completes = subst (λ (w : SessionOf). Completes w.decoder d bytes text) same completes;
+  taken = ap (λ (w : SessionOf). record w { decoder = d; text = queue }) same
+      ∙ ap (λ (l : List ℕ). record t { decoder = d; text = l }) (gains ∙ ap (λ (w : SessionOf). w.text ++ chars text) same);
+}
+
+pub loses_piece : (s t : SessionOf) (d : Decoding) (queue bytes text : List ℕ) → s ≡ t → Completes s.decoder d bytes text
+    → LosesPiece t (record s { decoder = d; text = queue; lost = true }) bytes
+loses_piece s t d queue bytes text same completes = record {
+  text = text;
+  completes = subst (λ (w : SessionOf). Completes w.decoder d bytes text) same completes;
+  stops = inl (ap recorded_by same);
+  kept = ap (λ (w : SessionOf). record w { resting = s.resting; decoder = d; text = queue; lost = true }) same;
+}
+
+pub refuses_bytes : (s t : SessionOf) (d : Decoding) (bytes : List ℕ) (place : ℕ) (error : DecodeError) → s ≡ t → d ≡ s.decoder → error ≡ decoder.NotUtf8 place
+    → (error ≡ decoder.Memory) ⊎ IsFault s.decoder.taken (s.decoder.held ++ bytes) error
+    → (error ≢ decoder.Memory → IsNeverUtf8 (s.decoder.held ++ bytes))
+    → RefusesBytes t (record s { decoder = d; error_at = Some place }) bytes place
+refuses_bytes s t d bytes place error same unchanged is (inl memory) never = absurd cc
+refuses_bytes s t d bytes place error same unchanged is (inr fault) never = record {
+  unchanged = ap (λ (w : Decoding). record s { decoder = w; error_at = Some place }) unchanged ∙ ap (λ (w : SessionOf). record w { error_at = Some place }) same;
+  fault = subst (λ (w : SessionOf). IsFault w.decoder.taken (w.decoder.held ++ bytes) (decoder.NotUtf8 place)) same
+      (subst (IsFault s.decoder.taken (s.decoder.held ++ bytes)) is fault);
+  never = subst (λ (w : SessionOf). IsNeverUtf8 (w.decoder.held ++ bytes)) same (never (λ memory. cc));
+}
+
+-- ---- whole calls
+
+pub text_refused : (result : Result Fed SessionError) (s t : SessionOf) (left : List ℕ) (told : Recorded) → s ≡ t
+    → IfErr result (λ error. TextRefused (tokenizer_of s) s.text left told error) → IfErr result (λ error. TextRefused (tokenizer_of t) t.text left told error)
+text_refused result s t left told same refused =
+    subst (λ (w : SessionOf). IfErr result (λ error. TextRefused (tokenizer_of w) w.text left told error)) same refused
+
+-- what a piece left, and what was then read: the decoder and all else but the tokenizer and the text are as the piece left them
+kept_piece : (s mid t : SessionOf) (bytes : List ℕ) (lost : Bool) → TakesPiece s mid bytes
+    → t ≡ record mid { resting = t.resting; text = t.text; lost = lost }
+    → t ≡ record s { resting = t.resting; decoder = t.decoder; text = t.text; lost = lost }
+kept_piece s mid t bytes lost takes kept =
+    kept
+    ∙ ap (λ (w : SessionOf). record w { resting = t.resting; text = t.text; lost = lost }) takes.taken
+    ∙ ap (λ (d : Decoding). record s { resting = t.resting; decoder = d; text = t.text; lost = lost }) (sym (ap (λ (w : SessionOf). w.decoder) kept))
+
+completes_piece : (s mid t : SessionOf) (bytes : List ℕ) (lost : Bool) (takes : TakesPiece s mid bytes)
+    → t ≡ record mid { resting = t.resting; text = t.text; lost = lost } → Completes s.decoder t.decoder bytes takes.text
+completes_piece s mid t bytes lost takes kept =
+    subst (λ (d : Decoding). Completes s.decoder d bytes takes.text) (sym (ap (λ (w : SessionOf). w.decoder) kept)) takes.completes
+
+pub feeds_piece : (result : Result Fed SessionError) (s mid t : SessionOf) (bytes : List ℕ) → is_over s ≡ false → TakesPiece s mid bytes
+    → t ≡ record mid { resting = t.resting; text = t.text; lost = is_err result }
+    → IfOk result (λ fed. FeedsText (tokenizer_of mid) (tokenizer_of t) mid.text t.text fed)
+    → IfOk result (λ fed. FeedsPiece s t bytes fed)
+feeds_piece (Err error) s mid t bytes going takes kept feeds = tt
+feeds_piece (Ok fed) s mid t bytes going takes kept feeds = record {
+  text = takes.text;
+  completes = completes_piece s mid t bytes false takes kept;
+  feeds = subst (λ (w : SessionOf). FeedsText (tokenizer_of w) (tokenizer_of t) w.text t.text fed) takes.taken feeds;
+  kept = kept_piece s mid t bytes false takes kept
+      ∙ ap (λ (l : Bool). record s { resting = t.resting; decoder = t.decoder; text = t.text; lost = l }) (sym (goes_on s.lost s.resting.failed s.resting.ended going).0);
+  going_on = over-none t.lost t.resting.failed t.resting.ended (ap (λ (w : SessionOf). w.lost) kept) feeds.not_failed feeds.going_on;
+}
+
+pub feed_refused : (result : Result Fed SessionError) (s mid t : SessionOf) (bytes : List ℕ) → TakesPiece s mid bytes
+    → t ≡ record mid { resting = t.resting; text = t.text; lost = is_err result }
+    → IfErr result (λ error. TextRefused (tokenizer_of mid) mid.text t.text (recorded_by t) error)
+    → IfErr result (λ error. FeedRefused s t bytes error)
+feed_refused (Ok fed) s mid t bytes takes kept refused = tt
+feed_refused (Err Memory) s mid t bytes takes kept refused = inr (record {
+  text = takes.text;
+  completes = completes_piece s mid t bytes true takes kept;
+  stops = inr (subst (λ (w : SessionOf). StopsText (tokenizer_of w) w.text t.text (recorded_by t)) takes.taken refused);
+  kept = kept_piece s mid t bytes true takes kept;
+})
+feed_refused (Err (NotUtf8 place)) s mid t bytes takes kept refused = absurd refused
+feed_refused (Err Cut) s mid t bytes takes kept refused = absurd refused
+feed_refused (Err Waiting) s mid t bytes takes kept refused = absurd refused
+feed_refused (Err Over) s mid t bytes takes kept refused = ap (λ (w : SessionOf). w.lost || (t.resting.failed || t.resting.ended)) kept
+
+pub end_refused : (result : Result (Unit {0}) SessionError) (s t : SessionOf) (out : RestingOf Events) (lost : Bool) → s ≡ t → lost ≡ is_err result
+    → IfErr result (λ error. TextEndRefused (tokenizer_of s) out.sink.recorded error)
+    → IfErr result (λ error. EndRefused t (record s { resting = out; lost = lost }) error)
+end_refused (Ok done) s t out lost same is refused = tt
+end_refused (Err Memory) s t out lost same is refused = record {
+  error = refused.0;
+  stops = subst (λ (w : SessionOf). StopsEnding recorded_means refused.0 (tokenizer_of w) out.sink.recorded) same refused.1;
+  kept = ap (λ (w : SessionOf). record w { resting = out; lost = lost }) same ∙ ap (λ (l : Bool). record t { resting = out; lost = l }) is;
+}
+end_refused (Err (NotUtf8 place)) s t out lost same is refused = absurd refused
+end_refused (Err Cut) s t out lost same is refused = absurd refused
+end_refused (Err Waiting) s t out lost same is refused = absurd refused
+end_refused (Err Over) s t out lost same is refused = ap (λ (l : Bool). l || (out.failed || out.ended)) is

@@ -1,0 +1,14 @@
+use Rattle.std.proofs.Common.{sym, ap, ◌∙◌}
+use Rattle.html5session.specs.Session.{is_over}
+use Rattle.html5session.proofs.Calls.{goes_on, end_refused}
+use Rattle.html5session.proofs.session.Session.end.Goals as goal
+
+pub end_text-resting-requires-clause-going_on : goal.end_text-resting-requires-clause-going_on
+end_text-resting-requires-clause-going_on g c = (goes_on c.self.inside.lost _ _ (ap is_over c.self.view_is ∙ sym c.is_over.ensures ∙ c.if-is_over.false)).2
+
+pub end_text-resting-requires-clause-not_failed : goal.end_text-resting-requires-clause-not_failed
+end_text-resting-requires-clause-not_failed g c = (goes_on c.self.inside.lost _ _ (ap is_over c.self.view_is ∙ sym c.is_over.ensures ∙ c.if-is_over.false)).1
+
+pub returns-clause-refused : goal.returns-clause-refused
+returns-clause-refused g c =
+    end_refused c.end_text-resting.result.1 _ _ c.end_text-resting.result.0 c.is_err.result c.self.view_is c.is_err.ensures.value c.end_text-resting.ensures.refused

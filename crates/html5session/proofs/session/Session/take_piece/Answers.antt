@@ -1,0 +1,21 @@
+use Rattle.std.proofs.Common.{inr, string_bytes}
+use Rattle.std.proofs.lemmas.Str.{IsUtf8-string_bytes}
+use Rattle.html5session.proofs.Calls.{refuses_bytes, takes_piece, loses_piece}
+use Rattle.html5session.proofs.session.Session.take_piece.Goals as goal
+
+pub returns-in-Err-NotUtf8-clause-refused : goal.returns-in-Err-NotUtf8-clause-refused
+returns-in-Err-NotUtf8-clause-refused g c =
+    let said = c.in-Err-NotUtf8.ensures in
+    refuses_bytes _ _ c.decode.new.self _ c.in-Err-NotUtf8.valid_up_to c.in-Err-NotUtf8.field-0 c.self.view_is said.unchanged c.in-Err-NotUtf8.field-0-is said.fault said.refused.0
+
+pub returns-in_default-clause-takes : goal.returns-in_default-clause-takes
+returns-in_default-clause-takes g c =
+    let said = c.in-Ok.ensures in
+    takes_piece _ _ c.decode.new.self c.push_back.new.self.text _ (string_bytes c.in-Ok.text) c.self.view_is
+    (record { parts = said.text; utf8 = IsUtf8-string_bytes c.in-Ok.text; cut = said.cut; taken = said.taken }) c.in_default.ensures.ok.text
+
+pub returns-clause-refused : goal.returns-clause-refused
+returns-clause-refused g c =
+    let said = c.in-Ok.ensures in
+    inr (loses_piece _ _ c.decode.new.self c.push_back.new.self.text _ (string_bytes c.in-Ok.text) c.self.view_is
+    (record { parts = said.text; utf8 = IsUtf8-string_bytes c.in-Ok.text; cut = said.cut; taken = said.taken }))

@@ -1,0 +1,167 @@
+-- What a session is, and what each call makes of it.
+use Rattle.std.specs.Prelude.{◌≡◌, ◌≢◌, ◌⊎◌, ◌||◌, ◌<◌, ℕ, Bool, true, false, List, [], ◌++◌, length, Option, Some}
+use Rattle.std.specs.Str.{IsUtf8, chars}
+use Rattle.utf8_pieces.specs.Pieces.{Decoding, IsCutCharacter, IsFault, IsNeverUtf8, place_behind}
+use Rattle.utf8_pieces.specs.declared.error.DecodeError.TheVariants as decoder
+use Rattle.markup5ever.specs.NamedReferences.{NamedReference}
+use Rattle.html5ever_interface.specs.Token.{Reply}
+use Rattle.html5ever_interface.specs.Token.Reply.{RunScript, SwitchEncoding}
+use Rattle.html5opened.specs.declared.error.TokenizerError.{TokenizerError}
+use Rattle.html5events.specs.Events.{Events, Recorded, recorded_means, after_taking}
+use Rattle.html5ever.specs.Resting.{RestingOf, tokenizing}
+use Rattle.html5ever.specs.Tokenizer.{Tokenizing, Feeds, StopsFeeding, Finishes, StopsEnding}
+use Rattle.html5session.specs.declared.error.SessionError.{SessionError}
+use Rattle.html5session.specs.declared.error.SessionError.TheVariants.{Memory, NotUtf8, Cut, Waiting, Over}
+use Rattle.html5session.specs.declared.fed.Fed.{Fed}
+use Rattle.html5session.specs.declared.fed.Fed.TheVariants.{Done, Script, Encoding}
+
+-- what contracts see of a session
+pub record SessionOf : Type 0 where
+  -- the table of named references
+  pub names : List NamedReference
+  -- the tokenizer between two calls, with its sink of records
+  pub resting : RestingOf Events
+  -- the bytes that may begin a character, and how many bytes came before them
+  pub decoder : Decoding
+  -- the text that waits to be read
+  pub text : List ℕ
+  -- a text was lost to a failed call
+  pub lost : Bool
+  -- where the bytes of a refused piece stop being UTF-8
+  pub error_at : Option ℕ
+
+-- the tokenizer, with its table
+abbrev pub tokenizer_of : SessionOf → Tokenizing Events
+tokenizer_of s = tokenizing s.resting s.names
+
+-- all that was written of the page, taken or not
+abbrev pub recorded_by : SessionOf → Recorded
+recorded_by s = s.resting.sink.recorded
+
+-- nothing more is read: a call failed, or the end was told
+abbrev pub is_over : SessionOf → Bool
+is_over s = s.lost || (s.resting.failed || s.resting.ended)
+
+-- ---- records
+
+-- so many bytes of the records that wait were taken, and all else is as it was
+abbrev pub after_session_takes : SessionOf → ℕ → SessionOf
+after_session_takes s count = record s { resting = record s.resting { sink = after_taking s.resting.sink count } }
+
+-- as many bytes are taken as were before, and what waits is the rest of all that was written
+pub record KeepsTaken (old new : Events) : Type 0 where
+  pub count : length new.taken ≡ length old.taken
+  pub written : new.taken ++ new.waiting ≡ new.recorded.bytes
+
+-- ---- pieces
+
+-- what was held and a piece are a text, and then bytes that may begin a character, which are held
+pub record Completes (old new : Decoding) (bytes text : List ℕ) : Type 0 where
+  pub parts : old.held ++ bytes ≡ text ++ new.held
+  pub utf8 : IsUtf8 text
+  pub cut : IsCutCharacter new.held
+  pub taken : new.taken ≡ place_behind old.taken (length text)
+
+-- a piece was taken: the text that it completes came after what waits
+pub record TakesPiece (old new : SessionOf) (bytes : List ℕ) : Type 0 where
+  pub text : List ℕ
+  pub completes : Completes old.decoder new.decoder bytes text
+  pub taken : new ≡ record old { decoder = new.decoder; text = old.text ++ chars text }
+
+-- a piece was refused, since bytes in it are no UTF-8, whatever follows: that is told, and all else is as it was
+pub record RefusesBytes (old new : SessionOf) (bytes : List ℕ) (place : ℕ) : Type 0 where
+  pub unchanged : new ≡ record old { error_at = Some place }
+  pub fault : IsFault old.decoder.taken (old.decoder.held ++ bytes) (decoder.NotUtf8 place)
+  pub never : IsNeverUtf8 (old.decoder.held ++ bytes)
+
+-- ---- what one feed of the text that waits does
+
+-- the pause that a reply asks for
+abbrev pub fed_by : Reply (Unit {0}) → Fed
+fed_by (RunScript handle) = Script
+fed_by (SwitchEncoding text) = Encoding
+fed_by other = Done
+
+-- from wherever the tokenizer stood, a beginning of the text was read, up to a pause or all of it, and the rest waits
+pub record FeedsText (old new : Tokenizing Events) (text left : List ℕ) (fed : Fed) : Type 0 where
+  pub reply : Reply (Unit {0})
+  pub feeds : Feeds recorded_means old new text left reply
+  pub pause : fed ≡ fed_by reply
+  pub all : fed ≡ Done → left ≡ []
+  pub shorter : fed ≢ Done → length left < length text
+  pub taken : KeepsTaken old.sink new.sink
+  pub rules : new.rules ≡ old.rules
+  pub not_failed : new.failed ≡ false
+  pub going_on : new.ended ≡ false
+
+-- a feed failed within what it would have told
+abbrev pub StopsText : Tokenizing Events → List ℕ → List ℕ → Recorded → Type 0
+StopsText old text left told = (error : TokenizerError) × StopsFeeding recorded_means error old text left told
+
+-- ---- what the calls do
+
+-- a piece was fed: of what waited and the text that the piece completes a beginning was read, and the rest waits
+pub record FeedsPiece (old new : SessionOf) (bytes : List ℕ) (fed : Fed) : Type 0 where
+  pub text : List ℕ
+  pub completes : Completes old.decoder new.decoder bytes text
+  pub feeds : FeedsText (tokenizer_of old) (tokenizer_of new) (old.text ++ chars text) new.text fed
+  pub kept : new ≡ record old { resting = new.resting; decoder = new.decoder; text = new.text }
+  pub going_on : is_over new ≡ false
+
+-- a piece was lost to want of memory: what was told before stays, and maybe a beginning of what it tells was told
+pub record LosesPiece (old new : SessionOf) (bytes : List ℕ) : Type 0 where
+  pub text : List ℕ
+  pub completes : Completes old.decoder new.decoder bytes text
+  pub stops : (recorded_by new ≡ recorded_by old) ⊎ StopsText (tokenizer_of old) (old.text ++ chars text) new.text (recorded_by new)
+  pub kept : new ≡ record old { resting = new.resting; decoder = new.decoder; text = new.text; lost = true }
+
+-- what each error of a feed leaves
+abbrev pub FeedRefused : SessionOf → SessionOf → List ℕ → SessionError → Type 0
+FeedRefused old new bytes Memory = (new ≡ old) ⊎ LosesPiece old new bytes
+FeedRefused old new bytes (NotUtf8 place) = RefusesBytes old new bytes place
+FeedRefused old new bytes Cut = ⊥
+FeedRefused old new bytes Waiting = ⊥
+FeedRefused old new bytes Over = is_over new ≡ true
+
+-- what each error leaves of a feed of what waits
+abbrev pub TextRefused : Tokenizing Events → List ℕ → List ℕ → Recorded → SessionError → Type 0
+TextRefused old text left told Memory = StopsText old text left told
+TextRefused old text left told (NotUtf8 place) = ⊥
+TextRefused old text left told Cut = ⊥
+TextRefused old text left told Waiting = ⊥
+TextRefused old text left told Over = Unit {0}
+
+-- from wherever the tokenizer stood, the whole reading was told
+pub record EndsText (old : Tokenizing Events) (new : Events) : Type 0 where
+  pub finishes : Finishes recorded_means old new.recorded
+  pub taken : KeepsTaken old.sink new
+
+-- the end was told, where nothing waited, and nothing was held of a character
+pub record EndsSession (old new : SessionOf) : Type 0 where
+  pub ends : EndsText (tokenizer_of old) new.resting.sink
+  pub read : old.text ≡ []
+  pub whole : old.decoder.held ≡ []
+  pub kept : new ≡ record old { resting = new.resting }
+  pub over : is_over new ≡ true
+
+-- the end failed for want of memory, within what it would have told
+pub record LosesEnd (old new : SessionOf) : Type 0 where
+  pub error : TokenizerError
+  pub stops : StopsEnding recorded_means error (tokenizer_of old) (recorded_by new)
+  pub kept : new ≡ record old { resting = new.resting; lost = true }
+
+-- what each error of telling the end to a tokenizer leaves
+abbrev pub TextEndRefused : Tokenizing Events → Recorded → SessionError → Type 0
+TextEndRefused old told Memory = (error : TokenizerError) × StopsEnding recorded_means error old told
+TextEndRefused old told (NotUtf8 place) = ⊥
+TextEndRefused old told Cut = ⊥
+TextEndRefused old told Waiting = ⊥
+TextEndRefused old told Over = Unit {0}
+
+-- what each error of an end leaves
+abbrev pub EndRefused : SessionOf → SessionOf → SessionError → Type 0
+EndRefused old new Memory = LosesEnd old new
+EndRefused old new (NotUtf8 place) = ⊥
+EndRefused old new Cut = (new ≡ old) × (old.decoder.held ≢ [])
+EndRefused old new Waiting = (new ≡ old) × (old.text ≢ [])
+EndRefused old new Over = is_over new ≡ true

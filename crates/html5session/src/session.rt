@@ -1,0 +1,313 @@
+//! A tokenizer with its table, its sink of records, and the bytes and the text that wait.
+ghost use Rattle.std.specs.Prelude.{◌≡◌, ◌≢◌, ◌↔◌, ◌⊎◌, ◌<◌, ◌^◌, ◌-◌, ◌++◌, [], true, false, length, take, drop, min, is_err, OnOk, OnErr, IfOk, IfErr};
+ghost use Rattle.std.specs.Str.{chars};
+ghost use Rattle.html5ever.specs.Resting.{tokenizing};
+ghost use Rattle.html5ever.specs.Tokenizer.{StandsAt, rules_of};
+ghost use Rattle.html5ever_interface.specs.Options.{options_of};
+ghost use Rattle.html5events.specs.Events.{recorded_means, none_recorded, no_events};
+ghost use Rattle.html5feed.specs.Starting.{CanStart};
+ghost use Rattle.html5grammar.specs.Start.{start_of};
+ghost use Rattle.html5session.specs.Session.{is_over, tokenizer_of, recorded_by, after_session_takes, FeedsText, TextRefused, EndsText, TextEndRefused};
+ghost use Rattle.html5session.specs.Session.{TakesPiece, FeedsPiece, FeedRefused, EndsSession, EndRefused};
+
+use crate::error::SessionError;
+use crate::fed::{Fed, fed_of};
+use html5events::event_sink::{EventOptions, EventSink};
+use html5ever::tokenizer::{
+    BufferQueue, NamedReferences, Resting, Tokenizer, TokenizerError, TokenizerOpts,
+};
+use std::alloc::{Allocator, Global};
+use std::marker::Model;
+use utf8_pieces::{DecodeError, Decoder};
+
+// The error that a refused call of the tokenizer means: the sink's only fault is want of memory.
+fn error_of(error: TokenizerError) -> SessionError
+    requires { error ≢ TokenizerError.Failed }
+    ensures { result ≡ SessionError.Memory }
+{
+    match error {
+        TokenizerError::Memory | TokenizerError::Sink => SessionError::Memory,
+        TokenizerError::Failed => unreachable!(),
+    }
+}
+
+// Whether as many bytes were taken of the sink as are counted. A tokenizer takes none of its sink, but
+// that is said nowhere, so it is tested.
+fn keeps_taken<A: Allocator>(sink: &EventSink<A>, count: u64) -> bool
+    ensures count { result ≡ true → min (length sink.now.taken) (2 ^ 64 - 1) ≡ count }
+    ensures below { result ≡ true → count < 2 ^ 64 - 1 }
+    ensures written { sink.now.taken ++ sink.now.waiting ≡ sink.now.recorded.bytes }
+{
+    let same = sink.taken_len() == count;
+    same && count < u64::MAX
+}
+
+// Feeds the tokenizer what waits, up to a pause.
+fn feed_text<A: Allocator + Copy>(
+    names: &NamedReferences<A>,
+    resting: Resting<EventSink<A>, A>,
+    queue: &mut BufferQueue<A>,
+) -> (Resting<EventSink<A>, A>, Result<Fed, SessionError>)
+    requires going_on { resting.ended ≡ false }
+    requires not_failed { resting.failed ≡ false }
+    ensures feeds { IfOk result.1 (λ fed. FeedsText (tokenizing resting names.now)
+        (tokenizing result.0 names.now) queue.old.text queue.new.text fed) }
+    ensures refused { IfErr result.1 (λ error. TextRefused (tokenizing resting names.now)
+        queue.old.text queue.new.text result.0.sink.recorded error) }
+{
+    let count = resting.sink.taken_len();
+    let mut tokenizer = resting.resume(names);
+    let answer = tokenizer.feed(queue);
+    let keeps_taken = keeps_taken(&tokenizer.sink, count);
+    let resting = tokenizer.rest();
+    match answer {
+        Ok(_) if !keeps_taken => (resting, Err(SessionError::Over)),
+        Ok(answer) => (resting, Ok(fed_of(&answer))),
+        Err(error) => (resting, Err(error_of(error))),
+    }
+}
+
+// Tells the tokenizer the end.
+fn end_text<A: Allocator + Copy>(
+    names: &NamedReferences<A>,
+    resting: Resting<EventSink<A>, A>,
+) -> (Resting<EventSink<A>, A>, Result<(), SessionError>)
+    requires going_on { resting.ended ≡ false }
+    requires not_failed { resting.failed ≡ false }
+    ensures ends { OnOk result.1 (EndsText (tokenizing resting names.now) result.0.sink) }
+    ensures ended { OnOk result.1 (result.0.ended ≡ true) }
+    ensures refused { IfErr result.1 (λ error. TextEndRefused (tokenizing resting names.now)
+        result.0.sink.recorded error) }
+{
+    let count = resting.sink.taken_len();
+    let mut tokenizer = resting.resume(names);
+    let answer = tokenizer.end();
+    let keeps_taken = keeps_taken(&tokenizer.sink, count);
+    let resting = tokenizer.rest();
+    match answer {
+        Ok(()) if !keeps_taken => (resting, Err(SessionError::Over)),
+        Ok(()) => (resting, Ok(())),
+        Err(error) => (resting, Err(error_of(error))),
+    }
+}
+
+/// A page that is read as its bytes arrive, and the records of its tokens.
+///
+/// It owns the table of named references, the tokenizer with its sink of records, the bytes that may
+/// begin a character, and the text that waits after a pause.
+#[derive(Drop)]
+pub struct Session<A: Allocator = Global> {
+    alloc: A,
+    names: NamedReferences<A>,
+    resting: Resting<EventSink<A>, A>,
+    decoder: Decoder,
+    queue: BufferQueue<A>,
+    lost: bool,
+    error_at: Option<u64>,
+}
+
+impl<A: Allocator> Model for Session<A> {
+    ghost use Rattle.html5session.specs.Session.{SessionOf};
+
+    ghost Value = { SessionOf };
+
+    ghost view = { λ s. record {
+      names = s.names;
+      resting = s.resting;
+      decoder = s.decoder;
+      text = s.queue.text;
+      lost = s.lost;
+      error_at = s.error_at;
+    } };
+}
+
+impl<A: Allocator> Session<A> {
+    /// Whether nothing more is read: a call failed, or the end was told. What was recorded can still be
+    /// taken.
+    pub fn is_over(&self) -> bool
+        ensures { result ≡ is_over self.now }
+    {
+        self.lost || self.resting.has_failed() || self.resting.is_ended()
+    }
+
+    /// Where the bytes of the last piece that was refused as `NotUtf8` stop being UTF-8, counted from
+    /// the first byte of the first piece.
+    pub fn error_at(&self) -> Option<u64>
+        ensures { result ≡ self.now.error_at }
+    {
+        self.error_at
+    }
+
+    /// Takes the next bytes of the records, as many as wait and as there is room for. It answers how
+    /// many. A record may be cut in two: what is left of it comes first at the next call.
+    pub fn take(&mut self, into: &mut [u8]) -> usize
+        ensures count { result ≡ min (length into.old) (length self.old.resting.sink.waiting) }
+        ensures copied { into.new ≡ take result self.old.resting.sink.waiting ++ drop result into.old }
+        ensures taken { self.new ≡ after_session_takes self.old result }
+        ensures state { recorded_by self.new ≡ recorded_by self.old }
+    {
+        self.resting.sink.take(into)
+    }
+}
+
+impl<A: Allocator + Copy> Session<A> {
+    /// A session at the start of a page, which reads named references by the table.
+    pub fn new(
+        alloc: A,
+        names: NamedReferences<A>,
+        opts: TokenizerOpts<A>,
+        events: EventOptions,
+    ) -> Session<A>
+        requires { CanStart opts.initial_state }
+        ensures stands { StandsAt recorded_means (tokenizer_of result) (start_of (options_of opts))
+            (none_recorded events.replies events.foreign) [] }
+        ensures rules { (tokenizer_of result).rules ≡ rules_of (options_of opts) names }
+        ensures sink { result.resting.sink ≡ no_events events.replies events.foreign }
+        ensures names { result.names ≡ names }
+        ensures held { result.decoder.held ≡ [] }
+        ensures place { result.decoder.taken ≡ 0 }
+        ensures text { result.text ≡ [] }
+        ensures going_on { is_over result ≡ false }
+        ensures error_at { result.error_at ≡ None }
+    {
+        let sink = EventSink::new(alloc, events);
+        let resting = Tokenizer::new(alloc, sink, opts, &names).rest();
+        Session {
+            alloc,
+            names,
+            resting,
+            decoder: Decoder::new(),
+            queue: BufferQueue::new(alloc),
+            lost: false,
+            error_at: None,
+        }
+    }
+
+    // Puts the text that a piece completes after what waits.
+    fn take_piece(&mut self, bytes: &[u8]) -> Result<(), SessionError>
+        ensures takes { OnOk result (TakesPiece self.old self.new bytes.now) }
+        ensures refused { IfErr result (λ error. FeedRefused self.old self.new bytes.now error) }
+    {
+        let text = match self.decoder.decode(self.alloc, bytes) {
+            Ok(text) => text,
+            Err(DecodeError::Memory) => return Err(SessionError::Memory),
+            Err(DecodeError::NotUtf8 { valid_up_to }) => {
+                self.error_at = Some(valid_up_to);
+                return Err(SessionError::NotUtf8 { valid_up_to });
+            }
+        };
+        let Err(_) = self.queue.push_back(text) else {
+            return Ok(());
+        };
+        self.lost = true;
+        Err(SessionError::Memory)
+    }
+
+    // Feeds the tokenizer what waits, up to a pause.
+    fn feed_waiting(self) -> (Session<A>, Result<Fed, SessionError>)
+        requires { is_over self ≡ false }
+        ensures feeds { IfOk result.1 (λ fed. FeedsText (tokenizer_of self) (tokenizer_of result.0)
+            self.text result.0.text fed) }
+        ensures refused { IfErr result.1 (λ error. TextRefused (tokenizer_of self) self.text
+            result.0.text (recorded_by result.0) error) }
+        ensures kept { result.0 ≡ record self { resting = result.0.resting; text = result.0.text; lost = is_err result.1 } }
+    {
+        let Session {
+            alloc,
+            names,
+            resting,
+            decoder,
+            mut queue,
+            lost: _,
+            error_at,
+        } = self;
+        let (resting, result) = feed_text(&names, resting, &mut queue);
+        let session = Session {
+            alloc,
+            names,
+            resting,
+            decoder,
+            queue,
+            lost: result.is_err(),
+            error_at,
+        };
+        (session, result)
+    }
+
+    /// Takes a piece of the page, cut anywhere, and reads on, up to the first tag after which the sink
+    /// asks to pause. Then the rest of the text waits: text may be put in front of it, and the next
+    /// feed goes on with it, also one of no bytes.
+    ///
+    /// A piece that is `NotUtf8` changes nothing but what `error_at` says. After `Memory` the session is
+    /// as it was, or it is over and the piece is lost.
+    pub fn feed(mut self, bytes: &[u8]) -> (Session<A>, Result<Fed, SessionError>)
+        ensures feeds { IfOk result.1 (λ fed. FeedsPiece self result.0 bytes.now fed) }
+        ensures refused { IfErr result.1 (λ error. FeedRefused self result.0 bytes.now error) }
+        ensures over { is_over self ≡ true → (result.0 ≡ self) × (result.1 ≡ Err SessionError.Over) }
+    {
+        if self.is_over() {
+            return (self, Err(SessionError::Over));
+        }
+        match self.take_piece(bytes) {
+            Ok(()) => self.feed_waiting(),
+            Err(error) => (self, Err(error)),
+        }
+    }
+
+    /// Puts a text in front of what waits, as `document.write` does. It is read at the next feed.
+    pub fn insert(&mut self, text: &str) -> Result<(), SessionError>
+        ensures ok { OnOk result (self.new ≡ record self.old { text = chars text.now ++ self.old.text }) }
+        ensures err { OnErr result (self.new ≡ self.old) }
+        ensures over { (result ≡ Err SessionError.Over) ↔ (is_over self.old ≡ true) }
+        ensures errors { IfErr result (λ error. (error ≡ SessionError.Memory) ⊎ (error ≡ SessionError.Over)) }
+    {
+        if self.is_over() {
+            return Err(SessionError::Over);
+        }
+        let Ok(text) = String::from_str(self.alloc, text) else {
+            return Err(SessionError::Memory);
+        };
+        match self.queue.push_front(text) {
+            Ok(()) => Ok(()),
+            Err(_) => Err(SessionError::Memory),
+        }
+    }
+
+    /// Tells the end of the page. It is refused, and changes nothing, while text waits, and where the
+    /// bytes so far end within a character.
+    pub fn end(self) -> (Session<A>, Result<(), SessionError>)
+        ensures ends { OnOk result.1 (EndsSession self result.0) }
+        ensures refused { IfErr result.1 (λ error. EndRefused self result.0 error) }
+        ensures over { is_over self ≡ true → (result.0 ≡ self) × (result.1 ≡ Err SessionError.Over) }
+    {
+        if self.is_over() {
+            return (self, Err(SessionError::Over));
+        }
+        if !self.queue.is_empty() {
+            return (self, Err(SessionError::Waiting));
+        }
+        if !self.decoder.is_complete() {
+            return (self, Err(SessionError::Cut));
+        }
+        let Session {
+            alloc,
+            names,
+            resting,
+            decoder,
+            queue,
+            lost: _,
+            error_at,
+        } = self;
+        let (resting, result) = end_text(&names, resting);
+        let session = Session {
+            alloc,
+            names,
+            resting,
+            decoder,
+            queue,
+            lost: result.is_err(),
+            error_at,
+        };
+        (session, result)
+    }
+}
