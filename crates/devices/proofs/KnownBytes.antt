@@ -34,7 +34,7 @@ Appends-kept None after keeps = tt
 Appends-kept (Some xs) None keeps = absurd keeps
 Appends-kept (Some xs) (Some ys) keeps = cc (append-nil xs)
 
--- a write took n bytes of the rest, which are then behind `done`
+-- a write took n bytes of the rest, which are then after `done`
 pub taken_more : (all done rest : List ℕ) (n : ℕ) → all ≡ done ++ rest → all ≡ (done ++ take n rest) ++ take (length rest - n) (drop n rest)
 taken_more all done rest n split = cc (take_rest rest n, take-append-drop n rest, append_assoc done (take n rest) (drop n rest))
 

@@ -1,4 +1,4 @@
-//! A target behind a page.
+//! A target after a page.
 ghost use Rattle.std.specs.Prelude.{◌≡◌, ◌↔◌, ◌+◌, [], ◌++◌, false, true, Err, IfErr, IsErr, OnOk, OnErr, is_err};
 ghost use Rattle.devices.specs.Device.{IsReadFault, reported_failures};
 

@@ -4,7 +4,7 @@ use Rattle.std.proofs.lemmas.List.{map-append, map_more}
 use Rattle.markup5ever.specs.Names.{attribute_of}
 use Rattle.markup5ever.specs.declared.interface.Attribute.{Attribute}
 
--- one more clone, behind those of the first `i` attributes
+-- one more clone, after those of the first `i` attributes
 pub map-clones : {Z : Type 0} (clones attrs : List (Attribute Z)) (i : ℕ) (clone other : Attribute Z)
     → map attribute_of clones ≡ map attribute_of (take i attrs)
     → attribute_of clone ≡ attribute_of (get_or attrs i other)

@@ -77,7 +77,7 @@ from_first_with_text-push x [] last text here other =
 from_first_with_text-push x (y ∷ ys) last text here other =
     ap (λ l. message_of x ∷ l) (from_first_with_text-push y ys last text here other)
 
--- a text behind an entry that is none
+-- a text after an entry that is none
 pub with_text-push : {Z : Type 0} (xs : List (Token Z × ℕ)) (i : ℕ) (last : Token Z × ℕ) (text : String Z)
     → i + 1 ≡ length xs
     → last ≡ get_or xs i last
@@ -91,7 +91,7 @@ with_text-push (x ∷ xs) i last text at_end here other =
     let i_is : i ≡ length xs = omega arith in
     from_first_with_text-push x xs last text (here ∙ ap (λ n. get_or (x ∷ xs) n last) i_is) other
 
--- a text behind no entry
+-- a text after no entry
 pub with_text-none : {Z : Type 0} (xs : List (Token Z × ℕ)) (text : String Z)
     → length xs ≡ 0
     → map message_of (xs ++ (CharacterTokens text, 0) ∷ []) ≡ with_text (map message_of xs) (string_bytes text)

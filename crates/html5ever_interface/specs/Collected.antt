@@ -40,28 +40,28 @@ told_text other = None
 abbrev pub kept_text : List ℕ → Message
 kept_text text = record { token = Text text; line = 0 }
 
--- the last message and a text behind it, where `before` is the text of that message: two texts are one, on the line of the first
+-- the last message and a text after it, where `before` is the text of that message: two texts are one, on the line of the first
 abbrev pub last_with_text : Option (List ℕ) → Message → List ℕ → List Message
 last_with_text (Some before) last text = record last { token = Text (before ++ text) } ∷ []
 last_with_text None last text = last ∷ kept_text text ∷ []
 
--- `m` and the messages after it, and a text behind them
+-- `m` and the messages after it, and a text after them
 unfoldable pub from_first_with_text : Message → List Message → List ℕ → List Message
 from_first_with_text m [] text = last_with_text (told_text m.token) m text
 from_first_with_text m (n ∷ ms) text = m ∷ from_first_with_text n ms text
 
--- messages and a text behind them, which the last one takes up where it is a text
+-- messages and a text after them, which the last one takes up where it is a text
 unfoldable pub with_text : List Message → List ℕ → List Message
 with_text [] text = kept_text text ∷ []
 with_text (m ∷ ms) text = from_first_with_text m ms text
 
--- messages and another behind them, where the option is its text: an empty text is dropped
+-- messages and another after them, where the option is its text: an empty text is dropped
 unfoldable pub with_message : List Message → Option (List ℕ) → Message → List Message
 with_message ms None m = ms ++ m ∷ []
 with_message ms (Some []) m = ms
 with_message ms (Some (b ∷ bs)) m = with_text ms (b ∷ bs)
 
--- messages and what is told behind them
+-- messages and what is told after them
 abbrev pub with_told : List Message → Told → ℕ → List Message
 with_told ms told line = with_message ms (told_text told) (record { token = told; line = line })
 

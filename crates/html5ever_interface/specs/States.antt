@@ -30,7 +30,7 @@ attr_value_kind_name Unquoted = codes "Unquoted"
 attr_value_kind_name SingleQuoted = codes "SingleQuoted"
 attr_value_kind_name DoubleQuoted = codes "DoubleQuoted"
 
--- the name of a state: the variant's name, and behind it in parentheses the name of what it holds
+-- the name of a state: the variant's name, and after it in parentheses the name of what it holds
 abbrev pub state_name : State → List ℕ
 state_name Data = codes "Data"
 state_name Plaintext = codes "Plaintext"

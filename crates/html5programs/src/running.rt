@@ -245,7 +245,7 @@ pub fn run_by_words<
     if let Some(word) = asked.wrong {
         messages.say(
             word,
-            "unknown word, or a word is missing behind it; try --help",
+            "unknown word, or a word is missing after it; try --help",
         );
         return WRONG;
     }

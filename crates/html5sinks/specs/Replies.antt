@@ -8,7 +8,7 @@ use Rattle.html5ever_interface.specs.declared.interface.token.TagKind.TheVariant
 use Rattle.html5ever_interface.specs.declared.states.RawKind.{RawKind}
 use Rattle.html5ever_interface.specs.declared.states.RawKind.TheVariants.{Rcdata, Rawtext, ScriptData}
 
--- the kind of raw text that stands behind a start tag of this name, if any does
+-- the kind of raw text that stands after a start tag of this name, if any does
 unfoldable pub raw_text_in : List ℕ → Option RawKind
 raw_text_in name =
     if bytes_eq name (codes "title") || bytes_eq name (codes "textarea") then Some Rcdata
@@ -17,7 +17,7 @@ raw_text_in name =
     else if bytes_eq name (codes "script") then Some ScriptData
     else None
 
--- what is replied to a start tag behind which raw text may stand
+-- what is replied to a start tag after which raw text may stand
 abbrev pub reply_to_raw_text : Option RawKind → Reply (Unit {0})
 reply_to_raw_text None = KeepOn
 reply_to_raw_text (Some kind) = ReadRawData kind

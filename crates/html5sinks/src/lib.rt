@@ -2,7 +2,7 @@
 //!
 //! - `tags::TagsOnly` hands tags on, and nothing else.
 //! - `text_runs::TextRuns` joins texts, and hands each whole run on with the token that ends it. A parse
-//!   error ends no run: it is handed on at once, with an empty run, and the text goes on behind it.
+//!   error ends no run: it is handed on at once, with an empty run, and the text goes on after it.
 //!
 //! A handler has a state, says what a tag or a run makes of it, and takes them by one method. There is
 //! no law to prove. This one counts links, and `TagsOnly::new(Links { count: 0 })` is a sink of it:
@@ -33,9 +33,9 @@
 //! ```
 //!
 //! Such a handler does not reply to tags: its sink gives the replies of `replies::standard_reply`, so
-//! that what stands behind a start tag is read as the standard reads it behind that element. Behind
-//! `title` and `textarea` that is RCDATA, behind `style`, `xmp`, `iframe`, `noembed` and `noframes`
-//! RAWTEXT, behind `script` script data, behind `plaintext` plain text, and behind any other tag
+//! that what stands after a start tag is read as the standard reads it after that element. After
+//! `title` and `textarea` that is RCDATA, after `style`, `xmp`, `iframe`, `noembed` and `noframes`
+//! RAWTEXT, after `script` script data, after `plaintext` plain text, and after any other tag
 //! markup. The tokenizer is never paused. A handler that is to reply otherwise is a
 //! `tags::ReplyingTagHandler` or a `text_runs::ReplyingRunHandler`.
 #![tactic(auto)]

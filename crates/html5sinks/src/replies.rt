@@ -7,7 +7,7 @@ use html5ever_interface::interface::token::{Tag, TagKind, TokenSinkResult};
 use html5ever_interface::states::RawKind;
 use std::alloc::Allocator;
 
-/// The kind of raw text that stands behind a start tag of this name, if any does: in `title` and
+/// The kind of raw text that stands after a start tag of this name, if any does: in `title` and
 /// `textarea` references are read, in `style`, `xmp`, `iframe`, `noembed` and `noframes` nothing is,
 /// and `script` has rules of its own.
 #[tactic(auto, unfolding(crate::specs::Replies::raw_text_in))]
@@ -22,7 +22,7 @@ pub fn raw_text_in(name: &str) -> Option<RawKind>
     }
 }
 
-// What is replied to a start tag behind which raw text may stand.
+// What is replied to a start tag after which raw text may stand.
 fn reply_to_raw_text<A: Allocator>(kind: Option<RawKind>) -> TokenSinkResult<(), String<A>>
     ensures { reply_of string_bytes result ≡ reply_to_raw_text kind }
 {
@@ -32,8 +32,8 @@ fn reply_to_raw_text<A: Allocator>(kind: Option<RawKind>) -> TokenSinkResult<(),
     }
 }
 
-/// What is replied to a start tag of this name, so that what stands behind it is read as the standard
-/// reads it: raw text, plain text behind `plaintext`, or else markup.
+/// What is replied to a start tag of this name, so that what stands after it is read as the standard
+/// reads it: raw text, plain text after `plaintext`, or else markup.
 #[tactic(auto, unfolding(crate::specs::Replies::standard_reply_to_start))]
 pub fn standard_reply_to_start<A: Allocator>(name: &str) -> TokenSinkResult<(), String<A>>
     ensures { reply_of string_bytes result ≡ standard_reply_to_start name.now }

@@ -40,7 +40,7 @@ pub fn is_start_of<A: Allocator>(tag: &Tag<A>, name: &str) -> bool
     tag.kind == TagKind::StartTag && tag.name.0.as_str() == name
 }
 
-/// Takes tags, in order, and leaves it to the standard how the text behind each is read. A handler
+/// Takes tags, in order, and leaves it to the standard how the text after each is read. A handler
 /// writes a state, a step and one method: `impl<A: Allocator> TagHandler<Tag<A>> for MyHandler`.
 pub trait TagHandler<T: SaysTag> {
     ghost use Rattle.std.specs.Prelude.{◌≡◌, ℕ, OnOk, OnErr};
@@ -79,7 +79,7 @@ pub trait ReplyingTagHandler<T: SaysTag> {
     ghost reply: { State → TagOf → ℕ → Reply Self.Handle };
 
     /// Takes a tag, as `take_tag` of `TagHandler` does, and replies to it: to read on, to read raw or
-    /// plain text behind a start tag, or to pause for a script or an encoding.
+    /// plain text after a start tag, or to pause for a script or an encoding.
     fn answer_tag(
         &mut self,
         tag: T,

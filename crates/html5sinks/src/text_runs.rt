@@ -11,14 +11,14 @@ use html5ever_interface::interface::token::{SinkFault, Token, TokenSinkResult};
 use std::alloc::{AllocError, Allocator, Global};
 use std::marker::Model;
 
-/// Takes whole runs of text, each with the token behind it, and leaves it to the standard how the text
-/// behind a tag is read. A handler writes a state, a step and one method:
+/// Takes whole runs of text, each with the token after it, and leaves it to the standard how the text
+/// after a tag is read. A handler writes a state, a step and one method:
 /// `impl<A: Allocator> RunHandler<Token<A>> for MyHandler`.
 pub trait RunHandler<T: Says> {
     ghost use Rattle.std.specs.Prelude.{◌≡◌, ℕ, List, OnOk, OnErr};
     ghost use Rattle.html5ever_interface.specs.Token.{Told};
 
-    // The abstract state of a handler, and what a run and the token behind it, handed with a line, make
+    // The abstract state of a handler, and what a run and the token after it, handed with a line, make
     // of it.
     ghost State: { Type 0 };
 
@@ -26,7 +26,7 @@ pub trait RunHandler<T: Says> {
 
     ghost step: { State → List ℕ → Told → ℕ → State };
 
-    /// Takes a run, empty where there was no text, with the token behind it and the number of the line
+    /// Takes a run, empty where there was no text, with the token after it and the number of the line
     /// that the tokenizer has reached. The token is no text: the end brings the last run. A parse error
     /// does not end a run, and comes at once, with an empty one. An `Err` refuses what was handed, and
     /// the tokenizer stops: the state is then unchanged, as if nothing had been handed.
@@ -36,7 +36,7 @@ pub trait RunHandler<T: Says> {
         ensures fault { OnErr result (state self.new ≡ state self.old) };
 }
 
-/// Takes whole runs of text, each with the token behind it, and replies to tags. Each `RunHandler` is
+/// Takes whole runs of text, each with the token after it, and replies to tags. Each `RunHandler` is
 /// one, with the standard's replies: write this only to reply otherwise. A handler writes `reply` too,
 /// and a `Handle` for its scripts.
 pub trait ReplyingRunHandler<T: Says> {
@@ -46,7 +46,7 @@ pub trait ReplyingRunHandler<T: Says> {
 
     type Handle: Drop;
 
-    // The abstract state of a handler, and what a run and the token behind it, handed with a line, make
+    // The abstract state of a handler, and what a run and the token after it, handed with a line, make
     // of it.
     ghost State: { Type 0 };
 
@@ -54,10 +54,10 @@ pub trait ReplyingRunHandler<T: Says> {
 
     ghost step: { State → List ℕ → Told → ℕ → State };
 
-    // What is replied to a tag behind a run.
+    // What is replied to a tag after a run.
     ghost reply: { State → List ℕ → TagOf → ℕ → Reply Self.Handle };
 
-    /// Takes a run and the token behind it, as `take_run` of `RunHandler` does, and replies: to a tag
+    /// Takes a run and the token after it, as `take_run` of `RunHandler` does, and replies: to a tag
     /// as `reply` says, and to any other token to read on.
     fn answer_run(
         &mut self,
@@ -109,7 +109,7 @@ impl<H: RunHandler<Token<A>>, A: Allocator> ReplyingRunHandler<Token<A>> for H {
     }
 }
 
-/// Joins adjacent texts, and hands each whole run to a handler together with the token behind it,
+/// Joins adjacent texts, and hands each whole run to a handler together with the token after it,
 /// however the tokenizer cut it. A text that finds no memory is a fault, and the run stays as it was.
 #[derive(Drop)]
 pub struct TextRuns<H, A: Allocator = Global> {
@@ -168,7 +168,7 @@ impl<H, A: Allocator> TextRuns<H, A> {
     }
 
     /// The handler, with what it was handed. A run that no token ended is dropped: there is none
-    /// behind the end of the input.
+    /// after the end of the input.
     pub fn into_inner(self) -> H
         ensures { result ≡ self.handler }
     {
@@ -176,7 +176,7 @@ impl<H, A: Allocator> TextRuns<H, A> {
     }
 }
 
-// Hands a run and the token behind it on. The run is then empty; where the handler faults it stays.
+// Hands a run and the token after it on. The run is then empty; where the handler faults it stays.
 fn hand_on<H: ReplyingRunHandler<Token<A>>, A: Allocator>(
     handler: &mut H,
     run: &mut String<A>,

@@ -49,7 +49,7 @@ pub fn entries_of<A: Allocator + Copy>(alloc: A, list: &str) -> Result<Vec<Entry
     Ok(entries)
 }
 
-// Puts what the text of an entry says behind the others.
+// Puts what the text of an entry says after the others.
 fn push_entry<A: Allocator + Copy>(
     alloc: A,
     entries: &mut Vec<Entry<A>, A>,

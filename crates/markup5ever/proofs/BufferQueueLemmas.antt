@@ -12,7 +12,7 @@ use Rattle.markup5ever.proofs.TextLemmas.{nil_from_length, filled_length, chars_
 
 -- ---- the text that waits, and its bytes
 
--- the bytes of the characters that wait are the text behind the offset
+-- the bytes of the characters that wait are the text after the offset
 pub waiting_bytes : (text waiting : List ℕ) (offset : ℕ) → IsReadTo text offset → chars (drop offset text) ≡ waiting → encode_utf8_all waiting ≡ drop offset text
 waiting_bytes text waiting offset read is =
     ap encode_utf8_all (sym is) ∙ encodes-chars (drop offset text) read.rest_utf8
@@ -80,7 +80,7 @@ pub ends_run : (set : ℕ) (text : List ℕ) → ((c : ℕ) (rest : List ℕ) �
 ends_run set [] stops = tt
 ends_run set (c ∷ rest) stops = stops c rest refl
 
--- a run that begins what waits, and behind which each first character is a member of the set
+-- a run that begins what waits, and after which each first character is a member of the set
 pub rest_ends_run : (set : ℕ) (front run rest : List ℕ) (len : ℕ) → IsUtf8 run → run ≡ take len front → chars front ≡ chars run ++ rest → ((c : ℕ) (cs : List ℕ) → chars (drop len front) ≡ c ∷ cs → IsMember set c) → EndsRun set rest
 rest_ends_run set front run rest len utf8 run_is split stops =
     let cut : chars front ≡ chars run ++ chars (drop len front) = rw run_is (chars_cut front len (rw run_is at utf8)) in

@@ -102,7 +102,7 @@ BeginsOutside-bytes set text len utf8 stops =
       outside = outside_from_bytes set (chars (take len text)) (rw (encodes-chars (take len text) (IsUtf8-take text len utf8 boundary)) bytes);
     }
 
--- the character behind them is a member
+-- the character after them is a member
 pub member_behind : (set : ℕ) (text : List ℕ) (len : ℕ) → IsUtf8 text → StopsAt set text len → (c : ℕ) (rest : List ℕ) → chars (drop len text) ≡ c ∷ rest → IsMember set c
 member_behind set text len utf8 stops c rest e =
     let rest_utf8 = IsUtf8-drop text len utf8 (StopsAt-boundary set text len utf8 stops) in

@@ -101,7 +101,7 @@ pub record IsTableOf (table done : List NamedReference) : Type 0 where
 pub IsTableOf-none : (table : List NamedReference) → table ≡ [] → IsTableOf table []
 IsTableOf-none table none = rw none (record { sorted = refl; size = refl; same_characters = λ name. refl; same_beginnings = λ text. refl })
 
--- the fault of one more is the same behind both
+-- the fault of one more is the same after both
 fault-same : (table done : List NamedReference) (e : NamedReference) → IsTableOf table done → fault_behind table e ≡ fault_behind done e
 unfolding fault_behind
 fault-same table done e is = rw (is.size, is.same_characters e.name) refl

@@ -66,7 +66,7 @@ pub record IsTable (entries : List NamedReference) : Type 0 where
   pub distinct : AreDistinct entries
   pub own : All (λ entry. characters_of_name entries entry.name ≡ Some (entry.first, entry.second)) entries
 
--- what is wrong with an entry behind the earlier ones
+-- what is wrong with an entry after the earlier ones
 unfoldable pub fault_behind : List NamedReference → NamedReference → Option TableError
 fault_behind earlier entry =
     if not (is_plain_name entry.name) then Some (BadName (length earlier))
@@ -74,7 +74,7 @@ fault_behind earlier entry =
     else if is_some (characters_of_name earlier entry.name) then Some (RepeatedName (length earlier))
     else None
 
--- the first fault of entries behind the earlier ones
+-- the first fault of entries after the earlier ones
 unfoldable pub first_fault_behind : List NamedReference → List NamedReference → Option TableError
 first_fault_behind earlier [] = None
 first_fault_behind earlier (entry ∷ entries) =
@@ -90,7 +90,7 @@ first_fault entries = first_fault_behind [] entries
 abbrev pub comes_before : List ℕ → List ℕ → Bool
 comes_before name other = is_lt (slice_cmp nat_cmp name other)
 
--- each name comes before all that stand behind it
+-- each name comes before all that stand after it
 unfoldable pub IsAscending : List NamedReference → Type 0
 IsAscending [] = Unit {0}
 IsAscending (entry ∷ entries) =

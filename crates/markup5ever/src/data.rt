@@ -85,7 +85,7 @@ impl<A: Allocator> NamedReferences<A> {
         Ok(table)
     }
 
-    // Takes in the entry that comes behind those of the table.
+    // Takes in the entry that comes after those of the table.
     fn add(&mut self, entry: Entry<A>) -> Result<(), TableError>
         ensures faultless { OnOk result (fault_behind self.old (reference_of entry) ≡ None) }
         ensures fault { IfErr result (λ error. (error ≡ TableError.Memory) ⊎

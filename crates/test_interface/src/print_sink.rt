@@ -15,7 +15,7 @@ fn prints_the_last_line_of_all(rt: HostRuntime) {
     assert_eq!(rt; sink.page(), b"eof 18446744073709551615\n".as_slice());
 }
 
-// Tokens of each kind. Most are behind a text, so they close it.
+// Tokens of each kind. Most are after a text, so they close it.
 const TOKENS: [(&str, &str); 14] = [
     ("text", "a text with \u{1} and \" in it"),
     ("error", "an error with\nlines in it"),

@@ -7,7 +7,7 @@ use std::alloc::{Allocator, Global};
 use std::process::Abort;
 use test_alloc::Refusing;
 
-// Keeps the names of tags, and asks for plain text behind each.
+// Keeps the names of tags, and asks for plain text after each.
 #[derive(Drop)]
 struct Names<A: Allocator = Global> {
     names: Vec<LocalName<A>, A>,

@@ -96,7 +96,7 @@ fn replies_as_the_standard_does(rt: HostRuntime) {
     assert!(rt; reply == Ok(TokenSinkResult::RawData(RawKind::ScriptData)));
 }
 
-// Keeps the length of the last run, and asks to run a script behind each tag.
+// Keeps the length of the last run, and asks to run a script after each tag.
 #[derive(Drop)]
 struct Length {
     bytes: usize,

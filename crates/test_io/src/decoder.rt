@@ -21,9 +21,9 @@ fn check_cut(rt: &impl Abort, alloc: Global, cut: usize, given: usize) {
     let begun = decoded(rt, alloc, &mut decoder, first);
     assert_eq!(rt; begun.len(), given, "before {cut}");
     let ended = decoded(rt, alloc, &mut decoder, second);
-    assert_eq!(rt; begun.len().wrapping_add(ended.len()), 11, "behind {cut}");
-    assert!(rt; decoder.is_complete(), "behind {cut}");
-    assert_eq!(rt; decoder.finish(), Ok(()), "behind {cut}");
+    assert_eq!(rt; begun.len().wrapping_add(ended.len()), 11, "after {cut}");
+    assert!(rt; decoder.is_complete(), "after {cut}");
+    assert_eq!(rt; decoder.finish(), Ok(()), "after {cut}");
     let whole = decode_all(alloc, &[first, second]).expect(rt, "a text");
     assert_eq!(rt; whole.as_str(), TEXT, "cut at {cut}");
 }

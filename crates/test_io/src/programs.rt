@@ -255,8 +255,8 @@ fn check_words(
 #[test]
 fn goes_by_its_words(rt: HostRuntime) -> Result<(), Fail> {
     let all = LINKS.printed;
-    let unknown = "prog: --wrong: unknown word, or a word is missing behind it; try --help\n";
-    let missing = "prog: --names: unknown word, or a word is missing behind it; try --help\n";
+    let unknown = "prog: --wrong: unknown word, or a word is missing after it; try --help\n";
+    let missing = "prog: --names: unknown word, or a word is missing after it; try --help\n";
     let no_file = "prog: no-such-file: can't be opened\n";
     check_words(&rt, &[], 0, all, "")?;
     check_words(&rt, &["-"], 0, all, "")?;

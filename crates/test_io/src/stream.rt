@@ -121,9 +121,9 @@ fn a_read_that_fails(rt: HostRuntime) {
         } else {
             Err(StreamError::Read)
         };
-        assert_eq!(rt; read, expected, "behind {reads}");
-        assert_eq!(rt; sink.entries().len(), *count, "behind {reads}");
-        assert_eq!(rt; sink.is_finished(), *is_whole, "behind {reads}");
+        assert_eq!(rt; read, expected, "after {reads}");
+        assert_eq!(rt; sink.entries().len(), *count, "after {reads}");
+        assert_eq!(rt; sink.is_finished(), *is_whole, "after {reads}");
     }
 }
 

@@ -9,7 +9,7 @@ enum Escape {
     Code(u32),
 }
 
-// The escape behind one of its characters.
+// The escape after one of its characters.
 fn behind_escaped(text: &mut String, escape: Escape, c: char) -> Result<Escape, CaseError> {
     let Escape::Code(code) = escape else {
         let meant = match c {

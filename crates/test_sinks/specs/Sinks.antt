@@ -19,7 +19,7 @@ abbrev pub is_start_of : List ℕ → Told → Bool
 is_start_of name (Tag tag) = is_start_tag tag.kind && bytes_eq tag.name name
 is_start_of name other = false
 
--- behind the start tag `p` all is plain text, behind `s` a script is run, and behind `x` stands a raw text
+-- after the start tag `p` all is plain text, after `s` a script is run, and after `x` stands a raw text
 abbrev pub reply_to : Told → Reply ℕ
 reply_to told =
     if is_start_of (codes "p") told then ReadPlainText
@@ -34,7 +34,7 @@ pub steering_keeps_on : (c : Collected) (told : Told) (line : ℕ) → is_tag to
 steering_keeps_on c (Tag tag) line no_tag = absurd cc
 steering_keeps_on c other line no_tag = refl
 
--- ---- a sink that counts tags: the content is foreign while their number is odd, and behind each third tag a script is run
+-- ---- a sink that counts tags: the content is foreign while their number is odd, and after each third tag a script is run
 
 pub record Alternated : Type 0 where
   pub collected : Collected

@@ -48,7 +48,7 @@ fn push_message(
     push_quoted(alloc, out, text)
 }
 
-// Appends an attribute behind a space.
+// Appends an attribute after a space.
 fn push_attribute<A: Allocator>(
     alloc: Global,
     out: &mut String,
@@ -84,7 +84,7 @@ fn push_tag<A: Allocator>(
     Ok(())
 }
 
-// Appends a part of a DOCTYPE behind a space, or a dash where it has none.
+// Appends a part of a DOCTYPE after a space, or a dash where it has none.
 fn push_part<A: Allocator>(
     alloc: Global,
     out: &mut String,

@@ -37,8 +37,8 @@ fn reply_to<A: Allocator>(token: &Token<A>) -> TokenSinkResult<u32, String<A>>
     }
 }
 
-/// Collects tokens. It asks for plain text behind each start tag `p`, to run a script behind each
-/// start tag `s`, and for raw text behind each start tag `x`.
+/// Collects tokens. It asks for plain text after each start tag `p`, to run a script after each
+/// start tag `s`, and for raw text after each start tag `x`.
 #[derive(Drop)]
 pub struct Steering<A: Allocator = Global> {
     pub inner: Collector<A>,

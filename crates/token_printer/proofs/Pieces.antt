@@ -7,7 +7,7 @@ use Rattle.html5ever_interface.proofs.Entries.{ok_from_if}
 regrouped-behind : (a b c d e : List ℕ) → (((a ++ b) ++ c) ++ d) ++ e ≡ a ++ (b ++ c ++ d ++ e)
 regrouped-behind a b c d e = simp append_assoc
 
--- a piece behind others
+-- a piece after others
 pub pieces-more : (old page next front piece : List ℕ) → page ≡ old ++ front → next ≡ page ++ piece → next ≡ old ++ (front ++ piece)
 pieces-more old page next front piece before printed =
     printed ∙ ap (λ l. l ++ piece) before ∙ append_assoc old front piece

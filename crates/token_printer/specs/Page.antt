@@ -46,7 +46,7 @@ unfoldable pub added_by : Bool → Told → ℕ → List ℕ
 added_by in_text (Text text) line = added_by_text in_text text
 added_by in_text other line = text_closing in_text ++ printed_line other line
 
--- whether a text is open behind a token
+-- whether a text is open after a token
 unfoldable pub open_behind : Bool → Told → Bool
 open_behind in_text (Text []) = in_text
 open_behind in_text (Text (b ∷ bs)) = true

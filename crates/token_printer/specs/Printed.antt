@@ -84,7 +84,7 @@ tag_line tag line =
     ++ tag_marks tag
     ++ codes "\n"
 
--- the line behind a tag's, where the reply to the tag pauses
+-- the line after a tag's, where the reply to the tag pauses
 unfoldable pub pause_line : Reply (Unit {0}) → List ℕ
 pause_line (RunScript handle) = codes "pause script\n"
 pause_line (SwitchEncoding charset) = codes "pause encoding " ++ quoted charset ++ codes "\n"
@@ -120,12 +120,12 @@ unfoldable pub first_text : List Message → List ℕ
 first_text [] = []
 first_text (m ∷ M) = told_text m.token
 
--- the messages behind the first, if that is a text, and else all of them
+-- the messages after the first, if that is a text, and else all of them
 unfoldable pub behind_first_text : List Message → List Message
 behind_first_text [] = []
 behind_first_text (m ∷ M) = if is_text m.token then M else m ∷ M
 
--- a token in front of messages that are joined: an empty text is dropped, and another joins the text behind it
+-- a token in front of messages that are joined: an empty text is dropped, and another joins the text after it
 unfoldable pub joined_first : Told → ℕ → List Message → List Message
 joined_first (Text []) line M = M
 joined_first (Text (b ∷ bs)) line M =

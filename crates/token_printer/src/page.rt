@@ -52,7 +52,7 @@ fn push_line_start<A: Allocator + Copy>(
     page.extend_from_slice(number.format(line).as_bytes())
 }
 
-// Appends a line with nothing behind its number.
+// Appends a line with nothing after its number.
 #[tactic(auto, unfolding(crate::specs::Printed::line_with_number))]
 fn push_line_with_number<A: Allocator + Copy>(
     page: &mut Vec<u8, A>,
@@ -200,7 +200,7 @@ pub fn push_token<A: Allocator + Copy>(
     }
 }
 
-/// Whether a text is open behind a token.
+/// Whether a text is open after a token.
 #[inline(always)]
 #[tactic(auto, unfolding(crate::specs::Page::open_behind))]
 pub fn is_open_behind<A: Allocator>(in_text: bool, token: &Token<A>) -> bool

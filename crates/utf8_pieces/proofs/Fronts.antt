@@ -1,4 +1,4 @@
--- What `from_utf8` says of bytes, as a text and what is cut behind it.
+-- What `from_utf8` says of bytes, as a text and what is cut after it.
 use Rattle.std.proofs.Common.{◌≡◌, ℕ, ◌+◌, ◌-◌, ◌<◌, ◌≤◌, List, [], ◌∷◌, ◌++◌, length, take, drop, None, Some, Ok, Err, refl, inl, inr, append-nil, take-add, sym, ◌∙◌, ap, subst, arith, append_assoc, take-append-drop, length-append, length-drop, length-take, true}
 use borrow.Rule.Slice.PartMut.{put_mid}
 use lib.Utf8.{scalars}
@@ -15,7 +15,7 @@ use Rattle.utf8_pieces.specs.declared.error.DecodeError.{DecodeError}
 use Rattle.utf8_pieces.specs.declared.error.DecodeError.TheVariants.{NotUtf8, Memory}
 use Rattle.utf8_pieces.proofs.Cuts.{IsCutCharacter-no_fault, no_fault-text, text_past_cut}
 
--- nothing is cut behind a whole text
+-- nothing is cut after a whole text
 pub IsCutCharacter-nil : IsCutCharacter []
 IsCutCharacter-nil = record { character = 0; rest = encode_utf8 0; scalar = refl; some = omega (arith, length-encode 0, len_utf8_bounds 0); whole = refl }
 
@@ -27,7 +27,7 @@ IsTextThenCut-whole bytes text =
       cut = subst IsCutCharacter (sym (drop_all (length bytes) bytes (omega arith))) IsCutCharacter-nil;
     }
 
--- no character stands behind the longest text
+-- no character stands after the longest text
 no_char_behind : (bytes : List ℕ) (n : ℕ) → IsValidUpTo bytes n → StartsWithNoChar (drop n bytes)
 no_char_behind bytes n valid c rest scalar is =
     let size = len_utf8_bounds c in
@@ -78,7 +78,7 @@ joined_is held bytes h ys zeros len k h_is ys_is short len_is =
       | inr full ↦ ap (λ n. take n (held ++ bytes)) (let four : len ≡ 4 = omega arith in four)
     ]
 
--- a text of the first bytes, and the bytes behind it
+-- a text of the first bytes, and the bytes after it
 pub text_and_rest : (held bytes front : List ℕ) (len n : ℕ) → take len front ≡ take 4 (held ++ bytes) → n ≤ len → n ≤ 4 → length held ≤ n
     → take n front ++ drop (n - length held) bytes ≡ held ++ bytes
 text_and_rest held bytes front len n is within four past =

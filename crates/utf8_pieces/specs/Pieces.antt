@@ -24,7 +24,7 @@ pub record IsCutCharacter (bytes : List ℕ) : Type 0 where
 abbrev pub IsNeverUtf8 : List ℕ → Type 0
 IsNeverUtf8 bytes = (later : List ℕ) → ¬ (IsUtf8 (bytes ++ later))
 
--- the place so many bytes behind another, as a `u64` counts: it stays at the greatest once there
+-- the place so many bytes after another, as a `u64` counts: it stays at the greatest once there
 abbrev pub place_behind : ℕ → ℕ → ℕ
 place_behind place count = min (place + count) (2 ^ 64 - 1)
 
@@ -34,11 +34,11 @@ pub record IsFault (place : ℕ) (bytes : List ℕ) (error : DecodeError) : Type
   pub valid : IsValidUpTo bytes valid_len
   pub named : error ≡ NotUtf8 (place_behind place valid_len)
 
--- the bytes of pieces, one behind the other
+-- the bytes of pieces, one after the other
 abbrev pub bytes_of : List (Bor (List ℕ)) → List ℕ
 bytes_of pieces = flat_map (λ piece. piece.now) pieces
 
--- the first n bytes are UTF-8, and those behind them may begin a character
+-- the first n bytes are UTF-8, and those after them may begin a character
 pub record IsTextThenCut (bytes : List ℕ) (n : ℕ) : Type 0 where
   pub within : n ≤ length bytes
   pub text : IsUtf8 (take n bytes)

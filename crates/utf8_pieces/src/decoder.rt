@@ -63,7 +63,7 @@ impl Decoder {
         ensures taken { IfOk result (λ text. self.new.taken ≡ place_behind self.old.taken
             (length (string_bytes text))) }
 
-        // What is refused, and when: bytes that nothing behind them can make UTF-8.
+        // What is refused, and when: bytes that nothing after them can make UTF-8.
         ensures fault { IfErr result (λ error. (error ≡ DecodeError.Memory)
             ⊎ IsFault self.old.taken (self.old.held ++ bytes.now) error) }
         ensures refused { IsErrAnd result (λ error. error ≢ DecodeError.Memory) ↔ IsNeverUtf8
@@ -90,7 +90,7 @@ impl Decoder {
         })
     }
 
-    // Takes a piece behind a text that stands in place of what is held.
+    // Takes a piece after a text that stands in place of what is held.
     fn decode_behind<A: Allocator + Copy>(
         &mut self,
         alloc: A,
@@ -113,7 +113,7 @@ impl Decoder {
         Ok(text)
     }
 
-    // Holds these bytes, so many bytes behind where the ones held until now stood.
+    // Holds these bytes, so many bytes after where the ones held until now stood.
     fn hold(&mut self, bytes: &[u8], given: usize)
         requires { IsCutCharacter bytes.now }
         ensures held { self.new.held ≡ bytes.now }
@@ -138,7 +138,7 @@ impl Decoder {
     }
 }
 
-/// The text of pieces, one behind the other. A character that is cut at the end is `NotUtf8`, as other
+/// The text of pieces, one after the other. A character that is cut at the end is `NotUtf8`, as other
 /// bytes that are none.
 pub fn decode_all<A: Allocator + Copy>(alloc: A, pieces: &[&[u8]]) -> Result<String<A>, DecodeError>
     ensures text { IfOk result (λ text. string_bytes text ≡ bytes_of pieces.now) }

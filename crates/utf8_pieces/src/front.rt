@@ -5,7 +5,7 @@ ghost use Rattle.utf8_pieces.specs.Pieces.{IsNeverUtf8, IsTextThenCut, place_beh
 
 use std::alloc::{AllocError, Allocator};
 
-// How many bytes at the front are text, where those behind them may begin a character. Else the place
+// How many bytes at the front are text, where those after them may begin a character. Else the place
 // where the first byte stands that belongs to no character.
 pub(crate) fn text_len(bytes: &[u8]) -> Result<usize, usize>
     ensures text { IfOk result (IsTextThenCut bytes.now) }
@@ -21,7 +21,7 @@ pub(crate) fn text_len(bytes: &[u8]) -> Result<usize, usize>
     }
 }
 
-// How many bytes at the front are text, of bytes that are all text or have a fault behind that.
+// How many bytes at the front are text, of bytes that are all text or have a fault after that.
 pub(crate) fn whole_len(bytes: &[u8]) -> usize
     ensures within { result ≤ length bytes.now }
     ensures text { IsUtf8 (take result bytes.now) }
@@ -33,7 +33,7 @@ pub(crate) fn whole_len(bytes: &[u8]) -> usize
     }
 }
 
-// How many of some bytes stand behind `held` in the first four of both.
+// How many of some bytes stand after `held` in the first four of both.
 pub(crate) fn joined_len(held: usize, bytes: &[u8]) -> usize
     requires { held ≤ 3 }
     ensures { result ≡ min 4 (held + length bytes.now) }
@@ -45,7 +45,7 @@ pub(crate) fn joined_len(held: usize, bytes: &[u8]) -> usize
     }
 }
 
-// The first four bytes of two slices, one behind the other, of which `len` are those.
+// The first four bytes of two slices, one after the other, of which `len` are those.
 pub(crate) fn joined(held: &[u8], bytes: &[u8], len: usize) -> [u8; 4]
     requires short { length held.now ≤ 3 }
     requires known { len ≡ min 4 (length held.now + length bytes.now) }
@@ -57,7 +57,7 @@ pub(crate) fn joined(held: &[u8], bytes: &[u8], len: usize) -> [u8; 4]
     front
 }
 
-// The bytes, and zeros behind them.
+// The bytes, and zeros after them.
 pub(crate) fn padded(bytes: &[u8]) -> [u8; 3]
     requires { length bytes.now ≤ 3 }
     ensures { take (length bytes.now) result ≡ bytes.now }
@@ -67,7 +67,7 @@ pub(crate) fn padded(bytes: &[u8]) -> [u8; 3]
     front
 }
 
-// Two texts, one behind the other.
+// Two texts, one after the other.
 pub(crate) fn text_of<A: Allocator>(
     alloc: A,
     first: &str,
@@ -81,7 +81,7 @@ pub(crate) fn text_of<A: Allocator>(
     Ok(text)
 }
 
-// The place so many bytes behind another.
+// The place so many bytes after another.
 pub(crate) fn place_behind(place: u64, count: usize) -> u64
     ensures { result ≡ place_behind place count }
 {
