@@ -1,7 +1,6 @@
 -- A session in its box, as the walks of the handle see it.
 use mathlib.Core.List.{[]}
 use mir.Syntax.{impl, tnil, dnil}
-use denote.RattleType.{RattleType}
 use denote.Signature.{Slot, plain}
 use Rattle.std_alloc.proofs.BoxSteps.Form.{Bx}
 use Rattle.std_heap.specs.contracts.Global as Heap

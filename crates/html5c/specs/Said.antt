@@ -1,5 +1,5 @@
 -- What the numbers of the options say.
-use Rattle.std.specs.Prelude.{◌≡◌, ◌==◌, ℕ, Bool, not, List, [], ◌∷◌, Option, None, Some, if◌then◌else◌}
+use Rattle.std.specs.Prelude.{◌==◌, ℕ, not, List, [], ◌∷◌, Option, None, Some, if◌then◌else◌}
 use Rattle.html5c.specs.declared.options.Options.{Options}
 use Rattle.html5events.specs.declared.event_sink.Replies.{Replies}
 use Rattle.html5events.specs.declared.event_sink.Replies.TheVariants as reply

@@ -3,8 +3,7 @@ use mathlib.Core.Path.{refl, sym, subst}
 use mathlib.Core.List.{List, [], ◌∷◌, ◌++◌}
 use lib.Dec.{T}
 use seplogic.Ra.Ura.{Ura}
-use mir.Val.{Val, vint, vstruct, vcons, vnil, has_ty, WT}
-use mir.Syntax.{w64}
+use mir.Val.{Val, vstruct, vcons, vnil, has_ty, WT}
 use base.Logic.{SProp, ent, emp, id⊢}
 use base.Fml.{ftrue, fsep}
 use prog.Memory.{Memory}
@@ -16,11 +15,11 @@ use contract.Running.{tables, tables_of}
 use sound.WpLaws.{WpFn-mono}
 use types.Kit.{Item, ‵, raw, ◌⊛◌, ◌$◌, ◌∵◌, !, qed, by, move, drop, use1, join, split, fsplit, fjoin, fpack, feq_i, suffices, done}
 use types.Part.{agg}
-use types.Run.{lit, no_more, and_then, of_opd, returns, enter}
+use types.Run.{lit, no_more, and_then, returns, enter}
 use types.ByLocal.{alloc_all, pass_all, free_all, look_at, get, sets}
 use denote.Exit.{yes}
 use denote.RattleType.{Valss}
-use denote.RawPtr.{Ptr, RawPtr, null_ptr, ptr_val}
+use denote.RawPtr.{RawPtr, null_ptr, ptr_val}
 use denote.Signature.{type_at}
 use denote.Steps.{nothing}
 use denote.Struct.Owning.{shape, to}
