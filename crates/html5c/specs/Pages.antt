@@ -52,6 +52,7 @@ pub record Starts (s : SessionOf) (name : List ℕ) (o : Options) : Type 0 where
   pub place : s.decoder.taken ≡ 0
   pub text : s.text ≡ []
   pub going_on : is_over s ≡ false
+  pub error_at : s.error_at ≡ None
   pub utf8 : IsUtf8 name
 
 -- there is a session, and it is at the start of a page
@@ -87,6 +88,8 @@ pub record FeedSays (old new : SessionOf) (bytes : List ℕ) (status : ℕ) : Ty
   pub no_memory : status ≡ 3 → (new ≡ old) ⊎ LosesPiece old new bytes
   pub not_utf8 : status ≡ 4 → (place : ℕ) × RefusesBytes old new bytes place
   pub over : status ≡ 7 → is_over new ≡ true
+  -- where nothing more is read, nothing changes
+  pub unchanged : is_over old ≡ true → (status ≡ 7) × (new ≡ old)
   pub only : status ≢ 5 × status ≢ 6 × status ≢ 8 × status ≢ 9
 
 pub record InsertSays (old new : SessionOf) (text : List ℕ) (status : ℕ) : Type 0 where
@@ -102,6 +105,8 @@ pub record EndSays (old new : SessionOf) (status : ℕ) : Type 0 where
   pub cut : status ≡ 5 → (new ≡ old) × (old.decoder.held ≢ [])
   pub waiting : status ≡ 6 → (new ≡ old) × (old.text ≢ [])
   pub over : status ≡ 7 → is_over new ≡ true
+  -- where nothing more is read, nothing changes
+  pub unchanged : is_over old ≡ true → (status ≡ 7) × (new ≡ old)
   pub only : (status ≡ 0) ⊎ (status ≡ 3) ⊎ (status ≡ 5) ⊎ (status ≡ 6) ⊎ (status ≡ 7)
 
 -- the next bytes of the records that wait were copied, as many as there was room for, and let go; nothing else changed
