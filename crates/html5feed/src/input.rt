@@ -122,8 +122,8 @@ fn line_feeds(text: &str) -> u64
     found
 }
 
-// How many of the bytes of a block are line feeds. It has no exit, so that all are looked at in one
-// step; as a part of the loop above it would be made many.
+// How many of the bytes of a block are line feeds. It has no exit and is no part of the loop above, so
+// that the compiler makes it one step over all of them.
 #[inline(never)]
 fn line_feeds_in_block(bytes: &[u8], from: usize) -> u64
     requires { from + 16 ≤ length bytes.now }

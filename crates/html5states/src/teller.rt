@@ -38,7 +38,7 @@ impl<S, A: Drop> Drop for Teller<'_, S, A> {
 
 impl<S: TokenSink<Token<A>>, A: Allocator + Copy> Teller<'_, S, A> {
     /// Hands the sink a token that isn't a tag, so the tokenizer keeps on. A text of several characters
-    /// is the same to a sink as each of them by itself, also where these stand on lines before.
+    /// is the same to a sink as each of them by itself, also where some of them stand on earlier lines.
     #[inline(always)]
     pub fn hand_on(&mut self, token: Token<A>) -> Result<(), TokenizerError>
         requires no_tag { is_tag (told_by token) ≡ false }
