@@ -15,6 +15,9 @@ impl Model for Count {
     ghost also_owns = { λ _. ftrue };
 }
 
+// It has no bytes, so it may be used on any thread.
+unsafe impl Send for Count {}
+
 impl Count {
     /// A count of 0.
     pub fn new() -> Count

@@ -14,6 +14,9 @@ impl Model for Log {
     ghost also_owns = { λ _. ftrue };
 }
 
+// It has no bytes, so it may be used on any thread.
+unsafe impl Send for Log {}
+
 impl Log {
     /// A log of no bytes.
     pub fn new() -> Log

@@ -60,6 +60,9 @@ impl Owned {
     }
 }
 
+// What it owns may be used on another thread, as the session may.
+unsafe impl Send for Owned {}
+
 /// What C keeps, and hands in at each call. A handle of zeros is closed: it holds nothing.
 #[repr(C)]
 #[derive(Drop)]
