@@ -45,8 +45,9 @@ shared() {
     gcc -shared -o "$out/libfirnuubal.so" -Wl,--whole-archive "$out/libhtml5c.a" -Wl,--no-whole-archive
 }
 
-tokens_in_c() {
-    gcc -std=c99 -Wall -Wextra -Werror -O2 c/examples/tokens.c "$out/libhtml5c.a" -o "$out/tokens-c"
+# Builds a program in C, which is a file of c/, and names it.
+built_in_c() {
+    gcc -std=c99 -Wall -Wextra -Werror -O2 "c/$1" "$out/libhtml5c.a" -o "$out/$2"
 }
 
 # The examples are built in out/, so that no file of cargo's stands beside the sources.
@@ -70,8 +71,10 @@ prints_as_html5tok() {
     done
 }
 
+# Whether the example and the tests in C give back all memory, and touch no other.
 leaks_nothing() {
-    valgrind --quiet --leak-check=full --error-exitcode=9 "$out/tokens-c" 7 <"$out/page.html" >/dev/null
+    valgrind --quiet --leak-check=full --error-exitcode=9 "$out/tokens-c" 7 <"$out/page.html" >/dev/null &&
+        valgrind --quiet --leak-check=full --error-exitcode=9 "$out/calls-c"
 }
 
 # The pages, and the lines of html5tok.
@@ -90,9 +93,11 @@ check "the archive" archive
 check "html5tok" pages
 if has gcc "C"; then
     check "the shared library" shared
-    check "the example in C" tokens_in_c
+    check "the example in C" built_in_c examples/tokens.c tokens-c
     check "the reader in C" prints_as_html5tok "$out/tokens-c"
-    has valgrind "its check for leaks" && check "leaks" leaks_nothing
+    check "the tests in C" built_in_c tests/calls.c calls-c
+    check "each call from C" "$out/calls-c"
+    has valgrind "the check for leaks" && check "leaks" leaks_nothing
 fi
 if has cargo "Rust"; then
     check "the example in Rust" rust build --release --example tokens

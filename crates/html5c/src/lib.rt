@@ -112,6 +112,3 @@ pub extern "C" fn html5_free(alloc: Global, h: &mut Handle)
 {
     drop(h.take(alloc));
 }
-
-#[cfg(test)]
-mod tests;
