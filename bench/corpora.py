@@ -70,7 +70,7 @@ def line(chance):
 
 
 def filled(size, part):
-    """Parts up to exactly so many bytes: what is left behind the last one is dots."""
+    """Parts up to exactly so many bytes: what is left after the last one is dots."""
     parts = []
     left = size
     while len(data := part().encode()) <= left:

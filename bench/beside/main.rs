@@ -73,13 +73,13 @@ impl Page {
     fn push_quoted_bytes(&mut self, text: &str) {
         let mut rest = text.as_bytes();
         loop {
-            let (plain, behind) = rest.split_at(plain_len(rest));
+            let (plain, after) = rest.split_at(plain_len(rest));
             self.lines.extend_from_slice(plain);
-            let Some((&byte, behind)) = behind.split_first() else {
+            let Some((&byte, after)) = after.split_first() else {
                 return;
             };
             self.push_escape(byte);
-            rest = behind;
+            rest = after;
         }
     }
 
@@ -243,9 +243,9 @@ fn feed_pieces(tokenizer: &mut Tokenizer<Page>, text: &str, cut: usize) {
     while !rest.is_empty() {
         let mut chars = rest.chars();
         chars.nth(cut - 1);
-        let (piece, behind) = rest.split_at(rest.len() - chars.as_str().len());
+        let (piece, after) = rest.split_at(rest.len() - chars.as_str().len());
         feed(tokenizer, &mut queue, StrTendril::from_slice(piece));
-        rest = behind;
+        rest = after;
     }
 }
 

@@ -7,7 +7,7 @@ use Rattle.html5ever_interface.specs.Sink.{Message, stepped}
 use Rattle.html5ever_interface.specs.Token.{Told}
 use Rattle.html5ever_interface.specs.Token.Told.{Text, Null, Error, Tag, Comment, Instruction, Doctype, End}
 use Rattle.html5sinks.specs.Runs.{Joined, Running, joined_of, joined_step, runs_step}
-use Rattle.html5stream.specs.Pages.{ReadsPage, StopsPage, runs_behind, runs_handed, runs_page, runs_start}
+use Rattle.html5stream.specs.Pages.{ReadsPage, StopsPage, runs_after, runs_handed, runs_page, runs_start}
 use Rattle.markup5ever.specs.NamedReferences.{NamedReference}
 use Rattle.html5cleaner.proofs.SameReadings.{page-same}
 use Rattle.html5write.specs.Pieces.{Piece, page_text, piece_text}
@@ -85,7 +85,7 @@ clean-handed M = clean-stepped (runs_start at_start) M refl
 
 -- a page that was read is printed as it is kept
 pub reads_printed : (names : List NamedReference) (unread left : Option (List ℕ)) (before : List ℕ) (after : Cleaning)
-    → ReadsPage (runs_behind cleaning_step names) unread left (page_start before) after
+    → ReadsPage (runs_after cleaning_step names) unread left (page_start before) after
     → ReadsPage (λ s bytes. printed_of s (page_messages names s bytes)) unread left before after.printed
 reads_printed names unread left before after read = record {
   bytes = read.bytes;

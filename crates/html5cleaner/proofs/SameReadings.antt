@@ -6,7 +6,7 @@ use Rattle.html5ever_interface.specs.Token.{Told, Reply}
 use Rattle.html5ever_interface.specs.Token.Told.{Tag}
 use Rattle.html5grammar.specs.ErrorText.{bad_character_error}
 use Rattle.html5grammar.specs.NormalisedText.{normalised, line_after}
-use Rattle.html5grammar.specs.Reading.{Brought, Here, Read, brought, end_events, events_at, last_behind, late_events, messages, open_after_reply, read_from, read, reading, read_here, with_events}
+use Rattle.html5grammar.specs.Reading.{Brought, Here, Read, brought, end_events, events_at, last_after, late_events, messages, open_after_reply, read_from, read, reading, read_here, with_events}
 use Rattle.html5grammar.specs.Reading.Here.{Tells, TellsTag}
 use Rattle.html5grammar.specs.Reading.TextPlace.{Character}
 use Rattle.html5grammar.specs.Cutting.{rest_of}
@@ -55,7 +55,7 @@ here-same first second rules K f g later s t last before c (TellsTag told tag) s
     let M : List Message = on_line line tokens in
     ap (with_events (events_at K.input before c (tokens ++ Tag tag ∷ [])))
     (later (runs_step first (stepped (runs_step first) s M) (Tag tag) line) (runs_step second (stepped (runs_step second) t M) (Tag tag) line)
-    (last_behind last tag) (cut_off (open_after_reply (last_behind last tag) (standard_reply tag))) (foreign-same first second s t M same))
+    (last_after last tag) (cut_off (open_after_reply (last_after last tag) (standard_reply tag))) (foreign-same first second s t M same))
 
 -- what a character brings and what is read after it, by the answer about foreign content
 abbrev read_more : {S : Type 0} → Steps S → Rules → Start → Running S → List ℕ → List ℕ → Slice → ℕ → List ℕ → Bool → Read

@@ -8,7 +8,7 @@ use crate::cleaner::keep_where;
 use crate::hidden::Hidden;
 use devices::{Printer, Target};
 use html5ever_interface::interface::token::{SinkFault, Token};
-use html5sinks::text_runs::RunHandler;
+use html5sinks::text_runs::TokenHandler;
 use html5write::Writer;
 use std::alloc::{Allocator, Global};
 use std::marker::Model;
@@ -81,7 +81,7 @@ impl<W: Target, A: Allocator + Copy> CleanPrinter<W, A> {
     }
 }
 
-impl<W: Target, A: Allocator + Copy> RunHandler<Token<A>> for CleanPrinter<W, A> {
+impl<W: Target, A: Allocator + Copy> TokenHandler<Token<A>> for CleanPrinter<W, A> {
     ghost use Rattle.html5cleaner.specs.Cleaning.{Cleaning, cleaning_of, cleaning_step};
 
     ghost State = { Cleaning };
@@ -90,7 +90,12 @@ impl<W: Target, A: Allocator + Copy> RunHandler<Token<A>> for CleanPrinter<W, A>
 
     ghost step = { cleaning_step };
 
-    fn take_run(&mut self, run: &str, token: Token<A>, _line_number: u64) -> Result<(), SinkFault> {
+    fn take_token(
+        &mut self,
+        run: &str,
+        token: Token<A>,
+        _line_number: u64,
+    ) -> Result<(), SinkFault> {
         let Some(depth) = self.hidden.depth_after(&token) else {
             return Err(SinkFault);
         };

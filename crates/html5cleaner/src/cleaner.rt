@@ -9,7 +9,7 @@ use crate::attributes::kept_attributes;
 use crate::hidden::Hidden;
 use crate::kept::{kept_run, kept_tag, write_kept};
 use html5ever_interface::interface::token::{SinkFault, Token};
-use html5sinks::text_runs::RunHandler;
+use html5sinks::text_runs::TokenHandler;
 use html5write::{WriteError, Writer};
 use std::alloc::{Allocator, Global};
 use std::marker::Model;
@@ -92,7 +92,7 @@ pub fn keep_where<A: Allocator + Copy>(
     keep(alloc, page, run, token)
 }
 
-impl<A: Allocator + Copy> RunHandler<Token<A>> for Cleaner<A> {
+impl<A: Allocator + Copy> TokenHandler<Token<A>> for Cleaner<A> {
     ghost use Rattle.html5cleaner.specs.Clean.{Cleaned, clean_step};
 
     ghost State = { Cleaned };
@@ -101,7 +101,12 @@ impl<A: Allocator + Copy> RunHandler<Token<A>> for Cleaner<A> {
 
     ghost step = { clean_step };
 
-    fn take_run(&mut self, run: &str, token: Token<A>, _line_number: u64) -> Result<(), SinkFault> {
+    fn take_token(
+        &mut self,
+        run: &str,
+        token: Token<A>,
+        _line_number: u64,
+    ) -> Result<(), SinkFault> {
         let Some(depth) = self.hidden.depth_after(&token) else {
             return Err(SinkFault);
         };

@@ -17,7 +17,7 @@ ghost use Rattle.html5cleaner.specs.Reading.{FollowsStandard, is_allowed_token};
 
 use html5ever_interface::interface::sink::TokenSink;
 use html5ever_interface::interface::token::Token;
-use html5sinks::text_runs::{RunHandler, TextRuns};
+use html5sinks::text_runs::{TextRuns, TokenHandler};
 use html5write::laws::{page, whole_page};
 use std::alloc::Allocator;
 
@@ -60,7 +60,7 @@ pub fn safe_addresses()
 {}
 
 /// A sink of runs of text keeps on where the standard does, whatever its handler: so a reading by any
-/// `RunHandler` is such a reading.
-pub fn runs_follow_the_standard<H: RunHandler<Token<A>>, A: Allocator>()
+/// `TokenHandler` is such a reading.
+pub fn runs_follow_the_standard<H: TokenHandler<Token<A>>, A: Allocator>()
     ensures { FollowsStandard ⟦<TextRuns<H, A> as TokenSink<Token<A>>>⟧.means.reply }
 {}

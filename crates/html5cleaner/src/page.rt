@@ -1,14 +1,14 @@
 //! Pages that are cleaned as they arrive.
 ghost use Rattle.std.specs.Prelude.{◌≡◌, ℕ, ◌+◌, Err, IfOk, OnOk, OnErr, true};
 ghost use Rattle.std.specs.List.{list_all};
-ghost use Rattle.html5stream.specs.Pages.{ReadsPage, StopsPage, runs_page, runs_handed, runs_behind};
+ghost use Rattle.html5stream.specs.Pages.{ReadsPage, StopsPage, runs_page, runs_handed, runs_after};
 ghost use Rattle.html5stream.specs.Streams.{GivesNoText, failed_reads};
 ghost use Rattle.html5cleaner.specs.Allowed.{is_clean};
 ghost use Rattle.html5cleaner.specs.Clean.{at_start, clean_step};
 
 use crate::cleaner::Cleaner;
 use devices::{ReadSource, Source};
-use html5stream::{StreamError, read_runs};
+use html5stream::{StreamError, read_tokens};
 use html5write::Writer;
 use markup5ever::data::NamedReferences;
 use std::alloc::Allocator;
@@ -20,7 +20,7 @@ pub fn clean_page<R: Source, A: Allocator + Copy>(
     source: &mut R,
     names: &NamedReferences<A>,
 ) -> (Cleaner<A>, Result<(), StreamError>)
-    ensures finishes { OnOk result.1 (ReadsPage (runs_behind clean_step names.now)
+    ensures finishes { OnOk result.1 (ReadsPage (runs_after clean_step names.now)
         (R.remaining source.old) (R.remaining source.new) at_start result.0) }
     ensures beginning { OnErr result.1 (StopsPage (runs_page clean_step names.now) (runs_handed clean_step)
         (R.remaining source.old) (R.remaining source.new) at_start result.0) }
@@ -28,7 +28,7 @@ pub fn clean_page<R: Source, A: Allocator + Copy>(
         → GivesNoText place (R.remaining source.old) (R.remaining source.new) }
     ensures read { R.failures source.new ≡ R.failures source.old + failed_reads result.1 }
 {
-    read_runs(alloc, source, Cleaner::new(alloc), names)
+    read_tokens(alloc, source, Cleaner::new(alloc), names)
 }
 
 /// What is kept of a text.
@@ -38,7 +38,7 @@ pub fn clean_text<A: Allocator + Copy>(
     names: &NamedReferences<A>,
 ) -> Result<Writer<A>, StreamError>
     ensures kept { IfOk result (λ page. page
-        ≡ (runs_behind clean_step names.now at_start text.now).pieces) }
+        ≡ (runs_after clean_step names.now at_start text.now).pieces) }
     ensures clean { IfOk result (λ page. list_all is_clean page ≡ true) }
 {
     let mut source = ReadSource::new(text.as_bytes());

@@ -1,6 +1,6 @@
 //! Pages that are cleaned and printed as they arrive.
 ghost use Rattle.std.specs.Prelude.{◌≡◌, ℕ, ◌+◌, List, Err, OnOk, OnErr, true};
-ghost use Rattle.html5stream.specs.Pages.{ReadsPage, StopsPage, runs_page, runs_handed, runs_behind};
+ghost use Rattle.html5stream.specs.Pages.{ReadsPage, StopsPage, runs_page, runs_handed, runs_after};
 ghost use Rattle.html5stream.specs.Streams.{GivesNoText, failed_reads};
 ghost use Rattle.html5ever_interface.specs.Sink.{Message};
 ghost use Rattle.std.specs.List.{list_all};
@@ -11,7 +11,7 @@ ghost use Rattle.html5cleaner.specs.Cleaning.{page_start, cleaning_of, cleaning_
 use crate::clean_printer::CleanPrinter;
 use devices::{Printer, Source, Target};
 use html5programs::Filter;
-use html5stream::{StreamError, read_runs};
+use html5stream::{StreamError, read_tokens};
 use markup5ever::data::NamedReferences;
 use std::alloc::{Allocator, Global};
 
@@ -28,7 +28,7 @@ fn read_printed<R: Source, W: Target, A: Allocator + Copy>(
     cleaner: CleanPrinter<W, A>,
     names: &NamedReferences<A>,
 ) -> (CleanPrinter<W, A>, Result<(), StreamError>)
-    ensures finishes { OnOk result.1 (ReadsPage (runs_behind cleaning_step names.now)
+    ensures finishes { OnOk result.1 (ReadsPage (runs_after cleaning_step names.now)
         (R.remaining source.old) (R.remaining source.new)
         (page_start cleaner.printer.printed) (cleaning_of result.0)) }
     ensures beginning { OnErr result.1 (StopsPage (runs_page cleaning_step names.now) (runs_handed cleaning_step)
@@ -38,7 +38,7 @@ fn read_printed<R: Source, W: Target, A: Allocator + Copy>(
         → GivesNoText place (R.remaining source.old) (R.remaining source.new) }
     ensures read { R.failures source.new ≡ R.failures source.old + failed_reads result.1 }
 {
-    read_runs(alloc, source, cleaner.at_start(), names)
+    read_tokens(alloc, source, cleaner.at_start(), names)
 }
 
 /// Reads a page, and prints as it arrives what is kept of it, after what was printed before.

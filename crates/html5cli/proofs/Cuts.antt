@@ -16,9 +16,9 @@ IsCut-start text utf8 = record { within = omega arith; rest_utf8 = utf8 }
 pub IsCut-step : (text rest : List ℕ) (len c width : ℕ) → IsUtf8 text → IsCut text len → drop len text ≡ encode_utf8 c ++ rest → width ≡ len_utf8 c
     → IsCut text (len + width) × (rest ≡ drop (len + width) text)
 IsCut-step text rest len c width utf8 cut e measured =
-    let behind : drop (len + len_utf8 c) text ≡ rest = drop_past_char text rest len c e in
+    let afterwards : drop (len + len_utf8 c) text ≡ rest = drop_past_char text rest len c e in
     let boundary : IsCharBoundary text (len + len_utf8 c) = IsCharBoundary-past_char text rest len c cut.within cut.rest_utf8 e in
-    rw measured (record { within = boundary.0; rest_utf8 = IsUtf8-drop text (len + len_utf8 c) utf8 boundary }, sym behind)
+    rw measured (record { within = boundary.0; rest_utf8 = IsUtf8-drop text (len + len_utf8 c) utf8 boundary }, sym afterwards)
 
 pub IsCut-front : (text : List ℕ) (at_byte : ℕ) → IsUtf8 text → IsCut text at_byte → IsUtf8 (take at_byte text)
 IsCut-front text at_byte utf8 cut = IsUtf8-take text at_byte utf8 (IsCharBoundary-from_drop text at_byte cut.within cut.rest_utf8)

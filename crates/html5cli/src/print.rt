@@ -101,7 +101,7 @@ fn begun_within(bytes: &[u8], from: usize) -> usize
 
 // The place after `count` characters that begin at this place or after it, or the end.
 #[inline(always)]
-fn place_behind(text: &str, from: usize, count: usize) -> usize
+fn place_after(text: &str, from: usize, count: usize) -> usize
     requires within { from ≤ length text.now }
     requires some { from ≡ 0 → 0 < count }
     ensures within { result ≤ length text.now }
@@ -135,7 +135,7 @@ fn prefix_len(text: &str, count: usize) -> usize
         left -= begun_within(bytes, len);
         len += BLOCK;
     }
-    place_behind(text, len, left)
+    place_after(text, len, left)
 }
 
 /// Feeds the text, cut into pieces of so many characters.

@@ -12,7 +12,7 @@ use Rattle.html5states.specs.Telling.{Stops}
 use Rattle.html5ever.specs.Tokenizer.{Tokenizing, StandsAt, ReadsOn, Feeds, StopsReading, StopsFeeding}
 use Rattle.html5opened.specs.declared.error.TokenizerError.{TokenizerError}
 use Rattle.html5opened.specs.declared.error.TokenizerError.TheVariants.{Memory, Sink, Failed}
-use Rattle.html5feed.proofs.Pauses.{told_beyond-behind, state_behind-append, feed-parts}
+use Rattle.html5feed.proofs.Pauses.{told_beyond-after, state_beyond-append, feed-parts}
 use Rattle.html5feed.proofs.QueueReading.{no_error}
 use Rattle.html5states.proofs.Tellings.{stops_after, stops_before}
 use Rattle.std.proofs.Common.{Result, Ok, Err, true, ◌↔◌}
@@ -22,26 +22,26 @@ module _ {X S H : Type 0} (means : Means X S H) (rules : Rules) where
   pub told_beyond-append : (K : Start) (s : S) (X A B : List ℕ)
       → told_beyond means rules K s X (A ++ B) ≡ told_beyond means rules K s X A ++ told_beyond means rules K s (X ++ A) B
   told_beyond-append K s X A B =
-      told_beyond-behind means rules K s X (A ++ B)
+      told_beyond-after means rules K s X (A ++ B)
       ∙ told-append means.step means.reply means.foreign rules (start_after means rules K s X) (state_after means rules K s X) A B
-      ∙ ap (λ M. M ++ messages_so_far means rules (start_after means rules (start_after means rules K s X) (state_after means rules K s X) A) (state_after means rules (start_after means rules K s X) (state_after means rules K s X) A) B) (sym (told_beyond-behind means rules K s X A))
+      ∙ ap (λ M. M ++ messages_so_far means rules (start_after means rules (start_after means rules K s X) (state_after means rules K s X) A) (state_after means rules (start_after means rules K s X) (state_after means rules K s X) A) B) (sym (told_beyond-after means rules K s X A))
       ∙ ap (λ M. told_beyond means rules K s X A ++ M)
       (ap (λ P. messages_so_far means rules P (state_after means rules (start_after means rules K s X) (state_after means rules K s X) A) B) (sym (after-append means.step means.reply means.foreign rules K s X A))
-      ∙ ap (λ v. messages_so_far means rules (start_after means rules K s (X ++ A)) v B) (sym (state_behind-append means rules K s X A))
-      ∙ sym (told_beyond-behind means rules K s (X ++ A) B))
+      ∙ ap (λ v. messages_so_far means rules (start_after means rules K s (X ++ A)) v B) (sym (state_beyond-append means rules K s X A))
+      ∙ sym (told_beyond-after means rules K s (X ++ A) B))
 
   -- what is told of two texts is what is told of the first, and what the second tells beyond it
   pub told-beyond : (K : Start) (s : S) (X A : List ℕ)
       → messages_so_far means rules K s (X ++ A) ≡ messages_so_far means rules K s X ++ told_beyond means rules K s X A
   told-beyond K s X A =
-      told-append means.step means.reply means.foreign rules K s X A ∙ ap (λ M. messages_so_far means rules K s X ++ M) (sym (told_beyond-behind means rules K s X A))
+      told-append means.step means.reply means.foreign rules K s X A ∙ ap (λ M. messages_so_far means rules K s X ++ M) (sym (told_beyond-after means rules K s X A))
 
   -- the state after more text
   pub state-beyond : (K : Start) (s : S) (X A : List ℕ)
       → state_after means rules K s (X ++ A) ≡ stepped means.step (state_after means rules K s X) (told_beyond means rules K s X A)
   state-beyond K s X A =
-      state_behind-append means rules K s X A
-      ∙ ap (stepped means.step (state_after means rules K s X)) (sym (told_beyond-behind means rules K s X A))
+      state_beyond-append means rules K s X A
+      ∙ ap (stepped means.step (state_after means rules K s X)) (sym (told_beyond-after means rules K s X A))
 
 module _ {X S H : Type 0} (means : Means X S H) where
   -- the tokenizer read on over a front of the queue's text

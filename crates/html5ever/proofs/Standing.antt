@@ -12,8 +12,8 @@ use Rattle.html5grammar.proofs.ReadingLemmas.{told-nil, told-append, after-nil, 
 use Rattle.html5ever_interface.proofs.Steppings.{stepped-append}
 use Rattle.html5grammar.proofs.Traces.{messages-append}
 use Rattle.html5feed.specs.Feed.{pauses, reply_in, told_beyond, told_at_end, feed}
-use Rattle.html5feed.specs.Refused.{IsItem, RefusedBehind}
-use Rattle.html5feed.proofs.Pauses.{told_beyond-behind, state_behind-append, feed-anew, feed-done, feed-shorter, reply_in-pauses}
+use Rattle.html5feed.specs.Refused.{IsItem, RefusedAfter}
+use Rattle.html5feed.proofs.Pauses.{told_beyond-after, state_beyond-append, feed-anew, feed-done, feed-shorter, reply_in-pauses}
 use Rattle.markup5ever.specs.declared.tokenizer_result.TokenizerResult.{TokenizerResult}
 use Rattle.markup5ever.specs.declared.tokenizer_result.TokenizerResult.TheVariants.{Done, Script, EncodingIndicator}
 use Rattle.std.specs.Prelude.{Result, Ok, Err, OnOk, IfOk, IfErr, is_err, ◌≢◌}
@@ -130,7 +130,7 @@ module _ {X S H : Type 0} (means : Means X S H) where
       → Stops means.step means.faulted e (means.state t.sink) (messages_so_far means t.rules t.position (means.state t.sink) more) v
       → Stops means.step means.faulted e (means.state t.sink) (told_beyond means t.rules K s text more) v
   Stops-beyond e t K s v text more stands stops =
-      rw (told_beyond-behind means t.rules K s text more, ← stands.told, ← stands.position) stops
+      rw (told_beyond-after means t.rules K s text more, ← stands.told, ← stands.position) stops
 
   -- the end of a text
   pub StandsAt-finished : (t : Tokenizing X) (K : Start) (s : S) (text : List ℕ) (v : S) → t.position.input.line < 2 ^ 64
@@ -157,33 +157,33 @@ module _ {X S H : Type 0} (means : Means X S H) where
 
 module _ {X S H : Type 0} (means : Means X S H) where
   -- what a refused feed leaves is told by where the tokenizer stands
-  RefusedBehind-stands : (e : TokenizerError) (t : Tokenizing X) (queue left : List ℕ) (v : S)
-      → RefusedBehind means t.rules e t.position (means.state t.sink) [] queue left v
+  RefusedAfter-stands : (e : TokenizerError) (t : Tokenizing X) (queue left : List ℕ) (v : S)
+      → RefusedAfter means t.rules e t.position (means.state t.sink) [] queue left v
       → (K : Start) (s : S) (text : List ℕ) → StandsAt means t K s text
-      → RefusedBehind means t.rules e K s text queue left v
-  RefusedBehind-stands e t queue left v r K s text stands =
+      → RefusedAfter means t.rules e K s text queue left v
+  RefusedAfter-stands e t queue left v r K s text stands =
       let position : start_after means t.rules t.position (means.state t.sink) r.front ≡ start_after means t.rules K s (text ++ r.front) =
       rw (stands.position, stands.told) (sym (after-append means.step means.reply means.foreign t.rules K s text r.front)) in
-      let behind : stepped means.step (means.state t.sink) (messages_so_far means t.rules t.position (means.state t.sink) r.front)
+      let afterwards : stepped means.step (means.state t.sink) (messages_so_far means t.rules t.position (means.state t.sink) r.front)
       ≡ state_after means t.rules K s (text ++ r.front) =
-      rw (stands.position, stands.told) (sym (state_behind-append means t.rules K s text r.front)) in
+      rw (stands.position, stands.told) (sym (state_beyond-append means t.rules K s text r.front)) in
       record {
         front = r.front;
         item = r.item;
         parts = r.parts;
         is_item = subst (λ P. IsItem t.rules P r.item) position r.is_item;
-        stopped = rw (told_beyond-behind means t.rules K s (text ++ r.front) r.item, ← behind, ← position)
-            (rw (told_beyond-behind means t.rules t.position (means.state t.sink) r.front r.item) at r.stopped);
+        stopped = rw (told_beyond-after means t.rules K s (text ++ r.front) r.item, ← afterwards, ← position)
+            (rw (told_beyond-after means t.rules t.position (means.state t.sink) r.front r.item) at r.stopped);
       }
 
   pub StopsFeeding-read : {T : Type 0} → (r : Result T TokenizerError) (t : Tokenizing X) (queue left : List ℕ) (v : S)
       → Tells means.step means.faulted r (means.state t.sink) (messages_so_far means t.rules t.position (means.state t.sink) (feed means t.rules t.position (means.state t.sink) [] queue).taken) v
-      → IfErr r (λ e. RefusedBehind means t.rules e t.position (means.state t.sink) [] queue left v)
+      → IfErr r (λ e. RefusedAfter means t.rules e t.position (means.state t.sink) [] queue left v)
       → IfErr r (λ e. StopsFeeding means e t queue left v)
   StopsFeeding-read (Ok x) t queue left v tells refused = tt
   StopsFeeding-read (Err e) t queue left v tells refused = λ K s text stands. record {
     stops = rw (feed-stands means t K s text queue stands) (Stops-beyond means e t K s v text _ stands tells);
-    refused = RefusedBehind-stands e t queue left v refused K s text stands;
+    refused = RefusedAfter-stands e t queue left v refused K s text stands;
   }
 
   -- an answer `Done` leaves nothing, and every other one less than there was

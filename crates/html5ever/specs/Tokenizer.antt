@@ -7,7 +7,7 @@ use Rattle.html5grammar.specs.Reading.{all_messages, state_after, start_after}
 use Rattle.html5grammar.specs.Start.{Start, Rules, start_of, is_clean}
 use Rattle.html5items.specs.Items.{ToldItems, FinishedItems}
 use Rattle.html5feed.specs.Feed.{Feed, told_beyond, told_at_end, feed}
-use Rattle.html5feed.specs.Refused.{RefusedBehind}
+use Rattle.html5feed.specs.Refused.{RefusedAfter}
 use Rattle.html5states.specs.Telling.{Stops, StopsWithin, FaultsWithin}
 use Rattle.html5opened.specs.declared.error.TokenizerError.{TokenizerError}
 use Rattle.html5opened.specs.declared.error.TokenizerError.TheVariants.{Memory, Sink, Failed}
@@ -124,7 +124,7 @@ module _ {X S H : Type 0} (means : Means X S H) where
     -- it stopped within what it would have told, and so before any pause
     pub stops : Stops means.step means.faulted e (means.state t.sink) (told_beyond means t.rules K s text fed.taken) v
     -- a beginning of the queue's text is gone: all that it tells was told, but for the last item, within which the feed stopped
-    pub refused : RefusedBehind means t.rules e K s text queue left v
+    pub refused : RefusedAfter means t.rules e K s text queue left v
 
   -- from wherever it stood, the tokenizer was refused a feed of a queue's text: it stopped within that, and `left` waits
   abbrev pub StopsFeeding : TokenizerError → Tokenizing X → List ℕ → List ℕ → S → Type 0

@@ -44,7 +44,7 @@ pub use html5ever_interface::options::TokenizerOpts;
 pub use html5opened::error::TokenizerError;
 pub use html5sinks::replies;
 pub use html5sinks::tags::{ReplyingTagHandler, SaysTag, TagHandler, TagsOnly};
-pub use html5sinks::text_runs::{ReplyingRunHandler, RunHandler, TextRuns};
+pub use html5sinks::text_runs::{ReplyingTokenHandler, TextRuns, TokenHandler};
 pub use markup5ever::buffer_queue::SetResult::{FromSet, NotFromSet};
 pub use markup5ever::buffer_queue::{BufferQueue, SetResult};
 pub use markup5ever::data::{NamedReferences, TableError};

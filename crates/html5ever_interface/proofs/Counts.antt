@@ -41,8 +41,8 @@ module _ {X : Type 0} (test : X → X → Bool) (decides : (x y : X) → Decides
   occurs-cons x y ys false here later some =
       let counted : 0 < cond false 1 0 + count_equal test ys x =
       subst (λ b. 0 < cond b 1 0 + count_equal test ys x) here (subst (λ n. 0 < n) (count_equal-cons x y ys) some) in
-      let behind : Occurs x ys = later (omega arith) in
-      record { front = y ∷ behind.front; back = behind.back; parts = ap (λ zs. y ∷ zs) behind.parts }
+      let afterwards : Occurs x ys = later (omega arith) in
+      record { front = y ∷ afterwards.front; back = afterwards.back; parts = ap (λ zs. y ∷ zs) afterwards.parts }
 
   occurs : (x : X) (xs : List X) → 0 < count_equal test xs x → Occurs x xs
   occurs x [] some = absurd (omega arith)

@@ -35,9 +35,9 @@ opens StartTag name = is_skipped name
 opens EndTag name = false
 
 -- whether after a token one is open
-abbrev pub within_behind : Bool → Told → Bool
-within_behind within (Tag tag) = opens tag.kind tag.name
-within_behind within other = within
+abbrev pub within_after : Bool → Told → Bool
+within_after within (Tag tag) = opens tag.kind tag.name
+within_after within other = within
 
 -- what is printed of a run of text
 abbrev pub shown : Bool → List ℕ → List ℕ
@@ -45,4 +45,4 @@ shown within run = if within then [] else run
 
 -- a run and the token after it
 abbrev pub text_step : Reading → List ℕ → Told → ℕ → Reading
-text_step s run told line = record { printed = s.printed ++ shown s.within run; within = within_behind s.within told }
+text_step s run told line = record { printed = s.printed ++ shown s.within run; within = within_after s.within told }

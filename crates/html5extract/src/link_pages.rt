@@ -1,6 +1,6 @@
 //! Pages whose links are printed as they arrive.
 ghost use Rattle.std.specs.Prelude.{◌≡◌, ℕ, ◌+◌, Err, OnOk, OnErr};
-ghost use Rattle.html5stream.specs.Pages.{ReadsPage, StopsPage, tags_page, tags_handed, tags_behind};
+ghost use Rattle.html5stream.specs.Pages.{ReadsPage, StopsPage, tags_page, tags_handed, tags_after};
 ghost use Rattle.html5stream.specs.Streams.{GivesNoText, failed_reads};
 ghost use Rattle.html5extract.specs.Links.{links_step};
 
@@ -18,7 +18,7 @@ pub fn read_links<R: Source, W: Target, A: Allocator + Copy>(
     links: Links<W, A>,
     names: &NamedReferences<A>,
 ) -> (Links<W, A>, Result<(), StreamError>)
-    ensures finishes { OnOk result.1 (ReadsPage (tags_behind links_step names.now)
+    ensures finishes { OnOk result.1 (ReadsPage (tags_after links_step names.now)
         (R.remaining source.old) (R.remaining source.new)
         links.printer.printed result.0.printer.printed) }
     ensures beginning { OnErr result.1 (StopsPage (tags_page links_step names.now) (tags_handed links_step)

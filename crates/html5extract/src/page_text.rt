@@ -1,11 +1,11 @@
 //! The text of a page, without its scripts and styles.
 ghost use Rattle.std.specs.Prelude.{◌≡◌, ◌++◌, false, OnOk, OnErr};
 ghost use Rattle.html5ever_interface.specs.Token.{told_by};
-ghost use Rattle.html5extract.specs.PageText.{is_skipped, within_behind, shown};
+ghost use Rattle.html5extract.specs.PageText.{is_skipped, within_after, shown};
 
 use devices::{Printer, Target};
 use html5ever_interface::interface::token::{SinkFault, TagKind, Token};
-use html5sinks::text_runs::RunHandler;
+use html5sinks::text_runs::TokenHandler;
 use std::alloc::{Allocator, Global};
 use std::marker::Model;
 
@@ -18,8 +18,8 @@ fn is_skipped(name: &str) -> bool
 }
 
 // Whether after a token a script or a style is open.
-fn is_within_behind<A: Allocator>(within: bool, token: &Token<A>) -> bool
-    ensures { result ≡ within_behind within (told_by token.now) }
+fn is_within_after<A: Allocator>(within: bool, token: &Token<A>) -> bool
+    ensures { result ≡ within_after within (told_by token.now) }
 {
     let Token::TagToken(tag) = token else {
         return within;
@@ -89,7 +89,7 @@ impl<W: Target, A: Allocator> PageText<W, A> {
     }
 }
 
-impl<W: Target, A: Allocator> RunHandler<Token<A>> for PageText<W, A> {
+impl<W: Target, A: Allocator> TokenHandler<Token<A>> for PageText<W, A> {
     ghost use Rattle.html5extract.specs.PageText.{Reading, reading_of, text_step};
 
     ghost State = { Reading };
@@ -98,10 +98,15 @@ impl<W: Target, A: Allocator> RunHandler<Token<A>> for PageText<W, A> {
 
     ghost step = { text_step };
 
-    fn take_run(&mut self, run: &str, token: Token<A>, _line_number: u64) -> Result<(), SinkFault> {
+    fn take_token(
+        &mut self,
+        run: &str,
+        token: Token<A>,
+        _line_number: u64,
+    ) -> Result<(), SinkFault> {
         match self.show(run) {
             Ok(()) => {
-                self.within = is_within_behind(self.within, &token);
+                self.within = is_within_after(self.within, &token);
                 Ok(())
             }
             Err(SinkFault) => Err(SinkFault),

@@ -1,13 +1,13 @@
 //! Pages whose text is printed as it arrives.
 ghost use Rattle.std.specs.Prelude.{◌≡◌, ℕ, ◌+◌, Err, OnOk, OnErr};
-ghost use Rattle.html5stream.specs.Pages.{ReadsPage, StopsPage, runs_page, runs_handed, runs_behind};
+ghost use Rattle.html5stream.specs.Pages.{ReadsPage, StopsPage, runs_page, runs_handed, runs_after};
 ghost use Rattle.html5stream.specs.Streams.{GivesNoText, failed_reads};
 ghost use Rattle.html5extract.specs.PageText.{at_start, reading_of, text_step};
 
 use crate::page_text::PageText;
 use devices::{Printer, Source, Target};
 use html5programs::Filter;
-use html5stream::{StreamError, read_runs};
+use html5stream::{StreamError, read_tokens};
 use markup5ever::data::NamedReferences;
 use std::alloc::{Allocator, Global};
 
@@ -18,7 +18,7 @@ pub fn read_text<R: Source, W: Target, A: Allocator + Copy>(
     text: PageText<W, A>,
     names: &NamedReferences<A>,
 ) -> (PageText<W, A>, Result<(), StreamError>)
-    ensures finishes { OnOk result.1 (ReadsPage (runs_behind text_step names.now)
+    ensures finishes { OnOk result.1 (ReadsPage (runs_after text_step names.now)
         (R.remaining source.old) (R.remaining source.new)
         (at_start text.printer.printed) (reading_of result.0)) }
     ensures beginning { OnErr result.1 (StopsPage (runs_page text_step names.now) (runs_handed text_step)
@@ -28,7 +28,7 @@ pub fn read_text<R: Source, W: Target, A: Allocator + Copy>(
         → GivesNoText place (R.remaining source.old) (R.remaining source.new) }
     ensures read { R.failures source.new ≡ R.failures source.old + failed_reads result.1 }
 {
-    read_runs(alloc, source, text.at_start(), names)
+    read_tokens(alloc, source, text.at_start(), names)
 }
 
 impl<W: Target + Drop> Filter<W> for PageText<W> {

@@ -14,7 +14,7 @@ use Rattle.html5ever_interface.specs.declared.states.State.{State}
 use Rattle.html5ever_interface.specs.declared.states.State.TheVariants as state
 use Rattle.html5grammar.specs.Cdata.{open_cdata}
 use Rattle.html5grammar.specs.ErrorText.{bad_character_error}
-use Rattle.html5grammar.specs.Reading.{Here, last_behind, open_after_reply}
+use Rattle.html5grammar.specs.Reading.{Here, last_after, open_after_reply}
 use Rattle.html5grammar.specs.Reading.Here.{Tells, TellsTag}
 use Rattle.html5grammar.specs.Start.{Open, Rules, held_len}
 use Rattle.html5grammar.specs.Start.Mode.{Data}
@@ -24,8 +24,8 @@ use Rattle.html5grammar.specs.Machine.{step_at, messages_here, opened_here, last
 use Rattle.html5ever_interface.proofs.Steppings.{stepped-append}
 use Rattle.html5ever_interface.specs.Token.{DoctypeOf}
 use Rattle.std.proofs.Common.{◌≤◌, ◌≢◌}
-use Rattle.html5opened.specs.CurrentTag.{open_of, is_between, behind_doctype_name, last_name_of}
-use Rattle.html5opened.specs.Steps.{tokens_of, Next, behind}
+use Rattle.html5opened.specs.CurrentTag.{open_of, is_between, after_doctype_name, last_name_of}
+use Rattle.html5opened.specs.Steps.{tokens_of, Next, afterwards}
 use Rattle.html5opened.specs.Steps.Next.{Opens, Closes}
 use Rattle.html5opened.specs.declared.opened.Opened.{Opened}
 use Rattle.html5opened.specs.declared.error.TokenizerError.{TokenizerError}
@@ -42,10 +42,10 @@ use Rattle.std.specs.Result.{IsErrAnd}
 use Rattle.std.proofs.lemmas.Result.{err_from_is_err_and}
 
 -- after a character that was read at most that one is held
-pub held_len-behind : (h : Here Open) (later : Open) → HoldsAtMostOne h → Opens later ≡ behind h → held_len later ≤ 1
-unfolding behind
-held_len-behind (Tells told opened) later one is = let same : later ≡ opened = cc in rw same one
-held_len-behind (TellsTag told tag) later one is = cc
+pub held_len-after : (h : Here Open) (later : Open) → HoldsAtMostOne h → Opens later ≡ afterwards h → held_len later ≤ 1
+unfolding afterwards
+held_len-after (Tells told opened) later one is = let same : later ≡ opened = cc in rw same one
+held_len-after (TellsTag told tag) later one is = cc
 
 -- the tag that is told last, where one ends
 abbrev pub tag_in : Next → List Told
@@ -53,30 +53,30 @@ tag_in (Opens later) = []
 tag_in (Closes tag later) = Tag tag ∷ []
 
 -- what is open after a character, in the sink's state before that tag
-abbrev pub open_behind : {S H : Type 0} → (S → Told → ℕ → Reply H) → S → ℕ → List ℕ → Next → Open
-open_behind reply s line last (Opens later) = later
-open_behind reply s line last (Closes tag later) = open_after_reply (last_behind last tag) (reply s (Tag tag) line)
+abbrev pub open_after : {S H : Type 0} → (S → Told → ℕ → Reply H) → S → ℕ → List ℕ → Next → Open
+open_after reply s line last (Opens later) = later
+open_after reply s line last (Closes tag later) = open_after_reply (last_after last tag) (reply s (Tag tag) line)
 
 -- the last start tag after a character
 abbrev pub last_in : List ℕ → Next → List ℕ
 last_in last (Opens later) = last
-last_in last (Closes tag later) = last_behind last tag
+last_in last (Closes tag later) = last_after last tag
 
-pub last_here-behind : (last : List ℕ) (h : Here Open) → last_here last h ≡ last_in last (behind h)
-unfolding last_here behind
-last_here-behind last (Tells told later) = refl
-last_here-behind last (TellsTag told tag) = refl
+pub last_here-after : (last : List ℕ) (h : Here Open) → last_here last h ≡ last_in last (afterwards h)
+unfolding last_here afterwards
+last_here-after last (Tells told later) = refl
+last_here-after last (TellsTag told tag) = refl
 
 -- after a tag Data goes on, unless the reply to it chooses
-pub closes-open : (h : Here Open) (tag : TagOf) (later : Open) → Closes tag later ≡ behind h → later ≡ Between Data
-unfolding behind
+pub closes-open : (h : Here Open) (tag : TagOf) (later : Open) → Closes tag later ≡ afterwards h → later ≡ Between Data
+unfolding afterwards
 closes-open (Tells told opened) tag later e = cc
 closes-open (TellsTag told ended) tag later e = cc
 
 -- in Data nothing of a tag is open, nor of raw text
-behind_name≢data : (held : List ℕ) (d : DoctypeOf) → behind_doctype_name held d ≢ Between Data
-behind_name≢data [] d = λ e. cc
-behind_name≢data (c ∷ held) d = λ e. cc
+after_name≢data : (held : List ℕ) (d : DoctypeOf) → after_doctype_name held d ≢ Between Data
+after_name≢data [] d = λ e. cc
+after_name≢data (c ∷ held) d = λ e. cc
 
 -- no text of a section is held where there are no bytes of it
 section-filled : (held : List ℕ) → held ≢ [] → is_between state.CdataSection held ≡ false
@@ -123,7 +123,7 @@ data-any_tag state.ProcessingInstruction at later e = cc
 data-any_tag state.Doctype at later e = cc
 data-any_tag state.BeforeDoctypeName at later e = cc
 data-any_tag state.DoctypeName at later e = cc
-data-any_tag state.AfterDoctypeName at later e = absurd (behind_name≢data _ _ e)
+data-any_tag state.AfterDoctypeName at later e = absurd (after_name≢data _ _ e)
 data-any_tag (state.AfterDoctypeKeyword kind) at later e = cc
 data-any_tag (state.BeforeDoctypeIdentifier kind) at later e = cc
 data-any_tag (state.DoctypeIdentifierDoubleQuoted kind) at later e = cc
@@ -143,7 +143,7 @@ ended_stops Z means r Sink now next s u line tokens h ends stop = told_stop mean
 ended_stops Z means r Failed now next s u line tokens h ends stop = absurd ends
 
 pub ended_leads : {S H T : Type 0} (Z : Type 0) (reply : S → Told → ℕ → Reply H) (r : Result T TokenizerError) (e : TokenizerError) (now : Opened Z) (then_open : Open) (next : Next) (t : S) (line : ℕ) (last : List ℕ)
-    → IsErrAnd r (λ x. x ≡ e) → Ends {Z = Z} (Err e) now next → Leads r then_open (open_behind reply t line last next)
+    → IsErrAnd r (λ x. x ≡ e) → Ends {Z = Z} (Err e) now next → Leads r then_open (open_after reply t line last next)
 ended_leads Z reply r Memory now later next t line last h ends = let p = err_from_is_err_and r h in rw (p.1, p.2) tt
 ended_leads Z reply r Sink now later next t line last h ends = let p = err_from_is_err_and r h in rw (p.1, p.2) tt
 ended_leads Z reply r Failed now later next t line last h ends = absurd ends
@@ -171,43 +171,43 @@ module _ {X S H : Type 0} (means : Means X S H) (rules : Rules) where
 
   -- a tag that ends is told last
   messages-tokens : (line d : ℕ) (h : Here Open)
-      → messages_here means.step means.reply rules line d h ≡ on_line line ((bad_character_error rules.exact d ++ tokens_of h) ++ tag_in (behind h))
-  unfolding messages_here tokens_of behind
+      → messages_here means.step means.reply rules line d h ≡ on_line line ((bad_character_error rules.exact d ++ tokens_of h) ++ tag_in (afterwards h))
+  unfolding messages_here tokens_of afterwards
   messages-tokens line d (Tells told later) = ap (on_line line) (sym (append-nil (bad_character_error rules.exact d ++ told)))
   messages-tokens line d (TellsTag told tag) = refl
 
   -- the reply to a tag is asked after all that was told before
-  opened-behind : (s : S) (line : ℕ) (last : List ℕ) (d : ℕ) (h : Here Open)
-      → opened_here means.step means.reply rules s line last d h ≡ open_behind means.reply (stepped means.step s (on_line line (bad_character_error rules.exact d ++ tokens_of h))) line last (behind h)
-  unfolding opened_here tokens_of behind
-  opened-behind s line last d (Tells told later) = refl
-  opened-behind s line last d (TellsTag told tag) = refl
+  opened-after : (s : S) (line : ℕ) (last : List ℕ) (d : ℕ) (h : Here Open)
+      → opened_here means.step means.reply rules s line last d h ≡ open_after means.reply (stepped means.step s (on_line line (bad_character_error rules.exact d ++ tokens_of h))) line last (afterwards h)
+  unfolding opened_here tokens_of afterwards
+  opened-after s line last d (Tells told later) = refl
+  opened-after s line last d (TellsTag told tag) = refl
 
   -- a character in a state
   module _ {Z : Type 0} (now : State) (at : Opened Z) (s : S) (line d : ℕ) where
     abbrev told_here : List Message
     told_here = messages_here means.step means.reply rules line d (step_at rules.exact (open_of now at) d)
 
-    abbrev behind_here : Open
-    behind_here = opened_here means.step means.reply rules s line (last_name_of at) d (step_at rules.exact (open_of now at) d)
+    abbrev after_here : Open
+    after_here = opened_here means.step means.reply rules s line (last_name_of at) d (step_at rules.exact (open_of now at) d)
 
-    after-character : behind_here
-        ≡ open_behind means.reply (stepped means.step s (on_line line (bad_character_error rules.exact d ++ tokens_of (step_at rules.exact (open_of now at) d)))) line (last_name_of at) (behind (step_at rules.exact (open_of now at) d))
-    after-character = opened-behind s line (last_name_of at) d (step_at rules.exact (open_of now at) d)
+    after-character : after_here
+        ≡ open_after means.reply (stepped means.step s (on_line line (bad_character_error rules.exact d ++ tokens_of (step_at rules.exact (open_of now at) d)))) line (last_name_of at) (afterwards (step_at rules.exact (open_of now at) d))
+    after-character = opened-after s line (last_name_of at) d (step_at rules.exact (open_of now at) d)
 
     -- the bad character, the tokens of its state and then the tag that it ends, told by calls
     abbrev here_tokens : List Told
     here_tokens = bad_character_error rules.exact d ++ tokens_of (step_at rules.exact (open_of now at) d)
 
     abbrev next : Next
-    next = behind (step_at rules.exact (open_of now at) d)
+    next = afterwards (step_at rules.exact (open_of now at) d)
 
     whole-told : told_here ≡ on_line line (here_tokens ++ tag_in next)
     whole-told = messages-tokens line d (step_at rules.exact (open_of now at) d)
 
-    whole-opened : (u : S) → u ≡ stepped means.step s (on_line line here_tokens) → behind_here ≡ open_behind means.reply u line (last_name_of at) next
+    whole-opened : (u : S) → u ≡ stepped means.step s (on_line line here_tokens) → after_here ≡ open_after means.reply u line (last_name_of at) next
     whole-opened u e =
-        after-character ∙ ap (λ v. open_behind means.reply v line (last_name_of at) next) (sym e)
+        after-character ∙ ap (λ v. open_after means.reply v line (last_name_of at) next) (sym e)
 
     module _ (t u : S) (bad_told : t ≡ stepped means.step s (on_line line (bad_character_error rules.exact d))) where
       both-told : u ≡ stepped means.step t (on_line line (tokens_of (step_at rules.exact (open_of now at) d))) → u ≡ stepped means.step s (on_line line here_tokens)
@@ -225,15 +225,15 @@ module _ {X S H : Type 0} (means : Means X S H) (rules : Rules) where
 
       pub opened-ended : (told_tag : TagOf) (later : Open)
           → u ≡ stepped means.step t (on_line line (tokens_of (step_at rules.exact (open_of now at) d))) → Closes told_tag later ≡ next
-          → open_after_reply (last_behind (last_name_of at) told_tag) (means.reply u (Tag told_tag) line) ≡ behind_here
-      opened-ended told_tag later e is = ap (open_behind means.reply u line (last_name_of at)) is ∙ sym (whole-opened u (both-told e))
+          → open_after_reply (last_after (last_name_of at) told_tag) (means.reply u (Tag told_tag) line) ≡ after_here
+      opened-ended told_tag later e is = ap (open_after means.reply u line (last_name_of at)) is ∙ sym (whole-opened u (both-told e))
 
       pub last-ended : (told_tag : TagOf) (later : Open) → Closes told_tag later ≡ next
-          → last_behind (last_name_of at) told_tag ≡ last_here (last_name_of at) (step_at rules.exact (open_of now at) d)
-      last-ended told_tag later is = ap (last_in (last_name_of at)) is ∙ sym (last_here-behind (last_name_of at) (step_at rules.exact (open_of now at) d))
+          → last_after (last_name_of at) told_tag ≡ last_here (last_name_of at) (step_at rules.exact (open_of now at) d)
+      last-ended told_tag later is = ap (last_in (last_name_of at)) is ∙ sym (last_here-after (last_name_of at) (step_at rules.exact (open_of now at) d))
 
       pub last-going : (later : Open) → Opens later ≡ next → last_name_of at ≡ last_here (last_name_of at) (step_at rules.exact (open_of now at) d)
-      last-going later is = ap (last_in (last_name_of at)) is ∙ sym (last_here-behind (last_name_of at) (step_at rules.exact (open_of now at) d))
+      last-going later is = ap (last_in (last_name_of at)) is ∙ sym (last_here-after (last_name_of at) (step_at rules.exact (open_of now at) d))
 
       pub pause-ended : ((s : S) (told : Told) (line : ℕ) → is_tag told ≡ false → means.reply s told line ≡ KeepOn)
           → (told_tag : TagOf) (later : Open)
@@ -255,8 +255,8 @@ module _ {X S H : Type 0} (means : Means X S H) (rules : Rules) where
 
       pub opened-going : (later : Open)
           → u ≡ stepped means.step t (on_line line (tokens_of (step_at rules.exact (open_of now at) d))) → Opens later ≡ next
-          → later ≡ behind_here
-      opened-going later e is = ap (open_behind means.reply u line (last_name_of at)) is ∙ sym (whole-opened u (both-told e))
+          → later ≡ after_here
+      opened-going later e is = ap (open_after means.reply u line (last_name_of at)) is ∙ sym (whole-opened u (both-told e))
 
       pub pause-going : ((s : S) (told : Told) (line : ℕ) → is_tag told ≡ false → means.reply s told line ≡ KeepOn)
           → (later : Open) → Opens later ≡ next
@@ -277,7 +277,7 @@ module _ {X S H : Type 0} (means : Means X S H) (rules : Rules) where
           (ended_stops Z means r e opened next t u line (tokens_of (step_at rules.exact (open_of now at) d)) h ends stop))
 
     pub leads-refused : {T : Type 0} (Z : Type 0) (r : Result T TokenizerError) (e : TokenizerError) (opened : Opened Z) (later : Open)
-        → IsErrAnd r (λ x. x ≡ e) → Ends {Z = Z} (Err e) opened next → Leads r later behind_here
+        → IsErrAnd r (λ x. x ≡ e) → Ends {Z = Z} (Err e) opened next → Leads r later after_here
     leads-refused Z r e opened later h ends =
         rw (whole-opened (stepped means.step s (on_line line here_tokens)) refl)
         (ended_leads Z means.reply r e opened later next (stepped means.step s (on_line line here_tokens)) line (last_name_of at) h ends)

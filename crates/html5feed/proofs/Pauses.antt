@@ -101,9 +101,9 @@ up_to_pause-shorter false r c text rest h e = rw (up_to_pause-goes_on r c text r
 
 module _ {X S H : Type 0} (means : Means X S H) (rules : Rules) where
   -- what is told beyond X is what the rest tells from the start after X
-  pub told_beyond-behind : (K : Start) (s : S) (X Z : List ℕ)
+  pub told_beyond-after : (K : Start) (s : S) (X Z : List ℕ)
       → told_beyond means rules K s X Z ≡ messages_so_far means rules (start_after means rules K s X) (state_after means rules K s X) Z
-  told_beyond-behind K s X Z =
+  told_beyond-after K s X Z =
       ap (drop (length (messages_so_far means rules K s X))) (told-append means.step means.reply means.foreign rules K s X Z)
       ∙ drop-append_seam (messages_so_far means rules K s X) (messages_so_far means rules (start_after means rules K s X) (state_after means rules K s X) Z)
 
@@ -111,39 +111,39 @@ module _ {X S H : Type 0} (means : Means X S H) (rules : Rules) where
   unfoldable pub pause_here : Start → S → ℕ → Reply H
   pause_here K s c = first_pause means s (messages_so_far means rules K s (c ∷ []))
 
-  pub pause_at-behind : (K : Start) (s : S) (X : List ℕ) (c : ℕ)
+  pub pause_at-after : (K : Start) (s : S) (X : List ℕ) (c : ℕ)
       → pause_at means rules K s X c ≡ pause_here (start_after means rules K s X) (state_after means rules K s X) c
   unfolding pause_here
-  pause_at-behind K s X c = ap (first_pause means (state_after means rules K s X)) (told_beyond-behind K s X (c ∷ []))
+  pause_at-after K s X c = ap (first_pause means (state_after means rules K s X)) (told_beyond-after K s X (c ∷ []))
 
   -- the state after two texts
-  pub state_behind-append : (K : Start) (s : S) (X Y : List ℕ)
+  pub state_beyond-append : (K : Start) (s : S) (X Y : List ℕ)
       → state_after means rules K s (X ++ Y)
       ≡ state_after means rules (start_after means rules K s X) (state_after means rules K s X) Y
-  state_behind-append K s X Y =
+  state_beyond-append K s X Y =
       ap (stepped means.step s) (told-append means.step means.reply means.foreign rules K s X Y) ∙ stepped-append means.step s _ _
 
   -- a feed after two texts is one after the second, from the start after the first
-  pub feed-behind : (K : Start) (s : S) (X Y Q : List ℕ)
+  pub feed-after : (K : Start) (s : S) (X Y Q : List ℕ)
       → feed means rules K s (X ++ Y) Q
       ≡ feed means rules (start_after means rules K s X) (state_after means rules K s X) Y Q
   unfolding feed
-  feed-behind K s X Y [] = refl
-  feed-behind K s X Y (c ∷ Q) =
+  feed-after K s X Y [] = refl
+  feed-after K s X Y (c ∷ Q) =
       let here : pause_at means rules K s (X ++ Y) c ≡ pause_at means rules (start_after means rules K s X) (state_after means rules K s X) Y c =
-      pause_at-behind K s (X ++ Y) c
+      pause_at-after K s (X ++ Y) c
       ∙ ap (λ P. pause_here P (state_after means rules K s (X ++ Y)) c) (after-append means.step means.reply means.foreign rules K s X Y)
-      ∙ ap (λ t. pause_here (start_after means rules (start_after means rules K s X) (state_after means rules K s X) Y) t c) (state_behind-append K s X Y)
-      ∙ sym (pause_at-behind (start_after means rules K s X) (state_after means rules K s X) Y c) in
+      ∙ ap (λ t. pause_here (start_after means rules (start_after means rules K s X) (state_after means rules K s X) Y) t c) (state_beyond-append K s X Y)
+      ∙ sym (pause_at-after (start_after means rules K s X) (state_after means rules K s X) Y c) in
       ap (λ r. up_to_pause r c Q (feed means rules K s ((X ++ Y) ++ c ∷ []) Q)) here
       ∙ ap (λ l. up_to_pause (pause_at means rules (start_after means rules K s X) (state_after means rules K s X) Y c) c Q (feed means rules K s l Q)) (append_assoc X Y (c ∷ []))
-      ∙ ap (up_to_pause (pause_at means rules (start_after means rules K s X) (state_after means rules K s X) Y c) c Q) (feed-behind K s X (Y ++ c ∷ []) Q)
+      ∙ ap (up_to_pause (pause_at means rules (start_after means rules K s X) (state_after means rules K s X) Y c) c Q) (feed-after K s X (Y ++ c ∷ []) Q)
 
   -- a feed after X is one from the start after X
   pub feed-anew : (K : Start) (s : S) (X Q : List ℕ)
       → feed means rules K s X Q
       ≡ feed means rules (start_after means rules K s X) (state_after means rules K s X) [] Q
-  feed-anew K s X Q = ap (λ l. feed means rules K s l Q) (sym (append-nil X)) ∙ feed-behind K s X [] Q
+  feed-anew K s X Q = ap (λ l. feed means rules K s l Q) (sym (append-nil X)) ∙ feed-after K s X [] Q
 
   -- a feed whose first character is c
   pub feed-cons : (K : Start) (s : S) (c : ℕ) (Q : List ℕ)
@@ -153,7 +153,7 @@ module _ {X S H : Type 0} (means : Means X S H) (rules : Rules) where
   feed-cons K s c Q =
       let state : state_after means rules K s [] ≡ s = ap (stepped means.step s) (told-nil means.step means.reply means.foreign rules K s) in
       ap (λ r. up_to_pause r c Q (feed means rules K s (c ∷ []) Q))
-      (pause_at-behind K s [] c ∙ ap (λ P. pause_here P (state_after means rules K s []) c) (after-nil means.step means.reply means.foreign rules K s) ∙ ap (λ t. pause_here K t c) state)
+      (pause_at-after K s [] c ∙ ap (λ P. pause_here P (state_after means rules K s []) c) (after-nil means.step means.reply means.foreign rules K s) ∙ ap (λ t. pause_here K t c) state)
       ∙ ap (up_to_pause (pause_here K s c) c Q) (feed-anew K s (c ∷ []) Q)
 
   pub feed-pauses : (K : Start) (s : S) (c : ℕ) (Q : List ℕ) → pauses (pause_here K s c) ≡ true
@@ -180,7 +180,7 @@ module _ {X S H : Type 0} (means : Means X S H) (rules : Rules) where
       ∙ up_to_pause-goes_on _ c (Y ++ Q) _ both.0
       ∙ ap (takes_before (c ∷ [])) (feed-goes_on P t Y Q both.1)
       ∙ ap (λ N. takes_before (c ∷ Y) (feed means rules N (state_after means rules P t Y) [] Q)) (sym (after-append means.step means.reply means.foreign rules K s (c ∷ []) Y))
-      ∙ ap (λ v. takes_before (c ∷ Y) (feed means rules (start_after means rules K s (c ∷ Y)) v [] Q)) (sym (state_behind-append K s (c ∷ []) Y))
+      ∙ ap (λ v. takes_before (c ∷ Y) (feed means rules (start_after means rules K s (c ∷ Y)) v [] Q)) (sym (state_beyond-append K s (c ∷ []) Y))
 
   -- a feed takes a beginning of the queue's text
   pub feed-parts : (K : Start) (s : S) (X Q : List ℕ) → (feed means rules K s X Q).taken ++ (feed means rules K s X Q).left ≡ Q

@@ -15,12 +15,12 @@ use Rattle.html5ever_interface.specs.Token.{Told, Reply, is_tag}
 use Rattle.html5ever_interface.specs.Token.Told.{Text}
 use Rattle.html5ever_interface.specs.Token.Reply.{KeepOn}
 use Rattle.html5feed.specs.Feed.{Feed, pauses, takes_before, first_pause, feed, IsEndOf}
-use Rattle.html5feed.specs.Refused.{IsRun, IsItem, RefusedBehind}
+use Rattle.html5feed.specs.Refused.{IsRun, IsItem, RefusedAfter}
 use Rattle.html5opened.specs.Runs.{opened_after_run}
 use Rattle.html5feed.proofs.RunLemmas.{run_messages, run_messages-within, run-said, input_after-within, told-run, after-run, run-quiet}
 use Rattle.html5states.specs.Telling.{IsToldAs, Tells}
 use Rattle.std.specs.Prelude.{OnOk, IsNone}
-use Rattle.html5feed.proofs.Pauses.{told_beyond-behind, state_behind-append, pause_here, feed-goes_on, feed-takes, feed-pauses}
+use Rattle.html5feed.proofs.Pauses.{told_beyond-after, state_beyond-append, pause_here, feed-goes_on, feed-takes, feed-pauses}
 use Rattle.html5opened.specs.declared.error.TokenizerError.{TokenizerError}
 use Rattle.html5opened.specs.declared.error.TokenizerError.TheVariants.{Memory, Sink, Failed}
 use Rattle.html5grammar.proofs.ReadingLemmas.{clean-mode, told-nil, told-append, after-nil, after-append}
@@ -76,7 +76,7 @@ module _ {X S H : Type 0} (means : Means X S H) (rules : Rules) where
       told_now
       ∙ ap (λ P. stepped means.step t (told_of P t item)) position
       ∙ ap (λ v. stepped means.step v (told_of (start_after means rules K s front) v item)) state
-      ∙ sym (state_behind-append means rules K s front item)
+      ∙ sym (state_beyond-append means rules K s front item)
 
   position-more : (K L N : Start) (s t : S) (front item : List ℕ) → t ≡ state_after means rules K s front → L ≡ start_after means rules K s front
       → N ≡ start_after means rules L t item → N ≡ start_after means rules K s (front ++ item)
@@ -236,8 +236,8 @@ module _ {X S H : Type 0} (means : Means X S H) (rules : Rules) where
       ∙ after-append means.step means.reply means.foreign rules L t item is_taken.more
 
   -- a start is what is open and how characters come in
-  pub moved-behind : (N K : Start) (s : S) (X : List ℕ) → N.opened ≡ (start_after means rules K s X).opened → N.last_start_tag ≡ (start_after means rules K s X).last_start_tag → N.input ≡ input_after K.input X → N ≡ start_after means rules K s X
-  moved-behind N K s X opened last input = rw (← opened, ← last, ← input) refl
+  pub moved-after : (N K : Start) (s : S) (X : List ℕ) → N.opened ≡ (start_after means rules K s X).opened → N.last_start_tag ≡ (start_after means rules K s X).last_start_tag → N.input ≡ input_after K.input X → N ≡ start_after means rules K s X
+  moved-after N K s X opened last input = rw (← opened, ← last, ← input) refl
 
   pub HasRead-stops : (e : TokenizerError) (K L : Start) (old mid new : TextQueue) (s t u : S) (item : List ℕ)
       → HasRead K L old mid s t → Takes mid new item → IsTaken L t item new.text → IsRefusal e
@@ -261,26 +261,26 @@ module _ {X S H : Type 0} (means : Means X S H) (rules : Rules) where
   pub HasRead-leaves : (e : TokenizerError) (K L : Start) (old mid new : TextQueue) (s t u : S) (item : List ℕ)
       → HasRead K L old mid s t → Takes mid new item → IsItem rules L item
       → Stops means.step means.faulted e t (messages_so_far means rules L t item) u
-      → RefusedBehind means rules e K s [] old.text new.text u
+      → RefusedAfter means rules e K s [] old.text new.text u
   HasRead-leaves e K L old mid new s t u item read taken is_item stops = record {
     front = read.front;
     item = item;
     parts = read.takes.text ∙ ap (λ l. read.front ++ l) taken.text;
     is_item = subst (λ P. IsItem rules P item) read.position is_item;
-    stopped = rw (told_beyond-behind means rules K s read.front item, ← read.state, ← read.position) stops;
+    stopped = rw (told_beyond-after means rules K s read.front item, ← read.state, ← read.position) stops;
   }
 
   -- what is left after an item is an end of the text
-  pub end-behind : (K L : Start) (old mid new : TextQueue) (s t : S) (item : List ℕ) → HasRead K L old mid s t → Takes mid new item → IsEndOf new.text old.text
-  end-behind K L old mid new s t item read taken = record {
+  pub end-after : (K L : Start) (old mid new : TextQueue) (s t : S) (item : List ℕ) → HasRead K L old mid s t → Takes mid new item → IsEndOf new.text old.text
+  end-after K L old mid new s t item read taken = record {
     front = read.front ++ item;
     parts = read.takes.text ∙ ap (λ l. read.front ++ l) taken.text ∙ sym (append_assoc read.front item new.text);
   }
 
   -- as many characters were taken as left the queue
-  pub count-behind : (K L : Start) (old mid new : TextQueue) (s t : S) (item : List ℕ) → HasRead K L old mid s t → Takes mid new item
+  pub count-after : (K L : Start) (old mid new : TextQueue) (s t : S) (item : List ℕ) → HasRead K L old mid s t → Takes mid new item
       → new.taken + length new.text ≡ old.taken + length old.text
-  count-behind K L old mid new s t item read taken =
+  count-after K L old mid new s t item read taken =
       let first : length old.text ≡ length read.front + length mid.text = ap length read.takes.text ∙ length-append read.front mid.text in
       let second : length mid.text ≡ length item + length new.text = ap length taken.text ∙ length-append item new.text in
       omega (arith, first, second, taken.taken, read.takes.taken)

@@ -20,7 +20,7 @@ use Rattle.html5opened.specs.declared.error.TokenizerError.TheVariants.{Memory}
 use Rattle.html5quiet.specs.Quiet.{IsQuiet, ReadsQuietly}
 use Rattle.html5feed.specs.Feed.{feed, first_pause}
 use Rattle.html5feed.specs.Quiet.{IsQuietText, StopsAtCharacter, TakesQuietly}
-use Rattle.html5feed.specs.Refused.{RefusedBehind}
+use Rattle.html5feed.specs.Refused.{RefusedAfter}
 use Rattle.html5feed.proofs.QueueReading.{HasRead, HasRead-more, HasRead-stops, HasRead-leaves}
 use Rattle.html5states.specs.Telling.{Stops}
 use Rattle.html5states.proofs.Tellings.{Memory-at_once}
@@ -164,7 +164,7 @@ module _ {X S H : Type 0} (means : Means X S H) (rules : Rules) where
 
   -- and leaves what follows the character
   pub leaves-quietly : {T : Type 0} (K L N : Start) (old mid new : TextQueue) (s t : S) → HasRead means rules K L old mid s t
-      → TakesQuietly {T = T} rules (Err Memory) L N mid new → RefusedBehind means rules Memory K s [] old.text new.text t
+      → TakesQuietly {T = T} rules (Err Memory) L N mid new → RefusedAfter means rules Memory K s [] old.text new.text t
   leaves-quietly K L N old mid new s t read takes =
       let before = read_before K L N old mid new s t read takes in
       HasRead-leaves means rules Memory K before.stands old before.waits new s t t takes.item before.read before.takes (inl takes.is_one) (Memory-at_once means.step means.faulted t _)

@@ -24,7 +24,7 @@ use Rattle.html5grammar.specs.Machine.{step_at, brought_at, reference_step, mess
 use Rattle.html5grammar.specs.Characters.{number_sign, semicolon, is_bad_character}
 use Rattle.html5grammar.specs.Reading.{Brought, messages_so_far, start_after}
 use Rattle.html5grammar.specs.Reading.Here.{Tells}
-use Rattle.html5grammar.specs.Reference.{in_value, reference, is_undecided, ends_number, has_digits, late_tokens, opened_in, opened_behind}
+use Rattle.html5grammar.specs.Reference.{in_value, reference, is_undecided, ends_number, has_digits, late_tokens, opened_in, opened_after}
 use Rattle.html5grammar.specs.Start.{Stand, Start, Open, Rules, is_undecided_open, held_len}
 use Rattle.html5grammar.specs.Start.Open.{Between, LessThan, LessThanSolidus, InTag, InRaw, InDeclaration, InComment, InBogusComment, InInstruction, InDoctype, InDoctypeKeyword, InCdata, InReference}
 use Rattle.html5grammar.specs.Start.Stand.{InText, InAttribute}
@@ -53,15 +53,15 @@ module _ (rules : Rules) (foreign is_in : Bool) (held : List ℕ) (opened : Open
   abbrev stand : Stand
   stand = stand_of opened
 
-  abbrev behind : Open
-  behind = opened_behind stand (reference rules (in_value stand) held (Some c)) held
+  abbrev afterwards : Open
+  afterwards = opened_after stand (reference rules (in_value stand) held (Some c)) held
 
   if-record : (test : Bool) → ◌≡◌ {A = Brought Open}
-      (if test then record { settled = late_tokens stand (reference rules (in_value stand) held (Some c)) held; here = Tells [] behind }
-      else record { settled = late_tokens stand (reference rules (in_value stand) held (Some c)) held; here = step_at rules.exact behind c })
+      (if test then record { settled = late_tokens stand (reference rules (in_value stand) held (Some c)) held; here = Tells [] afterwards }
+      else record { settled = late_tokens stand (reference rules (in_value stand) held (Some c)) held; here = step_at rules.exact afterwards c })
       (record {
         settled = late_tokens stand (reference rules (in_value stand) held (Some c)) held;
-        here = if test then Tells [] behind else step_at rules.exact behind c;
+        here = if test then Tells [] afterwards else step_at rules.exact afterwards c;
       })
   if-record true = refl
   if-record false = refl
@@ -75,7 +75,7 @@ module _ (rules : Rules) (foreign is_in : Bool) (held : List ℕ) (opened : Open
       → brought_at rules foreign (with_reference is_in held opened) c
       ≡ record {
         settled = late_tokens stand (reference rules (in_value stand) held (Some c)) held;
-        here = if ends_number held c then Tells [] behind else step_at rules.exact behind c;
+        here = if ends_number held c then Tells [] afterwards else step_at rules.exact afterwards c;
       }
   unfolding with_reference brought_at reference_step
   brought-decided h = rw (inside, h) (if-record (ends_number held c))
@@ -90,14 +90,14 @@ module _ (rules : Rules) (foreign is_in : Bool) (held : List ℕ) (opened : Open
   }
 
   -- the character decides, and is the semicolon of a number or is read on
-  pub belongs-end : (later : Open) → is_undecided rules.names (held ++ c ∷ []) ≡ false → ends_number held c ≡ true → later ≡ behind
+  pub belongs-end : (later : Open) → is_undecided rules.names (held ++ c ∷ []) ≡ false → ends_number held c ≡ true → later ≡ afterwards
       → BelongsTo rules foreign (with_reference is_in held opened) c later
   belongs-end later h ends is = record {
     here = ap (λ (b : Brought Open). b.here) (brought-decided h) ∙ rw (ends, is) refl;
     good = ends-good held c ends;
   }
 
-  pub decides : (later : Open) → is_undecided rules.names (held ++ c ∷ []) ≡ false → ends_number held c ≡ false → later ≡ behind
+  pub decides : (later : Open) → is_undecided rules.names (held ++ c ∷ []) ≡ false → ends_number held c ≡ false → later ≡ afterwards
       → Decides rules foreign (with_reference is_in held opened) c later
   decides later h ends is = record {
     here = ap (λ (b : Brought Open). b.here) (brought-decided h) ∙ rw (ends, is) refl;
@@ -140,7 +140,7 @@ unfolding with_reference late_at_end_of
 late-reference rules is_in held opened inside = rw inside refl
 
 pub end-reference : (rules : Rules) (is_in : Bool) (held : List ℕ) (opened : Open) → is_in ≡ true
-    → open_at_end_of rules (with_reference is_in held opened) ≡ opened_behind (stand_of opened) (reference rules (in_value (stand_of opened)) held None) held
+    → open_at_end_of rules (with_reference is_in held opened) ≡ opened_after (stand_of opened) (reference rules (in_value (stand_of opened)) held None) held
 unfolding with_reference open_at_end_of
 end-reference rules is_in held opened inside = rw inside refl
 

@@ -22,7 +22,7 @@ IsItem rules K item = (length item ≤ 1) ⊎ IsRun rules K item
 module _ {X S H : Type 0} (means : Means X S H) (rules : Rules) where
   -- after `text` a feed of `queue` was refused: all that the characters `front` tell was told, the feed stopped within
   -- what the item after them tells, and what follows that item is left
-  pub record RefusedBehind (e : TokenizerError) (K : Start) (s : S) (text queue left : List ℕ) (t : S) : Type 0 where
+  pub record RefusedAfter (e : TokenizerError) (K : Start) (s : S) (text queue left : List ℕ) (t : S) : Type 0 where
     pub front : List ℕ
     pub item : List ℕ
     pub parts : queue ≡ front ++ (item ++ left)

@@ -5,7 +5,7 @@ ghost use Rattle.std.specs.Prelude.{◌≡◌, ◌≤◌, ◌+◌, ◌∷◌, []
 ghost use Rattle.html5ever_interface.specs.Sink.{on_line};
 ghost use Rattle.html5ever_interface.specs.Token.{Told, tag_of};
 ghost use Rattle.html5grammar.specs.NormalisedText.{input_after};
-ghost use Rattle.html5grammar.specs.Reading.{messages_so_far, start_after, last_behind, open_after_reply};
+ghost use Rattle.html5grammar.specs.Reading.{messages_so_far, start_after, last_after, open_after_reply};
 ghost use Rattle.html5grammar.specs.Start.{is_undecided_open, held_len};
 ghost use Rattle.html5grammar.specs.Start.Mode.{Data};
 ghost use Rattle.html5grammar.specs.Start.Open.{Between};
@@ -56,10 +56,10 @@ fn tell_tag<S: TokenSink<Token<A>>, A: Allocator + Copy>(
     requires { position.old.opened ≡ Between Data }
     ensures emits { Emits S.means S.faults result teller.old teller.new (Told.Tag (tag_of tag) ∷ []) }
     ensures leads { Leads result position.new.opened
-        (open_after_reply (last_behind position.old.last_start_tag (tag_of tag))
+        (open_after_reply (last_after position.old.last_start_tag (tag_of tag))
         (S.means.reply (S.means.state teller.old.sink.now) (Told.Tag (tag_of tag)) teller.old.line)) }
     ensures last { OnOk result
-        (position.new.last_start_tag ≡ last_behind position.old.last_start_tag (tag_of tag)) }
+        (position.new.last_start_tag ≡ last_after position.old.last_start_tag (tag_of tag)) }
     ensures answer { IfOk result (λ answer. reply_in string_bytes answer
         ≡ first_pause S.means (S.means.state teller.old.sink.now)
         (on_line teller.old.line (Told.Tag (tag_of tag) ∷ []))) }

@@ -9,7 +9,7 @@ ghost use Rattle.html5ever_interface.specs.Token.Told.{Text};
 ghost use Rattle.html5grammar.specs.Characters.{carriage_return};
 ghost use Rattle.html5grammar.specs.EndOfInput.{late_at_end_of, open_at_end_of, tokens_at_end};
 ghost use Rattle.html5grammar.specs.NormalisedText.{input_after};
-ghost use Rattle.html5grammar.specs.Reading.{last_behind};
+ghost use Rattle.html5grammar.specs.Reading.{last_after};
 ghost use Rattle.html5grammar.specs.Slice.{tokens_of_late};
 ghost use Rattle.html5grammar.specs.Start.{start_of, initial_name, raw_of, is_clean, is_undecided_open, held_len};
 ghost use Rattle.html5opened.specs.CharRef.{HasStand, begun_reference};
@@ -208,7 +208,7 @@ impl<A: Allocator + Copy> Position<A> {
         requires { self.old.opened ≡ Between Data }
         ensures opened { self.new.opened ≡ Between Data }
         ensures last { OnOk result
-            (self.new.last_start_tag ≡ last_behind self.old.last_start_tag (tag_of tag.now)) }
+            (self.new.last_start_tag ≡ last_after self.old.last_start_tag (tag_of tag.now)) }
         ensures input { self.new.input ≡ self.old.input }
         ensures memory { IfErr result (λ error. error ≡ TokenizerError.Memory) }
     {
@@ -349,9 +349,9 @@ fn is_between(state: State, held: &str) -> bool
 }
 
 // Keeps the name of a start tag as that of the last one.
-#[tactic(auto, unfolding(html5grammar::specs::Reading::last_behind))]
+#[tactic(auto, unfolding(html5grammar::specs::Reading::last_after))]
 fn keep_name<A: Allocator>(last_name: &mut String<A>, tag: &Tag<A>) -> Result<(), AllocError>
-    ensures { OnOk result (string_bytes last_name.new ≡ last_behind (string_bytes last_name.old) (tag_of tag.now)) }
+    ensures { OnOk result (string_bytes last_name.new ≡ last_after (string_bytes last_name.old) (tag_of tag.now)) }
 {
     match tag.kind {
         TagKind::EndTag => Ok(()),

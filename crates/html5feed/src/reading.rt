@@ -5,7 +5,7 @@ ghost use Rattle.html5grammar.specs.Reading.{messages_so_far, start_after};
 ghost use Rattle.html5grammar.specs.Start.{is_clean, held_len};
 ghost use Rattle.html5feed.specs.Feed.{IsEndOf, reply_in, feed};
 ghost use Rattle.html5feed.specs.Quiet.{TakesQuietly};
-ghost use Rattle.html5feed.specs.Refused.{IsRun, RefusedBehind};
+ghost use Rattle.html5feed.specs.Refused.{IsRun, RefusedAfter};
 ghost use Rattle.html5feed.specs.Runs.{ReadsRun};
 ghost use Rattle.html5states.specs.Telling.{Tells, IsRefusal, faults_of};
 
@@ -128,7 +128,7 @@ pub fn read_queue<S: TokenSink<Token<A>>, A: Allocator + Copy>(
     ensures left { OnOk result
         (queue.new.text ≡ (feed S.means rules.now position.old (S.means.state sink.old) [] queue.old.text).left) }
     ensures refusal { IfErr result IsRefusal }
-    ensures refused { IfErr result (λ error. RefusedBehind S.means rules.now error
+    ensures refused { IfErr result (λ error. RefusedAfter S.means rules.now error
         position.old (S.means.state sink.old) [] queue.old.text queue.new.text (S.means.state sink.new)) }
     ensures end_of_queue { IsEndOf queue.new.text queue.old.text }
     ensures taken { queue.new.taken + length queue.new.text ≡ queue.old.taken + length queue.old.text }

@@ -27,7 +27,7 @@ use Rattle.html5grammar.specs.Start.Open.{Between, LessThan, LessThanSolidus, In
 use Rattle.html5grammar.specs.Start.Place.{InName, BeforeAttribute, InAttributeName, AfterAttributeName, BeforeValue, InValue, AfterQuotedValue, AfterSolidus}
 use Rattle.html5grammar.specs.Start.RawPlace.{AfterLessThan, InEndName, AfterMark, AfterMarkAndDash, InSwitch}
 use Rattle.html5grammar.specs.Tag.{in_quoted, in_unquoted, in_attribute_name, in_tag_name}
-use Rattle.html5grammar.specs.Machine.{closing_step, tag_name_step, part_step, attribute_name_step, after_attribute_name_step, quoted_step, unquoted_step, before_value_step, tag_step, data_step, less_than_step, solidus_step, bogus_comment_step, comment_step, instruction_step, skipped_step, wanted_name_step, doctype_name_step, keyword_or_end_step, wanted_identifier_step, system_or_end_step, identifier_step, behind_identifier_step, space_step, doctype_step, raw_step, tag_name_end_step, end_name_step, switch_step, mark_step, mark_and_dash_step, raw_solidus_step, raw_less_than_step, raw_place_step, step_at, cdata_step}
+use Rattle.html5grammar.specs.Machine.{closing_step, tag_name_step, part_step, attribute_name_step, after_attribute_name_step, quoted_step, unquoted_step, before_value_step, tag_step, data_step, less_than_step, solidus_step, bogus_comment_step, comment_step, instruction_step, skipped_step, wanted_name_step, doctype_name_step, keyword_or_end_step, wanted_identifier_step, system_or_end_step, identifier_step, after_identifier_step, space_step, doctype_step, raw_step, tag_name_end_step, end_name_step, switch_step, mark_step, mark_and_dash_step, raw_solidus_step, raw_less_than_step, raw_place_step, step_at, cdata_step}
 
 abbrev pub HoldsAtMostOne : Here Open → Type 0
 HoldsAtMostOne (Tells told later) = held_len later ≤ 1
@@ -138,10 +138,10 @@ module _ (exact : Bool) (c : ℕ) where
   unfolding system_or_end_step
   holds-system_or_end is_direct named d = holds-if (c == greater_than) _ _ none (holds-wanted_identifier is_direct named System d)
 
-  holds-behind_identifier : (kind : DoctypeIdKind) (d : DoctypeOf) → HoldsAtMostOne (behind_identifier_step exact kind d c)
-  unfolding behind_identifier_step
-  holds-behind_identifier Public d = holds-if (is_white_space c) _ _ none (holds-system_or_end true (state.AfterDoctypeIdentifier Public) d)
-  holds-behind_identifier System d = holds-if (is_white_space c) _ _ none (holds-if (c == greater_than) _ _ none (holds-skipped _ d))
+  holds-after_identifier : (kind : DoctypeIdKind) (d : DoctypeOf) → HoldsAtMostOne (after_identifier_step exact kind d c)
+  unfolding after_identifier_step
+  holds-after_identifier Public d = holds-if (is_white_space c) _ _ none (holds-system_or_end true (state.AfterDoctypeIdentifier Public) d)
+  holds-after_identifier System d = holds-if (is_white_space c) _ _ none (holds-if (c == greater_than) _ _ none (holds-skipped _ d))
 
   holds-space : (place : DoctypePlace) (d : DoctypeOf) (next : Here Open) → HoldsAtMostOne next → HoldsAtMostOne (space_step place d c next)
   unfolding space_step
@@ -157,7 +157,7 @@ module _ (exact : Bool) (c : ℕ) where
   holds-doctype (AfterKeyword kind) d = holds-space _ d _ (holds-wanted_identifier true (state.AfterDoctypeKeyword kind) kind d)
   holds-doctype (BeforeIdentifier kind) d = holds-space _ d _ (holds-wanted_identifier false (state.BeforeDoctypeIdentifier kind) kind d)
   holds-doctype (InIdentifier quotes kind) d = holds-if (in_identifier quotes c) _ _ none (holds-if (c == greater_than) _ _ none none)
-  holds-doctype (AfterIdentifier kind) d = holds-behind_identifier kind d
+  holds-doctype (AfterIdentifier kind) d = holds-after_identifier kind d
   holds-doctype BetweenIdentifiers d = holds-space _ d _ (holds-system_or_end false state.BetweenDoctypePublicAndSystemIdentifiers d)
   holds-doctype Skipped d = holds-skipped [] d
 

@@ -19,7 +19,7 @@ use Rattle.html5grammar.specs.RawText.{texts}
 use Rattle.html5grammar.proofs.ReadingLemmas.{clean-mode}
 use Rattle.html5grammar.specs.Reading.{Here, Brought, reading, told, messages, after, open_after_reply}
 use Rattle.html5grammar.specs.Reading.Here.{Tells, TellsTag}
-use Rattle.html5grammar.specs.Reference.{Found, in_value, reference, is_undecided, ends_number, late_tokens, opened_in, opened_behind}
+use Rattle.html5grammar.specs.Reference.{Found, in_value, reference, is_undecided, ends_number, late_tokens, opened_in, opened_after}
 use Rattle.html5grammar.specs.Slice.{tokens_of_late}
 use Rattle.html5grammar.specs.Start.{Raw, RawPlace, Stand, Open, Rules, Start, raw_of, is_clean}
 use Rattle.html5grammar.specs.Start.Stand.{InText, InAttribute}
@@ -30,7 +30,7 @@ use Rattle.html5grammar.specs.Start.DoctypePlace.{Skipped}
 use Rattle.html5grammar.specs.Start.Open.{Between, LessThan, LessThanSolidus, InTag, InRaw, InDeclaration, InComment, InBogusComment, InInstruction, InDoctype, InDoctypeKeyword, InCdata, InReference}
 use Rattle.html5grammar.proofs.InputLemmas.{line_past}
 use Rattle.html5grammar.proofs.LawfulReferences.{AllLawful, lawful-append, lawful-texts, no_null-undecided, lawful-late_tokens}
-use Rattle.html5grammar.proofs.LawfulSteps.{IsFitStand, IsFit, LawfulHere, lawful-bad, lawful-nil, lawful-told_behind, lawful-letters, lawful-step_at, lawful-skipped, lawful-bogus_comment}
+use Rattle.html5grammar.proofs.LawfulSteps.{IsFitStand, IsFit, LawfulHere, lawful-bad, lawful-nil, lawful-told_after, lawful-letters, lawful-step_at, lawful-skipped, lawful-bogus_comment}
 use Rattle.html5grammar.proofs.LawfulTags.{fit-value, lawful-empty, lawful-quirks}
 use Rattle.html5grammar.specs.Machine.{brought_at, reference_step, declaration_step, declaration_answer_step, doctype_keyword_step}
 use Rattle.html5grammar.proofs.ReadingLemmas.{reading-events, messages-at_end, told-trace, after-opened}
@@ -46,10 +46,10 @@ lawful-brought_if : (test : Bool) (p q : Brought Open) → (test ≡ true → La
 lawful-brought_if true p q f g = f refl
 lawful-brought_if false p q f g = g refl
 
-fit-behind : (stand : Stand) (characters : List ℕ) → IsFitStand stand → IsFit (opened_in stand characters)
+fit-after : (stand : Stand) (characters : List ℕ) → IsFitStand stand → IsFit (opened_in stand characters)
 unfolding IsFit
-fit-behind (InText mode) characters fit = tt
-fit-behind (InAttribute kind tag) characters fit = fit-value tag characters fit
+fit-after (InText mode) characters fit = tt
+fit-after (InAttribute kind tag) characters fit = fit-value tag characters fit
 
 lawful-keyword_error : (exact : Bool) (held : List ℕ) → AllLawful (tokens_of_late (keyword_error exact held))
 unfolding keyword_error AllLawful
@@ -66,11 +66,11 @@ module _ (rules : Rules) (table : IsTable rules.names) where
   lawful-reference stand held c fit no_null =
       let found : Found = reference rules (in_value stand) held (Some c) in
       let late : AllLawful (tokens_of_late (late_tokens stand found held)) = lawful-late_tokens rules stand held (Some c) table no_null in
-      let behind : IsFit (opened_behind stand found held) = fit-behind stand _ fit in
+      let afterwards : IsFit (opened_after stand found held) = fit-after stand _ fit in
       lawful-brought_if (is_undecided rules.names (held ++ c ∷ [])) _ _
       (λ undecided. (tt, (tt, (fit, no_null-undecided rules.names (held ++ c ∷ []) table.plain undecided))))
-      (λ decided. lawful-brought_if (ends_number held c) _ _ (λ ends. (late, (tt, behind)))
-      (λ goes_on. (late, lawful-step_at rules.exact c (opened_behind stand found held) behind)))
+      (λ decided. lawful-brought_if (ends_number held c) _ _ (λ ends. (late, (tt, afterwards)))
+      (λ goes_on. (late, lawful-step_at rules.exact c (opened_after stand found held) afterwards)))
 
   lawful-answer : (foreign : Bool) (held : List ℕ) (c : ℕ) → LawfulBrought (declaration_answer_step rules.exact foreign held c)
   unfolding declaration_answer_step LawfulHere IsFit AllLawful
@@ -126,7 +126,7 @@ lawful-raw_error exact (DoubleEscaped dashes) = (tt, tt)
 
 lawful-raw_end : (exact : Bool) (place : RawPlace) (name : List ℕ) → IsFit (InRaw place name) → AllLawful (told_at_raw_end exact place)
 unfolding told_at_raw_end IsFit AllLawful
-lawful-raw_end exact (AfterLessThan kind) name fit = lawful-append _ _ (lawful-told_behind kind) (lawful-raw_error exact (raw_of kind))
+lawful-raw_end exact (AfterLessThan kind) name fit = lawful-append _ _ (lawful-told_after kind) (lawful-raw_error exact (raw_of kind))
 lawful-raw_end exact (InEndName kind letters) name fit =
     lawful-append (texts (less_than ∷ solidus ∷ letters)) _ (lawful-letters letters fit) (lawful-raw_error exact (raw_of kind))
 lawful-raw_end exact AfterMark name fit = tt
@@ -171,7 +171,7 @@ module _ (rules : Rules) (table : IsTable rules.names) where
 
   fit-at_end : (opened : Open) → IsFit opened → IsFit (open_at_end_of rules opened)
   unfolding open_at_end_of IsFit
-  fit-at_end (InReference stand held) fit = fit-behind stand _ fit.0
+  fit-at_end (InReference stand held) fit = fit-after stand _ fit.0
   fit-at_end (InDeclaration held) fit = tt
   fit-at_end (InDoctypeKeyword held d) fit = lawful-quirks d fit
   fit-at_end other fit = fit

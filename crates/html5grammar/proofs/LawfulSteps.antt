@@ -34,10 +34,10 @@ use Rattle.html5grammar.specs.Start.Open.{Between, LessThan, LessThanSolidus, In
 use Rattle.html5grammar.specs.Tag.{null_error, duplicate_error, end_tag_errors, with_last_attribute, in_quoted, in_unquoted, unquoted_error, in_attribute_name, place_error, first_error, in_tag_name, with_name}
 use Rattle.html5grammar.specs.Comment.{comment_state, ends_comment, comment_content, comment_end_error, comment_errors, mark_error, without_last}
 use Rattle.html5grammar.specs.Doctype.{with_quirks, in_identifier, begins_doctype_keyword, in_doctype_name, word_error}
-use Rattle.html5grammar.specs.RawText.{ends_name, raw_state, kind_of, is_rcdata, raw_character, ends_raw_text, told_at_less_than, told_behind_less_than, begins_mark, begins_switch, texts}
+use Rattle.html5grammar.specs.RawText.{ends_name, raw_state, kind_of, is_rcdata, raw_character, ends_raw_text, told_at_less_than, told_after_less_than, begins_mark, begins_switch, texts}
 use Rattle.html5grammar.specs.Text.{plain_text}
 use Rattle.html5grammar.specs.Lawful.{has_no_null, IsLawfulTag, IsLawfulDoctype}
-use Rattle.html5grammar.specs.Machine.{closing_step, tag_name_step, part_step, attribute_name_step, after_attribute_name_step, quoted_step, unquoted_step, before_value_step, tag_step, data_step, less_than_step, solidus_step, bogus_comment_step, comment_step, instruction_step, skipped_step, wanted_name_step, doctype_name_step, keyword_or_end_step, wanted_identifier_step, system_or_end_step, identifier_step, behind_identifier_step, space_step, doctype_step, raw_step, tag_name_end_step, end_name_step, switch_step, mark_step, mark_and_dash_step, raw_solidus_step, raw_less_than_step, raw_place_step, step_at, cdata_step}
+use Rattle.html5grammar.specs.Machine.{closing_step, tag_name_step, part_step, attribute_name_step, after_attribute_name_step, quoted_step, unquoted_step, before_value_step, tag_step, data_step, less_than_step, solidus_step, bogus_comment_step, comment_step, instruction_step, skipped_step, wanted_name_step, doctype_name_step, keyword_or_end_step, wanted_identifier_step, system_or_end_step, identifier_step, after_identifier_step, space_step, doctype_step, raw_step, tag_name_end_step, end_name_step, switch_step, mark_step, mark_and_dash_step, raw_solidus_step, raw_less_than_step, raw_place_step, step_at, cdata_step}
 use Rattle.html5grammar.proofs.Letters.{letter-in_tag_name, letter-no_null}
 use Rattle.html5grammar.proofs.LawfulBytes.{no_null-append, no_null-encode, letters-no_null, all-append}
 use Rattle.html5grammar.proofs.LawfulReferences.{AllLawful, lawful-append, lawful-where, lawful-texts, no_null-parts, no_null-cons, no_null-nil}
@@ -92,12 +92,12 @@ lawful-doctype_told d h = (h, tt)
 lawful-sign : AllLawful (texts (less_than ∷ []))
 lawful-sign = lawful-texts (less_than ∷ []) (no_null-cons less_than [] refl no_null-nil)
 
-pub lawful-told_behind : (kind : RawKind) → AllLawful (told_behind_less_than kind)
-lawful-told_behind raw_kind.Rcdata = lawful-sign
-lawful-told_behind raw_kind.Rawtext = lawful-sign
-lawful-told_behind raw_kind.ScriptData = lawful-sign
-lawful-told_behind (raw_kind.ScriptDataEscaped escape_kind.Escaped) = lawful-sign
-lawful-told_behind (raw_kind.ScriptDataEscaped escape_kind.DoubleEscaped) = lawful-nil
+pub lawful-told_after : (kind : RawKind) → AllLawful (told_after_less_than kind)
+lawful-told_after raw_kind.Rcdata = lawful-sign
+lawful-told_after raw_kind.Rawtext = lawful-sign
+lawful-told_after raw_kind.ScriptData = lawful-sign
+lawful-told_after (raw_kind.ScriptDataEscaped escape_kind.Escaped) = lawful-sign
+lawful-told_after (raw_kind.ScriptDataEscaped escape_kind.DoubleEscaped) = lawful-nil
 
 lawful-raw_solidus : (kind : RawKind) (name : List ℕ) → LawfulHere (raw_solidus_step kind name)
 unfolding raw_solidus_step LawfulHere IsFit
@@ -284,13 +284,13 @@ module _ (exact : Bool) (c : ℕ) where
   switch-letter (raw_kind.ScriptDataEscaped escape_kind.Escaped) h = h
   switch-letter (raw_kind.ScriptDataEscaped escape_kind.DoubleEscaped) h = absurd (false≢true h)
 
-  lawful-behind_less_than : (kind : RawKind) (name : List ℕ) → LawfulHere (raw_less_than_step exact kind name c)
+  lawful-after_less_than : (kind : RawKind) (name : List ℕ) → LawfulHere (raw_less_than_step exact kind name c)
   unfolding raw_less_than_step LawfulHere IsFit
-  lawful-behind_less_than kind name =
+  lawful-after_less_than kind name =
       lawful-if (c == solidus) _ _ (λ e. lawful-raw_solidus kind name)
       (λ e. lawful-if (begins_mark kind c) _ _ (λ f. (lawful-two (mark-other kind f), tt))
       (λ f. lawful-if (begins_switch kind c) _ _ (λ g. (lawful-two (letter-no_null c (switch-letter kind g)), tt))
-      (λ g. lawful-raw (raw_of kind) name _ (lawful-told_behind kind))))
+      (λ g. lawful-raw (raw_of kind) name _ (lawful-told_after kind))))
 
   -- the letters after `</`, with one more
   letters-push : (letters : List ℕ) → list_all is_letter letters ≡ true → is_letter c ≡ true → list_all is_letter (letters ++ c ∷ []) ≡ true
@@ -305,7 +305,7 @@ module _ (exact : Bool) (c : ℕ) where
 
   lawful-raw_place : (place : RawPlace) (name : List ℕ) → IsFit (InRaw place name) → LawfulHere (raw_place_step exact place name c)
   unfolding raw_place_step end_name_step switch_step mark_step mark_and_dash_step LawfulHere IsFit
-  lawful-raw_place (AfterLessThan kind) name fit = lawful-behind_less_than kind name
+  lawful-raw_place (AfterLessThan kind) name fit = lawful-after_less_than kind name
   lawful-raw_place (InEndName kind letters) name fit =
       lawful-if (is_letter c) _ _ (λ e. (lawful-nil, letters-push letters fit e))
       (λ e. lawful-if (ends_raw_text name letters c) _ _ (λ f. lawful-tag_name_end (with_name (begun EndTag) letters) (fit-end_tag name letters fit f))
@@ -377,11 +377,11 @@ module _ (exact : Bool) (c : ℕ) where
   lawful-system_or_end is_direct named d lawful =
       lawful-if (c == greater_than) _ _ (λ e. (lawful-doctype_told d lawful, tt)) (λ e. lawful-wanted_identifier is_direct named System d lawful)
 
-  lawful-behind_identifier : (kind : DoctypeIdKind) (d : DoctypeOf) → IsLawfulDoctype d → LawfulHere (behind_identifier_step exact kind d c)
-  unfolding behind_identifier_step LawfulHere IsFit
-  lawful-behind_identifier Public d lawful =
+  lawful-after_identifier : (kind : DoctypeIdKind) (d : DoctypeOf) → IsLawfulDoctype d → LawfulHere (after_identifier_step exact kind d c)
+  unfolding after_identifier_step LawfulHere IsFit
+  lawful-after_identifier Public d lawful =
       lawful-if (is_white_space c) _ _ (λ e. (lawful-nil, lawful)) (λ e. lawful-system_or_end true (state.AfterDoctypeIdentifier Public) d lawful)
-  lawful-behind_identifier System d lawful =
+  lawful-after_identifier System d lawful =
       lawful-if (is_white_space c) _ _ (λ e. (lawful-nil, lawful))
       (λ e. lawful-if (c == greater_than) _ _ (λ f. (lawful-doctype_told d lawful, tt)) (λ f. lawful-skipped _ d lawful (lawful-error _)))
 
@@ -404,7 +404,7 @@ module _ (exact : Bool) (c : ℕ) where
   lawful-doctype (InIdentifier quotes kind) d lawful =
       lawful-if (in_identifier quotes c) _ _ (λ e. (lawful-where _ _ tt, lawful-identifier kind d (c ∷ []) lawful))
       (λ e. lawful-if (c == greater_than) _ _ (λ f. ((tt, (lawful-quirks d lawful, tt)), tt)) (λ f. (tt, lawful)))
-  lawful-doctype (AfterIdentifier kind) d lawful = lawful-behind_identifier kind d lawful
+  lawful-doctype (AfterIdentifier kind) d lawful = lawful-after_identifier kind d lawful
   lawful-doctype BetweenIdentifiers d lawful = lawful-space _ d _ lawful (lawful-system_or_end false state.BetweenDoctypePublicAndSystemIdentifiers d lawful)
   lawful-doctype Skipped d lawful = lawful-skipped [] d lawful tt
 

@@ -48,9 +48,9 @@ or-left_false true b h = h
 or-left_false false b h = refl
 
 -- where no name begins with one character more, the longest name stands before it
-longest-behind : (names : List NamedReference) (held : List ℕ) (c : ℕ) (text : List ℕ) → begins_name names (held ++ c ∷ []) ≡ false
+longest-after : (names : List NamedReference) (held : List ℕ) (c : ℕ) (text : List ℕ) → begins_name names (held ++ c ∷ []) ≡ false
     → longest_name names (held ++ c ∷ text) ≡ longest_name names held
-longest-behind names held c text none =
+longest-after names held c text none =
     let within : length held < length (held ++ c ∷ text) = omega (arith, length-append held (c ∷ text)) in
     let cut : take (suc (length held)) (held ++ c ∷ text) ≡ held ++ c ∷ [] = ap (λ n. take n (held ++ c ∷ text)) (sym (add-one (length held))) ∙ take-append-add held (c ∷ text) 1 in
     longest-cut names (held ++ c ∷ text) (length held) within (ap (begins_name names) cut ∙ none)
@@ -69,7 +69,7 @@ longest-run names held (c ∷ text) other =
           ∙ ap (longest_name names) (append_assoc held (c ∷ []) text)
       | false ↦ λ decides.
           ap (longest_name names) (append-nil held)
-          ∙ sym (longest-behind names held c text (or-left_false (begins_name names (held ++ c ∷ [])) _ (sym (undecided-name names held c (no_number-front held c text other)) ∙ decides)))
+          ∙ sym (longest-after names held c text (or-left_false (begins_name names (held ++ c ∷ [])) _ (sym (undecided-name names held c (no_number-front held c text other)) ∙ decides)))
     ] refl
 
 -- ---- beginnings of a text that a name begins, or none
@@ -144,19 +144,19 @@ held-named names held (c ∷ text) other some =
     rw (same, held-named names front text (pushed IsNoNumber held c text other) whole) refl
 
 -- a plain name goes on after letters and digits alone
-pub odd-within : (p : ℕ → Bool) (before : List ℕ) (c : ℕ) (behind : List ℕ) → p c ≡ false → list_all p (before ++ c ∷ behind) ≡ false
-odd-within p before c behind odd = list_all-append p before (c ∷ behind) ∙ rw odd (and-false (list_all p before))
+pub odd-within : (p : ℕ → Bool) (before : List ℕ) (c : ℕ) (afterwards : List ℕ) → p c ≡ false → list_all p (before ++ c ∷ afterwards) ≡ false
+odd-within p before c afterwards odd = list_all-append p before (c ∷ afterwards) ∙ rw odd (and-false (list_all p before))
 
-plain-end : (before : List ℕ) (c : ℕ) (behind : List ℕ) → is_plain_name (before ++ c ∷ behind) ≡ true → is_ascii_alphanumeric c ≡ false → behind ≡ []
+plain-end : (before : List ℕ) (c : ℕ) (afterwards : List ℕ) → is_plain_name (before ++ c ∷ afterwards) ≡ true → is_ascii_alphanumeric c ≡ false → afterwards ≡ []
 unfolding is_plain_name
 plain-end before c [] plain odd = refl
-plain-end before c (d ∷ behind) plain odd =
-    let name : List ℕ = before ++ c ∷ d ∷ behind in
-    let len : length name - 1 ≡ length before + suc (length behind) = omega (arith, length-append before (c ∷ d ∷ behind)) in
-    let cut : take (length name - 1) name ≡ before ++ c ∷ take (length behind) (d ∷ behind) = ap (λ n. take n name) len ∙ take-append-add before (c ∷ d ∷ behind) (suc (length behind)) in
+plain-end before c (d ∷ afterwards) plain odd =
+    let name : List ℕ = before ++ c ∷ d ∷ afterwards in
+    let len : length name - 1 ≡ length before + suc (length afterwards) = omega (arith, length-append before (c ∷ d ∷ afterwards)) in
+    let cut : take (length name - 1) name ≡ before ++ c ∷ take (length afterwards) (d ∷ afterwards) = ap (λ n. take n name) len ∙ take-append-add before (c ∷ d ∷ afterwards) (suc (length afterwards)) in
     absurd (elim (bytes_eq (drop (length name - 1) name) (codes ";")) as (λ b. list_all is_ascii_alphanumeric (if b then take (length name - 1) name else name) ≡ true → ⊥) [
-      | true ↦ λ letters. false≢true (sym (odd-within is_ascii_alphanumeric before c (take (length behind) (d ∷ behind)) odd) ∙ ap (list_all is_ascii_alphanumeric) (sym cut) ∙ letters)
-      | false ↦ λ letters. false≢true (sym (odd-within is_ascii_alphanumeric before c (d ∷ behind) odd) ∙ letters)
+      | true ↦ λ letters. false≢true (sym (odd-within is_ascii_alphanumeric before c (take (length afterwards) (d ∷ afterwards)) odd) ∙ ap (list_all is_ascii_alphanumeric) (sym cut) ∙ letters)
+      | false ↦ λ letters. false≢true (sym (odd-within is_ascii_alphanumeric before c (d ∷ afterwards) odd) ∙ letters)
     ] (and_parts _ _ plain).1)
 
 abbrev ArePlain : List NamedReference → Type 0

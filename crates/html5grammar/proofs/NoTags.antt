@@ -32,9 +32,9 @@ use Rattle.html5grammar.specs.Tag.{null_error, duplicate_error, end_tag_errors, 
 use Rattle.std.specs.Str.{bytes_eq}
 use Rattle.html5grammar.specs.Comment.{comment_state, ends_comment, comment_content, comment_end_error, comment_errors, mark_error, begins_keyword, without_last, cdata_keyword, begins_cdata}
 use Rattle.html5grammar.specs.Doctype.{with_quirks, in_identifier, is_keyword, begins_doctype_keyword, keyword_error, in_doctype_name, word_error}
-use Rattle.html5grammar.specs.RawText.{texts, ends_name, raw_state, kind_of, is_rcdata, raw_character, ends_raw_text, told_at_less_than, told_behind_less_than, begins_mark, begins_switch}
+use Rattle.html5grammar.specs.RawText.{texts, ends_name, raw_state, kind_of, is_rcdata, raw_character, ends_raw_text, told_at_less_than, told_after_less_than, begins_mark, begins_switch}
 use Rattle.html5grammar.specs.Text.{plain_text}
-use Rattle.html5grammar.specs.Machine.{closing_step, tag_name_step, part_step, attribute_name_step, after_attribute_name_step, quoted_step, unquoted_step, before_value_step, tag_step, data_step, less_than_step, solidus_step, bogus_comment_step, comment_step, instruction_step, skipped_step, wanted_name_step, doctype_name_step, keyword_or_end_step, wanted_identifier_step, system_or_end_step, identifier_step, behind_identifier_step, space_step, doctype_step, declaration_step, doctype_keyword_step, raw_step, tag_name_end_step, end_name_step, switch_step, mark_step, mark_and_dash_step, raw_solidus_step, raw_less_than_step, raw_place_step, step_at, reference_step, brought_at, cdata_step, declaration_answer_step}
+use Rattle.html5grammar.specs.Machine.{closing_step, tag_name_step, part_step, attribute_name_step, after_attribute_name_step, quoted_step, unquoted_step, before_value_step, tag_step, data_step, less_than_step, solidus_step, bogus_comment_step, comment_step, instruction_step, skipped_step, wanted_name_step, doctype_name_step, keyword_or_end_step, wanted_identifier_step, system_or_end_step, identifier_step, after_identifier_step, space_step, doctype_step, declaration_step, doctype_keyword_step, raw_step, tag_name_end_step, end_name_step, switch_step, mark_step, mark_and_dash_step, raw_solidus_step, raw_less_than_step, raw_place_step, step_at, reference_step, brought_at, cdata_step, declaration_answer_step}
 
 unfoldable pub NoTags : List Told → Type 0
 NoTags [] = Unit {0}
@@ -60,13 +60,13 @@ unfolding NoTags
 no_tags-texts [] = tt
 no_tags-texts (c ∷ characters) = (refl, no_tags-texts characters)
 
-pub no_tags-told_behind : (kind : RawKind) → NoTags (told_behind_less_than kind)
+pub no_tags-told_after : (kind : RawKind) → NoTags (told_after_less_than kind)
 unfolding NoTags
-no_tags-told_behind raw_kind.Rcdata = (refl, tt)
-no_tags-told_behind raw_kind.Rawtext = (refl, tt)
-no_tags-told_behind raw_kind.ScriptData = (refl, tt)
-no_tags-told_behind (raw_kind.ScriptDataEscaped escape_kind.Escaped) = (refl, tt)
-no_tags-told_behind (raw_kind.ScriptDataEscaped escape_kind.DoubleEscaped) = tt
+no_tags-told_after raw_kind.Rcdata = (refl, tt)
+no_tags-told_after raw_kind.Rawtext = (refl, tt)
+no_tags-told_after raw_kind.ScriptData = (refl, tt)
+no_tags-told_after (raw_kind.ScriptDataEscaped escape_kind.Escaped) = (refl, tt)
+no_tags-told_after (raw_kind.ScriptDataEscaped escape_kind.DoubleEscaped) = tt
 
 no_tags-raw_solidus : (kind : RawKind) (name : List ℕ) → NoTagsHere (raw_solidus_step kind name)
 unfolding raw_solidus_step NoTagsHere NoTags
@@ -227,10 +227,10 @@ module _ (exact : Bool) (c : ℕ) where
   unfolding system_or_end_step NoTagsHere NoTags
   no_tags-system_or_end is_direct named d = no_tags-if (c == greater_than) _ _ (refl, tt) (no_tags-wanted_identifier is_direct named System d)
 
-  no_tags-behind_identifier : (kind : DoctypeIdKind) (d : DoctypeOf) → NoTagsHere (behind_identifier_step exact kind d c)
-  unfolding behind_identifier_step NoTagsHere NoTags
-  no_tags-behind_identifier Public d = no_tags-if (is_white_space c) _ _ tt (no_tags-system_or_end true (state.AfterDoctypeIdentifier Public) d)
-  no_tags-behind_identifier System d =
+  no_tags-after_identifier : (kind : DoctypeIdKind) (d : DoctypeOf) → NoTagsHere (after_identifier_step exact kind d c)
+  unfolding after_identifier_step NoTagsHere NoTags
+  no_tags-after_identifier Public d = no_tags-if (is_white_space c) _ _ tt (no_tags-system_or_end true (state.AfterDoctypeIdentifier Public) d)
+  no_tags-after_identifier System d =
       no_tags-if (is_white_space c) _ _ tt (no_tags-if (c == greater_than) _ _ (refl, tt) (no_tags-skipped _ d (refl, tt)))
 
   no_tags-space : (place : DoctypePlace) (d : DoctypeOf) (next : Here Open) → NoTagsHere next → NoTagsHere (space_step place d c next)
@@ -249,7 +249,7 @@ module _ (exact : Bool) (c : ℕ) where
   no_tags-doctype (BeforeIdentifier kind) d = no_tags-space _ d _ (no_tags-wanted_identifier false (state.BeforeDoctypeIdentifier kind) kind d)
   no_tags-doctype (InIdentifier quotes kind) d =
       no_tags-if (in_identifier quotes c) _ _ (no_tags-where _ _ refl) (no_tags-if (c == greater_than) _ _ (refl, (refl, tt)) tt)
-  no_tags-doctype (AfterIdentifier kind) d = no_tags-behind_identifier kind d
+  no_tags-doctype (AfterIdentifier kind) d = no_tags-after_identifier kind d
   no_tags-doctype BetweenIdentifiers d = no_tags-space _ d _ (no_tags-system_or_end false state.BetweenDoctypePublicAndSystemIdentifiers d)
   no_tags-doctype Skipped d = no_tags-skipped [] d tt
 
@@ -258,16 +258,16 @@ module _ (exact : Bool) (c : ℕ) where
   no_tags-tag_name_end tag =
       no_tags-if (is_white_space c) _ _ tt (no_tags-if (c == solidus) _ _ tt (no_tags-closing [] tag false tt))
 
-  no_tags-behind_less_than : (kind : RawKind) (name : List ℕ) → NoTagsHere (raw_less_than_step exact kind name c)
+  no_tags-after_less_than : (kind : RawKind) (name : List ℕ) → NoTagsHere (raw_less_than_step exact kind name c)
   unfolding raw_less_than_step raw_solidus_step begins_mark begins_switch NoTagsHere NoTags
-  no_tags-behind_less_than kind name =
+  no_tags-after_less_than kind name =
       no_tags-if (c == solidus) _ _ (no_tags-raw_solidus kind name)
       (no_tags-if (begins_mark kind c) _ _ (refl, (refl, tt)) (no_tags-if (begins_switch kind c) _ _ (refl, (refl, tt))
-      (no_tags-raw (raw_of kind) name _ (no_tags-told_behind kind))))
+      (no_tags-raw (raw_of kind) name _ (no_tags-told_after kind))))
 
   no_tags-raw_place : (place : RawPlace) (name : List ℕ) → NoTagsHere (raw_place_step exact place name c)
   unfolding raw_place_step end_name_step switch_step mark_step mark_and_dash_step NoTagsHere NoTags
-  no_tags-raw_place (AfterLessThan kind) name = no_tags-behind_less_than kind name
+  no_tags-raw_place (AfterLessThan kind) name = no_tags-after_less_than kind name
   no_tags-raw_place (InEndName kind letters) name =
       no_tags-if (is_letter c) _ _ tt (no_tags-if (ends_raw_text name letters c) _ _ (no_tags-tag_name_end _) (no_tags-raw (raw_of kind) name _ (no_tags-texts (less_than ∷ solidus ∷ letters))))
   no_tags-raw_place AfterMark name = no_tags-if (c == hyphen) _ _ (refl, tt) (no_tags-raw ScriptData name [] tt)

@@ -7,7 +7,7 @@ use Rattle.html5ever_interface.specs.Token.{Told, Reply, is_tag}
 use Rattle.html5ever_interface.specs.Token.Told.{End}
 use Rattle.html5grammar.specs.Characters.{solidus, less_than}
 use Rattle.html5grammar.specs.EndOfInput.{late_at_end_of, open_at_end_of, told_at_end_of, told_at_raw_end, told_at_doctype_end, raw_end_error, tokens_at_end}
-use Rattle.html5grammar.specs.Lawful.{TellsNoTagBehind}
+use Rattle.html5grammar.specs.Lawful.{TellsNoTagAfter}
 use Rattle.html5grammar.specs.NormalisedText.{normalised, line_after}
 use Rattle.html5grammar.specs.RawText.{texts}
 use Rattle.html5grammar.specs.Reading.{reading, told, messages, after}
@@ -18,7 +18,7 @@ use Rattle.html5grammar.specs.Start.Mode.{Data, Plain, RawText, Cdata}
 use Rattle.html5grammar.specs.Start.RawPlace.{AfterLessThan, InEndName, AfterMark, AfterMarkAndDash, InSwitch}
 use Rattle.html5grammar.specs.Start.DoctypePlace.{Skipped}
 use Rattle.html5grammar.specs.Start.Open.{Between, LessThan, LessThanSolidus, InTag, InRaw, InDeclaration, InComment, InBogusComment, InInstruction, InDoctype, InDoctypeKeyword, InCdata, InReference}
-use Rattle.html5grammar.proofs.NoTags.{NoTags, no_tags-append, no_tags-texts, no_tags-told_behind, no_tags-late_tokens, no_tags-keyword_error}
+use Rattle.html5grammar.proofs.NoTags.{NoTags, no_tags-append, no_tags-texts, no_tags-told_after, no_tags-late_tokens, no_tags-keyword_error}
 use Rattle.html5grammar.proofs.ReadingLemmas.{reading-events, messages-at_end}
 use Rattle.html5grammar.proofs.Traces.{messages-append}
 
@@ -36,7 +36,7 @@ no_tags-raw_error exact (DoubleEscaped dashes) = (refl, tt)
 
 no_tags-raw_end : (exact : Bool) (place : RawPlace) → NoTags (told_at_raw_end exact place)
 unfolding told_at_raw_end NoTags
-no_tags-raw_end exact (AfterLessThan kind) = no_tags-append _ _ (no_tags-told_behind kind) (no_tags-raw_error exact (raw_of kind))
+no_tags-raw_end exact (AfterLessThan kind) = no_tags-append _ _ (no_tags-told_after kind) (no_tags-raw_error exact (raw_of kind))
 no_tags-raw_end exact (InEndName kind letters) =
     no_tags-append (texts (less_than ∷ solidus ∷ letters)) _ (no_tags-texts (less_than ∷ solidus ∷ letters)) (no_tags-raw_error exact (raw_of kind))
 no_tags-raw_end exact AfterMark = tt
@@ -82,7 +82,7 @@ no_tags-on_line line (t ∷ tokens) none =
 
 module _ {S H : Type 0} (step : S → Told → ℕ → S) (reply : S → Told → ℕ → Reply H) (foreign : S → Bool) (rules : Rules) where
   pub cut_off_tags : (K : Start) (s : S) (X : List ℕ)
-      → TellsNoTagBehind (messages (told step reply foreign rules K s X)) (messages (reading step reply foreign rules K s X))
+      → TellsNoTagAfter (messages (told step reply foreign rules K s X)) (messages (reading step reply foreign rules K s X))
   cut_off_tags K s X =
       let opened : Open = (after step reply foreign rules K s X).opened in
       let line : ℕ = line_after K.input (normalised K.input X) in (

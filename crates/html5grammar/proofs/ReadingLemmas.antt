@@ -13,7 +13,7 @@ use Rattle.html5grammar.specs.EndOfInput.{late_at_end_of, open_at_end_of, told_a
 use Rattle.html5grammar.specs.Doctype.{keyword_error}
 use Rattle.html5grammar.specs.ErrorText.{bad_character_error}
 use Rattle.html5grammar.specs.NormalisedText.{with_line_feeds, without_dropped_first, normalised, line_after, input_after}
-use Rattle.html5grammar.specs.Reading.{Event, Here, Brought, Read, brought, is_character, events_at, late_event, late_events, read_here, read_from, read, end_events, reading, told, messages, after, last_behind, open_after_reply}
+use Rattle.html5grammar.specs.Reading.{Event, Here, Brought, Read, brought, is_character, events_at, late_event, late_events, read_here, read_from, read, end_events, reading, told, messages, after, last_after, open_after_reply}
 use Rattle.html5grammar.specs.Reading.TextPlace.{Character, EndOfInput}
 use Rattle.html5grammar.specs.Reference.{Found, in_value, reference, held_text, late_tokens}
 use Rattle.html5ever_interface.specs.declared.states.AttrValueKind.{AttrValueKind}
@@ -159,8 +159,8 @@ module _ (I : Input) (Y : List ℕ) (E : List Event) (none : take_while (λ (e :
   decided-late_at_end rules (InReference stand held) = decided-late_tokens stand (reference rules (in_value stand) held None) held
 
 module _ {S H : Type 0} (step : S → Told → ℕ → S) (reply : S → Told → ℕ → Reply H) (foreign : S → Bool) (rules : Rules) where
-  abbrev pub start_behind : Start → S → List ℕ → Start
-  start_behind K s X = after step reply foreign rules K s X
+  abbrev pub start_beyond : Start → S → List ℕ → Start
+  start_beyond K s X = after step reply foreign rules K s X
 
   -- the events of a reading are decided by characters, but for those of the end
 
@@ -201,7 +201,7 @@ module _ {S H : Type 0} (step : S → Told → ℕ → S) (reply : S → Told �
   -- the messages of the end
   pub messages-at_end : (K : Start) (s : S) (X : List ℕ)
       → messages (end_events step reply foreign rules K (read step reply foreign rules K s X).opened (normalised K.input X))
-      ≡ on_line (line_after K.input (normalised K.input X)) (tokens_at_end rules (start_behind K s X).opened)
+      ≡ on_line (line_after K.input (normalised K.input X)) (tokens_at_end rules (start_beyond K s X).opened)
   unfolding end_events
   messages-at_end K s X =
       let Y : List ℕ = normalised K.input X in
@@ -251,7 +251,7 @@ module _ {S H : Type 0} (step : S → Told → ℕ → S) (reply : S → Told �
   trace-append-here s line last c Y W (TellsTag told tag) ih =
       let tokens : List Told = bad_character_error rules.exact c ++ told in
       let M : List Message = on_line line (tokens ++ Tag tag ∷ []) in
-      let name : List ℕ = last_behind last tag in
+      let name : List ℕ = last_after last tag in
       let later : Open = open_after_reply name (reply (stepped step s (on_line line tokens)) (Tag tag) line) in
       rw (stepped-last s line tokens (Tag tag))
       (ap (with_messages M) (ih (stepped step s M) name later)
@@ -276,49 +276,49 @@ module _ {S H : Type 0} (step : S → Told → ℕ → S) (reply : S → Told �
       trace-append-brought s line last c Y W (brought_at rules (foreign s) opened c) (λ t name later. trace-append t (line_past line c) name later Y W)
 
   pub after-opened : (K : Start) (s : S) (X : List ℕ)
-      → (start_behind K s X).opened ≡ (trace step reply foreign rules s (line_after K.input []) K.last_start_tag K.opened (normalised K.input X)).opened
+      → (start_beyond K s X).opened ≡ (trace step reply foreign rules s (line_after K.input []) K.last_start_tag K.opened (normalised K.input X)).opened
   after-opened K s X = (read-traces K s X).opened
 
   pub after-last : (K : Start) (s : S) (X : List ℕ)
-      → (start_behind K s X).last_start_tag ≡ (trace step reply foreign rules s (line_after K.input []) K.last_start_tag K.opened (normalised K.input X)).last_start_tag
+      → (start_beyond K s X).last_start_tag ≡ (trace step reply foreign rules s (line_after K.input []) K.last_start_tag K.opened (normalised K.input X)).last_start_tag
   after-last K s X = (read-traces K s X).last_start_tag
 
   -- forgetting: what a text tells is what its first part tells, then what the rest tells from the start after that
 
-  abbrev pub state_behind : Start → S → List ℕ → S
-  state_behind K s X = stepped step s (messages (told step reply foreign rules K s X))
+  abbrev pub state_beyond : Start → S → List ℕ → S
+  state_beyond K s X = stepped step s (messages (told step reply foreign rules K s X))
 
-  trace-behind : (K : Start) (s : S) (X Z : List ℕ)
+  trace-after : (K : Start) (s : S) (X Z : List ℕ)
       → trace step reply foreign rules s (line_after K.input []) K.last_start_tag K.opened (normalised K.input (X ++ Z))
       ≡ with_messages (messages (told step reply foreign rules K s X))
-      (trace step reply foreign rules (state_behind K s X) (line_after (input_after K.input X) []) (start_behind K s X).last_start_tag (start_behind K s X).opened (normalised (input_after K.input X) Z))
-  trace-behind K s X Z =
+      (trace step reply foreign rules (state_beyond K s X) (line_after (input_after K.input X) []) (start_beyond K s X).last_start_tag (start_beyond K s X).opened (normalised (input_after K.input X) Z))
+  trace-after K s X Z =
       rw (normalised-append K.input X Z, trace-append s (line_after K.input []) K.last_start_tag K.opened (normalised K.input X) (normalised (input_after K.input X) Z), told-trace K s X, input_after-line_none K.input X, after-opened K s X, after-last K s X) refl
 
   pub told-append : (K : Start) (s : S) (X Z : List ℕ)
       → messages (told step reply foreign rules K s (X ++ Z))
-      ≡ messages (told step reply foreign rules K s X) ++ messages (told step reply foreign rules (start_behind K s X) (state_behind K s X) Z)
+      ≡ messages (told step reply foreign rules K s X) ++ messages (told step reply foreign rules (start_beyond K s X) (state_beyond K s X) Z)
   told-append K s X Z =
       told-trace K s (X ++ Z)
-      ∙ ap (λ (t : Trace). t.messages) (trace-behind K s X Z)
-      ∙ ap (λ M. messages (told step reply foreign rules K s X) ++ M) (sym (told-trace (start_behind K s X) (state_behind K s X) Z))
+      ∙ ap (λ (t : Trace). t.messages) (trace-after K s X Z)
+      ∙ ap (λ M. messages (told step reply foreign rules K s X) ++ M) (sym (told-trace (start_beyond K s X) (state_beyond K s X) Z))
 
   opened-append : (K : Start) (s : S) (X Z : List ℕ)
-      → (start_behind K s (X ++ Z)).opened ≡ (start_behind (start_behind K s X) (state_behind K s X) Z).opened
+      → (start_beyond K s (X ++ Z)).opened ≡ (start_beyond (start_beyond K s X) (state_beyond K s X) Z).opened
   opened-append K s X Z =
       after-opened K s (X ++ Z)
-      ∙ ap (λ (t : Trace). t.opened) (trace-behind K s X Z)
-      ∙ sym (after-opened (start_behind K s X) (state_behind K s X) Z)
+      ∙ ap (λ (t : Trace). t.opened) (trace-after K s X Z)
+      ∙ sym (after-opened (start_beyond K s X) (state_beyond K s X) Z)
 
   last-append : (K : Start) (s : S) (X Z : List ℕ)
-      → (start_behind K s (X ++ Z)).last_start_tag ≡ (start_behind (start_behind K s X) (state_behind K s X) Z).last_start_tag
+      → (start_beyond K s (X ++ Z)).last_start_tag ≡ (start_beyond (start_beyond K s X) (state_beyond K s X) Z).last_start_tag
   last-append K s X Z =
       after-last K s (X ++ Z)
-      ∙ ap (λ (t : Trace). t.last_start_tag) (trace-behind K s X Z)
-      ∙ sym (after-last (start_behind K s X) (state_behind K s X) Z)
+      ∙ ap (λ (t : Trace). t.last_start_tag) (trace-after K s X Z)
+      ∙ sym (after-last (start_beyond K s X) (state_beyond K s X) Z)
 
   -- the start after two parts is the start after the second, from the start after the first
-  pub after-append : (K : Start) (s : S) (X Z : List ℕ) → start_behind K s (X ++ Z) ≡ start_behind (start_behind K s X) (state_behind K s X) Z
+  pub after-append : (K : Start) (s : S) (X Z : List ℕ) → start_beyond K s (X ++ Z) ≡ start_beyond (start_beyond K s X) (state_beyond K s X) Z
   after-append K s X Z =
       rw (opened-append K s X Z, last-append K s X Z, input_after-append K.input X Z) refl
 
@@ -328,7 +328,7 @@ module _ {S H : Type 0} (step : S → Told → ℕ → S) (reply : S → Told �
   unfolding normalised without_dropped_first with_line_feeds trace
   told-nil K s = rw (told-trace K s []) refl
 
-  pub after-nil : (K : Start) (s : S) → start_behind K s [] ≡ K
+  pub after-nil : (K : Start) (s : S) → start_beyond K s [] ≡ K
   unfolding input_after normalised without_dropped_first with_line_feeds trace
   after-nil K s = rw (after-opened K s [], after-last K s []) refl
 
@@ -339,7 +339,7 @@ module _ {S H : Type 0} (step : S → Told → ℕ → S) (reply : S → Told �
   told-none K s c e = rw (told-trace K s (c ∷ []), e) refl
 
   pub after-none : (K : Start) (s : S) (c : ℕ) → normalised K.input (c ∷ []) ≡ []
-      → start_behind K s (c ∷ []) ≡ record { opened = K.opened; last_start_tag = K.last_start_tag; input = input_after K.input (c ∷ []) }
+      → start_beyond K s (c ∷ []) ≡ record { opened = K.opened; last_start_tag = K.last_start_tag; input = input_after K.input (c ∷ []) }
   unfolding trace
   after-none K s c e = rw (after-opened K s (c ∷ []), after-last K s (c ∷ []), e) refl
 
@@ -375,7 +375,7 @@ module _ {S H : Type 0} (step : S → Told → ℕ → S) (reply : S → Told �
   told-one K s c d e = told-trace K s (c ∷ []) ∙ ap (λ (t : Trace). t.messages) (trace-one K s c d e)
 
   pub after-one : (K : Start) (s : S) (c d : ℕ) → normalised K.input (c ∷ []) ≡ d ∷ []
-      → start_behind K s (c ∷ []) ≡ record {
+      → start_beyond K s (c ∷ []) ≡ record {
         opened = opened_here step reply rules (state_here K s d) (input_after K.input (c ∷ [])).line K.last_start_tag d (brought_at rules (foreign s) K.opened d).here;
         last_start_tag = last_here K.last_start_tag (brought_at rules (foreign s) K.opened d).here;
         input = input_after K.input (c ∷ []);

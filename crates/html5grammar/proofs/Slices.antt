@@ -18,21 +18,21 @@ use Rattle.html5ever_interface.specs.declared.states.State.{State}
 use Rattle.html5ever_interface.specs.declared.states.State.TheVariants as state
 use Rattle.html5grammar.specs.Cdata.{ends_cdata, cdata, cdata_from}
 use Rattle.html5grammar.specs.Characters.{null, exclamation_mark, quotation_mark, ampersand, apostrophe, hyphen, solidus, less_than, equals_sign, greater_than, question_mark, is_letter, is_white_space, name_bytes, value_bytes, lower_case}
-use Rattle.html5grammar.specs.Reference.{in_value, reference, is_undecided, ends_number, characters_in, opened_in, late_tokens, opened_behind, behind_held, reference_text, with_value}
-use Rattle.html5grammar.specs.Tag.{null_error, in_quoted, in_unquoted, unquoted_error, in_attribute_name, attribute_name_error, with_last_name, place_error, is_after_solidus, in_tag_name, with_name, closing, behind_tag_name, tag_name, behind_quoted, quoted_value, behind_unquoted, unquoted_value, value, value_behind_space, value_or_next, behind_name_and_space, behind_attribute_name, attribute_behind_first, part}
+use Rattle.html5grammar.specs.Reference.{in_value, reference, is_undecided, ends_number, characters_in, opened_in, late_tokens, opened_after, after_held, reference_text, with_value}
+use Rattle.html5grammar.specs.Tag.{null_error, in_quoted, in_unquoted, unquoted_error, in_attribute_name, attribute_name_error, with_last_name, place_error, is_after_solidus, in_tag_name, with_name, closing, after_tag_name, tag_name, after_quoted, quoted_value, after_unquoted, unquoted_value, value, value_after_space, value_or_next, after_name_and_space, after_attribute_name, attribute_after_first, part}
 use Rattle.std.specs.Str.{bytes_eq}
-use Rattle.html5grammar.specs.Comment.{ends_comment, comment, in_bogus_comment, behind_bogus_comment, bogus_comment, bogus_comment_from, begins_keyword, declaration_error, declaration, cdata_keyword, begins_cdata, declaration_by_answer}
-use Rattle.html5grammar.specs.Doctype.{with_quirks, with_more, with_doctype_name, with_identifier, in_skipped_rest, behind_skipped_rest, skipped_rest, skipped_from, identifier_state, in_identifier, behind_in_identifier, identifier, wanted_identifier, system_or_end, behind_space_between, between_identifiers, behind_identifier, behind_keyword_and_space, identifier_behind_space, behind_keyword, is_keyword, begins_doctype_keyword, keyword_error, doctype_keyword, keyword_or_end, behind_doctype_name_and_space, behind_doctype_name, in_doctype_name, doctype_name, wanted_name, behind_word_and_space, before_doctype_name, word_error, doctype}
-use Rattle.html5grammar.specs.Instruction.{in_instruction, behind_instruction, instruction}
-use Rattle.html5grammar.specs.RawText.{raw_text_of, texts, ends_name, is_rcdata, ends_raw_text, behind_end_name, end_name, behind_mark, behind_mark_and_dash, switched, behind_switch, switch, told_behind_less_than, behind_raw_solidus, begins_mark, begins_switch, behind_raw_less_than, raw_text}
-use Rattle.html5grammar.specs.Text.{behind_solidus, behind_less_than, data_text}
+use Rattle.html5grammar.specs.Comment.{ends_comment, comment, in_bogus_comment, after_bogus_comment, bogus_comment, bogus_comment_from, begins_keyword, declaration_error, declaration, cdata_keyword, begins_cdata, declaration_by_answer}
+use Rattle.html5grammar.specs.Doctype.{with_quirks, with_more, with_doctype_name, with_identifier, in_skipped_rest, after_skipped_rest, skipped_rest, skipped_from, identifier_state, in_identifier, after_in_identifier, identifier, wanted_identifier, system_or_end, after_space_between, between_identifiers, after_identifier, after_keyword_and_space, identifier_after_space, after_keyword, is_keyword, begins_doctype_keyword, keyword_error, doctype_keyword, keyword_or_end, after_doctype_name_and_space, after_doctype_name, in_doctype_name, doctype_name, wanted_name, after_word_and_space, before_doctype_name, word_error, doctype}
+use Rattle.html5grammar.specs.Instruction.{in_instruction, after_instruction, instruction}
+use Rattle.html5grammar.specs.RawText.{raw_text_of, texts, ends_name, is_rcdata, ends_raw_text, after_end_name, end_name, after_mark, after_mark_and_dash, switched, after_switch, switch, told_after_less_than, after_raw_solidus, begins_mark, begins_switch, after_raw_less_than, raw_text}
+use Rattle.html5grammar.specs.Text.{after_solidus, after_less_than, data_text}
 use Rattle.html5grammar.specs.ErrorText.{error_in}
 use Rattle.html5grammar.specs.Cutting.{rest_of, next_slice, slice_at}
 use Rattle.html5grammar.specs.Reading.{Here, Brought, at_first, here, brought_without_answer, brought}
 use Rattle.html5grammar.specs.Reading.Here.{Tells, TellsTag}
-use Rattle.html5grammar.specs.Slice.{Slice, with_run, run_of, behind_run, silent, run_while, behind_while, no_character, with_character}
+use Rattle.html5grammar.specs.Slice.{Slice, with_run, run_of, after_run, silent, run_while, after_while, no_character, with_character}
 use Rattle.html5grammar.specs.Slice.Cell.{Says}
-use Rattle.html5grammar.specs.Slice.Behind.{Leaves}
+use Rattle.html5grammar.specs.Slice.Afterwards.{Leaves}
 use Rattle.html5grammar.specs.Start.{Mode, Raw, OpenTag, Place, RawPlace, Quotes, DoctypePlace, Stand, Open, Rules, begun, raw_of}
 use Rattle.html5grammar.specs.Start.Stand.{InText, InAttribute}
 use Rattle.html5grammar.specs.Start.Raw.{ScriptData}
@@ -41,46 +41,46 @@ use Rattle.html5grammar.specs.Start.RawPlace.{AfterLessThan, InEndName, AfterMar
 use Rattle.html5grammar.specs.Start.Place.{InName, BeforeAttribute, InAttributeName, AfterAttributeName, BeforeValue, InValue, AfterQuotedValue, AfterSolidus}
 use Rattle.html5grammar.specs.Start.DoctypePlace.{AfterWord, BeforeName, InDoctypeName, AfterName, AfterKeyword, BeforeIdentifier, InIdentifier, AfterIdentifier, BetweenIdentifiers, Skipped}
 use Rattle.html5grammar.specs.Start.Open.{Between, LessThan, LessThanSolidus, InTag, InRaw, InDeclaration, InComment, InBogusComment, InInstruction, InDoctype, InDoctypeKeyword, InCdata, InReference}
-use Rattle.html5grammar.specs.Machine.{step_at, brought_at, reference_step, closing_step, tag_name_step, part_step, attribute_name_step, after_attribute_name_step, quoted_step, unquoted_step, before_value_step, tag_step, data_step, less_than_step, solidus_step, bogus_comment_step, comment_step, instruction_step, cdata_step, skipped_step, wanted_name_step, doctype_name_step, keyword_or_end_step, wanted_identifier_step, system_or_end_step, identifier_step, behind_identifier_step, space_step, doctype_step, declaration_answer_step, declaration_step, doctype_keyword_step, raw_step, tag_name_end_step, end_name_step, switch_step, mark_step, mark_and_dash_step, raw_solidus_step, raw_less_than_step, raw_place_step}
+use Rattle.html5grammar.specs.Machine.{step_at, brought_at, reference_step, closing_step, tag_name_step, part_step, attribute_name_step, after_attribute_name_step, quoted_step, unquoted_step, before_value_step, tag_step, data_step, less_than_step, solidus_step, bogus_comment_step, comment_step, instruction_step, cdata_step, skipped_step, wanted_name_step, doctype_name_step, keyword_or_end_step, wanted_identifier_step, system_or_end_step, identifier_step, after_identifier_step, space_step, doctype_step, declaration_answer_step, declaration_step, doctype_keyword_step, raw_step, tag_name_end_step, end_name_step, switch_step, mark_step, mark_and_dash_step, raw_solidus_step, raw_less_than_step, raw_place_step}
 
 abbrev pub going : {F G : Type 0} → (F → G) → Here F → Here G
 going f (Tells told goes_on) = Tells told (f goes_on)
 going f (TellsTag told tag) = TellsTag told tag
 
 -- a run that goes on
-pub with_run-member : (is_kind : ℕ → Bool) (tells : ℕ → List Told) (behind : List ℕ → List ℕ → Slice) (c : ℕ) (text : List ℕ) → is_kind c ≡ true
-    → with_run tells (run_of is_kind (c ∷ text)) (behind (run_of is_kind (c ∷ text)) (behind_run is_kind (c ∷ text)))
+pub with_run-member : (is_kind : ℕ → Bool) (tells : ℕ → List Told) (afterwards : List ℕ → List ℕ → Slice) (c : ℕ) (text : List ℕ) → is_kind c ≡ true
+    → with_run tells (run_of is_kind (c ∷ text)) (afterwards (run_of is_kind (c ∷ text)) (after_run is_kind (c ∷ text)))
     ≡ record {
-      cells = Says (tells c) ∷ (with_run tells (run_of is_kind text) (behind (c ∷ run_of is_kind text) (behind_run is_kind text))).cells;
-      behind = (behind (c ∷ run_of is_kind text) (behind_run is_kind text)).behind;
+      cells = Says (tells c) ∷ (with_run tells (run_of is_kind text) (afterwards (c ∷ run_of is_kind text) (after_run is_kind text))).cells;
+      afterwards = (afterwards (c ∷ run_of is_kind text) (after_run is_kind text)).afterwards;
     }
-unfolding run_of behind_run
-with_run-member is_kind tells behind c text h = rw h refl
+unfolding run_of after_run
+with_run-member is_kind tells afterwards c text h = rw h refl
 
 -- a run that ends at once
-pub with_run-none : (is_kind : ℕ → Bool) (tells : ℕ → List Told) (behind : List ℕ → List ℕ → Slice) (c : ℕ) (text : List ℕ) → is_kind c ≡ false
-    → with_run tells (run_of is_kind (c ∷ text)) (behind (run_of is_kind (c ∷ text)) (behind_run is_kind (c ∷ text)))
-    ≡ behind [] (c ∷ text)
-unfolding run_of behind_run
-with_run-none is_kind tells behind c text h = rw h refl
+pub with_run-none : (is_kind : ℕ → Bool) (tells : ℕ → List Told) (afterwards : List ℕ → List ℕ → Slice) (c : ℕ) (text : List ℕ) → is_kind c ≡ false
+    → with_run tells (run_of is_kind (c ∷ text)) (afterwards (run_of is_kind (c ∷ text)) (after_run is_kind (c ∷ text)))
+    ≡ afterwards [] (c ∷ text)
+unfolding run_of after_run
+with_run-none is_kind tells afterwards c text h = rw h refl
 
 -- the same where the kind is one of the run so far
 
-with_while-member : (is_kind : List ℕ → Bool) (behind : List ℕ → List ℕ → Slice) (held : List ℕ) (c : ℕ) (text : List ℕ) → is_kind (held ++ c ∷ []) ≡ true
-    → with_run silent (run_while is_kind held (c ∷ text)) (behind (held ++ run_while is_kind held (c ∷ text)) (behind_while is_kind held (c ∷ text)))
+with_while-member : (is_kind : List ℕ → Bool) (afterwards : List ℕ → List ℕ → Slice) (held : List ℕ) (c : ℕ) (text : List ℕ) → is_kind (held ++ c ∷ []) ≡ true
+    → with_run silent (run_while is_kind held (c ∷ text)) (afterwards (held ++ run_while is_kind held (c ∷ text)) (after_while is_kind held (c ∷ text)))
     ≡ with_character [] (with_run silent (run_while is_kind (held ++ c ∷ []) text)
-    (behind ((held ++ c ∷ []) ++ run_while is_kind (held ++ c ∷ []) text) (behind_while is_kind (held ++ c ∷ []) text)))
-unfolding run_while behind_while
-with_while-member is_kind behind held c text h =
+    (afterwards ((held ++ c ∷ []) ++ run_while is_kind (held ++ c ∷ []) text) (after_while is_kind (held ++ c ∷ []) text)))
+unfolding run_while after_while
+with_while-member is_kind afterwards held c text h =
     let run : List ℕ = run_while is_kind (held ++ c ∷ []) text in
-    let later : List ℕ = behind_while is_kind (held ++ c ∷ []) text in
-    rw h (ap (λ (all : List ℕ). with_run silent (c ∷ run) (behind all later)) (sym (append_assoc held (c ∷ []) run)))
+    let later : List ℕ = after_while is_kind (held ++ c ∷ []) text in
+    rw h (ap (λ (all : List ℕ). with_run silent (c ∷ run) (afterwards all later)) (sym (append_assoc held (c ∷ []) run)))
 
-with_while-none : (is_kind : List ℕ → Bool) (behind : List ℕ → List ℕ → Slice) (held : List ℕ) (c : ℕ) (text : List ℕ) → is_kind (held ++ c ∷ []) ≡ false
-    → with_run silent (run_while is_kind held (c ∷ text)) (behind (held ++ run_while is_kind held (c ∷ text)) (behind_while is_kind held (c ∷ text)))
-    ≡ behind held (c ∷ text)
-unfolding run_while behind_while
-with_while-none is_kind behind held c text h = rw h (ap (λ (all : List ℕ). behind all (c ∷ text)) (append-nil held))
+with_while-none : (is_kind : List ℕ → Bool) (afterwards : List ℕ → List ℕ → Slice) (held : List ℕ) (c : ℕ) (text : List ℕ) → is_kind (held ++ c ∷ []) ≡ false
+    → with_run silent (run_while is_kind held (c ∷ text)) (afterwards (held ++ run_while is_kind held (c ∷ text)) (after_while is_kind held (c ∷ text)))
+    ≡ afterwards held (c ∷ text)
+unfolding run_while after_while
+with_while-none is_kind afterwards held c text h = rw h (ap (λ (all : List ℕ). afterwards all (c ∷ text)) (append-nil held))
 
 -- a tag with more of its name, or of its last attribute
 
@@ -155,7 +155,7 @@ module _ (rules : Rules) (foreign : Bool) (c : ℕ) (text : List ℕ) where
 
   -- the same of a slice that c begins
   abbrev pub begins : Slice → Here Open → Type 0
-  begins slice step = at_first rules text slice.cells slice.behind ≡ going rest step
+  begins slice step = at_first rules text slice.cells slice.afterwards ≡ going rest step
 
   begins-if : (test : Bool) (a b : Slice) (p q : Here Open) → begins a p → begins b q → begins (if test then a else b) (if test then p else q)
   begins-if true a b p q f g = f
@@ -166,65 +166,65 @@ module _ (rules : Rules) (foreign : Bool) (c : ℕ) (text : List ℕ) where
   begins-closing errors tag self_closing = refl
 
   -- what goes on inside a run, and what follows it
-  follows-run : (is_kind : ℕ → Bool) (tells : ℕ → List Told) (behind : List ℕ → List ℕ → Slice) (opened : Open) (next : Here Open)
-      → (rest_of rules opened text ≡ with_run tells (run_of is_kind text) (behind (c ∷ run_of is_kind text) (behind_run is_kind text)))
-      → follows (behind [] (c ∷ text)) next
+  follows-run : (is_kind : ℕ → Bool) (tells : ℕ → List Told) (afterwards : List ℕ → List ℕ → Slice) (opened : Open) (next : Here Open)
+      → (rest_of rules opened text ≡ with_run tells (run_of is_kind text) (afterwards (c ∷ run_of is_kind text) (after_run is_kind text)))
+      → follows (afterwards [] (c ∷ text)) next
       → (member : Bool) → is_kind c ≡ member
-      → follows (with_run tells (run_of is_kind (c ∷ text)) (behind (run_of is_kind (c ∷ text)) (behind_run is_kind (c ∷ text))))
+      → follows (with_run tells (run_of is_kind (c ∷ text)) (afterwards (run_of is_kind (c ∷ text)) (after_run is_kind (c ∷ text))))
       (if member then Tells (tells c) opened else next)
   unfolding here slice_at brought
-  follows-run is_kind tells behind opened next inside stops true h =
-      let e = with_run-member is_kind tells behind c text h in
+  follows-run is_kind tells afterwards opened next inside stops true h =
+      let e = with_run-member is_kind tells afterwards c text h in
       (ap (λ (s : Slice). here rules s c text) e ∙ rw inside refl, subst decides_nothing (sym e) refl)
-  follows-run is_kind tells behind opened next inside stops false h =
-      let e = with_run-none is_kind tells behind c text h in
+  follows-run is_kind tells afterwards opened next inside stops false h =
+      let e = with_run-none is_kind tells afterwards c text h in
       (ap (λ (s : Slice). here rules s c text) e ∙ stops.0, subst decides_nothing (sym e) stops.1)
 
   follows-closing : (errors : List Told) (tag : OpenTag) (self_closing : Bool) → follows (closing errors tag self_closing) (closing_step errors tag self_closing)
   unfolding here slice_at brought closing closing_step
   follows-closing errors tag self_closing = (refl, refl)
 
-  follows-behind_tag_name : (tag : OpenTag) → follows (behind_tag_name tag (c ∷ text))
+  follows-after_tag_name : (tag : OpenTag) → follows (after_tag_name tag (c ∷ text))
       (if is_white_space c then Tells [] (InTag BeforeAttribute tag) else if c == solidus then Tells [] (InTag AfterSolidus tag) else closing_step [] tag false)
-  unfolding behind_tag_name here slice_at brought rest_of
-  follows-behind_tag_name tag =
+  unfolding after_tag_name here slice_at brought rest_of
+  follows-after_tag_name tag =
       follows-if (is_white_space c) _ _ _ _ (refl, refl) (follows-if (c == solidus) _ _ _ _ (refl, refl) (follows-closing [] tag false))
 
   follows-tag_name : (tag : OpenTag) → follows (tag_name rules.exact tag (c ∷ text)) (tag_name_step rules.exact tag c)
   unfolding tag_name tag_name_step rest_of
   follows-tag_name tag =
-      follows-run in_tag_name (null_error rules.exact state.TagName) (λ run rest. behind_tag_name (with_name tag run) rest) (InTag InName (with_name tag (c ∷ []))) _
+      follows-run in_tag_name (null_error rules.exact state.TagName) (λ run rest. after_tag_name (with_name tag run) rest) (InTag InName (with_name tag (c ∷ []))) _
       (rw (with_name-cons tag c (run_of in_tag_name text)) refl)
-      (rw (with_name-nil tag) (follows-behind_tag_name tag))
+      (rw (with_name-nil tag) (follows-after_tag_name tag))
       (in_tag_name c) refl
 
-  follows-behind_quoted : (kind : AttrValueKind) (tag : OpenTag) → follows (behind_quoted rules kind tag (c ∷ text))
+  follows-after_quoted : (kind : AttrValueKind) (tag : OpenTag) → follows (after_quoted rules kind tag (c ∷ text))
       (if c == ampersand then Tells [] (InReference (InAttribute kind tag) []) else Tells [] (InTag AfterQuotedValue tag))
-  unfolding behind_quoted here slice_at brought rest_of
-  follows-behind_quoted kind tag = follows-if (c == ampersand) _ _ _ _ (refl, refl) (refl, refl)
+  unfolding after_quoted here slice_at brought rest_of
+  follows-after_quoted kind tag = follows-if (c == ampersand) _ _ _ _ (refl, refl) (refl, refl)
 
   follows-quoted : (kind : AttrValueKind) (tag : OpenTag)
       → ((t : OpenTag) → rest_of rules (InTag (InValue kind) t) text ≡ quoted_value rules kind t text)
       → follows (quoted_value rules kind tag (c ∷ text)) (quoted_step rules.exact kind tag c)
   unfolding quoted_value quoted_step
   follows-quoted kind tag rest =
-      follows-run (in_quoted kind) (null_error rules.exact (state.AttributeValue kind)) (λ run later. behind_quoted rules kind (with_value tag run) later) (InTag (InValue kind) (with_value tag (c ∷ []))) _
+      follows-run (in_quoted kind) (null_error rules.exact (state.AttributeValue kind)) (λ run later. after_quoted rules kind (with_value tag run) later) (InTag (InValue kind) (with_value tag (c ∷ []))) _
       (rest (with_value tag (c ∷ [])) ∙ rw (with_value-cons tag c (run_of (in_quoted kind) text)) refl)
-      (rw (with_value-nil tag) (follows-behind_quoted kind tag))
+      (rw (with_value-nil tag) (follows-after_quoted kind tag))
       (in_quoted kind c) refl
 
-  follows-behind_unquoted : (tag : OpenTag) → follows (behind_unquoted rules tag (c ∷ text))
+  follows-after_unquoted : (tag : OpenTag) → follows (after_unquoted rules tag (c ∷ text))
       (if c == ampersand then Tells [] (InReference (InAttribute Unquoted tag) []) else if c == greater_than then closing_step [] tag false else Tells [] (InTag BeforeAttribute tag))
-  unfolding behind_unquoted here slice_at brought rest_of
-  follows-behind_unquoted tag =
+  unfolding after_unquoted here slice_at brought rest_of
+  follows-after_unquoted tag =
       follows-if (c == ampersand) _ _ _ _ (refl, refl) (follows-if (c == greater_than) _ _ _ _ (follows-closing [] tag false) (refl, refl))
 
   follows-unquoted : (tag : OpenTag) → follows (unquoted_value rules tag (c ∷ text)) (unquoted_step rules.exact tag c)
   unfolding unquoted_value unquoted_step rest_of
   follows-unquoted tag =
-      follows-run in_unquoted (unquoted_error rules.exact) (λ run later. behind_unquoted rules (with_value tag run) later) (InTag (InValue Unquoted) (with_value tag (c ∷ []))) _
+      follows-run in_unquoted (unquoted_error rules.exact) (λ run later. after_unquoted rules (with_value tag run) later) (InTag (InValue Unquoted) (with_value tag (c ∷ []))) _
       (rw (with_value-cons tag c (run_of in_unquoted text)) refl)
-      (rw (with_value-nil tag) (follows-behind_unquoted tag))
+      (rw (with_value-nil tag) (follows-after_unquoted tag))
       (in_unquoted c) refl
 
   -- a value and what comes before it
@@ -241,9 +241,9 @@ module _ (rules : Rules) (foreign : Bool) (c : ℕ) (text : List ℕ) where
       (follows-if (c == greater_than) _ _ _ _ (follows-closing (error_in rules.exact state.BeforeAttributeValue equals_sign ∷ []) tag false)
       (follows-unquoted tag)))
 
-  follows-value_behind_space : (tag : OpenTag) → follows (value_behind_space rules tag (c ∷ text)) (before_value_step rules.exact tag c)
-  unfolding value_behind_space before_value_step rest_of
-  follows-value_behind_space tag =
+  follows-value_after_space : (tag : OpenTag) → follows (value_after_space rules tag (c ∷ text)) (before_value_step rules.exact tag c)
+  unfolding value_after_space before_value_step rest_of
+  follows-value_after_space tag =
       follows-run is_white_space silent (λ run later. value rules tag later) (InTag BeforeValue tag) _ refl (follows-value tag) (is_white_space c) refl
 
   -- attributes
@@ -259,27 +259,27 @@ module _ (rules : Rules) (foreign : Bool) (c : ℕ) (text : List ℕ) where
   unfolding value_or_next here slice_at brought rest_of next_slice
   follows-value_or_next tag = follows-if (c == equals_sign) _ _ _ _ (refl, refl) (begins-part AfterAttributeName tag, refl)
 
-  follows-behind_name_and_space : (tag : OpenTag) → follows (behind_name_and_space rules tag (c ∷ text)) (after_attribute_name_step rules.exact tag c)
-  unfolding behind_name_and_space after_attribute_name_step rest_of
-  follows-behind_name_and_space tag =
+  follows-after_name_and_space : (tag : OpenTag) → follows (after_name_and_space rules tag (c ∷ text)) (after_attribute_name_step rules.exact tag c)
+  unfolding after_name_and_space after_attribute_name_step rest_of
+  follows-after_name_and_space tag =
       follows-run is_white_space silent (λ run later. value_or_next rules tag later) (InTag AfterAttributeName tag) _ refl (follows-value_or_next tag) (is_white_space c) refl
 
-  follows-behind_attribute_name : (tag : OpenTag) → follows (behind_attribute_name rules tag (c ∷ text))
+  follows-after_attribute_name : (tag : OpenTag) → follows (after_attribute_name rules tag (c ∷ text))
       (if is_white_space c then Tells [] (InTag AfterAttributeName tag)
       else if c == solidus then Tells [] (InTag AfterSolidus tag)
       else if c == equals_sign then Tells [] (InTag BeforeValue tag)
       else closing_step [] tag false)
-  unfolding behind_attribute_name here slice_at brought rest_of
-  follows-behind_attribute_name tag =
+  unfolding after_attribute_name here slice_at brought rest_of
+  follows-after_attribute_name tag =
       follows-if (is_white_space c) _ _ _ _ (refl, refl)
       (follows-if (c == solidus) _ _ _ _ (refl, refl) (follows-if (c == equals_sign) _ _ _ _ (refl, refl) (follows-closing [] tag false)))
 
-  follows-attribute_behind_first : (tag : OpenTag) → follows (attribute_behind_first rules tag (c ∷ text)) (attribute_name_step rules.exact tag c)
-  unfolding attribute_behind_first attribute_name_step rest_of
-  follows-attribute_behind_first tag =
-      follows-run in_attribute_name (attribute_name_error rules.exact) (λ run later. behind_attribute_name rules (with_last_name tag run) later) (InTag InAttributeName (with_last_name tag (c ∷ []))) _
+  follows-attribute_after_first : (tag : OpenTag) → follows (attribute_after_first rules tag (c ∷ text)) (attribute_name_step rules.exact tag c)
+  unfolding attribute_after_first attribute_name_step rest_of
+  follows-attribute_after_first tag =
+      follows-run in_attribute_name (attribute_name_error rules.exact) (λ run later. after_attribute_name rules (with_last_name tag run) later) (InTag InAttributeName (with_last_name tag (c ∷ []))) _
       (rw (with_last_name-cons tag c (run_of in_attribute_name text)) refl)
-      (rw (with_last_name-nil tag) (follows-behind_attribute_name tag))
+      (rw (with_last_name-nil tag) (follows-after_attribute_name tag))
       (in_attribute_name c) refl
 
   -- text
@@ -299,9 +299,9 @@ module _ (rules : Rules) (foreign : Bool) (c : ℕ) (text : List ℕ) where
   unfolding here slice_at brought next_slice
   follows-bogus_comment_from before first = (begins-bogus_comment before first, refl)
 
-  follows-behind_bogus_comment : (before : List ℕ) → follows (behind_bogus_comment before (c ∷ text)) (Tells (Comment before ∷ []) (Between Data))
-  unfolding behind_bogus_comment here slice_at brought rest_of
-  follows-behind_bogus_comment before = (refl, refl)
+  follows-after_bogus_comment : (before : List ℕ) → follows (after_bogus_comment before (c ∷ text)) (Tells (Comment before ∷ []) (Between Data))
+  unfolding after_bogus_comment here slice_at brought rest_of
+  follows-after_bogus_comment before = (refl, refl)
 
   bogus_comment_step-run : (before : List ℕ) → bogus_comment_step rules.exact before [] c
       ≡ (if in_bogus_comment c then Tells (null_error rules.exact state.BogusComment c) (InBogusComment (before ++ flat_map value_bytes (c ∷ []))) else Tells (Comment before ∷ []) (Between Data))
@@ -312,16 +312,16 @@ module _ (rules : Rules) (foreign : Bool) (c : ℕ) (text : List ℕ) where
   unfolding bogus_comment rest_of
   follows-bogus_comment before =
       rw (bogus_comment_step-run before)
-      (follows-run in_bogus_comment (null_error rules.exact state.BogusComment) (λ run later. behind_bogus_comment (before ++ flat_map value_bytes run) later) (InBogusComment (before ++ flat_map value_bytes (c ∷ []))) _
+      (follows-run in_bogus_comment (null_error rules.exact state.BogusComment) (λ run later. after_bogus_comment (before ++ flat_map value_bytes run) later) (InBogusComment (before ++ flat_map value_bytes (c ∷ []))) _
       (rw (bytes-cons value_bytes before c (run_of in_bogus_comment text)) refl)
-      (rw (append-nil before) (follows-behind_bogus_comment before))
+      (rw (append-nil before) (follows-after_bogus_comment before))
       (in_bogus_comment c) refl)
 
   -- processing instructions
 
-  follows-behind_instruction : (before : List ℕ) → follows (behind_instruction before (c ∷ text)) (Tells (Instruction before ∷ []) (Between Data))
-  unfolding behind_instruction here slice_at brought rest_of
-  follows-behind_instruction before = (refl, refl)
+  follows-after_instruction : (before : List ℕ) → follows (after_instruction before (c ∷ text)) (Tells (Instruction before ∷ []) (Between Data))
+  unfolding after_instruction here slice_at brought rest_of
+  follows-after_instruction before = (refl, refl)
 
   instruction_step-run : (before : List ℕ) → instruction_step rules.exact before c
       ≡ (if in_instruction c then Tells (null_error rules.exact state.ProcessingInstruction c) (InInstruction (before ++ flat_map value_bytes (c ∷ []))) else Tells (Instruction before ∷ []) (Between Data))
@@ -332,9 +332,9 @@ module _ (rules : Rules) (foreign : Bool) (c : ℕ) (text : List ℕ) where
   unfolding instruction rest_of
   follows-instruction before =
       rw (instruction_step-run before)
-      (follows-run in_instruction (null_error rules.exact state.ProcessingInstruction) (λ run later. behind_instruction (before ++ flat_map value_bytes run) later) (InInstruction (before ++ flat_map value_bytes (c ∷ []))) _
+      (follows-run in_instruction (null_error rules.exact state.ProcessingInstruction) (λ run later. after_instruction (before ++ flat_map value_bytes run) later) (InInstruction (before ++ flat_map value_bytes (c ∷ []))) _
       (rw (bytes-cons value_bytes before c (run_of in_instruction text)) refl)
-      (rw (append-nil before) (follows-behind_instruction before))
+      (rw (append-nil before) (follows-after_instruction before))
       (in_instruction c) refl)
 
   follows-comment : (before : List ℕ) → follows (comment rules.exact before (c ∷ text)) (comment_step rules.exact before c)
@@ -354,32 +354,32 @@ module _ (rules : Rules) (foreign : Bool) (c : ℕ) (text : List ℕ) where
 
   -- doctypes
 
-  follows-behind_skipped_rest : (d : DoctypeOf) → follows (behind_skipped_rest d (c ∷ text)) (Tells (Doctype d ∷ []) (Between Data))
-  unfolding behind_skipped_rest here slice_at brought rest_of
-  follows-behind_skipped_rest d = (refl, refl)
+  follows-after_skipped_rest : (d : DoctypeOf) → follows (after_skipped_rest d (c ∷ text)) (Tells (Doctype d ∷ []) (Between Data))
+  unfolding after_skipped_rest here slice_at brought rest_of
+  follows-after_skipped_rest d = (refl, refl)
 
   follows-skipped_rest : (d : DoctypeOf) → follows (skipped_rest rules.exact d (c ∷ text)) (skipped_step rules.exact [] d c)
   unfolding skipped_rest skipped_step in_skipped_rest rest_of
   follows-skipped_rest d =
       rw (flipped (c == greater_than) (Tells (Doctype d ∷ []) (Between Data)) (Tells (null_error rules.exact state.BogusDoctype c) (InDoctype Skipped d)))
-      (follows-run in_skipped_rest (null_error rules.exact state.BogusDoctype) (λ run later. behind_skipped_rest d later) (InDoctype Skipped d) _
-      refl (follows-behind_skipped_rest d) (in_skipped_rest c) refl)
+      (follows-run in_skipped_rest (null_error rules.exact state.BogusDoctype) (λ run later. after_skipped_rest d later) (InDoctype Skipped d) _
+      refl (follows-after_skipped_rest d) (in_skipped_rest c) refl)
 
   follows-skipped_from : (errors : List Told) (d : DoctypeOf) → follows (skipped_from rules.exact errors d c text) (skipped_step rules.exact errors d c)
   unfolding skipped_from skipped_step here slice_at brought rest_of
   follows-skipped_from errors d = follows-if (c == greater_than) _ _ _ _ (refl, refl) (refl, refl)
 
-  follows-behind_in_identifier : (quotes : Quotes) (kind : DoctypeIdKind) (d : DoctypeOf) → follows (behind_in_identifier rules.exact quotes kind d (c ∷ text))
+  follows-after_in_identifier : (quotes : Quotes) (kind : DoctypeIdKind) (d : DoctypeOf) → follows (after_in_identifier rules.exact quotes kind d (c ∷ text))
       (if c == greater_than then Tells (error_in rules.exact (identifier_state quotes kind) c ∷ Doctype (with_quirks d) ∷ []) (Between Data) else Tells [] (InDoctype (AfterIdentifier kind) d))
-  unfolding behind_in_identifier here slice_at brought rest_of
-  follows-behind_in_identifier quotes kind d = follows-if (c == greater_than) _ _ _ _ (refl, refl) (refl, refl)
+  unfolding after_in_identifier here slice_at brought rest_of
+  follows-after_in_identifier quotes kind d = follows-if (c == greater_than) _ _ _ _ (refl, refl) (refl, refl)
 
   follows-identifier : (quotes : Quotes) (kind : DoctypeIdKind) (d : DoctypeOf) → follows (identifier rules.exact quotes kind d (c ∷ text)) (identifier_step rules.exact quotes kind d c)
   unfolding identifier identifier_step rest_of
   follows-identifier quotes kind d =
-      follows-run (in_identifier quotes) (null_error rules.exact (identifier_state quotes kind)) (λ run later. behind_in_identifier rules.exact quotes kind (with_identifier kind d run) later) (InDoctype (InIdentifier quotes kind) (with_identifier kind d (c ∷ []))) _
+      follows-run (in_identifier quotes) (null_error rules.exact (identifier_state quotes kind)) (λ run later. after_in_identifier rules.exact quotes kind (with_identifier kind d run) later) (InDoctype (InIdentifier quotes kind) (with_identifier kind d (c ∷ []))) _
       (rw (with_identifier-cons kind d c (run_of (in_identifier quotes) text)) refl)
-      (rw (with_identifier-nil kind d) (follows-behind_in_identifier quotes kind d))
+      (rw (with_identifier-nil kind d) (follows-after_in_identifier quotes kind d))
       (in_identifier quotes c) refl
 
   follows-wanted_identifier : (is_direct : Bool) (named : State) (kind : DoctypeIdKind) (d : DoctypeOf)
@@ -394,19 +394,19 @@ module _ (rules : Rules) (foreign : Bool) (c : ℕ) (text : List ℕ) where
   follows-system_or_end is_direct named d = follows-if (c == greater_than) _ _ _ _ (refl, refl) (follows-wanted_identifier is_direct named System d)
 
   -- white space, and what follows it
-  follows-space : (place : DoctypePlace) (behind : List ℕ → Slice) (d : DoctypeOf) (next : Here Open)
-      → (rest_of rules (InDoctype place d) text ≡ with_run silent (run_of is_white_space text) (behind (behind_run is_white_space text)))
-      → follows (behind (c ∷ text)) next
-      → follows (with_run silent (run_of is_white_space (c ∷ text)) (behind (behind_run is_white_space (c ∷ text)))) (space_step place d c next)
+  follows-space : (place : DoctypePlace) (afterwards : List ℕ → Slice) (d : DoctypeOf) (next : Here Open)
+      → (rest_of rules (InDoctype place d) text ≡ with_run silent (run_of is_white_space text) (afterwards (after_run is_white_space text)))
+      → follows (afterwards (c ∷ text)) next
+      → follows (with_run silent (run_of is_white_space (c ∷ text)) (afterwards (after_run is_white_space (c ∷ text)))) (space_step place d c next)
   unfolding space_step
-  follows-space place behind d next inside stops =
-      follows-run is_white_space silent (λ run later. behind later) (InDoctype place d) next inside stops (is_white_space c) refl
+  follows-space place afterwards d next inside stops =
+      follows-run is_white_space silent (λ run later. afterwards later) (InDoctype place d) next inside stops (is_white_space c) refl
 
   follows-between_identifiers : (d : DoctypeOf) → follows (between_identifiers rules.exact d (c ∷ text))
       (space_step BetweenIdentifiers d c (system_or_end_step rules.exact false state.BetweenDoctypePublicAndSystemIdentifiers d c))
-  unfolding between_identifiers behind_space_between rest_of
+  unfolding between_identifiers after_space_between rest_of
   follows-between_identifiers d =
-      follows-space BetweenIdentifiers (behind_space_between rules.exact d) d _ refl (follows-system_or_end false state.BetweenDoctypePublicAndSystemIdentifiers d)
+      follows-space BetweenIdentifiers (after_space_between rules.exact d) d _ refl (follows-system_or_end false state.BetweenDoctypePublicAndSystemIdentifiers d)
 
   -- the same of a slice that c begins
   begins-skipped_from : (errors : List Told) (d : DoctypeOf) → begins (skipped_from rules.exact errors d c text) (skipped_step rules.exact errors d c)
@@ -424,22 +424,22 @@ module _ (rules : Rules) (foreign : Bool) (c : ℕ) (text : List ℕ) where
   unfolding system_or_end system_or_end_step rest_of
   begins-system_or_end is_direct named d = begins-if (c == greater_than) _ _ _ _ refl (begins-wanted_identifier is_direct named System d)
 
-  begins-behind_identifier : (kind : DoctypeIdKind) (d : DoctypeOf) → begins (behind_identifier rules.exact kind d c text) (behind_identifier_step rules.exact kind d c)
-  unfolding behind_identifier behind_identifier_step rest_of
-  begins-behind_identifier Public d = begins-if (is_white_space c) _ _ _ _ refl (begins-system_or_end true (state.AfterDoctypeIdentifier Public) d)
-  begins-behind_identifier System d =
+  begins-after_identifier : (kind : DoctypeIdKind) (d : DoctypeOf) → begins (after_identifier rules.exact kind d c text) (after_identifier_step rules.exact kind d c)
+  unfolding after_identifier after_identifier_step rest_of
+  begins-after_identifier Public d = begins-if (is_white_space c) _ _ _ _ refl (begins-system_or_end true (state.AfterDoctypeIdentifier Public) d)
+  begins-after_identifier System d =
       begins-if (is_white_space c) _ _ _ _ refl (begins-if (c == greater_than) _ _ _ _ refl (begins-skipped_from _ d))
 
-  follows-identifier_behind_space : (kind : DoctypeIdKind) (d : DoctypeOf) → follows (identifier_behind_space rules.exact kind d (c ∷ text))
+  follows-identifier_after_space : (kind : DoctypeIdKind) (d : DoctypeOf) → follows (identifier_after_space rules.exact kind d (c ∷ text))
       (space_step (BeforeIdentifier kind) d c (wanted_identifier_step rules.exact false (state.BeforeDoctypeIdentifier kind) kind d c))
-  unfolding identifier_behind_space behind_keyword_and_space rest_of
-  follows-identifier_behind_space kind d =
-      follows-space (BeforeIdentifier kind) (behind_keyword_and_space rules.exact kind d) d _ refl (follows-wanted_identifier false (state.BeforeDoctypeIdentifier kind) kind d)
+  unfolding identifier_after_space after_keyword_and_space rest_of
+  follows-identifier_after_space kind d =
+      follows-space (BeforeIdentifier kind) (after_keyword_and_space rules.exact kind d) d _ refl (follows-wanted_identifier false (state.BeforeDoctypeIdentifier kind) kind d)
 
-  follows-behind_keyword : (kind : DoctypeIdKind) (d : DoctypeOf) → follows (behind_keyword rules.exact kind d (c ∷ text))
+  follows-after_keyword : (kind : DoctypeIdKind) (d : DoctypeOf) → follows (after_keyword rules.exact kind d (c ∷ text))
       (space_step (BeforeIdentifier kind) d c (wanted_identifier_step rules.exact true (state.AfterDoctypeKeyword kind) kind d c))
-  unfolding behind_keyword space_step here slice_at brought rest_of
-  follows-behind_keyword kind d = follows-if (is_white_space c) _ _ _ _ (refl, refl) (follows-wanted_identifier true (state.AfterDoctypeKeyword kind) kind d)
+  unfolding after_keyword space_step here slice_at brought rest_of
+  follows-after_keyword kind d = follows-if (is_white_space c) _ _ _ _ (refl, refl) (follows-wanted_identifier true (state.AfterDoctypeKeyword kind) kind d)
 
   follows-keyword_or_end : (d : DoctypeOf) → follows (keyword_or_end rules.exact d (c ∷ text)) (keyword_or_end_step rules.exact d c)
   unfolding keyword_or_end keyword_or_end_step here slice_at brought rest_of
@@ -447,21 +447,21 @@ module _ (rules : Rules) (foreign : Bool) (c : ℕ) (text : List ℕ) where
       follows-if (c == greater_than) _ _ _ _ (refl, refl)
       (follows-if (begins_doctype_keyword (c ∷ [])) _ _ _ _ (refl, refl) (follows-skipped_from _ (with_quirks d)))
 
-  follows-behind_doctype_name_and_space : (d : DoctypeOf) → follows (behind_doctype_name_and_space rules.exact d (c ∷ text)) (space_step AfterName d c (keyword_or_end_step rules.exact d c))
-  unfolding behind_doctype_name_and_space rest_of
-  follows-behind_doctype_name_and_space d = follows-space AfterName (keyword_or_end rules.exact d) d _ refl (follows-keyword_or_end d)
+  follows-after_doctype_name_and_space : (d : DoctypeOf) → follows (after_doctype_name_and_space rules.exact d (c ∷ text)) (space_step AfterName d c (keyword_or_end_step rules.exact d c))
+  unfolding after_doctype_name_and_space rest_of
+  follows-after_doctype_name_and_space d = follows-space AfterName (keyword_or_end rules.exact d) d _ refl (follows-keyword_or_end d)
 
-  follows-behind_doctype_name : (d : DoctypeOf) → follows (behind_doctype_name rules.exact d (c ∷ text))
+  follows-after_doctype_name : (d : DoctypeOf) → follows (after_doctype_name rules.exact d (c ∷ text))
       (if c == greater_than then Tells (Doctype d ∷ []) (Between Data) else Tells [] (InDoctype AfterName d))
-  unfolding behind_doctype_name here slice_at brought rest_of
-  follows-behind_doctype_name d = follows-if (c == greater_than) _ _ _ _ (refl, refl) (refl, refl)
+  unfolding after_doctype_name here slice_at brought rest_of
+  follows-after_doctype_name d = follows-if (c == greater_than) _ _ _ _ (refl, refl) (refl, refl)
 
   follows-doctype_name : (d : DoctypeOf) → follows (doctype_name rules.exact d (c ∷ text)) (doctype_name_step rules.exact d c)
   unfolding doctype_name doctype_name_step rest_of
   follows-doctype_name d =
-      follows-run in_doctype_name (null_error rules.exact state.DoctypeName) (λ run later. behind_doctype_name rules.exact (with_doctype_name d run) later) (InDoctype InDoctypeName (with_doctype_name d (c ∷ []))) _
+      follows-run in_doctype_name (null_error rules.exact state.DoctypeName) (λ run later. after_doctype_name rules.exact (with_doctype_name d run) later) (InDoctype InDoctypeName (with_doctype_name d (c ∷ []))) _
       (rw (with_doctype_name-cons d c (run_of in_doctype_name text)) refl)
-      (rw (with_doctype_name-nil d) (follows-behind_doctype_name d))
+      (rw (with_doctype_name-nil d) (follows-after_doctype_name d))
       (in_doctype_name c) refl
 
   follows-wanted_name : (errors : List Told) (d : DoctypeOf) → follows (wanted_name rules.exact errors d c text) (wanted_name_step rules.exact errors d c)
@@ -469,8 +469,8 @@ module _ (rules : Rules) (foreign : Bool) (c : ℕ) (text : List ℕ) where
   follows-wanted_name errors d = follows-if (c == greater_than) _ _ _ _ (refl, refl) (refl, refl)
 
   follows-before_doctype_name : (d : DoctypeOf) → follows (before_doctype_name rules.exact d (c ∷ text)) (space_step BeforeName d c (wanted_name_step rules.exact [] d c))
-  unfolding before_doctype_name behind_word_and_space rest_of
-  follows-before_doctype_name d = follows-space BeforeName (behind_word_and_space rules.exact d) d _ refl (follows-wanted_name [] d)
+  unfolding before_doctype_name after_word_and_space rest_of
+  follows-before_doctype_name d = follows-space BeforeName (after_word_and_space rules.exact d) d _ refl (follows-wanted_name [] d)
 
   follows-doctype_word : (d : DoctypeOf) → follows (doctype rules.exact d (c ∷ text)) (space_step BeforeName d c (wanted_name_step rules.exact (word_error rules.exact c) d c))
   unfolding doctype space_step here slice_at brought rest_of
@@ -481,22 +481,22 @@ module _ (rules : Rules) (foreign : Bool) (c : ℕ) (text : List ℕ) where
   follows-doctype AfterWord d = follows-doctype_word d
   follows-doctype BeforeName d = follows-before_doctype_name d
   follows-doctype InDoctypeName d = follows-doctype_name d
-  follows-doctype AfterName d = follows-behind_doctype_name_and_space d
-  follows-doctype (AfterKeyword kind) d = follows-behind_keyword kind d
-  follows-doctype (BeforeIdentifier kind) d = follows-identifier_behind_space kind d
+  follows-doctype AfterName d = follows-after_doctype_name_and_space d
+  follows-doctype (AfterKeyword kind) d = follows-after_keyword kind d
+  follows-doctype (BeforeIdentifier kind) d = follows-identifier_after_space kind d
   follows-doctype (InIdentifier quotes kind) d = follows-identifier quotes kind d
-  follows-doctype (AfterIdentifier kind) d = (begins-behind_identifier kind d, refl)
+  follows-doctype (AfterIdentifier kind) d = (begins-after_identifier kind d, refl)
   follows-doctype BetweenIdentifiers d = follows-between_identifiers d
   follows-doctype Skipped d = follows-skipped_rest d
 
-  follows-behind_solidus : follows (behind_solidus rules.exact (c ∷ text)) (solidus_step rules.exact c)
-  unfolding behind_solidus solidus_step here slice_at brought rest_of
-  follows-behind_solidus =
+  follows-after_solidus : follows (after_solidus rules.exact (c ∷ text)) (solidus_step rules.exact c)
+  unfolding after_solidus solidus_step here slice_at brought rest_of
+  follows-after_solidus =
       follows-if (is_letter c) _ _ _ _ (follows-tag_name (begun EndTag)) (follows-if (c == greater_than) _ _ _ _ (refl, refl) (follows-bogus_comment_from [] (error_in rules.exact state.EndTagOpen c ∷ [])))
 
-  follows-behind_less_than : follows (behind_less_than rules.exact (c ∷ text)) (less_than_step rules.exact c)
-  unfolding behind_less_than less_than_step here slice_at brought rest_of next_slice
-  follows-behind_less_than =
+  follows-after_less_than : follows (after_less_than rules.exact (c ∷ text)) (less_than_step rules.exact c)
+  unfolding after_less_than less_than_step here slice_at brought rest_of next_slice
+  follows-after_less_than =
       follows-if (is_letter c) _ _ _ _ (follows-tag_name (begun StartTag))
       (follows-if (c == solidus) _ _ _ _ (refl, refl)
       (follows-if (c == exclamation_mark) _ _ _ _ (refl, refl)
@@ -514,69 +514,69 @@ module _ (rules : Rules) (foreign : Bool) (c : ℕ) (text : List ℕ) where
   unfolding here slice_at brought next_slice
   follows-raw raw name before = (begins-raw_text raw name before, refl)
 
-  follows-tag_name_end : (tag : OpenTag) → follows (behind_tag_name tag (c ∷ text)) (tag_name_end_step tag c)
+  follows-tag_name_end : (tag : OpenTag) → follows (after_tag_name tag (c ∷ text)) (tag_name_end_step tag c)
   unfolding tag_name_end_step
-  follows-tag_name_end tag = follows-behind_tag_name tag
+  follows-tag_name_end tag = follows-after_tag_name tag
 
-  follows-behind_end_name : (kind : RawKind) (name letters : List ℕ) → follows (behind_end_name kind name letters (c ∷ text))
+  follows-after_end_name : (kind : RawKind) (name letters : List ℕ) → follows (after_end_name kind name letters (c ∷ text))
       (if ends_raw_text name letters c then tag_name_end_step (with_name (begun EndTag) letters) c
       else raw_step rules.exact (raw_of kind) name (texts (less_than ∷ solidus ∷ letters)) c)
-  unfolding behind_end_name
-  follows-behind_end_name kind name letters =
+  unfolding after_end_name
+  follows-after_end_name kind name letters =
       follows-if (ends_raw_text name letters c) _ _ _ _ (follows-tag_name_end (with_name (begun EndTag) letters)) (follows-raw (raw_of kind) name _)
 
   follows-end_name : (kind : RawKind) (name letters : List ℕ) → follows (end_name kind name letters (c ∷ text)) (end_name_step rules.exact kind name letters c)
   unfolding end_name end_name_step rest_of
   follows-end_name kind name letters =
-      follows-run is_letter silent (λ run later. behind_end_name kind name (letters ++ run) later) (InRaw (InEndName kind (letters ++ c ∷ [])) name) _
+      follows-run is_letter silent (λ run later. after_end_name kind name (letters ++ run) later) (InRaw (InEndName kind (letters ++ c ∷ [])) name) _
       (rw (append_assoc letters (c ∷ []) (run_of is_letter text)) refl)
-      (rw (append-nil letters) (follows-behind_end_name kind name letters))
+      (rw (append-nil letters) (follows-after_end_name kind name letters))
       (is_letter c) refl
 
-  follows-behind_switch : (kind : ScriptEscapeKind) (name letters : List ℕ) → follows (behind_switch kind name letters (c ∷ text))
+  follows-after_switch : (kind : ScriptEscapeKind) (name letters : List ℕ) → follows (after_switch kind name letters (c ∷ text))
       (if ends_name c then Tells (texts (c ∷ [])) (raw_text_of (raw_kind.ScriptDataEscaped (switched kind letters)) name)
       else raw_step rules.exact (raw_of (raw_kind.ScriptDataEscaped kind)) name [] c)
-  unfolding behind_switch here slice_at brought rest_of
-  follows-behind_switch kind name letters =
+  unfolding after_switch here slice_at brought rest_of
+  follows-after_switch kind name letters =
       follows-if (ends_name c) _ _ _ _ (refl, refl) (follows-raw (raw_of (raw_kind.ScriptDataEscaped kind)) name [])
 
   follows-switch : (kind : ScriptEscapeKind) (name letters : List ℕ) → follows (switch kind name letters (c ∷ text)) (switch_step rules.exact kind name letters c)
   unfolding switch switch_step rest_of
   follows-switch kind name letters =
-      follows-run is_letter (λ d. texts (d ∷ [])) (λ run later. behind_switch kind name (letters ++ run) later) (InRaw (InSwitch kind (letters ++ c ∷ [])) name) _
+      follows-run is_letter (λ d. texts (d ∷ [])) (λ run later. after_switch kind name (letters ++ run) later) (InRaw (InSwitch kind (letters ++ c ∷ [])) name) _
       (rw (append_assoc letters (c ∷ []) (run_of is_letter text)) refl)
-      (rw (append-nil letters) (follows-behind_switch kind name letters))
+      (rw (append-nil letters) (follows-after_switch kind name letters))
       (is_letter c) refl
 
-  follows-behind_mark : (name : List ℕ) → follows (behind_mark name (c ∷ text)) (mark_step rules.exact name c)
-  unfolding behind_mark mark_step here slice_at brought rest_of
-  follows-behind_mark name = follows-if (c == hyphen) _ _ _ _ (refl, refl) (follows-raw ScriptData name [])
+  follows-after_mark : (name : List ℕ) → follows (after_mark name (c ∷ text)) (mark_step rules.exact name c)
+  unfolding after_mark mark_step here slice_at brought rest_of
+  follows-after_mark name = follows-if (c == hyphen) _ _ _ _ (refl, refl) (follows-raw ScriptData name [])
 
-  follows-behind_mark_and_dash : (name : List ℕ) → follows (behind_mark_and_dash name (c ∷ text)) (mark_and_dash_step rules.exact name c)
-  unfolding behind_mark_and_dash mark_and_dash_step here slice_at brought rest_of
-  follows-behind_mark_and_dash name = follows-if (c == hyphen) _ _ _ _ (refl, refl) (follows-raw ScriptData name [])
+  follows-after_mark_and_dash : (name : List ℕ) → follows (after_mark_and_dash name (c ∷ text)) (mark_and_dash_step rules.exact name c)
+  unfolding after_mark_and_dash mark_and_dash_step here slice_at brought rest_of
+  follows-after_mark_and_dash name = follows-if (c == hyphen) _ _ _ _ (refl, refl) (follows-raw ScriptData name [])
 
-  follows-raw_solidus : (kind : RawKind) (name : List ℕ) → follows (behind_raw_solidus kind name text) (raw_solidus_step kind name)
-  unfolding behind_raw_solidus raw_solidus_step here slice_at brought rest_of
+  follows-raw_solidus : (kind : RawKind) (name : List ℕ) → follows (after_raw_solidus kind name text) (raw_solidus_step kind name)
+  unfolding after_raw_solidus raw_solidus_step here slice_at brought rest_of
   follows-raw_solidus raw_kind.Rcdata name = (refl, refl)
   follows-raw_solidus raw_kind.Rawtext name = (refl, refl)
   follows-raw_solidus raw_kind.ScriptData name = (refl, refl)
   follows-raw_solidus (raw_kind.ScriptDataEscaped escape_kind.Escaped) name = (refl, refl)
   follows-raw_solidus (raw_kind.ScriptDataEscaped escape_kind.DoubleEscaped) name = (refl, refl)
 
-  follows-behind_raw_less_than : (kind : RawKind) (name : List ℕ) → follows (behind_raw_less_than kind name (c ∷ text)) (raw_less_than_step rules.exact kind name c)
-  unfolding behind_raw_less_than raw_less_than_step here slice_at brought rest_of
-  follows-behind_raw_less_than kind name =
+  follows-after_raw_less_than : (kind : RawKind) (name : List ℕ) → follows (after_raw_less_than kind name (c ∷ text)) (raw_less_than_step rules.exact kind name c)
+  unfolding after_raw_less_than raw_less_than_step here slice_at brought rest_of
+  follows-after_raw_less_than kind name =
       follows-if (c == solidus) _ _ _ _ (follows-raw_solidus kind name)
       (follows-if (begins_mark kind c) _ _ _ _ (refl, refl)
-      (follows-if (begins_switch kind c) _ _ _ _ (refl, refl) (follows-raw (raw_of kind) name (told_behind_less_than kind))))
+      (follows-if (begins_switch kind c) _ _ _ _ (refl, refl) (follows-raw (raw_of kind) name (told_after_less_than kind))))
 
   follows-raw_place : (place : RawPlace) (name : List ℕ) → follows (rest_of rules (InRaw place name) (c ∷ text)) (step_at rules.exact (InRaw place name) c)
   unfolding rest_of step_at raw_place_step
-  follows-raw_place (AfterLessThan kind) name = follows-behind_raw_less_than kind name
+  follows-raw_place (AfterLessThan kind) name = follows-after_raw_less_than kind name
   follows-raw_place (InEndName kind letters) name = follows-end_name kind name letters
-  follows-raw_place AfterMark name = follows-behind_mark name
-  follows-raw_place AfterMarkAndDash name = follows-behind_mark_and_dash name
+  follows-raw_place AfterMark name = follows-after_mark name
+  follows-raw_place AfterMarkAndDash name = follows-after_mark_and_dash name
   follows-raw_place (InSwitch kind letters) name = follows-switch kind name letters
 
   -- the slice that is open tells at c what the machine does, where that is no reference
@@ -584,9 +584,9 @@ module _ (rules : Rules) (foreign : Bool) (c : ℕ) (text : List ℕ) where
   unfolding rest_of step_at tag_step here slice_at brought next_slice
   follows-tag InName tag = follows-tag_name tag
   follows-tag BeforeAttribute tag = (begins-part BeforeAttribute tag, refl)
-  follows-tag InAttributeName tag = follows-attribute_behind_first tag
-  follows-tag AfterAttributeName tag = follows-behind_name_and_space tag
-  follows-tag BeforeValue tag = follows-value_behind_space tag
+  follows-tag InAttributeName tag = follows-attribute_after_first tag
+  follows-tag AfterAttributeName tag = follows-after_name_and_space tag
+  follows-tag BeforeValue tag = follows-value_after_space tag
   follows-tag (InValue Unquoted) tag = follows-unquoted tag
   follows-tag (InValue SingleQuoted) tag = follows-quoted SingleQuoted tag (λ t. refl)
   follows-tag (InValue DoubleQuoted) tag = follows-quoted DoubleQuoted tag (λ t. refl)
@@ -619,17 +619,17 @@ module _ (rules : Rules) (foreign : Bool) (c : ℕ) (text : List ℕ) where
   here-opened_in (InText mode) characters = (follows-between mode).0
   here-opened_in (InAttribute kind tag) characters = (follows-tag (InValue kind) (with_value tag characters)).0
 
-  brings-behind_held : (stand : Stand) (held : List ℕ) → brings (behind_held rules stand held (c ∷ text))
+  brings-after_held : (stand : Stand) (held : List ℕ) → brings (after_held rules stand held (c ∷ text))
       (if ends_number held c then record {
         settled = late_tokens stand (reference rules (in_value stand) held (Some c)) held;
-        here = Tells [] (opened_behind stand (reference rules (in_value stand) held (Some c)) held);
+        here = Tells [] (opened_after stand (reference rules (in_value stand) held (Some c)) held);
       }
       else record {
         settled = late_tokens stand (reference rules (in_value stand) held (Some c)) held;
-        here = step_at rules.exact (opened_behind stand (reference rules (in_value stand) held (Some c)) held) c;
+        here = step_at rules.exact (opened_after stand (reference rules (in_value stand) held (Some c)) held) c;
       })
-  unfolding behind_held here slice_at brought
-  brings-behind_held stand held =
+  unfolding after_held here slice_at brought
+  brings-after_held stand held =
       brings-if (ends_number held c) _ _ _ _ refl
       (ap (λ h. record { settled = late_tokens stand (reference rules (in_value stand) held (Some c)) held; here = h })
       (here-opened_in stand (characters_in (reference rules (in_value stand) held (Some c)) ++ drop (reference rules (in_value stand) held (Some c)).taken held)))
@@ -638,15 +638,15 @@ module _ (rules : Rules) (foreign : Bool) (c : ℕ) (text : List ℕ) where
       → brings (reference_text rules stand held (c ∷ text)) (reference_step rules stand held c)
   unfolding reference_text reference_step rest_of here slice_at brought
   brings-reference stand held true h =
-      ap (λ (s : Slice). brought rules foreign s c text) (with_while-member (is_undecided rules.names) (behind_held rules stand) held c text h) ∙ rw h refl
+      ap (λ (s : Slice). brought rules foreign s c text) (with_while-member (is_undecided rules.names) (after_held rules stand) held c text h) ∙ rw h refl
   brings-reference stand held false h =
-      ap (λ (s : Slice). brought rules foreign s c text) (with_while-none (is_undecided rules.names) (behind_held rules stand) held c text h) ∙ rw h (brings-behind_held stand held)
+      ap (λ (s : Slice). brought rules foreign s c text) (with_while-none (is_undecided rules.names) (after_held rules stand) held c text h) ∙ rw h (brings-after_held stand held)
 
   -- after `<!`
 
   -- the slice brings that by itself
   abbrev brings_unasked : Slice → Brought Open → Type 0
-  brings_unasked slice next = brought_without_answer rules slice.cells slice.behind c text ≡ record { settled = next.settled; here = going rest next.here }
+  brings_unasked slice next = brought_without_answer rules slice.cells slice.afterwards c text ≡ record { settled = next.settled; here = going rest next.here }
 
   brings_unasked-if : (test : Bool) (a b : Slice) (p q : Brought Open) → brings_unasked a p → brings_unasked b q → brings_unasked (if test then a else b) (if test then p else q)
   brings_unasked-if true a b p q f g = f
@@ -677,8 +677,8 @@ module _ (rules : Rules) (foreign : Bool) (c : ℕ) (text : List ℕ) where
   pub rest_of-brought_at : (opened : Open) → brings (rest_of rules opened (c ∷ text)) (brought_at rules foreign opened c)
   unfolding rest_of brought_at step_at here slice_at brought next_slice
   rest_of-brought_at (Between mode) = brings-from (rest_of rules (Between mode) (c ∷ text)) _ (follows-between mode)
-  rest_of-brought_at LessThan = brings-from (rest_of rules LessThan (c ∷ text)) _ follows-behind_less_than
-  rest_of-brought_at LessThanSolidus = brings-from (rest_of rules LessThanSolidus (c ∷ text)) _ follows-behind_solidus
+  rest_of-brought_at LessThan = brings-from (rest_of rules LessThan (c ∷ text)) _ follows-after_less_than
+  rest_of-brought_at LessThanSolidus = brings-from (rest_of rules LessThanSolidus (c ∷ text)) _ follows-after_solidus
   rest_of-brought_at (InTag place tag) = brings-from (rest_of rules (InTag place tag) (c ∷ text)) _ (follows-tag place tag)
   rest_of-brought_at (InRaw place name) = brings-from (rest_of rules (InRaw place name) (c ∷ text)) _ (follows-raw_place place name)
   rest_of-brought_at (InDeclaration held) = brings-declaration held

@@ -13,7 +13,7 @@ use Rattle.html5ever_interface.specs.Token.Told.{Tag}
 use Rattle.html5grammar.specs.EndOfInput.{late_at_end_of, open_at_end_of, told_at_end_of}
 use Rattle.html5grammar.specs.ErrorText.{bad_character_error}
 use Rattle.html5grammar.specs.NormalisedText.{normalised, line_after, input_after}
-use Rattle.html5grammar.specs.Reading.{Event, TextPlace, Here, Brought, Read, with_events, events_at, late_event, late_events, read_here, read_from, read, end_events, reading, told, messages, is_among, last_behind, open_after_reply}
+use Rattle.html5grammar.specs.Reading.{Event, TextPlace, Here, Brought, Read, with_events, events_at, late_event, late_events, read_here, read_from, read, end_events, reading, told, messages, is_among, last_after, open_after_reply}
 use Rattle.html5grammar.specs.Reading.TextPlace.{Character, EndOfInput}
 use Rattle.html5grammar.specs.Reading.Here.{Tells, TellsTag}
 use Rattle.html5grammar.specs.Slice.{Slice, Late, cut_off, tokens_of_late}
@@ -21,7 +21,7 @@ use Rattle.html5grammar.specs.Cutting.{rest_of}
 use Rattle.html5grammar.specs.Characters.{lower_case}
 use Rattle.html5grammar.specs.Comment.{declaration_error, begins_keyword, begins_cdata, cdata_keyword}
 use Rattle.html5grammar.specs.Doctype.{keyword_error, is_keyword, begins_doctype_keyword, with_quirks}
-use Rattle.html5grammar.specs.Reference.{Found, in_value, reference, is_undecided, ends_number, opened_behind, text_in, told_of, held_text, late_tokens}
+use Rattle.html5grammar.specs.Reference.{Found, in_value, reference, is_undecided, ends_number, opened_after, text_in, told_of, held_text, late_tokens}
 use Rattle.html5grammar.specs.Start.{Input, Start, Stand, Open, Rules}
 use Rattle.html5grammar.specs.Start.Stand.{InText, InAttribute}
 use Rattle.html5grammar.specs.Start.Open.{InReference, InDeclaration, InDoctypeKeyword}
@@ -72,17 +72,17 @@ module _ {S H : Type 0} (step : S → Told → ℕ → S) (reply : S → Told �
       let tokens : List Told = bad_character_error rules.exact c ++ here in
       let line : ℕ = line_after K.input (before ++ c ∷ []) in
       let t : S = stepped step s (on_line line tokens) in
-      let name : List ℕ = last_behind last tag in
+      let name : List ℕ = last_after last tag in
       let state : step t (Tag tag) line ≡ stepped step s (on_line line (tokens ++ Tag tag ∷ [])) =
       sym (ap (stepped step s) (map-append (λ (token : Told). record { token = token; line = line }) tokens (Tag tag ∷ [])) ∙ stepped-append step s (on_line line tokens) (on_line line (Tag tag ∷ []))) in
       let u : S = step t (Tag tag) line in
       let M : List Message = on_line line (tokens ++ Tag tag ∷ []) in
-      let behind : Open = open_after_reply name (reply t (Tag tag) line) in
+      let afterwards : Open = open_after_reply name (reply t (Tag tag) line) in
       let at : Slice → List ℕ → Read = λ slice text. read_from step reply foreign rules K u name (before ++ c ∷ []) slice text in
       splits-with s (events_at K.input before c (tokens ++ Tag tag ∷ [])) M _ _ tail (messages-here before c (tokens ++ Tag tag ∷ []))
-      (subst (λ x. Splits (stepped step s M) (at x (A ++ B)) (at (cut_off behind) A) tail) (sym (rest_of-reply rules name (reply t (Tag tag) line) (A ++ B)))
-      (subst (λ x. Splits (stepped step s M) (at (rest_of rules behind (A ++ B)) (A ++ B)) (at x A) tail) (sym (rest_of-reply rules name (reply t (Tag tag) line) A))
-      (subst (λ v. Splits v (from (before ++ c ∷ []) (A ++ B) u name behind) (from (before ++ c ∷ []) A u name behind) tail) state (ih u name behind))))
+      (subst (λ x. Splits (stepped step s M) (at x (A ++ B)) (at (cut_off afterwards) A) tail) (sym (rest_of-reply rules name (reply t (Tag tag) line) (A ++ B)))
+      (subst (λ x. Splits (stepped step s M) (at (rest_of rules afterwards (A ++ B)) (A ++ B)) (at x A) tail) (sym (rest_of-reply rules name (reply t (Tag tag) line) A))
+      (subst (λ v. Splits v (from (before ++ c ∷ []) (A ++ B) u name afterwards) (from (before ++ c ∷ []) A u name afterwards) tail) state (ih u name afterwards))))
 
   pub splits : (s : S) (last before : List ℕ) (opened : Open) (A B : List ℕ)
       → Splits s (from before (A ++ B) s last opened) (from before A s last opened) (from (before ++ A) B)
@@ -196,8 +196,8 @@ settles-reference rules stand held c =
     let found : Found = reference rules (in_value stand) held (Some c) in
     settles-if (is_undecided rules.names (held ++ c ∷ [])) _ _ (settles-nothing _)
     (settles-if (ends_number held c) _ _
-    (settles-late (late_tokens stand found held) (Tells [] (opened_behind stand found held)) (decided-late_tokens stand found held))
-    (settles-late (late_tokens stand found held) (step_at rules.exact (opened_behind stand found held) c) (decided-late_tokens stand found held)))
+    (settles-late (late_tokens stand found held) (Tells [] (opened_after stand found held)) (decided-late_tokens stand found held))
+    (settles-late (late_tokens stand found held) (step_at rules.exact (opened_after stand found held) c) (decided-late_tokens stand found held)))
 
 settles-brought : (rules : Rules) (foreign : Bool) (opened : Open) (c : ℕ) → Settles (brought_at rules foreign opened c)
 unfolding brought_at
@@ -283,7 +283,7 @@ module _ {S H : Type 0} (step : S → Told → ℕ → S) (reply : S → Told �
   among-here s last before c A E (Tells here opened) within ih =
       at-among K.input n before c (bad_character_error rules.exact c ++ here) _ E within (ih _ last opened _ refl)
   among-here s last before c A E (TellsTag here tag) within ih =
-      at-among K.input n before c ((bad_character_error rules.exact c ++ here) ++ Tag tag ∷ []) _ E within (ih _ _ _ _ (rest_of-reply rules (last_behind last tag) _ A))
+      at-among K.input n before c ((bad_character_error rules.exact c ++ here) ++ Tag tag ∷ []) _ E within (ih _ _ _ _ (rest_of-reply rules (last_after last tag) _ A))
 
   read-among : (before A : List ℕ) (E : List Event) → length before + length A ≤ n → IsAmong before A E
   unfolding read_from
@@ -312,7 +312,7 @@ module _ {S H : Type 0} (step : S → Told → ℕ → S) (reply : S → Told �
   beyond-here s last before c B E (TellsTag here tag) past ih =
       let tokens : List Told = (bad_character_error rules.exact c ++ here) ++ Tag tag ∷ [] in
       rw (append_assoc (events_at K.input before c tokens) _ E)
-      (beyond-at K.input n before c tokens _ past (ih _ _ _ _ (rest_of-reply rules (last_behind last tag) _ B)))
+      (beyond-at K.input n before c tokens _ past (ih _ _ _ _ (rest_of-reply rules (last_after last tag) _ B)))
 
   read-beyond : (before B : List ℕ) (E : List Event) → n ≤ length before → among n E ≡ [] → IsBeyond before B E
   unfolding read_from

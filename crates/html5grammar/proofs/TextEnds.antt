@@ -111,11 +111,11 @@ data Pushed (text : List ℕ) : Type 0 where
 
 pushed : (text : List ℕ) → Pushed text
 pushed [] = Nothing refl
-pushed (c ∷ text) = behind (pushed text)
+pushed (c ∷ text) = afterwards (pushed text)
   where
-    behind : Pushed text → Pushed (c ∷ text)
-    behind (Nothing e) = Push [] c (ap (λ l. c ∷ l) e)
-    behind (Push front d e) = Push (c ∷ front) d (ap (λ l. c ∷ l) e)
+    afterwards : Pushed text → Pushed (c ∷ text)
+    afterwards (Nothing e) = Push [] c (ap (λ l. c ∷ l) e)
+    afterwards (Push front d e) = Push (c ∷ front) d (ap (λ l. c ∷ l) e)
 
 -- the bytes of texts end in this word as the texts do
 abbrev pub Carries : (ℕ → List ℕ) → List ℕ → Type 0

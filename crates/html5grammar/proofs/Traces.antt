@@ -14,24 +14,24 @@ use Rattle.html5ever_interface.specs.declared.states.AttrValueKind.TheVariants.{
 use Rattle.html5grammar.specs.Cdata.{cdata}
 use Rattle.html5grammar.specs.Cutting.{rest_of}
 use Rattle.html5grammar.specs.ErrorText.{bad_character_error}
-use Rattle.html5grammar.specs.Reading.{TextPlace, Event, Here, Brought, Read, events_at, late_events, messages, open_behind, last_behind, open_after_reply, with_events, read_here, read_from}
+use Rattle.html5grammar.specs.Reading.{TextPlace, Event, Here, Brought, Read, events_at, late_events, messages, open_after, last_after, open_after_reply, with_events, read_here, read_from}
 use Rattle.html5grammar.specs.Reading.TextPlace.{Character}
-use Rattle.html5grammar.specs.Reference.{reference_text, behind_held}
+use Rattle.html5grammar.specs.Reference.{reference_text, after_held}
 use Rattle.html5grammar.specs.NormalisedText.{line_after}
 use Rattle.html5grammar.proofs.InputLemmas.{line_past, line_after-past}
 use Rattle.html5grammar.specs.Reading.Here.{Tells, TellsTag}
-use Rattle.html5grammar.specs.Slice.{Late, cut_off, run_of, behind_run, run_while, behind_while, tokens_of_late}
+use Rattle.html5grammar.specs.Slice.{Late, cut_off, run_of, after_run, run_while, after_while, tokens_of_late}
 use Rattle.html5grammar.specs.Start.{Start, Open, Rules, is_undecided_open}
 use Rattle.html5grammar.specs.Start.Place.{InName, BeforeAttribute, InAttributeName, AfterAttributeName, BeforeValue, InValue, AfterQuotedValue, AfterSolidus}
 use Rattle.html5grammar.specs.Start.DoctypePlace.{AfterWord, BeforeName, InDoctypeName, AfterName, AfterKeyword, BeforeIdentifier, InIdentifier, AfterIdentifier, BetweenIdentifiers, Skipped}
 use Rattle.html5grammar.specs.Start.Open.{Between, LessThan, LessThanSolidus, InTag, InRaw, InDeclaration, InComment, InBogusComment, InInstruction, InDoctype, InDoctypeKeyword, InCdata, InReference}
-use Rattle.html5grammar.specs.Tag.{tag_name, behind_tag_name, attribute_behind_first, behind_attribute_name, behind_name_and_space, value_or_next, value_behind_space, value, quoted_value, behind_quoted, unquoted_value, behind_unquoted}
-use Rattle.html5grammar.specs.Comment.{begins_cdata, cdata_keyword, declaration, comment, bogus_comment, behind_bogus_comment}
-use Rattle.html5grammar.specs.Instruction.{instruction, behind_instruction}
-use Rattle.html5grammar.specs.Doctype.{doctype, before_doctype_name, behind_word_and_space, doctype_name, behind_doctype_name, behind_doctype_name_and_space, keyword_or_end, doctype_keyword, behind_keyword, identifier_behind_space, behind_keyword_and_space, identifier, behind_in_identifier, between_identifiers, behind_space_between, skipped_rest, behind_skipped_rest}
-use Rattle.html5grammar.specs.RawText.{behind_raw_less_than, end_name, behind_end_name, behind_mark, behind_mark_and_dash, switch, behind_switch}
+use Rattle.html5grammar.specs.Tag.{tag_name, after_tag_name, attribute_after_first, after_attribute_name, after_name_and_space, value_or_next, value_after_space, value, quoted_value, after_quoted, unquoted_value, after_unquoted}
+use Rattle.html5grammar.specs.Comment.{begins_cdata, cdata_keyword, declaration, comment, bogus_comment, after_bogus_comment}
+use Rattle.html5grammar.specs.Instruction.{instruction, after_instruction}
+use Rattle.html5grammar.specs.Doctype.{doctype, before_doctype_name, after_word_and_space, doctype_name, after_doctype_name, after_doctype_name_and_space, keyword_or_end, doctype_keyword, after_keyword, identifier_after_space, after_keyword_and_space, identifier, after_in_identifier, between_identifiers, after_space_between, skipped_rest, after_skipped_rest}
+use Rattle.html5grammar.specs.RawText.{after_raw_less_than, end_name, after_end_name, after_mark, after_mark_and_dash, switch, after_switch}
 use Rattle.html5grammar.specs.Start.RawPlace.{AfterLessThan, InEndName, AfterMark, AfterMarkAndDash, InSwitch}
-use Rattle.html5grammar.specs.Text.{behind_less_than, behind_solidus}
+use Rattle.html5grammar.specs.Text.{after_less_than, after_solidus}
 use Rattle.html5grammar.specs.Machine.{step_at, declaration_answer_step, declaration_step, brought_at}
 use Rattle.html5grammar.proofs.Slices.{going, rest_of-brought_at, with_name-nil, with_last_name-nil, with_value-nil, with_doctype_name-nil, with_identifier-nil}
 
@@ -52,7 +52,7 @@ module _ {S H : Type 0} (step : S → Told → ℕ → S) (reply : S → Told �
       with_messages M (rest (stepped step s M) last opened)
   trace_here rest s line last c (TellsTag told tag) =
       let t : S = stepped step s (on_line line (bad_character_error rules.exact c ++ told)) in
-      let name : List ℕ = last_behind last tag in
+      let name : List ℕ = last_after last tag in
       with_messages (on_line line ((bad_character_error rules.exact c ++ told) ++ Tag tag ∷ []))
       (rest (step t (Tag tag) line) name (open_after_reply name (reply t (Tag tag) line)))
 
@@ -105,8 +105,8 @@ brought-unasked rules foreign other held c h =
 
 -- what is open where a slice has no more
 
-pub rest_of-nil : (rules : Rules) (opened : Open) → open_behind (rest_of rules opened []).behind ≡ opened
-unfolding rest_of tag_name behind_tag_name attribute_behind_first behind_attribute_name behind_name_and_space value_or_next value_behind_space value quoted_value behind_quoted unquoted_value behind_unquoted behind_less_than behind_solidus behind_raw_less_than end_name behind_end_name behind_mark behind_mark_and_dash switch behind_switch declaration cdata comment bogus_comment behind_bogus_comment instruction behind_instruction doctype before_doctype_name behind_word_and_space doctype_name behind_doctype_name behind_doctype_name_and_space keyword_or_end doctype_keyword behind_keyword identifier_behind_space behind_keyword_and_space identifier behind_in_identifier between_identifiers behind_space_between skipped_rest behind_skipped_rest reference_text behind_held run_while behind_while run_of behind_run
+pub rest_of-nil : (rules : Rules) (opened : Open) → open_after (rest_of rules opened []).afterwards ≡ opened
+unfolding rest_of tag_name after_tag_name attribute_after_first after_attribute_name after_name_and_space value_or_next value_after_space value quoted_value after_quoted unquoted_value after_unquoted after_less_than after_solidus after_raw_less_than end_name after_end_name after_mark after_mark_and_dash switch after_switch declaration cdata comment bogus_comment after_bogus_comment instruction after_instruction doctype before_doctype_name after_word_and_space doctype_name after_doctype_name after_doctype_name_and_space keyword_or_end doctype_keyword after_keyword identifier_after_space after_keyword_and_space identifier after_in_identifier between_identifiers after_space_between skipped_rest after_skipped_rest reference_text after_held run_while after_while run_of after_run
 rest_of-nil rules (Between mode) = refl
 rest_of-nil rules LessThan = refl
 rest_of-nil rules LessThanSolidus = refl
@@ -181,13 +181,13 @@ module _ {S H : Type 0} (step : S → Told → ℕ → S) (reply : S → Told �
   }
 
   -- what goes on after c traces what goes on in the machine
-  abbrev TracesBehind : List ℕ → ℕ → List ℕ → Type 0
-  TracesBehind before c text = (t : S) (name : List ℕ) (opened : Open)
+  abbrev TracesAfter : List ℕ → ℕ → List ℕ → Type 0
+  TracesAfter before c text = (t : S) (name : List ℕ) (opened : Open)
       → Traces (read_from step reply foreign rules K t name (before ++ c ∷ []) (rest_of rules opened text) text)
       (trace step reply foreign rules t (line_past (line_after K.input before) c) name opened text)
 
   traces-here : (s : S) (last : List ℕ) (before : List ℕ) (c : ℕ) (text : List ℕ) (h : Here Open)
-      → TracesBehind before c text
+      → TracesAfter before c text
       → Traces
       (read_here step reply foreign rules K (λ t name rest. read_from step reply foreign rules K t name (before ++ c ∷ []) rest text) cut_off s last before c (going (λ opened. rest_of rules opened text) h))
       (trace_here step reply foreign rules (λ t name later. trace step reply foreign rules t (line_past (line_after K.input before) c) name later text) s (line_past (line_after K.input before) c) last c h)
@@ -198,7 +198,7 @@ module _ {S H : Type 0} (step : S → Told → ℕ → S) (reply : S → Told �
   traces-here s last before c text (TellsTag told tag) ih =
       let line : ℕ = line_past (line_after K.input before) c in
       let t : S = stepped step s (on_line line (bad_character_error rules.exact c ++ told)) in
-      rw (line_after-past K.input before c, rest_of-reply rules (last_behind last tag) (reply t (Tag tag) line) text)
+      rw (line_after-past K.input before c, rest_of-reply rules (last_after last tag) (reply t (Tag tag) line) text)
       (Traces-with _ _ _ _ (messages-events_at before c ((bad_character_error rules.exact c ++ told) ++ Tag tag ∷ [])) (ih _ _ _))
 
   pub messages-late : (before : List ℕ) (place : TextPlace) (late : List Late)
@@ -209,7 +209,7 @@ module _ {S H : Type 0} (step : S → Told → ℕ → S) (reply : S → Told �
       ap (λ M. record { token = l.token; line = line_after K.input before } ∷ M) (messages-late before place late)
 
   traces-brought : (s : S) (last : List ℕ) (before : List ℕ) (c : ℕ) (text : List ℕ) (next : Brought Open)
-      → TracesBehind before c text
+      → TracesAfter before c text
       → Traces
       (with_events (late_events K.input before (Character (length before)) next.settled)
       (read_here step reply foreign rules K (λ t name rest. read_from step reply foreign rules K t name (before ++ c ∷ []) rest text) cut_off

@@ -10,8 +10,8 @@ use Rattle.html5ever_interface.specs.declared.states.State.TheVariants as state
 use Rattle.html5grammar.specs.Characters.{exclamation_mark, greater_than, lower_case, value_bytes}
 use Rattle.html5grammar.specs.Doctype.{doctype}
 use Rattle.html5grammar.specs.ErrorText.{error_in, where_true}
-use Rattle.html5grammar.specs.Slice.{Slice, Late, no_character, cut_off, one_character, with_character, with_run, run_of, behind_run}
-use Rattle.html5grammar.specs.Slice.Behind.{Settles, Asks}
+use Rattle.html5grammar.specs.Slice.{Slice, Late, no_character, cut_off, one_character, with_character, with_run, run_of, after_run}
+use Rattle.html5grammar.specs.Slice.Afterwards.{Settles, Asks}
 use Rattle.html5grammar.specs.Start.Mode.{Data, Cdata}
 use Rattle.html5grammar.specs.Start.Open.{Between, InDeclaration, InComment, InBogusComment}
 use Rattle.html5grammar.specs.Tag.{null_error}
@@ -30,13 +30,13 @@ is_lone_dash text = bytes_eq text (codes "-")
 
 -- ---- errors
 
--- the state that an error names, where `behind_dashes` is that after two dashes or more
+-- the state that an error names, where `after_dashes` is that after two dashes or more
 unfoldable pub comment_state : State → List ℕ → State
-comment_state behind_dashes text =
+comment_state after_dashes text =
     if nat_eq (length text) 0 then state.CommentStart
     else if is_lone_dash text then state.CommentStartDash
     else if ends_in text (codes "--!") then state.CommentEndBang
-    else if ends_in text (codes "--") then behind_dashes
+    else if ends_in text (codes "--") then after_dashes
     else if ends_in text (codes "-") then state.CommentEndDash
     else state.Comment
 
@@ -83,15 +83,15 @@ comment exact before (c ∷ text) =
 unfoldable pub in_bogus_comment : ℕ → Bool
 in_bogus_comment c = not (c == greater_than)
 
-unfoldable pub behind_bogus_comment : List ℕ → List ℕ → Slice
-behind_bogus_comment told [] = cut_off (InBogusComment told)
-behind_bogus_comment told (c ∷ text) = one_character (Comment told ∷ []) (Between Data)
+unfoldable pub after_bogus_comment : List ℕ → List ℕ → Slice
+after_bogus_comment told [] = cut_off (InBogusComment told)
+after_bogus_comment told (c ∷ text) = one_character (Comment told ∷ []) (Between Data)
 
 -- a bogus comment runs to `>`
 unfoldable pub bogus_comment : Bool → List ℕ → List ℕ → Slice
 bogus_comment exact before text =
     let run : List ℕ = run_of in_bogus_comment text in
-    with_run (null_error exact state.BogusComment) run (behind_bogus_comment (before ++ flat_map value_bytes run) (behind_run in_bogus_comment text))
+    with_run (null_error exact state.BogusComment) run (after_bogus_comment (before ++ flat_map value_bytes run) (after_run in_bogus_comment text))
 
 -- the same from c on, where something is told first
 unfoldable pub bogus_comment_from : Bool → List ℕ → List Told → ℕ → List ℕ → Slice

@@ -12,8 +12,8 @@ use Rattle.html5ever_interface.specs.declared.states.State.{State}
 use Rattle.html5ever_interface.specs.declared.states.State.TheVariants as state
 use Rattle.html5grammar.specs.Characters.{quotation_mark, apostrophe, greater_than, is_white_space, lower_case, name_bytes, value_bytes}
 use Rattle.html5grammar.specs.ErrorText.{error_in, where_true}
-use Rattle.html5grammar.specs.Slice.{Slice, Late, silent, no_character, cut_off, one_character, with_character, with_run, run_of, behind_run}
-use Rattle.html5grammar.specs.Slice.Behind.{Settles}
+use Rattle.html5grammar.specs.Slice.{Slice, Late, silent, no_character, cut_off, one_character, with_character, with_run, run_of, after_run}
+use Rattle.html5grammar.specs.Slice.Afterwards.{Settles}
 use Rattle.html5grammar.specs.Start.{Quotes}
 use Rattle.html5grammar.specs.Start.DoctypePlace.{AfterWord, BeforeName, InDoctypeName, AfterName, AfterKeyword, BeforeIdentifier, InIdentifier, AfterIdentifier, BetweenIdentifiers, Skipped}
 use Rattle.html5grammar.specs.Start.Mode.{Data}
@@ -57,14 +57,14 @@ told_doctype errors d = one_character (errors ++ Doctype d ∷ []) (Between Data
 unfoldable pub in_skipped_rest : ℕ → Bool
 in_skipped_rest c = not (c == greater_than)
 
-unfoldable pub behind_skipped_rest : DoctypeOf → List ℕ → Slice
-behind_skipped_rest d [] = cut_off (InDoctype Skipped d)
-behind_skipped_rest d (c ∷ text) = told_doctype [] d
+unfoldable pub after_skipped_rest : DoctypeOf → List ℕ → Slice
+after_skipped_rest d [] = cut_off (InDoctype Skipped d)
+after_skipped_rest d (c ∷ text) = told_doctype [] d
 
 unfoldable pub skipped_rest : Bool → DoctypeOf → List ℕ → Slice
 skipped_rest exact d text =
     let run : List ℕ = run_of in_skipped_rest text in
-    with_run (null_error exact state.BogusDoctype) run (behind_skipped_rest d (behind_run in_skipped_rest text))
+    with_run (null_error exact state.BogusDoctype) run (after_skipped_rest d (after_run in_skipped_rest text))
 
 -- the rest from c on, where errors are told first
 unfoldable pub skipped_from : Bool → List Told → DoctypeOf → ℕ → List ℕ → Slice
@@ -87,9 +87,9 @@ identifier_state SingleQuotes kind = state.DoctypeIdentifierSingleQuoted kind
 unfoldable pub in_identifier : Quotes → ℕ → Bool
 in_identifier quotes c = not ((c == quote_mark quotes) || (c == greater_than))
 
-unfoldable pub behind_in_identifier : Bool → Quotes → DoctypeIdKind → DoctypeOf → List ℕ → Slice
-behind_in_identifier exact quotes kind d [] = cut_off (InDoctype (InIdentifier quotes kind) d)
-behind_in_identifier exact quotes kind d (c ∷ text) =
+unfoldable pub after_in_identifier : Bool → Quotes → DoctypeIdKind → DoctypeOf → List ℕ → Slice
+after_in_identifier exact quotes kind d [] = cut_off (InDoctype (InIdentifier quotes kind) d)
+after_in_identifier exact quotes kind d (c ∷ text) =
     if c == greater_than then told_doctype (error_in exact (identifier_state quotes kind) c ∷ []) (with_quirks d)
     else one_character [] (InDoctype (AfterIdentifier kind) d)
 
@@ -97,7 +97,7 @@ unfoldable pub identifier : Bool → Quotes → DoctypeIdKind → DoctypeOf → 
 identifier exact quotes kind d text =
     let run : List ℕ = run_of (in_identifier quotes) text in
     with_run (null_error exact (identifier_state quotes kind)) run
-    (behind_in_identifier exact quotes kind (with_identifier kind d run) (behind_run (in_identifier quotes) text))
+    (after_in_identifier exact quotes kind (with_identifier kind d run) (after_run (in_identifier quotes) text))
 
 -- where an identifier is wanted a quote begins it, and that is an error where it stands directly after what came before. Another
 -- character is an error, and the first of the skipped rest, with quirks.
@@ -114,20 +114,20 @@ system_or_end exact is_direct named d c text =
     if c == greater_than then told_doctype [] d else wanted_identifier exact is_direct named System d c text
 
 -- after a public identifier and white space
-unfoldable pub behind_space_between : Bool → DoctypeOf → List ℕ → Slice
-behind_space_between exact d [] = cut_off (InDoctype BetweenIdentifiers d)
-behind_space_between exact d (c ∷ text) = system_or_end exact false state.BetweenDoctypePublicAndSystemIdentifiers d c text
+unfoldable pub after_space_between : Bool → DoctypeOf → List ℕ → Slice
+after_space_between exact d [] = cut_off (InDoctype BetweenIdentifiers d)
+after_space_between exact d (c ∷ text) = system_or_end exact false state.BetweenDoctypePublicAndSystemIdentifiers d c text
 
 unfoldable pub between_identifiers : Bool → DoctypeOf → List ℕ → Slice
-between_identifiers exact d text = with_run silent (run_of is_white_space text) (behind_space_between exact d (behind_run is_white_space text))
+between_identifiers exact d text = with_run silent (run_of is_white_space text) (after_space_between exact d (after_run is_white_space text))
 
 -- what c begins directly after an identifier: after that of the system there is only white space up to `>`, and an error is
 -- without quirks
-unfoldable pub behind_identifier : Bool → DoctypeIdKind → DoctypeOf → ℕ → List ℕ → Slice
-behind_identifier exact Public d c text =
+unfoldable pub after_identifier : Bool → DoctypeIdKind → DoctypeOf → ℕ → List ℕ → Slice
+after_identifier exact Public d c text =
     if is_white_space c then with_character [] (between_identifiers exact d text)
     else system_or_end exact true (state.AfterDoctypeIdentifier Public) d c text
-behind_identifier exact System d c text =
+after_identifier exact System d c text =
     if is_white_space c then one_character [] (InDoctype (AfterIdentifier System) d)
     else if c == greater_than then told_doctype [] d
     else skipped_from exact (error_in exact (state.AfterDoctypeIdentifier System) c ∷ []) d c text
@@ -135,19 +135,19 @@ behind_identifier exact System d c text =
 -- ---- the keywords `public` and `system`, in any case
 
 -- after a keyword and white space
-unfoldable pub behind_keyword_and_space : Bool → DoctypeIdKind → DoctypeOf → List ℕ → Slice
-behind_keyword_and_space exact kind d [] = cut_off (InDoctype (BeforeIdentifier kind) d)
-behind_keyword_and_space exact kind d (c ∷ text) = wanted_identifier exact false (state.BeforeDoctypeIdentifier kind) kind d c text
+unfoldable pub after_keyword_and_space : Bool → DoctypeIdKind → DoctypeOf → List ℕ → Slice
+after_keyword_and_space exact kind d [] = cut_off (InDoctype (BeforeIdentifier kind) d)
+after_keyword_and_space exact kind d (c ∷ text) = wanted_identifier exact false (state.BeforeDoctypeIdentifier kind) kind d c text
 
-unfoldable pub identifier_behind_space : Bool → DoctypeIdKind → DoctypeOf → List ℕ → Slice
-identifier_behind_space exact kind d text =
-    with_run silent (run_of is_white_space text) (behind_keyword_and_space exact kind d (behind_run is_white_space text))
+unfoldable pub identifier_after_space : Bool → DoctypeIdKind → DoctypeOf → List ℕ → Slice
+identifier_after_space exact kind d text =
+    with_run silent (run_of is_white_space text) (after_keyword_and_space exact kind d (after_run is_white_space text))
 
 -- directly after a keyword
-unfoldable pub behind_keyword : Bool → DoctypeIdKind → DoctypeOf → List ℕ → Slice
-behind_keyword exact kind d [] = cut_off (InDoctype (AfterKeyword kind) d)
-behind_keyword exact kind d (c ∷ text) =
-    if is_white_space c then with_character [] (identifier_behind_space exact kind d text)
+unfoldable pub after_keyword : Bool → DoctypeIdKind → DoctypeOf → List ℕ → Slice
+after_keyword exact kind d [] = cut_off (InDoctype (AfterKeyword kind) d)
+after_keyword exact kind d (c ∷ text) =
+    if is_white_space c then with_character [] (identifier_after_space exact kind d text)
     else wanted_identifier exact true (state.AfterDoctypeKeyword kind) kind d c text
 
 abbrev pub keyword_of : DoctypeIdKind → List ℕ
@@ -171,8 +171,8 @@ keyword_error exact (c ∷ held) =
 unfoldable pub doctype_keyword : Bool → List ℕ → DoctypeOf → List ℕ → Slice
 doctype_keyword exact held d [] = cut_off (InDoctypeKeyword held d)
 doctype_keyword exact held d (c ∷ text) =
-    if is_keyword Public (held ++ c ∷ []) then with_character [] (behind_keyword exact Public d text)
-    else if is_keyword System (held ++ c ∷ []) then with_character [] (behind_keyword exact System d text)
+    if is_keyword Public (held ++ c ∷ []) then with_character [] (after_keyword exact Public d text)
+    else if is_keyword System (held ++ c ∷ []) then with_character [] (after_keyword exact System d text)
     else if begins_doctype_keyword (held ++ c ∷ []) then with_character [] (doctype_keyword exact (held ++ c ∷ []) d text)
     else no_character (Settles (keyword_error exact held) (InDoctype Skipped (with_quirks d)))
 
@@ -186,15 +186,15 @@ keyword_or_end exact d (c ∷ text) =
     else if begins_doctype_keyword (c ∷ []) then with_character [] (doctype_keyword exact (c ∷ []) d text)
     else skipped_from exact (error_in exact state.AfterDoctypeName c ∷ []) (with_quirks d) c text
 
-unfoldable pub behind_doctype_name_and_space : Bool → DoctypeOf → List ℕ → Slice
-behind_doctype_name_and_space exact d text =
-    with_run silent (run_of is_white_space text) (keyword_or_end exact d (behind_run is_white_space text))
+unfoldable pub after_doctype_name_and_space : Bool → DoctypeOf → List ℕ → Slice
+after_doctype_name_and_space exact d text =
+    with_run silent (run_of is_white_space text) (keyword_or_end exact d (after_run is_white_space text))
 
 -- directly after the name
-unfoldable pub behind_doctype_name : Bool → DoctypeOf → List ℕ → Slice
-behind_doctype_name exact d [] = cut_off (InDoctype InDoctypeName d)
-behind_doctype_name exact d (c ∷ text) =
-    if c == greater_than then told_doctype [] d else with_character [] (behind_doctype_name_and_space exact d text)
+unfoldable pub after_doctype_name : Bool → DoctypeOf → List ℕ → Slice
+after_doctype_name exact d [] = cut_off (InDoctype InDoctypeName d)
+after_doctype_name exact d (c ∷ text) =
+    if c == greater_than then told_doctype [] d else with_character [] (after_doctype_name_and_space exact d text)
 
 -- a name runs to white space or `>`
 unfoldable pub in_doctype_name : ℕ → Bool
@@ -204,7 +204,7 @@ in_doctype_name c = not (is_white_space c || (c == greater_than))
 unfoldable pub doctype_name : Bool → DoctypeOf → List ℕ → Slice
 doctype_name exact d text =
     let run : List ℕ = run_of in_doctype_name text in
-    with_run (null_error exact state.DoctypeName) run (behind_doctype_name exact (with_doctype_name d run) (behind_run in_doctype_name text))
+    with_run (null_error exact state.DoctypeName) run (after_doctype_name exact (with_doctype_name d run) (after_run in_doctype_name text))
 
 -- where the name is wanted c is its first character, or the `>` of a doctype without one, with quirks; errors are told first
 unfoldable pub wanted_name : Bool → List Told → DoctypeOf → ℕ → List ℕ → Slice
@@ -213,13 +213,13 @@ wanted_name exact errors d c text =
     else with_character (errors ++ null_error exact state.BeforeDoctypeName c) (doctype_name exact (with_first_of_name d c) text)
 
 -- after `doctype` and white space
-unfoldable pub behind_word_and_space : Bool → DoctypeOf → List ℕ → Slice
-behind_word_and_space exact d [] = cut_off (InDoctype BeforeName d)
-behind_word_and_space exact d (c ∷ text) = wanted_name exact [] d c text
+unfoldable pub after_word_and_space : Bool → DoctypeOf → List ℕ → Slice
+after_word_and_space exact d [] = cut_off (InDoctype BeforeName d)
+after_word_and_space exact d (c ∷ text) = wanted_name exact [] d c text
 
 unfoldable pub before_doctype_name : Bool → DoctypeOf → List ℕ → Slice
 before_doctype_name exact d text =
-    with_run silent (run_of is_white_space text) (behind_word_and_space exact d (behind_run is_white_space text))
+    with_run silent (run_of is_white_space text) (after_word_and_space exact d (after_run is_white_space text))
 
 -- the error of a name directly after `doctype`
 abbrev pub word_error : Bool → ℕ → List Told

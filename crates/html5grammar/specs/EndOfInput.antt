@@ -10,9 +10,9 @@ use Rattle.html5grammar.specs.Characters.{solidus, less_than}
 use Rattle.html5grammar.specs.Comment.{comment_state, comment_content, declaration_error}
 use Rattle.html5grammar.specs.Doctype.{with_quirks, identifier_state, keyword_error}
 use Rattle.html5grammar.specs.ErrorText.{end_error_in}
-use Rattle.html5grammar.specs.Reference.{in_value, reference, late_tokens, opened_behind}
+use Rattle.html5grammar.specs.Reference.{in_value, reference, late_tokens, opened_after}
 use Rattle.html5grammar.specs.Slice.{Late, tokens_of_late}
-use Rattle.html5grammar.specs.RawText.{raw_state, texts, told_behind_less_than}
+use Rattle.html5grammar.specs.RawText.{raw_state, texts, told_after_less_than}
 use Rattle.html5grammar.specs.Start.{Raw, Place, RawPlace, DoctypePlace, Open, Rules, raw_of}
 use Rattle.html5grammar.specs.Start.Dashes.{NoDash}
 use Rattle.html5grammar.specs.Start.Raw.{Escaped, DoubleEscaped}
@@ -55,7 +55,7 @@ late_at_end_of rules opened = []
 
 -- what is open then
 unfoldable pub open_at_end_of : Rules → Open → Open
-open_at_end_of rules (InReference stand held) = opened_behind stand (reference rules (in_value stand) held None) held
+open_at_end_of rules (InReference stand held) = opened_after stand (reference rules (in_value stand) held None) held
 open_at_end_of rules (InDeclaration held) = InBogusComment held
 open_at_end_of rules (InDoctypeKeyword held d) = InDoctype Skipped (with_quirks d)
 open_at_end_of rules opened = opened
@@ -68,7 +68,7 @@ raw_end_error exact other = []
 
 -- what is held there is text, and comes first; after `<` and letters the error names double-escaped script data
 unfoldable pub told_at_raw_end : Bool → RawPlace → List Told
-told_at_raw_end exact (AfterLessThan kind) = told_behind_less_than kind ++ raw_end_error exact (raw_of kind)
+told_at_raw_end exact (AfterLessThan kind) = told_after_less_than kind ++ raw_end_error exact (raw_of kind)
 told_at_raw_end exact (InEndName kind letters) = texts (less_than ∷ solidus ∷ letters) ++ raw_end_error exact (raw_of kind)
 told_at_raw_end exact AfterMark = []
 told_at_raw_end exact AfterMarkAndDash = []

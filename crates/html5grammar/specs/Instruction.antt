@@ -4,7 +4,7 @@ use Rattle.std.specs.Prelude.{ℕ, Bool, List, [], ◌∷◌, ◌++◌, ◌==◌
 use Rattle.html5ever_interface.specs.Token.Told.{Instruction}
 use Rattle.html5ever_interface.specs.declared.states.State.TheVariants as state
 use Rattle.html5grammar.specs.Characters.{greater_than, value_bytes}
-use Rattle.html5grammar.specs.Slice.{Slice, cut_off, one_character, with_run, run_of, behind_run}
+use Rattle.html5grammar.specs.Slice.{Slice, cut_off, one_character, with_run, run_of, after_run}
 use Rattle.html5grammar.specs.Start.Mode.{Data}
 use Rattle.html5grammar.specs.Start.Open.{Between, InInstruction}
 use Rattle.html5grammar.specs.Tag.{null_error}
@@ -12,13 +12,13 @@ use Rattle.html5grammar.specs.Tag.{null_error}
 unfoldable pub in_instruction : ℕ → Bool
 in_instruction c = not (c == greater_than)
 
-unfoldable pub behind_instruction : List ℕ → List ℕ → Slice
-behind_instruction content [] = cut_off (InInstruction content)
-behind_instruction content (c ∷ text) = one_character (Instruction content ∷ []) (Between Data)
+unfoldable pub after_instruction : List ℕ → List ℕ → Slice
+after_instruction content [] = cut_off (InInstruction content)
+after_instruction content (c ∷ text) = one_character (Instruction content ∷ []) (Between Data)
 
 -- a processing instruction, of which `before` was read after its `<?`, runs to `>`
 unfoldable pub instruction : Bool → List ℕ → List ℕ → Slice
 instruction exact before text =
     let run : List ℕ = run_of in_instruction text in
     with_run (null_error exact state.ProcessingInstruction) run
-    (behind_instruction (before ++ flat_map value_bytes run) (behind_run in_instruction text))
+    (after_instruction (before ++ flat_map value_bytes run) (after_run in_instruction text))

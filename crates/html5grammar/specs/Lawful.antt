@@ -45,5 +45,5 @@ IsLawful (Doctype d) = IsLawfulDoctype d
 IsLawful other = Unit {0}
 
 -- all the messages are the first ones, and then messages of which none is a tag
-abbrev pub TellsNoTagBehind : List Message → List Message → Type 0
-TellsNoTagBehind first all = (later : List Message) × (all ≡ first ++ later) × All (λ m. is_tag m.token ≡ false) later
+abbrev pub TellsNoTagAfter : List Message → List Message → Type 0
+TellsNoTagAfter first all = (later : List Message) × (all ≡ first ++ later) × All (λ m. is_tag m.token ≡ false) later

@@ -21,7 +21,7 @@ use Rattle.html5grammar.specs.Characters.{null, exclamation_mark, quotation_mark
 use Rattle.html5grammar.specs.Comment.{comment_errors, ends_comment, comment_end_error, comment_content, begins_keyword, declaration_error, cdata_keyword, begins_cdata}
 use Rattle.html5grammar.specs.Doctype.{with_quirks, with_doctype_name, with_first_of_name, with_begun_identifier, with_identifier, identifier_state, in_identifier, is_keyword, begins_doctype_keyword, keyword_error, in_doctype_name, word_error}
 use Rattle.html5grammar.specs.ErrorText.{error_in, where_true, bad_character_error}
-use Rattle.html5grammar.specs.Reading.{Here, Brought, last_behind, open_after_reply}
+use Rattle.html5grammar.specs.Reading.{Here, Brought, last_after, open_after_reply}
 use Rattle.html5grammar.specs.Reading.Here.{Tells, TellsTag}
 use Rattle.html5grammar.specs.Start.{Raw, OpenTag, Place, RawPlace, Quotes, DoctypePlace, Stand, Open, Rules, begun, raw_of}
 use Rattle.html5grammar.specs.Start.Stand.{InText, InAttribute}
@@ -33,9 +33,9 @@ use Rattle.html5grammar.specs.Start.Place.{InName, BeforeAttribute, InAttributeN
 use Rattle.html5grammar.specs.Start.DoctypePlace.{AfterWord, BeforeName, InDoctypeName, AfterName, AfterKeyword, BeforeIdentifier, InIdentifier, AfterIdentifier, BetweenIdentifiers, Skipped}
 use Rattle.html5grammar.specs.Start.Quotes.{DoubleQuotes, SingleQuotes}
 use Rattle.html5grammar.specs.Start.Open.{Between, LessThan, LessThanSolidus, InTag, InRaw, InDeclaration, InComment, InBogusComment, InInstruction, InDoctype, InDoctypeKeyword, InCdata, InReference}
-use Rattle.html5grammar.specs.Reference.{Found, in_value, reference, is_undecided, ends_number, late_tokens, opened_behind, with_value}
+use Rattle.html5grammar.specs.Reference.{Found, in_value, reference, is_undecided, ends_number, late_tokens, opened_after, with_value}
 use Rattle.html5grammar.specs.Tag.{with_last_attribute, duplicate_error, end_tag_errors, told_tag, null_error, in_quoted, in_unquoted, unquoted_error, in_attribute_name, attribute_name_error, with_last_name, place_error, first_error, is_after_solidus, in_tag_name, with_name}
-use Rattle.html5grammar.specs.RawText.{raw_text_of, texts, ends_name, kind_of, is_rcdata, raw_behind, raw_character, ends_raw_text, switched, told_at_less_than, told_behind_less_than, begins_mark, begins_switch}
+use Rattle.html5grammar.specs.RawText.{raw_text_of, texts, ends_name, kind_of, is_rcdata, raw_after, raw_character, ends_raw_text, switched, told_at_less_than, told_after_less_than, begins_mark, begins_switch}
 use Rattle.html5grammar.specs.Text.{plain_text}
 
 -- a step with more told in front
@@ -185,11 +185,11 @@ identifier_step exact quotes kind d c =
     else if c == greater_than then Tells (error_in exact (identifier_state quotes kind) c ∷ Doctype (with_quirks d) ∷ []) (Between Data)
     else Tells [] (InDoctype (AfterIdentifier kind) d)
 
-unfoldable pub behind_identifier_step : Bool → DoctypeIdKind → DoctypeOf → ℕ → Here Open
-behind_identifier_step exact Public d c =
+unfoldable pub after_identifier_step : Bool → DoctypeIdKind → DoctypeOf → ℕ → Here Open
+after_identifier_step exact Public d c =
     if is_white_space c then Tells [] (InDoctype BetweenIdentifiers d)
     else system_or_end_step exact true (state.AfterDoctypeIdentifier Public) d c
-behind_identifier_step exact System d c =
+after_identifier_step exact System d c =
     if is_white_space c then Tells [] (InDoctype (AfterIdentifier System) d)
     else if c == greater_than then Tells (Doctype d ∷ []) (Between Data)
     else skipped_step exact (error_in exact (state.AfterDoctypeIdentifier System) c ∷ []) d c
@@ -206,7 +206,7 @@ doctype_step exact AfterName d c = space_step AfterName d c (keyword_or_end_step
 doctype_step exact (AfterKeyword kind) d c = space_step (BeforeIdentifier kind) d c (wanted_identifier_step exact true (state.AfterDoctypeKeyword kind) kind d c)
 doctype_step exact (BeforeIdentifier kind) d c = space_step (BeforeIdentifier kind) d c (wanted_identifier_step exact false (state.BeforeDoctypeIdentifier kind) kind d c)
 doctype_step exact (InIdentifier quotes kind) d c = identifier_step exact quotes kind d c
-doctype_step exact (AfterIdentifier kind) d c = behind_identifier_step exact kind d c
+doctype_step exact (AfterIdentifier kind) d c = after_identifier_step exact kind d c
 doctype_step exact BetweenIdentifiers d c = space_step BetweenIdentifiers d c (system_or_end_step exact false state.BetweenDoctypePublicAndSystemIdentifiers d c)
 doctype_step exact Skipped d c = skipped_step exact [] d c
 
@@ -230,7 +230,7 @@ unfoldable pub raw_step : Bool → Raw → List ℕ → List Told → ℕ → He
 raw_step exact raw name before c =
     if c == less_than then Tells (before ++ told_at_less_than (kind_of raw)) (InRaw (AfterLessThan (kind_of raw)) name)
     else if is_rcdata raw && (c == ampersand) then Tells before (InReference (InText (RawText raw name)) [])
-    else Tells (before ++ raw_character exact raw c) (Between (RawText (raw_behind raw c) name))
+    else Tells (before ++ raw_character exact raw c) (Between (RawText (raw_after raw c) name))
 
 -- after the letters of an end tag's name
 unfoldable pub tag_name_end_step : OpenTag → ℕ → Here Open
@@ -269,7 +269,7 @@ raw_less_than_step exact kind name c =
     if c == solidus then raw_solidus_step kind name
     else if begins_mark kind c then Tells (texts (less_than ∷ c ∷ [])) (InRaw AfterMark name)
     else if begins_switch kind c then Tells (texts (less_than ∷ c ∷ [])) (InRaw (InSwitch escape_kind.Escaped (c ∷ [])) name)
-    else raw_step exact (raw_of kind) name (told_behind_less_than kind) c
+    else raw_step exact (raw_of kind) name (told_after_less_than kind) c
 
 unfoldable pub raw_place_step : Bool → RawPlace → List ℕ → ℕ → Here Open
 raw_place_step exact (AfterLessThan kind) name c = raw_less_than_step exact kind name c
@@ -299,8 +299,8 @@ unfoldable pub reference_step : Rules → Stand → List ℕ → ℕ → Brought
 reference_step rules stand held c =
     let found : Found = reference rules (in_value stand) held (Some c) in
     if is_undecided rules.names (held ++ c ∷ []) then record { settled = []; here = Tells [] (InReference stand (held ++ c ∷ [])) }
-    else if ends_number held c then record { settled = late_tokens stand found held; here = Tells [] (opened_behind stand found held) }
-    else record { settled = late_tokens stand found held; here = step_at rules.exact (opened_behind stand found held) c }
+    else if ends_number held c then record { settled = late_tokens stand found held; here = Tells [] (opened_after stand found held) }
+    else record { settled = late_tokens stand found held; here = step_at rules.exact (opened_after stand found held) c }
 
 -- a character after `<!` and what is held there, where the first two keywords stand no more, by the sink's answer
 unfoldable pub declaration_answer_step : Bool → Bool → List ℕ → ℕ → Brought Open
@@ -352,9 +352,9 @@ module _ {S H : Type 0} (step : S → Told → ℕ → S) (reply : S → Told �
   unfoldable pub opened_here : S → ℕ → List ℕ → ℕ → Here Open → Open
   opened_here s line last c (Tells told later) = later
   opened_here s line last c (TellsTag told tag) =
-      open_after_reply (last_behind last tag) (reply (stepped step s (on_line line (bad_character_error rules.exact c ++ told))) (Tag tag) line)
+      open_after_reply (last_after last tag) (reply (stepped step s (on_line line (bad_character_error rules.exact c ++ told))) (Tag tag) line)
 
 -- the name of the last start tag after a character
 unfoldable pub last_here : List ℕ → Here Open → List ℕ
 last_here last (Tells told later) = last
-last_here last (TellsTag told tag) = last_behind last tag
+last_here last (TellsTag told tag) = last_after last tag

@@ -15,8 +15,8 @@ use Rattle.html5ever_interface.specs.declared.states.State.TheVariants as state
 use Rattle.html5grammar.specs.Characters.{null, replacement_character, exclamation_mark, ampersand, hyphen, solidus, less_than, greater_than, is_letter, is_white_space, name_bytes}
 use Rattle.html5grammar.specs.ErrorText.{error_in}
 use Rattle.html5grammar.specs.Reference.{reference_text}
-use Rattle.html5grammar.specs.Slice.{Slice, silent, no_character, cut_off, one_character, with_character, with_run, run_of, behind_run}
-use Rattle.html5grammar.specs.Slice.Behind.{Leaves}
+use Rattle.html5grammar.specs.Slice.{Slice, silent, no_character, cut_off, one_character, with_character, with_run, run_of, after_run}
+use Rattle.html5grammar.specs.Slice.Afterwards.{Leaves}
 use Rattle.html5grammar.specs.Start.{Dashes, Raw, Open, Rules, begun, raw_of}
 use Rattle.html5grammar.specs.Start.Dashes.{NoDash, OneDash, TwoDashes}
 use Rattle.html5grammar.specs.Start.Raw.{Rcdata, Rawtext, ScriptData, Escaped, DoubleEscaped}
@@ -24,7 +24,7 @@ use Rattle.html5grammar.specs.Start.Mode.{RawText}
 use Rattle.html5grammar.specs.Start.RawPlace.{AfterLessThan, InEndName, AfterMark, AfterMarkAndDash, InSwitch}
 use Rattle.html5grammar.specs.Start.Stand.{InText}
 use Rattle.html5grammar.specs.Start.Open.{Between, InRaw}
-use Rattle.html5grammar.specs.Tag.{with_name, behind_tag_name}
+use Rattle.html5grammar.specs.Tag.{with_name, after_tag_name}
 
 -- raw text of a kind, with nothing open and no dash before
 abbrev pub raw_text_of : RawKind → List ℕ → Open
@@ -74,14 +74,14 @@ one_more NoDash = OneDash
 one_more other = TwoDashes
 
 -- the dashes after a character
-unfoldable pub dashes_behind : Dashes → ℕ → Dashes
-dashes_behind dashes c = if c == hyphen then one_more dashes else NoDash
+unfoldable pub dashes_after : Dashes → ℕ → Dashes
+dashes_after dashes c = if c == hyphen then one_more dashes else NoDash
 
 -- the raw text after a character: `>` after two dashes ends what `<!--` began
-unfoldable pub raw_behind : Raw → ℕ → Raw
-raw_behind (Escaped dashes) c = if (c == greater_than) && is_two dashes then ScriptData else Escaped (dashes_behind dashes c)
-raw_behind (DoubleEscaped dashes) c = if (c == greater_than) && is_two dashes then ScriptData else DoubleEscaped (dashes_behind dashes c)
-raw_behind other c = other
+unfoldable pub raw_after : Raw → ℕ → Raw
+raw_after (Escaped dashes) c = if (c == greater_than) && is_two dashes then ScriptData else Escaped (dashes_after dashes c)
+raw_after (DoubleEscaped dashes) c = if (c == greater_than) && is_two dashes then ScriptData else DoubleEscaped (dashes_after dashes c)
+raw_after other c = other
 
 -- a character is text; NUL is an error and U+FFFD
 unfoldable pub raw_character : Bool → Raw → ℕ → List Told
@@ -100,29 +100,29 @@ unfoldable pub ends_raw_text : List ℕ → List ℕ → ℕ → Bool
 ends_raw_text name letters c = not (nat_eq (length name) 0) && (ends_name c && bytes_eq (lower letters) name)
 
 -- after the letters an end tag goes on, or all of it is text
-unfoldable pub behind_end_name : RawKind → List ℕ → List ℕ → List ℕ → Slice
-behind_end_name kind name letters [] = cut_off (InRaw (InEndName kind letters) name)
-behind_end_name kind name letters (c ∷ text) =
-    if ends_raw_text name letters c then behind_tag_name (with_name (begun EndTag) letters) (c ∷ text)
+unfoldable pub after_end_name : RawKind → List ℕ → List ℕ → List ℕ → Slice
+after_end_name kind name letters [] = cut_off (InRaw (InEndName kind letters) name)
+after_end_name kind name letters (c ∷ text) =
+    if ends_raw_text name letters c then after_tag_name (with_name (begun EndTag) letters) (c ∷ text)
     else no_character (Leaves (texts (less_than ∷ solidus ∷ letters)) (raw_text_of kind name))
 
 unfoldable pub end_name : RawKind → List ℕ → List ℕ → List ℕ → Slice
 end_name kind name letters text =
     let run : List ℕ = run_of is_letter text in
-    with_run silent run (behind_end_name kind name (letters ++ run) (behind_run is_letter text))
+    with_run silent run (after_end_name kind name (letters ++ run) (after_run is_letter text))
 
 -- ---- script data: `<!--`, and the switches between escaped and double-escaped
 
-unfoldable pub behind_mark_and_dash : List ℕ → List ℕ → Slice
-behind_mark_and_dash name [] = cut_off (InRaw AfterMarkAndDash name)
-behind_mark_and_dash name (c ∷ text) =
+unfoldable pub after_mark_and_dash : List ℕ → List ℕ → Slice
+after_mark_and_dash name [] = cut_off (InRaw AfterMarkAndDash name)
+after_mark_and_dash name (c ∷ text) =
     if c == hyphen then one_character (texts (c ∷ [])) (Between (RawText (Escaped TwoDashes) name))
     else cut_off (raw_text_of raw_kind.ScriptData name)
 
-unfoldable pub behind_mark : List ℕ → List ℕ → Slice
-behind_mark name [] = cut_off (InRaw AfterMark name)
-behind_mark name (c ∷ text) =
-    if c == hyphen then with_character (texts (c ∷ [])) (behind_mark_and_dash name text)
+unfoldable pub after_mark : List ℕ → List ℕ → Slice
+after_mark name [] = cut_off (InRaw AfterMark name)
+after_mark name (c ∷ text) =
+    if c == hyphen then with_character (texts (c ∷ [])) (after_mark_and_dash name text)
     else cut_off (raw_text_of raw_kind.ScriptData name)
 
 abbrev pub other_escape : ScriptEscapeKind → ScriptEscapeKind
@@ -133,9 +133,9 @@ other_escape escape_kind.DoubleEscaped = escape_kind.Escaped
 unfoldable pub switched : ScriptEscapeKind → List ℕ → ScriptEscapeKind
 switched kind letters = if bytes_eq (lower letters) (codes "script") then other_escape kind else kind
 
-unfoldable pub behind_switch : ScriptEscapeKind → List ℕ → List ℕ → List ℕ → Slice
-behind_switch kind name letters [] = cut_off (InRaw (InSwitch kind letters) name)
-behind_switch kind name letters (c ∷ text) =
+unfoldable pub after_switch : ScriptEscapeKind → List ℕ → List ℕ → List ℕ → Slice
+after_switch kind name letters [] = cut_off (InRaw (InSwitch kind letters) name)
+after_switch kind name letters (c ∷ text) =
     if ends_name c then one_character (texts (c ∷ [])) (raw_text_of (raw_kind.ScriptDataEscaped (switched kind letters)) name)
     else cut_off (raw_text_of (raw_kind.ScriptDataEscaped kind) name)
 
@@ -143,7 +143,7 @@ behind_switch kind name letters (c ∷ text) =
 unfoldable pub switch : ScriptEscapeKind → List ℕ → List ℕ → List ℕ → Slice
 switch kind name letters text =
     let run : List ℕ = run_of is_letter text in
-    with_run (λ c. texts (c ∷ [])) run (behind_switch kind name (letters ++ run) (behind_run is_letter text))
+    with_run (λ c. texts (c ∷ [])) run (after_switch kind name (letters ++ run) (after_run is_letter text))
 
 -- ---- `<`
 
@@ -153,15 +153,15 @@ told_at_less_than (raw_kind.ScriptDataEscaped escape_kind.DoubleEscaped) = texts
 told_at_less_than kind = []
 
 -- and else at the next character
-abbrev pub told_behind_less_than : RawKind → List Told
-told_behind_less_than (raw_kind.ScriptDataEscaped escape_kind.DoubleEscaped) = []
-told_behind_less_than kind = texts (less_than ∷ [])
+abbrev pub told_after_less_than : RawKind → List Told
+told_after_less_than (raw_kind.ScriptDataEscaped escape_kind.DoubleEscaped) = []
+told_after_less_than kind = texts (less_than ∷ [])
 
 -- the text after `</`
-unfoldable pub behind_raw_solidus : RawKind → List ℕ → List ℕ → Slice
-behind_raw_solidus (raw_kind.ScriptDataEscaped escape_kind.DoubleEscaped) name text =
+unfoldable pub after_raw_solidus : RawKind → List ℕ → List ℕ → Slice
+after_raw_solidus (raw_kind.ScriptDataEscaped escape_kind.DoubleEscaped) name text =
     with_character (texts (solidus ∷ [])) (switch escape_kind.DoubleEscaped name [] text)
-behind_raw_solidus kind name text = with_character [] (end_name kind name [] text)
+after_raw_solidus kind name text = with_character [] (end_name kind name [] text)
 
 -- whether c after `<` begins a mark, or a switch
 unfoldable pub begins_mark : RawKind → ℕ → Bool
@@ -172,17 +172,17 @@ unfoldable pub begins_switch : RawKind → ℕ → Bool
 begins_switch (raw_kind.ScriptDataEscaped escape_kind.Escaped) c = is_letter c
 begins_switch kind c = false
 
-unfoldable pub behind_raw_less_than : RawKind → List ℕ → List ℕ → Slice
-behind_raw_less_than kind name [] = cut_off (InRaw (AfterLessThan kind) name)
-behind_raw_less_than kind name (c ∷ text) =
-    if c == solidus then behind_raw_solidus kind name text
-    else if begins_mark kind c then with_character (texts (less_than ∷ c ∷ [])) (behind_mark name text)
+unfoldable pub after_raw_less_than : RawKind → List ℕ → List ℕ → Slice
+after_raw_less_than kind name [] = cut_off (InRaw (AfterLessThan kind) name)
+after_raw_less_than kind name (c ∷ text) =
+    if c == solidus then after_raw_solidus kind name text
+    else if begins_mark kind c then with_character (texts (less_than ∷ c ∷ [])) (after_mark name text)
     else if begins_switch kind c then with_character (texts (less_than ∷ c ∷ [])) (switch escape_kind.Escaped name (c ∷ []) text)
-    else no_character (Leaves (told_behind_less_than kind) (raw_text_of kind name))
+    else no_character (Leaves (told_after_less_than kind) (raw_text_of kind name))
 
 -- what begins with c in raw text, where `before` is told first
 unfoldable pub raw_text : Rules → Raw → List ℕ → List Told → ℕ → List ℕ → Slice
 raw_text rules raw name before c text =
-    if c == less_than then with_character (before ++ told_at_less_than (kind_of raw)) (behind_raw_less_than (kind_of raw) name text)
+    if c == less_than then with_character (before ++ told_at_less_than (kind_of raw)) (after_raw_less_than (kind_of raw) name text)
     else if is_rcdata raw && (c == ampersand) then with_character before (reference_text rules (InText (RawText raw name)) [] text)
-    else one_character (before ++ raw_character rules.exact raw c) (Between (RawText (raw_behind raw c) name))
+    else one_character (before ++ raw_character rules.exact raw c) (Between (RawText (raw_after raw c) name))

@@ -10,9 +10,9 @@ use Rattle.html5grammar.specs.Cutting.{rest_of, slice_at}
 use Rattle.html5grammar.specs.EndOfInput.{late_at_end_of, open_at_end_of, told_at_end_of}
 use Rattle.html5grammar.specs.ErrorText.{bad_character_error}
 use Rattle.html5grammar.specs.NormalisedText.{normalised, line_after, input_after}
-use Rattle.html5grammar.specs.Slice.{Slice, Cell, Behind, Late, no_character, cut_off, tokens_of_late}
+use Rattle.html5grammar.specs.Slice.{Slice, Cell, Afterwards, Late, no_character, cut_off, tokens_of_late}
 use Rattle.html5grammar.specs.Slice.Cell.{Says, Ends, Returns}
-use Rattle.html5grammar.specs.Slice.Behind.{Leaves, Settles, Asks}
+use Rattle.html5grammar.specs.Slice.Afterwards.{Leaves, Settles, Asks}
 use Rattle.html5grammar.specs.Start.{Input, Start, Open, Rules, raw_of}
 use Rattle.html5grammar.specs.Start.Mode.{Data, Plain, RawText}
 use Rattle.html5grammar.specs.Start.Open.{Between, InDeclaration}
@@ -79,34 +79,34 @@ pub record Brought (G : Type 0) : Type 0 where
   pub here : Here G
 
 -- what is told at the first character of a slice, which `text` follows
-abbrev pub at_first : Rules → List ℕ → List Cell → Behind → Here Slice
-at_first rules text (Says told ∷ cells) behind = Tells told (record { cells = cells; behind = behind })
-at_first rules text (Ends told tag ∷ cells) behind = TellsTag told tag
-at_first rules text (Returns late opened ∷ cells) behind = Tells [] (rest_of rules opened text)
-at_first rules text [] behind = Tells [] (no_character behind)
+abbrev pub at_first : Rules → List ℕ → List Cell → Afterwards → Here Slice
+at_first rules text (Says told ∷ cells) afterwards = Tells told (record { cells = cells; afterwards = afterwards })
+at_first rules text (Ends told tag ∷ cells) afterwards = TellsTag told tag
+at_first rules text (Returns late opened ∷ cells) afterwards = Tells [] (rest_of rules opened text)
+at_first rules text [] afterwards = Tells [] (no_character afterwards)
 
 unfoldable pub here : Rules → Slice → ℕ → List ℕ → Here Slice
 here rules slice c text =
-    let next : Slice = slice_at rules slice.cells slice.behind c text in
-    at_first rules text next.cells next.behind
+    let next : Slice = slice_at rules slice.cells slice.afterwards c text in
+    at_first rules text next.cells next.afterwards
 
 -- what a character brings where the sink is not asked
-abbrev pub brought_without_answer : Rules → List Cell → Behind → ℕ → List ℕ → Brought Slice
+abbrev pub brought_without_answer : Rules → List Cell → Afterwards → ℕ → List ℕ → Brought Slice
 brought_without_answer rules [] (Settles late opened) c text =
     record { settled = late; here = here rules (rest_of rules opened (c ∷ text)) c text }
-brought_without_answer rules (Returns late opened ∷ cells) behind c text =
+brought_without_answer rules (Returns late opened ∷ cells) afterwards c text =
     record { settled = late; here = Tells [] (rest_of rules opened text) }
-brought_without_answer rules cells behind c text = record { settled = []; here = here rules (record { cells = cells; behind = behind }) c text }
+brought_without_answer rules cells afterwards c text = record { settled = []; here = here rules (record { cells = cells; afterwards = afterwards }) c text }
 
 -- the sink's answer about foreign content decides where it is asked
-abbrev pub brought_by : Rules → Bool → List Cell → Behind → ℕ → List ℕ → Brought Slice
+abbrev pub brought_by : Rules → Bool → List Cell → Afterwards → ℕ → List ℕ → Brought Slice
 brought_by rules foreign [] (Asks held) c text =
     let asked : Slice = declaration_by_answer rules.exact foreign held c text in
-    brought_without_answer rules asked.cells asked.behind c text
-brought_by rules foreign cells behind c text = brought_without_answer rules cells behind c text
+    brought_without_answer rules asked.cells asked.afterwards c text
+brought_by rules foreign cells afterwards c text = brought_without_answer rules cells afterwards c text
 
 unfoldable pub brought : Rules → Bool → Slice → ℕ → List ℕ → Brought Slice
-brought rules foreign slice c text = brought_by rules foreign slice.cells slice.behind c text
+brought rules foreign slice c text = brought_by rules foreign slice.cells slice.afterwards c text
 
 -- the events of a text, and what is open after it, with the name of the last start tag
 pub record Read : Type 0 where
@@ -118,14 +118,14 @@ abbrev pub with_events : List Event → Read → Read
 with_events events read = record { events = events ++ read.events; opened = read.opened; last_start_tag = read.last_start_tag }
 
 -- what is open after the last character of a text
-abbrev pub open_behind : Behind → Open
-open_behind (Leaves before opened) = opened
-open_behind (Settles late opened) = opened
-open_behind (Asks held) = InDeclaration held
+abbrev pub open_after : Afterwards → Open
+open_after (Leaves before opened) = opened
+open_after (Settles late opened) = opened
+open_after (Asks held) = InDeclaration held
 
 -- the name of the last start tag after a tag
-unfoldable pub last_behind : List ℕ → TagOf → List ℕ
-last_behind last tag = if is_end_tag tag.kind then last else tag.name
+unfoldable pub last_after : List ℕ → TagOf → List ℕ
+last_after last tag = if is_end_tag tag.kind then last else tag.name
 
 -- what is open after a tag, by the sink's reply and the name of the last start tag
 abbrev pub open_after_reply : {H : Type 0} → List ℕ → Reply H → Open
@@ -145,7 +145,7 @@ module _ {S H : Type 0} (step : S → Told → ℕ → S) (reply : S → Told �
       let tokens : List Told = bad_character_error rules.exact c ++ told in
       let line : ℕ = line_after K.input (before ++ c ∷ []) in
       let t : S = stepped step s (on_line line tokens) in
-      let name : List ℕ = last_behind last tag in
+      let name : List ℕ = last_after last tag in
       with_events (events_at K.input before c (tokens ++ Tag tag ∷ []))
       (rest (step t (Tag tag) line) name (begin (open_after_reply name (reply t (Tag tag) line))))
 
@@ -153,7 +153,7 @@ module _ {S H : Type 0} (step : S → Told → ℕ → S) (reply : S → Told �
   -- had the name `last`. The sink is asked about foreign content in the state after all events before the `<!`, since nothing is
   -- told between that and the answer.
   unfoldable pub read_from : S → List ℕ → List ℕ → Slice → List ℕ → Read
-  read_from s last before slice [] = record { events = []; opened = open_behind slice.behind; last_start_tag = last }
+  read_from s last before slice [] = record { events = []; opened = open_after slice.afterwards; last_start_tag = last }
   read_from s last before slice (c ∷ text) =
       let next : Brought Slice = brought rules (foreign s) slice c text in
       with_events (late_events K.input before (Character (length before)) next.settled)

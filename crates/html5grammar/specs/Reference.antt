@@ -11,8 +11,8 @@ use Rattle.html5ever_interface.specs.Token.{Told}
 use Rattle.html5ever_interface.specs.Token.Told.{Text, Error}
 use Rattle.html5grammar.specs.Characters.{null, number_sign, ampersand, semicolon, equals_sign, capital_x, small_x, replacement_character, is_bad_character, is_no_character, value_bytes}
 use Rattle.html5grammar.specs.ErrorText.{where_true}
-use Rattle.html5grammar.specs.Slice.{Slice, Late, no_character, cut_off, with_run, silent, run_while, behind_while}
-use Rattle.html5grammar.specs.Slice.Behind.{Leaves, Settles}
+use Rattle.html5grammar.specs.Slice.{Slice, Late, no_character, cut_off, with_run, silent, run_while, after_while}
+use Rattle.html5grammar.specs.Slice.Afterwards.{Leaves, Settles}
 use Rattle.html5grammar.specs.Slice.Cell.{Returns}
 use Rattle.html5grammar.specs.Start.{OpenTag, Stand, Open, Rules}
 use Rattle.html5grammar.specs.Start.Open.{Between, InTag, InReference}
@@ -57,20 +57,20 @@ is_digit_of [] d = is_ascii_digit d
 is_digit_of (c ∷ text) d = if is_x c then is_ascii_hexdigit d else is_ascii_digit d
 
 -- what stands after the `x`, where there is one
-abbrev pub behind_x : List ℕ → List ℕ
-behind_x [] = []
-behind_x (c ∷ text) = if is_x c then text else c ∷ text
+abbrev pub after_x : List ℕ → List ℕ
+after_x [] = []
+after_x (c ∷ text) = if is_x c then text else c ∷ text
 
 -- whether there are digits of the base alone
 unfoldable pub is_number : List ℕ → Bool
-is_number text = list_all (is_digit_of text) (behind_x text)
+is_number text = list_all (is_digit_of text) (after_x text)
 
 unfoldable pub has_digits : List ℕ → Bool
-has_digits text = not (nat_eq (length (behind_x text)) 0)
+has_digits text = not (nat_eq (length (after_x text)) 0)
 
 -- the number that the digits write, without a bound
 unfoldable pub number_value : List ℕ → ℕ
-number_value text = digits_value (base_of text) (behind_x text)
+number_value text = digits_value (base_of text) (after_x text)
 
 -- the character of a number: U+FFFD where there is none, and another for a control above U+007F
 unfoldable pub character_of_number : ℕ → ℕ
@@ -215,19 +215,19 @@ late_tokens stand found held =
     map (λ token. record { token = token; back = suc (length held) - found.taken; is_at = false; is_held = false }) (told_of stand found)
     ++ held_text stand (drop found.taken held)
 
-abbrev pub opened_behind : Stand → Found → List ℕ → Open
-opened_behind stand found held = opened_in stand (characters_in found ++ drop found.taken held)
+abbrev pub opened_after : Stand → Found → List ℕ → Open
+opened_after stand found held = opened_in stand (characters_in found ++ drop found.taken held)
 
 -- after what is held
-unfoldable pub behind_held : Rules → Stand → List ℕ → List ℕ → Slice
-behind_held rules stand held [] = cut_off (InReference stand held)
-behind_held rules stand held (c ∷ text) =
+unfoldable pub after_held : Rules → Stand → List ℕ → List ℕ → Slice
+after_held rules stand held [] = cut_off (InReference stand held)
+after_held rules stand held (c ∷ text) =
     let found : Found = reference rules (in_value stand) held (Some c) in
-    if ends_number held c then record { cells = Returns (late_tokens stand found held) (opened_behind stand found held) ∷ []; behind = Leaves [] (opened_behind stand found held) }
-    else no_character (Settles (late_tokens stand found held) (opened_behind stand found held))
+    if ends_number held c then record { cells = Returns (late_tokens stand found held) (opened_after stand found held) ∷ []; afterwards = Leaves [] (opened_after stand found held) }
+    else no_character (Settles (late_tokens stand found held) (opened_after stand found held))
 
 -- a reference, of which so much was held
 unfoldable pub reference_text : Rules → Stand → List ℕ → List ℕ → Slice
 reference_text rules stand held text =
     let run : List ℕ = run_while (is_undecided rules.names) held text in
-    with_run silent run (behind_held rules stand (held ++ run) (behind_while (is_undecided rules.names) held text))
+    with_run silent run (after_held rules stand (held ++ run) (after_while (is_undecided rules.names) held text))

@@ -22,23 +22,23 @@ pub data Cell : Type 0 where
   Returns : List Late → Open → Cell
 
 -- how a text goes on after a slice
-pub data Behind : Type 0 where
+pub data Afterwards : Type 0 where
   -- first something is told at the next character, and this is open
-  Leaves : List Told → Open → Behind
+  Leaves : List Told → Open → Afterwards
   -- the next character decides what is told before it, and then this is open; what the end decides is said in `EndOfInput`
-  Settles : List Late → Open → Behind
+  Settles : List Late → Open → Afterwards
   -- after `<!` and what is held the next character begins no comment and no doctype: whether a CDATA section may begin there is
   -- asked of the sink
-  Asks : List ℕ → Behind
+  Asks : List ℕ → Afterwards
 
 pub record Slice : Type 0 where
   -- what is told at each character
   pub cells : List Cell
-  pub behind : Behind
+  pub afterwards : Afterwards
 
 -- a slice of no character
-abbrev pub no_character : Behind → Slice
-no_character behind = record { cells = []; behind = behind }
+abbrev pub no_character : Afterwards → Slice
+no_character afterwards = record { cells = []; afterwards = afterwards }
 
 -- the text ends within a slice
 abbrev pub cut_off : Open → Slice
@@ -46,15 +46,15 @@ cut_off opened = no_character (Leaves [] opened)
 
 -- a slice of one character
 abbrev pub one_character : List Told → Open → Slice
-one_character told opened = record { cells = Says told ∷ []; behind = Leaves [] opened }
+one_character told opened = record { cells = Says told ∷ []; afterwards = Leaves [] opened }
 
 -- a slice with a character in front
 abbrev pub with_character : List Told → Slice → Slice
-with_character told slice = record { cells = Says told ∷ slice.cells; behind = slice.behind }
+with_character told slice = record { cells = Says told ∷ slice.cells; afterwards = slice.afterwards }
 
 -- a slice with some characters in front, each of which tells its own
 abbrev pub with_run : (ℕ → List Told) → List ℕ → Slice → Slice
-with_run tells run slice = record { cells = map (λ c. Says (tells c)) run ++ slice.cells; behind = slice.behind }
+with_run tells run slice = record { cells = map (λ c. Says (tells c)) run ++ slice.cells; afterwards = slice.afterwards }
 
 -- a character that tells nothing
 abbrev pub silent : ℕ → List Told
@@ -70,9 +70,9 @@ run_of is_kind [] = []
 run_of is_kind (c ∷ text) = if is_kind c then c ∷ run_of is_kind text else []
 
 -- what follows that run
-unfoldable pub behind_run : (ℕ → Bool) → List ℕ → List ℕ
-behind_run is_kind [] = []
-behind_run is_kind (c ∷ text) = if is_kind c then behind_run is_kind text else c ∷ text
+unfoldable pub after_run : (ℕ → Bool) → List ℕ → List ℕ
+after_run is_kind [] = []
+after_run is_kind (c ∷ text) = if is_kind c then after_run is_kind text else c ∷ text
 
 -- the longest run with which a text begins, where the kind is one of the run so far with what stands before it
 unfoldable pub run_while : (List ℕ → Bool) → List ℕ → List ℕ → List ℕ
@@ -81,7 +81,7 @@ run_while is_kind before (c ∷ text) =
     if is_kind (before ++ c ∷ []) then c ∷ run_while is_kind (before ++ c ∷ []) text else []
 
 -- what follows that run
-unfoldable pub behind_while : (List ℕ → Bool) → List ℕ → List ℕ → List ℕ
-behind_while is_kind before [] = []
-behind_while is_kind before (c ∷ text) =
-    if is_kind (before ++ c ∷ []) then behind_while is_kind (before ++ c ∷ []) text else c ∷ text
+unfoldable pub after_while : (List ℕ → Bool) → List ℕ → List ℕ → List ℕ
+after_while is_kind before [] = []
+after_while is_kind before (c ∷ text) =
+    if is_kind (before ++ c ∷ []) then after_while is_kind (before ++ c ∷ []) text else c ∷ text

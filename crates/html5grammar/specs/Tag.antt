@@ -14,8 +14,8 @@ use Rattle.html5ever_interface.specs.declared.states.State.TheVariants as state
 use Rattle.html5grammar.specs.Characters.{null, quotation_mark, ampersand, apostrophe, solidus, less_than, equals_sign, greater_than, grave_accent, is_white_space, name_bytes}
 use Rattle.html5grammar.specs.ErrorText.{error_in, where_true}
 use Rattle.html5grammar.specs.Reference.{with_value, reference_text}
-use Rattle.html5grammar.specs.Slice.{Slice, silent, cut_off, one_character, with_character, with_run, run_of, behind_run}
-use Rattle.html5grammar.specs.Slice.Behind.{Leaves}
+use Rattle.html5grammar.specs.Slice.{Slice, silent, cut_off, one_character, with_character, with_run, run_of, after_run}
+use Rattle.html5grammar.specs.Slice.Afterwards.{Leaves}
 use Rattle.html5grammar.specs.Slice.Cell.{Ends}
 use Rattle.html5grammar.specs.Start.{OpenTag, Place, Rules}
 use Rattle.html5grammar.specs.Start.Stand.{InAttribute}
@@ -86,7 +86,7 @@ closing errors tag self_closing =
     let closed : OpenTag = with_last_attribute tag in
     record {
       cells = Ends (errors ++ (duplicate_error tag ++ end_tag_errors closed self_closing)) (told_tag closed self_closing) ∷ [];
-      behind = Leaves [] (Between Data);
+      afterwards = Leaves [] (Between Data);
     }
 
 -- ---- values
@@ -101,9 +101,9 @@ quote_of SingleQuoted = apostrophe
 quote_of Unquoted = greater_than
 
 -- a value in quotes runs to its quote
-unfoldable pub behind_quoted : Rules → AttrValueKind → OpenTag → List ℕ → Slice
-behind_quoted rules kind tag [] = cut_off (InTag (InValue kind) tag)
-behind_quoted rules kind tag (c ∷ text) =
+unfoldable pub after_quoted : Rules → AttrValueKind → OpenTag → List ℕ → Slice
+after_quoted rules kind tag [] = cut_off (InTag (InValue kind) tag)
+after_quoted rules kind tag (c ∷ text) =
     if c == ampersand then with_character [] (reference_text rules (InAttribute kind tag) [] text) else one_character [] (InTag AfterQuotedValue tag)
 
 unfoldable pub in_quoted : AttrValueKind → ℕ → Bool
@@ -112,12 +112,12 @@ in_quoted kind c = not ((c == quote_of kind) || (c == ampersand))
 unfoldable pub quoted_value : Rules → AttrValueKind → OpenTag → List ℕ → Slice
 quoted_value rules kind tag text =
     let run : List ℕ = run_of (in_quoted kind) text in
-    with_run (null_error rules.exact (state.AttributeValue kind)) run (behind_quoted rules kind (with_value tag run) (behind_run (in_quoted kind) text))
+    with_run (null_error rules.exact (state.AttributeValue kind)) run (after_quoted rules kind (with_value tag run) (after_run (in_quoted kind) text))
 
 -- a value without quotes runs to white space or `>`
-unfoldable pub behind_unquoted : Rules → OpenTag → List ℕ → Slice
-behind_unquoted rules tag [] = cut_off (InTag (InValue Unquoted) tag)
-behind_unquoted rules tag (c ∷ text) =
+unfoldable pub after_unquoted : Rules → OpenTag → List ℕ → Slice
+after_unquoted rules tag [] = cut_off (InTag (InValue Unquoted) tag)
+after_unquoted rules tag (c ∷ text) =
     if c == ampersand then with_character [] (reference_text rules (InAttribute Unquoted tag) [] text)
     else if c == greater_than then closing [] tag false
     else one_character [] (InTag BeforeAttribute tag)
@@ -136,7 +136,7 @@ unquoted_error exact c =
 unfoldable pub unquoted_value : Rules → OpenTag → List ℕ → Slice
 unquoted_value rules tag text =
     let run : List ℕ = run_of in_unquoted text in
-    with_run (unquoted_error rules.exact) run (behind_unquoted rules (with_value tag run) (behind_run in_unquoted text))
+    with_run (unquoted_error rules.exact) run (after_unquoted rules (with_value tag run) (after_run in_unquoted text))
 
 -- a value, after `=` and white space
 unfoldable pub value : Rules → OpenTag → List ℕ → Slice
@@ -147,9 +147,9 @@ value rules tag (c ∷ text) =
     else if c == greater_than then closing (error_in rules.exact state.BeforeAttributeValue equals_sign ∷ []) tag false
     else unquoted_value rules tag (c ∷ text)
 
-unfoldable pub value_behind_space : Rules → OpenTag → List ℕ → Slice
-value_behind_space rules tag text =
-    with_run silent (run_of is_white_space text) (value rules tag (behind_run is_white_space text))
+unfoldable pub value_after_space : Rules → OpenTag → List ℕ → Slice
+value_after_space rules tag text =
+    with_run silent (run_of is_white_space text) (value rules tag (after_run is_white_space text))
 
 -- ---- attributes
 
@@ -157,20 +157,20 @@ value_behind_space rules tag text =
 unfoldable pub value_or_next : Rules → OpenTag → List ℕ → Slice
 value_or_next rules tag [] = cut_off (InTag AfterAttributeName tag)
 value_or_next rules tag (c ∷ text) =
-    if c == equals_sign then with_character [] (value_behind_space rules tag text)
+    if c == equals_sign then with_character [] (value_after_space rules tag text)
     else cut_off (InTag AfterAttributeName tag)
 
-unfoldable pub behind_name_and_space : Rules → OpenTag → List ℕ → Slice
-behind_name_and_space rules tag text =
-    with_run silent (run_of is_white_space text) (value_or_next rules tag (behind_run is_white_space text))
+unfoldable pub after_name_and_space : Rules → OpenTag → List ℕ → Slice
+after_name_and_space rules tag text =
+    with_run silent (run_of is_white_space text) (value_or_next rules tag (after_run is_white_space text))
 
 -- after an attribute's name
-unfoldable pub behind_attribute_name : Rules → OpenTag → List ℕ → Slice
-behind_attribute_name rules tag [] = cut_off (InTag InAttributeName tag)
-behind_attribute_name rules tag (c ∷ text) =
-    if is_white_space c then with_character [] (behind_name_and_space rules tag text)
+unfoldable pub after_attribute_name : Rules → OpenTag → List ℕ → Slice
+after_attribute_name rules tag [] = cut_off (InTag InAttributeName tag)
+after_attribute_name rules tag (c ∷ text) =
+    if is_white_space c then with_character [] (after_name_and_space rules tag text)
     else if c == solidus then one_character [] (InTag AfterSolidus tag)
-    else if c == equals_sign then with_character [] (value_behind_space rules tag text)
+    else if c == equals_sign then with_character [] (value_after_space rules tag text)
     else closing [] tag false
 
 unfoldable pub in_attribute_name : ℕ → Bool
@@ -191,10 +191,10 @@ abbrev pub with_last_name : OpenTag → List ℕ → OpenTag
 with_last_name tag run = record tag { last_name = tag.last_name ++ flat_map name_bytes run }
 
 -- an attribute after the first character of its name
-unfoldable pub attribute_behind_first : Rules → OpenTag → List ℕ → Slice
-attribute_behind_first rules tag text =
+unfoldable pub attribute_after_first : Rules → OpenTag → List ℕ → Slice
+attribute_after_first rules tag text =
     let run : List ℕ = run_of in_attribute_name text in
-    with_run (attribute_name_error rules.exact) run (behind_attribute_name rules (with_last_name tag run) (behind_run in_attribute_name text))
+    with_run (attribute_name_error rules.exact) run (after_attribute_name rules (with_last_name tag run) (after_run in_attribute_name text))
 
 -- ---- the parts of a tag
 
@@ -221,13 +221,13 @@ part rules place tag c text =
     if c == greater_than then closing errors tag (is_after_solidus place)
     else if is_white_space c then one_character errors (InTag BeforeAttribute tag)
     else if c == solidus then one_character errors (InTag AfterSolidus tag)
-    else with_character (errors ++ (first_error rules.exact place c ++ duplicate_error tag)) (attribute_behind_first rules (with_last_name (with_last_attribute tag) (c ∷ [])) text)
+    else with_character (errors ++ (first_error rules.exact place c ++ duplicate_error tag)) (attribute_after_first rules (with_last_name (with_last_attribute tag) (c ∷ [])) text)
 
 -- ---- the name of a tag
 
-unfoldable pub behind_tag_name : OpenTag → List ℕ → Slice
-behind_tag_name tag [] = cut_off (InTag InName tag)
-behind_tag_name tag (c ∷ text) =
+unfoldable pub after_tag_name : OpenTag → List ℕ → Slice
+after_tag_name tag [] = cut_off (InTag InName tag)
+after_tag_name tag (c ∷ text) =
     if is_white_space c then one_character [] (InTag BeforeAttribute tag)
     else if c == solidus then one_character [] (InTag AfterSolidus tag)
     else closing [] tag false
@@ -242,4 +242,4 @@ with_name tag run = record tag { name = tag.name ++ flat_map name_bytes run }
 unfoldable pub tag_name : Bool → OpenTag → List ℕ → Slice
 tag_name exact tag text =
     let run : List ℕ = run_of in_tag_name text in
-    with_run (null_error exact state.TagName) run (behind_tag_name (with_name tag run) (behind_run in_tag_name text))
+    with_run (null_error exact state.TagName) run (after_tag_name (with_name tag run) (after_run in_tag_name text))

@@ -11,7 +11,7 @@ use Rattle.html5grammar.specs.ErrorText.{error_in}
 use Rattle.html5grammar.specs.Instruction.{instruction}
 use Rattle.html5grammar.specs.Reference.{reference_text}
 use Rattle.html5grammar.specs.Slice.{Slice, no_character, cut_off, one_character, with_character}
-use Rattle.html5grammar.specs.Slice.Behind.{Leaves}
+use Rattle.html5grammar.specs.Slice.Afterwards.{Leaves}
 use Rattle.html5grammar.specs.Start.{Rules, begun}
 use Rattle.html5grammar.specs.Start.Stand.{InText}
 use Rattle.html5grammar.specs.Start.Mode.{Data}
@@ -25,20 +25,20 @@ plain_text exact c =
     else Text (encode_utf8 c) ∷ []
 
 -- after `</`: a letter begins an end tag, `>` leaves nothing, and another character a bogus comment, with an error
-unfoldable pub behind_solidus : Bool → List ℕ → Slice
-behind_solidus exact [] = cut_off LessThanSolidus
-behind_solidus exact (c ∷ text) =
+unfoldable pub after_solidus : Bool → List ℕ → Slice
+after_solidus exact [] = cut_off LessThanSolidus
+after_solidus exact (c ∷ text) =
     if is_letter c then tag_name exact (begun EndTag) (c ∷ text)
     else if c == greater_than then one_character (error_in exact state.EndTagOpen c ∷ []) (Between Data)
     else no_character (Leaves (error_in exact state.EndTagOpen c ∷ []) (InBogusComment []))
 
 -- after `<`: a letter begins a start tag, `/` and `!` lead on, and `?` begins a processing instruction; before another character `<` is text,
 -- with an error
-unfoldable pub behind_less_than : Bool → List ℕ → Slice
-behind_less_than exact [] = cut_off LessThan
-behind_less_than exact (c ∷ text) =
+unfoldable pub after_less_than : Bool → List ℕ → Slice
+after_less_than exact [] = cut_off LessThan
+after_less_than exact (c ∷ text) =
     if is_letter c then tag_name exact (begun StartTag) (c ∷ text)
-    else if c == solidus then with_character [] (behind_solidus exact text)
+    else if c == solidus then with_character [] (after_solidus exact text)
     else if c == exclamation_mark then with_character [] (declaration exact [] text)
     else if c == question_mark then with_character [] (instruction exact [] text)
     else no_character (Leaves (error_in exact state.TagOpen c ∷ Text (codes "<") ∷ []) (Between Data))
@@ -46,7 +46,7 @@ behind_less_than exact (c ∷ text) =
 -- what begins with c in the mode Data, where `before` is told first
 unfoldable pub data_text : Rules → List Told → ℕ → List ℕ → Slice
 data_text rules before c text =
-    if c == less_than then with_character before (behind_less_than rules.exact text)
+    if c == less_than then with_character before (after_less_than rules.exact text)
     else if c == ampersand then with_character before (reference_text rules (InText Data) [] text)
     else if c == null then one_character (before ++ error_in rules.exact state.Data c ∷ Null ∷ []) (Between Data)
     else one_character (before ++ Text (encode_utf8 c) ∷ []) (Between Data)

@@ -7,7 +7,7 @@ ghost use Rattle.std.specs.Char.{is_ascii_alphanumeric};
 ghost use Rattle.std.specs.Option.{is_none};
 ghost use Rattle.html5ever_interface.specs.Sink.{Message};
 ghost use Rattle.html5grammar.specs.Reading.{reading, told, is_among, all_messages, messages_so_far, state_after, start_after};
-ghost use Rattle.html5grammar.specs.Lawful.{IsLawful, TellsNoTagBehind};
+ghost use Rattle.html5grammar.specs.Lawful.{IsLawful, TellsNoTagAfter};
 ghost use Rattle.html5grammar.specs.Characters.{number_sign};
 ghost use Rattle.html5grammar.specs.NormalisedText.{normalised};
 ghost use Rattle.html5grammar.specs.Reference.{first_or, is_undecided, longest_name};
@@ -67,7 +67,7 @@ pub fn longest_name_of_text()
 /// A tag that the end of input cuts off is never told: what the end decides and tells has no tag.
 pub fn tags_cut_off<S: TokenSink<Token<A>>, A: Allocator>()
     ensures { (rules : Rules) (K : Start) (s : S.State) (text : List ℕ) →
-        TellsNoTagBehind (messages_so_far S.means rules K s text) (all_messages S.means rules K s text) }
+        TellsNoTagAfter (messages_so_far S.means rules K s text) (all_messages S.means rules K s text) }
 {}
 
 /// By a table of names each token that a text tells is lawful, where nothing was open before it: text

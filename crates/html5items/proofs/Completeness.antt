@@ -6,7 +6,7 @@ use Rattle.std.proofs.lemmas.List.{append_assoc, take-append-drop}
 use Rattle.std.specs.Option.{is_none}
 use Rattle.html5ever_interface.specs.Sink.{Means, Message, stepped}
 use Rattle.html5ever_interface.specs.Token.{TagOf, Reply}
-use Rattle.html5items.specs.Anywhere.{start_behind, last_reply}
+use Rattle.html5items.specs.Anywhere.{start_beyond, last_reply}
 use Rattle.html5grammar.specs.Characters.{less_than, greater_than, ampersand, exclamation_mark, solidus, question_mark, is_letter, lower_case}
 use Rattle.html5grammar.specs.NormalisedText.{normalised, input_after}
 use Rattle.html5items.specs.Comment as one_comment
@@ -23,14 +23,14 @@ use Rattle.html5items.specs.Items.{is_text, is_lone_before, Item, Unfinished, It
 use Rattle.html5items.specs.Items.Item.{OneTag, OneCharacter, OneLone, OneLoneBefore, OneEmptyEnd, OneComment, OneInstruction, OneReferenceIn, OneDoctype, OneRawCharacter, OneCdata, OneRawMark, OneRawLessThan, OneRawLessThanBefore, OneRawEnd}
 use Rattle.html5items.specs.Items.Unfinished.{OpenLessThan, OpenSolidus, OpenTag, OpenReference, OpenInstruction, OpenBogus, OpenKeyword, OpenBogusDeclaration, OpenDoctype, OpenComment, OpenCdata, OpenRaw, OpenSwitch, OpenRawEnd}
 use Rattle.html5items.specs.Items.Items.{Nothing, Then, Last}
-use Rattle.html5items.specs.Tag.{deciding_in, found_in, can_follow, needs_stop, WrittenTag, Part, opening, written, part_text, place_behind_parts}
+use Rattle.html5items.specs.Tag.{deciding_in, found_in, can_follow, needs_stop, WrittenTag, Part, opening, written, part_text, place_after_parts}
 use Rattle.html5ever_interface.specs.Token.Reply.{KeepOn, ReadPlainText, ReadRawData, RunScript, SwitchEncoding}
 use Rattle.html5ever_interface.specs.declared.interface.token.TagKind.{TagKind}
 use Rattle.html5ever_interface.specs.declared.interface.token.TagKind.TheVariants.{StartTag, EndTag}
 use Rattle.std.specs.Prelude.{flat_map, None, Some}
 use Rattle.std.specs.List.{list_all}
 use Rattle.html5items.specs.Spelled.{spelled_messages}
-use Rattle.html5grammar.specs.Reading.{open_after_reply, last_behind}
+use Rattle.html5grammar.specs.Reading.{open_after_reply, last_after}
 use Rattle.html5grammar.specs.Tag.{in_tag_name}
 use Rattle.html5grammar.specs.Start.Place.{InName}
 use Rattle.html5items.specs.Tag as one_tag
@@ -46,7 +46,7 @@ use Rattle.html5items.proofs.Doctype.Forms.{each-doctype}
 use Rattle.std.specs.Cmp.Lexicographic.{same_text}
 use Rattle.std.specs.Str.{bytes_eq}
 use Rattle.std.specs.Char.{to_ascii_lowercase}
-use Rattle.html5grammar.specs.RawText.{is_rcdata, raw_behind, kind_of}
+use Rattle.html5grammar.specs.RawText.{is_rcdata, raw_after, kind_of}
 use Rattle.html5grammar.specs.Start.Raw.{Rcdata, Rawtext, ScriptData, Escaped, DoubleEscaped}
 use Rattle.html5items.specs.Cdata as one_cdata
 use Rattle.html5items.specs.Cdata.{WrittenCdata, IsCdataText}
@@ -55,7 +55,7 @@ use Rattle.html5items.proofs.Cdata.Forms.{each-cdata}
 use Rattle.std.proofs.lemmas.Bool.{and_parts, false_from_ne_true}
 use Rattle.std.proofs.lemmas.List.{append-nil}
 use Rattle.std.specs.Prelude.{◌||◌, ◌&&◌, if◌then◌else◌}
-use Rattle.html5items.specs.RawText.{RawItem, raw_behind_item, text_behind_less_than}
+use Rattle.html5items.specs.RawText.{RawItem, raw_after_item, text_after_less_than}
 use Rattle.html5items.specs.RawText.RawItem.{Character, LessThan, Letters, Mark, Switch}
 use Rattle.html5items.proofs.RawText.Forms.{RawForm, raw-form, item-begins}
 use Rattle.html5items.proofs.RawText.Forms.RawForm.{AtOnce, Later, BeforeMarkup, RawEnd, OpenItem, OpenLetters, OpenEnd}
@@ -63,8 +63,8 @@ use Rattle.html5grammar.specs.Reading.{all_messages, state_after}
 use Rattle.markup5ever.specs.NamedReferences.{IsTable}
 use Rattle.html5items.proofs.Soundness.{tells-items, reading-items}
 use Rattle.html5items.proofs.Split.{Split, split, nil≢cons, cons_first, cons_rest}
-use Rattle.html5items.proofs.Comment.Forms.{Behind, behind, begins-parts}
-use Rattle.html5items.proofs.Comment.Forms.Behind.{Ends, Open as Endless}
+use Rattle.html5items.proofs.Comment.Forms.{Afterwards, afterwards, begins-parts}
+use Rattle.html5items.proofs.Comment.Forms.Afterwards.{Ends, Open as Endless}
 
 begins-longer : (word front later : List ℕ) → begins_with word front ≡ true → begins_with word (front ++ later) ≡ true
 begins-longer word front later h =
@@ -207,11 +207,11 @@ module _ {X S H : Type 0} (means : Means X S H) (rules : Rules) where
 
   -- an item that begins the normalised text
   next-item : (K : Start) (s : S) (X : List ℕ) (a : ℕ) (A B : List ℕ) (M : List Message) (opened : Open) (last : List ℕ) → normalised K.input X ≡ a ∷ A ++ B → is_clean opened ≡ true
-      → ((Y Z : List ℕ) → normalised K.input Y ≡ a ∷ A → normalised (input_after K.input Y) Z ≡ B → Item means rules Z K s Y M (start_behind K Y opened last))
+      → ((Y Z : List ℕ) → normalised K.input Y ≡ a ∷ A → normalised (input_after K.input Y) Z ≡ B → Item means rules Z K s Y M (start_beyond K Y opened last))
       → Next K s X
   next-item K s X a A B M opened last e clean item =
       let w : Split K.input X (a ∷ A) B = split K.input X (a ∷ A) B e in
-      One w.Y w.Z M (start_behind K w.Y opened last) w.parts (item w.Y w.Z w.front w.rest) clean
+      One w.Y w.Z M (start_beyond K w.Y opened last) w.parts (item w.Y w.Z w.front w.rest) clean
       (subst (λ n. n < length (normalised K.input X)) (sym (ap length w.rest)) (subst (λ n. length B < n) (sym (ap length e)) (shorter 0 a A B)))
 
   next-character : (K : Start) (s : S) (X : List ℕ) (mode : Mode) (c : ℕ) (T : List ℕ) → is_text mode c ≡ true → K.opened ≡ Between mode → normalised K.input X ≡ c ∷ T → Next K s X
@@ -284,10 +284,10 @@ module _ {X S H : Type 0} (means : Means X S H) (rules : Rules) where
       let w : IsDoctypeText word rest = each-doctype word rest (doctype-word content d) (skipped-all rest (all-dropped 7 content all)) in
       let parts : word ++ (rest ++ greater_than ∷ []) ≡ content ++ greater_than ∷ [] = sym (append_assoc word rest (greater_than ∷ [])) ∙ ap (λ l. l ++ greater_than ∷ []) (take-append-drop 7 content) in
       next-item K s X less_than (exclamation_mark ∷ content ++ greater_than ∷ []) later _ (Between Data) K.last_start_tag e refl
-      (λ Y Z front behind_it. OneDoctype w.doctype (record { starts = starts; is_doctype = w.is_doctype; text = front ∙ ap (λ l. codes "<!" ++ l) (sym parts) ∙ sym w.is_text }))
+      (λ Y Z front after_it. OneDoctype w.doctype (record { starts = starts; is_doctype = w.is_doctype; text = front ∙ ap (λ l. codes "<!" ++ l) (sym parts) ∙ sym w.is_text }))
   next-ended K s X content later no_dashes no_cdata all false d starts e =
       next-item K s X less_than (exclamation_mark ∷ content ++ greater_than ∷ []) later _ (Between Data) K.last_start_tag e refl
-      (λ Y Z front behind_it. OneComment (Bogus ExclamationMark content) (record { starts = starts; is_comment = rw (no_dashes, d, no_cdata, all) refl; text = front }))
+      (λ Y Z front after_it. OneComment (Bogus ExclamationMark content) (record { starts = starts; is_comment = rw (no_dashes, d, no_cdata, all) refl; text = front }))
 
   -- a bogus comment after `</`
   next-bogus : (K : Start) (s : S) (X T : List ℕ) → ((content : List ℕ) → UpTo T content → (can_open false Solidus content ≡ true) × ((answer : Bool) → can_open answer Solidus content ≡ true))
@@ -347,7 +347,7 @@ module _ {X S H : Type 0} (means : Means X S H) (rules : Rules) where
       Cut _ _ (OpenBogusDeclaration T (record { starts = starts; opens = rw (no_dashes, d, no_cdata) refl; decided = e; within = all; text = text }))
 
   -- after `<!--`
-  next-comment : (K : Start) (s : S) (X T : List ℕ) → K.opened ≡ Between Data → normalised K.input X ≡ codes "<!--" ++ T → Behind T → Next K s X
+  next-comment : (K : Start) (s : S) (X T : List ℕ) → K.opened ≡ Between Data → normalised K.input X ≡ codes "<!--" ++ T → Afterwards T → Next K s X
   unfolding one_comment.written is_written
   next-comment K s X T starts e (Endless h) = Cut _ _ (OpenComment T (record { starts = starts; is_content = h; text = e }))
   next-comment K s X T starts e (Ends content ending later h parts) =
@@ -382,23 +382,23 @@ module _ {X S H : Type 0} (means : Means X S H) (rules : Rules) where
   next-raw_form : (K : Start) (s : S) (X : List ℕ) (raw : Raw) (name T : List ℕ) → RawForm raw name T → K.opened ≡ Between (RawText raw name) → normalised K.input X ≡ less_than ∷ T → Next K s X
   next-raw_form K s X raw name T (AtOnce item F at_once can parts) starts e =
       let first = item-begins raw item (rw at_once refl) in
-      next-item K s X less_than (text_behind_less_than (kind_of raw) item) F _ (Between (RawText (raw_behind_item raw item) name)) K.last_start_tag
+      next-item K s X less_than (text_after_less_than (kind_of raw) item) F _ (Between (RawText (raw_after_item raw item) name)) K.last_start_tag
       (e ∙ parts ∙ ap (λ l. l ++ F) first) refl
       (λ Y Z front rest. OneRawMark raw name item (record { starts = starts; at_once = at_once; stands = can; text = front ∙ sym first }))
   next-raw_form K s X raw name T (Later item c F later stands is_text parts) starts e =
       let first = item-begins raw item (later-item item later) in
-      next-item K s X less_than (text_behind_less_than (kind_of raw) item ++ c ∷ []) F _ (Between (RawText (raw_behind (raw_behind_item raw item) c) name)) K.last_start_tag
+      next-item K s X less_than (text_after_less_than (kind_of raw) item ++ c ∷ []) F _ (Between (RawText (raw_after (raw_after_item raw item) c) name)) K.last_start_tag
       (e ∙ parts ∙ ap (λ l. (l ++ c ∷ []) ++ F) first) refl
       (λ Y Z front rest. OneRawLessThan raw name item c F (record { starts = starts; later = later; stands = stands; is_text = is_text; text = front ∙ ap (λ l. l ++ c ∷ []) (sym first); next = rest }))
   next-raw_form K s X raw name T (BeforeMarkup item c F later stands markup parts) starts e =
       let first = item-begins raw item (later-item item later) in
-      next-item K s X less_than (text_behind_less_than (kind_of raw) item) (c ∷ F) _ (Between (RawText (raw_behind_item raw item) name)) K.last_start_tag
+      next-item K s X less_than (text_after_less_than (kind_of raw) item) (c ∷ F) _ (Between (RawText (raw_after_item raw item) name)) K.last_start_tag
       (e ∙ parts ∙ ap (λ l. l ++ c ∷ F) first) refl
       (λ Y Z front rest. OneRawLessThanBefore raw name item c F (record { starts = starts; later = later; stands = stands; is_markup = markup; text = front ∙ sym first; next = rest }))
   next-raw_form K s X raw name T (RawEnd tag F ends is_tag parts) starts e =
       let w = written-first tag.kind tag.first tag.rest tag.parts in
       let M : List Message = spelled_messages rules.exact K.input [] (one_tag.spelled rules tag) in
-      let last : List ℕ = last_behind K.last_start_tag (one_tag.tag_told rules tag) in
+      let last : List ℕ = last_after K.last_start_tag (one_tag.tag_told rules tag) in
       next-item K s X less_than w.0 F M (open_after_reply last (last_reply means.step means.reply s M)) last
       (e ∙ parts ∙ ap (λ l. l ++ F) w.1) (is-clean_reply last (last_reply means.step means.reply s M))
       (λ Y Z front rest. OneRawEnd raw name tag (record { starts = starts; ends = ends; is_tag = is_tag; text = front ∙ sym w.1 }))
@@ -414,7 +414,7 @@ module _ {X S H : Type 0} (means : Means X S H) (rules : Rules) where
       Cut _ _ (OpenRawEnd raw name tag last (record { starts = starts; ends = ends; has_parts = has_parts; is_open = is_open; text = e ∙ parts }))
 
   next-tag_by : (K : Start) (s : S) (X : List ℕ) (kind : TagKind) (c : ℕ) (rest : List ℕ) (parts : List Part) (tail : List ℕ) → is_letter c ≡ true → list_all in_tag_name rest ≡ true → can_follow InName parts ≡ true
-      → Ending (place_behind_parts InName parts) tail → K.opened ≡ Between Data → normalised K.input X ≡ opening kind ++ (c ∷ rest ++ (flat_map part_text parts ++ tail)) → Next K s X
+      → Ending (place_after_parts InName parts) tail → K.opened ≡ Between Data → normalised K.input X ≡ opening kind ++ (c ∷ rest ++ (flat_map part_text parts ++ tail)) → Next K s X
   unfolding one_tag.is_written one_tag.is_open_written one_tag.open_written
   next-tag_by K s X kind c rest parts tail letter all follow (CutOff stops none) starts text =
       let tag : WrittenTag = record { kind = kind; first = c; rest = rest; parts = parts } in
@@ -422,16 +422,16 @@ module _ {X S H : Type 0} (means : Means X S H) (rules : Rules) where
       Cut _ _ (OpenTag tag None (record { starts = starts; is_open = rw (letter, all, follow, stops) refl; text = whole }))
   next-tag_by K s X kind c rest parts tail letter all follow (CutWithin first name value named cut tail_is) starts text =
       let tag : WrittenTag = record { kind = kind; first = c; rest = rest; parts = parts } in
-      let last : one_tag.OpenAttribute = record { first = first; name = name; space = cut.space; behind = cut.behind; kind = cut.kind; run = cut.run } in
+      let last : one_tag.OpenAttribute = record { first = first; name = name; space = cut.space; afterwards = cut.afterwards; kind = cut.kind; run = cut.run } in
       let whole : normalised K.input X ≡ one_tag.open_written tag (Some last) =
       text ∙ ap (λ l. opening kind ++ (c ∷ rest ++ (flat_map part_text parts ++ l))) (tail_is ∙ ap (λ l. first ∷ name ++ l) cut.parts) in
-      Cut _ _ (OpenTag tag (Some last) (record { starts = starts; is_open = rw (letter, all, follow, named, cut.space_white, cut.behind_white, cut.is_open) refl; text = whole }))
+      Cut _ _ (OpenTag tag (Some last) (record { starts = starts; is_open = rw (letter, all, follow, named, cut.space_white, cut.after_white, cut.is_open) refl; text = whole }))
   next-tag_by K s X kind c rest parts tail letter all follow (Closed Z closed) starts text =
       let tag : WrittenTag = record { kind = kind; first = c; rest = rest; parts = parts } in
       let w = written-first kind c rest parts in
       let M : List Message = spelled_messages rules.exact K.input [] (one_tag.spelled rules tag) in
       let told : TagOf = one_tag.tag_told rules tag in
-      let name : List ℕ = last_behind K.last_start_tag told in
+      let name : List ℕ = last_after K.last_start_tag told in
       let is_tag : one_tag.is_written tag ≡ true = rw (letter, all, follow) refl in
       next-item K s X less_than w.0 Z M (open_after_reply name (last_reply means.step means.reply s M)) name
       (text ∙ ap (λ l. opening kind ++ (c ∷ rest ++ (flat_map part_text parts ++ l))) closed ∙ whole-tag kind c rest parts Z ∙ ap (λ l. l ++ Z) w.1)
@@ -445,13 +445,13 @@ module _ {X S H : Type 0} (means : Means X S H) (rules : Rules) where
       next-tag_by K s X kind c t.rest p.list p.tail letter t.all p.follow p.ending starts
       (e ∙ ap (λ l. opening kind ++ c ∷ l) (t.parts ∙ ap (λ l. t.rest ++ l) p.parts))
 
-  next-behind_mark : (K : Start) (s : S) (X T : List ℕ) → begins_with (codes "--") T ≡ false → (t : Bool) → (means.foreign s && begins_with (codes "[CDATA[") T) ≡ t → K.opened ≡ Between Data → normalised K.input X ≡ less_than ∷ exclamation_mark ∷ T → UpTo_end T → Next K s X
-  next-behind_mark K s X T no_dashes true h starts e w =
+  next-after_mark : (K : Start) (s : S) (X T : List ℕ) → begins_with (codes "--") T ≡ false → (t : Bool) → (means.foreign s && begins_with (codes "[CDATA[") T) ≡ t → K.opened ≡ Between Data → normalised K.input X ≡ less_than ∷ exclamation_mark ∷ T → UpTo_end T → Next K s X
+  next-after_mark K s X T no_dashes true h starts e w =
       let p = and_parts (means.foreign s) (begins_with (codes "[CDATA[") T) h in
       let later : List ℕ = drop 7 T in
       next-opened_cdata K s X later p.0 starts (e ∙ ap (λ l. codes "<!" ++ l) (begins-parts (codes "[CDATA[") T p.1)) (first_end later)
-  next-behind_mark K s X T no_dashes false h starts e (NoEnd all) = next-open_declaration K s X T no_dashes h all (begins_with (codes "doctype") (lower_case T)) (may_begin (means.foreign s) T) refl refl starts e
-  next-behind_mark K s X T no_dashes false h starts e (End content later all parts) =
+  next-after_mark K s X T no_dashes false h starts e (NoEnd all) = next-open_declaration K s X T no_dashes h all (begins_with (codes "doctype") (lower_case T)) (may_begin (means.foreign s) T) refl refl starts e
+  next-after_mark K s X T no_dashes false h starts e (End content later all parts) =
       let other : begins_with (codes "--") content ≡ false = none-before (codes "--") content (greater_than ∷ later) (ap (begins_with (codes "--")) (sym parts) ∙ no_dashes) in
       let no_cdata : (means.foreign s && begins_with (codes "[CDATA[") content) ≡ false =
       none-both (means.foreign s) (begins_with (codes "[CDATA[") T) (begins_with (codes "[CDATA[") content) (λ g. ap (begins_with (codes "[CDATA[")) parts ∙ begins-longer (codes "[CDATA[") content (greater_than ∷ later) g) h in
@@ -461,8 +461,8 @@ module _ {X S H : Type 0} (means : Means X S H) (rules : Rules) where
   next-declaration : (K : Start) (s : S) (X T : List ℕ) (t : Bool) → begins_with (codes "--") T ≡ t → K.opened ≡ Between Data → normalised K.input X ≡ less_than ∷ exclamation_mark ∷ T → Next K s X
   next-declaration K s X T true h starts e =
       let later : List ℕ = drop 2 T in
-      next-comment K s X later starts (e ∙ ap (λ l. less_than ∷ exclamation_mark ∷ l) (begins-parts (codes "--") T h)) (behind later)
-  next-declaration K s X T false h starts e = next-behind_mark K s X T h (means.foreign s && begins_with (codes "[CDATA[") T) refl starts e (up_to T)
+      next-comment K s X later starts (e ∙ ap (λ l. less_than ∷ exclamation_mark ∷ l) (begins-parts (codes "--") T h)) (afterwards later)
+  next-declaration K s X T false h starts e = next-after_mark K s X T h (means.foreign s && begins_with (codes "[CDATA[") T) refl starts e (up_to T)
 
   next-solidus : (K : Start) (s : S) (X T : List ℕ) → K.opened ≡ Between Data → normalised K.input X ≡ less_than ∷ solidus ∷ T → Next K s X
   next-solidus K s X [] starts e = Cut _ _ (OpenSolidus starts e)
@@ -516,7 +516,7 @@ module _ {X S H : Type 0} (means : Means X S H) (rules : Rules) where
           let p = and_parts (is_rcdata raw) (c == ampersand) i in
           next-reference K s X (RawText raw name) T (is_none (deciding_in rules.names T)) refl (reference-mode raw p.0) starts (e ∙ ap (λ b. b ∷ T) (eqb-true c ampersand p.1))
       at false false h i =
-          next-item K s X c [] T _ (Between (RawText (raw_behind raw c) name)) K.last_start_tag e refl
+          next-item K s X c [] T _ (Between (RawText (raw_after raw c) name)) K.last_start_tag e refl
           (λ Y Z front rest. OneRawCharacter raw name c (record { starts = starts; is_text = rw (h, i) refl; text = front }))
 
   next-mode : (K : Start) (s : S) (X : List ℕ) (mode : Mode) → K.opened ≡ Between mode → Next K s X

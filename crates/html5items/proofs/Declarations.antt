@@ -15,7 +15,7 @@ use Rattle.html5grammar.specs.NormalisedText.{line_after, input_after}
 use Rattle.html5items.specs.Comment.{can_open, spell_bogus, begins_with}
 use Rattle.html5items.specs.Comment.Opening.{ExclamationMark}
 use Rattle.html5items.specs.Spelled.{Spelled, spelled_messages}
-use Rattle.html5grammar.specs.Slice.{run_while, behind_while}
+use Rattle.html5grammar.specs.Slice.{run_while, after_while}
 use Rattle.html5grammar.specs.Start.{Input, Start, Open, Rules}
 use Rattle.html5grammar.specs.Start.Mode.{Data}
 use Rattle.html5grammar.specs.Start.Open.{Between, InDeclaration, InBogusComment}
@@ -23,8 +23,8 @@ use Rattle.html5grammar.specs.Tag.{null_error}
 use Rattle.html5items.specs.RawText.{next_is}
 use Rattle.html5items.proofs.HeldWords.{IsPlain, is_good, begins-word, line-plain, trace-held, AreHeld}
 use Rattle.html5items.proofs.Leading.{leads-goes, trace-text, spelled_messages-append}
-use Rattle.html5items.proofs.Comment.Held.{begins_declaration, held_of, behind_held_of, are_held, held_of-plain, held-parts, error_on, trace-decides}
-use Rattle.html5items.proofs.Comment.Reading.{spelled-nothing, trace-mark, all_behind}
+use Rattle.html5items.proofs.Comment.Held.{begins_declaration, held_of, after_held_of, are_held, held_of-plain, held-parts, error_on, trace-decides}
+use Rattle.html5items.proofs.Comment.Reading.{spelled-nothing, trace-mark, all_after}
 use Rattle.html5items.proofs.Comment.Steps.{goes-bogus}
 use Rattle.html5items.proofs.Comment.Text.{bytes_of}
 use Rattle.html5items.proofs.Goes.{characters, characters-spell, Goes}
@@ -85,15 +85,15 @@ while-all begins closed before (c ∷ text) h =
 
 -- and what begins none has a character that decides
 pub decides-open : (begins : List ℕ → Bool) (before text : List ℕ) → begins before ≡ true → begins (before ++ text) ≡ false
-    → next_is (λ d. not (begins ((before ++ run_while begins before text) ++ d ∷ []))) (behind_while begins before text) ≡ true
-unfolding run_while behind_while
+    → next_is (λ d. not (begins ((before ++ run_while begins before text) ++ d ∷ []))) (after_while begins before text) ≡ true
+unfolding run_while after_while
 decides-open begins before [] h none = absurd (false≢true (sym none ∙ ap begins (append-nil before) ∙ h))
 decides-open begins before (c ∷ text) h none =
     let past : List ℕ = before ++ c ∷ [] in
     elim (begins past) as (λ b. begins past ≡ b
-    → next_is (λ d. not (begins ((before ++ (if b then c ∷ run_while begins past text else [])) ++ d ∷ []))) (if b then behind_while begins past text else c ∷ text) ≡ true) [
+    → next_is (λ d. not (begins ((before ++ (if b then c ∷ run_while begins past text else [])) ++ d ∷ []))) (if b then after_while begins past text else c ∷ text) ≡ true) [
       | true ↦ λ e.
-          subst (λ l. next_is (λ d. not (begins (l ++ d ∷ []))) (behind_while begins past text) ≡ true)
+          subst (λ l. next_is (λ d. not (begins (l ++ d ∷ []))) (after_while begins past text) ≡ true)
           (append_assoc before (c ∷ []) (run_while begins past text)) (decides-open begins past text e (ap begins (append_assoc before (c ∷ []) text) ∙ none))
       | false ↦ λ e. ap not (ap (λ l. begins (l ++ c ∷ [])) (append-nil before) ∙ e)
     ] refl
@@ -139,7 +139,7 @@ module _ {X S H : Type 0} (means : Means X S H) (rules : Rules) where
       let answer : Bool = means.foreign s in
       let last : List ℕ = K.last_start_tag in
       let held : List ℕ = held_of answer content in
-      let rest : List ℕ = behind_held_of answer content in
+      let rest : List ℕ = after_held_of answer content in
       let past : List ℕ = codes "<!" ++ held in
       let cells : List Spelled = spell_bogus rules.exact rest in
       let parts : held ++ rest ≡ content = held-parts answer content in
@@ -150,7 +150,7 @@ module _ {X S H : Type 0} (means : Means X S H) (rules : Rules) where
       let goes : Goes rules.exact (InBogusComment held) cells opened =
       subst (λ l. Goes rules.exact (InBogusComment l) cells opened) plain.bytes
       (subst (λ l. Goes rules.exact (InBogusComment (bytes_of held)) cells (InBogusComment (bytes_of l))) parts
-      (goes-bogus rules.exact held rest (all_behind held rest (ap (list_all in_bogus_comment) parts ∙ within)))) in
+      (goes-bogus rules.exact held rest (all_after held rest (ap (list_all in_bogus_comment) parts ∙ within)))) in
       ap (λ l. trace means.step means.reply means.foreign rules s (line_after K.input []) last (Between Data) (codes "<!" ++ l)) (sym parts)
       ∙ trace-mark means.step means.reply means.foreign rules K s (held ++ rest)
       ∙ trace-held means.step means.reply means.foreign rules InDeclaration K.input (codes "<!") s last [] held rest (are_held rules answer content opens) plain.good

@@ -29,9 +29,9 @@ characters-spell tells (c ∷ run) = ap (λ l. c ∷ l) (characters-spell tells 
 pub characters-two : (xs ys : List Spelled) (X Y : List ℕ) → characters xs ≡ X → characters ys ≡ Y → characters (xs ++ ys) ≡ X ++ Y
 characters-two xs ys X Y e f = characters-append xs ys ∙ rw (e, f) refl
 
-abbrev behind_step : Here Open → Open
-behind_step (Tells told later) = later
-behind_step (TellsTag told tag) = Between Data
+abbrev after_step : Here Open → Open
+after_step (Tells told later) = later
+after_step (TellsTag told tag) = Between Data
 
 abbrev tells_tag : Here Open → Bool
 tells_tag (Tells told later) = false
@@ -57,9 +57,9 @@ module _ (exact : Bool) where
   stays_decided : (opened next : Open) (c : ℕ) (told : List Told) → step_at exact opened c ≡ Tells told next → is_undecided_open next ≡ false
       → is_undecided_open opened ≡ false
   unfolding step_at
-  stays_decided (InReference stand held) next c told e h = ap (λ here. is_undecided_open (behind_step here)) e ∙ h
-  stays_decided (InDeclaration held) next c told e h = ap (λ here. is_undecided_open (behind_step here)) e ∙ h
-  stays_decided (InDoctypeKeyword held d) next c told e h = ap (λ here. is_undecided_open (behind_step here)) e ∙ h
+  stays_decided (InReference stand held) next c told e h = ap (λ here. is_undecided_open (after_step here)) e ∙ h
+  stays_decided (InDeclaration held) next c told e h = ap (λ here. is_undecided_open (after_step here)) e ∙ h
+  stays_decided (InDoctypeKeyword held d) next c told e h = ap (λ here. is_undecided_open (after_step here)) e ∙ h
   stays_decided opened next c told e h = refl
 
   pub Goes-decided : (a b : Open) (cells : List Spelled) → Goes a cells b → is_undecided_open b ≡ false → is_undecided_open a ≡ false

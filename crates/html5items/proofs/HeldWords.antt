@@ -17,7 +17,7 @@ use Rattle.html5grammar.specs.NormalisedText.{line_after}
 use Rattle.html5items.specs.Comment.{begins_with}
 use Rattle.html5items.specs.Spelled.{spell_silent}
 use Rattle.html5grammar.specs.Reading.Here.{Tells}
-use Rattle.html5grammar.specs.Slice.{Late, run_while, behind_while, tokens_of_late}
+use Rattle.html5grammar.specs.Slice.{Late, run_while, after_while, tokens_of_late}
 use Rattle.html5grammar.specs.Start.{Input, Open, Rules}
 use Rattle.html5items.specs.RawText.{next_is}
 use Rattle.html5grammar.proofs.GoodCharacters.{good_between}
@@ -124,12 +124,12 @@ none_with (z ∷ text) (y ∷ word) x (suc n) h =
 
 -- ---- what is held of a text, by a test of beginnings
 
-pub while-parts : (begins : List ℕ → Bool) (before text : List ℕ) → run_while begins before text ++ behind_while begins before text ≡ text
-unfolding run_while behind_while
+pub while-parts : (begins : List ℕ → Bool) (before text : List ℕ) → run_while begins before text ++ after_while begins before text ≡ text
+unfolding run_while after_while
 while-parts begins before [] = refl
 while-parts begins before (c ∷ text) =
     let past : List ℕ = before ++ c ∷ [] in
-    elim (begins past) as (λ b. (if b then c ∷ run_while begins past text else []) ++ (if b then behind_while begins past text else c ∷ text) ≡ c ∷ text) [
+    elim (begins past) as (λ b. (if b then c ∷ run_while begins past text else []) ++ (if b then after_while begins past text else c ∷ text) ≡ c ∷ text) [
       | true ↦ ap (λ l. c ∷ l) (while-parts begins past text)
       | false ↦ refl
     ]
@@ -146,15 +146,15 @@ begins-while begins before (c ∷ text) h =
 
 -- the character after what is held decides, be it a `>`, with which nothing begins
 pub decides-while : (begins : List ℕ → Bool) → ((text : List ℕ) → begins (text ++ greater_than ∷ []) ≡ false) → (before text : List ℕ)
-    → next_is (λ d. not (begins ((before ++ run_while begins before text) ++ d ∷ []))) (behind_while begins before text ++ greater_than ∷ []) ≡ true
-unfolding run_while behind_while
+    → next_is (λ d. not (begins ((before ++ run_while begins before text) ++ d ∷ []))) (after_while begins before text ++ greater_than ∷ []) ≡ true
+unfolding run_while after_while
 decides-while begins none before [] = ap not (none (before ++ []))
 decides-while begins none before (c ∷ text) =
     let past : List ℕ = before ++ c ∷ [] in
     elim (begins past) as (λ b. begins past ≡ b
-    → next_is (λ d. not (begins ((before ++ (if b then c ∷ run_while begins past text else [])) ++ d ∷ []))) ((if b then behind_while begins past text else c ∷ text) ++ greater_than ∷ []) ≡ true) [
+    → next_is (λ d. not (begins ((before ++ (if b then c ∷ run_while begins past text else [])) ++ d ∷ []))) ((if b then after_while begins past text else c ∷ text) ++ greater_than ∷ []) ≡ true) [
       | true ↦ λ e.
-          subst (λ l. next_is (λ d. not (begins (l ++ d ∷ []))) (behind_while begins past text ++ greater_than ∷ []) ≡ true)
+          subst (λ l. next_is (λ d. not (begins (l ++ d ∷ []))) (after_while begins past text ++ greater_than ∷ []) ≡ true)
           (append_assoc before (c ∷ []) (run_while begins past text)) (decides-while begins none past text)
       | false ↦ λ e. ap not (ap (λ l. begins (l ++ c ∷ [])) (append-nil before) ∙ e)
     ] refl
@@ -221,13 +221,13 @@ module _ (rules : Rules) (undecided : List ℕ → Open) (foreign : Bool) where
 -- what is told where a character decides: then it is read where something else is open
 
 module _ {S H : Type 0} (step : S → Told → ℕ → S) (reply : S → Told → ℕ → Reply H) (foreign : S → Bool) (rules : Rules) where
-  pub trace-settles : (s : S) (line : ℕ) (last : List ℕ) (undecided behind : Open) (late : List Late) (c : ℕ) (text : List ℕ)
-      → brought_at rules (foreign s) undecided c ≡ record { settled = late; here = step_at rules.exact behind c }
-      → ((other : Bool) → brought_at rules other behind c ≡ record { settled = []; here = step_at rules.exact behind c })
+  pub trace-settles : (s : S) (line : ℕ) (last : List ℕ) (undecided afterwards : Open) (late : List Late) (c : ℕ) (text : List ℕ)
+      → brought_at rules (foreign s) undecided c ≡ record { settled = late; here = step_at rules.exact afterwards c }
+      → ((other : Bool) → brought_at rules other afterwards c ≡ record { settled = []; here = step_at rules.exact afterwards c })
       → trace step reply foreign rules s line last undecided (c ∷ text)
-      ≡ with_messages (on_line line (tokens_of_late late)) (trace step reply foreign rules (stepped step s (on_line line (tokens_of_late late))) line last behind (c ∷ text))
+      ≡ with_messages (on_line line (tokens_of_late late)) (trace step reply foreign rules (stepped step s (on_line line (tokens_of_late late))) line last afterwards (c ∷ text))
   unfolding trace trace_brought stepped
-  trace-settles s line last undecided behind late c text e f = rw (e, f (foreign (stepped step s (on_line line (tokens_of_late late))))) refl
+  trace-settles s line last undecided afterwards late c text e f = rw (e, f (foreign (stepped step s (on_line line (tokens_of_late late))))) refl
 
   -- held characters tell nothing
   pub trace-held : (undecided : List ℕ → Open) (input : Input) (before : List ℕ) (s : S) (last held run text : List ℕ)

@@ -9,7 +9,7 @@ use Rattle.html5items.specs.Anywhere.{last_reply}
 use Rattle.html5grammar.specs.ErrorText.{bad_character_error}
 use Rattle.html5grammar.specs.NormalisedText.{line_after}
 use Rattle.html5items.specs.Spelled.{Spelled, spelled_messages}
-use Rattle.html5grammar.specs.Reading.{last_behind, open_after_reply}
+use Rattle.html5grammar.specs.Reading.{last_after, open_after_reply}
 use Rattle.html5grammar.specs.Reading.Here.{TellsTag}
 use Rattle.html5grammar.specs.Start.{Input, Open, Rules}
 use Rattle.html5grammar.proofs.InputLemmas.{line_after-past}
@@ -29,19 +29,19 @@ module _ {S H : Type 0} (step : S → Told → ℕ → S) (reply : S → Told �
   last_reply-tokens s line (x ∷ y ∷ tokens) token = last_reply-tokens (step s x line) line (y ∷ tokens) token
 
   -- messages in front of others, of which there is one at least
-  last_reply-behind : (s : S) (M N : List Message) (m : Message)
+  last_reply-after : (s : S) (M N : List Message) (m : Message)
       → last_reply step reply s (M ++ (m ∷ N)) ≡ last_reply step reply (stepped step s M) (m ∷ N)
   unfolding last_reply stepped
-  last_reply-behind s [] N m = refl
-  last_reply-behind s (n ∷ []) N m = refl
-  last_reply-behind s (n ∷ o ∷ M) N m = last_reply-behind (step s n.token n.line) (o ∷ M) N m
+  last_reply-after s [] N m = refl
+  last_reply-after s (n ∷ []) N m = refl
+  last_reply-after s (n ∷ o ∷ M) N m = last_reply-after (step s n.token n.line) (o ∷ M) N m
 
   -- there is one where the last is a token of a line
   pub last_reply-append : (s : S) (M : List Message) (line : ℕ) (tokens : List Told) (token : Told)
       → last_reply step reply s (M ++ on_line line (tokens ++ token ∷ [])) ≡ last_reply step reply (stepped step s M) (on_line line (tokens ++ token ∷ []))
-  last_reply-append s M line [] token = last_reply-behind s M [] (record { token = token; line = line })
+  last_reply-append s M line [] token = last_reply-after s M [] (record { token = token; line = line })
   last_reply-append s M line (x ∷ tokens) token =
-      last_reply-behind s M (on_line line (tokens ++ token ∷ [])) (record { token = x; line = line })
+      last_reply-after s M (on_line line (tokens ++ token ∷ [])) (record { token = x; line = line })
 
 module _ {S H : Type 0} (step : S → Told → ℕ → S) (reply : S → Told → ℕ → Reply H) (foreign : S → Bool) (rules : Rules) where
   -- the messages of the character that tells a tag
@@ -59,8 +59,8 @@ module _ {S H : Type 0} (step : S → Told → ℕ → S) (reply : S → Told �
       → trace step reply foreign rules s (line_after input before) last opened (c ∷ [])
       ≡ record {
         messages = on_line (line_after input (before ++ c ∷ [])) ((bad_character_error rules.exact c ++ errors) ++ Tag tag ∷ []);
-        opened = open_after_reply (last_behind last tag) (last_reply step reply s (on_line (line_after input (before ++ c ∷ [])) ((bad_character_error rules.exact c ++ errors) ++ Tag tag ∷ [])));
-        last_start_tag = last_behind last tag;
+        opened = open_after_reply (last_after last tag) (last_reply step reply s (on_line (line_after input (before ++ c ∷ [])) ((bad_character_error rules.exact c ++ errors) ++ Tag tag ∷ [])));
+        last_start_tag = last_after last tag;
       }
   unfolding trace trace_brought trace_here stepped
   trace-cell input before s last opened c errors tag ends =

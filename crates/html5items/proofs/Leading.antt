@@ -62,48 +62,48 @@ module _ {S H : Type 0} (step : S → Told → ℕ → S) (reply : S → Told �
       (ap (λ l. record { messages = l; opened = rest.opened; last_start_tag = rest.last_start_tag }) (sym (append_assoc M N rest.messages)))
 
   -- what is spelled is told, and the machine goes on after it
-  pub trace-leads : (input : Input) (before : List ℕ) (s : S) (last : List ℕ) (opened behind : Open) (cells : List Spelled) (text : List ℕ)
-      → Leads rules opened cells behind
+  pub trace-leads : (input : Input) (before : List ℕ) (s : S) (last : List ℕ) (opened afterwards : Open) (cells : List Spelled) (text : List ℕ)
+      → Leads rules opened cells afterwards
       → trace step reply foreign rules s (line_after input before) last opened (characters cells ++ text)
       ≡ with_messages (spelled_messages rules.exact input before cells)
-      (trace step reply foreign rules (stepped step s (spelled_messages rules.exact input before cells)) (line_after input (before ++ characters cells)) last behind text)
+      (trace step reply foreign rules (stepped step s (spelled_messages rules.exact input before cells)) (line_after input (before ++ characters cells)) last afterwards text)
   unfolding Leads trace trace_brought trace_here spelled_messages stepped
-  trace-leads input before s last opened behind [] text leads = rw (leads, append-nil before) refl
-  trace-leads input before s last opened behind (here ∷ more) text leads =
+  trace-leads input before s last opened afterwards [] text leads = rw (leads, append-nil before) refl
+  trace-leads input before s last opened afterwards (here ∷ more) text leads =
       let past : List ℕ = before ++ here.character ∷ [] in
       let M : List Message = on_line (line_after input past) (bad_character_error rules.exact here.character ++ here.told) in
       let N : List Message = spelled_messages rules.exact input past more in
       rw (leads.1 (foreign s), ← line_after-past input before here.character)
-      (ap (with_messages M) (trace-leads input past (stepped step s M) last leads.0 behind more text leads.2)
-      ∙ with-two s M N (line_after input (past ++ characters more)) last behind text
-      ∙ ap (λ b. with_messages (M ++ N) (trace step reply foreign rules (stepped step s (M ++ N)) (line_after input b) last behind text)) (append_assoc before (here.character ∷ []) (characters more)))
+      (ap (with_messages M) (trace-leads input past (stepped step s M) last leads.0 afterwards more text leads.2)
+      ∙ with-two s M N (line_after input (past ++ characters more)) last afterwards text
+      ∙ ap (λ b. with_messages (M ++ N) (trace step reply foreign rules (stepped step s (M ++ N)) (line_after input b) last afterwards text)) (append_assoc before (here.character ∷ []) (characters more)))
 
   -- the same, where the text ends after it
-  pub trace-ends : (input : Input) (before : List ℕ) (s : S) (last : List ℕ) (opened behind : Open) (cells : List Spelled)
-      → Leads rules opened cells behind
+  pub trace-ends : (input : Input) (before : List ℕ) (s : S) (last : List ℕ) (opened afterwards : Open) (cells : List Spelled)
+      → Leads rules opened cells afterwards
       → trace step reply foreign rules s (line_after input before) last opened (characters cells)
-      ≡ record { messages = spelled_messages rules.exact input before cells; opened = behind; last_start_tag = last }
+      ≡ record { messages = spelled_messages rules.exact input before cells; opened = afterwards; last_start_tag = last }
   unfolding trace
-  trace-ends input before s last opened behind cells leads =
+  trace-ends input before s last opened afterwards cells leads =
       ap (trace step reply foreign rules s (line_after input before) last opened) (sym (append-nil (characters cells)))
-      ∙ trace-leads input before s last opened behind cells [] leads
-      ∙ ap (λ l. record { messages = l; opened = behind; last_start_tag = last }) (append-nil (spelled_messages rules.exact input before cells))
+      ∙ trace-leads input before s last opened afterwards cells [] leads
+      ∙ ap (λ l. record { messages = l; opened = afterwards; last_start_tag = last }) (append-nil (spelled_messages rules.exact input before cells))
 
-  pub trace-goes : (input : Input) (before : List ℕ) (s : S) (last : List ℕ) (opened behind : Open) (cells : List Spelled) (text : List ℕ)
-      → is_undecided_open behind ≡ false → Goes rules.exact opened cells behind
+  pub trace-goes : (input : Input) (before : List ℕ) (s : S) (last : List ℕ) (opened afterwards : Open) (cells : List Spelled) (text : List ℕ)
+      → is_undecided_open afterwards ≡ false → Goes rules.exact opened cells afterwards
       → trace step reply foreign rules s (line_after input before) last opened (characters cells ++ text)
       ≡ with_messages (spelled_messages rules.exact input before cells)
-      (trace step reply foreign rules (stepped step s (spelled_messages rules.exact input before cells)) (line_after input (before ++ characters cells)) last behind text)
-  trace-goes input before s last opened behind cells text decided goes =
-      trace-leads input before s last opened behind cells text (leads-goes rules opened behind cells decided goes)
+      (trace step reply foreign rules (stepped step s (spelled_messages rules.exact input before cells)) (line_after input (before ++ characters cells)) last afterwards text)
+  trace-goes input before s last opened afterwards cells text decided goes =
+      trace-leads input before s last opened afterwards cells text (leads-goes rules opened afterwards cells decided goes)
 
   -- the same, where the text is given
-  pub trace-text : (input : Input) (before : List ℕ) (s : S) (last : List ℕ) (opened behind : Open) (cells : List Spelled) (text : List ℕ)
-      → characters cells ≡ text → Leads rules opened cells behind
+  pub trace-text : (input : Input) (before : List ℕ) (s : S) (last : List ℕ) (opened afterwards : Open) (cells : List Spelled) (text : List ℕ)
+      → characters cells ≡ text → Leads rules opened cells afterwards
       → trace step reply foreign rules s (line_after input before) last opened text
-      ≡ record { messages = spelled_messages rules.exact input before cells; opened = behind; last_start_tag = last }
-  trace-text input before s last opened behind cells text e leads =
-      ap (trace step reply foreign rules s (line_after input before) last opened) (sym e) ∙ trace-ends input before s last opened behind cells leads
+      ≡ record { messages = spelled_messages rules.exact input before cells; opened = afterwards; last_start_tag = last }
+  trace-text input before s last opened afterwards cells text e leads =
+      ap (trace step reply foreign rules s (line_after input before) last opened) (sym e) ∙ trace-ends input before s last opened afterwards cells leads
 
   -- ---- a whole text, which leads back to where nothing is open
 

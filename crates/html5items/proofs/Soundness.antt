@@ -9,7 +9,7 @@ use Rattle.html5ever_interface.specs.Token.{Told}
 use Rattle.html5ever_interface.specs.Token.Told.{Text, Null}
 use Rattle.html5ever_interface.specs.declared.states.State.TheVariants as state
 use Rattle.markup5ever.specs.NamedReferences.{IsTable}
-use Rattle.html5items.specs.Anywhere.{TellsBefore, TellsByItself, start_behind, last_reply}
+use Rattle.html5items.specs.Anywhere.{TellsBefore, TellsByItself, start_beyond, last_reply}
 use Rattle.html5grammar.specs.Characters.{null, less_than, greater_than, ampersand, exclamation_mark, solidus, question_mark, is_letter, is_bad_character, line_feed, value_bytes}
 use Rattle.html5grammar.specs.Cdata.{open_cdata}
 use Rattle.html5grammar.specs.EndOfInput.{tokens_at_end, late_at_end_of, open_at_end_of, told_at_end_of}
@@ -19,13 +19,13 @@ use Rattle.html5items.specs.Cdata as one_cdata
 use Rattle.html5items.specs.Comment as one_comment
 use Rattle.html5items.specs.Doctype as one_doctype
 use Rattle.html5items.specs.Spelled.{Spelled, spelled_messages, spell, spell_silent}
-use Rattle.html5grammar.specs.Reading.{told, messages, all_messages, last_behind, open_after_reply}
+use Rattle.html5grammar.specs.Reading.{told, messages, all_messages, last_after, open_after_reply}
 use Rattle.html5grammar.specs.Reading.Here.{Tells}
 use Rattle.html5grammar.specs.Start.{Raw, Start, Mode, Open, Rules}
 use Rattle.html5grammar.specs.Start.Mode.{Data, Plain, RawText, Cdata}
 use Rattle.html5grammar.specs.Start.Open.{Between, LessThan, LessThanSolidus, InDeclaration, InComment, InBogusComment, InInstruction, InReference}
 use Rattle.html5grammar.specs.Start.Stand.{InText}
-use Rattle.html5grammar.specs.RawText.{is_rcdata, raw_behind, raw_character, texts}
+use Rattle.html5grammar.specs.RawText.{is_rcdata, raw_after, raw_character, texts}
 use Rattle.html5items.specs.Instruction as one_instruction
 use Rattle.html5items.proofs.Instruction.Reading as instructions
 use Rattle.html5items.proofs.Declarations.{tells-open_keyword, tells-open_bogus_declaration}
@@ -51,7 +51,7 @@ use Rattle.html5grammar.specs.Comment.{begins_keyword, in_bogus_comment}
 use Rattle.html5items.specs.Comment.{can_open, spell_odd, spell_content, is_content}
 use Rattle.html5items.specs.Comment.Opening.{Solidus}
 use Rattle.html5items.proofs.Goes.{Goes, characters, characters-spell, characters-two}
-use Rattle.html5grammar.specs.Slice.{silent, behind_while}
+use Rattle.html5grammar.specs.Slice.{silent, after_while}
 use Rattle.html5grammar.specs.Reference.{Found, reference, is_undecided, first_or, told_of}
 use Rattle.html5grammar.proofs.ReadingLemmas.{reading-events, messages-at_end}
 use Rattle.html5grammar.proofs.Traces.{trace, trace_brought, trace_here, with_messages, brought-tells, messages-append}
@@ -82,11 +82,11 @@ module _ (rules : Rules) where
   leads-character Cdata c h = absurd (false≢true h)
 
   leads-raw_character : (K : Start) (Y : List ℕ) (raw : Raw) (name : List ℕ) (c : ℕ) → IsRawCharacter K Y raw name c
-      → Leads rules (Between (RawText raw name)) (record { character = c; told = raw_character rules.exact raw c } ∷ []) (Between (RawText (raw_behind raw c) name))
+      → Leads rules (Between (RawText raw name)) (record { character = c; told = raw_character rules.exact raw c } ∷ []) (Between (RawText (raw_after raw c) name))
   unfolding Leads brought_at step_at raw_step
   leads-raw_character K Y raw name c one =
       let p = and_parts (not (c == less_than)) (not (is_rcdata raw && (c == ampersand))) one.is_text in
-      (Between (RawText (raw_behind raw c) name), λ foreign. rw (not-true (c == less_than) p.0, not-true (is_rcdata raw && (c == ampersand)) p.1) refl, refl)
+      (Between (RawText (raw_after raw c) name), λ foreign. rw (not-true (c == less_than) p.0, not-true (is_rcdata raw && (c == ampersand)) p.1) refl, refl)
 
   leads-lone : (K : Start) (Y : List ℕ) (c : ℕ) → IsLone K Y c → Leads rules (Between Data) (spell_lone rules.exact c) (Between Data)
   unfolding Leads brought_at step_at data_step less_than_step
@@ -124,7 +124,7 @@ first_none (c ∷ text) h = absurd (false≢true h)
 module _ {X S H : Type 0} (means : Means X S H) (rules : Rules) where
   leads-item : (K : Start) (s : S) (Y : List ℕ) (opened later : Open) (cells : List Spelled) (text : List ℕ) → K.opened ≡ opened → normalised K.input Y ≡ text → characters cells ≡ text
       → Leads rules opened cells later
-      → TellsByItself means rules K s Y (spelled_messages rules.exact K.input [] cells) (start_behind K Y later K.last_start_tag)
+      → TellsByItself means rules K s Y (spelled_messages rules.exact K.input [] cells) (start_beyond K Y later K.last_start_tag)
   leads-item K s Y opened later cells text starts e f leads =
       trace-by_itself means rules K s Y (spelled_messages rules.exact K.input [] cells) later K.last_start_tag
       (rw (starts, e) (trace-text means.step means.reply means.foreign rules K.input [] s K.last_start_tag opened later cells text f leads))
@@ -169,21 +169,21 @@ module _ {X S H : Type 0} (means : Means X S H) (rules : Rules) where
       at false false e f g = absurd (false≢true (sym g))
 
   lone-before : (Z : List ℕ) (K : Start) (s : S) (Y : List ℕ) (c : ℕ) (rest : List ℕ) → IsLoneBefore K Y Z c rest
-      → TellsBefore means rules Z K s Y (on_line (line_after K.input (less_than ∷ [])) (error_in rules.exact state.TagOpen c ∷ Text (codes "<") ∷ [])) (start_behind K Y (Between Data) K.last_start_tag)
+      → TellsBefore means rules Z K s Y (on_line (line_after K.input (less_than ∷ [])) (error_in rules.exact state.TagOpen c ∷ Text (codes "<") ∷ [])) (start_beyond K Y (Between Data) K.last_start_tag)
   unfolding line_past stepped
   lone-before Z K s Y c rest one =
       let E : List Told = error_in rules.exact state.TagOpen c ∷ Text (codes "<") ∷ [] in
       let line : ℕ = line_after K.input (less_than ∷ []) in
       let opens = markup-opens c one.is_markup in
       let same : line_past line c ≡ line = rw opens.3 (line_after-last K.input (less_than ∷ [])) in
-      let behind : line_after (input_after K.input Y) [] ≡ line =
+      let afterwards : line_after (input_after K.input Y) [] ≡ line =
       input_after-line_none K.input Y ∙ sym (line_after-lines_past K.input [] (normalised K.input Y)) ∙ ap (line_after K.input) one.text in
       trace-before means rules Z K s Y (on_line line E) (Between Data)
       (rw (one.starts, normalised-append K.input Y Z, one.text, one.next)
       (trace-leads means.step means.reply means.foreign rules K.input [] s K.last_start_tag (Between Data) LessThan (spell_silent (codes "<")) (c ∷ rest) (leads-less_than rules)
       ∙ ap (λ M. with_messages M (trace means.step means.reply means.foreign rules (stepped means.step s M) line K.last_start_tag LessThan (c ∷ rest))) (spelled-nothing rules.exact K.input silent (λ c g. refl) [] (codes "<") good-less_than)
       ∙ trace-lone_at s line K.last_start_tag c rest opens.0 E opens.2 same (lone-step c one.is_lone one.is_markup ∙ rw opens.1 refl) opens.1
-      ∙ rw (← behind) refl))
+      ∙ rw (← afterwards) refl))
 
   pub item-tells : (Z : List ℕ) (K : Start) (s : S) (Y : List ℕ) (M : List Message) (later : Start) → IsTable rules.names
       → Item means rules Z K s Y M later → TellsWith means rules Z K s Y M later
@@ -203,7 +203,7 @@ module _ {X S H : Type 0} (means : Means X S H) (rules : Rules) where
       (leads-item K s Y (Between Data) (Between Data) (spell_empty_end rules.exact) (codes "</>") one.starts one.text refl (leads-empty_end rules) Z)
   item-tells Z K s Y M later table (OneTag tag one) =
       let N : List Message = spelled_messages rules.exact K.input [] (spelled rules tag) in
-      let last : List ℕ = last_behind K.last_start_tag (tag_told rules tag) in
+      let last : List ℕ = last_after K.last_start_tag (tag_told rules tag) in
       tells-before_with means rules Z K s Y N (open_after_reply last (last_reply means.step means.reply s N)) last (tag-by_itself means rules K s Y tag table one Z)
   item-tells Z K s Y M later table (OneComment comment one) =
       let N : List Message = one_comment.messages_of rules.exact K.input comment in
@@ -231,8 +231,8 @@ module _ {X S H : Type 0} (means : Means X S H) (rules : Rules) where
       tells-before_with means rules Z K s Y _ (Between mode) K.last_start_tag (reference-before_all means rules Z K s Y mode F table one)
   item-tells Z K s Y M later table (OneRawCharacter raw name c one) =
       let N : List Message = spelled_messages rules.exact K.input [] (record { character = c; told = raw_character rules.exact raw c } ∷ []) in
-      tells-before_with means rules Z K s Y N (Between (RawText (raw_behind raw c) name)) K.last_start_tag
-      (leads-item K s Y (Between (RawText raw name)) (Between (RawText (raw_behind raw c) name)) _ (c ∷ []) one.starts one.text refl (leads-raw_character rules K Y raw name c one) Z)
+      tells-before_with means rules Z K s Y N (Between (RawText (raw_after raw c) name)) K.last_start_tag
+      (leads-item K s Y (Between (RawText raw name)) (Between (RawText (raw_after raw c) name)) _ (c ∷ []) one.starts one.text refl (leads-raw_character rules K Y raw name c one) Z)
   item-tells Z K s Y M later table (OneRawMark raw name item one) = tells-raw_mark means rules Z K s Y raw name item one
   item-tells Z K s Y M later table (OneRawLessThan raw name item c F one) = tells-raw_less_than means rules Z K s Y raw name item c F one
   item-tells Z K s Y M later table (OneRawLessThanBefore raw name item c F one) = tells-raw_less_than_before means rules Z K s Y raw name item c F one
@@ -291,7 +291,7 @@ module _ {X S H : Type 0} (means : Means X S H) (rules : Rules) where
   -- what is held of an undecided reference is all of the text
   found-open : (F : List ℕ) → is_none (deciding_in rules.names F) ≡ true → found_in rules false F ≡ reference rules false F None
   found-open F undecided =
-      let none : behind_while (is_undecided rules.names) [] F ≡ [] = first_none (behind_while (is_undecided rules.names) [] F) undecided in
+      let none : after_while (is_undecided rules.names) [] F ≡ [] = first_none (after_while (is_undecided rules.names) [] F) undecided in
       let whole : held_in rules.names F ≡ F =
       sym (append-nil (held_in rules.names F)) ∙ ap (λ l. held_in rules.names F ++ l) (sym none) ∙ while-parts (is_undecided rules.names) [] F in
       ap (λ l. reference rules false l (deciding_in rules.names F)) whole ∙ ap (λ l. reference rules false F (first_or l None)) none

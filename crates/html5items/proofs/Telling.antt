@@ -1,7 +1,7 @@
 -- What a text tells, and what its end tells besides; how an item in front of it adds to that.
 use Rattle.std.proofs.Common.{◌≡◌, ℕ, List, [], ◌++◌, ap, sym, ◌∙◌}
 use Rattle.html5ever_interface.specs.Sink.{Means, Message, stepped, on_line}
-use Rattle.html5items.specs.Anywhere.{TellsBefore, start_behind}
+use Rattle.html5items.specs.Anywhere.{TellsBefore, start_beyond}
 use Rattle.html5grammar.specs.EndOfInput.{tokens_at_end}
 use Rattle.html5grammar.specs.NormalisedText.{normalised, line_after, input_after}
 use Rattle.html5grammar.specs.Reading.{messages_so_far, start_after}
@@ -34,7 +34,7 @@ module _ {X S H : Type 0} (means : Means X S H) (rules : Rules) where
   }
 
   pub tells-before_with : (Z : List ℕ) (K : Start) (s : S) (Y : List ℕ) (M : List Message) (opened : Open) (last : List ℕ)
-      → TellsBefore means rules Z K s Y M (start_behind K Y opened last) → TellsWith Z K s Y M (start_behind K Y opened last)
+      → TellsBefore means rules Z K s Y M (start_beyond K Y opened last) → TellsWith Z K s Y M (start_beyond K Y opened last)
   unfolding stepped
   tells-before_with Z K s Y M opened last one N E rest =
       let none : stepped means.step s (messages_so_far means rules K s []) ≡ s =
@@ -43,11 +43,11 @@ module _ {X S H : Type 0} (means : Means X S H) (rules : Rules) where
       record {
         told =
             one.tells K s [] start none
-            ∙ ap (λ l. l ++ (M ++ messages_so_far means rules (start_behind K Y opened last) (stepped means.step s M) Z)) (told-nil means.step means.reply means.foreign rules K s)
+            ∙ ap (λ l. l ++ (M ++ messages_so_far means rules (start_beyond K Y opened last) (stepped means.step s M) Z)) (told-nil means.step means.reply means.foreign rules K s)
             ∙ ap (λ l. M ++ l) rest.told;
         at_end =
             ap (λ (k : Start). on_line (line_after (input_after K.input (Y ++ Z)) []) (tokens_at_end rules k.opened)) (one.leads K s [] start none)
-            ∙ ap (λ i. on_line (line_after i []) (tokens_at_end rules (start_after means rules (start_behind K Y opened last) (stepped means.step s M) Z).opened)) (input_after-append K.input Y Z)
+            ∙ ap (λ i. on_line (line_after i []) (tokens_at_end rules (start_after means rules (start_beyond K Y opened last) (stepped means.step s M) Z).opened)) (input_after-append K.input Y Z)
             ∙ rest.at_end;
       }
 
@@ -64,7 +64,7 @@ module _ {X S H : Type 0} (means : Means X S H) (rules : Rules) where
       → normalised (input_after K.input Y) Z ≡ F → Alike opened later F
       → trace_of s (line_after K.input []) K.last_start_tag K.opened (normalised K.input Y ++ F)
       ≡ with_messages M (trace_of (stepped means.step s M) (line_after (input_after K.input Y) []) K.last_start_tag opened F)
-      → TellsWith Z K s Y M (start_behind K Y later K.last_start_tag)
+      → TellsWith Z K s Y M (start_beyond K Y later K.last_start_tag)
   tells-alike Z K s Y M opened later F next alike e N E rest =
       let t : S = stepped means.step s M in
       let line : ℕ = line_after (input_after K.input Y) [] in
@@ -79,7 +79,7 @@ module _ {X S H : Type 0} (means : Means X S H) (rules : Rules) where
             ∙ ap (λ l. M ++ l)
             (alike.told t line last
             ∙ ap (λ (r : Trace). r.messages) (sym past)
-            ∙ sym (told-trace means.step means.reply means.foreign rules (start_behind K Y later last) t Z)
+            ∙ sym (told-trace means.step means.reply means.foreign rules (start_beyond K Y later last) t Z)
             ∙ rest.told);
         at_end =
             ap (λ o. on_line (line_after (input_after K.input (Y ++ Z)) []) (tokens_at_end rules o))
@@ -88,6 +88,6 @@ module _ {X S H : Type 0} (means : Means X S H) (rules : Rules) where
             ∙ ap (λ l. on_line (line_after (input_after (input_after K.input Y) Z) []) l)
             (alike.at_end t line last
             ∙ ap (λ (r : Trace). tokens_at_end rules r.opened) (sym past)
-            ∙ ap (tokens_at_end rules) (sym (after-opened means.step means.reply means.foreign rules (start_behind K Y later last) t Z)))
+            ∙ ap (tokens_at_end rules) (sym (after-opened means.step means.reply means.foreign rules (start_beyond K Y later last) t Z)))
             ∙ rest.at_end;
       }

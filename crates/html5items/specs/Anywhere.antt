@@ -10,13 +10,13 @@ use Rattle.html5grammar.specs.NormalisedText.{line_after, input_after}
 use Rattle.html5items.specs.Reference.{WrittenReference, x_text, written, value_of, reference_errors, reference_characters}
 use Rattle.html5items.specs.Reference.WrittenReference.{Ampersand, Number, Named}
 use Rattle.html5grammar.specs.Reference.{is_undecided, is_invalid_number, invalid_number}
-use Rattle.html5grammar.specs.Reading.{last_behind, open_after_reply, messages_so_far, state_after, start_after}
+use Rattle.html5grammar.specs.Reading.{last_after, open_after_reply, messages_so_far, state_after, start_after}
 use Rattle.html5grammar.specs.Start.{Input, Start, Open, Rules}
 use Rattle.markup5ever.specs.NamedReferences.{NamedReference}
 
 -- the start after the text Y: what is open there, and the name of the last start tag
-abbrev pub start_behind : Start → List ℕ → Open → List ℕ → Start
-start_behind K Y opened last = record { opened = opened; last_start_tag = last; input = input_after K.input Y }
+abbrev pub start_beyond : Start → List ℕ → Open → List ℕ → Start
+start_beyond K Y opened last = record { opened = opened; last_start_tag = last; input = input_after K.input Y }
 
 module _ {S H : Type 0} (step : S → Told → ℕ → S) (reply : S → Told → ℕ → Reply H) where
   -- the reply to the last of some messages, in the state after those before it
@@ -27,10 +27,10 @@ module _ {S H : Type 0} (step : S → Told → ℕ → S) (reply : S → Told �
 
 module _ {X S H : Type 0} (means : Means X S H) where
   -- the start after the text Y, whose last message is this tag: the sink's reply to it says what is open
-  abbrev pub start_behind_tag : Start → S → List ℕ → TagOf → List Message → Start
-  start_behind_tag K s Y tag M =
-      let last : List ℕ = last_behind K.last_start_tag tag in
-      start_behind K Y (open_after_reply last (last_reply means.step means.reply s M)) last
+  abbrev pub start_after_tag : Start → S → List ℕ → TagOf → List Message → Start
+  start_after_tag K s Y tag M =
+      let last : List ℕ = last_after K.last_start_tag tag in
+      start_beyond K Y (open_after_reply last (last_reply means.step means.reply s M)) last
 
   module _ (rules : Rules) where
     -- read from K in the sink's state s and before the text Z, the text Y tells the messages M, and Z is read from `later`: after

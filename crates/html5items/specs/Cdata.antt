@@ -86,8 +86,8 @@ cdata_messages exact input cdata =
     ++ on_line (line_after input (written cdata)) (told_at_end exact cdata.is_ended cdata.last)
 
 -- what is open after it
-abbrev pub open_behind_cdata : WrittenCdata → Open
-open_behind_cdata cdata = if cdata.is_ended then Between Data else open_cdata cdata.last
+abbrev pub open_after_cdata : WrittenCdata → Open
+open_after_cdata cdata = if cdata.is_ended then Between Data else open_cdata cdata.last
 
 -- the text X, read from the start K, in foreign content or not, is this section, written out
 pub record IsCdata (K : Start) (foreign : Bool) (X : List ℕ) (cdata : WrittenCdata) : Type 0 where

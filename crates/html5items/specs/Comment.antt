@@ -102,12 +102,12 @@ is_written foreign (Bogus opening content) = can_open foreign opening content &&
 -- ---- what it tells
 
 -- whether exactly one dash stands directly before
-abbrev pub behind_one_dash : List ℕ → Bool
-behind_one_dash before = ends_in before (codes "-") && not (ends_in before (codes "--"))
+abbrev pub after_one_dash : List ℕ → Bool
+after_one_dash before = ends_in before (codes "-") && not (ends_in before (codes "--"))
 
 -- a `<!--` within the content is an error at the character after it, unless that is `>`
-unfoldable pub behind_mark_error : Bool → List ℕ → ℕ → List Told
-behind_mark_error exact before c =
+unfoldable pub after_mark_error : Bool → List ℕ → ℕ → List Told
+after_mark_error exact before c =
     where_true (ends_in before (codes "<!--") && not (c == greater_than))
     (error_in exact state.CommentLessThanSignBangDashDash c)
 
@@ -117,14 +117,14 @@ null_state before =
     if is_empty before then state.CommentStart
     else if is_lone_dash before then state.CommentStartDash
     else if ends_in before (codes "--!") then state.CommentEndBang
-    else if behind_one_dash before then state.CommentEndDash
+    else if after_one_dash before then state.CommentEndDash
     else state.Comment
 
 -- the characters of a comment, each with its errors, by what stands before it in the comment
 unfoldable pub spell_content : Bool → List ℕ → List ℕ → List Spelled
 spell_content exact before [] = []
 spell_content exact before (c ∷ content) =
-    record { character = c; told = behind_mark_error exact before c ++ null_error exact (null_state before) c }
+    record { character = c; told = after_mark_error exact before c ++ null_error exact (null_state before) c }
     ∷ spell_content exact (before ++ c ∷ []) content
 
 -- the errors of an end

@@ -15,8 +15,8 @@ use Rattle.html5grammar.specs.ErrorText.{error_in, end_error_in}
 use Rattle.html5grammar.specs.NormalisedText.{normalised, line_after}
 use Rattle.html5items.specs.Comment.{can_open, spell_bogus}
 use Rattle.html5items.specs.Comment.Opening.{ExclamationMark}
-use Rattle.html5items.specs.Doctype.{Identifier, SystemIdentifier, PublicIdentifier, BehindName, Content, WrittenDoctype, opening, content_text, is_written, behind_space, keyword_state, between_state, told_behind_name, held_of, behind_held_of, spell_behind_name, spell_name}
-use Rattle.html5items.specs.Doctype.BehindName.{NoKeyword, PublicKeyword, SystemKeyword}
+use Rattle.html5items.specs.Doctype.{Identifier, SystemIdentifier, PublicIdentifier, RestAfterName, Content, WrittenDoctype, opening, content_text, is_written, after_space, keyword_state, between_state, told_after_name, held_of, after_held_of, spell_after_name, spell_name}
+use Rattle.html5items.specs.Doctype.RestAfterName.{NoKeyword, PublicKeyword, SystemKeyword}
 use Rattle.html5items.specs.Doctype.Content.{NoName, Named}
 use Rattle.html5items.specs.Doctype.Identifier.{Missing, Unclosed, Closed}
 use Rattle.html5items.specs.Spelled.{Spelled, spell, spell_silent, spelled_messages}
@@ -73,20 +73,20 @@ before_end (here ∷ next ∷ more) = here ∷ before_end (next ∷ more)
 
 -- the messages after the name and white space: those of a whole doctype before its `>`. Where a rest may still begin a keyword,
 -- nothing is told yet.
-unfoldable pub messages_behind_open_name : Bool → Input → List ℕ → DoctypeOf → BehindName → List Message
-messages_behind_open_name exact input before d (NoKeyword (c ∷ rest)) =
+unfoldable pub messages_after_open_name : Bool → Input → List ℕ → DoctypeOf → RestAfterName → List Message
+messages_after_open_name exact input before d (NoKeyword (c ∷ rest)) =
     if begins_doctype_keyword (c ∷ rest) then []
     else if begins_doctype_keyword (c ∷ []) then
     on_line (line_after input (before ++ c ∷ [])) (error_in exact state.AfterDoctypeName c ∷ [])
-    ++ spelled_messages exact input (before ++ held_of (c ∷ rest)) (spell (null_error exact state.BogusDoctype) (behind_held_of (c ∷ rest)))
-    else spelled_messages exact input before (before_end (spell_behind_name exact d (NoKeyword (c ∷ rest))))
-messages_behind_open_name exact input before d behind = spelled_messages exact input before (before_end (spell_behind_name exact d behind))
+    ++ spelled_messages exact input (before ++ held_of (c ∷ rest)) (spell (null_error exact state.BogusDoctype) (after_held_of (c ∷ rest)))
+    else spelled_messages exact input before (before_end (spell_after_name exact d (NoKeyword (c ∷ rest))))
+messages_after_open_name exact input before d afterwards = spelled_messages exact input before (before_end (spell_after_name exact d afterwards))
 
 unfoldable pub open_doctype_messages : Bool → Input → List ℕ → List ℕ → Content → List Message
 open_doctype_messages exact input word space NoName = spelled_messages exact input [] (spell_silent (opening word space))
-open_doctype_messages exact input word space (Named first rest later behind) =
+open_doctype_messages exact input word space (Named first rest later afterwards) =
     spelled_messages exact input [] (spell_name exact word space first rest later)
-    ++ messages_behind_open_name exact input (opening word space ++ (first ∷ rest ++ later)) (told_behind_name (flat_map name_bytes (first ∷ rest)) behind) behind
+    ++ messages_after_open_name exact input (opening word space ++ (first ∷ rest ++ later)) (told_after_name (flat_map name_bytes (first ∷ rest)) afterwards) afterwards
 
 -- the state that the error of the end names: there is none where a rest is skipped
 abbrev pub rest_state : State → List ℕ → Option State
@@ -94,9 +94,9 @@ rest_state named [] = Some named
 rest_state named (c ∷ rest) = None
 
 abbrev pub identifier_end : {B : Type 0} → DoctypeIdKind → State → (List ℕ → B → Option State) → Identifier B → Option State
-identifier_end kind named end_behind (Missing rest) = rest_state named rest
-identifier_end kind named end_behind (Unclosed quotes run) = Some (identifier_state quotes kind)
-identifier_end kind named end_behind (Closed quotes run space behind) = end_behind space behind
+identifier_end kind named end_after (Missing rest) = rest_state named rest
+identifier_end kind named end_after (Unclosed quotes run) = Some (identifier_state quotes kind)
+identifier_end kind named end_after (Closed quotes run space afterwards) = end_after space afterwards
 
 abbrev pub system_end : State → SystemIdentifier → Option State
 system_end named system = identifier_end System named (λ space rest. rest_state (state.AfterDoctypeIdentifier System) rest) system
@@ -104,10 +104,10 @@ system_end named system = identifier_end System named (λ space rest. rest_state
 abbrev pub public_end : State → PublicIdentifier → Option State
 public_end named identifier = identifier_end Public named (λ space system. system_end (between_state space) system) identifier
 
-abbrev pub behind_name_end : List ℕ → BehindName → Option State
-behind_name_end space (NoKeyword rest) = rest_state (behind_space space state.DoctypeName state.AfterDoctypeName) rest
-behind_name_end space (PublicKeyword keyword later identifier) = public_end (keyword_state Public later) identifier
-behind_name_end space (SystemKeyword keyword later identifier) = system_end (keyword_state System later) identifier
+abbrev pub after_name_end : List ℕ → RestAfterName → Option State
+after_name_end space (NoKeyword rest) = rest_state (after_space space state.DoctypeName state.AfterDoctypeName) rest
+after_name_end space (PublicKeyword keyword later identifier) = public_end (keyword_state Public later) identifier
+after_name_end space (SystemKeyword keyword later identifier) = system_end (keyword_state System later) identifier
 
 -- the end is an error with quirks, but where a rest is skipped, which the doctype is told with already
 abbrev pub doctype_end : Bool → Option State → DoctypeOf → List Told
@@ -115,11 +115,11 @@ doctype_end exact None d = Doctype d ∷ End ∷ []
 doctype_end exact (Some named) d = end_error_in exact named ∷ Doctype (with_quirks d) ∷ End ∷ []
 
 -- a rest that may still begin a keyword is an error at its first character
-abbrev pub keyword_error_at_end : Bool → BehindName → List Told
+abbrev pub keyword_error_at_end : Bool → RestAfterName → List Told
 keyword_error_at_end exact (NoKeyword (c ∷ rest)) = if begins_doctype_keyword (c ∷ rest) then error_in exact state.AfterDoctypeName c ∷ [] else []
-keyword_error_at_end exact behind = []
+keyword_error_at_end exact afterwards = []
 
 abbrev pub open_doctype_at_end : Bool → List ℕ → Content → List Told
-open_doctype_at_end exact space NoName = doctype_end exact (Some (behind_space space state.Doctype state.BeforeDoctypeName)) empty_doctype
-open_doctype_at_end exact space (Named first rest later behind) =
-    keyword_error_at_end exact behind ++ doctype_end exact (behind_name_end later behind) (told_behind_name (flat_map name_bytes (first ∷ rest)) behind)
+open_doctype_at_end exact space NoName = doctype_end exact (Some (after_space space state.Doctype state.BeforeDoctypeName)) empty_doctype
+open_doctype_at_end exact space (Named first rest later afterwards) =
+    keyword_error_at_end exact afterwards ++ doctype_end exact (after_name_end later afterwards) (told_after_name (flat_map name_bytes (first ∷ rest)) afterwards)

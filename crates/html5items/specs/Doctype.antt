@@ -26,7 +26,7 @@ use Rattle.html5grammar.specs.ErrorText.{error_in, where_true}
 use Rattle.html5grammar.specs.NormalisedText.{normalised, line_after}
 use Rattle.html5items.specs.Comment.{begins_with}
 use Rattle.html5items.specs.Spelled.{Spelled, spell, spell_silent, spelled_messages}
-use Rattle.html5grammar.specs.Slice.{run_while, behind_while}
+use Rattle.html5grammar.specs.Slice.{run_while, after_while}
 use Rattle.html5grammar.specs.Start.{Input, Quotes, Start}
 use Rattle.html5grammar.specs.Start.Mode.{Data}
 use Rattle.html5grammar.specs.Start.Open.{Between}
@@ -36,13 +36,13 @@ use Rattle.html5items.specs.RawText.{next_is}
 -- ---- how a doctype is written
 
 -- what stands where an identifier can, with what can stand after it. A rest is skipped; it is maybe empty.
-pub data Identifier (Behind : Type 0) : Type 0 where
+pub data Identifier (Afterwards : Type 0) : Type 0 where
   -- none, but a rest
-  Missing : List ℕ → Identifier Behind
+  Missing : List ℕ → Identifier Afterwards
   -- a quote and the identifier, which the `>` cuts off
-  Unclosed : Quotes → List ℕ → Identifier Behind
+  Unclosed : Quotes → List ℕ → Identifier Afterwards
   -- the identifier in its quotes, white space, and what stands after that
-  Closed : Quotes → List ℕ → List ℕ → Behind → Identifier Behind
+  Closed : Quotes → List ℕ → List ℕ → Afterwards → Identifier Afterwards
 
 -- after the identifier of the system stands a rest, and after the public one that of the system can stand
 abbrev pub SystemIdentifier : Type 0
@@ -52,18 +52,18 @@ abbrev pub PublicIdentifier : Type 0
 PublicIdentifier = Identifier SystemIdentifier
 
 -- what stands after a name and white space
-pub data BehindName : Type 0 where
+pub data RestAfterName : Type 0 where
   -- no keyword, but a rest
-  NoKeyword : List ℕ → BehindName
+  NoKeyword : List ℕ → RestAfterName
   -- `public` in any case, white space, and what stands where its identifier can
-  PublicKeyword : List ℕ → List ℕ → PublicIdentifier → BehindName
+  PublicKeyword : List ℕ → List ℕ → PublicIdentifier → RestAfterName
   -- `system` likewise
-  SystemKeyword : List ℕ → List ℕ → SystemIdentifier → BehindName
+  SystemKeyword : List ℕ → List ℕ → SystemIdentifier → RestAfterName
 
 pub data Content : Type 0 where
   NoName : Content
   -- the first character of the name, the rest of it, white space, and what stands after that
-  Named : ℕ → List ℕ → List ℕ → BehindName → Content
+  Named : ℕ → List ℕ → List ℕ → RestAfterName → Content
 
 -- after `<!` the word `doctype` in any case, white space, the content, and `>`
 pub record WrittenDoctype : Type 0 where
@@ -74,9 +74,9 @@ pub record WrittenDoctype : Type 0 where
 -- ---- its text
 
 abbrev pub identifier_text : {B : Type 0} → (B → List ℕ) → Identifier B → List ℕ
-identifier_text text_behind (Missing rest) = rest
-identifier_text text_behind (Unclosed quotes run) = quote_mark quotes ∷ run
-identifier_text text_behind (Closed quotes run space behind) = quote_mark quotes ∷ run ++ (quote_mark quotes ∷ space ++ text_behind behind)
+identifier_text text_after (Missing rest) = rest
+identifier_text text_after (Unclosed quotes run) = quote_mark quotes ∷ run
+identifier_text text_after (Closed quotes run space afterwards) = quote_mark quotes ∷ run ++ (quote_mark quotes ∷ space ++ text_after afterwards)
 
 abbrev pub system_text : SystemIdentifier → List ℕ
 system_text identifier = identifier_text (λ rest. rest) identifier
@@ -84,14 +84,14 @@ system_text identifier = identifier_text (λ rest. rest) identifier
 abbrev pub public_text : PublicIdentifier → List ℕ
 public_text identifier = identifier_text system_text identifier
 
-abbrev pub behind_name_text : BehindName → List ℕ
-behind_name_text (NoKeyword rest) = rest
-behind_name_text (PublicKeyword keyword space identifier) = keyword ++ (space ++ public_text identifier)
-behind_name_text (SystemKeyword keyword space identifier) = keyword ++ (space ++ system_text identifier)
+abbrev pub after_name_text : RestAfterName → List ℕ
+after_name_text (NoKeyword rest) = rest
+after_name_text (PublicKeyword keyword space identifier) = keyword ++ (space ++ public_text identifier)
+after_name_text (SystemKeyword keyword space identifier) = keyword ++ (space ++ system_text identifier)
 
 abbrev pub content_text : Content → List ℕ
 content_text NoName = []
-content_text (Named first rest space behind) = (first ∷ rest ++ space) ++ behind_name_text behind
+content_text (Named first rest space afterwards) = (first ∷ rest ++ space) ++ after_name_text afterwards
 
 -- what stands before the content
 abbrev pub opening : List ℕ → List ℕ → List ℕ
@@ -112,10 +112,10 @@ belongs_before c = is_white_space c || (c == quotation_mark) || (c == apostrophe
 
 -- an identifier has neither its quote nor `>`
 abbrev pub is_identifier : {B : Type 0} → (B → Bool) → Identifier B → Bool
-is_identifier is_behind (Missing rest) = is_rest belongs_before rest
-is_identifier is_behind (Unclosed quotes run) = list_all (in_identifier quotes) run
-is_identifier is_behind (Closed quotes run space behind) =
-    list_all (in_identifier quotes) run && (list_all is_white_space space && is_behind behind)
+is_identifier is_after (Missing rest) = is_rest belongs_before rest
+is_identifier is_after (Unclosed quotes run) = list_all (in_identifier quotes) run
+is_identifier is_after (Closed quotes run space afterwards) =
+    list_all (in_identifier quotes) run && (list_all is_white_space space && is_after afterwards)
 
 abbrev pub is_system : SystemIdentifier → Bool
 is_system identifier = is_identifier (is_rest is_white_space) identifier
@@ -127,20 +127,20 @@ is_public identifier = is_identifier is_system identifier
 abbrev pub begins_no_keyword : List ℕ → Bool
 begins_no_keyword rest = not (begins_with (keyword_of Public) (lower_case rest)) && not (begins_with (keyword_of System) (lower_case rest))
 
-abbrev pub is_behind_name : BehindName → Bool
-is_behind_name (NoKeyword rest) = begins_no_keyword rest && is_rest is_white_space rest
-is_behind_name (PublicKeyword keyword space identifier) = is_keyword Public keyword && (list_all is_white_space space && is_public identifier)
-is_behind_name (SystemKeyword keyword space identifier) = is_keyword System keyword && (list_all is_white_space space && is_system identifier)
+abbrev pub is_after_name : RestAfterName → Bool
+is_after_name (NoKeyword rest) = begins_no_keyword rest && is_rest is_white_space rest
+is_after_name (PublicKeyword keyword space identifier) = is_keyword Public keyword && (list_all is_white_space space && is_public identifier)
+is_after_name (SystemKeyword keyword space identifier) = is_keyword System keyword && (list_all is_white_space space && is_system identifier)
 
 -- a name runs to white space or `>`, so after it stands white space, or nothing
-abbrev pub can_stand_behind : List ℕ → BehindName → Bool
-can_stand_behind [] (NoKeyword []) = true
-can_stand_behind [] behind = false
-can_stand_behind (c ∷ space) behind = list_all is_white_space (c ∷ space) && is_behind_name behind
+abbrev pub can_stand_after : List ℕ → RestAfterName → Bool
+can_stand_after [] (NoKeyword []) = true
+can_stand_after [] afterwards = false
+can_stand_after (c ∷ space) afterwards = list_all is_white_space (c ∷ space) && is_after_name afterwards
 
 abbrev pub is_content : Content → Bool
 is_content NoName = true
-is_content (Named first rest space behind) = list_all in_doctype_name (first ∷ rest) && can_stand_behind space behind
+is_content (Named first rest space afterwards) = list_all in_doctype_name (first ∷ rest) && can_stand_after space afterwards
 
 -- whether this is a doctype, written out
 unfoldable pub is_written : WrittenDoctype → Bool
@@ -153,7 +153,7 @@ is_written doctype =
 abbrev pub identifier_told : {B : Type 0} → Identifier B → Option (List ℕ)
 identifier_told (Missing rest) = None
 identifier_told (Unclosed quotes run) = Some (flat_map value_bytes run)
-identifier_told (Closed quotes run space behind) = Some (flat_map value_bytes run)
+identifier_told (Closed quotes run space afterwards) = Some (flat_map value_bytes run)
 
 -- the identifier of the system after a public one
 abbrev pub system_told : PublicIdentifier → Option (List ℕ)
@@ -165,7 +165,7 @@ system_told (Closed quotes run space system) = identifier_told system
 abbrev pub is_not_closed : {B : Type 0} → Identifier B → Bool
 is_not_closed (Missing rest) = true
 is_not_closed (Unclosed quotes run) = true
-is_not_closed (Closed quotes run space behind) = false
+is_not_closed (Closed quotes run space afterwards) = false
 
 -- after a public identifier that of the system is not wanted: also nothing can stand there
 abbrev pub has_system_quirks : SystemIdentifier → Bool
@@ -177,16 +177,16 @@ has_public_quirks (Missing rest) = true
 has_public_quirks (Unclosed quotes run) = true
 has_public_quirks (Closed quotes run space system) = has_system_quirks system
 
-abbrev pub told_behind_name : List ℕ → BehindName → DoctypeOf
-told_behind_name name (NoKeyword []) = record { name = Some name; public_id = None; system_id = None; force_quirks = false }
-told_behind_name name (NoKeyword (c ∷ rest)) = record { name = Some name; public_id = None; system_id = None; force_quirks = true }
-told_behind_name name (PublicKeyword keyword space identifier) = record {
+abbrev pub told_after_name : List ℕ → RestAfterName → DoctypeOf
+told_after_name name (NoKeyword []) = record { name = Some name; public_id = None; system_id = None; force_quirks = false }
+told_after_name name (NoKeyword (c ∷ rest)) = record { name = Some name; public_id = None; system_id = None; force_quirks = true }
+told_after_name name (PublicKeyword keyword space identifier) = record {
   name = Some name;
   public_id = identifier_told identifier;
   system_id = system_told identifier;
   force_quirks = has_public_quirks identifier;
 }
-told_behind_name name (SystemKeyword keyword space identifier) = record {
+told_after_name name (SystemKeyword keyword space identifier) = record {
   name = Some name;
   public_id = None;
   system_id = identifier_told identifier;
@@ -214,20 +214,20 @@ spell_rest exact named d [] = spell_end [] d
 spell_rest exact named d (c ∷ rest) = spell_odd exact named d (c ∷ rest)
 
 -- the first, directly after what came before, or the second, where this white space stands between
-abbrev pub behind_space : {X : Type 0} → List ℕ → X → X → X
-behind_space [] direct spaced = direct
-behind_space (c ∷ space) direct spaced = spaced
+abbrev pub after_space : {X : Type 0} → List ℕ → X → X → X
+after_space [] direct spaced = direct
+after_space (c ∷ space) direct spaced = spaced
 
 -- an error where no white space stands between
 abbrev pub direct_error : List ℕ → Told → List Told
-direct_error space error = where_true (behind_space space true false) error
+direct_error space error = where_true (after_space space true false) error
 
 -- the state that an error names after a keyword, and after a public identifier
 abbrev pub keyword_state : DoctypeIdKind → List ℕ → State
-keyword_state kind space = behind_space space (state.AfterDoctypeKeyword kind) (state.BeforeDoctypeIdentifier kind)
+keyword_state kind space = after_space space (state.AfterDoctypeKeyword kind) (state.BeforeDoctypeIdentifier kind)
 
 abbrev pub between_state : List ℕ → State
-between_state space = behind_space space (state.AfterDoctypeIdentifier Public) state.BetweenDoctypePublicAndSystemIdentifiers
+between_state space = after_space space (state.AfterDoctypeIdentifier Public) state.BetweenDoctypePublicAndSystemIdentifiers
 
 -- a quote, which is an error where no white space stands before it, and the identifier
 abbrev pub spell_begun : Bool → DoctypeIdKind → State → List ℕ → Quotes → List ℕ → List Spelled
@@ -237,33 +237,33 @@ spell_begun exact kind named space quotes run =
 
 -- what stands where an identifier can, after white space
 abbrev pub spell_identifier : {B : Type 0} → Bool → DoctypeIdKind → State → DoctypeOf → List ℕ → (List ℕ → B → List Spelled) → Identifier B → List Spelled
-spell_identifier exact kind named d space spell_behind (Missing rest) = spell_odd exact named d rest
-spell_identifier exact kind named d space spell_behind (Unclosed quotes run) =
+spell_identifier exact kind named d space spell_after (Missing rest) = spell_odd exact named d rest
+spell_identifier exact kind named d space spell_after (Unclosed quotes run) =
     spell_begun exact kind named space quotes run ++ spell_end (error_in exact (identifier_state quotes kind) greater_than ∷ []) d
-spell_identifier exact kind named d space spell_behind (Closed quotes run later behind) =
-    spell_begun exact kind named space quotes run ++ (spell_silent (quote_mark quotes ∷ later) ++ spell_behind later behind)
+spell_identifier exact kind named d space spell_after (Closed quotes run later afterwards) =
+    spell_begun exact kind named space quotes run ++ (spell_silent (quote_mark quotes ∷ later) ++ spell_after later afterwards)
 
 -- after the identifier of the system, and after the public one
-abbrev pub spell_behind_system : Bool → DoctypeOf → List ℕ → List ℕ → List Spelled
-spell_behind_system exact d space rest = spell_rest exact (state.AfterDoctypeIdentifier System) d rest
+abbrev pub spell_after_system : Bool → DoctypeOf → List ℕ → List ℕ → List Spelled
+spell_after_system exact d space rest = spell_rest exact (state.AfterDoctypeIdentifier System) d rest
 
-abbrev pub spell_behind_public : Bool → DoctypeOf → List ℕ → SystemIdentifier → List Spelled
-spell_behind_public exact d space (Missing []) = spell_end [] d
-spell_behind_public exact d space system =
-    spell_identifier exact System (between_state space) d space (spell_behind_system exact d) system
+abbrev pub spell_after_public : Bool → DoctypeOf → List ℕ → SystemIdentifier → List Spelled
+spell_after_public exact d space (Missing []) = spell_end [] d
+spell_after_public exact d space system =
+    spell_identifier exact System (between_state space) d space (spell_after_system exact d) system
 
 -- after a keyword
 abbrev pub spell_wanted : {B : Type 0} → Bool → DoctypeIdKind → DoctypeOf → List ℕ → (List ℕ → B → List Spelled) → Identifier B → List Spelled
-spell_wanted exact kind d space spell_behind identifier =
+spell_wanted exact kind d space spell_after identifier =
     spell_silent space
-    ++ spell_identifier exact kind (keyword_state kind space) d space spell_behind identifier
+    ++ spell_identifier exact kind (keyword_state kind space) d space spell_after identifier
 
-abbrev pub spell_behind_name : Bool → DoctypeOf → BehindName → List Spelled
-spell_behind_name exact d (NoKeyword rest) = spell_rest exact state.AfterDoctypeName d rest
-spell_behind_name exact d (PublicKeyword keyword space identifier) =
-    spell_silent keyword ++ spell_wanted exact Public d space (spell_behind_public exact d) identifier
-spell_behind_name exact d (SystemKeyword keyword space identifier) =
-    spell_silent keyword ++ spell_wanted exact System d space (spell_behind_system exact d) identifier
+abbrev pub spell_after_name : Bool → DoctypeOf → RestAfterName → List Spelled
+spell_after_name exact d (NoKeyword rest) = spell_rest exact state.AfterDoctypeName d rest
+spell_after_name exact d (PublicKeyword keyword space identifier) =
+    spell_silent keyword ++ spell_wanted exact Public d space (spell_after_public exact d) identifier
+spell_after_name exact d (SystemKeyword keyword space identifier) =
+    spell_silent keyword ++ spell_wanted exact System d space (spell_after_system exact d) identifier
 
 -- up to the name and the white space after it: a name directly after `doctype` is an error
 abbrev pub spell_name : Bool → List ℕ → List ℕ → ℕ → List ℕ → List ℕ → List Spelled
@@ -276,28 +276,28 @@ spell_name exact word space first rest later =
 abbrev pub held_of : List ℕ → List ℕ
 held_of rest = run_while begins_doctype_keyword [] rest
 
-abbrev pub behind_held_of : List ℕ → List ℕ
-behind_held_of rest = behind_while begins_doctype_keyword [] rest
+abbrev pub after_held_of : List ℕ → List ℕ
+after_held_of rest = after_while begins_doctype_keyword [] rest
 
 -- the messages after the name and white space, with `before` up to there. Where a rest begins as a keyword does, that is an
 -- error on the line of its first character, which it names; it is told when the first character after what could begin a
 -- keyword shows it, before what that character tells.
-unfoldable pub messages_behind_name : Bool → Input → List ℕ → DoctypeOf → BehindName → List Message
-messages_behind_name exact input before d (NoKeyword (c ∷ rest)) =
+unfoldable pub messages_after_name : Bool → Input → List ℕ → DoctypeOf → RestAfterName → List Message
+messages_after_name exact input before d (NoKeyword (c ∷ rest)) =
     if begins_doctype_keyword (c ∷ []) then
     spelled_messages exact input before (spell_silent (held_of (c ∷ rest)))
     ++ (on_line (line_after input (before ++ c ∷ [])) (error_in exact state.AfterDoctypeName c ∷ [])
-    ++ spelled_messages exact input (before ++ held_of (c ∷ rest)) (spell_skipped exact d (behind_held_of (c ∷ rest))))
-    else spelled_messages exact input before (spell_behind_name exact d (NoKeyword (c ∷ rest)))
-messages_behind_name exact input before d behind = spelled_messages exact input before (spell_behind_name exact d behind)
+    ++ spelled_messages exact input (before ++ held_of (c ∷ rest)) (spell_skipped exact d (after_held_of (c ∷ rest))))
+    else spelled_messages exact input before (spell_after_name exact d (NoKeyword (c ∷ rest)))
+messages_after_name exact input before d afterwards = spelled_messages exact input before (spell_after_name exact d afterwards)
 
 unfoldable pub messages_of : Bool → Input → List ℕ → List ℕ → Content → List Message
 messages_of exact input word space NoName =
     spelled_messages exact input []
     (spell_silent (opening word space) ++ spell_end (error_in exact state.BeforeDoctypeName greater_than ∷ []) (with_quirks empty_doctype))
-messages_of exact input word space (Named first rest later behind) =
+messages_of exact input word space (Named first rest later afterwards) =
     spelled_messages exact input [] (spell_name exact word space first rest later)
-    ++ messages_behind_name exact input (opening word space ++ (first ∷ rest ++ later)) (told_behind_name (flat_map name_bytes (first ∷ rest)) behind) behind
+    ++ messages_after_name exact input (opening word space ++ (first ∷ rest ++ later)) (told_after_name (flat_map name_bytes (first ∷ rest)) afterwards) afterwards
 
 -- the messages of a text that is one doctype
 unfoldable pub doctype_messages : Bool → Input → WrittenDoctype → List Message

@@ -66,8 +66,8 @@ instruction_messages exact input instruction =
     ++ on_line (line_after input (written instruction)) (told_at_end exact instruction.is_ended instruction.content)
 
 -- what is open after it
-abbrev pub open_behind_instruction : WrittenInstruction → Open
-open_behind_instruction instruction =
+abbrev pub open_after_instruction : WrittenInstruction → Open
+open_after_instruction instruction =
     if instruction.is_ended then Between Data else InInstruction (flat_map value_bytes instruction.content)
 
 -- the text X, read from the start K, is this instruction, written out

@@ -6,7 +6,7 @@ use Rattle.html5ever_interface.specs.Token.Told.{Text, Null, Comment, End}
 use Rattle.html5ever_interface.specs.declared.states.State.TheVariants as state
 use Rattle.std.specs.List.{list_all}
 use Rattle.html5items.specs.Comment.Opening.{Solidus}
-use Rattle.html5items.specs.Anywhere.{start_behind, start_behind_tag}
+use Rattle.html5items.specs.Anywhere.{start_beyond, start_after_tag}
 use Rattle.html5grammar.specs.Characters.{null, less_than, greater_than, ampersand, exclamation_mark, solidus, question_mark, is_letter, value_bytes}
 use Rattle.html5grammar.specs.Comment.{comment_state, comment_content, in_bogus_comment}
 use Rattle.html5grammar.specs.EndOfInput.{raw_end_error}
@@ -32,9 +32,9 @@ use Rattle.html5grammar.specs.Start.Raw.{Escaped, DoubleEscaped}
 use Rattle.html5grammar.specs.Start.Dashes.{NoDash}
 use Rattle.html5grammar.specs.Start.Stand.{InText}
 use Rattle.std.specs.Option.{is_none}
-use Rattle.html5grammar.specs.RawText.{is_rcdata, kind_of, lower, raw_behind, raw_character, texts}
+use Rattle.html5grammar.specs.RawText.{is_rcdata, kind_of, lower, raw_after, raw_character, texts}
 use Rattle.html5grammar.specs.Text.{plain_text}
-use Rattle.html5items.specs.RawText.{RawItem, raw_behind_item, item_text, is_double_escaped, can_stand, carried, spell_text, spell_item, ends_in_letters}
+use Rattle.html5items.specs.RawText.{RawItem, raw_after_item, item_text, is_double_escaped, can_stand, carried, spell_text, spell_item, ends_in_letters}
 use Rattle.html5items.specs.RawText.RawItem.{LessThan, Letters, Mark, Switch}
 use Rattle.html5grammar.specs.Tag.{is_end_tag}
 use Rattle.std.specs.Str.{bytes_eq}
@@ -177,7 +177,7 @@ pub record IsRawLessThan (K : Start) (Y Z : List ℕ) (raw : Raw) (name : List �
 
 abbrev pub spell_raw_less_than : Bool → Raw → RawItem → ℕ → List Spelled
 spell_raw_less_than exact raw item c =
-    spell_item exact raw item ++ record { character = c; told = carried raw item ++ raw_character exact (raw_behind_item raw item) c } ∷ []
+    spell_item exact raw item ++ record { character = c; told = carried raw item ++ raw_character exact (raw_after_item raw item) c } ∷ []
 
 -- the text Y is `<`, or `</` and letters, before `<`, or before the `&` of a reference, which is c
 pub record IsRawLessThanBefore (K : Start) (Y Z : List ℕ) (raw : Raw) (name : List ℕ) (item : RawItem) (c : ℕ) (F : List ℕ) : Type 0 where
@@ -285,45 +285,45 @@ module _ {X S H : Type 0} (means : Means X S H) (rules : Rules) where
   pub data Item (Z : List ℕ) (K : Start) (s : S) (Y : List ℕ) : List Message → Start → Type 0 where
     OneCharacter : (mode : Mode) (c : ℕ) → IsCharacter K Y mode c
         → Item Z K s Y (spelled_messages rules.exact K.input [] (record { character = c; told = text_told rules.exact mode c } ∷ []))
-        (start_behind K Y (Between mode) K.last_start_tag)
+        (start_beyond K Y (Between mode) K.last_start_tag)
     OneLone : (c : ℕ) → IsLone K Y c
-        → Item Z K s Y (spelled_messages rules.exact K.input [] (spell_lone rules.exact c)) (start_behind K Y (Between Data) K.last_start_tag)
+        → Item Z K s Y (spelled_messages rules.exact K.input [] (spell_lone rules.exact c)) (start_beyond K Y (Between Data) K.last_start_tag)
     OneLoneBefore : (c : ℕ) (rest : List ℕ) → IsLoneBefore K Y Z c rest
         → Item Z K s Y (on_line (line_after K.input (less_than ∷ [])) (error_in rules.exact state.TagOpen c ∷ Text (codes "<") ∷ []))
-        (start_behind K Y (Between Data) K.last_start_tag)
+        (start_beyond K Y (Between Data) K.last_start_tag)
     OneEmptyEnd : IsEmptyEnd K Y
-        → Item Z K s Y (spelled_messages rules.exact K.input [] (spell_empty_end rules.exact)) (start_behind K Y (Between Data) K.last_start_tag)
+        → Item Z K s Y (spelled_messages rules.exact K.input [] (spell_empty_end rules.exact)) (start_beyond K Y (Between Data) K.last_start_tag)
     OneTag : (tag : WrittenTag) → IsTag K Y tag
         → Item Z K s Y (spelled_messages rules.exact K.input [] (spelled rules tag))
-        (start_behind_tag means K s Y (tag_told rules tag) (spelled_messages rules.exact K.input [] (spelled rules tag)))
+        (start_after_tag means K s Y (tag_told rules tag) (spelled_messages rules.exact K.input [] (spelled rules tag)))
     OneComment : (comment : WrittenComment) → IsComment K (means.foreign s) Y comment
-        → Item Z K s Y (one_comment.messages_of rules.exact K.input comment) (start_behind K Y (Between Data) K.last_start_tag)
+        → Item Z K s Y (one_comment.messages_of rules.exact K.input comment) (start_beyond K Y (Between Data) K.last_start_tag)
     OneDoctype : (doctype : WrittenDoctype) → IsDoctype K Y doctype
-        → Item Z K s Y (one_doctype.messages_of rules.exact K.input doctype.word doctype.space doctype.content) (start_behind K Y (Between Data) K.last_start_tag)
+        → Item Z K s Y (one_doctype.messages_of rules.exact K.input doctype.word doctype.space doctype.content) (start_beyond K Y (Between Data) K.last_start_tag)
     OneInstruction : (instruction : WrittenInstruction) → IsInstruction K Y instruction → instruction.is_ended ≡ true
-        → Item Z K s Y (one_instruction.messages_of rules.exact K.input instruction) (start_behind K Y (Between Data) K.last_start_tag)
+        → Item Z K s Y (one_instruction.messages_of rules.exact K.input instruction) (start_beyond K Y (Between Data) K.last_start_tag)
     OneCdata : (cdata : WrittenCdata) → IsCdata K (means.foreign s) Y cdata → cdata.is_ended ≡ true
         → Item Z K s Y (spelled_messages rules.exact K.input (one_cdata.opening_text cdata.has_opening) (one_cdata.spell_cdata cdata))
-        (start_behind K Y (Between Data) K.last_start_tag)
+        (start_beyond K Y (Between Data) K.last_start_tag)
     OneReferenceIn : (mode : Mode) (F : List ℕ) → IsReferenceIn rules K Y Z mode F
         → Item Z K s Y (on_line (line_after K.input (ampersand ∷ [])) (told_of (InText mode) (found_in rules false F)))
-        (start_behind K Y (Between mode) K.last_start_tag)
+        (start_beyond K Y (Between mode) K.last_start_tag)
     OneRawCharacter : (raw : Raw) (name : List ℕ) (c : ℕ) → IsRawCharacter K Y raw name c
         → Item Z K s Y (spelled_messages rules.exact K.input [] (record { character = c; told = raw_character rules.exact raw c } ∷ []))
-        (start_behind K Y (Between (RawText (raw_behind raw c) name)) K.last_start_tag)
+        (start_beyond K Y (Between (RawText (raw_after raw c) name)) K.last_start_tag)
     OneRawMark : (raw : Raw) (name : List ℕ) (item : RawItem) → IsRawMark K Y raw name item
         → Item Z K s Y (spelled_messages rules.exact K.input [] (spell_item rules.exact raw item))
-        (start_behind K Y (Between (RawText (raw_behind_item raw item) name)) K.last_start_tag)
+        (start_beyond K Y (Between (RawText (raw_after_item raw item) name)) K.last_start_tag)
     OneRawLessThan : (raw : Raw) (name : List ℕ) (item : RawItem) (c : ℕ) (F : List ℕ) → IsRawLessThan K Y Z raw name item c F
         → Item Z K s Y (spelled_messages rules.exact K.input [] (spell_raw_less_than rules.exact raw item c))
-        (start_behind K Y (Between (RawText (raw_behind (raw_behind_item raw item) c) name)) K.last_start_tag)
+        (start_beyond K Y (Between (RawText (raw_after (raw_after_item raw item) c) name)) K.last_start_tag)
     OneRawLessThanBefore : (raw : Raw) (name : List ℕ) (item : RawItem) (c : ℕ) (F : List ℕ) → IsRawLessThanBefore K Y Z raw name item c F
         → Item Z K s Y
         (spelled_messages rules.exact K.input [] (spell_item rules.exact raw item) ++ on_line (line_after K.input (item_text raw item)) (carried raw item))
-        (start_behind K Y (Between (RawText (raw_behind_item raw item) name)) K.last_start_tag)
+        (start_beyond K Y (Between (RawText (raw_after_item raw item) name)) K.last_start_tag)
     OneRawEnd : (raw : Raw) (name : List ℕ) (tag : WrittenTag) → IsRawEnd K Y raw name tag
         → Item Z K s Y (spelled_messages rules.exact K.input [] (spelled rules tag))
-        (start_behind_tag means K s Y (tag_told rules tag) (spelled_messages rules.exact K.input [] (spelled rules tag)))
+        (start_after_tag means K s Y (tag_told rules tag) (spelled_messages rules.exact K.input [] (spelled rules tag)))
 
   -- read from K, the text Y is an item without its end: the messages M that it tells, and E that the end of input tells of it
   pub data Unfinished (K : Start) (s : S) (Y : List ℕ) : List Message → List Message → Type 0 where
@@ -337,7 +337,7 @@ module _ {X S H : Type 0} (means : Means X S H) (rules : Rules) where
         (on_line (end_line K.input Y) (open_tag_at_end rules tag last))
     OpenRaw : (raw : Raw) (name : List ℕ) (item : RawItem) → IsOpenRaw K Y raw name item
         → Unfinished K s Y (spelled_messages rules.exact K.input [] (spell_item rules.exact raw item))
-        (on_line (end_line K.input Y) (carried raw item ++ raw_end_error rules.exact (raw_behind_item raw item) ++ End ∷ []))
+        (on_line (end_line K.input Y) (carried raw item ++ raw_end_error rules.exact (raw_after_item raw item) ++ End ∷ []))
     OpenSwitch : (dashes : Dashes) (name : List ℕ) (first : ℕ) (letters : List ℕ) → IsOpenSwitch K Y dashes name first letters
         → Unfinished K s Y (spelled_messages rules.exact K.input [] (spell_open_switch first letters))
         (on_line (end_line K.input Y) (raw_end_error rules.exact (DoubleEscaped NoDash) ++ End ∷ []))

@@ -14,8 +14,8 @@ use Rattle.html5grammar.specs.NormalisedText.{normalised, line_after}
 use Rattle.html5items.specs.Tag as one_tag
 use Rattle.html5items.specs.Tag.{WrittenTag, is_written, spelled}
 use Rattle.html5items.specs.Spelled.{Spelled, spell, spell_silent, spelled_messages}
-use Rattle.html5grammar.specs.RawText.{texts, ends_name, kind_of, is_rcdata, raw_behind, raw_character, lower, ends_raw_text, switched, told_at_less_than, told_behind_less_than}
-use Rattle.html5grammar.specs.Slice.{behind_run}
+use Rattle.html5grammar.specs.RawText.{texts, ends_name, kind_of, is_rcdata, raw_after, raw_character, lower, ends_raw_text, switched, told_at_less_than, told_after_less_than}
+use Rattle.html5grammar.specs.Slice.{after_run}
 use Rattle.html5grammar.specs.Start.{Raw, Input, Start, Rules, raw_of}
 use Rattle.html5grammar.specs.Start.Dashes.{NoDash, TwoDashes}
 use Rattle.html5grammar.specs.Start.Mode.{RawText}
@@ -50,16 +50,16 @@ switched_kind (ScriptDataEscaped kind) letters = ScriptDataEscaped (switched kin
 switched_kind kind letters = kind
 
 -- after `<` or letters no dash stands directly before
-abbrev pub raw_behind_item : Raw → RawItem → Raw
-raw_behind_item raw (Character c) = raw_behind raw c
-raw_behind_item raw LessThan = raw_of (kind_of raw)
-raw_behind_item raw (Letters letters) = raw_of (kind_of raw)
-raw_behind_item raw Mark = Escaped TwoDashes
-raw_behind_item raw (Switch letters c) = raw_of (switched_kind (kind_of raw) letters)
+abbrev pub raw_after_item : Raw → RawItem → Raw
+raw_after_item raw (Character c) = raw_after raw c
+raw_after_item raw LessThan = raw_of (kind_of raw)
+raw_after_item raw (Letters letters) = raw_of (kind_of raw)
+raw_after_item raw Mark = Escaped TwoDashes
+raw_after_item raw (Switch letters c) = raw_of (switched_kind (kind_of raw) letters)
 
-unfoldable pub raw_behind_items : Raw → List RawItem → Raw
-raw_behind_items raw [] = raw
-raw_behind_items raw (item ∷ items) = raw_behind_items (raw_behind_item raw item) items
+unfoldable pub raw_after_items : Raw → List RawItem → Raw
+raw_after_items raw [] = raw
+raw_after_items raw (item ∷ items) = raw_after_items (raw_after_item raw item) items
 
 -- ---- its text
 
@@ -68,21 +68,21 @@ switch_text (ScriptDataEscaped escape_kind.DoubleEscaped) letters c = solidus �
 switch_text kind letters c = letters ++ c ∷ []
 
 -- an item after its `<`
-abbrev pub text_behind_less_than : RawKind → RawItem → List ℕ
-text_behind_less_than kind (Character c) = []
-text_behind_less_than kind LessThan = []
-text_behind_less_than kind (Letters letters) = solidus ∷ letters
-text_behind_less_than kind Mark = codes "!--"
-text_behind_less_than kind (Switch letters c) = switch_text kind letters c
+abbrev pub text_after_less_than : RawKind → RawItem → List ℕ
+text_after_less_than kind (Character c) = []
+text_after_less_than kind LessThan = []
+text_after_less_than kind (Letters letters) = solidus ∷ letters
+text_after_less_than kind Mark = codes "!--"
+text_after_less_than kind (Switch letters c) = switch_text kind letters c
 
 abbrev pub item_text : Raw → RawItem → List ℕ
 item_text raw (Character c) = c ∷ []
-item_text raw item = less_than ∷ text_behind_less_than (kind_of raw) item
+item_text raw item = less_than ∷ text_after_less_than (kind_of raw) item
 
 -- the text of items, with `later` after them
 unfoldable pub items_text : Raw → List RawItem → List ℕ → List ℕ
 items_text raw [] later = later
-items_text raw (item ∷ items) later = item_text raw item ++ items_text (raw_behind_item raw item) items later
+items_text raw (item ∷ items) later = item_text raw item ++ items_text (raw_after_item raw item) items later
 
 abbrev pub end_tag_text : Option WrittenTag → List ℕ
 end_tag_text None = []
@@ -107,7 +107,7 @@ begins_dashes (c ∷ text) = (c == hyphen) && begins_dash text
 
 -- letters, maybe none, and a character that ends a name
 abbrev pub begins_name_and_end : List ℕ → Bool
-begins_name_and_end text = next_is ends_name (behind_run is_letter text)
+begins_name_and_end text = next_is ends_name (after_run is_letter text)
 
 -- whether a `<` before this text begins neither `</`, nor a mark or a switch; in double-escaped script data `</` is text
 abbrev pub is_alone_before : RawKind → List ℕ → Bool
@@ -144,7 +144,7 @@ can_stand name raw (Switch letters c) text = can_switch (kind_of raw) letters &&
 unfoldable pub can_follow : List ℕ → Raw → List RawItem → List ℕ → Bool
 can_follow name raw [] later = true
 can_follow name raw (item ∷ items) later =
-    can_stand name raw item (items_text (raw_behind_item raw item) items later) && can_follow name (raw_behind_item raw item) items later
+    can_stand name raw item (items_text (raw_after_item raw item) items later) && can_follow name (raw_after_item raw item) items later
 
 -- whether this is an end tag of that name; double-escaped script data has none
 abbrev pub can_end_with : List ℕ → Raw → Option WrittenTag → Bool
@@ -156,13 +156,13 @@ can_end_with name raw (Some tag) =
 -- whether this is raw text, written out: the name is the one whose end tag ends it
 unfoldable pub is_raw : List ℕ → Raw → WrittenRaw → Bool
 is_raw name raw written_as =
-    can_follow name raw written_as.items (end_tag_text written_as.end_tag) && can_end_with name (raw_behind_items raw written_as.items) written_as.end_tag
+    can_follow name raw written_as.items (end_tag_text written_as.end_tag) && can_end_with name (raw_after_items raw written_as.items) written_as.end_tag
 
 -- ---- what it tells
 
 -- what is told of an item only at the next place
 abbrev pub carried : Raw → RawItem → List Told
-carried raw LessThan = told_behind_less_than (kind_of raw)
+carried raw LessThan = told_after_less_than (kind_of raw)
 carried raw (Letters letters) = texts (less_than ∷ solidus ∷ letters)
 carried raw item = []
 
@@ -176,28 +176,28 @@ abbrev pub spell_text : List ℕ → List Spelled
 spell_text run = spell (λ c. texts (c ∷ [])) run
 
 -- an item after its `<`
-abbrev pub spell_behind_less_than : RawKind → RawItem → List Spelled
-spell_behind_less_than kind (Character c) = []
-spell_behind_less_than kind LessThan = []
-spell_behind_less_than kind (Letters letters) = spell_silent (solidus ∷ letters)
-spell_behind_less_than kind Mark = carried_to (told_behind_less_than kind) (spell_text (codes "!--"))
-spell_behind_less_than kind (Switch letters c) = carried_to (told_behind_less_than kind) (spell_text (switch_text kind letters c))
+abbrev pub spell_after_less_than : RawKind → RawItem → List Spelled
+spell_after_less_than kind (Character c) = []
+spell_after_less_than kind LessThan = []
+spell_after_less_than kind (Letters letters) = spell_silent (solidus ∷ letters)
+spell_after_less_than kind Mark = carried_to (told_after_less_than kind) (spell_text (codes "!--"))
+spell_after_less_than kind (Switch letters c) = carried_to (told_after_less_than kind) (spell_text (switch_text kind letters c))
 
 abbrev pub spell_item : Bool → Raw → RawItem → List Spelled
 spell_item exact raw (Character c) = spell (raw_character exact raw) (c ∷ [])
 spell_item exact raw item =
-    record { character = less_than; told = told_at_less_than (kind_of raw) } ∷ spell_behind_less_than (kind_of raw) item
+    record { character = less_than; told = told_at_less_than (kind_of raw) } ∷ spell_after_less_than (kind_of raw) item
 
 -- items, where `before` is carried to the first
 unfoldable pub spell_items : Bool → Raw → List Told → List RawItem → List Spelled
 spell_items exact raw before [] = []
 spell_items exact raw before (item ∷ items) =
-    carried_to before (spell_item exact raw item) ++ spell_items exact (raw_behind_item raw item) (carried raw item) items
+    carried_to before (spell_item exact raw item) ++ spell_items exact (raw_after_item raw item) (carried raw item) items
 
 -- what is carried after items
-unfoldable pub carried_behind : Raw → List Told → List RawItem → List Told
-carried_behind raw before [] = before
-carried_behind raw before (item ∷ items) = carried_behind (raw_behind_item raw item) (carried raw item) items
+unfoldable pub carried_after : Raw → List Told → List RawItem → List Told
+carried_after raw before [] = before
+carried_after raw before (item ∷ items) = carried_after (raw_after_item raw item) (carried raw item) items
 
 abbrev pub spell_end_tag : Rules → List Told → Option WrittenTag → List Spelled
 spell_end_tag rules before None = []
@@ -206,7 +206,7 @@ spell_end_tag rules before (Some tag) = carried_to before (spelled rules tag)
 -- the characters of raw text
 abbrev pub spell_raw : Rules → Raw → WrittenRaw → List Spelled
 spell_raw rules raw written_as =
-    spell_items rules.exact raw [] written_as.items ++ spell_end_tag rules (carried_behind raw [] written_as.items) written_as.end_tag
+    spell_items rules.exact raw [] written_as.items ++ spell_end_tag rules (carried_after raw [] written_as.items) written_as.end_tag
 
 -- whether the `<` of escaped script data has nothing but letters after it, one at least
 abbrev pub ends_in_letters : RawItem → RawKind → List ℕ → Bool
@@ -217,12 +217,12 @@ ends_in_letters item kind text = false
 unfoldable pub raw_at_end : Raw → List RawItem → Raw
 raw_at_end raw [] = raw
 raw_at_end raw (item ∷ items) =
-    if ends_in_letters item (kind_of raw) (items_text (raw_behind_item raw item) items []) then DoubleEscaped NoDash
-    else raw_at_end (raw_behind_item raw item) items
+    if ends_in_letters item (kind_of raw) (items_text (raw_after_item raw item) items []) then DoubleEscaped NoDash
+    else raw_at_end (raw_after_item raw item) items
 
 -- what the end tells: after an end tag nothing is open
 abbrev pub told_at_end : Bool → Raw → List RawItem → Option WrittenTag → List Told
-told_at_end exact raw items None = (carried_behind raw [] items ++ raw_end_error exact (raw_at_end raw items)) ++ End ∷ []
+told_at_end exact raw items None = (carried_after raw [] items ++ raw_end_error exact (raw_at_end raw items)) ++ End ∷ []
 told_at_end exact raw items (Some tag) = End ∷ []
 
 -- the messages of a text that is raw text

@@ -21,7 +21,7 @@ use Rattle.html5grammar.specs.Tag.{attribute, has_attribute, end_tag_errors, tol
 use Rattle.markup5ever.specs.Names.{AttributeOf}
 use Rattle.html5ever_interface.specs.declared.states.AttrValueKind.{AttrValueKind}
 use Rattle.html5grammar.specs.Reference.{Found, reference, is_undecided, first_or, characters_in}
-use Rattle.html5grammar.specs.Slice.{run_while, behind_while}
+use Rattle.html5grammar.specs.Slice.{run_while, after_while}
 use Rattle.markup5ever.specs.NamedReferences.{NamedReference}
 use Rattle.html5grammar.specs.EndOfInput.{state_at}
 use Rattle.std.specs.Option.{is_none}
@@ -62,7 +62,7 @@ abbrev pub part_text : Part → List ℕ
 part_text (Blank c) = c ∷ []
 part_text Solidus = solidus ∷ []
 part_text (Name first rest) = first ∷ rest
-part_text (Attribute first rest before behind value) = first ∷ rest ++ (before ++ (equals_sign ∷ behind ++ value_text value))
+part_text (Attribute first rest before afterwards value) = first ∷ rest ++ (before ++ (equals_sign ∷ afterwards ++ value_text value))
 
 abbrev pub opening : TagKind → List ℕ
 opening StartTag = less_than ∷ []
@@ -74,20 +74,20 @@ written tag = (opening tag.kind ++ (tag.first ∷ tag.rest ++ flat_map part_text
 -- ---- which parts can stand where, so that each name and value is as long as it can be
 
 -- the place after a value
-abbrev pub place_behind_value : Value → Place
-place_behind_value (InDoubleQuotes run) = AfterQuotedValue
-place_behind_value (InSingleQuotes run) = AfterQuotedValue
-place_behind_value (Bare []) = BeforeValue
-place_behind_value (Bare (c ∷ run)) = InValue Unquoted
+abbrev pub place_after_value : Value → Place
+place_after_value (InDoubleQuotes run) = AfterQuotedValue
+place_after_value (InSingleQuotes run) = AfterQuotedValue
+place_after_value (Bare []) = BeforeValue
+place_after_value (Bare (c ∷ run)) = InValue Unquoted
 
 -- the place after a part
-abbrev pub place_behind : Place → Part → Place
-place_behind InAttributeName (Blank c) = AfterAttributeName
-place_behind AfterAttributeName (Blank c) = AfterAttributeName
-place_behind place (Blank c) = BeforeAttribute
-place_behind place Solidus = AfterSolidus
-place_behind place (Name first rest) = InAttributeName
-place_behind place (Attribute first rest before behind value) = place_behind_value value
+abbrev pub place_after : Place → Part → Place
+place_after InAttributeName (Blank c) = AfterAttributeName
+place_after AfterAttributeName (Blank c) = AfterAttributeName
+place_after place (Blank c) = BeforeAttribute
+place_after place Solidus = AfterSolidus
+place_after place (Name first rest) = InAttributeName
+place_after place (Attribute first rest before afterwards value) = place_after_value value
 
 -- white space can stand everywhere but within quotes, and after an empty value, where it would stand before that
 abbrev pub takes_blank : Place → Bool
@@ -135,13 +135,13 @@ abbrev pub can_stand : Place → Part → Bool
 can_stand place (Blank c) = takes_blank place && is_white_space c
 can_stand place Solidus = takes_solidus place
 can_stand place (Name first rest) = is_attribute_name place first rest
-can_stand place (Attribute first rest before behind value) =
-    is_attribute_name place first rest && (list_all is_white_space before && (list_all is_white_space behind && is_value value))
+can_stand place (Attribute first rest before afterwards value) =
+    is_attribute_name place first rest && (list_all is_white_space before && (list_all is_white_space afterwards && is_value value))
 
 -- whether parts can stand from a place on
 unfoldable pub can_follow : Place → List Part → Bool
 can_follow place [] = true
-can_follow place (part ∷ parts) = can_stand place part && can_follow (place_behind place part) parts
+can_follow place (part ∷ parts) = can_stand place part && can_follow (place_after place part) parts
 
 -- whether this is a tag, written out
 unfoldable pub is_written : WrittenTag → Bool
@@ -154,7 +154,7 @@ abbrev pub held_in : List NamedReference → List ℕ → List ℕ
 held_in names F = run_while (is_undecided names) [] F
 
 abbrev pub deciding_in : List NamedReference → List ℕ → Option ℕ
-deciding_in names F = first_or (behind_while (is_undecided names) [] F) None
+deciding_in names F = first_or (after_while (is_undecided names) [] F) None
 
 abbrev pub found_in : Rules → Bool → List ℕ → Found
 found_in rules v F = reference rules v (held_in rules.names F) (deciding_in rules.names F)
@@ -187,7 +187,7 @@ name_shown first rest = flat_map name_bytes (first ∷ rest)
 -- the attributes that are written up to a part and in it
 abbrev pub attributes_with : Rules → List AttributeOf → Part → List AttributeOf
 attributes_with rules before (Name first rest) = attribute (name_shown first rest) [] ∷ before
-attributes_with rules before (Attribute first rest space behind value) = attribute (name_shown first rest) (value_shown rules value) ∷ before
+attributes_with rules before (Attribute first rest space afterwards value) = attribute (name_shown first rest) (value_shown rules value) ∷ before
 attributes_with rules before part = before
 
 -- the attributes that are written up to parts and in them
@@ -244,25 +244,25 @@ abbrev pub spell_part : Rules → Place → List AttributeOf → Part → List S
 spell_part rules place before (Blank c) = spell (place_error rules.exact place) (c ∷ [])
 spell_part rules place before Solidus = spell (place_error rules.exact place) (solidus ∷ [])
 spell_part rules place before (Name first rest) = spell_name rules.exact place before first rest
-spell_part rules place before (Attribute first rest space behind value) =
-    spell_name rules.exact place before first rest ++ ((spell_silent space ++ spell_silent (equals_sign ∷ behind)) ++ spell_value rules value)
+spell_part rules place before (Attribute first rest space afterwards value) =
+    spell_name rules.exact place before first rest ++ ((spell_silent space ++ spell_silent (equals_sign ∷ afterwards)) ++ spell_value rules value)
 
 -- the parts from a place on, with `before` written before them
 unfoldable pub spell_parts : Rules → Place → List AttributeOf → List Part → List Spelled
 spell_parts rules place before [] = []
 spell_parts rules place before (part ∷ parts) =
-    spell_part rules place before part ++ spell_parts rules (place_behind place part) (attributes_with rules before part) parts
+    spell_part rules place before part ++ spell_parts rules (place_after place part) (attributes_with rules before part) parts
 
 -- the place after parts
-unfoldable pub place_behind_parts : Place → List Part → Place
-place_behind_parts place [] = place
-place_behind_parts place (part ∷ parts) = place_behind_parts (place_behind place part) parts
+unfoldable pub place_after_parts : Place → List Part → Place
+place_after_parts place [] = place
+place_after_parts place (part ∷ parts) = place_after_parts (place_after place part) parts
 
 abbrev pub all_attributes : Rules → WrittenTag → List AttributeOf
 all_attributes rules tag = attributes_with_parts rules [] tag.parts
 
 abbrev pub end_place : WrittenTag → Place
-end_place tag = place_behind_parts InName tag.parts
+end_place tag = place_after_parts InName tag.parts
 
 -- the tag of that name with these attributes, before its `>`
 abbrev pub tag_with : TagKind → List ℕ → List AttributeOf → OpenTag
@@ -352,13 +352,13 @@ pub record OpenAttribute : Type 0 where
   pub first : ℕ
   pub name : List ℕ
   pub space : List ℕ
-  pub behind : List ℕ
+  pub afterwards : List ℕ
   pub kind : AttrValueKind
   pub run : List ℕ
 
 abbrev pub open_attribute_text : Option OpenAttribute → List ℕ
 open_attribute_text None = []
-open_attribute_text (Some a) = a.first ∷ a.name ++ (a.space ++ (equals_sign ∷ a.behind ++ (open_quote a.kind ++ a.run)))
+open_attribute_text (Some a) = a.first ∷ a.name ++ (a.space ++ (equals_sign ∷ a.afterwards ++ (open_quote a.kind ++ a.run)))
 
 unfoldable pub open_written : WrittenTag → Option OpenAttribute → List ℕ
 open_written tag last = opening tag.kind ++ (tag.first ∷ tag.rest ++ (flat_map part_text tag.parts ++ open_attribute_text last))
@@ -366,7 +366,7 @@ open_written tag last = opening tag.kind ++ (tag.first ∷ tag.rest ++ (flat_map
 abbrev pub can_end_in : Place → Option OpenAttribute → Bool
 can_end_in place None = not (needs_stop place)
 can_end_in place (Some a) =
-    is_attribute_name place a.first a.name && (list_all is_white_space a.space && (list_all is_white_space a.behind && is_open_value a.kind a.run))
+    is_attribute_name place a.first a.name && (list_all is_white_space a.space && (list_all is_white_space a.afterwards && is_open_value a.kind a.run))
 
 unfoldable pub is_open_written : WrittenTag → Option OpenAttribute → Bool
 is_open_written tag last = is_letter tag.first && (list_all in_tag_name tag.rest && (can_follow InName tag.parts && can_end_in (end_place tag) last))
@@ -375,7 +375,7 @@ abbrev pub spell_open_attribute : Rules → WrittenTag → Option OpenAttribute 
 spell_open_attribute rules tag None = []
 spell_open_attribute rules tag (Some a) =
     spell_name rules.exact (end_place tag) (all_attributes rules tag) a.first a.name
-    ++ ((spell_silent a.space ++ spell_silent (equals_sign ∷ a.behind)) ++ (spell_silent (open_quote a.kind) ++ spell_open_run rules a.kind zero a.run))
+    ++ ((spell_silent a.space ++ spell_silent (equals_sign ∷ a.afterwards)) ++ (spell_silent (open_quote a.kind) ++ spell_open_run rules a.kind zero a.run))
 
 abbrev pub spell_open_tag : Rules → WrittenTag → Option OpenAttribute → List Spelled
 spell_open_tag rules tag last = body rules tag ++ spell_open_attribute rules tag last

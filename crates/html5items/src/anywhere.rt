@@ -5,17 +5,17 @@
 ghost use Rattle.std.specs.Prelude.{◌≡◌, ℕ, true, false, List, [], ◌∷◌, Option, None, Some};
 ghost use Rattle.html5ever_interface.specs.Sink.{Message, on_line};
 ghost use Rattle.html5grammar.specs.Characters.{ampersand};
-ghost use Rattle.html5items.specs.Anywhere.{TellsBefore, TellsByItself, start_behind, start_behind_tag, is_decided_by, messages_within};
+ghost use Rattle.html5items.specs.Anywhere.{TellsBefore, TellsByItself, start_beyond, start_after_tag, is_decided_by, messages_within};
 ghost use Rattle.html5grammar.specs.NormalisedText.{normalised, input_after, line_after};
 ghost use Rattle.html5grammar.specs.Reference.{told_of};
 ghost use Rattle.html5items.specs.Cdata as one_cdata;
-ghost use Rattle.html5items.specs.Cdata.{WrittenCdata, IsCdata, opening_text, spell_cdata, open_behind_cdata};
+ghost use Rattle.html5items.specs.Cdata.{WrittenCdata, IsCdata, opening_text, spell_cdata, open_after_cdata};
 ghost use Rattle.html5items.specs.Comment as one_comment;
 ghost use Rattle.html5items.specs.Comment.{WrittenComment, IsComment};
 ghost use Rattle.html5items.specs.Doctype as one_doctype;
 ghost use Rattle.html5items.specs.Doctype.{WrittenDoctype, IsDoctype};
 ghost use Rattle.html5items.specs.Instruction as one_instruction;
-ghost use Rattle.html5items.specs.Instruction.{WrittenInstruction, IsInstruction, open_behind_instruction};
+ghost use Rattle.html5items.specs.Instruction.{WrittenInstruction, IsInstruction, open_after_instruction};
 ghost use Rattle.html5items.specs.Reference.{WrittenReference, IsReference};
 ghost use Rattle.html5items.specs.Reference.WrittenReference.{Number};
 ghost use Rattle.html5items.specs.Items.{IsReferenceIn};
@@ -38,7 +38,7 @@ pub fn tag<S: TokenSink<Token<A>>, A: Allocator>()
     ensures { (rules : Rules) (K : Start) (s : S.State) (Y : List ℕ) (tag : WrittenTag) → IsTable rules.names
         → IsTag K Y tag
         → let M : List Message = spelled_messages rules.exact K.input [] (spelled rules tag) in
-        TellsByItself S.means rules K s Y M (start_behind_tag S.means K s Y (tag_told rules tag) M) }
+        TellsByItself S.means rules K s Y M (start_after_tag S.means K s Y (tag_told rules tag) M) }
 {}
 
 /// A character reference, in each mode that has references, before a text whose first character decides
@@ -48,18 +48,18 @@ pub fn reference<S: TokenSink<Token<A>>, A: Allocator>()
     ensures number { (rules : Rules) (K : Start) (s : S.State) (Y : List ℕ) (x : Option ℕ) (digits : List ℕ)
         → IsReference rules.names K Y (Number x digits true)
         → TellsByItself S.means rules K s Y (messages_within rules.exact K.input (Number x digits true))
-        (start_behind K Y K.opened K.last_start_tag) }
+        (start_beyond K Y K.opened K.last_start_tag) }
     ensures decided { (rules : Rules) (K : Start) (s : S.State) (Y Z : List ℕ) (reference : WrittenReference) (c : ℕ)
         (rest : List ℕ)
         → IsTable rules.names → IsReference rules.names K Y reference
         → normalised (input_after K.input Y) Z ≡ c ∷ rest → is_decided_by rules.names reference c ≡ true
         → TellsBefore S.means rules Z K s Y (messages_within rules.exact K.input reference)
-        (start_behind K Y K.opened K.last_start_tag) }
+        (start_beyond K Y K.opened K.last_start_tag) }
     ensures whole { (rules : Rules) (K : Start) (s : S.State) (Y Z : List ℕ) (mode : Mode) (F : List ℕ)
         → IsTable rules.names → IsReferenceIn rules K Y Z mode F
         → TellsBefore S.means rules Z K s Y
         (on_line (line_after K.input (ampersand ∷ [])) (told_of (InText mode) (found_in rules false F)))
-        (start_behind K Y (Between mode) K.last_start_tag) }
+        (start_beyond K Y (Between mode) K.last_start_tag) }
 {}
 
 /// Raw text up to its end tag, or without one: then letters and marks at its end may be told only
@@ -69,7 +69,7 @@ pub fn raw<S: TokenSink<Token<A>>, A: Allocator>()
         (written_as : WrittenRaw) (tag : WrittenTag)
         → written_as.end_tag ≡ Some tag → IsTable rules.names → IsRawText K Y raw name written_as
         → let M : List Message = spelled_messages rules.exact K.input [] (spell_raw rules raw written_as) in
-        TellsByItself S.means rules K s Y M (start_behind_tag S.means K s Y (tag_told rules tag) M) }
+        TellsByItself S.means rules K s Y M (start_after_tag S.means K s Y (tag_told rules tag) M) }
     ensures open { (rules : Rules) (K : Start) (s : S.State) (Y : List ℕ) (raw : Raw) (name : List ℕ)
         (written_as : WrittenRaw)
         → written_as.end_tag ≡ None → IsRawText K Y raw name written_as
@@ -83,7 +83,7 @@ pub fn comment<S: TokenSink<Token<A>>, A: Allocator>()
     ensures { (rules : Rules) (K : Start) (s : S.State) (Y : List ℕ) (comment : WrittenComment) → IsComment K
         (S.means.foreign s) Y comment
         → TellsByItself S.means rules K s Y (one_comment.messages_of rules.exact K.input comment)
-        (start_behind K Y (Between Data) K.last_start_tag) }
+        (start_beyond K Y (Between Data) K.last_start_tag) }
 {}
 
 /// A processing instruction, also one without its `>`: then it is open after it, and is not told yet.
@@ -91,7 +91,7 @@ pub fn instruction<S: TokenSink<Token<A>>, A: Allocator>()
     ensures { (rules : Rules) (K : Start) (s : S.State) (Y : List ℕ) (instruction : WrittenInstruction)
         → IsInstruction K Y instruction
         → TellsByItself S.means rules K s Y (one_instruction.messages_of rules.exact K.input instruction)
-        (start_behind K Y (open_behind_instruction instruction) K.last_start_tag) }
+        (start_beyond K Y (open_after_instruction instruction) K.last_start_tag) }
 {}
 
 /// A doctype.
@@ -99,7 +99,7 @@ pub fn doctype<S: TokenSink<Token<A>>, A: Allocator>()
     ensures { (rules : Rules) (K : Start) (s : S.State) (Y : List ℕ) (doctype : WrittenDoctype) → IsDoctype K Y doctype
         → TellsByItself S.means rules K s Y (one_doctype.messages_of rules.exact K.input doctype.word doctype.space
         doctype.content)
-        (start_behind K Y (Between Data) K.last_start_tag) }
+        (start_beyond K Y (Between Data) K.last_start_tag) }
 {}
 
 /// A CDATA section, also one that is open already or doesn't end: then what is open after it is the
@@ -109,5 +109,5 @@ pub fn cdata<S: TokenSink<Token<A>>, A: Allocator>()
         (S.means.foreign s) Y cdata
         → TellsByItself S.means rules K s Y
         (spelled_messages rules.exact K.input (opening_text cdata.has_opening) (spell_cdata cdata))
-        (start_behind K Y (open_behind_cdata cdata) K.last_start_tag) }
+        (start_beyond K Y (open_after_cdata cdata) K.last_start_tag) }
 {}

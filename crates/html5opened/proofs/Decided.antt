@@ -12,7 +12,7 @@ use Rattle.html5grammar.specs.Start.{Open, is_undecided_open, held_len}
 use Rattle.html5grammar.specs.Start.Mode.{Data}
 use Rattle.html5grammar.specs.Start.Open.{Between, LessThan, LessThanSolidus, InTag, InRaw, InDeclaration, InComment, InBogusComment, InInstruction, InDoctype, InDoctypeKeyword, InCdata, InReference}
 use Rattle.html5opened.specs.CharRef.{HasStand, begun_reference, with_reference}
-use Rattle.html5opened.specs.CurrentTag.{open_of, behind_doctype_name}
+use Rattle.html5opened.specs.CurrentTag.{open_of, after_doctype_name}
 use Rattle.html5opened.specs.Runs.{IsRunAt}
 use Rattle.html5opened.specs.declared.opened.Opened.{Opened}
 use Rattle.html5opened.specs.Undecided.{is_reference, is_keyword_open, holds_keyword_in}
@@ -50,10 +50,10 @@ begun-decided opened stand = refl
 cons-length : (c : ℕ) (held : List ℕ) → (length (c ∷ held) == 0) ≡ false
 cons-length c held = ne_eqb (suc (length held)) 0 (λ e. omega (arith, e))
 
-behind_name-holds : (held : List ℕ) (d : DoctypeOf)
-    → (is_undecided_open (behind_doctype_name held d) ≡ not (length held == 0)) × (is_reference (behind_doctype_name held d) ≡ false)
-behind_name-holds [] d = (refl, refl)
-behind_name-holds (c ∷ held) d = (rw (cons-length c held) refl, refl)
+after_name-holds : (held : List ℕ) (d : DoctypeOf)
+    → (is_undecided_open (after_doctype_name held d) ≡ not (length held == 0)) × (is_reference (after_doctype_name held d) ≡ false)
+after_name-holds [] d = (refl, refl)
+after_name-holds (c ∷ held) d = (rw (cons-length c held) refl, refl)
 
 section-holds : (held : List ℕ) → (is_undecided_open (open_cdata held) ≡ false) × (is_reference (open_cdata held) ≡ false)
 section-holds [] = (refl, refl)
@@ -91,7 +91,7 @@ state-holds state.ProcessingInstruction at = (refl, refl)
 state-holds state.Doctype at = (refl, refl)
 state-holds state.BeforeDoctypeName at = (refl, refl)
 state-holds state.DoctypeName at = (refl, refl)
-state-holds state.AfterDoctypeName at = behind_name-holds (string_bytes at.comment) (doctype_of at.doctype)
+state-holds state.AfterDoctypeName at = after_name-holds (string_bytes at.comment) (doctype_of at.doctype)
 state-holds (state.AfterDoctypeKeyword kind) at = (refl, refl)
 state-holds (state.BeforeDoctypeIdentifier kind) at = (refl, refl)
 state-holds (state.DoctypeIdentifierDoubleQuoted kind) at = (refl, refl)
@@ -133,7 +133,7 @@ pub record HoldsDoctypeKeyword {Z : Type 0} (q : State) (at : Opened Z) : Type 0
   pub holds : string_bytes at.comment ≢ []
   pub opened : open_of q at ≡ InDoctypeKeyword (string_bytes at.comment) (doctype_of at.doctype)
 
-holding : (held : List ℕ) (d : DoctypeOf) → not (length held == 0) ≡ true → (held ≢ []) × (behind_doctype_name held d ≡ InDoctypeKeyword held d)
+holding : (held : List ℕ) (d : DoctypeOf) → not (length held == 0) ≡ true → (held ≢ []) × (after_doctype_name held d ≡ InDoctypeKeyword held d)
 holding [] d holds = absurd (false≢true holds)
 holding (c ∷ held) d holds = (λ e. cc, refl)
 

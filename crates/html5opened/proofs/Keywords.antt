@@ -21,7 +21,7 @@ use Rattle.html5grammar.specs.Reading.Here.{Tells}
 use Rattle.html5grammar.specs.Start.{Open, held_len}
 use Rattle.html5grammar.specs.Start.Mode.{Cdata}
 use Rattle.html5grammar.specs.Start.Open.{Between, InDeclaration}
-use Rattle.html5opened.specs.CurrentTag.{behind_doctype_name}
+use Rattle.html5opened.specs.CurrentTag.{after_doctype_name}
 use Rattle.html5grammar.specs.Comment.{begins_keyword, begins_cdata, cdata_keyword, declaration_error}
 
 pub cons≢nil : {X : Type 0} → (x : X) (xs : List X) → x ∷ xs ≢ []
@@ -178,9 +178,9 @@ pub no_doctype_keyword-high : (exact : Bool) (held : List ℕ) (d : DoctypeOf) (
 no_doctype_keyword-high exact held d c high = no_doctype_keyword exact held d c (inr (omega (arith, high)))
 
 -- what is held after a name
-pub held_len-behind_name : (held : List ℕ) (d : DoctypeOf) → held_len (behind_doctype_name held d) ≡ length held
-held_len-behind_name [] d = refl
-held_len-behind_name (c ∷ held) d = refl
+pub held_len-after_name : (held : List ℕ) (d : DoctypeOf) → held_len (after_doctype_name held d) ≡ length held
+held_len-after_name [] d = refl
+held_len-after_name (c ∷ held) d = refl
 
 pub doctype_keyword-good : (exact : Bool) (first : ℕ) (held : List ℕ) (d : DoctypeOf) (c : ℕ) (later : Open)
     → doctype_keyword_step exact (first ∷ held) d c ≡ record { settled = []; here = Tells [] later } → is_bad_character c ≡ false

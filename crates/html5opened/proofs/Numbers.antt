@@ -13,7 +13,7 @@ use Rattle.std.proofs.lemmas.Int.Digits.{digits_value_more}
 use Rattle.std.proofs.lemmas.List.Folds.{list_all-append, list_all_at}
 use Rattle.std.proofs.lemmas.Nat.{mul-mod_first}
 use Rattle.html5grammar.specs.Characters.{null, is_no_character, replacement_character}
-use Rattle.html5grammar.specs.Reference.{is_x, is_number, is_digit_of, base_of, behind_x, character_of_number, is_invalid_number, invalid_number}
+use Rattle.html5grammar.specs.Reference.{is_x, is_number, is_digit_of, base_of, after_x, character_of_number, is_invalid_number, invalid_number}
 use Rattle.html5grammar.proofs.Numbers.{is_number-cons}
 use Rattle.markup5ever.specs.C1.{c1_characters, character_of_c1}
 
@@ -55,7 +55,7 @@ is_number-push (d ∷ text) c number filled =
 -- ---- its digits
 
 -- the digits of base 16 stand after an ASCII byte
-pub x_first : (number : List ℕ) → base_of number ≡ 16 → (0 < length number) × (get_or number 0 0 < 128) × (behind_x number ≡ drop 1 number)
+pub x_first : (number : List ℕ) → base_of number ≡ 16 → (0 < length number) × (get_or number 0 0 < 128) × (after_x number ≡ drop 1 number)
 x_first [] base = absurd (omega arith)
 x_first (d ∷ text) base =
     elim (is_x d) as (λ b. is_x d ≡ b → base_where b ≡ 16 → (0 < length (d ∷ text)) × (d < 128) × ((if b then text else d ∷ text) ≡ text)) [
@@ -78,7 +78,7 @@ digit-below (c ∷ text) d digit =
     ] digit
 
 -- each digit is one of the base
-pub digits-below : (number digits : List ℕ) (i : ℕ) → is_number number ≡ true → digits ≡ behind_x number → i < length digits → digit_value (get_or digits i 0) < base_of number
+pub digits-below : (number digits : List ℕ) (i : ℕ) → is_number number ≡ true → digits ≡ after_x number → i < length digits → digit_value (get_or digits i 0) < base_of number
 unfolding is_number
 digits-below number digits i all same within =
     elim (is_digit_of number (get_or digits i 0)) as (λ b. is_digit_of number (get_or digits i 0) ≡ b → digit_value (get_or digits i 0) < base_of number) [
@@ -121,7 +121,7 @@ digit-read : (digit : Option ℕ) (value base : ℕ) → SomeIff digit (value < 
 digit-read digit value base some below = grind (arith, common_steps)
 
 -- what is read of a digit
-pub digit-at : (number digits : List ℕ) (i byte : ℕ) (digit : Option ℕ) (value base : ℕ) → is_number number ≡ true → digits ≡ behind_x number → i < length digits
+pub digit-at : (number digits : List ℕ) (i byte : ℕ) (digit : Option ℕ) (value base : ℕ) → is_number number ≡ true → digits ≡ after_x number → i < length digits
     → byte ≡ get_or digits i 0 → base ≡ base_of number → SomeIff digit (digit_value byte < base) (digit_value byte) → value ≡ unwrap_or digit 0
     → (value ≡ digit_value (get_or digits i 0)) × (value < base)
 digit-at number digits i byte digit value base all same within is based some read =

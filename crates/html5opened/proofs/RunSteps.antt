@@ -17,7 +17,7 @@ use Rattle.html5grammar.specs.Tag.{in_tag_name, in_attribute_name, in_quoted, in
 use Rattle.std.proofs.lemmas.List.{append-nil, append_assoc}
 use Rattle.html5grammar.specs.Comment.{ends_in, comment_errors, mark_error}
 use Rattle.html5opened.proofs.CommentEnds.{comment_ends, ends_in_dash-none, ends_in_mark-none}
-use Rattle.html5grammar.specs.RawText.{raw_character, raw_behind, dashes_behind}
+use Rattle.html5grammar.specs.RawText.{raw_character, raw_after, dashes_after}
 use Rattle.html5grammar.specs.Text.{plain_text}
 use Rattle.html5grammar.specs.Machine.{step_at, tag_step, data_step, raw_step, comment_step, bogus_comment_step, instruction_step, cdata_step, tag_name_step, attribute_name_step, quoted_step, unquoted_step}
 use Rattle.html5grammar.proofs.Slices.{with_name-nil, with_last_name-nil, with_value-nil, with_name-cons, with_last_name-cons, with_value-cons, bytes-cons}
@@ -156,7 +156,7 @@ no_line_feed opened others c within has out =
 -- a character that ends no run tells itself alone, or is put to the open name or value
 pub step-run : (opened : Open) (others : List ℕ) (c : ℕ) → other_run_ends opened ≡ Some others → ¬ Contains (run_ends others) c
     → step_at false opened c ≡ Tells (run_tokens opened (c ∷ [])) (opened_after_run opened (c ∷ []))
-unfolding step_at tag_step data_step plain_text raw_step raw_character raw_behind dashes_behind comment_step comment_errors mark_error bogus_comment_step instruction_step cdata_step tag_name_step attribute_name_step quoted_step unquoted_step in_tag_name in_attribute_name in_quoted in_unquoted unquoted_error is_odd_in_name is_white_space
+unfolding step_at tag_step data_step plain_text raw_step raw_character raw_after dashes_after comment_step comment_errors mark_error bogus_comment_step instruction_step cdata_step tag_name_step attribute_name_step quoted_step unquoted_step in_tag_name in_attribute_name in_quoted in_unquoted unquoted_error is_odd_in_name is_white_space
 step-run (Between Data) others c has other =
     let out : ¬ Contains (run_ends (less_than ∷ ampersand ∷ [])) c = known (less_than ∷ ampersand ∷ []) others c has other in
     rw (no (less_than ∷ ampersand ∷ []) c out 2 less_than (lit< tt) refl, no (less_than ∷ ampersand ∷ []) c out 3 ampersand (lit< tt) refl, no (less_than ∷ ampersand ∷ []) c out 0 null (lit< tt) refl) refl

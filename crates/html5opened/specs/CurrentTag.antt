@@ -28,9 +28,9 @@ open_tag tag = record {
 }
 
 -- after the name and white space, with what may begin a keyword
-abbrev pub behind_doctype_name : List ℕ → DoctypeOf → Open
-behind_doctype_name [] doctype = InDoctype AfterName doctype
-behind_doctype_name (c ∷ held) doctype = InDoctypeKeyword (c ∷ held) doctype
+abbrev pub after_doctype_name : List ℕ → DoctypeOf → Open
+after_doctype_name [] doctype = InDoctype AfterName doctype
+after_doctype_name (c ∷ held) doctype = InDoctypeKeyword (c ∷ held) doctype
 
 -- the name of the last start tag
 abbrev pub last_name_of : {Z : Type 0} → Opened Z → List ℕ
@@ -71,7 +71,7 @@ open_of state.ProcessingInstruction at = InInstruction (string_bytes at.comment)
 open_of state.Doctype at = InDoctype AfterWord (doctype_of at.doctype)
 open_of state.BeforeDoctypeName at = InDoctype BeforeName (doctype_of at.doctype)
 open_of state.DoctypeName at = InDoctype InDoctypeName (doctype_of at.doctype)
-open_of state.AfterDoctypeName at = behind_doctype_name (string_bytes at.comment) (doctype_of at.doctype)
+open_of state.AfterDoctypeName at = after_doctype_name (string_bytes at.comment) (doctype_of at.doctype)
 open_of (state.AfterDoctypeKeyword kind) at = InDoctype (AfterKeyword kind) (doctype_of at.doctype)
 open_of (state.BeforeDoctypeIdentifier kind) at = InDoctype (BeforeIdentifier kind) (doctype_of at.doctype)
 open_of (state.DoctypeIdentifierDoubleQuoted kind) at = InDoctype (InIdentifier DoubleQuotes kind) (doctype_of at.doctype)

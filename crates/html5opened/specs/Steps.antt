@@ -25,9 +25,9 @@ pub data Next : Type 0 where
   Opens : Open → Next
   Closes : TagOf → Open → Next
 
-unfoldable pub behind : Here Open → Next
-behind (Tells told later) = Opens later
-behind (TellsTag told tag) = Closes tag (Between Data)
+unfoldable pub afterwards : Here Open → Next
+afterwards (Tells told later) = Opens later
+afterwards (TellsTag told tag) = Closes tag (Between Data)
 
 -- where a call that reads a character leads
 abbrev pub Leads : {T : Type 0} → Result T TokenizerError → Open → Open → Type 0

@@ -6,7 +6,7 @@ ghost use Rattle.std.specs.Char.{is_ascii_alphanumeric};
 ghost use Rattle.std.specs.Option.{is_none};
 ghost use Rattle.std.specs.Str.{IsAscii};
 ghost use Rattle.html5grammar.specs.Characters.{number_sign, semicolon};
-ghost use Rattle.html5grammar.specs.Reference.{is_undecided, is_number, is_x, base_of, behind_x, has_digits, number_value, character_of_number, is_invalid_number, longest_name, goes_on, first_or};
+ghost use Rattle.html5grammar.specs.Reference.{is_undecided, is_number, is_x, base_of, after_x, has_digits, number_value, character_of_number, is_invalid_number, longest_name, goes_on, first_or};
 ghost use Rattle.html5opened.specs.CharRef.{IsHeld, IsNumberHeld, IsNamed, decided};
 ghost use Rattle.markup5ever.specs.NamedReferences.{begins_name};
 
@@ -207,7 +207,7 @@ fn continues_number(number: &str, c: char) -> bool
 
 // The digits of what stands after a number's `#`.
 fn digits_of(number: &str) -> &str
-    ensures { result.now ≡ behind_x number.now }
+    ensures { result.now ≡ after_x number.now }
 {
     if base_of(number) == 16 {
         &number[1..]

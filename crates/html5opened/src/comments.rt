@@ -17,9 +17,9 @@ pub fn ends_in(text: &str, word: &[u8]) -> bool
     text.as_bytes().ends_with(word)
 }
 
-/// The state that an error names, where `behind_dashes` is that after two dashes or more.
-pub fn state_in_comment(behind_dashes: State, text: &str) -> State
-    ensures { result ≡ comment_state behind_dashes text.now }
+/// The state that an error names, where `after_dashes` is that after two dashes or more.
+pub fn state_in_comment(after_dashes: State, text: &str) -> State
+    ensures { result ≡ comment_state after_dashes text.now }
 {
     if text.is_empty() {
         return State::CommentStart;
@@ -31,7 +31,7 @@ pub fn state_in_comment(behind_dashes: State, text: &str) -> State
         return State::CommentEndBang;
     }
     if ends_in(text, b"--") {
-        return behind_dashes;
+        return after_dashes;
     }
     if ends_in(text, b"-") {
         return State::CommentEndDash;
@@ -47,7 +47,7 @@ pub fn ends_in_mark(text: &str) -> bool
 }
 
 /// Whether the character stands after a mark, and is an error there.
-pub fn is_behind_mark(text: &str, c: char) -> bool
+pub fn is_after_mark(text: &str, c: char) -> bool
     ensures { result ≡ ends_in_mark text.now && not (c == greater_than) }
 {
     ends_in_mark(text) && c != '>'

@@ -13,7 +13,7 @@ use crate::current_tag::push_value;
 use std::alloc::{AllocError, Allocator};
 
 /// What stands after so much of the text.
-pub fn behind(text: &str, len: usize) -> &str
+pub fn afterwards(text: &str, len: usize) -> &str
     requires { IsAscii text.now }
     ensures { result.now ≡ drop len text.now }
 {

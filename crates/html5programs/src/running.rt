@@ -133,8 +133,8 @@ fn read_files<F: Filter<W>, W: Target + Drop, R: Files + Alloc<A = Global>, I: S
     let mut filter = filter;
     let mut outcome = Outcome::Read;
     for file in files {
-        let (behind, read) = read_file(rt, filter, names, stdin, file);
-        filter = behind;
+        let (afterwards, read) = read_file(rt, filter, names, stdin, file);
+        filter = afterwards;
         match read {
             Ok(()) => {}
             Err(FileError::Stream(StreamError::Sink)) => return (filter, Outcome::Stopped),

@@ -1,7 +1,7 @@
 -- What a session is, and what each call makes of it.
 use Rattle.std.specs.Prelude.{◌≡◌, ◌≢◌, ◌⊎◌, ◌||◌, ◌<◌, ℕ, Bool, true, false, List, [], ◌++◌, length, Option, Some}
 use Rattle.std.specs.Str.{IsUtf8, chars}
-use Rattle.utf8_pieces.specs.Pieces.{Decoding, IsCutCharacter, IsFault, IsNeverUtf8, place_behind}
+use Rattle.utf8_pieces.specs.Pieces.{Decoding, IsCutCharacter, IsFault, IsNeverUtf8, place_after}
 use Rattle.utf8_pieces.specs.declared.error.DecodeError.TheVariants as decoder
 use Rattle.markup5ever.specs.NamedReferences.{NamedReference}
 use Rattle.html5ever_interface.specs.Token.{Reply}
@@ -60,7 +60,7 @@ pub record Completes (old new : Decoding) (bytes text : List ℕ) : Type 0 where
   pub parts : old.held ++ bytes ≡ text ++ new.held
   pub utf8 : IsUtf8 text
   pub cut : IsCutCharacter new.held
-  pub taken : new.taken ≡ place_behind old.taken (length text)
+  pub taken : new.taken ≡ place_after old.taken (length text)
 
 -- a piece was taken: the text that it completes came after what waits
 pub record TakesPiece (old new : SessionOf) (bytes : List ℕ) : Type 0 where

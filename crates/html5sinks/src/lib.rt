@@ -37,7 +37,7 @@
 //! `title` and `textarea` that is RCDATA, after `style`, `xmp`, `iframe`, `noembed` and `noframes`
 //! RAWTEXT, after `script` script data, after `plaintext` plain text, and after any other tag
 //! markup. The tokenizer is never paused. A handler that is to reply otherwise is a
-//! `tags::ReplyingTagHandler` or a `text_runs::ReplyingRunHandler`.
+//! `tags::ReplyingTagHandler` or a `text_runs::ReplyingTokenHandler`.
 #![tactic(auto)]
 
 pub mod pausing;

@@ -11,10 +11,10 @@ use html5ever_interface::interface::token::{SinkFault, Token, TokenSinkResult};
 use std::alloc::{AllocError, Allocator, Global};
 use std::marker::Model;
 
-/// Takes whole runs of text, each with the token after it, and leaves it to the standard how the text
-/// after a tag is read. A handler writes a state, a step and one method:
-/// `impl<A: Allocator> RunHandler<Token<A>> for MyHandler`.
-pub trait RunHandler<T: Says> {
+/// Takes every token but text, each with the whole run of text before it, and leaves it to the standard
+/// how the text after a tag is read. A handler writes a state, a step and one method:
+/// `impl<A: Allocator> TokenHandler<Token<A>> for MyHandler`.
+pub trait TokenHandler<T: Says> {
     ghost use Rattle.std.specs.Prelude.{◌≡◌, ℕ, List, OnOk, OnErr};
     ghost use Rattle.html5ever_interface.specs.Token.{Told};
 
@@ -30,16 +30,16 @@ pub trait RunHandler<T: Says> {
     /// that the tokenizer has reached. The token is no text: the end brings the last run. A parse error
     /// does not end a run, and comes at once, with an empty one. An `Err` refuses what was handed, and
     /// the tokenizer stops: the state is then unchanged, as if nothing had been handed.
-    fn take_run(&mut self, run: &str, token: T, line_number: u64) -> Result<(), SinkFault>
+    fn take_token(&mut self, run: &str, token: T, line_number: u64) -> Result<(), SinkFault>
         ensures steps { OnOk result
             (state self.new ≡ step (state self.old) run.now (T.told token) line_number) }
         ensures fault { OnErr result (state self.new ≡ state self.old) };
 }
 
-/// Takes whole runs of text, each with the token after it, and replies to tags. Each `RunHandler` is
-/// one, with the standard's replies: write this only to reply otherwise. A handler writes `reply` too,
-/// and a `Handle` for its scripts.
-pub trait ReplyingRunHandler<T: Says> {
+/// Takes every token but text, each with the whole run of text before it, and replies to tags. Each
+/// `TokenHandler` is one, with the standard's replies: write this only to reply otherwise. A handler writes
+/// `reply` too, and a `Handle` for its scripts.
+pub trait ReplyingTokenHandler<T: Says> {
     ghost use Rattle.std.specs.Prelude.{◌≡◌, ℕ, List, IfOk, OnOk, OnErr};
     ghost use Rattle.html5ever_interface.specs.Token.{Told, TagOf, Reply, reply_of};
     ghost use Rattle.html5sinks.specs.Runs.{reply_where_tag};
@@ -57,9 +57,9 @@ pub trait ReplyingRunHandler<T: Says> {
     // What is replied to a tag after a run.
     ghost reply: { State → List ℕ → TagOf → ℕ → Reply Self.Handle };
 
-    /// Takes a run and the token after it, as `take_run` of `RunHandler` does, and replies: to a tag
+    /// Takes a run and the token after it, as `take_token` of `TokenHandler` does, and replies: to a tag
     /// as `reply` says, and to any other token to read on.
-    fn answer_run(
+    fn answer_token(
         &mut self,
         run: &str,
         token: T,
@@ -82,7 +82,7 @@ fn reply_to_token<A: Allocator>(token: &Token<A>) -> TokenSinkResult<(), String<
     }
 }
 
-impl<H: RunHandler<Token<A>>, A: Allocator> ReplyingRunHandler<Token<A>> for H {
+impl<H: TokenHandler<Token<A>>, A: Allocator> ReplyingTokenHandler<Token<A>> for H {
     ghost use Rattle.html5sinks.specs.Replies.{standard_reply};
 
     type Handle = ();
@@ -95,14 +95,14 @@ impl<H: RunHandler<Token<A>>, A: Allocator> ReplyingRunHandler<Token<A>> for H {
 
     ghost reply = { λ state run tag line. standard_reply tag };
 
-    fn answer_run(
+    fn answer_token(
         &mut self,
         run: &str,
         token: Token<A>,
         line_number: u64,
     ) -> Result<TokenSinkResult<(), String<A>>, SinkFault> {
         let reply = reply_to_token(&token);
-        match self.take_run(run, token, line_number) {
+        match self.take_token(run, token, line_number) {
             Ok(()) => Ok(reply),
             Err(SinkFault) => Err(SinkFault),
         }
@@ -177,7 +177,7 @@ impl<H, A: Allocator> TextRuns<H, A> {
 }
 
 // Hands a run and the token after it on. The run is then empty; where the handler faults it stays.
-fn hand_on<H: ReplyingRunHandler<Token<A>>, A: Allocator>(
+fn hand_on<H: ReplyingTokenHandler<Token<A>>, A: Allocator>(
     handler: &mut H,
     run: &mut String<A>,
     token: Token<A>,
@@ -191,7 +191,7 @@ fn hand_on<H: ReplyingRunHandler<Token<A>>, A: Allocator>(
     ensures fault { OnErr result (H.state handler.new ≡ H.state handler.old) }
     ensures kept { OnErr result (string_bytes run.new ≡ string_bytes run.old) }
 {
-    match handler.answer_run(run.as_str(), token, line) {
+    match handler.answer_token(run.as_str(), token, line) {
         Ok(reply) => {
             run.clear();
             Ok(reply)
@@ -201,7 +201,7 @@ fn hand_on<H: ReplyingRunHandler<Token<A>>, A: Allocator>(
 }
 
 // Takes a token. Where it faults, nothing has changed.
-fn take_token<H: ReplyingRunHandler<Token<A>>, A: Allocator>(
+fn take_told<H: ReplyingTokenHandler<Token<A>>, A: Allocator>(
     handler: &mut H,
     run: &mut String<A>,
     token: Token<A>,
@@ -219,12 +219,12 @@ fn take_token<H: ReplyingRunHandler<Token<A>>, A: Allocator>(
             Ok(()) => Ok(TokenSinkResult::Continue),
             Err(AllocError) => Err(SinkFault),
         },
-        Token::ParseError(message) => handler.answer_run("", Token::ParseError(message), line),
+        Token::ParseError(message) => handler.answer_token("", Token::ParseError(message), line),
         token => hand_on(handler, run, token, line),
     }
 }
 
-impl<H: ReplyingRunHandler<Token<A>>, A: Allocator> TokenSink<Token<A>> for TextRuns<H, A> {
+impl<H: ReplyingTokenHandler<Token<A>>, A: Allocator> TokenSink<Token<A>> for TextRuns<H, A> {
     ghost use Rattle.std.specs.Prelude.{refl};
     ghost use Rattle.html5sinks.specs.Runs.{Running, joined_of, runs_step, runs_reply, runs_faulted};
     ghost use Rattle.html5sinks.specs.RunLaws.{runs_join, runs_empty, runs_keep_on};
@@ -258,7 +258,7 @@ impl<H: ReplyingRunHandler<Token<A>>, A: Allocator> TokenSink<Token<A>> for Text
         token: Token<A>,
         line_number: u64,
     ) -> Result<TokenSinkResult<H::Handle, String<A>>, SinkFault> {
-        match take_token(&mut self.handler, &mut self.run, token, line_number) {
+        match take_told(&mut self.handler, &mut self.run, token, line_number) {
             Ok(reply) => Ok(reply),
             Err(SinkFault) => {
                 self.faults.add(1);

@@ -8,7 +8,7 @@ use Rattle.html5ever_interface.specs.Token.{Told}
 use Rattle.html5ever_interface.specs.Token.Told.{Text}
 use Rattle.html5grammar.specs.Characters.{number_sign, semicolon}
 use Rattle.html5grammar.specs.Reference as grammar
-use Rattle.html5grammar.specs.Reference.{first_or, has_digits, number_reference, named_reference, longest_name, text_in, told_of, characters_in, held_text, late_tokens, opened_in, opened_behind, ends_number, in_value}
+use Rattle.html5grammar.specs.Reference.{first_or, has_digits, number_reference, named_reference, longest_name, text_in, told_of, characters_in, held_text, late_tokens, opened_in, opened_after, ends_number, in_value}
 use Rattle.html5grammar.specs.Slice.{Late, tokens_of_late}
 use Rattle.html5grammar.specs.Start.{Stand}
 use Rattle.html5grammar.specs.Start.Stand.{InText, InAttribute}
@@ -94,7 +94,7 @@ told-found exact names is_in stand held text rest next found inside ok same is =
 
 pub leads-found : (exact : Bool) (names : List NamedReference) (is_in : Bool) (stand : Stand) (held text rest : List ℕ) (next : Option ℕ) (found : Found) → is_in ≡ in_value stand
     → IsFound found (decided exact names is_in held next) → text ≡ held → rest ≡ drop found.taken text
-    → opened_in stand (found.first ∷ (more_of found.second ++ rest)) ≡ opened_behind stand (found_at exact names stand held next) held
+    → opened_in stand (found.first ∷ (more_of found.second ++ rest)) ≡ opened_after stand (found_at exact names stand held next) held
 leads-found exact names is_in stand held text rest next found inside ok same is =
     let here : IsFound found (found_at exact names stand held next) = subst (λ b. IsFound found (decided exact names b held next)) inside ok in
     rw (is, same, here.taken, here.first, here.more) refl

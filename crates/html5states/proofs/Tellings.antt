@@ -12,7 +12,7 @@ use Rattle.std.specs.Result.{IsErrAnd}
 use Rattle.html5ever_interface.proofs.Steppings.{stepped-append}
 use Rattle.html5ever_interface.specs.Sink.{Means, Message, stepped, on_line}
 use Rattle.html5opened.specs.CurrentTag.{last_name_of}
-use Rattle.html5opened.specs.Steps.{Next, tokens_of, behind, Ends}
+use Rattle.html5opened.specs.Steps.{Next, tokens_of, afterwards, Ends}
 use Rattle.html5states.specs.Telling.{IsRefusal, tokens_in, IsToldAs, IsKept, Stops, Tells, Emits, Reads, faults_of}
 use Rattle.html5grammar.specs.ErrorText.{where_true}
 use Rattle.html5grammar.specs.Reading.{Here}
@@ -224,15 +224,15 @@ module _ {S : Type 0} (step faulted : S → Told → ℕ → S) where
       subst (λ tokens. Tells step faulted r s (on_line line tokens) t) (sym (ap tokens_of same ∙ tokens-told_first before later))
       (told_stop r e s t line before (tokens_of later) h refusal stop)
 
-behind-told_first : (before : List Told) (later : Here Open) → behind (told_first before later) ≡ behind later
-unfolding behind
-behind-told_first before (Here.Tells told later) = refl
-behind-told_first before (Here.TellsTag told tag) = refl
+after-told_first : (before : List Told) (later : Here Open) → afterwards (told_first before later) ≡ afterwards later
+unfolding afterwards
+after-told_first before (Here.Tells told later) = refl
+after-told_first before (Here.TellsTag told tag) = refl
 
 pub leads_first : {Z : Type 0} → (r : Result Progress TokenizerError) (at : Opened Z) (before : List Told) (all later : Here Open)
-    → all ≡ told_first before later → Ends r at (behind later) → Ends r at (behind all)
+    → all ≡ told_first before later → Ends r at (afterwards later) → Ends r at (afterwards all)
 leads_first r at before all later same leads =
-    subst (Ends r at) (sym (ap behind same ∙ behind-told_first before later)) leads
+    subst (Ends r at) (sym (ap afterwards same ∙ after-told_first before later)) leads
 
 -- a character is one token
 pub tokens_in-char : (c : ℕ) → IsScalar c → tokens_in (Text (encode_utf8 c)) ≡ Text (encode_utf8 c) ∷ []
@@ -302,7 +302,7 @@ module _ {Q S H Z : Type 0} {means : Means Q S H} {count : Q → ℕ} where
       let p = err_from_is_err_and r h in
       record {
         tells = first_stop means.step means.faulted r e _ _ before.line A all later same h first.refusal first.tells;
-        leads = refused_leads r e at (behind all) h first.refusal;
+        leads = refused_leads r e at (afterwards all) h first.refusal;
         last = last;
         faults = rw (p.1, p.2) first.faults;
         kept = first.kept;

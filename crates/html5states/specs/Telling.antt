@@ -8,7 +8,7 @@ use Rattle.html5ever_interface.specs.Token.Told.{Text}
 use Rattle.html5grammar.specs.Reading.{Here}
 use Rattle.html5grammar.specs.Start.{Open}
 use Rattle.html5opened.specs.CurrentTag.{last_name_of}
-use Rattle.html5opened.specs.Steps.{tokens_of, behind, Ends}
+use Rattle.html5opened.specs.Steps.{tokens_of, afterwards, Ends}
 use Rattle.html5opened.specs.declared.opened.Opened.{Opened}
 use Rattle.html5opened.specs.declared.opened.Progress.{Progress}
 use Rattle.html5states.specs.declared.teller.Teller.{Teller}
@@ -94,7 +94,7 @@ module _ {Q S H Z : Type 0} (means : Means Q S H) (count : Q → ℕ) where
   -- a character told what the machine tells here, and left open what the machine leaves, with the last start tag as it was
   pub record Reads (result : Result Progress TokenizerError) (before after : Teller Q Z) (here : Here Open) (was at : Opened Z) : Type 0 where
     pub tells : Tells means.step means.faulted result (means.state before.sink.now) (on_line before.line (tokens_of here)) (means.state after.sink.now)
-    pub leads : Ends result at (behind here)
+    pub leads : Ends result at (afterwards here)
     pub last : last_name_of at ≡ last_name_of was
     pub faults : count after.sink.now ≡ count before.sink.now + faults_of result
     pub kept : IsKept before after

@@ -1,5 +1,5 @@
 //! The states of comments.
-#![tactic(auto, using(crate::proofs::Tellings::tells_from_memory), unfolding(html5grammar::specs::Machine::comment_step, html5grammar::specs::Machine::bogus_comment_step, html5grammar::specs::Comment::comment_errors, html5grammar::specs::Comment::mark_error, html5grammar::specs::Comment::comment_end_error, html5opened::specs::Steps::tokens_of, html5opened::specs::Steps::behind, html5ever_interface::specs::Sink::stepped))]
+#![tactic(auto, using(crate::proofs::Tellings::tells_from_memory), unfolding(html5grammar::specs::Machine::comment_step, html5grammar::specs::Machine::bogus_comment_step, html5grammar::specs::Comment::comment_errors, html5grammar::specs::Comment::mark_error, html5grammar::specs::Comment::comment_end_error, html5opened::specs::Steps::tokens_of, html5opened::specs::Steps::afterwards, html5ever_interface::specs::Sink::stepped))]
 
 ghost use Rattle.std.specs.Prelude.{◌≡◌, ◌∷◌, [], ◌++◌, string_bytes};
 ghost use Rattle.html5ever_interface.specs.Token.Told.{Comment};
@@ -16,7 +16,7 @@ use crate::teller::Teller;
 use html5ever_interface::interface::sink::TokenSink;
 use html5ever_interface::interface::token::Token;
 use html5ever_interface::states::State;
-use html5opened::comments::{content_len, ends_comment, ends_in, is_behind_mark, state_in_comment};
+use html5opened::comments::{content_len, ends_comment, ends_in, is_after_mark, state_in_comment};
 use html5opened::current_tag::push_value;
 use html5opened::error::TokenizerError;
 use html5opened::opened::{Opened, Progress, Step};
@@ -43,7 +43,7 @@ impl<S: TokenSink<Token<A>>, A: Allocator + Copy> Teller<'_, S, A> {
         ensures { Emits S.means S.faults result self.old self.new
             (comment_errors self.old.exact_errors before.now c) }
     {
-        let mark = is_behind_mark(before, c);
+        let mark = is_after_mark(before, c);
         self.emit_unexpected_where(mark, c, State::CommentLessThanSignBangDashDash)?;
         let state = state_in_comment(State::Comment, before);
         self.emit_unexpected_where(c == '\0', c, state)

@@ -1,5 +1,5 @@
 //! The states of DOCTYPEs up to their name and keyword, and what ends or skips a DOCTYPE.
-#![tactic(auto, using(crate::proofs::Tellings::tells_from_memory), unfolding(html5grammar::specs::Machine::doctype_step, html5grammar::specs::Machine::space_step, html5grammar::specs::Machine::skipped_step, html5grammar::specs::Machine::wanted_name_step, html5grammar::specs::Machine::doctype_name_step, html5grammar::specs::Machine::keyword_or_end_step, html5grammar::specs::Doctype::in_doctype_name, html5opened::specs::Steps::tokens_of, html5opened::specs::Steps::behind, html5ever_interface::specs::Sink::stepped))]
+#![tactic(auto, using(crate::proofs::Tellings::tells_from_memory), unfolding(html5grammar::specs::Machine::doctype_step, html5grammar::specs::Machine::space_step, html5grammar::specs::Machine::skipped_step, html5grammar::specs::Machine::wanted_name_step, html5grammar::specs::Machine::doctype_name_step, html5grammar::specs::Machine::keyword_or_end_step, html5grammar::specs::Doctype::in_doctype_name, html5opened::specs::Steps::tokens_of, html5opened::specs::Steps::afterwards, html5ever_interface::specs::Sink::stepped))]
 
 ghost use Rattle.std.specs.Prelude.{◌≡◌, ◌∷◌, [], string_bytes};
 ghost use Rattle.html5ever_interface.specs.Token.{doctype_of};

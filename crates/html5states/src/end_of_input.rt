@@ -10,7 +10,7 @@ ghost use Rattle.html5grammar.specs.Doctype.{with_quirks};
 ghost use Rattle.html5grammar.specs.Characters.{solidus, less_than};
 ghost use Rattle.html5grammar.specs.EndOfInput.{told_at_end_of, raw_end_error};
 ghost use Rattle.html5grammar.specs.ErrorText.{end_error_in};
-ghost use Rattle.html5grammar.specs.RawText.{texts, told_behind_less_than};
+ghost use Rattle.html5grammar.specs.RawText.{texts, told_after_less_than};
 ghost use Rattle.html5grammar.specs.Comment.{comment_state, comment_content};
 ghost use Rattle.html5grammar.specs.Start.{raw_of, is_undecided_open};
 ghost use Rattle.html5opened.specs.CurrentTag.{opened_of};
@@ -43,7 +43,7 @@ impl<S: TokenSink<Token<A>>, A: Allocator + Copy> Teller<'_, S, A> {
     }
 
     // Ends after a text of one character.
-    fn end_behind(&mut self, c: char) -> Result<(), TokenizerError>
+    fn end_after(&mut self, c: char) -> Result<(), TokenizerError>
         ensures { Emits S.means S.faults result self.old self.new
             (Text (encode_utf8 c) ∷ End ∷ []) }
     {
@@ -52,12 +52,12 @@ impl<S: TokenSink<Token<A>>, A: Allocator + Copy> Teller<'_, S, A> {
     }
 
     // Ends after `</`, which is text.
-    fn end_behind_solidus(&mut self) -> Result<(), TokenizerError>
+    fn end_after_solidus(&mut self) -> Result<(), TokenizerError>
         ensures { Emits S.means S.faults result self.old self.new
             (Text (codes "<") ∷ Text (codes "/") ∷ End ∷ []) }
     {
         self.emit_char('<')?;
-        self.end_behind('/')
+        self.end_after('/')
     }
 
     // Ends in the standard's "tag open state".
@@ -66,7 +66,7 @@ impl<S: TokenSink<Token<A>>, A: Allocator + Copy> Teller<'_, S, A> {
             (end_error_in self.old.exact_errors State.TagOpen ∷ Text (codes "<") ∷ End ∷ []) }
     {
         self.emit_end_error(State::TagOpen)?;
-        self.end_behind('<')
+        self.end_after('<')
     }
 
     // Ends in the standard's "end tag open state".
@@ -76,7 +76,7 @@ impl<S: TokenSink<Token<A>>, A: Allocator + Copy> Teller<'_, S, A> {
             ∷ Text (codes "<") ∷ Text (codes "/") ∷ End ∷ []) }
     {
         self.emit_end_error(State::EndTagOpen)?;
-        self.end_behind_solidus()
+        self.end_after_solidus()
     }
 
     // Ends in raw text: in escaped script data that is an error.
@@ -91,16 +91,16 @@ impl<S: TokenSink<Token<A>>, A: Allocator + Copy> Teller<'_, S, A> {
     }
 
     // Ends after a `<` of raw text.
-    fn end_behind_less_than(&mut self, kind: RawKind) -> Result<(), TokenizerError>
+    fn end_after_less_than(&mut self, kind: RawKind) -> Result<(), TokenizerError>
         ensures { Emits S.means S.faults result self.old self.new
-            (told_behind_less_than kind ++ (raw_end_error self.old.exact_errors (raw_of kind) ++ End ∷ [])) }
+            (told_after_less_than kind ++ (raw_end_error self.old.exact_errors (raw_of kind) ++ End ∷ [])) }
     {
-        self.emit_behind_less_than(kind)?;
+        self.emit_after_less_than(kind)?;
         self.end_raw_text(kind)
     }
 
     // Ends after `</` and letters of raw text, which are text.
-    fn end_behind_end_name(&mut self, kind: RawKind, letters: &str) -> Result<(), TokenizerError>
+    fn end_after_end_name(&mut self, kind: RawKind, letters: &str) -> Result<(), TokenizerError>
         ensures { Emits S.means S.faults result self.old self.new
             (texts (less_than ∷ solidus ∷ chars letters.now) ++
             (raw_end_error self.old.exact_errors (raw_of kind) ++ End ∷ [])) }
@@ -110,7 +110,7 @@ impl<S: TokenSink<Token<A>>, A: Allocator + Copy> Teller<'_, S, A> {
     }
 
     // Ends after a comment with that text.
-    fn end_behind_comment(&mut self, text: &str) -> Result<(), TokenizerError>
+    fn end_after_comment(&mut self, text: &str) -> Result<(), TokenizerError>
         ensures { Emits S.means S.faults result self.old self.new
             (Comment text.now ∷ End ∷ []) }
     {
@@ -133,11 +133,11 @@ impl<S: TokenSink<Token<A>>, A: Allocator + Copy> Teller<'_, S, A> {
             ∷ Comment (comment_content text.now) ∷ End ∷ []) }
     {
         self.emit_end_error(state_in_comment(State::CommentEnd, text))?;
-        self.end_behind_comment(&text[..content_len(text)])
+        self.end_after_comment(&text[..content_len(text)])
     }
 
     // Ends after a DOCTYPE, with quirks or without.
-    fn end_behind_doctype(
+    fn end_after_doctype(
         &mut self,
         doctype: &Doctype<A>,
         force_quirks: bool,
@@ -158,7 +158,7 @@ impl<S: TokenSink<Token<A>>, A: Allocator + Copy> Teller<'_, S, A> {
             ∷ []) }
     {
         self.emit_end_error(state)?;
-        self.end_behind_doctype(doctype, true)
+        self.end_after_doctype(doctype, true)
     }
 
     /// Tells what the end of input tells in the state. A tag without its end is not told.
@@ -170,9 +170,9 @@ impl<S: TokenSink<Token<A>>, A: Allocator + Copy> Teller<'_, S, A> {
         match at.state {
             State::Data | State::Plaintext => self.tell(Token::EOFToken),
             State::RawData(kind) => self.end_raw_text(kind),
-            State::RawLessThanSign(kind) => self.end_behind_less_than(kind),
-            State::RawEndTagOpen(kind) => self.end_behind_end_name(kind, ""),
-            State::RawEndTagName(kind) => self.end_behind_end_name(kind, &at.letters),
+            State::RawLessThanSign(kind) => self.end_after_less_than(kind),
+            State::RawEndTagOpen(kind) => self.end_after_end_name(kind, ""),
+            State::RawEndTagName(kind) => self.end_after_end_name(kind, &at.letters),
             State::ScriptDataEscapedDash(kind) => {
                 self.end_unexpected(State::ScriptDataEscapedDash(kind))
             }
@@ -181,7 +181,7 @@ impl<S: TokenSink<Token<A>>, A: Allocator + Copy> Teller<'_, S, A> {
             }
             State::ScriptDataEscapeStart(ScriptEscapeKind::Escaped)
             | State::ScriptDataEscapeStartDash => self.tell(Token::EOFToken),
-            State::BogusComment => self.end_behind_comment(&at.comment),
+            State::BogusComment => self.end_after_comment(&at.comment),
             State::ProcessingInstruction => self.end_in_instruction(&at.comment),
             State::CdataSection => self.end_in_cdata(&at.comment),
             State::MarkupDeclarationOpen => unreachable!(),
@@ -190,7 +190,7 @@ impl<S: TokenSink<Token<A>>, A: Allocator + Copy> Teller<'_, S, A> {
             State::TagOpen => self.end_in_tag_open(),
             State::EndTagOpen => self.end_in_end_tag_open(),
             State::BeforeAttributeValue => self.end_unexpected(State::AttributeValue(Unquoted)),
-            State::BogusDoctype => self.end_behind_doctype(&at.doctype, at.doctype.force_quirks),
+            State::BogusDoctype => self.end_after_doctype(&at.doctype, at.doctype.force_quirks),
             state if is_comment_state(state) => self.end_comment_text(&at.comment),
             state if is_doctype_state(state) => self.end_in_doctype(state, &at.doctype),
             state => self.end_unexpected(state),

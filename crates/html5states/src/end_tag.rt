@@ -1,5 +1,5 @@
 //! The end of a tag: its last attribute and its errors.
-#![tactic(auto, using(crate::proofs::Tellings::tells_from_memory), unfolding(html5grammar::specs::Machine::closing_step, html5opened::specs::Steps::tokens_of, html5opened::specs::Steps::behind))]
+#![tactic(auto, using(crate::proofs::Tellings::tells_from_memory), unfolding(html5grammar::specs::Machine::closing_step, html5opened::specs::Steps::tokens_of, html5opened::specs::Steps::afterwards))]
 
 ghost use Rattle.std.specs.Prelude.{◌≡◌, [], ◌++◌, ◌&&◌, not, nat_eq, length, OnOk};
 ghost use Rattle.html5grammar.specs.Machine.{closing_step};

@@ -1,5 +1,5 @@
 //! The states of a DOCTYPE's identifiers.
-#![tactic(auto, using(crate::proofs::Tellings::tells_from_memory), unfolding(html5grammar::specs::Machine::doctype_step, html5grammar::specs::Machine::space_step, html5grammar::specs::Machine::skipped_step, html5grammar::specs::Machine::wanted_identifier_step, html5grammar::specs::Machine::system_or_end_step, html5grammar::specs::Machine::identifier_step, html5grammar::specs::Machine::behind_identifier_step, html5grammar::specs::Doctype::in_identifier, html5opened::specs::Steps::tokens_of, html5opened::specs::Steps::behind, html5ever_interface::specs::Sink::stepped))]
+#![tactic(auto, using(crate::proofs::Tellings::tells_from_memory), unfolding(html5grammar::specs::Machine::doctype_step, html5grammar::specs::Machine::space_step, html5grammar::specs::Machine::skipped_step, html5grammar::specs::Machine::wanted_identifier_step, html5grammar::specs::Machine::system_or_end_step, html5grammar::specs::Machine::identifier_step, html5grammar::specs::Machine::after_identifier_step, html5grammar::specs::Doctype::in_identifier, html5opened::specs::Steps::tokens_of, html5opened::specs::Steps::afterwards, html5ever_interface::specs::Sink::stepped))]
 
 ghost use Rattle.std.specs.Prelude.{◌≡◌, true, false};
 ghost use Rattle.html5ever_interface.specs.Token.{doctype_of};
@@ -94,7 +94,7 @@ impl<S: TokenSink<Token<A>>, A: Allocator + Copy> Teller<'_, S, A> {
     }
 
     /// The standard's states of a quoted identifier.
-    #[tactic(auto, using(crate::proofs::Tellings::tells_from_memory), unfolding(html5grammar::specs::Machine::doctype_step, html5grammar::specs::Machine::identifier_step, html5grammar::specs::Machine::skipped_step, html5grammar::specs::Doctype::in_identifier, html5opened::specs::Steps::tokens_of, html5opened::specs::Steps::behind, html5ever_interface::specs::Sink::stepped))]
+    #[tactic(auto, using(crate::proofs::Tellings::tells_from_memory), unfolding(html5grammar::specs::Machine::doctype_step, html5grammar::specs::Machine::identifier_step, html5grammar::specs::Machine::skipped_step, html5grammar::specs::Doctype::in_identifier, html5opened::specs::Steps::tokens_of, html5opened::specs::Steps::afterwards, html5ever_interface::specs::Sink::stepped))]
     pub fn doctype_identifier_state(
         &mut self,
         at: &mut Opened<A>,

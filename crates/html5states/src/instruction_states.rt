@@ -1,5 +1,5 @@
 //! The state of processing instructions, which the standard doesn't have.
-#![tactic(auto, using(crate::proofs::Tellings::tells_from_memory), unfolding(html5grammar::specs::Machine::instruction_step, html5opened::specs::Steps::tokens_of, html5opened::specs::Steps::behind, html5ever_interface::specs::Sink::stepped))]
+#![tactic(auto, using(crate::proofs::Tellings::tells_from_memory), unfolding(html5grammar::specs::Machine::instruction_step, html5opened::specs::Steps::tokens_of, html5opened::specs::Steps::afterwards, html5ever_interface::specs::Sink::stepped))]
 
 ghost use Rattle.std.specs.Prelude.{◌≡◌, ◌∷◌, [], string_bytes};
 ghost use Rattle.html5ever_interface.specs.Token.Told.{Instruction, End};
@@ -52,7 +52,7 @@ impl<S: TokenSink<Token<A>>, A: Allocator + Copy> Teller<'_, S, A> {
     }
 
     // Ends after a processing instruction with that content.
-    fn end_behind_instruction(&mut self, content: &str) -> Result<(), TokenizerError>
+    fn end_after_instruction(&mut self, content: &str) -> Result<(), TokenizerError>
         ensures { Emits S.means S.faults result self.old self.new
             (Instruction content.now ∷ End ∷ []) }
     {
@@ -67,6 +67,6 @@ impl<S: TokenSink<Token<A>>, A: Allocator + Copy> Teller<'_, S, A> {
             ∷ Instruction content.now ∷ End ∷ []) }
     {
         self.emit_end_error(State::ProcessingInstruction)?;
-        self.end_behind_instruction(content)
+        self.end_after_instruction(content)
     }
 }

@@ -1,12 +1,12 @@
 //! The states of raw text, one function for each.
-#![tactic(auto, using(crate::proofs::Tellings::tells_from_memory), unfolding(html5grammar::specs::Machine::step_at, html5grammar::specs::Machine::raw_place_step, html5grammar::specs::Machine::tag_name_end_step, html5grammar::specs::Machine::raw_step, html5grammar::specs::Machine::raw_less_than_step, html5grammar::specs::Machine::raw_solidus_step, html5grammar::specs::Machine::end_name_step, html5grammar::specs::Machine::switch_step, html5grammar::specs::Machine::mark_step, html5grammar::specs::Machine::mark_and_dash_step, html5grammar::specs::RawText::raw_character, html5grammar::specs::RawText::raw_state, html5grammar::specs::RawText::escaped_state, html5grammar::specs::RawText::raw_behind, html5grammar::specs::RawText::dashes_behind, html5grammar::specs::RawText::kind_of, html5grammar::specs::RawText::begins_mark, html5grammar::specs::RawText::begins_switch, html5opened::specs::Steps::tokens_of, html5opened::specs::Steps::behind, html5ever_interface::specs::Sink::stepped))]
+#![tactic(auto, using(crate::proofs::Tellings::tells_from_memory), unfolding(html5grammar::specs::Machine::step_at, html5grammar::specs::Machine::raw_place_step, html5grammar::specs::Machine::tag_name_end_step, html5grammar::specs::Machine::raw_step, html5grammar::specs::Machine::raw_less_than_step, html5grammar::specs::Machine::raw_solidus_step, html5grammar::specs::Machine::end_name_step, html5grammar::specs::Machine::switch_step, html5grammar::specs::Machine::mark_step, html5grammar::specs::Machine::mark_and_dash_step, html5grammar::specs::RawText::raw_character, html5grammar::specs::RawText::raw_state, html5grammar::specs::RawText::escaped_state, html5grammar::specs::RawText::raw_after, html5grammar::specs::RawText::dashes_after, html5grammar::specs::RawText::kind_of, html5grammar::specs::RawText::begins_mark, html5grammar::specs::RawText::begins_switch, html5opened::specs::Steps::tokens_of, html5opened::specs::Steps::afterwards, html5ever_interface::specs::Sink::stepped))]
 
 ghost use Rattle.std.specs.Prelude.{◌≡◌, ◌∷◌, [], ◌++◌, true, string_bytes};
 ghost use Rattle.std.specs.Str.{chars};
 ghost use Rattle.html5grammar.specs.Machine.{raw_step, raw_less_than_step, raw_solidus_step};
 ghost use Rattle.html5grammar.specs.Machine.{tag_name_end_step, end_name_step, switch_step, mark_step, mark_and_dash_step, step_at};
 ghost use Rattle.html5grammar.specs.Characters.{exclamation_mark, solidus, less_than};
-ghost use Rattle.html5grammar.specs.RawText.{texts, told_at_less_than, told_behind_less_than, ends_name};
+ghost use Rattle.html5grammar.specs.RawText.{texts, told_at_less_than, told_after_less_than, ends_name};
 ghost use Rattle.html5grammar.specs.Reading.Here.{Tells};
 ghost use Rattle.html5grammar.specs.Start.{begun, escaped, raw_of};
 ghost use Rattle.html5grammar.specs.Start.Dashes.{NoDash, OneDash, TwoDashes};
@@ -152,7 +152,7 @@ impl<S: TokenSink<Token<A>>, A: Allocator + Copy> Teller<'_, S, A> {
             RawKind::ScriptData if c == '!' => self.open_mark(at),
             RawKind::ScriptDataEscaped(ScriptEscapeKind::Escaped) if is_letter(c) =>
                 self.open_switch(at, c),
-            _ => self.read_behind_less_than(at, kind, c),
+            _ => self.read_after_less_than(at, kind, c),
         }
     }
 
@@ -204,18 +204,18 @@ impl<S: TokenSink<Token<A>>, A: Allocator + Copy> Teller<'_, S, A> {
     }
 
     // Tells the `<` that began nothing where it wasn't told, and reads the character as it stands in raw text.
-    fn read_behind_less_than(&mut self, at: &mut Opened<A>, kind: RawKind, c: char) -> Step
+    fn read_after_less_than(&mut self, at: &mut Opened<A>, kind: RawKind, c: char) -> Step
         ensures { Reads S.means S.faults result self.old self.new
-            (raw_step self.old.exact_errors (raw_of kind) (last_name_of at.old) (told_behind_less_than kind) c) at.old
+            (raw_step self.old.exact_errors (raw_of kind) (last_name_of at.old) (told_after_less_than kind) c) at.old
             at.new }
     {
-        self.emit_behind_less_than(kind)?;
+        self.emit_after_less_than(kind)?;
         self.read_raw_data(at, kind, c)
     }
 
     /// Tells a `<` of raw text that wasn't told yet.
-    pub fn emit_behind_less_than(&mut self, kind: RawKind) -> Result<(), TokenizerError>
-        ensures { Emits S.means S.faults result self.old self.new (told_behind_less_than kind) }
+    pub fn emit_after_less_than(&mut self, kind: RawKind) -> Result<(), TokenizerError>
+        ensures { Emits S.means S.faults result self.old self.new (told_after_less_than kind) }
     {
         match kind {
             RawKind::ScriptDataEscaped(ScriptEscapeKind::DoubleEscaped) => Ok(()),
@@ -255,7 +255,7 @@ impl<S: TokenSink<Token<A>>, A: Allocator + Copy> Teller<'_, S, A> {
         }
         match end_tag_name(self.alloc, at, c)? {
             Some(name) => self.create_end_tag(at, name, c),
-            None => self.read_behind_end_name(at, kind, c),
+            None => self.read_after_end_name(at, kind, c),
         }
     }
 
@@ -272,7 +272,7 @@ impl<S: TokenSink<Token<A>>, A: Allocator + Copy> Teller<'_, S, A> {
     }
 
     // Tells the `</` and the letters that are no end tag, and reads the character as it stands in raw text.
-    fn read_behind_end_name(&mut self, at: &mut Opened<A>, kind: RawKind, c: char) -> Step
+    fn read_after_end_name(&mut self, at: &mut Opened<A>, kind: RawKind, c: char) -> Step
         ensures { Reads S.means S.faults result self.old self.new
             (raw_step self.old.exact_errors (raw_of kind) (last_name_of at.old)
             (texts (less_than ∷ solidus ∷ chars (string_bytes at.old.letters))) c) at.old at.new }
@@ -304,13 +304,13 @@ impl<S: TokenSink<Token<A>>, A: Allocator + Copy> Teller<'_, S, A> {
             (step_at self.old.exact_errors (opened_of at.old) c) at.old at.new }
     {
         match kind {
-            ScriptEscapeKind::Escaped => self.read_behind_mark(at, c),
+            ScriptEscapeKind::Escaped => self.read_after_mark(at, c),
             ScriptEscapeKind::DoubleEscaped => self.read_switch(at, ScriptEscapeKind::Escaped, c),
         }
     }
 
     // Reads after the `<!` of script data.
-    fn read_behind_mark(&mut self, at: &mut Opened<A>, c: char) -> Step
+    fn read_after_mark(&mut self, at: &mut Opened<A>, c: char) -> Step
         ensures { Reads S.means S.faults result self.old self.new
             (mark_step self.old.exact_errors (last_name_of at.old) c) at.old at.new }
     {
@@ -356,8 +356,8 @@ impl<S: TokenSink<Token<A>>, A: Allocator + Copy> Teller<'_, S, A> {
         if !ends_name(c) {
             return self.read_raw_data(at, RawKind::ScriptDataEscaped(kind), c);
         }
-        let behind = switched(self.alloc, kind, &at.letters)?;
-        at.state = State::RawData(RawKind::ScriptDataEscaped(behind));
+        let afterwards = switched(self.alloc, kind, &at.letters)?;
+        at.state = State::RawData(RawKind::ScriptDataEscaped(afterwards));
         self.emit_char(c)?;
         Ok(Progress::Continues)
     }

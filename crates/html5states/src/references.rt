@@ -6,7 +6,7 @@ ghost use Rattle.std.specs.Str.{IsAscii};
 ghost use Rattle.html5ever_interface.specs.Token.Told.{Error};
 ghost use Rattle.html5grammar.specs.Characters.{number_sign, semicolon};
 ghost use Rattle.html5grammar.specs.ErrorText.{where_true};
-ghost use Rattle.html5grammar.specs.Reference.{number_reference, named_reference, no_name, is_number, has_digits, number_value, invalid_number, unended_number, without_digits, semicolon_len, longest_name, is_ended, ends_number, in_value, text_in, opened_in, late_tokens, opened_behind};
+ghost use Rattle.html5grammar.specs.Reference.{number_reference, named_reference, no_name, is_number, has_digits, number_value, invalid_number, unended_number, without_digits, semicolon_len, longest_name, is_ended, ends_number, in_value, text_in, opened_in, late_tokens, opened_after};
 ghost use Rattle.html5grammar.specs.Slice.{tokens_of_late};
 ghost use Rattle.html5opened.specs.CharRef.{HasStand, stand_of, IsFound, more_of, decided, found_at};
 ghost use Rattle.html5opened.specs.CurrentTag.{opened_of, last_name_of};
@@ -19,7 +19,7 @@ use html5ever_interface::states::State;
 use html5opened::char_ref::{CharRef, Found, has_digits, longest_name, number_value};
 use html5opened::error::TokenizerError;
 use html5opened::found::{
-    behind, goes_on_with, invalid_number_message, is_ended, push_found, semicolon_len,
+    afterwards, goes_on_with, invalid_number_message, is_ended, push_found, semicolon_len,
     text_of_found, unknown_name_message, without_digits,
 };
 use html5opened::opened::Opened;
@@ -198,7 +198,7 @@ impl<S: TokenSink<Token<A>>, A: Allocator + Copy> Teller<'_, S, A> {
         ensures emits { Emits S.means S.faults result self.old self.new
             (tokens_of_late (late_tokens (stand_of (opened_of at.old)) (found_at self.old.exact_errors names.now
             (stand_of (opened_of at.old)) held.now next) held.now)) }
-        ensures leads { OnOk result (opened_of at.new ≡ opened_behind (stand_of (opened_of at.old))
+        ensures leads { OnOk result (opened_of at.new ≡ opened_after (stand_of (opened_of at.old))
             (found_at self.old.exact_errors names.now (stand_of (opened_of at.old)) held.now next) held.now) }
         ensures ends { IfOk result (λ ends. (c : ℕ) → next ≡ Some c → ends ≡ ends_number held.now c) }
         ensures stays { HasStand (opened_of at.new) }
@@ -206,7 +206,7 @@ impl<S: TokenSink<Token<A>>, A: Allocator + Copy> Teller<'_, S, A> {
     {
         let found = self.resolve(names, is_in_value(at), held, next)?;
         let text = held.text();
-        self.put_characters(at, &found, behind(text, found.taken))?;
+        self.put_characters(at, &found, afterwards(text, found.taken))?;
         Ok(text.len() < found.taken)
     }
 }

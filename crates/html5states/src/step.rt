@@ -1,5 +1,5 @@
 //! One character, in the state that is open.
-#![tactic(auto, unfolding(html5grammar::specs::Machine::step_at, html5grammar::specs::Machine::tag_step, html5grammar::specs::Machine::raw_place_step, html5opened::specs::Steps::tokens_of, html5opened::specs::Steps::behind, html5ever_interface::specs::Sink::stepped))]
+#![tactic(auto, unfolding(html5grammar::specs::Machine::step_at, html5grammar::specs::Machine::tag_step, html5grammar::specs::Machine::raw_place_step, html5opened::specs::Steps::tokens_of, html5opened::specs::Steps::afterwards, html5ever_interface::specs::Sink::stepped))]
 
 ghost use Rattle.html5grammar.specs.Machine.{step_at};
 ghost use Rattle.std.specs.Prelude.{◌≡◌, false};

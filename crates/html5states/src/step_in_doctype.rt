@@ -1,5 +1,5 @@
 //! One character of a DOCTYPE, in the state that is open.
-#![tactic(auto, using(crate::proofs::Tellings::tells_from_memory), unfolding(html5grammar::specs::Machine::step_at, html5grammar::specs::Machine::doctype_step, html5opened::specs::Steps::tokens_of, html5opened::specs::Steps::behind, html5ever_interface::specs::Sink::stepped))]
+#![tactic(auto, using(crate::proofs::Tellings::tells_from_memory), unfolding(html5grammar::specs::Machine::step_at, html5grammar::specs::Machine::doctype_step, html5opened::specs::Steps::tokens_of, html5opened::specs::Steps::afterwards, html5ever_interface::specs::Sink::stepped))]
 
 ghost use Rattle.std.specs.Prelude.{◌≡◌, true, false};
 ghost use Rattle.html5grammar.specs.Machine.{step_at};

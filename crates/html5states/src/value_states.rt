@@ -1,5 +1,5 @@
 //! The states of an attribute's value, one function for each.
-#![tactic(auto, using(crate::proofs::Tellings::tells_from_memory), unfolding(html5grammar::specs::Machine::before_value_step, html5grammar::specs::Machine::quoted_step, html5grammar::specs::Machine::unquoted_step, html5grammar::specs::Machine::part_step, html5grammar::specs::Tag::in_quoted, html5grammar::specs::Tag::in_unquoted, html5grammar::specs::Tag::unquoted_error, html5grammar::specs::Tag::place_error, html5opened::specs::Steps::tokens_of, html5opened::specs::Steps::behind, html5ever_interface::specs::Sink::stepped))]
+#![tactic(auto, using(crate::proofs::Tellings::tells_from_memory), unfolding(html5grammar::specs::Machine::before_value_step, html5grammar::specs::Machine::quoted_step, html5grammar::specs::Machine::unquoted_step, html5grammar::specs::Machine::part_step, html5grammar::specs::Tag::in_quoted, html5grammar::specs::Tag::in_unquoted, html5grammar::specs::Tag::unquoted_error, html5grammar::specs::Tag::place_error, html5opened::specs::Steps::tokens_of, html5opened::specs::Steps::afterwards, html5ever_interface::specs::Sink::stepped))]
 
 ghost use Rattle.std.specs.Prelude.{◌≡◌, ◌∷◌, [], false};
 ghost use Rattle.html5grammar.specs.Machine.{closing_step, before_value_step, quoted_step};

@@ -11,7 +11,7 @@ use Rattle.html5items.proofs.Completeness.{all-composed}
 use Rattle.html5items.proofs.Soundness.{reading-items}
 use Rattle.html5ever.specs.Tokenizer.{rules_of}
 use Rattle.html5ever.proofs.ByItems.{whole-items}
-use Rattle.html5stream.specs.Pages.{ReadsPage, ReadsPageItems, tags_means, runs_means, tags_start, runs_start, TagsItems, RunsItems, tags_page, runs_page, tags_handed, runs_handed, tags_behind, runs_behind}
+use Rattle.html5stream.specs.Pages.{ReadsPage, ReadsPageItems, tags_means, runs_means, tags_start, runs_start, TagsItems, RunsItems, tags_page, runs_page, tags_handed, runs_handed, tags_after, runs_after}
 use Rattle.html5stream.specs.Streams.{ReadsSource, ReadsSourceItems}
 use Rattle.markup5ever.specs.NamedReferences.{NamedReference, IsTable}
 
@@ -53,14 +53,14 @@ composed-page means names s text table =
     (c.tells, c.ends, c.items, reading-items means (rules_of default_options names) (start_of default_options) s text c.tells c.ends table c.items)
 
 pub tags-items : {S : Type 0} (step : S → TagOf → ℕ → S) (names : List NamedReference) (unread left : Option (List ℕ)) (before after : S) → IsTable names
-    → ReadsPage (tags_behind step names) unread left before after → ReadsPageItems (TagsItems step names) (tags_handed step) unread left before after
+    → ReadsPage (tags_after step names) unread left before after → ReadsPageItems (TagsItems step names) (tags_handed step) unread left before after
 unfolding tags_page
 tags-items step names unread left before after table =
     page-items (tags_page step names) (tags_handed step) (TagsItems step names) unread left before after
     (λ bytes. composed-page (tags_means (λ t. t) step) names (tags_start before) (chars bytes) table)
 
 pub runs-items : {S : Type 0} (step : S → List ℕ → Told → ℕ → S) (names : List NamedReference) (unread left : Option (List ℕ)) (before after : S) → IsTable names
-    → ReadsPage (runs_behind step names) unread left before after → ReadsPageItems (RunsItems step names) (runs_handed step) unread left before after
+    → ReadsPage (runs_after step names) unread left before after → ReadsPageItems (RunsItems step names) (runs_handed step) unread left before after
 unfolding runs_page
 runs-items step names unread left before after table =
     page-items (runs_page step names) (runs_handed step) (RunsItems step names) unread left before after

@@ -39,7 +39,7 @@ module _ {X S T H : Type 0} (means : Means X T H) (handler : T → S) (page : S 
   -- a page's messages are those of a reading, and the handler is handed what its sink is told
   pub record IsPage (opts : OptionsOf) (names : List NamedReference) (from : T) (s : S) : Type 0 where
     pub told : (bytes : List ℕ) → page s bytes ≡ all_messages means (rules_of opts names) (start_of opts) from (chars bytes)
-    pub behind : (M : List Message) → handed s M ≡ handler (stepped means.step from M)
+    pub afterwards : (M : List Message) → handed s M ≡ handler (stepped means.step from M)
     pub unmoved : IsUnmoved means
 
   pub page-read : (opts : OptionsOf) (names : List NamedReference) (from : T) (s : S) (before after : Option (List ℕ)) (t : T)
@@ -50,7 +50,7 @@ module _ {X S T H : Type 0} (means : Means X T H) (handler : T → S) (page : S 
     consumed = reads.given;
     at_end = reads.at_end;
     utf8 = reads.utf8;
-    told = ap handler (reads.told ∙ is.unmoved.finish _) ∙ sym (is.behind _) ∙ ap (λ M. handed s M) (sym (is.told reads.bytes));
+    told = ap handler (reads.told ∙ is.unmoved.finish _) ∙ sym (is.afterwards _) ∙ ap (λ M. handed s M) (sym (is.told reads.bytes));
   }
 
   pub page-stopped : (opts : OptionsOf) (names : List NamedReference) (from : T) (s : S) (before after : Option (List ℕ)) (t : T)
@@ -66,7 +66,7 @@ module _ {X S T H : Type 0} (means : Means X T H) (handler : T → S) (page : S 
         told = within.before;
         untold = within.rest;
         parts = is.told stops.text ∙ within.parts;
-        state = ap handler within.state ∙ sym (is.behind within.before);
+        state = ap handler within.state ∙ sym (is.afterwards within.before);
       }
 
 -- sinks and options that were made by calls that say what they made
@@ -77,7 +77,7 @@ module _ {X S : Type 0} where
   unfolding tags_page tags_handed
   tags-are-page names options s state step from chosen begun =
       let unmoved : IsUnmoved (tags_means state step) = record { finish = λ s. refl; faulted = λ s told line. refl; end_faulted = λ s. refl } in
-      rw (chosen, begun) record { told = λ bytes. refl; behind = λ M. refl; unmoved = unmoved }
+      rw (chosen, begun) record { told = λ bytes. refl; afterwards = λ M. refl; unmoved = unmoved }
 
   pub runs-are-page : (names : List NamedReference) (options : OptionsOf) (s : S) (state : X → Running S) (step : S → List ℕ → Told → ℕ → S) (from : Running S)
       → options ≡ default_options → from ≡ runs_start s
@@ -85,4 +85,4 @@ module _ {X S : Type 0} where
   unfolding runs_page runs_handed
   runs-are-page names options s state step from chosen begun =
       let unmoved : IsUnmoved (runs_means state step) = record { finish = λ s. refl; faulted = λ s told line. refl; end_faulted = λ s. refl } in
-      rw (chosen, begun) record { told = λ bytes. refl; behind = λ M. refl; unmoved = unmoved }
+      rw (chosen, begun) record { told = λ bytes. refl; afterwards = λ M. refl; unmoved = unmoved }

@@ -8,11 +8,11 @@ use Rattle.std.proofs.lemmas.List.{take_all}
 use Rattle.std.proofs.lemmas.Result.{IfErr-at_err}
 use Rattle.std.proofs.lemmas.Str.{IsUtf8-append, IsUtf8-nil, chars-append, chars-nil}
 use Rattle.devices.proofs.KnownBytes.{Consumes-append}
-use Rattle.utf8_pieces.specs.Pieces.{Decoding, IsCutCharacter, IsFault, IsNeverUtf8, place_behind}
+use Rattle.utf8_pieces.specs.Pieces.{Decoding, IsCutCharacter, IsFault, IsNeverUtf8, place_after}
 use Rattle.utf8_pieces.specs.declared.error.DecodeError.{DecodeError}
 use Rattle.utf8_pieces.specs.declared.error.DecodeError.TheVariants as decoder
 use Rattle.utf8_pieces.proofs.Cuts.{no_text_within}
-use Rattle.utf8_pieces.proofs.Fronts.{IsCutCharacter-nil, IsNeverUtf8-behind, IsValidUpTo-behind, not_never}
+use Rattle.utf8_pieces.proofs.Fronts.{IsCutCharacter-nil, IsNeverUtf8-after, IsValidUpTo-after, not_never}
 use Rattle.html5ever_interface.specs.Options.{OptionsOf}
 use Rattle.html5ever_interface.specs.Sink.{Means, Message, stepped}
 use Rattle.html5grammar.specs.Reading.{all_messages, state_after}
@@ -38,8 +38,8 @@ Consumes-none : (known : Option (List ℕ)) → Consumes known known []
 Consumes-none None = tt
 Consumes-none (Some xs) = refl
 
-place_behind-twice : (place a b : ℕ) → place_behind (place_behind place a) b ≡ place_behind place (a + b)
-place_behind-twice place a b = omega arith
+place_after-twice : (place a b : ℕ) → place_after (place_after place a) b ≡ place_after place (a + b)
+place_after-twice place a b = omega arith
 
 some_bytes : (bytes : List ℕ) → ¬ (bytes ≡ []) → 0 < length bytes
 some_bytes [] some = absurd (some refl)
@@ -64,8 +64,8 @@ not_never-cut : (text rest : List ℕ) → IsUtf8 text → IsCutCharacter rest �
 not_never-cut text rest utf8 cut = not_never text rest 0 utf8 (record { within = omega arith; text = IsUtf8-nil; cut = cut })
 
 -- nor does a text in front change whether bytes can go on
-not_never-behind : (text bytes : List ℕ) → IsUtf8 text → ¬ (IsNeverUtf8 bytes) → ¬ (IsNeverUtf8 (text ++ bytes))
-not_never-behind text bytes utf8 some never =
+not_never-after : (text bytes : List ℕ) → IsUtf8 text → ¬ (IsNeverUtf8 bytes) → ¬ (IsNeverUtf8 (text ++ bytes))
+not_never-after text bytes utf8 some never =
     some (λ later is. never later (rw (append_assoc text bytes later) (IsUtf8-append text (bytes ++ later) utf8 is)))
 
 -- ---- errors
@@ -90,7 +90,7 @@ module _ {X S H : Type 0} (means : Means X S H) where
     pub given : Consumes before now (text ++ decoder.held)
     pub utf8 : IsUtf8 text
     pub cut : IsCutCharacter decoder.held
-    pub taken : decoder.taken ≡ place_behind 0 (length text)
+    pub taken : decoder.taken ≡ place_after 0 (length text)
     pub reads : ReadsOn means first t (chars text)
     pub rules : t.rules ≡ first.rules
     pub going_on : t.ended ≡ false
@@ -99,7 +99,7 @@ module _ {X S H : Type 0} (means : Means X S H) where
   pub HasRead-start : (known : Option (List ℕ)) (first : Tokenizing X) (decoder : Decoding) → decoder.held ≡ [] → decoder.taken ≡ 0
       → first.ended ≡ false → first.failed ≡ false → HasRead known known first first decoder
   HasRead-start known first decoder none start going_on not_failed =
-      let zero : 0 ≡ place_behind 0 (length {A = ℕ} []) = omega arith in
+      let zero : 0 ≡ place_after 0 (length {A = ℕ} []) = omega arith in
       record {
         text = [];
         given = subst (Consumes known known) (sym none) (Consumes-none known);
@@ -123,8 +123,8 @@ module _ {X S H : Type 0} (means : Means X S H) where
         given = subst (Consumes before after) whole (Consumes-append before now after (had.text ++ old.held) more had.given given);
         utf8 = IsUtf8-append _ _ had.utf8 takes.utf8;
         cut = takes.cut;
-        taken = takes.taken ∙ ap (λ k. place_behind k (length takes.text)) had.taken
-            ∙ place_behind-twice 0 (length had.text) (length takes.text) ∙ ap (place_behind 0) (sym (length-append had.text takes.text));
+        taken = takes.taken ∙ ap (λ k. place_after k (length takes.text)) had.taken
+            ∙ place_after-twice 0 (length had.text) (length takes.text) ∙ ap (place_after 0) (sym (length-append had.text takes.text));
         reads = λ K s front stands.
             rw (chars-append had.text takes.text had.utf8, ← append_assoc front (chars had.text) (chars takes.text))
             (takes.reads K s (front ++ chars had.text) (had.reads K s front stands));
@@ -167,13 +167,13 @@ module _ {X S H : Type 0} (means : Means X S H) where
   GivesNoText-cut : (before after : Option (List ℕ)) (first t : Tokenizing X) (held : Decoding)
       → HasRead before after first t held → ¬ (held.held ≡ []) → IsAtEnd after → GivesNoText held.taken before after
   GivesNoText-cut before after first t held had some at_end =
-      let place : place_behind 0 (length had.text) ≡ place_behind 0 (length had.text + 0) = omega arith in
+      let place : place_after 0 (length had.text) ≡ place_after 0 (length had.text + 0) = omega arith in
       record {
         bytes = had.text ++ held.held;
         given = had.given;
         fault = record {
           valid_len = length had.text + 0;
-          valid = IsValidUpTo-behind had.text held.held 0 had.utf8 (IsValidUpTo-cut held.held had.cut (some_bytes held.held some));
+          valid = IsValidUpTo-after had.text held.held 0 had.utf8 (IsValidUpTo-cut held.held had.cut (some_bytes held.held some));
           named = ap decoder.NotUtf8 (had.taken ∙ place);
         };
         settled = inr at_end;
@@ -191,10 +191,10 @@ module _ {X S H : Type 0} (means : Means X S H) where
             (Consumes-append before now after (had.text ++ held.held) more had.given given);
         fault = record {
           valid_len = length had.text + n;
-          valid = IsValidUpTo-behind had.text (held.held ++ more) n had.utf8 fault.valid;
-          named = fault.named ∙ ap decoder.NotUtf8 (ap (λ k. place_behind k n) had.taken ∙ place_behind-twice 0 (length had.text) n);
+          valid = IsValidUpTo-after had.text (held.held ++ more) n had.utf8 fault.valid;
+          named = fault.named ∙ ap decoder.NotUtf8 (ap (λ k. place_after k n) had.taken ∙ place_after-twice 0 (length had.text) n);
         };
-        settled = inl (IsNeverUtf8-behind had.text (held.held ++ more) had.utf8 never);
+        settled = inl (IsNeverUtf8-after had.text (held.held ++ more) had.utf8 never);
       }
 
   pub FinishesText-end : (before after : Option (List ℕ)) (t u : Tokenizing X) (v : S)
@@ -403,7 +403,7 @@ module _ {X S H : Type 0} (means : Means X S H) where
         no_text = λ place same. GivesNoText-piece before now after first t held more place had given (stops.no_text place same);
         may_go_on = λ other.
             subst (λ l. ¬ (IsNeverUtf8 l)) (sym (append_assoc had.text held.held more) ∙ whole)
-            (not_never-behind had.text (held.held ++ more) had.utf8 (stops.may_go_on other));
+            (not_never-after had.text (held.held ++ more) had.utf8 (stops.may_go_on other));
         decided = λ same. absurd (is_read error none same);
       }
 

@@ -15,12 +15,12 @@ use Rattle.html5sinks.specs.Tags.{Tagged, tags_step, tags_reply}
 use Rattle.html5sinks.specs.Runs.{Running, joined_of, runs_step, runs_reply}
 
 -- the source was read to its end, what it gave is UTF-8, and a state became what the bytes make of it
-pub record ReadsPage {S : Type 0} (behind : S → List ℕ → S) (unread left : Option (List ℕ)) (before after : S) : Type 0 where
+pub record ReadsPage {S : Type 0} (afterwards : S → List ℕ → S) (unread left : Option (List ℕ)) (before after : S) : Type 0 where
   pub bytes : List ℕ
   pub consumed : Consumes unread left bytes
   pub at_end : IsAtEnd left
   pub utf8 : IsUtf8 bytes
-  pub told : after ≡ behind before bytes
+  pub told : after ≡ afterwards before bytes
 
 -- the same by items: the text of the page is items that tell `tells`, and its end tells `ends`, and a state became what these make
 -- of it
@@ -91,8 +91,8 @@ module _ {S : Type 0} where
   tags_handed step s told = (stepped (tags_step step) (tags_start s) told).handler
 
   -- and after a whole page
-  abbrev pub tags_behind : (S → TagOf → ℕ → S) → List NamedReference → S → List ℕ → S
-  tags_behind step names s bytes = tags_handed step s (tags_page step names s bytes)
+  abbrev pub tags_after : (S → TagOf → ℕ → S) → List NamedReference → S → List ℕ → S
+  tags_after step names s bytes = tags_handed step s (tags_page step names s bytes)
 
   -- where a sink of runs starts
   abbrev pub runs_start : S → Running S
@@ -113,5 +113,5 @@ module _ {S : Type 0} where
   runs_handed step s told = (stepped (runs_step step) (runs_start s) told).joined.handler
 
   -- and after a whole page
-  abbrev pub runs_behind : (S → List ℕ → Told → ℕ → S) → List NamedReference → S → List ℕ → S
-  runs_behind step names s bytes = runs_handed step s (runs_page step names s bytes)
+  abbrev pub runs_after : (S → List ℕ → Told → ℕ → S) → List NamedReference → S → List ℕ → S
+  runs_after step names s bytes = runs_handed step s (runs_page step names s bytes)

@@ -6,7 +6,7 @@ use Rattle.html5ever_interface.specs.Sink.{Means}
 use Rattle.html5grammar.specs.Reading.{all_messages, state_after}
 use Rattle.html5grammar.specs.Start.{Start}
 use Rattle.html5ever.specs.Tokenizer.{Tokenizing, StandsAt, ReadsOn, ReadsWhole}
-use Rattle.utf8_pieces.specs.Pieces.{Decoding, IsCutCharacter, IsFault, IsNeverUtf8, place_behind}
+use Rattle.utf8_pieces.specs.Pieces.{Decoding, IsCutCharacter, IsFault, IsNeverUtf8, place_after}
 use Rattle.utf8_pieces.specs.declared.error.DecodeError.TheVariants as decoder
 use Rattle.html5stream.specs.declared.error.StreamError.{StreamError}
 use Rattle.html5stream.specs.declared.error.StreamError.TheVariants.{Read, NotUtf8}
@@ -19,7 +19,7 @@ module _ {X S H : Type 0} (means : Means X S H) where
     pub parts : old.held ++ bytes ≡ text ++ new.held
     pub utf8 : IsUtf8 text
     pub cut : IsCutCharacter new.held
-    pub taken : new.taken ≡ place_behind old.taken (length text)
+    pub taken : new.taken ≡ place_after old.taken (length text)
     pub reads : ReadsOn means t u (chars text)
     pub rules : u.rules ≡ t.rules
     pub going_on : u.ended ≡ false

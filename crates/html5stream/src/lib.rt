@@ -6,5 +6,5 @@ mod page;
 mod source;
 
 pub use crate::error::StreamError;
-pub use crate::page::{read_runs, read_tags};
+pub use crate::page::{read_tags, read_tokens};
 pub use crate::source::read_source;

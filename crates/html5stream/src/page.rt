@@ -1,6 +1,6 @@
 //! Pages, which one call reads from a source for a handler.
 ghost use Rattle.std.specs.Prelude.{◌≡◌, ℕ, ◌+◌, Err, OnOk, OnErr};
-ghost use Rattle.html5stream.specs.Pages.{ReadsPage, ReadsPageItems, StopsPage, TagsItems, RunsItems, tags_page, tags_handed, tags_behind, runs_page, runs_handed, runs_behind};
+ghost use Rattle.html5stream.specs.Pages.{ReadsPage, ReadsPageItems, StopsPage, TagsItems, RunsItems, tags_page, tags_handed, tags_after, runs_page, runs_handed, runs_after};
 ghost use Rattle.html5stream.specs.Streams.{GivesNoText, failed_reads};
 
 use crate::error::StreamError;
@@ -9,7 +9,7 @@ use devices::Source;
 use html5ever_interface::interface::token::{Tag, Token};
 use html5ever_interface::options::TokenizerOpts;
 use html5sinks::tags::{TagHandler, TagsOnly};
-use html5sinks::text_runs::{RunHandler, TextRuns};
+use html5sinks::text_runs::{TextRuns, TokenHandler};
 use markup5ever::data::NamedReferences;
 use std::alloc::Allocator;
 
@@ -21,7 +21,7 @@ pub fn read_tags<R: Source, H: TagHandler<Tag<A>>, A: Allocator + Copy>(
     handler: H,
     names: &NamedReferences<A>,
 ) -> (H, Result<(), StreamError>)
-    ensures finishes { OnOk result.1 (ReadsPage (tags_behind H.step names.now)
+    ensures finishes { OnOk result.1 (ReadsPage (tags_after H.step names.now)
         (R.remaining source.old) (R.remaining source.new) (H.state handler) (H.state result.0)) }
     ensures items { OnOk result.1 (ReadsPageItems (TagsItems H.step names.now) (tags_handed H.step)
         (R.remaining source.old) (R.remaining source.new) (H.state handler) (H.state result.0)) }
@@ -40,13 +40,13 @@ pub fn read_tags<R: Source, H: TagHandler<Tag<A>>, A: Allocator + Copy>(
 
 /// Reads a page as it arrives, and hands each whole run of text to the handler with the token after it;
 /// the handler comes back.
-pub fn read_runs<R: Source, H: RunHandler<Token<A>>, A: Allocator + Copy>(
+pub fn read_tokens<R: Source, H: TokenHandler<Token<A>>, A: Allocator + Copy>(
     alloc: A,
     source: &mut R,
     handler: H,
     names: &NamedReferences<A>,
 ) -> (H, Result<(), StreamError>)
-    ensures finishes { OnOk result.1 (ReadsPage (runs_behind H.step names.now)
+    ensures finishes { OnOk result.1 (ReadsPage (runs_after H.step names.now)
         (R.remaining source.old) (R.remaining source.new) (H.state handler) (H.state result.0)) }
     ensures items { OnOk result.1 (ReadsPageItems (RunsItems H.step names.now) (runs_handed H.step)
         (R.remaining source.old) (R.remaining source.new) (H.state handler) (H.state result.0)) }

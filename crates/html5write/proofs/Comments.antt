@@ -15,8 +15,8 @@ use Rattle.html5grammar.specs.Start.Mode.{Data}
 use Rattle.html5grammar.specs.Start.Open.{Between}
 use Rattle.html5grammar.specs.Tag.{null_error}
 use Rattle.html5grammar.proofs.TextEnds.{ends_in-front, ends_in-append, ends_in-push, ends_in-other}
-use Rattle.html5items.specs.Anywhere.{TellsByItself, start_behind}
-use Rattle.html5items.specs.Comment.{IsComment, written, is_written, is_content, begins_with, occurs, behind_mark_error, null_state, spell_content, messages_of}
+use Rattle.html5items.specs.Anywhere.{TellsByItself, start_beyond}
+use Rattle.html5items.specs.Comment.{IsComment, written, is_written, is_content, begins_with, occurs, after_mark_error, null_state, spell_content, messages_of}
 use Rattle.html5items.specs.Comment.Ending.{Dashes}
 use Rattle.html5items.specs.Comment.WrittenComment.{Proper}
 use Rattle.html5items.specs.Spelled.{Spelled, spell_silent, spelled_messages}
@@ -75,8 +75,8 @@ quiet-next before content c quiet lone =
 
 -- so each character is silent
 silent-character : (exact : Bool) (before : List ℕ) (c : ℕ) → ends_in before (codes "--") ≡ false → (c == null) ≡ false
-    → behind_mark_error exact before c ++ null_error exact (null_state before) c ≡ []
-unfolding behind_mark_error
+    → after_mark_error exact before c ++ null_error exact (null_state before) c ≡ []
+unfolding after_mark_error
 silent-character exact before c none no_null = rw (ends_in-none before (codes "<!") (codes "--") none, no_null) refl
 
 silent-end : (exact : Bool) (before : List ℕ) → Quiet before [] → spell_content exact before (codes "--") ≡ spell_silent (codes "--")
@@ -161,7 +161,7 @@ messages-comment exact input content h =
 module _ {X S H : Type 0} (means : Means X S H) (rules : Rules) where
   pub comment-told : (K : Start) (s : S) (content : List ℕ) → IsOpen K → can_write (CommentPiece content) ≡ true
       → TellsByItself means rules K s (piece_text (CommentPiece content)) (spelled_messages rules.exact K.input [] (spell_comment content))
-      (start_behind K (piece_text (CommentPiece content)) (Between Data) K.last_start_tag)
+      (start_beyond K (piece_text (CommentPiece content)) (Between Data) K.last_start_tag)
   unfolding is_written
   comment-told K s content here can =
       let p = and_parts (list_all is_comment_character content) _ can in
@@ -172,6 +172,6 @@ module _ {X S H : Type 0} (means : Means X S H) (rules : Rules) where
         is_comment = is_content-text content q.0 q.1;
         text = normalised-markup K.input (codes "!--" ++ (content ++ codes "-->")) here.no_break (no_return-markup content p.0) ∙ sym (written-comment content);
       } in
-      subst (λ M. TellsByItself means rules K s Y M (start_behind K Y (Between Data) K.last_start_tag)) (messages-comment rules.exact K.input content can)
+      subst (λ M. TellsByItself means rules K s Y M (start_beyond K Y (Between Data) K.last_start_tag)) (messages-comment rules.exact K.input content can)
       (trace-by_itself means rules K s Y (messages_of rules.exact K.input (Proper content Dashes)) (Between Data) K.last_start_tag
       (reads_comment means.step means.reply means.foreign rules K s Y (Proper content Dashes) one))

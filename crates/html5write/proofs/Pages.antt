@@ -13,7 +13,7 @@ use Rattle.html5grammar.specs.Start.Open.{Between}
 use Rattle.html5grammar.proofs.InputLemmas.{input_after-append}
 use Rattle.html5grammar.proofs.ReadingLemmas.{reading-events, messages-at_end}
 use Rattle.html5grammar.proofs.Traces.{messages-append}
-use Rattle.html5items.specs.Anywhere.{TellsByItself, start_behind}
+use Rattle.html5items.specs.Anywhere.{TellsByItself, start_beyond}
 use Rattle.markup5ever.specs.NamedReferences.{IsTable}
 use Rattle.html5write.specs.Pieces.{Piece, piece_text, page_text, can_write}
 use Rattle.html5write.specs.Pieces.Piece.{TextPiece, StartTagPiece, EndTagPiece, CommentPiece}
@@ -31,7 +31,7 @@ no_break-piece input (CommentPiece text) can h = no_break-comment input text can
 
 module _ {X S H : Type 0} (means : Means X S H) (rules : Rules) where
   piece-told : (K : Start) (s : S) (piece : Piece) → IsTable rules.names → IsOpen K → can_write piece ≡ true → KeepsOnAfterPiece means.reply piece
-      → TellsByItself means rules K s (piece_text piece) (piece_messages rules.exact K.input piece) (start_behind K (piece_text piece) (Between Data) (last_after_piece K.last_start_tag piece))
+      → TellsByItself means rules K s (piece_text piece) (piece_messages rules.exact K.input piece) (start_beyond K (piece_text piece) (Between Data) (last_after_piece K.last_start_tag piece))
   piece-told K s (TextPiece text) table here can keeps = text-told means rules K s text here can
   piece-told K s (StartTagPiece name attributes) table here can keeps = start_tag-told means rules K s name attributes table here can keeps
   piece-told K s (EndTagPiece name) table here can keeps = end_tag-told means rules K s name table here can keeps
@@ -44,7 +44,7 @@ module _ {X S H : Type 0} (means : Means X S H) (rules : Rules) where
   page-told K s (piece ∷ pieces) table here can keeps =
       let p = and_parts (can_write piece) (list_all can_write pieces) can in
       let M : List Message = piece_messages rules.exact K.input piece in
-      let between : Start = start_behind K (piece_text piece) (Between Data) (last_after_piece K.last_start_tag piece) in
+      let between : Start = start_beyond K (piece_text piece) (Between Data) (last_after_piece K.last_start_tag piece) in
       subst (λ input. TellsByItself means rules K s (piece_text piece ++ page_text pieces) (M ++ page_messages rules.exact between.input pieces) (record { opened = Between Data; last_start_tag = last_after_page between.last_start_tag pieces; input = input }))
       (sym (input_after-append K.input (piece_text piece) (page_text pieces)))
       (in_sequence means rules K s (piece_text piece) M between (page_text pieces) (page_messages rules.exact between.input pieces) (start_after_page between pieces)

@@ -9,7 +9,7 @@ use Rattle.html5ever_interface.specs.declared.interface.token.TagKind.TheVariant
 use Rattle.html5grammar.specs.Characters.{space, is_white_space}
 use Rattle.html5grammar.specs.Start.{Place}
 use Rattle.html5grammar.specs.Start.Place.{InName, BeforeAttribute, AfterQuotedValue}
-use Rattle.html5items.specs.Tag.{Part, WrittenTag, part_text, written, is_written, can_follow, place_behind_parts, end_error}
+use Rattle.html5items.specs.Tag.{Part, WrittenTag, part_text, written, is_written, can_follow, place_after_parts, end_error}
 use Rattle.html5items.specs.Tag.Part.{Blank, Solidus, Attribute}
 use Rattle.html5items.specs.Tag.Value.{InDoubleQuotes}
 use Rattle.html5grammar.specs.Tag.{is_after_solidus}
@@ -99,13 +99,13 @@ is_written-tag kind (c ∷ name) attributes h g =
 -- ---- where it ends
 
 place-attribute : (name run : List ℕ) (later : List Part) → is_attribute_name name ≡ true
-    → place_behind_parts BeforeAttribute (attribute_part name run ∷ later) ≡ place_behind_parts AfterQuotedValue later
-unfolding place_behind_parts is_attribute_name
+    → place_after_parts BeforeAttribute (attribute_part name run ∷ later) ≡ place_after_parts AfterQuotedValue later
+unfolding place_after_parts is_attribute_name
 place-attribute [] run later h = absurd (false≢true h)
 place-attribute (c ∷ name) run later h = refl
 
-place-value : (attributes : List NameAndValue) → list_all is_attribute attributes ≡ true → place_behind_parts AfterQuotedValue (parts_of attributes) ≡ AfterQuotedValue
-unfolding place_behind_parts
+place-value : (attributes : List NameAndValue) → list_all is_attribute attributes ≡ true → place_after_parts AfterQuotedValue (parts_of attributes) ≡ AfterQuotedValue
+unfolding place_after_parts
 place-value [] h = refl
 place-value (a ∷ attributes) h =
     let p = and_parts (is_attribute a) (list_all is_attribute attributes) h in
@@ -117,8 +117,8 @@ pub record EndsOutside (place : Place) : Type 0 where
   pub no_error : (exact : Bool) → end_error exact place ≡ []
   pub no_solidus : is_after_solidus place ≡ false
 
-pub ends-outside : (attributes : List NameAndValue) → list_all is_attribute attributes ≡ true → EndsOutside (place_behind_parts InName (parts_of attributes))
-unfolding place_behind_parts
+pub ends-outside : (attributes : List NameAndValue) → list_all is_attribute attributes ≡ true → EndsOutside (place_after_parts InName (parts_of attributes))
+unfolding place_after_parts
 ends-outside [] h = record { no_error = λ exact. refl; no_solidus = refl }
 ends-outside (a ∷ attributes) h =
     let p = and_parts (is_attribute a) (list_all is_attribute attributes) h in

@@ -9,11 +9,11 @@ use Rattle.html5ever_interface.specs.Token.Reply.{KeepOn}
 use Rattle.html5ever_interface.specs.declared.interface.token.TagKind.TheVariants.{StartTag, EndTag}
 use Rattle.html5grammar.specs.Characters.{greater_than}
 use Rattle.html5grammar.specs.NormalisedText.{input_after}
-use Rattle.html5grammar.specs.Reading.{last_behind, open_after_reply}
+use Rattle.html5grammar.specs.Reading.{last_after, open_after_reply}
 use Rattle.html5grammar.specs.Start.{Input, Start, Rules}
 use Rattle.html5grammar.specs.Start.Mode.{Data}
 use Rattle.html5grammar.specs.Start.Open.{Between}
-use Rattle.html5items.specs.Anywhere.{TellsByItself, start_behind, last_reply}
+use Rattle.html5items.specs.Anywhere.{TellsByItself, start_beyond, last_reply}
 use Rattle.html5items.specs.Spelled.{Spelled, spelled_messages}
 use Rattle.html5items.specs.Tag.{WrittenTag, body, end_errors, tag_told, spelled, IsTag}
 use Rattle.html5items.proofs.LastReply.{last_reply-keeps}
@@ -65,23 +65,23 @@ module _ {X S H : Type 0} (means : Means X S H) (rules : Rules) where
   -- a tag after which the sink keeps on, from what it spells and tells
   tag-told : (K : Start) (s : S) (Y : List ℕ) (tag : WrittenTag) (cells : List Spelled) (told : TagOf) → IsTable rules.names → IsTag K Y tag
       → spelled rules tag ≡ cells → tag_told rules tag ≡ told → KeepsOnAfter means.reply told
-      → TellsByItself means rules K s Y (spelled_messages rules.exact K.input [] cells) (start_behind K Y (Between Data) (last_behind K.last_start_tag told))
+      → TellsByItself means rules K s Y (spelled_messages rules.exact K.input [] cells) (start_beyond K Y (Between Data) (last_after K.last_start_tag told))
   unfolding spelled
   tag-told K s Y tag cells told table one spells tells keeps =
       let M : List Message = spelled_messages rules.exact K.input [] (spelled rules tag) in
       let keeps_tag : KeepsOnAfter means.reply (tag_told rules tag) = subst (λ t. KeepsOnAfter means.reply t) (sym tells) keeps in
       let reply : last_reply means.step means.reply s M ≡ KeepOn =
       last_reply-keeps means.step means.reply means.foreign rules s K.input [] (body rules tag) greater_than (end_errors rules tag) (tag_told rules tag) keeps_tag in
-      subst (λ t. TellsByItself means rules K s Y (spelled_messages rules.exact K.input [] cells) (start_behind K Y (Between Data) (last_behind K.last_start_tag t))) tells
-      (subst (λ l. TellsByItself means rules K s Y (spelled_messages rules.exact K.input [] l) (start_behind K Y (Between Data) (last_behind K.last_start_tag (tag_told rules tag)))) spells
-      (subst (λ r. TellsByItself means rules K s Y M (start_behind K Y (open_after_reply (last_behind K.last_start_tag (tag_told rules tag)) r) (last_behind K.last_start_tag (tag_told rules tag)))) reply
+      subst (λ t. TellsByItself means rules K s Y (spelled_messages rules.exact K.input [] cells) (start_beyond K Y (Between Data) (last_after K.last_start_tag t))) tells
+      (subst (λ l. TellsByItself means rules K s Y (spelled_messages rules.exact K.input [] l) (start_beyond K Y (Between Data) (last_after K.last_start_tag (tag_told rules tag)))) spells
+      (subst (λ r. TellsByItself means rules K s Y M (start_beyond K Y (open_after_reply (last_after K.last_start_tag (tag_told rules tag)) r) (last_after K.last_start_tag (tag_told rules tag)))) reply
       (tag-by_itself means rules K s Y tag table one)))
 
   pub start_tag-told : (K : Start) (s : S) (name : List ℕ) (attributes : List NameAndValue) → IsTable rules.names → IsOpen K → can_write (StartTagPiece name attributes) ≡ true
       → KeepsOnAfter means.reply (start_tag_told name attributes)
       → TellsByItself means rules K s (piece_text (StartTagPiece name attributes)) (spelled_messages rules.exact K.input [] (spell_start_tag rules.exact name attributes))
-      (start_behind K (piece_text (StartTagPiece name attributes)) (Between Data) (encode_utf8_all name))
-  unfolding last_behind
+      (start_beyond K (piece_text (StartTagPiece name attributes)) (Between Data) (encode_utf8_all name))
+  unfolding last_after
   start_tag-told K s name attributes table here can keeps =
       let p = and_parts (is_tag_name name) _ can in
       let q = and_parts (list_all is_attribute attributes) (are_distinct attributes) p.1 in
@@ -99,8 +99,8 @@ module _ {X S H : Type 0} (means : Means X S H) (rules : Rules) where
   pub end_tag-told : (K : Start) (s : S) (name : List ℕ) → IsTable rules.names → IsOpen K → can_write (EndTagPiece name) ≡ true
       → KeepsOnAfter means.reply (end_tag_told name)
       → TellsByItself means rules K s (piece_text (EndTagPiece name)) (spelled_messages rules.exact K.input [] (spell_end_tag name))
-      (start_behind K (piece_text (EndTagPiece name)) (Between Data) K.last_start_tag)
-  unfolding last_behind
+      (start_beyond K (piece_text (EndTagPiece name)) (Between Data) K.last_start_tag)
+  unfolding last_after
   end_tag-told K s name table here can keeps =
       let Y : List ℕ = piece_text (EndTagPiece name) in
       let one : IsTag K Y (tag_of EndTag name []) = record {

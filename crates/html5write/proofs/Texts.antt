@@ -6,7 +6,7 @@ use Rattle.std.proofs.lemmas.Bool.{and_parts, not-true}
 use Rattle.std.proofs.lemmas.List.{append-nil}
 use Rattle.html5ever_interface.specs.Sink.{Means, Message, stepped, on_line}
 use Rattle.html5ever_interface.specs.Token.Told.{Text}
-use Rattle.html5items.specs.Anywhere.{TellsByItself, start_behind, errors_within, messages_within}
+use Rattle.html5items.specs.Anywhere.{TellsByItself, start_beyond, errors_within, messages_within}
 use Rattle.html5items.specs.Reference.{written, IsReference, reference_characters}
 use Rattle.html5items.specs.Reference.WrittenReference.{Number}
 use Rattle.html5items.proofs.ByItself.{trace-by_itself}
@@ -46,14 +46,14 @@ module _ {X S H : Type 0} (means : Means X S H) (rules : Rules) where
   -- a character tells itself, where it is read as its own reference or as it stands
   abbrev TellsItself : ℕ → Type 0
   TellsItself c = (K : Start) (s : S) → IsOpen K → (c == null) ≡ false
-      → TellsByItself means rules K s (escaped c) (on_line (line_after K.input (escaped c)) (character_told rules.exact c)) (start_behind K (escaped c) (Between Data) K.last_start_tag)
+      → TellsByItself means rules K s (escaped c) (on_line (line_after K.input (escaped c)) (character_told rules.exact c)) (start_beyond K (escaped c) (Between Data) K.last_start_tag)
 
   number-told : (c : ℕ) (digits : List ℕ) → ((K : Start) → IsOpen K → IsReference rules.names K (escaped c) (Number None digits true))
       → ((input : Input) → messages_within rules.exact input (Number None digits true) ≡ on_line (line_after input (escaped c)) (character_told rules.exact c))
       → TellsItself c
   number-told c digits is same K s here no_null =
-      subst (λ M. TellsByItself means rules K s (escaped c) M (start_behind K (escaped c) (Between Data) K.last_start_tag)) (same K.input)
-      (subst (λ o. TellsByItself means rules K s (escaped c) (messages_within rules.exact K.input (Number None digits true)) (start_behind K (escaped c) o K.last_start_tag)) (sym ((is K here).starts) ∙ here.starts)
+      subst (λ M. TellsByItself means rules K s (escaped c) M (start_beyond K (escaped c) (Between Data) K.last_start_tag)) (same K.input)
+      (subst (λ o. TellsByItself means rules K s (escaped c) (messages_within rules.exact K.input (Number None digits true)) (start_beyond K (escaped c) o K.last_start_tag)) (sym ((is K here).starts) ∙ here.starts)
       (number-by_itself means rules K s (escaped c) None digits (is K here)))
 
   -- the references that are written: no table is needed for them
@@ -87,8 +87,8 @@ module _ {X S H : Type 0} (means : Means X S H) (rules : Rules) where
 
   plain-told : (c : ℕ) → IsPlain c → TellsItself c
   plain-told c p K s here no_null =
-      subst (λ Y. TellsByItself means rules K s Y (on_line (line_after K.input Y) (character_told rules.exact c)) (start_behind K Y (Between Data) K.last_start_tag)) (sym (escaped-plain c p))
-      (subst (λ T. TellsByItself means rules K s (c ∷ []) (on_line (line_after K.input (c ∷ [])) T) (start_behind K (c ∷ []) (Between Data) K.last_start_tag)) (sym (told-plain rules.exact c p))
+      subst (λ Y. TellsByItself means rules K s Y (on_line (line_after K.input Y) (character_told rules.exact c)) (start_beyond K Y (Between Data) K.last_start_tag)) (sym (escaped-plain c p))
+      (subst (λ T. TellsByItself means rules K s (c ∷ []) (on_line (line_after K.input (c ∷ [])) T) (start_beyond K (c ∷ []) (Between Data) K.last_start_tag)) (sym (told-plain rules.exact c p))
       (trace-by_itself means rules K s (c ∷ []) _ (Between Data) K.last_start_tag
       (rw (here.starts, normalised-plain K.input c p here.no_break)
       (trace-plain s (line_after K.input []) K.last_start_tag c p no_null
@@ -102,20 +102,20 @@ module _ {X S H : Type 0} (means : Means X S H) (rules : Rules) where
   -- ---- texts
 
   -- nothing tells nothing
-  pub none-told : (K : Start) (s : S) → K.opened ≡ Between Data → TellsByItself means rules K s [] [] (start_behind K [] (Between Data) K.last_start_tag)
+  pub none-told : (K : Start) (s : S) → K.opened ≡ Between Data → TellsByItself means rules K s [] [] (start_beyond K [] (Between Data) K.last_start_tag)
   unfolding normalised without_dropped_first with_line_feeds trace
   none-told K s starts = trace-by_itself means rules K s [] [] (Between Data) K.last_start_tag (rw starts refl)
 
   pub text-told : (K : Start) (s : S) (text : List ℕ) → IsOpen K → has_no_null text ≡ true
-      → TellsByItself means rules K s (escaped_text text) (text_messages rules.exact K.input text) (start_behind K (escaped_text text) (Between Data) K.last_start_tag)
+      → TellsByItself means rules K s (escaped_text text) (text_messages rules.exact K.input text) (start_beyond K (escaped_text text) (Between Data) K.last_start_tag)
   unfolding text_messages
   text-told K s [] here nulls = none-told K s here.starts
   text-told K s (c ∷ text) here nulls =
       let p = and_parts (not (c == null)) (has_no_null text) nulls in
       let M : List Message = on_line (line_after K.input (escaped c)) (character_told rules.exact c) in
-      let between : Start = start_behind K (escaped c) (Between Data) K.last_start_tag in
+      let between : Start = start_beyond K (escaped c) (Between Data) K.last_start_tag in
       subst (λ input. TellsByItself means rules K s (escaped c ++ escaped_text text) (M ++ text_messages rules.exact between.input text) (record { opened = Between Data; last_start_tag = K.last_start_tag; input = input }))
       (sym (input_after-append K.input (escaped c) (escaped_text text)))
-      (in_sequence means rules K s (escaped c) M between (escaped_text text) (text_messages rules.exact between.input text) (start_behind between (escaped_text text) (Between Data) between.last_start_tag)
+      (in_sequence means rules K s (escaped c) M between (escaped_text text) (text_messages rules.exact between.input text) (start_beyond between (escaped_text text) (Between Data) between.last_start_tag)
       (character-told c K s here (not-true (c == null) p.0))
       (text-told between (stepped means.step s M) text (record { starts = refl; no_break = no_break-escaped K.input c }) p.1))

@@ -14,7 +14,7 @@ use Rattle.html5grammar.specs.Start.{Rules}
 use Rattle.html5grammar.specs.Start.Place.{InName, BeforeAttribute, AfterQuotedValue}
 use Rattle.html5grammar.specs.Tag.{attribute, has_attribute, null_error, attribute_name_error, place_error, first_error, end_tag_errors}
 use Rattle.html5items.specs.Spelled.{Spelled, spell, spell_silent}
-use Rattle.html5items.specs.Tag.{Part, WrittenTag, attributes_with, attributes_with_parts, repeats, has_repeated, kept, spell_part, spell_parts, place_behind_parts, end_errors, tag_told, opening, spelled}
+use Rattle.html5items.specs.Tag.{Part, WrittenTag, attributes_with, attributes_with_parts, repeats, has_repeated, kept, spell_part, spell_parts, place_after_parts, end_errors, tag_told, opening, spelled}
 use Rattle.html5items.proofs.Tag.Values.{both-none}
 use Rattle.markup5ever.specs.Names.{AttributeOf}
 use Rattle.html5write.specs.Escaped.{escaped_text}
@@ -193,7 +193,7 @@ module _ (rules : Rules) where
       rw (shown-name (c ∷ name) (names-tag (c ∷ name) h), with-all [] attributes g, kept-all [] attributes n, repeated-all [] attributes n, (ends-outside attributes g).no_solidus) refl
 
   pub told-end_tag : (name : List ℕ) → is_tag_name name ≡ true → tag_told rules (tag_of EndTag name []) ≡ end_tag_told name
-  unfolding is_tag_name kept has_repeated attributes_with_parts place_behind_parts
+  unfolding is_tag_name kept has_repeated attributes_with_parts place_after_parts
   told-end_tag [] h = absurd (false≢true h)
   told-end_tag (c ∷ name) h = rw (shown-name (c ∷ name) (names-tag (c ∷ name) h)) refl
 
@@ -206,7 +206,7 @@ module _ (rules : Rules) where
       rw ((ends-outside attributes g).no_error rules.exact, with-all [] attributes g, last-new _ (repeated-all [] attributes n)) refl
 
   errors-end_tag : (name : List ℕ) → is_tag_name name ≡ true → end_errors rules (tag_of EndTag name []) ≡ []
-  unfolding is_tag_name end_tag_errors kept repeats has_repeated attributes_with_parts place_behind_parts
+  unfolding is_tag_name end_tag_errors kept repeats has_repeated attributes_with_parts place_after_parts
   errors-end_tag [] h = absurd (false≢true h)
   errors-end_tag (c ∷ name) h = refl
 

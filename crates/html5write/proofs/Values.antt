@@ -7,7 +7,7 @@ use Rattle.std.proofs.lemmas.List.Folds.{list_all-append}
 use Rattle.html5ever_interface.specs.declared.states.AttrValueKind.TheVariants.{DoubleQuoted}
 use Rattle.html5grammar.specs.Characters.{null, carriage_return, is_bad_character, is_no_character, value_bytes, shown}
 use Rattle.html5grammar.specs.Reference.{is_undecided, is_number, reference, number_reference, has_digits, number_value, unended_number, is_invalid_number, character_of_number}
-use Rattle.html5grammar.specs.Slice.{run_while, behind_while}
+use Rattle.html5grammar.specs.Slice.{run_while, after_while}
 use Rattle.html5grammar.specs.Start.{Rules}
 use Rattle.html5items.specs.Tag.{decoded, is_in_value, shown_run, spell_run}
 use Rattle.markup5ever.specs.C1.{character_of_c1}
@@ -32,7 +32,7 @@ module _ (rules : Rules) where
       → spell_run rules DoubleQuoted zero (escaped c ++ more) ≡ spell_escaped rules.exact c ++ spell_run rules DoubleQuoted zero more
 
   spells-references : SpellsItself 0x26 × SpellsItself 0x3C × SpellsItself 0x3E × SpellsItself 0x22 × SpellsItself 0x0D × SpellsItself 0xFEFF
-  unfolding spell_run spell_escaped escaped reference_of run_while behind_while is_undecided is_number reference number_reference has_digits number_value unended_number is_invalid_number character_of_number is_bad_character is_no_character character_of_c1
+  unfolding spell_run spell_escaped escaped reference_of run_while after_while is_undecided is_number reference number_reference has_digits number_value unended_number is_invalid_number character_of_number is_bad_character is_no_character character_of_c1
   spells-references = (λ more no_null. refl, λ more no_null. refl, λ more no_null. refl, λ more no_null. refl, λ more no_null. refl, λ more no_null. refl)
 
   spells-plain : (c : ℕ) → IsPlain c → SpellsItself c
@@ -57,7 +57,7 @@ module _ (rules : Rules) where
   DecodesToItself c = (more : List ℕ) → decoded rules DoubleQuoted zero (escaped c ++ more) ≡ c ∷ decoded rules DoubleQuoted zero more
 
   decodes-references : DecodesToItself 0x26 × DecodesToItself 0x3C × DecodesToItself 0x3E × DecodesToItself 0x22 × DecodesToItself 0x0D × DecodesToItself 0xFEFF
-  unfolding decoded escaped reference_of run_while behind_while is_undecided is_number reference number_reference has_digits number_value unended_number is_invalid_number character_of_number is_bad_character is_no_character character_of_c1
+  unfolding decoded escaped reference_of run_while after_while is_undecided is_number reference number_reference has_digits number_value unended_number is_invalid_number character_of_number is_bad_character is_no_character character_of_c1
   decodes-references = (λ more. refl, λ more. refl, λ more. refl, λ more. refl, λ more. refl, λ more. refl)
 
   decodes-plain : (c : ℕ) → IsPlain c → DecodesToItself c

@@ -9,7 +9,7 @@ ghost use Rattle.html5grammar.specs.Reading.{all_messages};
 ghost use Rattle.html5grammar.specs.Start.{Start, Rules};
 ghost use Rattle.html5grammar.specs.Start.Mode.{Data};
 ghost use Rattle.html5grammar.specs.Start.Open.{Between};
-ghost use Rattle.html5items.specs.Anywhere.{TellsByItself, start_behind};
+ghost use Rattle.html5items.specs.Anywhere.{TellsByItself, start_beyond};
 ghost use Rattle.html5items.specs.Spelled.{spelled_messages};
 ghost use Rattle.markup5ever.specs.NamedReferences.{IsTable};
 ghost use Rattle.html5write.specs.Escaped.{escaped_text};
@@ -32,7 +32,7 @@ use std::alloc::Allocator;
 pub fn text<S: TokenSink<Token<A>>, A: Allocator>()
     ensures { (rules : Rules) (K : Start) (s : S.State) (text : List ℕ) → IsOpen K → has_no_null text ≡ true
         → TellsByItself S.means rules K s (escaped_text text) (text_messages rules.exact K.input text)
-        (start_behind K (escaped_text text) (Between Data) K.last_start_tag) }
+        (start_beyond K (escaped_text text) (Between Data) K.last_start_tag) }
 {}
 
 /// A start tag as it is written tells that tag at its `>`: its name, and its attributes in order, each
@@ -43,7 +43,7 @@ pub fn start_tag<S: TokenSink<Token<A>>, A: Allocator>()
         → KeepsOnAfter {S = S.State} S.means.reply (start_tag_told name attributes)
         → TellsByItself S.means rules K s (piece_text (StartTagPiece name attributes))
         (spelled_messages rules.exact K.input [] (spell_start_tag rules.exact name attributes))
-        (start_behind K (piece_text (StartTagPiece name attributes)) (Between Data) (encode_utf8_all name)) }
+        (start_beyond K (piece_text (StartTagPiece name attributes)) (Between Data) (encode_utf8_all name)) }
 {}
 
 /// An end tag as it is written tells that tag at its `>`.
@@ -53,7 +53,7 @@ pub fn end_tag<S: TokenSink<Token<A>>, A: Allocator>()
         → KeepsOnAfter {S = S.State} S.means.reply (end_tag_told name)
         → TellsByItself S.means rules K s (piece_text (EndTagPiece name))
         (spelled_messages rules.exact K.input [] (spell_end_tag name))
-        (start_behind K (piece_text (EndTagPiece name)) (Between Data) K.last_start_tag) }
+        (start_beyond K (piece_text (EndTagPiece name)) (Between Data) K.last_start_tag) }
 {}
 
 /// A comment as it is written tells its text at its last character. No table is needed.
@@ -62,7 +62,7 @@ pub fn comment<S: TokenSink<Token<A>>, A: Allocator>()
         → can_write (CommentPiece text) ≡ true
         → TellsByItself S.means rules K s (piece_text (CommentPiece text))
         (spelled_messages rules.exact K.input [] (spell_comment text))
-        (start_behind K (piece_text (CommentPiece text)) (Between Data) K.last_start_tag) }
+        (start_beyond K (piece_text (CommentPiece text)) (Between Data) K.last_start_tag) }
 {}
 
 /// A page that is written piece by piece, wherever it is put in Data, tells its pieces, and is read to

@@ -114,8 +114,8 @@ pub IsReadTo-pushed : (text new back : List ℕ) (offset : ℕ) (grows : Bool) �
 IsReadTo-pushed text new back offset true read utf8 grown = IsReadTo-append text new back offset read utf8 grown
 IsReadTo-pushed text new back offset false read utf8 same = rw same read
 
-pub chars_behind : (text grown back : List ℕ) (offset : ℕ) → IsReadTo text offset → grown ≡ text ++ back → chars (drop offset grown) ≡ chars (drop offset text) ++ chars back
-chars_behind text grown back offset read e =
+pub chars_after : (text grown back : List ℕ) (offset : ℕ) → IsReadTo text offset → grown ≡ text ++ back → chars (drop offset grown) ≡ chars (drop offset text) ++ chars back
+chars_after text grown back offset read e =
     ap (λ bs. chars (drop offset bs)) e ∙ ap chars (drop-append-le offset text back read.within) ∙ chars-append (drop offset text) back read.rest_utf8
 
 -- ---- what a queue gains and gives

@@ -23,12 +23,12 @@ starts_joined xs front rest e = (starts_is (λ a b. (eqb-true a b, eq-eqb a b)) 
 
 -- two lists of which neither begins with the other differ at some place
 apart_somewhere : (xs ys : List ℕ) → (starts_with nat_eq xs ys ≡ true → ⊥) → (starts_with nat_eq ys xs ≡ true → ⊥) → (k : ℕ) × (k < length xs) × (k < length ys) × (slice_index xs k ≢ slice_index ys k)
-apart_somewhere xs [] not_front not_behind = absurd (not_front refl)
-apart_somewhere [] (y ∷ ys) not_front not_behind = absurd (not_behind refl)
-apart_somewhere (x ∷ xs) (y ∷ ys) not_front not_behind =
+apart_somewhere xs [] not_front not_after = absurd (not_front refl)
+apart_somewhere [] (y ∷ ys) not_front not_after = absurd (not_after refl)
+apart_somewhere (x ∷ xs) (y ∷ ys) not_front not_after =
     elim (cases_eq x y) [
       | inl same ↦
-          let later = apart_somewhere xs ys (λ e. not_front (and_from _ _ (eq-eqb y x (sym same)) e)) (λ e. not_behind (and_from _ _ (eq-eqb x y same) e)) in
+          let later = apart_somewhere xs ys (λ e. not_front (and_from _ _ (eq-eqb y x (sym same)) e)) (λ e. not_after (and_from _ _ (eq-eqb x y same) e)) in
           (suc later.0, omega (arith, later.1), omega (arith, later.2), later.3)
       | inr other ↦ (0, omega arith, omega arith, other)
     ]
@@ -126,8 +126,8 @@ module _ (case : Case) (text pattern : List ℕ) (utf8 : IsUtf8 (encode_utf8_all
       let front = front_from_begins case text pattern begins in
       ap chars (front_bytes begins) ∙ chars-IsAscii (take (length pattern) text) (ascii_from_like case (take (length pattern) text) pattern ascii front.1)
 
-  pub behind_utf8 : BeginsLike case text pattern → IsUtf8 (drop (length pattern) (encode_utf8_all text))
-  behind_utf8 begins =
+  pub after_utf8 : BeginsLike case text pattern → IsUtf8 (drop (length pattern) (encode_utf8_all text))
+  after_utf8 begins =
       let bytes = encode_utf8_all text in
       let front = front_from_begins case text pattern begins in
       let split : bytes ≡ take (length pattern) text ++ drop (length pattern) bytes = sym (take-append-drop (length pattern) bytes) ∙ ap (λ bs. bs ++ drop (length pattern) bytes) (front_bytes begins) in

@@ -120,10 +120,10 @@ in_place-gap (x ∷ front) back e below above =
     let later : comes_before e.name x.name ≡ false = ap is_lt (greater_from_less x.name e.name below.0) in
     rw later (ap (λ es. x ∷ es) (in_place-gap front back e below.1 above))
 
-IsAscending-behind : (front back : List NamedReference) → IsAscending (front ++ back) → IsAscending back
+IsAscending-after : (front back : List NamedReference) → IsAscending (front ++ back) → IsAscending back
 unfolding IsAscending
-IsAscending-behind [] back ascending = ascending
-IsAscending-behind (x ∷ front) back ascending = IsAscending-behind front back ascending.1
+IsAscending-after [] back ascending = ascending
+IsAscending-after (x ∷ front) back ascending = IsAscending-after front back ascending.1
 
 IsAscending-gap : (front back : List NamedReference) (e : NamedReference) → IsAscending (front ++ back) → AllByRecursion (Below e.name) front → AllByRecursion (Above e.name) back → IsAscending (front ++ e ∷ back)
 unfolding IsAscending
@@ -169,24 +169,24 @@ begins-above (x ∷ back) text ascending above =
 
 begins-gap : (front back : List NamedReference) (text : List ℕ) → IsAscending (front ++ back) → AllByRecursion (Below text) front → AllByRecursion (Above text) back → begins_name (front ++ back) text ≡ first_begins back text
 begins-gap front back text ascending below above =
-    rw (begins-append front back text, begins-below front text below) (begins-above back text (IsAscending-behind front back ascending) above)
+    rw (begins-append front back text, begins-below front text below) (begins-above back text (IsAscending-after front back ascending) above)
 
 -- the rest of what a fact about take and drop says of the whole
 pub characters-absent : (entries : List NamedReference) (name : List ℕ) (gap : ℕ) → IsGapFor entries name gap → characters_of_name entries name ≡ None
 characters-absent entries name gap place =
-    ap (λ es. characters_of_name es name) (sym (take-append-drop gap entries)) ∙ characters-gap (take gap entries) (drop gap entries) name place.before place.behind
+    ap (λ es. characters_of_name es name) (sym (take-append-drop gap entries)) ∙ characters-gap (take gap entries) (drop gap entries) name place.before place.afterwards
 
 pub begins-absent : (entries : List NamedReference) (text : List ℕ) (gap : ℕ) → IsAscending entries → IsGapFor entries text gap → begins_name entries text ≡ first_begins (drop gap entries) text
 begins-absent entries text gap ascending place =
-    ap (λ es. begins_name es text) (sym (take-append-drop gap entries)) ∙ begins-gap (take gap entries) (drop gap entries) text (rw (take-append-drop gap entries) ascending) place.before place.behind
+    ap (λ es. begins_name es text) (sym (take-append-drop gap entries)) ∙ begins-gap (take gap entries) (drop gap entries) text (rw (take-append-drop gap entries) ascending) place.before place.afterwards
 
 pub in_place-at : (entries : List NamedReference) (e : NamedReference) (gap : ℕ) → IsGapFor entries e.name gap → in_place entries e ≡ insert entries gap e
 in_place-at entries e gap place =
-    ap (λ es. in_place es e) (sym (take-append-drop gap entries)) ∙ in_place-gap (take gap entries) (drop gap entries) e place.before place.behind
+    ap (λ es. in_place es e) (sym (take-append-drop gap entries)) ∙ in_place-gap (take gap entries) (drop gap entries) e place.before place.afterwards
 
 pub IsAscending-insert : (entries : List NamedReference) (e : NamedReference) (gap : ℕ) → IsAscending entries → IsGapFor entries e.name gap → IsAscending (insert entries gap e)
 IsAscending-insert entries e gap ascending place =
-    IsAscending-gap (take gap entries) (drop gap entries) e (rw (take-append-drop gap entries) ascending) place.before place.behind
+    IsAscending-gap (take gap entries) (drop gap entries) e (rw (take-append-drop gap entries) ascending) place.before place.afterwards
 
 -- what holds of each entry holds of each with one more
 All-insert : (P : NamedReference → Type 0) (entries : List NamedReference) (e : NamedReference) (gap : ℕ) → P e → All P entries → All P (insert entries gap e)

@@ -67,7 +67,7 @@ module _ {Z : Type 0} (name : List ℕ) where
         absent = record {
           within = rw (length-map items (reference_of {Z = Z})) within;
           before = all_below reference_of (λ entry. slice_cmp nat_cmp entry.name name ≡ Less) items gap within (λ k d less. parts.0 k d (omega arith) less);
-          behind = all_from reference_of (λ entry. slice_cmp nat_cmp entry.name name ≡ Greater) items gap (λ k d low less. parts.1 k d low less);
+          afterwards = all_from reference_of (λ entry. slice_cmp nat_cmp entry.name name ≡ Greater) items gap (λ k d low less. parts.1 k d low less);
         };
       }
 
@@ -93,8 +93,8 @@ module _ {Z : Type 0} (items : List (String Z × ℕ × Option ℕ)) (entries : 
       let none : NamedReference = record { name = name; first = 0; second = None } in
       begins-found entries name _ (characters-at entries name place none (subst IsTable is table) at)
 
-  pub begins-behind : references_of items ≡ entries → IsAscending (references_of items) → IsGapFor entries name place → begins_name entries name ≡ option_map_or (λ (item : String Z × ℕ × Option ℕ). starts_with nat_eq (string_bytes item.0) name) (slice_get items place) false
-  begins-behind is ascending gap =
+  pub begins-after : references_of items ≡ entries → IsAscending (references_of items) → IsGapFor entries name place → begins_name entries name ≡ option_map_or (λ (item : String Z × ℕ × Option ℕ). starts_with nat_eq (string_bytes item.0) name) (slice_get items place) false
+  begins-after is ascending gap =
       begins-absent entries name place (subst IsAscending is ascending) gap
       ∙ ap (λ es. first_begins (drop place es) name) (sym is)
       ∙ first_at items place
@@ -107,11 +107,11 @@ module _ {Z : Type 0} (items : List (String Z × ℕ × Option ℕ)) (entries : 
 
   pub begins-item : (found : String Z × ℕ × Option ℕ) → references_of items ≡ entries → IsAscending (references_of items) → IsGapFor entries name place → place < length items → found ≡ get_or items place found → begins_name entries name ≡ starts_with nat_eq (string_bytes found.0) name
   begins-item found is ascending gap within read =
-      begins-behind is ascending gap ∙ ap (λ o. option_map_or (λ (item : String Z × ℕ × Option ℕ). starts_with nat_eq (string_bytes item.0) name) o false) (slice_get-get_or items place found within ∙ ap (λ item. Some item) (sym read))
+      begins-after is ascending gap ∙ ap (λ o. option_map_or (λ (item : String Z × ℕ × Option ℕ). starts_with nat_eq (string_bytes item.0) name) o false) (slice_get-get_or items place found within ∙ ap (λ item. Some item) (sym read))
 
   pub begins-past_end : references_of items ≡ entries → IsAscending (references_of items) → IsGapFor entries name place → length items ≤ place → begins_name entries name ≡ false
   begins-past_end is ascending gap past =
-      begins-behind is ascending gap ∙ ap (λ o. option_map_or (λ (item : String Z × ℕ × Option ℕ). starts_with nat_eq (string_bytes item.0) name) o false) (past_end items place past)
+      begins-after is ascending gap ∙ ap (λ o. option_map_or (λ (item : String Z × ℕ × Option ℕ). starts_with nat_eq (string_bytes item.0) name) o false) (past_end items place past)
     where
       past_end : (xs : List (String Z × ℕ × Option ℕ)) (k : ℕ) → length xs ≤ k → slice_get xs k ≡ None
       past_end [] k past = refl

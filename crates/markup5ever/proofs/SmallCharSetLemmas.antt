@@ -103,8 +103,8 @@ BeginsOutside-bytes set text len utf8 stops =
     }
 
 -- the character after them is a member
-pub member_behind : (set : ℕ) (text : List ℕ) (len : ℕ) → IsUtf8 text → StopsAt set text len → (c : ℕ) (rest : List ℕ) → chars (drop len text) ≡ c ∷ rest → IsMember set c
-member_behind set text len utf8 stops c rest e =
+pub member_past : (set : ℕ) (text : List ℕ) (len : ℕ) → IsUtf8 text → StopsAt set text len → (c : ℕ) (rest : List ℕ) → chars (drop len text) ≡ c ∷ rest → IsMember set c
+member_past set text len utf8 stops c rest e =
     let rest_utf8 = IsUtf8-drop text len utf8 (StopsAt-boundary set text len utf8 stops) in
     elim (cases_lt len (length text)) [
       | inl less ↦

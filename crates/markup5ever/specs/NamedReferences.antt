@@ -67,22 +67,22 @@ pub record IsTable (entries : List NamedReference) : Type 0 where
   pub own : All (λ entry. characters_of_name entries entry.name ≡ Some (entry.first, entry.second)) entries
 
 -- what is wrong with an entry after the earlier ones
-unfoldable pub fault_behind : List NamedReference → NamedReference → Option TableError
-fault_behind earlier entry =
+unfoldable pub fault_after : List NamedReference → NamedReference → Option TableError
+fault_after earlier entry =
     if not (is_plain_name entry.name) then Some (BadName (length earlier))
     else if has_zero entry then Some (ZeroCharacter (length earlier))
     else if is_some (characters_of_name earlier entry.name) then Some (RepeatedName (length earlier))
     else None
 
 -- the first fault of entries after the earlier ones
-unfoldable pub first_fault_behind : List NamedReference → List NamedReference → Option TableError
-first_fault_behind earlier [] = None
-first_fault_behind earlier (entry ∷ entries) =
-    option_or (fault_behind earlier entry) (first_fault_behind (earlier ++ entry ∷ []) entries)
+unfoldable pub first_fault_after : List NamedReference → List NamedReference → Option TableError
+first_fault_after earlier [] = None
+first_fault_after earlier (entry ∷ entries) =
+    option_or (fault_after earlier entry) (first_fault_after (earlier ++ entry ∷ []) entries)
 
 -- the first fault of the entries, in their order
 abbrev pub first_fault : List NamedReference → Option TableError
-first_fault entries = first_fault_behind [] entries
+first_fault entries = first_fault_after [] entries
 
 -- ---- the table of entries
 

@@ -15,4 +15,4 @@ pub record IsAt (entries : List NamedReference) (name : List ℕ) (place : ℕ) 
 pub record IsGapFor (entries : List NamedReference) (name : List ℕ) (place : ℕ) : Type 0 where
   pub within : place ≤ length entries
   pub before : AllByRecursion (λ entry. slice_cmp nat_cmp entry.name name ≡ Less) (take place entries)
-  pub behind : AllByRecursion (λ entry. slice_cmp nat_cmp entry.name name ≡ Greater) (drop place entries)
+  pub afterwards : AllByRecursion (λ entry. slice_cmp nat_cmp entry.name name ≡ Greater) (drop place entries)

@@ -5,7 +5,7 @@ ghost use Rattle.std.specs.Char.{is_ascii_alphanumeric};
 ghost use Rattle.std.specs.List.{list_all};
 ghost use Rattle.std.specs.Ordering.{nat_cmp};
 ghost use Rattle.markup5ever.specs.C1.{character_of_c1};
-ghost use Rattle.markup5ever.specs.NamedReferences.{NamedReference, IsTable, begins_name, characters_of_name, is_plain_name, without_semicolon, has_zero, reference_of, references_of, fault_behind, first_fault, in_place, table_of};
+ghost use Rattle.markup5ever.specs.NamedReferences.{NamedReference, IsTable, begins_name, characters_of_name, is_plain_name, without_semicolon, has_zero, reference_of, references_of, fault_after, first_fault, in_place, table_of};
 ghost use Rattle.markup5ever.specs.Place.{IsAt, IsGapFor};
 ghost use Rattle.markup5ever.specs.declared.data.TableError.TheVariants.{Memory};
 
@@ -87,9 +87,9 @@ impl<A: Allocator> NamedReferences<A> {
 
     // Takes in the entry that comes after those of the table.
     fn add(&mut self, entry: Entry<A>) -> Result<(), TableError>
-        ensures faultless { OnOk result (fault_behind self.old (reference_of entry) ≡ None) }
+        ensures faultless { OnOk result (fault_after self.old (reference_of entry) ≡ None) }
         ensures fault { IfErr result (λ error. (error ≡ TableError.Memory) ⊎
-            (fault_behind self.old (reference_of entry) ≡ Some error)) }
+            (fault_after self.old (reference_of entry) ≡ Some error)) }
         ensures ok { OnOk result (self.new ≡ in_place self.old (reference_of entry)) }
     {
         let place = self.entries.len();

@@ -153,9 +153,9 @@ fn failing_cutting_with(
         return Ok(Some(format!(in alloc; "{sink} in characters")?));
     }
     for count in 0..=case.input.chars().count() {
-        let cutting = Cutting::Behind(count);
+        let cutting = Cutting::Afterwards(count);
         if let Some(sink) = failing_sink(alloc, case, settings, &names, &whole, cutting)? {
-            return Ok(Some(format!(in alloc; "{sink} cut behind {count}")?));
+            return Ok(Some(format!(in alloc; "{sink} cut afterwards {count}")?));
         }
     }
     Ok(None)

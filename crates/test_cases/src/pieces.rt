@@ -17,7 +17,7 @@ use test_lines::CaseError;
 #[derive(Clone, Copy, Debug, PartialEq, Eq)]
 pub enum Cutting {
     /// In two, after so many characters.
-    Behind(usize),
+    Afterwards(usize),
     /// Into its characters.
     Characters,
 }
@@ -53,7 +53,7 @@ fn characters_of(alloc: Global, text: &str) -> Result<Vec<String>, AllocError> {
 /// The pieces of a text that is cut so.
 pub fn pieces_of(alloc: Global, text: &str, cutting: Cutting) -> Result<Vec<String>, AllocError> {
     match cutting {
-        Cutting::Behind(count) => halves_of(alloc, text, count),
+        Cutting::Afterwards(count) => halves_of(alloc, text, count),
         Cutting::Characters => characters_of(alloc, text),
     }
 }

@@ -2,7 +2,7 @@ use crate::made::{says_foreign, tag_of, text_of, token_of, told};
 use html5ever_interface::interface::sink::TokenSink;
 use html5ever_interface::interface::token::{SinkFault, TagKind, Token, TokenSinkResult};
 use html5ever_interface::states::RawKind;
-use html5sinks::text_runs::{ReplyingRunHandler, RunHandler, TextRuns};
+use html5sinks::text_runs::{ReplyingTokenHandler, TextRuns, TokenHandler};
 use std::alloc::{AllocError, Allocator, Global};
 use std::process::Abort;
 use test_alloc::Refusing;
@@ -33,14 +33,19 @@ fn is_end_tag<A: Allocator>(token: &Token<A>) -> bool {
     matches!(token, Token::TagToken(tag) if tag.kind == TagKind::EndTag)
 }
 
-impl<A: Allocator> RunHandler<Token<A>> for LastRun<A> {
+impl<A: Allocator> TokenHandler<Token<A>> for LastRun<A> {
     ghost State = { Unit {0} };
 
     ghost state = { λ s. tt };
 
     ghost step = { λ state run told line. tt };
 
-    fn take_run(&mut self, run: &str, token: Token<A>, _line_number: u64) -> Result<(), SinkFault> {
+    fn take_token(
+        &mut self,
+        run: &str,
+        token: Token<A>,
+        _line_number: u64,
+    ) -> Result<(), SinkFault> {
         if is_end_tag(&token) {
             return Err(SinkFault);
         }
@@ -102,7 +107,7 @@ struct Length {
     bytes: usize,
 }
 
-impl<A: Allocator> ReplyingRunHandler<Token<A>> for Length {
+impl<A: Allocator> ReplyingTokenHandler<Token<A>> for Length {
     ghost use Rattle.std.specs.Prelude.{ℕ, length};
     ghost use Rattle.html5ever_interface.specs.Token.Reply.{RunScript};
 
@@ -116,7 +121,7 @@ impl<A: Allocator> ReplyingRunHandler<Token<A>> for Length {
 
     ghost reply = { λ bytes run tag line. RunScript 7 };
 
-    fn answer_run(
+    fn answer_token(
         &mut self,
         run: &str,
         token: Token<A>,

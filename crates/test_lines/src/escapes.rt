@@ -10,7 +10,7 @@ enum Escape {
 }
 
 // The escape after one of its characters.
-fn behind_escaped(text: &mut String, escape: Escape, c: char) -> Result<Escape, CaseError> {
+fn after_escaped(text: &mut String, escape: Escape, c: char) -> Result<Escape, CaseError> {
     let Escape::Code(code) = escape else {
         let meant = match c {
             'u' => return Ok(Escape::Code(0)),
@@ -49,7 +49,7 @@ pub fn push_meant(text: &mut String, written: &str) -> Result<(), CaseError> {
                 text.push(c)?;
                 Escape::None
             }
-            begun => behind_escaped(text, begun, c)?,
+            begun => after_escaped(text, begun, c)?,
         };
     }
     match escape {

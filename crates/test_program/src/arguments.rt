@@ -28,7 +28,7 @@ impl Env for Arguments<'_> {
 }
 
 #[test]
-fn takes_the_words_behind_the_name(rt: HostRuntime) {
+fn takes_the_words_after_the_name(rt: HostRuntime) {
     let all = [b"html5tok".as_slice(), b"--state", b""];
     match given_words(&(Arguments(&all), rt.alloc())) {
         Ok(words) => {

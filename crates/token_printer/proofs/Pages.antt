@@ -1,9 +1,9 @@
 -- What a page that is told messages reads.
 use Rattle.std.proofs.Common.{◌≡◌, ℕ, Bool, true, false, List, [], ◌∷◌, ◌++◌, refl, ap, sym, ◌∙◌, codes}
 use Rattle.std.proofs.lemmas.List.{append-nil, append_assoc}
-use Rattle.token_printer.specs.Page.{Page, text_opening, text_closing, added_by_text, added_by, open_behind, page_step}
+use Rattle.token_printer.specs.Page.{Page, text_opening, text_closing, added_by_text, added_by, open_after, page_step}
 use Rattle.token_printer.specs.PageLaws.{quoted_bytes-append}
-use Rattle.token_printer.specs.Printed.{quoted_bytes, quoted, printed_line, told_text, first_text, behind_first_text, joined_first, joined, printed_lines, printed}
+use Rattle.token_printer.specs.Printed.{quoted_bytes, quoted, printed_line, told_text, first_text, after_first_text, joined_first, joined, printed_lines, printed}
 use Rattle.html5ever_interface.proofs.Steppings.{stepped-append}
 use Rattle.html5ever_interface.specs.Sink.{Message, stepped}
 use Rattle.html5ever_interface.specs.Token.{is_text, Told}
@@ -12,7 +12,7 @@ use Rattle.html5ever_interface.specs.Token.Told.{Text, End}
 -- what joined messages add to a page, where `in_text` says that a text is open
 unfoldable pub added : Bool → List Message → List ℕ
 added false M = printed_lines M
-added true M = quoted_bytes (first_text M) ++ (codes "\"\n" ++ printed_lines (behind_first_text M))
+added true M = quoted_bytes (first_text M) ++ (codes "\"\n" ++ printed_lines (after_first_text M))
 
 -- the bytes of a page once its text is closed
 unfoldable pub closed_lines : Page → List ℕ
@@ -21,7 +21,7 @@ closed_lines p = p.lines ++ text_closing p.in_text
 -- a token that is no text closes an open one
 added-other : (in_text : Bool) (m : Message) (M : List Message) → is_text m.token ≡ false → told_text m.token ≡ []
     → added in_text (m ∷ M) ≡ text_closing in_text ++ (printed_line m.token m.line ++ added false M)
-unfolding added printed_lines first_text behind_first_text quoted_bytes
+unfolding added printed_lines first_text after_first_text quoted_bytes
 added-other false m M other none = refl
 added-other true m M other none = rw (other, none) refl
 
@@ -30,14 +30,14 @@ regrouped a b c d e = simp append_assoc
 
 -- a text goes on an open one
 added-text : (in_text : Bool) (b : ℕ) (bs : List ℕ) (line : ℕ) (M : List Message)
-    → added in_text (record { token = Text ((b ∷ bs) ++ first_text M); line = line } ∷ behind_first_text M)
+    → added in_text (record { token = Text ((b ∷ bs) ++ first_text M); line = line } ∷ after_first_text M)
     ≡ text_opening in_text ++ (quoted_bytes (b ∷ bs) ++ added true M)
-unfolding added printed_lines printed_line quoted first_text behind_first_text
+unfolding added printed_lines printed_line quoted first_text after_first_text
 added-text true b bs line M =
-    rw (quoted_bytes-append (b ∷ bs) (first_text M)) (append_assoc (quoted_bytes (b ∷ bs)) (quoted_bytes (first_text M)) (codes "\"\n" ++ printed_lines (behind_first_text M)))
+    rw (quoted_bytes-append (b ∷ bs) (first_text M)) (append_assoc (quoted_bytes (b ∷ bs)) (quoted_bytes (first_text M)) (codes "\"\n" ++ printed_lines (after_first_text M)))
 added-text false b bs line M =
-    ap (λ l. codes "text \"" ++ (((l ++ codes "\"") ++ codes "\n") ++ printed_lines (behind_first_text M))) (quoted_bytes-append (b ∷ bs) (first_text M))
-    ∙ ap (λ l. codes "text \"" ++ l) (regrouped (quoted_bytes (b ∷ bs)) (quoted_bytes (first_text M)) (codes "\"") (codes "\n") (printed_lines (behind_first_text M)))
+    ap (λ l. codes "text \"" ++ (((l ++ codes "\"") ++ codes "\n") ++ printed_lines (after_first_text M))) (quoted_bytes-append (b ∷ bs) (first_text M))
+    ∙ ap (λ l. codes "text \"" ++ l) (regrouped (quoted_bytes (b ∷ bs)) (quoted_bytes (first_text M)) (codes "\"") (codes "\n") (printed_lines (after_first_text M)))
 
 regrouped-after : (a b c d e : List ℕ) → e ≡ b ++ (c ++ d) → (a ++ (b ++ c)) ++ d ≡ a ++ e
 regrouped-after a b c d e h = rw h (simp append_assoc)
@@ -52,14 +52,14 @@ closed-added p token line M other none =
 -- one token
 step-added : (p : Page) (token : Told) (line : ℕ) (M : List Message)
     → (page_step p token line).lines ++ added (page_step p token line).in_text M ≡ p.lines ++ added p.in_text (joined_first token line M)
-unfolding page_step added_by added_by_text open_behind joined_first
+unfolding page_step added_by added_by_text open_after joined_first
 step-added p (Text []) line M = rw (append-nil p.lines) refl
 step-added p (Text (b ∷ bs)) line M =
     regrouped-after p.lines (text_opening p.in_text) (quoted_bytes (b ∷ bs)) (added true M) _ (added-text p.in_text b bs line M)
 step-added p other line M = closed-added p other line M refl refl
 
 added-nil : (in_text : Bool) → text_closing in_text ≡ added in_text []
-unfolding added printed_lines first_text behind_first_text quoted_bytes
+unfolding added printed_lines first_text after_first_text quoted_bytes
 added-nil true = refl
 added-nil false = refl
 
@@ -76,7 +76,7 @@ closed_lines-stepped p M closed = stepped-added p M ∙ ap (λ in_text. p.lines 
 
 in_text-stepped : (p : Page) (N : List Message) (line : ℕ)
     → (stepped page_step p (N ++ record { token = End; line = line } ∷ [])).in_text ≡ false
-unfolding stepped page_step open_behind
+unfolding stepped page_step open_after
 in_text-stepped p N line =
     ap (λ (q : Page). q.in_text) (stepped-append page_step p N (record { token = End; line = line } ∷ []))
 

@@ -4,8 +4,8 @@ use Rattle.std.proofs.lemmas.List.{append_assoc}
 use Rattle.std.proofs.lemmas.Result.{on_ok_weaker}
 use Rattle.html5ever_interface.proofs.Entries.{ok_from_if}
 
-regrouped-behind : (a b c d e : List ℕ) → (((a ++ b) ++ c) ++ d) ++ e ≡ a ++ (b ++ c ++ d ++ e)
-regrouped-behind a b c d e = simp append_assoc
+regrouped-after : (a b c d e : List ℕ) → (((a ++ b) ++ c) ++ d) ++ e ≡ a ++ (b ++ c ++ d ++ e)
+regrouped-after a b c d e = simp append_assoc
 
 -- a piece after others
 pub pieces-more : (old page next front piece : List ℕ) → page ≡ old ++ front → next ≡ page ++ piece → next ≡ old ++ (front ++ piece)
@@ -35,5 +35,5 @@ pieces-five r old two three four next a b c d e printed_two printed_three printe
     let front : four ≡ old ++ (((a ++ b) ++ c) ++ d) =
     pieces-more old three four ((a ++ b) ++ c) d (pieces-more old two three (a ++ b) c printed_two printed_three) printed_four in
     on_ok_weaker r
-    (λ (whole : next ≡ four ++ e). pieces-more old four next (((a ++ b) ++ c) ++ d) e front whole ∙ ap (λ l. old ++ l) (regrouped-behind a b c d e))
+    (λ (whole : next ≡ four ++ e). pieces-more old four next (((a ++ b) ++ c) ++ d) e front whole ∙ ap (λ l. old ++ l) (regrouped-after a b c d e))
     (ok_from_if r next (four ++ e) four printed)

@@ -47,14 +47,14 @@ added_by in_text (Text text) line = added_by_text in_text text
 added_by in_text other line = text_closing in_text ++ printed_line other line
 
 -- whether a text is open after a token
-unfoldable pub open_behind : Bool → Told → Bool
-open_behind in_text (Text []) = in_text
-open_behind in_text (Text (b ∷ bs)) = true
-open_behind in_text other = false
+unfoldable pub open_after : Bool → Told → Bool
+open_after in_text (Text []) = in_text
+open_after in_text (Text (b ∷ bs)) = true
+open_after in_text other = false
 
 unfoldable pub page_step : Page → Told → ℕ → Page
 page_step p told line =
-    record p { lines = p.lines ++ added_by p.in_text told line; in_text = open_behind p.in_text told }
+    record p { lines = p.lines ++ added_by p.in_text told line; in_text = open_after p.in_text told }
 
 -- the reply is by the token alone
 abbrev pub page_reply : Page → Told → ℕ → Reply (Unit {0})

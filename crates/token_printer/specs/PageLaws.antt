@@ -3,7 +3,7 @@ use Rattle.std.specs.Prelude.{◌≡◌, ℕ, false, List, [], ◌∷◌, ◌++�
 use Rattle.std.proofs.Common.{ap, sym, ◌∙◌}
 use Rattle.std.proofs.lemmas.List.{append-nil, append_assoc}
 use Rattle.std.proofs.lemmas.List.Concat.{flat_map-append}
-use Rattle.token_printer.specs.Page.{Page, text_opening, added_by_text, added_by, open_behind, page_step, page_reply}
+use Rattle.token_printer.specs.Page.{Page, text_opening, added_by_text, added_by, open_after, page_step, page_reply}
 use Rattle.token_printer.specs.Printed.{quoted_byte, quoted_bytes}
 use Rattle.html5ever_interface.specs.Token.{Told, is_tag}
 use Rattle.html5ever_interface.specs.Token.Told.{Text, Tag}
@@ -15,7 +15,7 @@ quoted_bytes-append a b = flat_map-append quoted_byte a b
 
 pub page_joins : (p : Page) (a b : List ℕ) (line : ℕ)
     → page_step (page_step p (Text a) line) (Text b) line ≡ page_step p (Text (a ++ b)) line
-unfolding page_step added_by added_by_text open_behind
+unfolding page_step added_by added_by_text open_after
 page_joins p [] b line = rw (append-nil p.lines) refl
 page_joins p (x ∷ xs) [] line = rw (append-nil xs, append-nil (p.lines ++ (text_opening p.in_text ++ quoted_bytes (x ∷ xs)))) refl
 page_joins p (x ∷ xs) (y ∷ ys) line =
@@ -26,7 +26,7 @@ page_joins p (x ∷ xs) (y ∷ ys) line =
     ap (λ l. record p { lines = l; in_text = true }) bytes
 
 pub page_empty : (p : Page) (line : ℕ) → page_step p (Text []) line ≡ p
-unfolding page_step added_by added_by_text open_behind
+unfolding page_step added_by added_by_text open_after
 page_empty p line = rw (append-nil p.lines) refl
 
 pub page_any_line : (p : Page) (a : List ℕ) (line other : ℕ) → page_step p (Text a) line ≡ page_step p (Text a) other

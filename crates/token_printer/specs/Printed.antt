@@ -121,15 +121,15 @@ first_text [] = []
 first_text (m ∷ M) = told_text m.token
 
 -- the messages after the first, if that is a text, and else all of them
-unfoldable pub behind_first_text : List Message → List Message
-behind_first_text [] = []
-behind_first_text (m ∷ M) = if is_text m.token then M else m ∷ M
+unfoldable pub after_first_text : List Message → List Message
+after_first_text [] = []
+after_first_text (m ∷ M) = if is_text m.token then M else m ∷ M
 
 -- a token in front of messages that are joined: an empty text is dropped, and another joins the text after it
 unfoldable pub joined_first : Told → ℕ → List Message → List Message
 joined_first (Text []) line M = M
 joined_first (Text (b ∷ bs)) line M =
-    record { token = Text ((b ∷ bs) ++ first_text M); line = line } ∷ behind_first_text M
+    record { token = Text ((b ∷ bs) ++ first_text M); line = line } ∷ after_first_text M
 joined_first other line M = record { token = other; line = line } ∷ M
 
 -- adjacent texts are one, and empty texts are gone

@@ -1,6 +1,6 @@
 //! What each token adds to a page.
 ghost use Rattle.std.specs.Prelude.{◌≡◌, ◌++◌, string_bytes, OnOk, OnErr, decimal};
-ghost use Rattle.token_printer.specs.Page.{BeginsWith, text_closing, added_by_text, added_by, open_behind};
+ghost use Rattle.token_printer.specs.Page.{BeginsWith, text_closing, added_by_text, added_by, open_after};
 ghost use Rattle.token_printer.specs.Printed.{numbered_text, line_with_number, line_with_text, tag_line, pause_line, doctype_line};
 ghost use Rattle.html5sinks.specs.Pausing.{pausing_reply};
 ghost use Rattle.html5ever_interface.specs.Token.{told_by, tag_of, doctype_of, reply_of};
@@ -202,9 +202,9 @@ pub fn push_token<A: Allocator + Copy>(
 
 /// Whether a text is open after a token.
 #[inline(always)]
-#[tactic(auto, unfolding(crate::specs::Page::open_behind))]
-pub fn is_open_behind<A: Allocator>(in_text: bool, token: &Token<A>) -> bool
-    ensures { result ≡ open_behind in_text (told_by token.now) }
+#[tactic(auto, unfolding(crate::specs::Page::open_after))]
+pub fn is_open_after<A: Allocator>(in_text: bool, token: &Token<A>) -> bool
+    ensures { result ≡ open_after in_text (told_by token.now) }
 {
     match token {
         Token::CharacterTokens(text) => in_text || !text.is_empty(),

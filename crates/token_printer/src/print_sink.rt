@@ -4,7 +4,7 @@ ghost use Rattle.token_printer.specs.Page.{BeginsWith, blank_page, added_by};
 ghost use Rattle.html5sinks.specs.Pausing.{pausing_reply};
 ghost use Rattle.html5ever_interface.specs.Token.{told_by, reply_of};
 
-use crate::page::{is_open_behind, push_token};
+use crate::page::{is_open_after, push_token};
 use ghost_counts::Count;
 use html5ever_interface::interface::sink::TokenSink;
 use html5ever_interface::interface::token::{SinkFault, Token, TokenSinkResult};
@@ -116,7 +116,7 @@ impl<A: Allocator + Copy> TokenSink<Token<A>> for PrintSink<A> {
         let printed = self.page.len();
         match print_and_reply(&mut self.page, self.in_text, &token, line_number) {
             Ok(reply) => {
-                self.in_text = is_open_behind(self.in_text, &token);
+                self.in_text = is_open_after(self.in_text, &token);
                 Ok(reply)
             }
             Err(AllocError) => {

@@ -7,20 +7,20 @@ use Rattle.std.proofs.lemmas.Bool.{cases_lt}
 use Rattle.std.proofs.lemmas.Grind.{flat_map-append}
 use Rattle.std.proofs.lemmas.List.{take_all, take_more, take-append-le}
 use Rattle.std.proofs.lemmas.Str.{IsUtf8-nil, IsUtf8-string_bytes}
-use Rattle.utf8_pieces.specs.Pieces.{Decoding, IsCutCharacter, IsFault, IsNeverUtf8, bytes_of, place_behind}
+use Rattle.utf8_pieces.specs.Pieces.{Decoding, IsCutCharacter, IsFault, IsNeverUtf8, bytes_of, place_after}
 use Rattle.utf8_pieces.specs.declared.error.DecodeError.{DecodeError}
 use Rattle.utf8_pieces.specs.declared.error.DecodeError.TheVariants.{NotUtf8, Memory}
 use Rattle.utf8_pieces.proofs.Cuts.{no_text_within}
-use Rattle.utf8_pieces.proofs.Fronts.{IsNeverUtf8-behind, IsValidUpTo-behind, take_past}
+use Rattle.utf8_pieces.proofs.Fronts.{IsNeverUtf8-after, IsValidUpTo-after, take_past}
 
 -- what a text and a decoder have of some bytes
 pub record HasDecoded {Z : Type 0} (text : String Z) (decoder : Decoding) (bytes : List ℕ) : Type 0 where
   pub cut : IsCutCharacter decoder.held
   pub all : string_bytes text ++ decoder.held ≡ bytes
-  pub taken : decoder.taken ≡ place_behind 0 (length (string_bytes text))
+  pub taken : decoder.taken ≡ place_after 0 (length (string_bytes text))
 
-place_behind-twice : (place a b : ℕ) → place_behind (place_behind place a) b ≡ place_behind place (a + b)
-place_behind-twice place a b = omega arith
+place_after-twice : (place a b : ℕ) → place_after (place_after place a) b ≡ place_after place (a + b)
+place_after-twice place a b = omega arith
 
 -- the bytes of the pieces up to one, with that one
 bytes_of-more : (pieces : List (Bor (List ℕ))) (i : ℕ) (other : Bor (List ℕ)) → i < length pieces
@@ -61,11 +61,11 @@ fault_within text decoder pieces i other error inside had (inr fault) never =
     sym (append_assoc t decoder.held piece.now) ∙ ap (λ l. l ++ piece.now) had.all ∙ sym (bytes_of-more pieces i other inside) in
     let whole : (t ++ here) ++ later ≡ bytes_of pieces =
     ap (λ l. l ++ later) start ∙ sym (flat_map-append (λ (p : Bor (List ℕ)). p.now) (take (i + 1) pieces) (drop (i + 1) pieces)) ∙ ap bytes_of (take-append-drop (i + 1) pieces) in
-    let valid = IsValidUpTo-before (t ++ here) later (length t + n) (IsValidUpTo-behind t here n utf8 fault.valid) (IsNeverUtf8-behind t here utf8 bad) in
+    let valid = IsValidUpTo-before (t ++ here) later (length t + n) (IsValidUpTo-after t here n utf8 fault.valid) (IsNeverUtf8-after t here utf8 bad) in
     inr (record {
       valid_len = length t + n;
       valid = subst (λ l. IsValidUpTo l (length t + n)) whole valid;
-      named = named ∙ ap NotUtf8 (ap (λ k. place_behind k n) had.taken ∙ place_behind-twice 0 (length t) n);
+      named = named ∙ ap NotUtf8 (ap (λ k. place_after k n) had.taken ∙ place_after-twice 0 (length t) n);
     })
 
 some_bytes : (bytes : List ℕ) → ¬ (bytes ≡ []) → 0 < length bytes
@@ -90,8 +90,8 @@ pub fault_at_end : {Z : Type 0} (text : String Z) (decoder : Decoding) (bytes : 
     → ¬ (decoder.held ≡ []) → error ≡ NotUtf8 decoder.taken → IsFault 0 bytes error
 fault_at_end text decoder bytes error had some named =
     let t = string_bytes text in
-    let valid = IsValidUpTo-behind t decoder.held 0 (IsUtf8-string_bytes text) (IsValidUpTo-cut decoder.held had.cut (some_bytes decoder.held some)) in
-    let place : place_behind 0 (length t) ≡ place_behind 0 (length t + 0) = omega arith in
+    let valid = IsValidUpTo-after t decoder.held 0 (IsUtf8-string_bytes text) (IsValidUpTo-cut decoder.held had.cut (some_bytes decoder.held some)) in
+    let place : place_after 0 (length t) ≡ place_after 0 (length t + 0) = omega arith in
     record {
       valid_len = length t + 0;
       valid = subst (λ l. IsValidUpTo l (length t + 0)) had.all valid;

@@ -228,7 +228,7 @@ length-IsCutCharacter bytes cut =
 pub no_text_within : (bytes : List ℕ) (n : ℕ) (cs : List ℕ) → IsCutCharacter bytes → 0 < n → n ≤ length bytes → encode_utf8_all cs ≡ take n bytes → ⊥
 no_text_within bytes n [] cut some within is = omega (arith, ap length is, length-take-le n bytes within)
 no_text_within bytes n (c ∷ cs) cut some within is =
-    let behind = encode_utf8_all cs ++ (drop n bytes ++ cut.rest) in
+    let afterwards = encode_utf8_all cs ++ (drop n bytes ++ cut.rest) in
     let parts : bytes ≡ encode_utf8 c ++ (encode_utf8_all cs ++ drop n bytes) =
     sym (take-append-drop n bytes) ∙ ap (λ t. t ++ drop n bytes) (sym is) ∙ append_assoc (encode_utf8 c) (encode_utf8_all cs) (drop n bytes) in
     let same : encode_utf8 cut.character ++ [] ≡ encode_utf8 c ++ ((encode_utf8_all cs ++ drop n bytes) ++ cut.rest) =

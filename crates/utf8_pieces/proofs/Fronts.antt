@@ -10,7 +10,7 @@ use Rattle.std.proofs.lemmas.List.{take_all, take_at, take-take, drop_at, drop_a
 use Rattle.std.proofs.lemmas.Bool.{and_parts, cases_lt}
 use Rattle.std.proofs.lemmas.Slice.{take-put_mid}
 use Rattle.std.proofs.lemmas.Str.{IsUtf8-append, IsUtf8-nil, IsUtf8-drop, IsUtf8-encode, IsCharBoundary-from_take, length-encode, len_utf8_bounds}
-use Rattle.utf8_pieces.specs.Pieces.{Decoding, Decodes, IsCutCharacter, IsNeverUtf8, IsTextThenCut, place_behind}
+use Rattle.utf8_pieces.specs.Pieces.{Decoding, Decodes, IsCutCharacter, IsNeverUtf8, IsTextThenCut, place_after}
 use Rattle.utf8_pieces.specs.declared.error.DecodeError.{DecodeError}
 use Rattle.utf8_pieces.specs.declared.error.DecodeError.TheVariants.{NotUtf8, Memory}
 use Rattle.utf8_pieces.proofs.Cuts.{IsCutCharacter-no_fault, no_fault-text, text_past_cut}
@@ -28,8 +28,8 @@ IsTextThenCut-whole bytes text =
     }
 
 -- no character stands after the longest text
-no_char_behind : (bytes : List ℕ) (n : ℕ) → IsValidUpTo bytes n → StartsWithNoChar (drop n bytes)
-no_char_behind bytes n valid c rest scalar is =
+no_char_after : (bytes : List ℕ) (n : ℕ) → IsValidUpTo bytes n → StartsWithNoChar (drop n bytes)
+no_char_after bytes n valid c rest scalar is =
     let size = len_utf8_bounds c in
     let within = valid.short in
     let split : bytes ≡ (take n bytes ++ encode_utf8 c) ++ rest =
@@ -45,7 +45,7 @@ IsTextThenCut-valid bytes n valid open_end =
     record {
       within = omega arith;
       text = valid.front;
-      cut = IsCutCharacter-no_fault (drop n bytes) (omega (arith, length-drop n bytes)) (no_char_behind bytes n valid) open_end;
+      cut = IsCutCharacter-no_fault (drop n bytes) (omega (arith, length-drop n bytes)) (no_char_after bytes n valid) open_end;
     }
 
 pub IsNeverUtf8-valid : (bytes : List ℕ) (n k : ℕ) → IsValidUpTo bytes n → utf8_error_len (drop n bytes) ≡ Some k → IsNeverUtf8 bytes
@@ -53,7 +53,7 @@ IsNeverUtf8-valid bytes n k valid fault later text =
     let short = valid.short in
     let seam = IsCharBoundary-from_take (bytes ++ later) n text (omega (arith, length-append bytes later)) (rw (take-append-le n bytes later (omega arith)) valid.front) in
     let back : IsUtf8 (drop n bytes ++ later) = rw (← drop-append-le n bytes later (omega arith)) (IsUtf8-drop (bytes ++ later) n text seam) in
-    let none = no_fault-text (drop n bytes) later back.0 (omega (arith, length-drop n bytes)) back.1.0 back.1.1 (no_char_behind bytes n valid) in
+    let none = no_fault-text (drop n bytes) later back.0 (omega (arith, length-drop n bytes)) back.1.0 back.1.1 (no_char_after bytes n valid) in
     absurd (cc (none, fault))
 
 -- ---- the first four bytes of two lists
@@ -152,25 +152,25 @@ IsValidUpTo-four all long valid =
 
 -- ---- a text in front
 
-IsUtf8-behind : (first bytes : List ℕ) → IsUtf8 first → IsUtf8 (first ++ bytes) → IsUtf8 bytes
-IsUtf8-behind first bytes text whole =
+IsUtf8-after : (first bytes : List ℕ) → IsUtf8 first → IsUtf8 (first ++ bytes) → IsUtf8 bytes
+IsUtf8-after first bytes text whole =
     let n = length first in
     let seam = IsCharBoundary-from_take (first ++ bytes) n whole (omega (arith, length-append first bytes)) (rw (take_at first bytes n refl) text) in
     rw (drop_at first bytes n refl) at (IsUtf8-drop (first ++ bytes) n whole seam)
 
-pub IsNeverUtf8-behind : (first bytes : List ℕ) → IsUtf8 first → IsNeverUtf8 bytes → IsNeverUtf8 (first ++ bytes)
-IsNeverUtf8-behind first bytes text never later whole =
-    never later (IsUtf8-behind first (bytes ++ later) text (rw append_assoc at whole))
+pub IsNeverUtf8-after : (first bytes : List ℕ) → IsUtf8 first → IsNeverUtf8 bytes → IsNeverUtf8 (first ++ bytes)
+IsNeverUtf8-after first bytes text never later whole =
+    never later (IsUtf8-after first (bytes ++ later) text (rw append_assoc at whole))
 
-pub IsValidUpTo-behind : (first bytes : List ℕ) (n : ℕ) → IsUtf8 first → IsValidUpTo bytes n → IsValidUpTo (first ++ bytes) (length first + n)
-IsValidUpTo-behind first bytes n text valid =
+pub IsValidUpTo-after : (first bytes : List ℕ) (n : ℕ) → IsUtf8 first → IsValidUpTo bytes n → IsValidUpTo (first ++ bytes) (length first + n)
+IsValidUpTo-after first bytes n text valid =
     let short = valid.short in
     record {
       short = omega (arith, length-append first bytes);
       front = rw (take_past first bytes (length first + n) n refl) (IsUtf8-append _ _ text valid.front);
       longest = λ m more whole.
           let k = m - length first in
-          valid.longest k (omega arith) (IsUtf8-behind first (take k bytes) text (rw (take_past first bytes m k (omega arith)) at whole));
+          valid.longest k (omega arith) (IsUtf8-after first (take k bytes) text (rw (take_past first bytes m k (omega arith)) at whole));
     }
 
 -- bytes that are a text and a cut character may go on to be UTF-8
@@ -187,14 +187,14 @@ not_never first bytes n text parts never =
 -- ---- what a step gives
 
 pub Decodes-ok : {Z : Type 0} (old new : Decoding) (first bytes : List ℕ) (n : ℕ) (text : String Z) → IsUtf8 first → IsTextThenCut bytes n
-    → string_bytes text ≡ first ++ take n bytes → new.held ≡ drop n bytes → new.taken ≡ place_behind old.taken (length first + n)
+    → string_bytes text ≡ first ++ take n bytes → new.held ≡ drop n bytes → new.taken ≡ place_after old.taken (length first + n)
     → Decodes old new (first ++ bytes) (Ok text)
 Decodes-ok old new first bytes n text utf8 parts is held taken =
     record {
       text = ap (λ t. first ++ t) (sym (take-append-drop n bytes)) ∙ sym (append_assoc first (take n bytes) (drop n bytes))
           ∙ ap (λ t. t ++ drop n bytes) (sym is) ∙ ap (λ t. string_bytes text ++ t) (sym held);
       cut = rw held parts.cut;
-      taken = taken ∙ ap (place_behind old.taken)
+      taken = taken ∙ ap (place_after old.taken)
           (sym (ap length is ∙ length-append first (take n bytes) ∙ ap (λ k. length first + k) (length-take-le n bytes parts.within)));
       fault = tt;
       refused = ((λ e. absurd e), λ never. absurd (not_never first bytes n utf8 parts never));
@@ -202,15 +202,15 @@ Decodes-ok old new first bytes n text utf8 parts is held taken =
     }
 
 pub Decodes-refused : {Z : Type 0} (old new : Decoding) (first bytes : List ℕ) (n : ℕ) (error : DecodeError) → IsUtf8 first → IsValidUpTo bytes n
-    → IsNeverUtf8 bytes → error ≡ NotUtf8 (place_behind old.taken (length first + n)) → new ≡ old
+    → IsNeverUtf8 bytes → error ≡ NotUtf8 (place_after old.taken (length first + n)) → new ≡ old
     → Decodes {Z = Z} old new (first ++ bytes) (Err error)
 Decodes-refused {Z} old new first bytes n error utf8 valid never named same =
     record {
       text = tt;
       cut = tt;
       taken = tt;
-      fault = inr (record { valid_len = length first + n; valid = IsValidUpTo-behind first bytes n utf8 valid; named = named });
-      refused = ((λ _. IsNeverUtf8-behind first bytes utf8 never), λ _ memory. cc (named, memory));
+      fault = inr (record { valid_len = length first + n; valid = IsValidUpTo-after first bytes n utf8 valid; named = named });
+      refused = ((λ _. IsNeverUtf8-after first bytes utf8 never), λ _ memory. cc (named, memory));
       unchanged = same;
     }
 

@@ -25,14 +25,14 @@ abbrev pub IsNeverUtf8 : List ℕ → Type 0
 IsNeverUtf8 bytes = (later : List ℕ) → ¬ (IsUtf8 (bytes ++ later))
 
 -- the place so many bytes after another, as a `u64` counts: it stays at the greatest once there
-abbrev pub place_behind : ℕ → ℕ → ℕ
-place_behind place count = min (place + count) (2 ^ 64 - 1)
+abbrev pub place_after : ℕ → ℕ → ℕ
+place_after place count = min (place + count) (2 ^ 64 - 1)
 
 -- the error names the place where the bytes, of which the first stands at a place, stop being UTF-8
 pub record IsFault (place : ℕ) (bytes : List ℕ) (error : DecodeError) : Type 0 where
   pub valid_len : ℕ
   pub valid : IsValidUpTo bytes valid_len
-  pub named : error ≡ NotUtf8 (place_behind place valid_len)
+  pub named : error ≡ NotUtf8 (place_after place valid_len)
 
 -- the bytes of pieces, one after the other
 abbrev pub bytes_of : List (Bor (List ℕ)) → List ℕ
@@ -48,7 +48,7 @@ pub record IsTextThenCut (bytes : List ℕ) (n : ℕ) : Type 0 where
 pub record Decodes {Z : Type 0} (old new : Decoding) (bytes : List ℕ) (result : Result (String Z) DecodeError) : Type 0 where
   pub text : IfOk result (λ text. bytes ≡ string_bytes text ++ new.held)
   pub cut : OnOk result (IsCutCharacter new.held)
-  pub taken : IfOk result (λ text. new.taken ≡ place_behind old.taken (length (string_bytes text)))
+  pub taken : IfOk result (λ text. new.taken ≡ place_after old.taken (length (string_bytes text)))
   pub fault : IfErr result (λ error. (error ≡ Memory) ⊎ IsFault old.taken bytes error)
   pub refused : IsErrAnd result (λ error. error ≢ Memory) ↔ IsNeverUtf8 bytes
   pub unchanged : OnErr result (new ≡ old)

@@ -1,9 +1,9 @@
 //! A decoder that takes one piece after another.
 ghost use Rattle.std.specs.Prelude.{◌≡◌, ◌≢◌, ◌≤◌, ◌⊎◌, ◌↔◌, [], ◌++◌, length, IsTrue, IsOk, OnOk, OnErr, IfOk, IfErr, IsErrAnd, string_bytes};
-ghost use Rattle.utf8_pieces.specs.Pieces.{Decodes, IsCutCharacter, IsFault, IsNeverUtf8, bytes_of, place_behind};
+ghost use Rattle.utf8_pieces.specs.Pieces.{Decodes, IsCutCharacter, IsFault, IsNeverUtf8, bytes_of, place_after};
 
 use crate::error::DecodeError;
-use crate::front::{joined, joined_len, padded, place_behind, text_len, text_of, whole_len};
+use crate::front::{joined, joined_len, padded, place_after, text_len, text_of, whole_len};
 use std::alloc::Allocator;
 use std::marker::Model;
 use std::str::from_utf8_unchecked;
@@ -60,7 +60,7 @@ impl Decoder {
         ensures text { IfOk result (λ text. self.old.held ++ bytes.now ≡ string_bytes text ++ self.new.held) }
         ensures cut { OnOk result (IsCutCharacter self.new.held) }
         ensures few { OnOk result (length self.new.held ≤ 3) }
-        ensures taken { IfOk result (λ text. self.new.taken ≡ place_behind self.old.taken
+        ensures taken { IfOk result (λ text. self.new.taken ≡ place_after self.old.taken
             (length (string_bytes text))) }
 
         // What is refused, and when: bytes that nothing after them can make UTF-8.
@@ -71,7 +71,7 @@ impl Decoder {
         ensures unchanged { OnErr result (self.new ≡ self.old) }
     {
         if self.is_complete() {
-            return self.decode_behind(alloc, "", bytes);
+            return self.decode_after(alloc, "", bytes);
         }
         let held = &self.bytes[..self.count];
         let count = held.len();
@@ -80,10 +80,10 @@ impl Decoder {
         let first = whole_len(&front[..len]);
         if first > 0 {
             let text = unsafe { from_utf8_unchecked(&front[..first]) };
-            return self.decode_behind(alloc, text, &bytes[first - count..]);
+            return self.decode_after(alloc, text, &bytes[first - count..]);
         }
         if len < 4 {
-            return self.decode_behind(alloc, "", &front[..len]);
+            return self.decode_after(alloc, "", &front[..len]);
         }
         Err(DecodeError::NotUtf8 {
             valid_up_to: self.taken,
@@ -91,7 +91,7 @@ impl Decoder {
     }
 
     // Takes a piece after a text that stands in place of what is held.
-    fn decode_behind<A: Allocator + Copy>(
+    fn decode_after<A: Allocator + Copy>(
         &mut self,
         alloc: A,
         first: &str,
@@ -103,7 +103,7 @@ impl Decoder {
             Ok(len) => len,
             Err(valid) => {
                 return Err(DecodeError::NotUtf8 {
-                    valid_up_to: place_behind(self.taken, first.len() + valid),
+                    valid_up_to: place_after(self.taken, first.len() + valid),
                 });
             }
         };
@@ -117,11 +117,11 @@ impl Decoder {
     fn hold(&mut self, bytes: &[u8], given: usize)
         requires { IsCutCharacter bytes.now }
         ensures held { self.new.held ≡ bytes.now }
-        ensures taken { self.new.taken ≡ place_behind self.old.taken given }
+        ensures taken { self.new.taken ≡ place_after self.old.taken given }
     {
         self.bytes = padded(bytes);
         self.count = bytes.len();
-        self.taken = place_behind(self.taken, given);
+        self.taken = place_after(self.taken, given);
     }
 
     /// Ends the text. A character that is cut is `NotUtf8`, at the place where it begins.

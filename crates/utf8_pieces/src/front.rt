@@ -1,7 +1,7 @@
 //! How much of some bytes is text.
 ghost use Rattle.std.specs.Prelude.{◌≡◌, ◌+◌, ◌<◌, ◌≤◌, ◌++◌, length, take, min, IfOk, IfErr, IsUtf8, string_bytes};
 ghost use Rattle.std.specs.Str.{IsValidUpTo};
-ghost use Rattle.utf8_pieces.specs.Pieces.{IsNeverUtf8, IsTextThenCut, place_behind};
+ghost use Rattle.utf8_pieces.specs.Pieces.{IsNeverUtf8, IsTextThenCut, place_after};
 
 use std::alloc::{AllocError, Allocator};
 
@@ -82,8 +82,8 @@ pub(crate) fn text_of<A: Allocator>(
 }
 
 // The place so many bytes after another.
-pub(crate) fn place_behind(place: u64, count: usize) -> u64
-    ensures { result ≡ place_behind place count }
+pub(crate) fn place_after(place: u64, count: usize) -> u64
+    ensures { result ≡ place_after place count }
 {
     place.saturating_add(count as u64)
 }

@@ -15,7 +15,7 @@ use Rattle.html5grammar.specs.Characters.{null, is_bad_character}
 use Rattle.html5grammar.specs.Comment.{begins_keyword, begins_cdata}
 use Rattle.html5grammar.specs.EndOfInput.{late_at_end_of, open_at_end_of, told_at_end_of, tokens_at_end}
 use Rattle.html5grammar.specs.NormalisedText.{normalised, line_after}
-use Rattle.html5items.specs.Cdata.{WrittenCdata, opening_text, end_text, pieces_text, written, is_written, spell_null, spell_pieces, spell_end, spell_cdata, told_at_end, cdata_messages, open_behind_cdata, IsCdata, is_piece}
+use Rattle.html5items.specs.Cdata.{WrittenCdata, opening_text, end_text, pieces_text, written, is_written, spell_null, spell_pieces, spell_end, spell_cdata, told_at_end, cdata_messages, open_after_cdata, IsCdata, is_piece}
 use Rattle.html5items.specs.Spelled.{Spelled, spell_silent, spelled_messages}
 use Rattle.html5grammar.specs.RawText.{texts}
 use Rattle.html5grammar.specs.Reading.{reading, told, messages, after}
@@ -83,9 +83,9 @@ decided-section : (held : List ℕ) → is_undecided_open (open_cdata held) ≡ 
 decided-section [] = refl
 decided-section (b ∷ held) = refl
 
-decided-behind : (last : List ℕ) (is_ended : Bool) → is_undecided_open (if is_ended then Between Data else open_cdata last) ≡ false
-decided-behind last true = refl
-decided-behind last false = decided-section last
+decided-after : (last : List ℕ) (is_ended : Bool) → is_undecided_open (if is_ended then Between Data else open_cdata last) ≡ false
+decided-after last true = refl
+decided-after last false = decided-section last
 
 module _ {S H : Type 0} (step : S → Told → ℕ → S) (reply : S → Told → ℕ → Reply H) (foreign : S → Bool) (rules : Rules) where
   trace-begins : (K : Start) (s : S) (before text : List ℕ) → foreign s ≡ true
@@ -114,7 +114,7 @@ module _ {S H : Type 0} (step : S → Told → ℕ → S) (reply : S → Told �
 
   pub reads : (K : Start) (s : S) (X : List ℕ) (cdata : WrittenCdata) → IsCdata K (foreign s) X cdata
       → trace step reply foreign rules s (line_after K.input []) K.last_start_tag K.opened (normalised K.input X)
-      ≡ record { messages = spelled_messages rules.exact K.input (opening_text cdata.has_opening) (spell_cdata cdata); opened = open_behind_cdata cdata; last_start_tag = K.last_start_tag }
+      ≡ record { messages = spelled_messages rules.exact K.input (opening_text cdata.has_opening) (spell_cdata cdata); opened = open_after_cdata cdata; last_start_tag = K.last_start_tag }
   unfolding written is_written
   reads K s X cdata one =
       let text : List ℕ = pieces_text cdata.pieces cdata.last ++ end_text cdata.is_ended in
@@ -123,11 +123,11 @@ module _ {S H : Type 0} (step : S → Told → ℕ → S) (reply : S → Told �
       rw (one.starts, one.text)
       (trace-start K s cdata.has_opening text begins
       ∙ ap (trace step reply foreign rules s (line_after K.input (opening_text cdata.has_opening)) K.last_start_tag (Between Cdata)) (sym (characters-cdata cdata))
-      ∙ trace-ends step reply foreign rules K.input (opening_text cdata.has_opening) s K.last_start_tag (Between Cdata) (open_behind_cdata cdata) (spell_cdata cdata)
-      (leads-goes rules (Between Cdata) (open_behind_cdata cdata) (spell_cdata cdata) (decided-behind cdata.last cdata.is_ended) (goes-cdata rules.exact (foreign s) cdata one.is_cdata)))
+      ∙ trace-ends step reply foreign rules K.input (opening_text cdata.has_opening) s K.last_start_tag (Between Cdata) (open_after_cdata cdata) (spell_cdata cdata)
+      (leads-goes rules (Between Cdata) (open_after_cdata cdata) (spell_cdata cdata) (decided-after cdata.last cdata.is_ended) (goes-cdata rules.exact (foreign s) cdata one.is_cdata)))
 
   pub after-cdata : (K : Start) (s : S) (X : List ℕ) (cdata : WrittenCdata) → IsCdata K (foreign s) X cdata
-      → (after step reply foreign rules K s X).opened ≡ open_behind_cdata cdata
+      → (after step reply foreign rules K s X).opened ≡ open_after_cdata cdata
   after-cdata K s X cdata one = after-opened step reply foreign rules K s X ∙ ap (λ (t : Trace). t.opened) (reads K s X cdata one)
 
   -- a text that is one section

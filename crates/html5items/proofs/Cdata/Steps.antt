@@ -8,7 +8,7 @@ use Rattle.html5grammar.specs.Characters.{null, greater_than}
 use Rattle.html5grammar.specs.Cdata.{open_cdata, ends_cdata}
 use Rattle.html5grammar.specs.Comment.{ends_in, without_last}
 use Rattle.html5grammar.specs.RawText.{texts}
-use Rattle.html5items.specs.Cdata.{WrittenCdata, is_piece, is_written, spell_null, spell_pieces, spell_end, spell_cdata, open_behind_cdata}
+use Rattle.html5items.specs.Cdata.{WrittenCdata, is_piece, is_written, spell_null, spell_pieces, spell_end, spell_cdata, open_after_cdata}
 use Rattle.html5items.specs.Comment.{occurs}
 use Rattle.html5items.specs.Spelled.{spell_silent}
 use Rattle.html5grammar.specs.Reading.Here.{Tells}
@@ -110,12 +110,12 @@ module _ (exact : Bool) where
 
   -- the whole section after its opening
   pub goes-cdata : (foreign : Bool) (cdata : WrittenCdata) → is_written foreign cdata ≡ true
-      → Goes exact (Between Cdata) (spell_cdata cdata) (open_behind_cdata cdata)
+      → Goes exact (Between Cdata) (spell_cdata cdata) (open_after_cdata cdata)
   unfolding is_written
   goes-cdata foreign cdata h =
       let p = and_parts (not cdata.has_opening || foreign) (list_all is_piece cdata.pieces && is_piece cdata.last) h in
       let q = and_parts (list_all is_piece cdata.pieces) (is_piece cdata.last) p.1 in
-      Goes-append exact (Between Cdata) (Between Cdata) (open_behind_cdata cdata) (spell_pieces cdata.pieces) (spell_silent cdata.last ++ spell_end cdata.is_ended cdata.last)
+      Goes-append exact (Between Cdata) (Between Cdata) (open_after_cdata cdata) (spell_pieces cdata.pieces) (spell_silent cdata.last ++ spell_end cdata.is_ended cdata.last)
       (goes-pieces cdata.pieces q.0)
-      (Goes-append exact (Between Cdata) (open_cdata cdata.last) (open_behind_cdata cdata) (spell_silent cdata.last) (spell_end cdata.is_ended cdata.last)
+      (Goes-append exact (Between Cdata) (open_cdata cdata.last) (open_after_cdata cdata) (spell_silent cdata.last) (spell_end cdata.is_ended cdata.last)
       (goes-piece cdata.last q.1) (goes-end cdata.last cdata.is_ended))

@@ -9,7 +9,7 @@ use Rattle.html5ever_interface.specs.declared.states.State.TheVariants as state
 use Rattle.html5grammar.specs.Characters.{exclamation_mark, value_bytes}
 use Rattle.html5grammar.specs.ErrorText.{error_in}
 use Rattle.html5grammar.specs.NormalisedText.{line_after}
-use Rattle.html5items.specs.Comment.{Ending, WrittenComment, before_greater_than, written, behind_mark_error, spell_content, ending_errors, spell_end, spell_bogus, spell_odd, messages_of, comment_messages, IsComment}
+use Rattle.html5items.specs.Comment.{Ending, WrittenComment, before_greater_than, written, after_mark_error, spell_content, ending_errors, spell_end, spell_bogus, spell_odd, messages_of, comment_messages, IsComment}
 use Rattle.html5items.specs.Comment.Ending.{Dashes, Bang, AtOnce, AfterDash}
 use Rattle.html5items.specs.Comment.Opening.{Solidus, ExclamationMark}
 use Rattle.html5items.specs.Comment.WrittenComment.{Proper, Bogus}
@@ -22,10 +22,10 @@ use Rattle.html5items.proofs.Collected.{HasNoText, HasNoText-append, HasNoText-w
 
 module _ (exact : Bool) where
   TellNoText-content : (before content : List ℕ) → TellNoText (spell_content exact before content)
-  unfolding spell_content behind_mark_error
+  unfolding spell_content after_mark_error
   TellNoText-content before [] = tt
   TellNoText-content before (c ∷ content) =
-      (HasNoText-append (behind_mark_error exact before c) _ (HasNoText-where _ _) (HasNoText-where _ _), TellNoText-content (before ++ c ∷ []) content)
+      (HasNoText-append (after_mark_error exact before c) _ (HasNoText-where _ _) (HasNoText-where _ _), TellNoText-content (before ++ c ∷ []) content)
 
   HasNoText-ending : (ending : Ending) → HasNoText (ending_errors exact ending)
   HasNoText-ending Dashes = tt

@@ -135,23 +135,23 @@ ended before h ends =
     ]
 
 -- a text after `<!--`
-pub data Behind (text : List ℕ) : Type 0 where
+pub data Afterwards (text : List ℕ) : Type 0 where
   Ends : (content : List ℕ) (ending : Ending) (later : List ℕ) → can_end_with content ending ≡ true
-      → text ≡ (content ++ before_greater_than ending) ++ greater_than ∷ later → Behind text
-  Open : is_content text ≡ true → Behind text
+      → text ≡ (content ++ before_greater_than ending) ++ greater_than ∷ later → Afterwards text
+  Open : is_content text ≡ true → Afterwards text
 
-behind-at : (before : List ℕ) (c : ℕ) (text : List ℕ) → runs_on [] before ≡ true → (runs_on [] (before ++ c ∷ []) ≡ true → Behind ((before ++ c ∷ []) ++ text))
-    → (t : Bool) → ((c == greater_than) && ends_comment before) ≡ t → Behind (before ++ c ∷ text)
-behind-at before c text h further true e =
+after-at : (before : List ℕ) (c : ℕ) (text : List ℕ) → runs_on [] before ≡ true → (runs_on [] (before ++ c ∷ []) ≡ true → Afterwards ((before ++ c ∷ []) ++ text))
+    → (t : Bool) → ((c == greater_than) && ends_comment before) ≡ t → Afterwards (before ++ c ∷ text)
+after-at before c text h further true e =
     let p = and_parts (c == greater_than) (ends_comment before) e in
     let w : Ended before = ended before h p.1 in
     Ends w.content w.ending text w.is_end (ap (λ d. before ++ d ∷ text) (eqb-true c greater_than p.0) ∙ ap (λ l. l ++ greater_than ∷ text) w.parts)
-behind-at before c text h further false e = subst Behind (append_assoc before (c ∷ []) text) (further (runs_on-push [] before c h e))
+after-at before c text h further false e = subst Afterwards (append_assoc before (c ∷ []) text) (further (runs_on-push [] before c h e))
 
-behind-from : (before text : List ℕ) → runs_on [] before ≡ true → Behind (before ++ text)
-behind-from before [] h = Open (ap is_content (append-nil before) ∙ content-of before h)
-behind-from before (c ∷ text) h = behind-at before c text h (λ g. behind-from (before ++ c ∷ []) text g) ((c == greater_than) && ends_comment before) refl
+after-from : (before text : List ℕ) → runs_on [] before ≡ true → Afterwards (before ++ text)
+after-from before [] h = Open (ap is_content (append-nil before) ∙ content-of before h)
+after-from before (c ∷ text) h = after-at before c text h (λ g. after-from (before ++ c ∷ []) text g) ((c == greater_than) && ends_comment before) refl
 
-pub behind : (text : List ℕ) → Behind text
+pub afterwards : (text : List ℕ) → Afterwards text
 unfolding runs_on
-behind text = behind-from [] text refl
+afterwards text = after-from [] text refl

@@ -18,7 +18,7 @@ use Rattle.html5grammar.specs.ErrorText.{error_in}
 use Rattle.html5items.specs.Comment.{begins_with, can_open}
 use Rattle.html5items.specs.Comment.Opening.{ExclamationMark}
 use Rattle.html5grammar.specs.Reading.Here.{Tells}
-use Rattle.html5grammar.specs.Slice.{run_while, behind_while}
+use Rattle.html5grammar.specs.Slice.{run_while, after_while}
 use Rattle.html5grammar.specs.Start.{Rules}
 use Rattle.html5grammar.specs.Start.Open.{InDeclaration, InBogusComment}
 use Rattle.html5items.specs.RawText.{next_is}
@@ -34,8 +34,8 @@ begins_declaration foreign held = begins_keyword held || (foreign && begins_cdat
 abbrev pub held_of : Bool → List ℕ → List ℕ
 held_of foreign content = run_while (begins_declaration foreign) [] content
 
-abbrev pub behind_held_of : Bool → List ℕ → List ℕ
-behind_held_of foreign content = behind_while (begins_declaration foreign) [] content
+abbrev pub after_held_of : Bool → List ℕ → List ℕ
+after_held_of foreign content = after_while (begins_declaration foreign) [] content
 
 -- ---- held characters are plain
 
@@ -136,14 +136,14 @@ no_greater_than foreign text =
     ∙ none_with (lower_case text) (codes "doctype") greater_than (length (lower_case text ++ greater_than ∷ [])) refl))
     (ap (λ b. foreign && b) (none_with text cdata_keyword greater_than (length (text ++ greater_than ∷ [])) refl) ∙ and-false foreign)
 
-pub decides-held : (foreign : Bool) (content : List ℕ) → next_is (λ d. not (begins_declaration foreign (held_of foreign content ++ d ∷ []))) (behind_held_of foreign content ++ greater_than ∷ []) ≡ true
+pub decides-held : (foreign : Bool) (content : List ℕ) → next_is (λ d. not (begins_declaration foreign (held_of foreign content ++ d ∷ []))) (after_held_of foreign content ++ greater_than ∷ []) ≡ true
 decides-held foreign content = decides-while (begins_declaration foreign) (no_greater_than foreign) [] content
 
 pub held_of-plain : (foreign : Bool) (content : List ℕ) → IsPlain (held_of foreign content)
 unfolding begins_declaration begins_keyword
 held_of-plain foreign content = held-plain foreign (held_of foreign content) (begins-while (begins_declaration foreign) [] content refl)
 
-pub held-parts : (foreign : Bool) (content : List ℕ) → held_of foreign content ++ behind_held_of foreign content ≡ content
+pub held-parts : (foreign : Bool) (content : List ℕ) → held_of foreign content ++ after_held_of foreign content ≡ content
 held-parts foreign content = while-parts (begins_declaration foreign) [] content
 
 -- ---- what is told where it is decided

@@ -26,7 +26,7 @@ use Rattle.html5grammar.specs.Machine.{brought_at, step_at, data_step, less_than
 use Rattle.html5items.proofs.Leading.{Leads, leads-goes, trace-leads, trace-ends, trace-text, IsRead, IsReadFrom, reading-whole, spelled_messages-append}
 use Rattle.html5items.proofs.Comment.Steps.{goes-proper, goes-bogus_end, goes-solidus}
 use Rattle.html5items.proofs.Comment.Text.{bytes_of}
-use Rattle.html5items.proofs.Comment.Held.{held_of, behind_held_of, held_of-plain, held-parts, are_held, decides-held, error_on, trace-decides}
+use Rattle.html5items.proofs.Comment.Held.{held_of, after_held_of, held_of-plain, held-parts, are_held, decides-held, error_on, trace-decides}
 use Rattle.html5items.proofs.Goes.{characters, characters-spell, characters-two, Goes}
 use Rattle.html5grammar.proofs.Traces.{trace, with_messages}
 
@@ -90,9 +90,9 @@ spelled-held exact input before held rest content parts good =
     before held good)
     ∙ ap (λ l. spelled_messages exact input (before ++ l) cells) (characters-spell (null_error exact state.BogusComment) held)
 
-pub all_behind : (text later : List ℕ) → list_all in_bogus_comment (text ++ later) ≡ true → list_all in_bogus_comment later ≡ true
-all_behind [] later h = h
-all_behind (c ∷ text) later h = all_behind text later (and_parts (in_bogus_comment c) (list_all in_bogus_comment (text ++ later)) h).1
+pub all_after : (text later : List ℕ) → list_all in_bogus_comment (text ++ later) ≡ true → list_all in_bogus_comment later ≡ true
+all_after [] later h = h
+all_after (c ∷ text) later h = all_after text later (and_parts (in_bogus_comment c) (list_all in_bogus_comment (text ++ later)) h).1
 
 module _ {S H : Type 0} (step : S → Told → ℕ → S) (reply : S → Told → ℕ → Reply H) (foreign : S → Bool) (rules : Rules) where
   trace-whole : (K : Start) (s : S) (cells : List Spelled) (text : List ℕ) → characters cells ≡ text → Leads rules (Between Data) cells (Between Data)
@@ -115,7 +115,7 @@ module _ {S H : Type 0} (step : S → Told → ℕ → S) (reply : S → Told �
   unfolding written messages_of
   reads_declaration K s content opens within =
       let held : List ℕ = held_of (foreign s) content in
-      let rest : List ℕ = behind_held_of (foreign s) content in
+      let rest : List ℕ = after_held_of (foreign s) content in
       let past : List ℕ = codes "<!" ++ held in
       let cells : List Spelled = spell_bogus rules.exact rest ++ spell_end [] content in
       let parts : held ++ rest ≡ content = held-parts (foreign s) content in
@@ -129,7 +129,7 @@ module _ {S H : Type 0} (step : S → Told → ℕ → S) (reply : S → Told �
       let goes : Goes rules.exact (InBogusComment held) cells (Between Data) =
       subst (λ l. Goes rules.exact (InBogusComment l) cells (Between Data)) plain.bytes
       (subst (λ l. Goes rules.exact (InBogusComment (bytes_of held)) (spell_bogus rules.exact rest ++ spell_end [] l) (Between Data)) parts
-      (goes-bogus_end rules.exact held rest (all_behind held rest (ap (list_all in_bogus_comment) parts ∙ within)))) in
+      (goes-bogus_end rules.exact held rest (all_after held rest (ap (list_all in_bogus_comment) parts ∙ within)))) in
       ap (trace step reply foreign rules s (line_after K.input []) K.last_start_tag (Between Data)) whole
       ∙ trace-mark K s (held ++ (rest ++ greater_than ∷ []))
       ∙ trace-held step reply foreign rules InDeclaration K.input (codes "<!") s K.last_start_tag [] held (rest ++ greater_than ∷ []) (are_held rules (foreign s) content opens) plain.good

@@ -10,7 +10,7 @@ use Rattle.html5ever_interface.specs.Token.Told.{Comment}
 use Rattle.html5ever_interface.specs.declared.states.State.TheVariants as state
 use Rattle.html5grammar.specs.Characters.{greater_than, is_letter, shown, value_bytes}
 use Rattle.html5grammar.specs.Comment.{ends_in, without_last, is_lone_dash, comment_state, ends_in_mark, mark_error, comment_errors, ends_comment, comment_end_error, comment_content, in_bogus_comment}
-use Rattle.html5items.specs.Comment.{Ending, is_written, before_greater_than, begins_with, occurs, is_content, is_empty, can_end_with, behind_mark_error, null_state, spell_content, ending_errors, spell_end, spell_bogus, spell_odd}
+use Rattle.html5items.specs.Comment.{Ending, is_written, before_greater_than, begins_with, occurs, is_content, is_empty, can_end_with, after_mark_error, null_state, spell_content, ending_errors, spell_end, spell_bogus, spell_odd}
 use Rattle.html5items.specs.Comment.Ending.{Dashes, Bang, AtOnce, AfterDash}
 use Rattle.html5items.specs.Comment.Opening.{Solidus}
 use Rattle.html5items.specs.Comment.WrittenComment.{Bogus}
@@ -92,8 +92,8 @@ runs_on-content content h = runs_on-rest content [] content h refl
 
 -- ---- the errors of a place
 
-mark-errors : (exact : Bool) (before : List ℕ) (c : ℕ) → mark_error exact before c ≡ behind_mark_error exact before c
-unfolding mark_error ends_in_mark behind_mark_error
+mark-errors : (exact : Bool) (before : List ℕ) (c : ℕ) → mark_error exact before c ≡ after_mark_error exact before c
+unfolding mark_error ends_in_mark after_mark_error
 mark-errors exact before c = refl
 
 null_state-is : (before : List ℕ) → comment_state state.Comment before ≡ null_state before
@@ -115,12 +115,12 @@ module _ (exact : Bool) where
   -- ---- a comment's text
 
   -- the errors by the bytes before a character are those of its place
-  errors-bytes : (before : List ℕ) (c : ℕ) → comment_errors exact (bytes_of before) c ≡ behind_mark_error exact before c ++ null_error exact (null_state before) c
+  errors-bytes : (before : List ℕ) (c : ℕ) → comment_errors exact (bytes_of before) c ≡ after_mark_error exact before c ++ null_error exact (null_state before) c
   unfolding comment_errors
   errors-bytes before c = comment_errors-bytes exact before c ∙ rw (mark-errors exact before c, null_state-is before) refl
 
   step-content : (before : List ℕ) (c : ℕ) → ((c == greater_than) && ends_comment before) ≡ false
-      → step_at exact (InComment (bytes_of before)) c ≡ Tells (behind_mark_error exact before c ++ null_error exact (null_state before) c) (InComment (bytes_of (before ++ c ∷ [])))
+      → step_at exact (InComment (bytes_of before)) c ≡ Tells (after_mark_error exact before c ++ null_error exact (null_state before) c) (InComment (bytes_of (before ++ c ∷ [])))
   unfolding step_at comment_step
   step-content before c h = rw (ends_comment-bytes before, h, errors-bytes before c, bytes-push before c) refl
 

@@ -79,9 +79,9 @@ ends_in_mark-bytes : (text : List ℕ) → ends_in_mark (bytes_of text) ≡ ends
 unfolding ends_in_mark
 ends_in_mark-bytes text = mark_carries text
 
-comment_state-bytes : (behind_dashes : State) (text : List ℕ) → comment_state behind_dashes (bytes_of text) ≡ comment_state behind_dashes text
+comment_state-bytes : (after_dashes : State) (text : List ℕ) → comment_state after_dashes (bytes_of text) ≡ comment_state after_dashes text
 unfolding comment_state
-comment_state-bytes behind_dashes text = rw (length-bytes text, lone_dash-bytes text, dash_carries text, dashes_carry text, bang_carries text) refl
+comment_state-bytes after_dashes text = rw (length-bytes text, lone_dash-bytes text, dash_carries text, dashes_carry text, bang_carries text) refl
 
 pub comment_errors-bytes : (exact : Bool) (text : List ℕ) (c : ℕ) → comment_errors exact (bytes_of text) c ≡ comment_errors exact text c
 unfolding comment_errors mark_error

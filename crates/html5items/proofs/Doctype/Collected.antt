@@ -13,8 +13,8 @@ use Rattle.html5grammar.specs.Characters.{greater_than, name_bytes}
 use Rattle.html5grammar.specs.Doctype.{with_quirks, identifier_state, begins_doctype_keyword}
 use Rattle.html5grammar.specs.ErrorText.{error_in}
 use Rattle.html5grammar.specs.NormalisedText.{line_after}
-use Rattle.html5items.specs.Doctype.{Identifier, SystemIdentifier, BehindName, Content, WrittenDoctype, opening, written, told_behind_name, spell_end, spell_skipped, spell_odd, spell_rest, direct_error, keyword_state, between_state, spell_begun, spell_identifier, spell_behind_system, spell_behind_public, spell_wanted, spell_behind_name, spell_name, held_of, behind_held_of, messages_behind_name, messages_of, doctype_messages, IsDoctype}
-use Rattle.html5items.specs.Doctype.BehindName.{NoKeyword, PublicKeyword, SystemKeyword}
+use Rattle.html5items.specs.Doctype.{Identifier, SystemIdentifier, RestAfterName, Content, WrittenDoctype, opening, written, told_after_name, spell_end, spell_skipped, spell_odd, spell_rest, direct_error, keyword_state, between_state, spell_begun, spell_identifier, spell_after_system, spell_after_public, spell_wanted, spell_after_name, spell_name, held_of, after_held_of, messages_after_name, messages_of, doctype_messages, IsDoctype}
+use Rattle.html5items.specs.Doctype.RestAfterName.{NoKeyword, PublicKeyword, SystemKeyword}
 use Rattle.html5items.specs.Doctype.Content.{NoName, Named}
 use Rattle.html5items.specs.Doctype.Identifier.{Missing, Unclosed, Closed}
 use Rattle.html5items.specs.Spelled.{Spelled, spell, spell_silent, spelled_messages}
@@ -46,42 +46,42 @@ module _ (exact : Bool) where
   TellNoText-begun : (kind : DoctypeIdKind) (named : State) (space : List ℕ) (quotes : Quotes) (run : List ℕ) → TellNoText (spell_begun exact kind named space quotes run)
   TellNoText-begun kind named space quotes run = (HasNoText-where _ _, TellNoText-null (identifier_state quotes kind) run)
 
-  TellNoText-identifier : {B : Type 0} → (kind : DoctypeIdKind) (named : State) (d : DoctypeOf) (space : List ℕ) (spell_behind : List ℕ → B → List Spelled)
-      → ((later : List ℕ) (behind : B) → TellNoText (spell_behind later behind))
-      → (identifier : Identifier B) → TellNoText (spell_identifier exact kind named d space spell_behind identifier)
-  TellNoText-identifier kind named d space spell_behind behinds (Missing rest) = TellNoText-odd named d rest
-  TellNoText-identifier kind named d space spell_behind behinds (Unclosed quotes run) =
+  TellNoText-identifier : {B : Type 0} → (kind : DoctypeIdKind) (named : State) (d : DoctypeOf) (space : List ℕ) (spell_after : List ℕ → B → List Spelled)
+      → ((later : List ℕ) (afterwards : B) → TellNoText (spell_after later afterwards))
+      → (identifier : Identifier B) → TellNoText (spell_identifier exact kind named d space spell_after identifier)
+  TellNoText-identifier kind named d space spell_after afters (Missing rest) = TellNoText-odd named d rest
+  TellNoText-identifier kind named d space spell_after afters (Unclosed quotes run) =
       let error : Told = error_in exact (identifier_state quotes kind) greater_than in
       TellNoText-append (spell_begun exact kind named space quotes run) (spell_end (error ∷ []) d) (TellNoText-begun kind named space quotes run) (TellNoText-end (error ∷ []) d (refl, tt))
-  TellNoText-identifier kind named d space spell_behind behinds (Closed quotes run later behind) =
+  TellNoText-identifier kind named d space spell_after afters (Closed quotes run later afterwards) =
       TellNoText-append (spell_begun exact kind named space quotes run) _ (TellNoText-begun kind named space quotes run)
-      (tt, TellNoText-append (spell_silent later) (spell_behind later behind) (TellNoText-silent later) (behinds later behind))
+      (tt, TellNoText-append (spell_silent later) (spell_after later afterwards) (TellNoText-silent later) (afters later afterwards))
 
-  TellNoText-behind_system : (d : DoctypeOf) (space rest : List ℕ) → TellNoText (spell_behind_system exact d space rest)
-  TellNoText-behind_system d space rest = TellNoText-rest (state.AfterDoctypeIdentifier System) d rest
+  TellNoText-after_system : (d : DoctypeOf) (space rest : List ℕ) → TellNoText (spell_after_system exact d space rest)
+  TellNoText-after_system d space rest = TellNoText-rest (state.AfterDoctypeIdentifier System) d rest
 
-  TellNoText-behind_public : (d : DoctypeOf) (space : List ℕ) (system : SystemIdentifier) → TellNoText (spell_behind_public exact d space system)
-  TellNoText-behind_public d space (Missing []) = TellNoText-end [] d tt
-  TellNoText-behind_public d space (Missing (c ∷ rest)) = TellNoText-odd (between_state space) d (c ∷ rest)
-  TellNoText-behind_public d space (Unclosed quotes run) =
-      TellNoText-identifier System (between_state space) d space (spell_behind_system exact d) (TellNoText-behind_system d) (Unclosed quotes run)
-  TellNoText-behind_public d space (Closed quotes run later rest) =
-      TellNoText-identifier System (between_state space) d space (spell_behind_system exact d) (TellNoText-behind_system d) (Closed quotes run later rest)
+  TellNoText-after_public : (d : DoctypeOf) (space : List ℕ) (system : SystemIdentifier) → TellNoText (spell_after_public exact d space system)
+  TellNoText-after_public d space (Missing []) = TellNoText-end [] d tt
+  TellNoText-after_public d space (Missing (c ∷ rest)) = TellNoText-odd (between_state space) d (c ∷ rest)
+  TellNoText-after_public d space (Unclosed quotes run) =
+      TellNoText-identifier System (between_state space) d space (spell_after_system exact d) (TellNoText-after_system d) (Unclosed quotes run)
+  TellNoText-after_public d space (Closed quotes run later rest) =
+      TellNoText-identifier System (between_state space) d space (spell_after_system exact d) (TellNoText-after_system d) (Closed quotes run later rest)
 
-  TellNoText-keyword : {B : Type 0} → (kind : DoctypeIdKind) (d : DoctypeOf) (keyword space : List ℕ) (spell_behind : List ℕ → B → List Spelled)
-      → ((later : List ℕ) (behind : B) → TellNoText (spell_behind later behind))
-      → (identifier : Identifier B) → TellNoText (spell_silent keyword ++ spell_wanted exact kind d space spell_behind identifier)
-  TellNoText-keyword kind d keyword space spell_behind behinds identifier =
-      TellNoText-append (spell_silent keyword) (spell_wanted exact kind d space spell_behind identifier) (TellNoText-silent keyword)
-      (TellNoText-append (spell_silent space) (spell_identifier exact kind (keyword_state kind space) d space spell_behind identifier) (TellNoText-silent space)
-      (TellNoText-identifier kind (keyword_state kind space) d space spell_behind behinds identifier))
+  TellNoText-keyword : {B : Type 0} → (kind : DoctypeIdKind) (d : DoctypeOf) (keyword space : List ℕ) (spell_after : List ℕ → B → List Spelled)
+      → ((later : List ℕ) (afterwards : B) → TellNoText (spell_after later afterwards))
+      → (identifier : Identifier B) → TellNoText (spell_silent keyword ++ spell_wanted exact kind d space spell_after identifier)
+  TellNoText-keyword kind d keyword space spell_after afters identifier =
+      TellNoText-append (spell_silent keyword) (spell_wanted exact kind d space spell_after identifier) (TellNoText-silent keyword)
+      (TellNoText-append (spell_silent space) (spell_identifier exact kind (keyword_state kind space) d space spell_after identifier) (TellNoText-silent space)
+      (TellNoText-identifier kind (keyword_state kind space) d space spell_after afters identifier))
 
-  TellNoText-behind_name : (d : DoctypeOf) (behind : BehindName) → TellNoText (spell_behind_name exact d behind)
-  TellNoText-behind_name d (NoKeyword rest) = TellNoText-rest state.AfterDoctypeName d rest
-  TellNoText-behind_name d (PublicKeyword keyword space identifier) =
-      TellNoText-keyword Public d keyword space (spell_behind_public exact d) (TellNoText-behind_public d) identifier
-  TellNoText-behind_name d (SystemKeyword keyword space identifier) =
-      TellNoText-keyword System d keyword space (spell_behind_system exact d) (TellNoText-behind_system d) identifier
+  TellNoText-after_name : (d : DoctypeOf) (afterwards : RestAfterName) → TellNoText (spell_after_name exact d afterwards)
+  TellNoText-after_name d (NoKeyword rest) = TellNoText-rest state.AfterDoctypeName d rest
+  TellNoText-after_name d (PublicKeyword keyword space identifier) =
+      TellNoText-keyword Public d keyword space (spell_after_public exact d) (TellNoText-after_public d) identifier
+  TellNoText-after_name d (SystemKeyword keyword space identifier) =
+      TellNoText-keyword System d keyword space (spell_after_system exact d) (TellNoText-after_system d) identifier
 
   TellNoText-name : (word space : List ℕ) (first : ℕ) (rest later : List ℕ) → TellNoText (spell_name exact word space first rest later)
   TellNoText-name word space first rest later =
@@ -95,31 +95,31 @@ module _ (exact : Bool) where
   keeps-cells : (input : Input) (before : List ℕ) (cells : List Spelled) → TellNoText cells → KeepsAll (spelled_messages exact input before cells)
   keeps-cells input before cells h c = collected-spelled_messages exact input before c cells h
 
-  keeps-held : (input : Input) (before : List ℕ) (d : DoctypeOf) (line : ℕ) (error : Told) (held behind : List ℕ) → HasNoText (error ∷ [])
-      → KeepsAll (spelled_messages exact input before (spell_silent held) ++ (on_line line (error ∷ []) ++ spelled_messages exact input (before ++ held) (spell_skipped exact d behind)))
-  keeps-held input before d line error held behind h =
-      let M : List Message = spelled_messages exact input (before ++ held) (spell_skipped exact d behind) in
+  keeps-held : (input : Input) (before : List ℕ) (d : DoctypeOf) (line : ℕ) (error : Told) (held afterwards : List ℕ) → HasNoText (error ∷ [])
+      → KeepsAll (spelled_messages exact input before (spell_silent held) ++ (on_line line (error ∷ []) ++ spelled_messages exact input (before ++ held) (spell_skipped exact d afterwards)))
+  keeps-held input before d line error held afterwards h =
+      let M : List Message = spelled_messages exact input (before ++ held) (spell_skipped exact d afterwards) in
       keeps-append (spelled_messages exact input before (spell_silent held)) (on_line line (error ∷ []) ++ M)
       (keeps-cells input before (spell_silent held) (TellNoText-silent held))
       (keeps-append (on_line line (error ∷ [])) M (λ c. collected-on_line c line (error ∷ []) h)
-      (keeps-cells input (before ++ held) (spell_skipped exact d behind) (TellNoText-skipped d behind)))
+      (keeps-cells input (before ++ held) (spell_skipped exact d afterwards) (TellNoText-skipped d afterwards)))
 
-  keeps-behind_name : (input : Input) (before : List ℕ) (d : DoctypeOf) (behind : BehindName) → KeepsAll (messages_behind_name exact input before d behind)
-  unfolding messages_behind_name
-  keeps-behind_name input before d (NoKeyword []) = keeps-cells input before (spell_end [] d) (TellNoText-end [] d tt)
-  keeps-behind_name input before d (NoKeyword (c ∷ rest)) = by (begins_doctype_keyword (c ∷ []))
+  keeps-after_name : (input : Input) (before : List ℕ) (d : DoctypeOf) (afterwards : RestAfterName) → KeepsAll (messages_after_name exact input before d afterwards)
+  unfolding messages_after_name
+  keeps-after_name input before d (NoKeyword []) = keeps-cells input before (spell_end [] d) (TellNoText-end [] d tt)
+  keeps-after_name input before d (NoKeyword (c ∷ rest)) = by (begins_doctype_keyword (c ∷ []))
     where
       error : Told
       error = error_in exact state.AfterDoctypeName c
 
       by : (t : Bool)
-          → KeepsAll (if t then spelled_messages exact input before (spell_silent (held_of (c ∷ rest))) ++ (on_line (line_after input (before ++ c ∷ [])) (error ∷ []) ++ spelled_messages exact input (before ++ held_of (c ∷ rest)) (spell_skipped exact d (behind_held_of (c ∷ rest)))) else spelled_messages exact input before (spell_behind_name exact d (NoKeyword (c ∷ rest))))
-      by true = keeps-held input before d (line_after input (before ++ c ∷ [])) error (held_of (c ∷ rest)) (behind_held_of (c ∷ rest)) (refl, tt)
-      by false = keeps-cells input before (spell_behind_name exact d (NoKeyword (c ∷ rest))) (TellNoText-behind_name d (NoKeyword (c ∷ rest)))
-  keeps-behind_name input before d (PublicKeyword keyword space identifier) =
-      keeps-cells input before (spell_behind_name exact d (PublicKeyword keyword space identifier)) (TellNoText-behind_name d (PublicKeyword keyword space identifier))
-  keeps-behind_name input before d (SystemKeyword keyword space identifier) =
-      keeps-cells input before (spell_behind_name exact d (SystemKeyword keyword space identifier)) (TellNoText-behind_name d (SystemKeyword keyword space identifier))
+          → KeepsAll (if t then spelled_messages exact input before (spell_silent (held_of (c ∷ rest))) ++ (on_line (line_after input (before ++ c ∷ [])) (error ∷ []) ++ spelled_messages exact input (before ++ held_of (c ∷ rest)) (spell_skipped exact d (after_held_of (c ∷ rest)))) else spelled_messages exact input before (spell_after_name exact d (NoKeyword (c ∷ rest))))
+      by true = keeps-held input before d (line_after input (before ++ c ∷ [])) error (held_of (c ∷ rest)) (after_held_of (c ∷ rest)) (refl, tt)
+      by false = keeps-cells input before (spell_after_name exact d (NoKeyword (c ∷ rest))) (TellNoText-after_name d (NoKeyword (c ∷ rest)))
+  keeps-after_name input before d (PublicKeyword keyword space identifier) =
+      keeps-cells input before (spell_after_name exact d (PublicKeyword keyword space identifier)) (TellNoText-after_name d (PublicKeyword keyword space identifier))
+  keeps-after_name input before d (SystemKeyword keyword space identifier) =
+      keeps-cells input before (spell_after_name exact d (SystemKeyword keyword space identifier)) (TellNoText-after_name d (SystemKeyword keyword space identifier))
 
   keeps-content : (input : Input) (word space : List ℕ) (content : Content) → KeepsAll (messages_of exact input word space content)
   unfolding messages_of
@@ -128,12 +128,12 @@ module _ (exact : Bool) where
       let ends : List Spelled = spell_end (error ∷ []) (with_quirks empty_doctype) in
       keeps-cells input [] (spell_silent (opening word space) ++ ends)
       (TellNoText-append (spell_silent (opening word space)) ends (TellNoText-silent (opening word space)) (TellNoText-end (error ∷ []) (with_quirks empty_doctype) (refl, tt)))
-  keeps-content input word space (Named first rest later behind) =
+  keeps-content input word space (Named first rest later afterwards) =
       let before : List ℕ = opening word space ++ (first ∷ rest ++ later) in
-      let d : DoctypeOf = told_behind_name (flat_map name_bytes (first ∷ rest)) behind in
-      keeps-append (spelled_messages exact input [] (spell_name exact word space first rest later)) (messages_behind_name exact input before d behind)
+      let d : DoctypeOf = told_after_name (flat_map name_bytes (first ∷ rest)) afterwards in
+      keeps-append (spelled_messages exact input [] (spell_name exact word space first rest later)) (messages_after_name exact input before d afterwards)
       (keeps-cells input [] (spell_name exact word space first rest later) (TellNoText-name word space first rest later))
-      (keeps-behind_name input before d behind)
+      (keeps-after_name input before d afterwards)
 
   -- a collector that is told one doctype holds its messages
   pub collected-doctype : (input : Input) (doctype : WrittenDoctype) → KeepsAll (doctype_messages exact input doctype)

@@ -13,8 +13,8 @@ use Rattle.html5ever_interface.specs.declared.states.DoctypeIdKind.TheVariants.{
 use Rattle.html5grammar.specs.Characters.{quotation_mark, apostrophe, greater_than, is_white_space, lower_case}
 use Rattle.html5grammar.specs.Doctype.{in_skipped_rest, quote_mark, in_identifier, keyword_of, is_keyword, in_doctype_name}
 use Rattle.html5items.specs.Comment.{begins_with}
-use Rattle.html5items.specs.Doctype.{IsDoctypeText, identifier_text, system_text, public_text, behind_name_text, content_text, opening, written, is_rest, is_identifier, is_system, is_public, is_behind_name, is_content, is_written}
-use Rattle.html5items.specs.Doctype.BehindName.{NoKeyword, PublicKeyword, SystemKeyword}
+use Rattle.html5items.specs.Doctype.{IsDoctypeText, identifier_text, system_text, public_text, after_name_text, content_text, opening, written, is_rest, is_identifier, is_system, is_public, is_after_name, is_content, is_written}
+use Rattle.html5items.specs.Doctype.RestAfterName.{NoKeyword, PublicKeyword, SystemKeyword}
 use Rattle.html5items.specs.Doctype.Content.{NoName, Named}
 use Rattle.html5items.specs.Doctype.Identifier.{Missing, Unclosed, Closed}
 use Rattle.html5grammar.specs.Start.{Quotes}
@@ -43,8 +43,8 @@ split is_kind (c ∷ text) = by (is_kind c) refl (split is_kind text)
 abbrev HasNoEnd : List ℕ → Type 0
 HasNoEnd text = list_all in_skipped_rest text ≡ true
 
-no_end-behind : (front rest text : List ℕ) → front ++ rest ≡ text → HasNoEnd text → HasNoEnd rest
-no_end-behind front rest text e h =
+no_end-after : (front rest text : List ℕ) → front ++ rest ≡ text → HasNoEnd text → HasNoEnd rest
+no_end-after front rest text e h =
     (and_parts (list_all in_skipped_rest front) (list_all in_skipped_rest rest) (sym (list_all-append in_skipped_rest front rest) ∙ ap (list_all in_skipped_rest) e ∙ h)).1
 
 no_end-first : (c : ℕ) (text : List ℕ) → HasNoEnd (c ∷ text) → (c == greater_than) ≡ false
@@ -75,22 +75,22 @@ closes : (quotes : Quotes) (c : ℕ) → in_identifier quotes c ≡ false → (c
 unfolding in_identifier
 closes quotes c h no_end = eqb-true c (quote_mark quotes) (the_other (c == quote_mark quotes) (c == greater_than) h no_end)
 
-module _ {B : Type 0} (is_behind : B → Bool) (text_behind : B → List ℕ) (covers : Covers is_behind text_behind) where
+module _ {B : Type 0} (is_after : B → Bool) (text_after : B → List ℕ) (covers : Covers is_after text_after) where
   -- after a quote
-  covers-quoted : (quotes : Quotes) (text : List ℕ) → HasNoEnd text → Form (is_identifier is_behind) (identifier_text text_behind) (quote_mark quotes ∷ text)
+  covers-quoted : (quotes : Quotes) (text : List ℕ) → HasNoEnd text → Form (is_identifier is_after) (identifier_text text_after) (quote_mark quotes ∷ text)
   covers-quoted quotes text h = by s.rest refl
     where
       s : Split (in_identifier quotes) text
       s = split (in_identifier quotes) text
 
-      by : (rest : List ℕ) → s.rest ≡ rest → Form (is_identifier is_behind) (identifier_text text_behind) (quote_mark quotes ∷ text)
+      by : (rest : List ℕ) → s.rest ≡ rest → Form (is_identifier is_after) (identifier_text text_after) (quote_mark quotes ∷ text)
       by [] e = record { form = Unclosed quotes s.run; fits = s.all; is_text = ap (λ l. quote_mark quotes ∷ l) (sym (append-nil s.run) ∙ ap (λ l. s.run ++ l) (sym e) ∙ s.parts) }
       by (c ∷ more) e =
-          let no_end : HasNoEnd (c ∷ more) = no_end-behind s.run (c ∷ more) text (ap (λ l. s.run ++ l) (sym e) ∙ s.parts) h in
+          let no_end : HasNoEnd (c ∷ more) = no_end-after s.run (c ∷ more) text (ap (λ l. s.run ++ l) (sym e) ∙ s.parts) h in
           let mark : c ≡ quote_mark quotes = closes quotes c (sym (ap (next_is (in_identifier quotes)) e) ∙ s.next) (no_end-first c more no_end) in
           let t : Split is_white_space more = split is_white_space more in
-          let f : Form is_behind text_behind t.rest =
-          covers t.rest (no_end-behind (c ∷ t.run) t.rest (c ∷ more) (ap (λ l. c ∷ l) t.parts) no_end) t.next in
+          let f : Form is_after text_after t.rest =
+          covers t.rest (no_end-after (c ∷ t.run) t.rest (c ∷ more) (ap (λ l. c ∷ l) t.parts) no_end) t.next in
           record {
             form = Closed quotes s.run t.run f.form;
             fits = rw (s.all, t.all, f.fits) refl;
@@ -101,16 +101,16 @@ module _ {B : Type 0} (is_behind : B → Bool) (text_behind : B → List ℕ) (c
                 ∙ ap (λ l. quote_mark quotes ∷ l) (ap (λ l. s.run ++ l) (sym e) ∙ s.parts);
           }
 
-  covers-identifier : Covers (is_identifier is_behind) (identifier_text text_behind)
+  covers-identifier : Covers (is_identifier is_after) (identifier_text text_after)
   covers-identifier [] h next = record { form = Missing []; fits = refl; is_text = refl }
   covers-identifier (c ∷ text) h next = by (c == quotation_mark) (c == apostrophe) refl refl
     where
       no_end : HasNoEnd text
-      no_end = no_end-behind (c ∷ []) text (c ∷ text) refl h
+      no_end = no_end-after (c ∷ []) text (c ∷ text) refl h
 
-      by : (a b : Bool) → (c == quotation_mark) ≡ a → (c == apostrophe) ≡ b → Form (is_identifier is_behind) (identifier_text text_behind) (c ∷ text)
-      by true b e f = subst (λ d. Form (is_identifier is_behind) (identifier_text text_behind) (d ∷ text)) (sym (eqb-true c quotation_mark e)) (covers-quoted DoubleQuotes text no_end)
-      by false true e f = subst (λ d. Form (is_identifier is_behind) (identifier_text text_behind) (d ∷ text)) (sym (eqb-true c apostrophe f)) (covers-quoted SingleQuotes text no_end)
+      by : (a b : Bool) → (c == quotation_mark) ≡ a → (c == apostrophe) ≡ b → Form (is_identifier is_after) (identifier_text text_after) (c ∷ text)
+      by true b e f = subst (λ d. Form (is_identifier is_after) (identifier_text text_after) (d ∷ text)) (sym (eqb-true c quotation_mark e)) (covers-quoted DoubleQuotes text no_end)
+      by false true e f = subst (λ d. Form (is_identifier is_after) (identifier_text text_after) (d ∷ text)) (sym (eqb-true c apostrophe f)) (covers-quoted SingleQuotes text no_end)
       by false false e f = record { form = Missing (c ∷ text); fits = rw (next, e, f, h) refl; is_text = refl }
 
 covers-system : Covers is_system system_text
@@ -147,12 +147,12 @@ keyword-parts kind text h =
     }
 
 no_end-keyword : (kind : DoctypeIdKind) (text : List ℕ) (k : Keyword kind text) → HasNoEnd text → HasNoEnd k.rest
-no_end-keyword kind text k h = no_end-behind (k.keyword ++ k.space) k.rest text (append_assoc k.keyword k.space k.rest ∙ k.parts) h
+no_end-keyword kind text k h = no_end-after (k.keyword ++ k.space) k.rest text (append_assoc k.keyword k.space k.rest ∙ k.parts) h
 
-covers-behind_name : Covers is_behind_name behind_name_text
-covers-behind_name text h next = by (begins_with (keyword_of Public) (lower_case text)) (begins_with (keyword_of System) (lower_case text)) refl refl
+covers-after_name : Covers is_after_name after_name_text
+covers-after_name text h next = by (begins_with (keyword_of Public) (lower_case text)) (begins_with (keyword_of System) (lower_case text)) refl refl
   where
-    by : (a b : Bool) → begins_with (keyword_of Public) (lower_case text) ≡ a → begins_with (keyword_of System) (lower_case text) ≡ b → Form is_behind_name behind_name_text text
+    by : (a b : Bool) → begins_with (keyword_of Public) (lower_case text) ≡ a → begins_with (keyword_of System) (lower_case text) ≡ b → Form is_after_name after_name_text text
     by true b e f =
         let k : Keyword Public text = keyword-parts Public text e in
         let g : Form is_public public_text k.rest = covers-public k.rest (no_end-keyword Public text k h) k.next in
@@ -174,9 +174,9 @@ covers-behind_name text h next = by (begins_with (keyword_of Public) (lower_case
 -- ---- the content
 
 -- after a name stands white space, or nothing
-white_behind_name : (c : ℕ) → in_doctype_name c ≡ false → (c == greater_than) ≡ false → is_white_space c ≡ true
+white_after_name : (c : ℕ) → in_doctype_name c ≡ false → (c == greater_than) ≡ false → is_white_space c ≡ true
 unfolding in_doctype_name
-white_behind_name c h no_end = the_other (is_white_space c) (c == greater_than) h no_end
+white_after_name c h no_end = the_other (is_white_space c) (c == greater_than) h no_end
 
 begins_name : (c : ℕ) → is_white_space c ≡ false → (c == greater_than) ≡ false → in_doctype_name c ≡ true
 unfolding in_doctype_name
@@ -199,11 +199,11 @@ covers-content (first ∷ text) h next = by s.rest refl
       is_text = ap (λ l. first ∷ l) (append-nil (s.run ++ []) ∙ ap (λ l. s.run ++ l) (sym e) ∙ s.parts);
     }
     by (c ∷ more) e =
-        let no_end : HasNoEnd (c ∷ more) = no_end-behind (first ∷ s.run) (c ∷ more) (first ∷ text) (ap (λ l. first ∷ l) (ap (λ l. s.run ++ l) (sym e) ∙ s.parts)) h in
-        let white : is_white_space c ≡ true = white_behind_name c (sym (ap (next_is in_doctype_name) e) ∙ s.next) (no_end-first c more no_end) in
+        let no_end : HasNoEnd (c ∷ more) = no_end-after (first ∷ s.run) (c ∷ more) (first ∷ text) (ap (λ l. first ∷ l) (ap (λ l. s.run ++ l) (sym e) ∙ s.parts)) h in
+        let white : is_white_space c ≡ true = white_after_name c (sym (ap (next_is in_doctype_name) e) ∙ s.next) (no_end-first c more no_end) in
         let t : Split is_white_space more = split is_white_space more in
-        let f : Form is_behind_name behind_name_text t.rest =
-        covers-behind_name t.rest (no_end-behind (c ∷ t.run) t.rest (c ∷ more) (ap (λ l. c ∷ l) t.parts) no_end) t.next in
+        let f : Form is_after_name after_name_text t.rest =
+        covers-after_name t.rest (no_end-after (c ∷ t.run) t.rest (c ∷ more) (ap (λ l. c ∷ l) t.parts) no_end) t.next in
         record {
           form = Named first s.run (c ∷ t.run) f.form;
           fits = rw (is_first, s.all, white, t.all, f.fits) refl;
@@ -218,7 +218,7 @@ pub each-doctype : (word text : List ℕ) → bytes_eq (lower_case word) (codes 
 unfolding is_written written
 each-doctype word text is_word h =
     let s : Split is_white_space text = split is_white_space text in
-    let f : Form is_content content_text s.rest = covers-content s.rest (no_end-behind s.run s.rest text s.parts h) s.next in
+    let f : Form is_content content_text s.rest = covers-content s.rest (no_end-after s.run s.rest text s.parts h) s.next in
     let end : List ℕ = greater_than ∷ [] in
     record {
       doctype = record { word = word; space = s.run; content = f.form };

@@ -15,7 +15,7 @@ use Rattle.html5grammar.specs.Characters.{tab, line_feed, form_feed, space, grea
 use Rattle.html5grammar.specs.Comment.{begins_keyword}
 use Rattle.html5grammar.specs.Doctype.{with_quirks, keyword_of, is_keyword, begins_doctype_keyword, keyword_error}
 use Rattle.html5items.specs.Comment.{begins_with}
-use Rattle.html5items.specs.Doctype.{begins_no_keyword, held_of, behind_held_of}
+use Rattle.html5items.specs.Doctype.{begins_no_keyword, held_of, after_held_of}
 use Rattle.html5items.specs.Spelled.{spell_silent}
 use Rattle.html5grammar.specs.Reading.Here.{Tells}
 use Rattle.html5grammar.specs.Slice.{run_while, tokens_of_late}
@@ -194,7 +194,7 @@ no_greater_than text =
         ap (λ l. begins_with l word) (map_push to_ascii_lowercase text greater_than)
         ∙ none_with (lower_case text) word greater_than (length (lower_case text ++ greater_than ∷ [])) h
 
-pub decides-held : (rest : List ℕ) → next_is (λ c. not (begins_doctype_keyword (held_of rest ++ c ∷ []))) (behind_held_of rest ++ greater_than ∷ []) ≡ true
+pub decides-held : (rest : List ℕ) → next_is (λ c. not (begins_doctype_keyword (held_of rest ++ c ∷ []))) (after_held_of rest ++ greater_than ∷ []) ≡ true
 decides-held rest = decides-while begins_doctype_keyword no_greater_than [] rest
 
 module _ (rules : Rules) (d : DoctypeOf) where

@@ -11,7 +11,7 @@ use Rattle.html5ever_interface.specs.declared.states.State.TheVariants as state
 use Rattle.html5grammar.specs.Characters.{greater_than, is_white_space, name_bytes, lower_case, is_letter}
 use Rattle.html5grammar.specs.Doctype.{with_quirks, with_doctype_name, with_first_of_name, in_doctype_name}
 use Rattle.html5grammar.specs.ErrorText.{error_in}
-use Rattle.html5items.specs.Doctype.{opening, behind_space, direct_error, spell_name}
+use Rattle.html5items.specs.Doctype.{opening, after_space, direct_error, spell_name}
 use Rattle.html5items.specs.Spelled.{Spelled, spell, spell_silent}
 use Rattle.html5grammar.specs.Reading.Here.{Tells}
 use Rattle.html5grammar.specs.Start.{Open, Rules, is_undecided_open}
@@ -35,53 +35,53 @@ module _ (rules : Rules) where
   silent-append : (X Y : List ℕ) → spell_silent (X ++ Y) ≡ spell_silent X ++ spell_silent Y
   silent-append X Y = map-append _ X Y
 
-  abbrev pub behind_word : List ℕ → Open
-  behind_word space = behind_space space (InDoctype AfterWord empty_doctype) (InDoctype BeforeName empty_doctype)
+  abbrev pub after_word : List ℕ → Open
+  after_word space = after_space space (InDoctype AfterWord empty_doctype) (InDoctype BeforeName empty_doctype)
 
-  pub decided-behind_word : (space : List ℕ) → is_undecided_open (behind_word space) ≡ false
-  decided-behind_word [] = refl
-  decided-behind_word (c ∷ space) = refl
+  pub decided-after_word : (space : List ℕ) → is_undecided_open (after_word space) ≡ false
+  decided-after_word [] = refl
+  decided-after_word (c ∷ space) = refl
 
-  goes-space_behind_word : (space : List ℕ) → list_all is_white_space space ≡ true
-      → Goes rules.exact (InDoctype AfterWord empty_doctype) (spell_silent space) (behind_word space)
+  goes-space_after_word : (space : List ℕ) → list_all is_white_space space ≡ true
+      → Goes rules.exact (InDoctype AfterWord empty_doctype) (spell_silent space) (after_word space)
   unfolding step_at doctype_step space_step
-  goes-space_behind_word space all =
+  goes-space_after_word space all =
       goes-space rules.exact (InDoctype AfterWord empty_doctype) (InDoctype BeforeName empty_doctype) (λ c h. rw h refl) (λ c h. rw h refl) space all
 
   pub leads-opening : (word space : List ℕ) → bytes_eq (lower_case word) (codes "doctype") ≡ true → list_all is_white_space space ≡ true
-      → Leads rules (Between Data) (spell_silent (opening word space)) (behind_word space)
+      → Leads rules (Between Data) (spell_silent (opening word space)) (after_word space)
   unfolding Leads brought_at step_at data_step less_than_step is_letter
   leads-opening word space is_word all =
-      let leads : Leads rules (InDeclaration []) (spell_silent word ++ spell_silent space) (behind_word space) =
-      Leads-append rules (InDeclaration []) (InDoctype AfterWord empty_doctype) (behind_word space) (spell_silent word) (spell_silent space) (leads-doctype_word rules word is_word)
-      (leads-goes rules (InDoctype AfterWord empty_doctype) (behind_word space) (spell_silent space) (decided-behind_word space) (goes-space_behind_word space all)) in
-      (LessThan, λ foreign. refl, (InDeclaration [], λ foreign. refl, subst (λ cells. Leads rules (InDeclaration []) cells (behind_word space)) (sym (silent-append word space)) leads))
+      let leads : Leads rules (InDeclaration []) (spell_silent word ++ spell_silent space) (after_word space) =
+      Leads-append rules (InDeclaration []) (InDoctype AfterWord empty_doctype) (after_word space) (spell_silent word) (spell_silent space) (leads-doctype_word rules word is_word)
+      (leads-goes rules (InDoctype AfterWord empty_doctype) (after_word space) (spell_silent space) (decided-after_word space) (goes-space_after_word space all)) in
+      (LessThan, λ foreign. refl, (InDeclaration [], λ foreign. refl, subst (λ cells. Leads rules (InDeclaration []) cells (after_word space)) (sym (silent-append word space)) leads))
 
   pub step-no_name : (space : List ℕ)
-      → step_at rules.exact (behind_word space) greater_than
+      → step_at rules.exact (after_word space) greater_than
       ≡ Tells (error_in rules.exact state.BeforeDoctypeName greater_than ∷ Doctype (with_quirks empty_doctype) ∷ []) (Between Data)
   unfolding step_at doctype_step space_step wanted_name_step is_white_space
   step-no_name [] = refl
   step-no_name (c ∷ space) = refl
 
   step-first : (space : List ℕ) (c : ℕ) → in_doctype_name c ≡ true
-      → step_at rules.exact (behind_word space) c
+      → step_at rules.exact (after_word space) c
       ≡ Tells (direct_error space (error_in rules.exact state.Doctype c) ++ null_error rules.exact state.BeforeDoctypeName c) (InDoctype InDoctypeName (with_first_of_name empty_doctype c))
   unfolding step_at doctype_step space_step wanted_name_step in_doctype_name
   step-first [] c h = let p = no_either (is_white_space c) (c == greater_than) h in rw (p.0, p.1) refl
   step-first (b ∷ space) c h = let p = no_either (is_white_space c) (c == greater_than) h in rw (p.0, p.1) refl
 
-  abbrev pub behind_name : DoctypeOf → List ℕ → Open
-  behind_name d space = behind_space space (InDoctype InDoctypeName d) (InDoctype AfterName d)
+  abbrev pub after_name : DoctypeOf → List ℕ → Open
+  after_name d space = after_space space (InDoctype InDoctypeName d) (InDoctype AfterName d)
 
-  decided-behind_name : (d : DoctypeOf) (space : List ℕ) → is_undecided_open (behind_name d space) ≡ false
-  decided-behind_name d [] = refl
-  decided-behind_name d (c ∷ space) = refl
+  decided-after_name : (d : DoctypeOf) (space : List ℕ) → is_undecided_open (after_name d space) ≡ false
+  decided-after_name d [] = refl
+  decided-after_name d (c ∷ space) = refl
 
-  goes-space_behind_name : (d : DoctypeOf) (space : List ℕ) → list_all is_white_space space ≡ true
-      → Goes rules.exact (InDoctype InDoctypeName d) (spell_silent space) (behind_name d space)
+  goes-space_after_name : (d : DoctypeOf) (space : List ℕ) → list_all is_white_space space ≡ true
+      → Goes rules.exact (InDoctype InDoctypeName d) (spell_silent space) (after_name d space)
   unfolding step_at doctype_step doctype_name_step space_step in_doctype_name
-  goes-space_behind_name d space all =
+  goes-space_after_name d space all =
       goes-space rules.exact (InDoctype InDoctypeName d) (InDoctype AfterName d) (λ c h. rw (h, white-no_end c h) refl) (λ c h. rw h refl) space all
 
   goes-rest_of_name : (d : DoctypeOf) (run : List ℕ) → list_all in_doctype_name run ≡ true
@@ -97,7 +97,7 @@ module _ (rules : Rules) where
   pub leads-name : (word space : List ℕ) (first : ℕ) (rest later : List ℕ)
       → bytes_eq (lower_case word) (codes "doctype") ≡ true → list_all is_white_space space ≡ true
       → list_all in_doctype_name (first ∷ rest) ≡ true → list_all is_white_space later ≡ true
-      → Leads rules (Between Data) (spell_name rules.exact word space first rest later) (behind_name (named first rest) later)
+      → Leads rules (Between Data) (spell_name rules.exact word space first rest later) (after_name (named first rest) later)
   unfolding Goes
   leads-name word space first rest later is_word all is_name all_later =
       let p = and_parts (in_doctype_name first) (list_all in_doctype_name rest) is_name in
@@ -108,12 +108,12 @@ module _ (rules : Rules) where
       (goes-rest_of_name begun rest p.1) in
       let cells : List Spelled = spell (null_error rules.exact state.DoctypeName) rest ++ spell_silent later in
       let here : Spelled = record { character = first; told = direct_error space (error_in rules.exact state.Doctype first) ++ null_error rules.exact state.BeforeDoctypeName first } in
-      let goes : Goes rules.exact (behind_word space) (here ∷ cells) (behind_name (named first rest) later) = (
+      let goes : Goes rules.exact (after_word space) (here ∷ cells) (after_name (named first rest) later) = (
         InDoctype InDoctypeName begun,
         step-first space first p.0,
-        Goes-append rules.exact (InDoctype InDoctypeName begun) (InDoctype InDoctypeName (named first rest)) (behind_name (named first rest) later)
-            (spell (null_error rules.exact state.DoctypeName) rest) (spell_silent later) runs (goes-space_behind_name (named first rest) later all_later),
+        Goes-append rules.exact (InDoctype InDoctypeName begun) (InDoctype InDoctypeName (named first rest)) (after_name (named first rest) later)
+            (spell (null_error rules.exact state.DoctypeName) rest) (spell_silent later) runs (goes-space_after_name (named first rest) later all_later),
       ) in
-      Leads-append rules (Between Data) (behind_word space) (behind_name (named first rest) later) (spell_silent (opening word space)) (here ∷ cells)
+      Leads-append rules (Between Data) (after_word space) (after_name (named first rest) later) (spell_silent (opening word space)) (here ∷ cells)
       (leads-opening word space is_word all)
-      (leads-goes rules (behind_word space) (behind_name (named first rest) later) (here ∷ cells) (decided-behind_name (named first rest) later) goes)
+      (leads-goes rules (after_word space) (after_name (named first rest) later) (here ∷ cells) (decided-after_name (named first rest) later) goes)

@@ -18,8 +18,8 @@ use Rattle.html5grammar.specs.Doctype.{with_quirks, in_skipped_rest, quote_mark,
 use Rattle.html5grammar.specs.EndOfInput.{tokens_at_end, late_at_end_of, open_at_end_of, told_at_end_of, told_at_doctype_end, doctype_state_at}
 use Rattle.html5grammar.specs.ErrorText.{error_in, end_error_in}
 use Rattle.html5grammar.specs.NormalisedText.{line_after, input_after}
-use Rattle.html5items.specs.Doctype.{SystemIdentifier, PublicIdentifier, BehindName, Content, WrittenDoctype, opening, behind_name_text, content_text, is_rest, belongs_before, is_system, is_public, begins_no_keyword, is_behind_name, can_stand_behind, is_content, is_written, identifier_told, has_system_quirks, told_behind_name, keyword_state, between_state, spell_end, spell_skipped, spell_odd, spell_rest, spell_begun, spell_identifier, spell_behind_system, spell_behind_public, spell_wanted, spell_name, held_of, behind_held_of}
-use Rattle.html5items.specs.Doctype.BehindName.{NoKeyword, PublicKeyword, SystemKeyword}
+use Rattle.html5items.specs.Doctype.{SystemIdentifier, PublicIdentifier, RestAfterName, Content, WrittenDoctype, opening, after_name_text, content_text, is_rest, belongs_before, is_system, is_public, begins_no_keyword, is_after_name, can_stand_after, is_content, is_written, identifier_told, has_system_quirks, told_after_name, keyword_state, between_state, spell_end, spell_skipped, spell_odd, spell_rest, spell_begun, spell_identifier, spell_after_system, spell_after_public, spell_wanted, spell_name, held_of, after_held_of}
+use Rattle.html5items.specs.Doctype.RestAfterName.{NoKeyword, PublicKeyword, SystemKeyword}
 use Rattle.html5items.specs.Doctype.Content.{NoName, Named}
 use Rattle.html5items.specs.Doctype.Identifier.{Missing, Unclosed, Closed}
 use Rattle.html5items.specs.Spelled.{Spelled, spell, spell_silent, spelled_messages}
@@ -29,20 +29,20 @@ use Rattle.html5grammar.specs.Start.DoctypePlace.{InDoctypeName, AfterName, Afte
 use Rattle.html5grammar.specs.Start.Mode.{Data}
 use Rattle.html5grammar.specs.Start.Open.{Between, InDoctype, InDoctypeKeyword}
 use Rattle.html5grammar.specs.Tag.{null_error}
-use Rattle.html5grammar.specs.Machine.{step_at, doctype_step, space_step, skipped_step, keyword_or_end_step, wanted_identifier_step, system_or_end_step, behind_identifier_step}
+use Rattle.html5grammar.specs.Machine.{step_at, doctype_step, space_step, skipped_step, keyword_or_end_step, wanted_identifier_step, system_or_end_step, after_identifier_step}
 use Rattle.html5items.proofs.HeldWords.{while-parts, line-plain}
 use Rattle.html5items.proofs.Leading.{Leads, Leads-append, leads-goes, trace-text, trace-leads}
 use Rattle.html5items.proofs.Comment.Reading.{spelled-nothing}
 use Rattle.html5items.proofs.Doctype.Held.{leads-keyword, leads-held, held-plain, held_of-plain, first_error, trace-decides}
-use Rattle.html5items.proofs.Doctype.Name.{behind_word, behind_name, named, leads-opening, leads-name}
-use Rattle.html5items.proofs.Doctype.Parts.{quote-no_white, quote-no_end, is_odd, with_system, with_public, behind_public, goes-space_between, step-between, behind_keyword, goes-space_behind_keyword, step-behind_keyword}
-use Rattle.html5items.proofs.Doctype.Reading.{white-behind}
-use Rattle.html5items.proofs.Doctype.Spelled.{characters-behind_name, characters-name}
-use Rattle.html5items.proofs.Doctype.Steps.{IsNeither, named_doctype, goes-stay, Skips, Wants, whole, goes-begun, step-closed, step-behind_system}
+use Rattle.html5items.proofs.Doctype.Name.{after_word, after_name, named, leads-opening, leads-name}
+use Rattle.html5items.proofs.Doctype.Parts.{quote-no_white, quote-no_end, is_odd, with_system, with_public, after_public, goes-space_between, step-between, after_keyword, goes-space_after_keyword, step-after_keyword}
+use Rattle.html5items.proofs.Doctype.Reading.{white-after}
+use Rattle.html5items.proofs.Doctype.Spelled.{characters-after_name, characters-name}
+use Rattle.html5items.proofs.Doctype.Steps.{IsNeither, named_doctype, goes-stay, Skips, Wants, whole, goes-begun, step-closed, step-after_system}
 use Rattle.html5items.proofs.Goes.{characters, characters-spell, Goes, Goes-append, Goes-one}
 use Rattle.html5items.proofs.Tag.Steps.{no_or}
 use Rattle.html5grammar.proofs.Traces.{trace, with_messages}
-use Rattle.html5items.specs.Declarations.{IsOpenDoctype, before_end, messages_behind_open_name, open_doctype_messages, rest_state, system_end, public_end, behind_name_end, doctype_end, keyword_error_at_end, open_doctype_at_end}
+use Rattle.html5items.specs.Declarations.{IsOpenDoctype, before_end, messages_after_open_name, open_doctype_messages, rest_state, system_end, public_end, after_name_end, doctype_end, keyword_error_at_end, open_doctype_at_end}
 use Rattle.html5items.proofs.Declarations.{IsClosed, closed-lower, closed-or, while-all, decides-open}
 use Rattle.html5items.proofs.Split.{nil≢cons, cons_first, cons_rest}
 use Rattle.html5items.proofs.Telling.{TellsAll, tells-trace}
@@ -164,37 +164,37 @@ module _ (exact : Bool) where
       → Cut opened (spell_begun exact kind named space quotes run ++ (record { character = quote_mark quotes; told = [] } ∷ cells)) E
   cut-closed opened space named kind d quotes run cells E wants all cut =
       let inside : Open = InDoctype (InIdentifier quotes kind) (whole exact kind d run) in
-      let behind : Open = InDoctype (AfterIdentifier kind) (whole exact kind d run) in
+      let afterwards : Open = InDoctype (AfterIdentifier kind) (whole exact kind d run) in
       let closing : List Spelled = record { character = quote_mark quotes; told = [] } ∷ [] in
       cut-append opened inside (spell_begun exact kind named space quotes run) (closing ++ cells) E
       (goes-begun exact opened space named kind d quotes run wants all)
-      (cut-append inside behind closing cells E
-      (Goes-one exact inside behind (quote_mark quotes) [] (step-closed exact quotes kind (whole exact kind d run))) cut)
+      (cut-append inside afterwards closing cells E
+      (Goes-one exact inside afterwards (quote_mark quotes) [] (step-closed exact quotes kind (whole exact kind d run))) cut)
 
   -- ---- the identifier of the system
 
-  cut-rest_behind_system : (d : DoctypeOf) (rest : List ℕ) → is_rest is_white_space rest ≡ true
+  cut-rest_after_system : (d : DoctypeOf) (rest : List ℕ) → is_rest is_white_space rest ≡ true
       → Cut (InDoctype (AfterIdentifier System) d) (spell_rest exact (state.AfterDoctypeIdentifier System) d rest) (doctype_end exact (rest_state (state.AfterDoctypeIdentifier System) rest) d)
-  unfolding step_at doctype_step behind_identifier_step in_skipped_rest is_white_space told_at_doctype_end doctype_state_at
-  cut-rest_behind_system d [] h =
+  unfolding step_at doctype_step after_identifier_step in_skipped_rest is_white_space told_at_doctype_end doctype_state_at
+  cut-rest_after_system d [] h =
       cut-end (InDoctype (AfterIdentifier System) d) (AfterIdentifier System) d [] d (doctype_end exact (Some (state.AfterDoctypeIdentifier System)) d) refl refl
-  cut-rest_behind_system d (c ∷ rest) h =
+  cut-rest_after_system d (c ∷ rest) h =
       let p = and_parts (not (is_white_space c)) (list_all in_skipped_rest (c ∷ rest)) h in
       let q = and_parts (in_skipped_rest c) (list_all in_skipped_rest rest) p.1 in
       cut-odd_some (InDoctype (AfterIdentifier System) d) (state.AfterDoctypeIdentifier System) d c rest
       (rw (not-true (is_white_space c) p.0, not-true (c == greater_than) q.0) refl) p.1
 
-  cut-behind_system : (d : DoctypeOf) (space rest : List ℕ) → list_all is_white_space space ≡ true → is_rest is_white_space rest ≡ true
-      → Cut (InDoctype (AfterIdentifier System) d) (spell_silent space ++ spell_behind_system exact d space rest) (doctype_end exact (rest_state (state.AfterDoctypeIdentifier System) rest) d)
-  cut-behind_system d space rest all h =
+  cut-after_system : (d : DoctypeOf) (space rest : List ℕ) → list_all is_white_space space ≡ true → is_rest is_white_space rest ≡ true
+      → Cut (InDoctype (AfterIdentifier System) d) (spell_silent space ++ spell_after_system exact d space rest) (doctype_end exact (rest_state (state.AfterDoctypeIdentifier System) rest) d)
+  cut-after_system d space rest all h =
       cut-append (InDoctype (AfterIdentifier System) d) (InDoctype (AfterIdentifier System) d) (spell_silent space) _ _
-      (goes-stay exact (InDoctype (AfterIdentifier System) d) (step-behind_system exact d) space all) (cut-rest_behind_system d rest h)
+      (goes-stay exact (InDoctype (AfterIdentifier System) d) (step-after_system exact d) space all) (cut-rest_after_system d rest h)
 
   cut-system : (opened : Open) (space : List ℕ) (named : State) (name : List ℕ) (public_id : Option (List ℕ)) (system : SystemIdentifier)
       → ((c : ℕ) → is_white_space c ≡ false → (c == greater_than) ≡ false → Wants exact opened space named System (named_doctype name public_id None false) c)
       → Ends opened named (named_doctype name public_id None false)
       → is_system system ≡ true
-      → Cut opened (spell_identifier exact System named (with_system name public_id system) space (spell_behind_system exact (with_system name public_id system)) system)
+      → Cut opened (spell_identifier exact System named (with_system name public_id system) space (spell_after_system exact (with_system name public_id system)) system)
       (doctype_end exact (system_end named system) (with_system name public_id system))
   cut-system opened space named name public_id (Missing []) wants ends h =
       cut-at opened named (named_doctype name public_id None false) (named_doctype name public_id None true) (error_in exact named greater_than ∷ []) ends
@@ -208,14 +208,14 @@ module _ (exact : Bool) where
       let p = and_parts (list_all (in_identifier quotes) run) (list_all is_white_space later && is_rest is_white_space rest) h in
       let q = and_parts (list_all is_white_space later) (is_rest is_white_space rest) p.1 in
       let d : DoctypeOf = named_doctype name public_id (Some (flat_map value_bytes run)) false in
-      cut-closed opened space named System (named_doctype name public_id None false) quotes run (spell_silent later ++ spell_behind_system exact d later rest)
+      cut-closed opened space named System (named_doctype name public_id None false) quotes run (spell_silent later ++ spell_after_system exact d later rest)
       (doctype_end exact (rest_state (state.AfterDoctypeIdentifier System) rest) d)
       (wants (quote_mark quotes) (quote-no_white quotes) (quote-no_end quotes)) p.0
-      (cut-behind_system d later rest q.0 q.1)
+      (cut-after_system d later rest q.0 q.1)
 
   -- ---- after a public identifier
 
-  ends-between : (d : DoctypeOf) (space : List ℕ) → Ends (behind_public exact d space) (between_state space) d
+  ends-between : (d : DoctypeOf) (space : List ℕ) → Ends (after_public exact d space) (between_state space) d
   unfolding told_at_doctype_end doctype_state_at
   ends-between d [] = record { place = AfterIdentifier Public; is = refl; tells = refl }
   ends-between d (b ∷ space) = record { place = BetweenIdentifiers; is = refl; tells = refl }
@@ -223,37 +223,37 @@ module _ (exact : Bool) where
   cut-some_system : (name public_id space : List ℕ) (system : SystemIdentifier) → list_all is_white_space space ≡ true → is_system system ≡ true
       → Cut (InDoctype (AfterIdentifier Public) (named_doctype name (Some public_id) None false))
       (spell_silent space
-      ++ spell_identifier exact System (between_state space) (with_system name (Some public_id) system) space (spell_behind_system exact (with_system name (Some public_id) system)) system)
+      ++ spell_identifier exact System (between_state space) (with_system name (Some public_id) system) space (spell_after_system exact (with_system name (Some public_id) system)) system)
       (doctype_end exact (system_end (between_state space) system) (with_system name (Some public_id) system))
   unfolding system_or_end_step
   cut-some_system name public_id space system all h =
       let d : DoctypeOf = named_doctype name (Some public_id) None false in
-      cut-append (InDoctype (AfterIdentifier Public) d) (behind_public exact d space) (spell_silent space) _ _
+      cut-append (InDoctype (AfterIdentifier Public) d) (after_public exact d space) (spell_silent space) _ _
       (goes-space_between exact d space all)
-      (cut-system (behind_public exact d space) space (between_state space) name (Some public_id) system
+      (cut-system (after_public exact d space) space (between_state space) name (Some public_id) system
       (λ c no_white no_end. step-between exact d space c no_white ∙ rw no_end refl) (ends-between d space) h)
 
   abbrev told_public : List ℕ → List ℕ → SystemIdentifier → DoctypeOf
   told_public name public_id system = named_doctype name (Some public_id) (identifier_told system) (has_system_quirks system)
 
-  cut-behind_public : (name public_id space : List ℕ) (system : SystemIdentifier) → list_all is_white_space space ≡ true → is_system system ≡ true
+  cut-after_public : (name public_id space : List ℕ) (system : SystemIdentifier) → list_all is_white_space space ≡ true → is_system system ≡ true
       → Cut (InDoctype (AfterIdentifier Public) (named_doctype name (Some public_id) None false))
-      (spell_silent space ++ spell_behind_public exact (told_public name public_id system) space system)
+      (spell_silent space ++ spell_after_public exact (told_public name public_id system) space system)
       (doctype_end exact (system_end (between_state space) system) (told_public name public_id system))
-  cut-behind_public name public_id space (Missing []) all h =
+  cut-after_public name public_id space (Missing []) all h =
       let d : DoctypeOf = named_doctype name (Some public_id) None false in
-      cut-append (InDoctype (AfterIdentifier Public) d) (behind_public exact d space) (spell_silent space) _ _
+      cut-append (InDoctype (AfterIdentifier Public) d) (after_public exact d space) (spell_silent space) _ _
       (goes-space_between exact d space all)
-      (cut-at (behind_public exact d space) (between_state space) d d [] (ends-between d space))
-  cut-behind_public name public_id space (Missing (c ∷ rest)) all h = cut-some_system name public_id space (Missing (c ∷ rest)) all h
-  cut-behind_public name public_id space (Unclosed quotes run) all h = cut-some_system name public_id space (Unclosed quotes run) all h
-  cut-behind_public name public_id space (Closed quotes run later rest) all h = cut-some_system name public_id space (Closed quotes run later rest) all h
+      (cut-at (after_public exact d space) (between_state space) d d [] (ends-between d space))
+  cut-after_public name public_id space (Missing (c ∷ rest)) all h = cut-some_system name public_id space (Missing (c ∷ rest)) all h
+  cut-after_public name public_id space (Unclosed quotes run) all h = cut-some_system name public_id space (Unclosed quotes run) all h
+  cut-after_public name public_id space (Closed quotes run later rest) all h = cut-some_system name public_id space (Closed quotes run later rest) all h
 
   cut-public : (opened : Open) (space : List ℕ) (named : State) (name : List ℕ) (identifier : PublicIdentifier)
       → ((c : ℕ) → is_white_space c ≡ false → Wants exact opened space named Public (named_doctype name None None false) c)
       → Ends opened named (named_doctype name None None false)
       → is_public identifier ≡ true
-      → Cut opened (spell_identifier exact Public named (with_public name identifier) space (spell_behind_public exact (with_public name identifier)) identifier)
+      → Cut opened (spell_identifier exact Public named (with_public name identifier) space (spell_after_public exact (with_public name identifier)) identifier)
       (doctype_end exact (public_end named identifier) (with_public name identifier))
   cut-public opened space named name (Missing []) wants ends h =
       cut-at opened named (named_doctype name None None false) (named_doctype name None None true) (error_in exact named greater_than ∷ []) ends
@@ -267,39 +267,39 @@ module _ (exact : Bool) where
       let q = and_parts (list_all is_white_space later) (is_system system) p.1 in
       let id : List ℕ = flat_map value_bytes run in
       cut-closed opened space named Public (named_doctype name None None false) quotes run
-      (spell_silent later ++ spell_behind_public exact (told_public name id system) later system)
+      (spell_silent later ++ spell_after_public exact (told_public name id system) later system)
       (doctype_end exact (system_end (between_state later) system) (told_public name id system))
       (wants (quote_mark quotes) (quote-no_white quotes)) p.0
-      (cut-behind_public name id later system q.0 q.1)
+      (cut-after_public name id later system q.0 q.1)
 
   -- ---- after a keyword
 
-  ends-keyword : (kind : DoctypeIdKind) (d : DoctypeOf) (space : List ℕ) → Ends (behind_keyword exact kind d space) (keyword_state kind space) d
+  ends-keyword : (kind : DoctypeIdKind) (d : DoctypeOf) (space : List ℕ) → Ends (after_keyword exact kind d space) (keyword_state kind space) d
   unfolding told_at_doctype_end doctype_state_at
   ends-keyword kind d [] = record { place = AfterKeyword kind; is = refl; tells = refl }
   ends-keyword kind d (b ∷ space) = record { place = BeforeIdentifier kind; is = refl; tells = refl }
 
   cut-public_keyword : (name space : List ℕ) (identifier : PublicIdentifier) → list_all is_white_space space ≡ true → is_public identifier ≡ true
       → Cut (InDoctype (AfterKeyword Public) (named_doctype name None None false))
-      (spell_wanted exact Public (with_public name identifier) space (spell_behind_public exact (with_public name identifier)) identifier)
+      (spell_wanted exact Public (with_public name identifier) space (spell_after_public exact (with_public name identifier)) identifier)
       (doctype_end exact (public_end (keyword_state Public space) identifier) (with_public name identifier))
   cut-public_keyword name space identifier all h =
       let d : DoctypeOf = named_doctype name None None false in
-      cut-append (InDoctype (AfterKeyword Public) d) (behind_keyword exact Public d space) (spell_silent space) _ _
-      (goes-space_behind_keyword exact Public d space all)
-      (cut-public (behind_keyword exact Public d space) space (keyword_state Public space) name identifier
-      (step-behind_keyword exact Public d space) (ends-keyword Public d space) h)
+      cut-append (InDoctype (AfterKeyword Public) d) (after_keyword exact Public d space) (spell_silent space) _ _
+      (goes-space_after_keyword exact Public d space all)
+      (cut-public (after_keyword exact Public d space) space (keyword_state Public space) name identifier
+      (step-after_keyword exact Public d space) (ends-keyword Public d space) h)
 
   cut-system_keyword : (name space : List ℕ) (identifier : SystemIdentifier) → list_all is_white_space space ≡ true → is_system identifier ≡ true
       → Cut (InDoctype (AfterKeyword System) (named_doctype name None None false))
-      (spell_wanted exact System (with_system name None identifier) space (spell_behind_system exact (with_system name None identifier)) identifier)
+      (spell_wanted exact System (with_system name None identifier) space (spell_after_system exact (with_system name None identifier)) identifier)
       (doctype_end exact (system_end (keyword_state System space) identifier) (with_system name None identifier))
   cut-system_keyword name space identifier all h =
       let d : DoctypeOf = named_doctype name None None false in
-      cut-append (InDoctype (AfterKeyword System) d) (behind_keyword exact System d space) (spell_silent space) _ _
-      (goes-space_behind_keyword exact System d space all)
-      (cut-system (behind_keyword exact System d space) space (keyword_state System space) name None identifier
-      (λ c no_white no_end. step-behind_keyword exact System d space c no_white) (ends-keyword System d space) h)
+      cut-append (InDoctype (AfterKeyword System) d) (after_keyword exact System d space) (spell_silent space) _ _
+      (goes-space_after_keyword exact System d space all)
+      (cut-system (after_keyword exact System d space) space (keyword_state System space) name None identifier
+      (λ c no_white no_end. step-after_keyword exact System d space c no_white) (ends-keyword System d space) h)
 
 -- ---- the whole doctype
 
@@ -349,14 +349,14 @@ module _ {X S H : Type 0} (means : Means X S H) (rules : Rules) where
       }
 
   -- what stands after a name and white space is read, and tells its messages
-  abbrev ReadsBehind : Input → List ℕ → S → List ℕ → List ℕ → Open → List ℕ → BehindName → Type 0
-  ReadsBehind input before s last name opened space behind =
-      ReadsOpen input before s last opened (behind_name_text behind) (messages_behind_open_name rules.exact input before (told_behind_name name behind) behind)
-      (keyword_error_at_end rules.exact behind ++ doctype_end rules.exact (behind_name_end space behind) (told_behind_name name behind))
+  abbrev ReadsAfter : Input → List ℕ → S → List ℕ → List ℕ → Open → List ℕ → RestAfterName → Type 0
+  ReadsAfter input before s last name opened space afterwards =
+      ReadsOpen input before s last opened (after_name_text afterwards) (messages_after_open_name rules.exact input before (told_after_name name afterwards) afterwards)
+      (keyword_error_at_end rules.exact afterwards ++ doctype_end rules.exact (after_name_end space afterwards) (told_after_name name afterwards))
 
   reads-nothing : (input : Input) (before : List ℕ) (s : S) (last name space : List ℕ)
-      → ReadsBehind input before s last name (behind_name rules (named_doctype name None None false) space) space (NoKeyword [])
-  unfolding messages_behind_open_name told_at_doctype_end doctype_state_at
+      → ReadsAfter input before s last name (after_name rules (named_doctype name None None false) space) space (NoKeyword [])
+  unfolding messages_after_open_name told_at_doctype_end doctype_state_at
   reads-nothing input before s last name [] =
       let d : DoctypeOf = named_doctype name None None false in
       reads-cut input before s last (InDoctype InDoctypeName d) [] (spell_end [] d) (doctype_end rules.exact (Some state.DoctypeName) d) refl
@@ -407,36 +407,36 @@ module _ {X S H : Type 0} (means : Means X S H) (rules : Rules) where
       → begins_doctype_keyword (c ∷ []) ≡ true → list_all in_skipped_rest (c ∷ rest) ≡ true
       → ReadsOpen input before s last (InDoctype AfterName d) (c ∷ rest)
       (on_line (line_after input (before ++ c ∷ [])) (error_in rules.exact state.AfterDoctypeName c ∷ [])
-      ++ spelled_messages rules.exact input (before ++ held_of (c ∷ rest)) (spell (null_error rules.exact state.BogusDoctype) (behind_held_of (c ∷ rest))))
+      ++ spelled_messages rules.exact input (before ++ held_of (c ∷ rest)) (spell (null_error rules.exact state.BogusDoctype) (after_held_of (c ∷ rest))))
       (Doctype (with_quirks d) ∷ End ∷ [])
   unfolding late_at_end_of open_at_end_of told_at_end_of told_at_doctype_end begins_doctype_keyword
   reads-decided input before s last d c rest none decided begins within =
       let held : List ℕ = held_of (c ∷ rest) in
-      let behind : List ℕ = behind_held_of (c ∷ rest) in
-      let cells : List Spelled = spell (null_error rules.exact state.BogusDoctype) behind in
-      let parts : held ++ behind ≡ c ∷ rest = while-parts begins_doctype_keyword [] (c ∷ rest) in
+      let afterwards : List ℕ = after_held_of (c ∷ rest) in
+      let cells : List Spelled = spell (null_error rules.exact state.BogusDoctype) afterwards in
+      let parts : held ++ afterwards ≡ c ∷ rest = while-parts begins_doctype_keyword [] (c ∷ rest) in
       let line : ℕ = line_after input (before ++ held) in
       let E : List Message = first_error rules d means.step means.reply means.foreign line held in
       let N : List Message = spelled_messages rules.exact input (before ++ held) cells in
       let later : Open = InDoctype Skipped (with_quirks d) in
       let error : ℕ → List Message = λ n. on_line n (error_in rules.exact state.AfterDoctypeName c ∷ []) in
-      let skipped : list_all in_skipped_rest behind ≡ true =
-      (and_parts (list_all in_skipped_rest held) (list_all in_skipped_rest behind) (sym (list_all-append in_skipped_rest held behind) ∙ ap (list_all in_skipped_rest) parts ∙ within)).1 in
+      let skipped : list_all in_skipped_rest afterwards ≡ true =
+      (and_parts (list_all in_skipped_rest held) (list_all in_skipped_rest afterwards) (sym (list_all-append in_skipped_rest held afterwards) ∙ ap (list_all in_skipped_rest) parts ∙ within)).1 in
       let is_error : E ≡ error line = held-error line c rest d begins in
       record {
         later = later;
         is =
-            ap (λ l. trace means.step means.reply means.foreign rules s (line_after input before) last (InDoctype AfterName d) l) (sym parts ∙ ap (λ l. l ++ behind) (sym (characters-spell silent held)))
-            ∙ trace-leads means.step means.reply means.foreign rules input before s last (InDoctype AfterName d) (InDoctypeKeyword held d) (spell_silent held) behind (leads-held rules d c rest none begins)
-            ∙ ap (λ l. with_messages l (trace means.step means.reply means.foreign rules (stepped means.step s l) (line_after input (before ++ characters (spell_silent held))) last (InDoctypeKeyword held d) behind))
+            ap (λ l. trace means.step means.reply means.foreign rules s (line_after input before) last (InDoctype AfterName d) l) (sym parts ∙ ap (λ l. l ++ afterwards) (sym (characters-spell silent held)))
+            ∙ trace-leads means.step means.reply means.foreign rules input before s last (InDoctype AfterName d) (InDoctypeKeyword held d) (spell_silent held) afterwards (leads-held rules d c rest none begins)
+            ∙ ap (λ l. with_messages l (trace means.step means.reply means.foreign rules (stepped means.step s l) (line_after input (before ++ characters (spell_silent held))) last (InDoctypeKeyword held d) afterwards))
             (spelled-nothing rules.exact input silent (λ b g. refl) before held (held_of-plain (c ∷ rest)).good)
-            ∙ ap (λ l. with_messages [] (trace means.step means.reply means.foreign rules (stepped means.step s []) (line_after input (before ++ l)) last (InDoctypeKeyword held d) behind)) (characters-spell silent held)
+            ∙ ap (λ l. with_messages [] (trace means.step means.reply means.foreign rules (stepped means.step s []) (line_after input (before ++ l)) last (InDoctypeKeyword held d) afterwards)) (characters-spell silent held)
             ∙ ap (with_messages [])
-            (trace-decides rules d means.step means.reply means.foreign (stepped means.step s []) line last held behind (decides-open begins_doctype_keyword [] (c ∷ rest) refl decided)
+            (trace-decides rules d means.step means.reply means.foreign (stepped means.step s []) line last held afterwards (decides-open begins_doctype_keyword [] (c ∷ rest) refl decided)
             ∙ ap (with_messages E)
-            (trace-text means.step means.reply means.foreign rules input (before ++ held) (stepped means.step (stepped means.step s []) E) last later later cells behind
-            (characters-spell (null_error rules.exact state.BogusDoctype) behind)
-            (leads-goes rules later later cells refl (goes-skipped (with_quirks d) behind skipped))))
+            (trace-text means.step means.reply means.foreign rules input (before ++ held) (stepped means.step (stepped means.step s []) E) last later later cells afterwards
+            (characters-spell (null_error rules.exact state.BogusDoctype) afterwards)
+            (leads-goes rules later later cells refl (goes-skipped (with_quirks d) afterwards skipped))))
             ∙ ap (λ l. record { messages = l ++ N; opened = later; last_start_tag = last }) (is_error ∙ ap error (line-first input before c rest begins));
         at_end = refl;
       }
@@ -452,13 +452,13 @@ module _ {X S H : Type 0} (means : Means X S H) (rules : Rules) where
       let cells : List Spelled = spell_odd rules.exact state.AfterDoctypeName (with_quirks d) (c ∷ rest) in
       let p = and_parts (not (is_white_space c)) (list_all in_skipped_rest (c ∷ rest)) h in
       let q = and_parts (in_skipped_rest c) (list_all in_skipped_rest rest) p.1 in
-      reads-cut input before s last (InDoctype AfterName d) (c ∷ rest) cells (Doctype (with_quirks d) ∷ End ∷ []) (characters-behind_name rules.exact (with_quirks d) (NoKeyword (c ∷ rest)))
+      reads-cut input before s last (InDoctype AfterName d) (c ∷ rest) cells (Doctype (with_quirks d) ∷ End ∷ []) (characters-after_name rules.exact (with_quirks d) (NoKeyword (c ∷ rest)))
       (cut-odd_some rules.exact (InDoctype AfterName d) state.AfterDoctypeName (with_quirks d) c rest
       (rw (not-true (is_white_space c) p.0, not-true (c == greater_than) q.0, none) refl) p.1)
 
-  reads-rest : (input : Input) (before : List ℕ) (s : S) (last name : List ℕ) (b : ℕ) (space : List ℕ) (c : ℕ) (rest : List ℕ) → is_behind_name (NoKeyword (c ∷ rest)) ≡ true
-      → ReadsBehind input before s last name (InDoctype AfterName (named_doctype name None None false)) (b ∷ space) (NoKeyword (c ∷ rest))
-  unfolding messages_behind_open_name
+  reads-rest : (input : Input) (before : List ℕ) (s : S) (last name : List ℕ) (b : ℕ) (space : List ℕ) (c : ℕ) (rest : List ℕ) → is_after_name (NoKeyword (c ∷ rest)) ≡ true
+      → ReadsAfter input before s last name (InDoctype AfterName (named_doctype name None None false)) (b ∷ space) (NoKeyword (c ∷ rest))
+  unfolding messages_after_open_name
   reads-rest input before s last name b space c rest h = by (begins_doctype_keyword (c ∷ rest)) (begins_doctype_keyword (c ∷ [])) refl refl
     where
       d : DoctypeOf
@@ -469,7 +469,7 @@ module _ {X S H : Type 0} (means : Means X S H) (rules : Rules) where
           (if t then []
           else if u then
           on_line (line_after input (before ++ c ∷ [])) (error_in rules.exact state.AfterDoctypeName c ∷ [])
-          ++ spelled_messages rules.exact input (before ++ held_of (c ∷ rest)) (spell (null_error rules.exact state.BogusDoctype) (behind_held_of (c ∷ rest)))
+          ++ spelled_messages rules.exact input (before ++ held_of (c ∷ rest)) (spell (null_error rules.exact state.BogusDoctype) (after_held_of (c ∷ rest)))
           else spelled_messages rules.exact input before (before_end (spell_odd rules.exact state.AfterDoctypeName (with_quirks d) (c ∷ rest))))
           ((if t then error_in rules.exact state.AfterDoctypeName c ∷ [] else []) ++ Doctype (with_quirks d) ∷ End ∷ [])
       by true u e f = reads-undecided input before s last d c rest (and_parts (begins_no_keyword (c ∷ rest)) (is_rest is_white_space (c ∷ rest)) h).0 e
@@ -479,35 +479,35 @@ module _ {X S H : Type 0} (means : Means X S H) (rules : Rules) where
           reads-decided input before s last d c rest p.0 e f q.1
       by false false e f = reads-odd input before s last name c rest f (and_parts (begins_no_keyword (c ∷ rest)) (is_rest is_white_space (c ∷ rest)) h).1
 
-  reads-behind : (input : Input) (before : List ℕ) (s : S) (last name space : List ℕ) (behind : BehindName) → can_stand_behind space behind ≡ true
-      → ReadsBehind input before s last name (behind_name rules (named_doctype name None None false) space) space behind
-  unfolding messages_behind_open_name
-  reads-behind input before s last name space (NoKeyword []) h = reads-nothing input before s last name space
-  reads-behind input before s last name [] (NoKeyword (c ∷ rest)) h = absurd (false≢true h)
-  reads-behind input before s last name [] (PublicKeyword keyword later identifier) h = absurd (false≢true h)
-  reads-behind input before s last name [] (SystemKeyword keyword later identifier) h = absurd (false≢true h)
-  reads-behind input before s last name (b ∷ space) (NoKeyword (c ∷ rest)) h =
-      reads-rest input before s last name b space c rest (and_parts (list_all is_white_space (b ∷ space)) (is_behind_name (NoKeyword (c ∷ rest))) h).1
-  reads-behind input before s last name (b ∷ space) (PublicKeyword keyword later identifier) h =
-      let g = (and_parts (list_all is_white_space (b ∷ space)) (is_behind_name (PublicKeyword keyword later identifier)) h).1 in
+  reads-after : (input : Input) (before : List ℕ) (s : S) (last name space : List ℕ) (afterwards : RestAfterName) → can_stand_after space afterwards ≡ true
+      → ReadsAfter input before s last name (after_name rules (named_doctype name None None false) space) space afterwards
+  unfolding messages_after_open_name
+  reads-after input before s last name space (NoKeyword []) h = reads-nothing input before s last name space
+  reads-after input before s last name [] (NoKeyword (c ∷ rest)) h = absurd (false≢true h)
+  reads-after input before s last name [] (PublicKeyword keyword later identifier) h = absurd (false≢true h)
+  reads-after input before s last name [] (SystemKeyword keyword later identifier) h = absurd (false≢true h)
+  reads-after input before s last name (b ∷ space) (NoKeyword (c ∷ rest)) h =
+      reads-rest input before s last name b space c rest (and_parts (list_all is_white_space (b ∷ space)) (is_after_name (NoKeyword (c ∷ rest))) h).1
+  reads-after input before s last name (b ∷ space) (PublicKeyword keyword later identifier) h =
+      let g = (and_parts (list_all is_white_space (b ∷ space)) (is_after_name (PublicKeyword keyword later identifier)) h).1 in
       let p = and_parts (is_keyword Public keyword) (list_all is_white_space later && is_public identifier) g in
       let q = and_parts (list_all is_white_space later) (is_public identifier) p.1 in
-      let told : DoctypeOf = told_behind_name name (PublicKeyword keyword later identifier) in
-      reads-keyword input before s last Public (named_doctype name None None false) keyword (behind_name_text (PublicKeyword keyword later identifier))
-      (spell_wanted rules.exact Public told later (spell_behind_public rules.exact told) identifier) (doctype_end rules.exact (public_end (keyword_state Public later) identifier) told) p.0
-      (characters-behind_name rules.exact told (PublicKeyword keyword later identifier))
+      let told : DoctypeOf = told_after_name name (PublicKeyword keyword later identifier) in
+      reads-keyword input before s last Public (named_doctype name None None false) keyword (after_name_text (PublicKeyword keyword later identifier))
+      (spell_wanted rules.exact Public told later (spell_after_public rules.exact told) identifier) (doctype_end rules.exact (public_end (keyword_state Public later) identifier) told) p.0
+      (characters-after_name rules.exact told (PublicKeyword keyword later identifier))
       (cut-public_keyword rules.exact name later identifier q.0 q.1)
-  reads-behind input before s last name (b ∷ space) (SystemKeyword keyword later identifier) h =
-      let g = (and_parts (list_all is_white_space (b ∷ space)) (is_behind_name (SystemKeyword keyword later identifier)) h).1 in
+  reads-after input before s last name (b ∷ space) (SystemKeyword keyword later identifier) h =
+      let g = (and_parts (list_all is_white_space (b ∷ space)) (is_after_name (SystemKeyword keyword later identifier)) h).1 in
       let p = and_parts (is_keyword System keyword) (list_all is_white_space later && is_system identifier) g in
       let q = and_parts (list_all is_white_space later) (is_system identifier) p.1 in
-      let told : DoctypeOf = told_behind_name name (SystemKeyword keyword later identifier) in
-      reads-keyword input before s last System (named_doctype name None None false) keyword (behind_name_text (SystemKeyword keyword later identifier))
-      (spell_wanted rules.exact System told later (spell_behind_system rules.exact told) identifier) (doctype_end rules.exact (system_end (keyword_state System later) identifier) told) p.0
-      (characters-behind_name rules.exact told (SystemKeyword keyword later identifier))
+      let told : DoctypeOf = told_after_name name (SystemKeyword keyword later identifier) in
+      reads-keyword input before s last System (named_doctype name None None false) keyword (after_name_text (SystemKeyword keyword later identifier))
+      (spell_wanted rules.exact System told later (spell_after_system rules.exact told) identifier) (doctype_end rules.exact (system_end (keyword_state System later) identifier) told) p.0
+      (characters-after_name rules.exact told (SystemKeyword keyword later identifier))
       (cut-system_keyword rules.exact name later identifier q.0 q.1)
 
-  tokens-word : (space : List ℕ) → tokens_at_end rules (behind_word rules space) ≡ open_doctype_at_end rules.exact space NoName
+  tokens-word : (space : List ℕ) → tokens_at_end rules (after_word rules space) ≡ open_doctype_at_end rules.exact space NoName
   unfolding late_at_end_of open_at_end_of told_at_end_of told_at_doctype_end doctype_state_at
   tokens-word [] = refl
   tokens-word (c ∷ space) = refl
@@ -517,9 +517,9 @@ module _ {X S H : Type 0} (means : Means X S H) (rules : Rules) where
       → ReadsOpen input [] s last (Between Data) (opening word space ++ []) (spelled_messages rules.exact input [] (spell_silent (opening word space)))
       (open_doctype_at_end rules.exact space NoName)
   reads-no_name input last s word space is_word all = record {
-    later = behind_word rules space;
+    later = after_word rules space;
     is =
-        trace-text means.step means.reply means.foreign rules input [] s last (Between Data) (behind_word rules space) (spell_silent (opening word space)) (opening word space ++ [])
+        trace-text means.step means.reply means.foreign rules input [] s last (Between Data) (after_word rules space) (spell_silent (opening word space)) (opening word space ++ [])
         (characters-spell silent (opening word space) ∙ sym (append-nil (opening word space))) (leads-opening rules word space is_word all);
     at_end = tokens-word space;
   }
@@ -529,22 +529,22 @@ module _ {X S H : Type 0} (means : Means X S H) (rules : Rules) where
       (open_doctype_at_end rules.exact space content)
   unfolding open_doctype_messages
   reads-content input last s word space NoName is_word all h = reads-no_name input last s word space is_word all
-  reads-content input last s word space (Named first rest later behind) is_word all h =
-      let p = and_parts (list_all in_doctype_name (first ∷ rest)) (can_stand_behind later behind) h in
+  reads-content input last s word space (Named first rest later afterwards) is_word all h =
+      let p = and_parts (list_all in_doctype_name (first ∷ rest)) (can_stand_after later afterwards) h in
       let name : List ℕ = flat_map name_bytes (first ∷ rest) in
       let cells : List Spelled = spell_name rules.exact word space first rest later in
       let before : List ℕ = opening word space ++ (first ∷ rest ++ later) in
-      let text : List ℕ = behind_name_text behind in
+      let text : List ℕ = after_name_text afterwards in
       let M : List Message = spelled_messages rules.exact input [] cells in
-      let opened : Open = behind_name rules (named rules first rest) later in
-      let r = reads-behind input before (stepped means.step s M) last name later behind p.1 in
+      let opened : Open = after_name rules (named rules first rest) later in
+      let r = reads-after input before (stepped means.step s M) last name later afterwards p.1 in
       let parts : opening word space ++ ((first ∷ rest ++ later) ++ text) ≡ characters cells ++ text =
       sym (append_assoc (opening word space) (first ∷ rest ++ later) text) ∙ ap (λ l. l ++ text) (sym (characters-name rules.exact word space first rest later)) in
       record {
         later = r.later;
         is =
             ap (trace means.step means.reply means.foreign rules s (line_after input []) last (Between Data)) parts
-            ∙ trace-leads means.step means.reply means.foreign rules input [] s last (Between Data) opened cells text (leads-name rules word space first rest later is_word all p.0 (white-behind means.step means.reply means.foreign rules later behind p.1))
+            ∙ trace-leads means.step means.reply means.foreign rules input [] s last (Between Data) opened cells text (leads-name rules word space first rest later is_word all p.0 (white-after means.step means.reply means.foreign rules later afterwards p.1))
             ∙ ap (λ l. with_messages M (trace means.step means.reply means.foreign rules (stepped means.step s M) (line_after input l) last opened text)) (characters-name rules.exact word space first rest later)
             ∙ ap (with_messages M) r.is;
         at_end = r.at_end;

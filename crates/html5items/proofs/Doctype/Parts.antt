@@ -10,7 +10,7 @@ use Rattle.html5ever_interface.specs.declared.states.DoctypeIdKind.TheVariants.{
 use Rattle.html5ever_interface.specs.declared.states.State.{State}
 use Rattle.html5grammar.specs.Characters.{quotation_mark, apostrophe, greater_than, is_white_space, value_bytes}
 use Rattle.html5grammar.specs.Doctype.{in_skipped_rest, quote_mark, in_identifier}
-use Rattle.html5items.specs.Doctype.{Identifier, SystemIdentifier, PublicIdentifier, is_rest, belongs_before, is_system, is_public, identifier_told, system_told, is_not_closed, has_system_quirks, has_public_quirks, behind_space, keyword_state, between_state, spell_identifier, spell_behind_system, spell_behind_public, spell_wanted}
+use Rattle.html5items.specs.Doctype.{Identifier, SystemIdentifier, PublicIdentifier, is_rest, belongs_before, is_system, is_public, identifier_told, system_told, is_not_closed, has_system_quirks, has_public_quirks, after_space, keyword_state, between_state, spell_identifier, spell_after_system, spell_after_public, spell_wanted}
 use Rattle.html5items.specs.Doctype.Identifier.{Missing, Unclosed, Closed}
 use Rattle.html5items.specs.Spelled.{spell_silent}
 use Rattle.html5grammar.specs.Start.{Quotes, Open}
@@ -18,8 +18,8 @@ use Rattle.html5grammar.specs.Start.DoctypePlace.{AfterKeyword, BeforeIdentifier
 use Rattle.html5grammar.specs.Start.Mode.{Data}
 use Rattle.html5grammar.specs.Start.Open.{Between, InDoctype}
 use Rattle.html5grammar.specs.Start.Quotes.{DoubleQuotes, SingleQuotes}
-use Rattle.html5grammar.specs.Machine.{step_at, doctype_step, space_step, wanted_identifier_step, system_or_end_step, behind_identifier_step}
-use Rattle.html5items.proofs.Doctype.Steps.{IsNeither, named_doctype, goes-space, Wants, goes-odd_none, goes-missing, goes-unclosed, goes-closed, goes-behind_system}
+use Rattle.html5grammar.specs.Machine.{step_at, doctype_step, space_step, wanted_identifier_step, system_or_end_step, after_identifier_step}
+use Rattle.html5items.proofs.Doctype.Steps.{IsNeither, named_doctype, goes-space, Wants, goes-odd_none, goes-missing, goes-unclosed, goes-closed, goes-after_system}
 use Rattle.html5items.proofs.Goes.{Goes, Goes-append, Goes-one}
 use Rattle.html5items.proofs.Tag.Steps.{no_or}
 
@@ -65,7 +65,7 @@ module _ (exact : Bool) where
       → ((c : ℕ) → is_white_space c ≡ false → (c == greater_than) ≡ false → Wants exact opened space named System (named_doctype name public_id None false) c)
       → (is_nothing system ≡ true → Wants exact opened space named System (named_doctype name public_id None false) greater_than)
       → is_system system ≡ true
-      → Goes exact opened (spell_identifier exact System named (with_system name public_id system) space (spell_behind_system exact (with_system name public_id system)) system) (Between Data)
+      → Goes exact opened (spell_identifier exact System named (with_system name public_id system) space (spell_after_system exact (with_system name public_id system)) system) (Between Data)
   unfolding wanted_identifier_step
   goes-system opened space named name public_id (Missing []) wants ends h =
       goes-odd_none exact opened named (named_doctype name public_id None true) (ends refl)
@@ -79,60 +79,60 @@ module _ (exact : Bool) where
       let p = and_parts (list_all (in_identifier quotes) run) (list_all is_white_space later && is_rest is_white_space rest) h in
       let q = and_parts (list_all is_white_space later) (is_rest is_white_space rest) p.1 in
       let d : DoctypeOf = named_doctype name public_id (Some (flat_map value_bytes run)) false in
-      goes-closed exact opened space named System (named_doctype name public_id None false) quotes run (spell_silent later ++ spell_behind_system exact d later rest)
+      goes-closed exact opened space named System (named_doctype name public_id None false) quotes run (spell_silent later ++ spell_after_system exact d later rest)
       (wants (quote_mark quotes) (quote-no_white quotes) (quote-no_end quotes)) p.0
-      (goes-behind_system exact d later rest q.0 q.1)
+      (goes-after_system exact d later rest q.0 q.1)
 
   -- ---- after a public identifier
 
-  abbrev pub behind_public : DoctypeOf → List ℕ → Open
-  behind_public d space = behind_space space (InDoctype (AfterIdentifier Public) d) (InDoctype BetweenIdentifiers d)
+  abbrev pub after_public : DoctypeOf → List ℕ → Open
+  after_public d space = after_space space (InDoctype (AfterIdentifier Public) d) (InDoctype BetweenIdentifiers d)
 
   pub goes-space_between : (d : DoctypeOf) (space : List ℕ) → list_all is_white_space space ≡ true
-      → Goes exact (InDoctype (AfterIdentifier Public) d) (spell_silent space) (behind_public d space)
-  unfolding step_at doctype_step space_step behind_identifier_step
+      → Goes exact (InDoctype (AfterIdentifier Public) d) (spell_silent space) (after_public d space)
+  unfolding step_at doctype_step space_step after_identifier_step
   goes-space_between d space all =
       goes-space exact (InDoctype (AfterIdentifier Public) d) (InDoctype BetweenIdentifiers d) (λ c h. rw h refl) (λ c h. rw h refl) space all
 
   pub step-between : (d : DoctypeOf) (space : List ℕ) (c : ℕ) → is_white_space c ≡ false
-      → step_at exact (behind_public d space) c
-      ≡ system_or_end_step exact (behind_space space true false) (between_state space) d c
-  unfolding step_at doctype_step space_step behind_identifier_step
+      → step_at exact (after_public d space) c
+      ≡ system_or_end_step exact (after_space space true false) (between_state space) d c
+  unfolding step_at doctype_step space_step after_identifier_step
   step-between d [] c h = rw h refl
   step-between d (b ∷ space) c h = rw h refl
 
   goes-some_system : (name public_id space : List ℕ) (system : SystemIdentifier) → is_nothing system ≡ false → list_all is_white_space space ≡ true → is_system system ≡ true
       → Goes exact (InDoctype (AfterIdentifier Public) (named_doctype name (Some public_id) None false))
       (spell_silent space
-      ++ spell_identifier exact System (between_state space) (with_system name (Some public_id) system) space (spell_behind_system exact (with_system name (Some public_id) system)) system)
+      ++ spell_identifier exact System (between_state space) (with_system name (Some public_id) system) space (spell_after_system exact (with_system name (Some public_id) system)) system)
       (Between Data)
   unfolding system_or_end_step
   goes-some_system name public_id space system some all h =
       let d : DoctypeOf = named_doctype name (Some public_id) None false in
-      Goes-append exact (InDoctype (AfterIdentifier Public) d) (behind_public d space) (Between Data) (spell_silent space) _
+      Goes-append exact (InDoctype (AfterIdentifier Public) d) (after_public d space) (Between Data) (spell_silent space) _
       (goes-space_between d space all)
-      (goes-system (behind_public d space) space (between_state space) name (Some public_id) system
+      (goes-system (after_public d space) space (between_state space) name (Some public_id) system
       (λ c no_white no_end. step-between d space c no_white ∙ rw no_end refl) (λ none. absurd (false≢true (sym some ∙ none))) h)
 
-  goes-behind_public : (name public_id space : List ℕ) (system : SystemIdentifier) → list_all is_white_space space ≡ true → is_system system ≡ true
+  goes-after_public : (name public_id space : List ℕ) (system : SystemIdentifier) → list_all is_white_space space ≡ true → is_system system ≡ true
       → Goes exact (InDoctype (AfterIdentifier Public) (named_doctype name (Some public_id) None false))
-      (spell_silent space ++ spell_behind_public exact (named_doctype name (Some public_id) (identifier_told system) (has_system_quirks system)) space system) (Between Data)
+      (spell_silent space ++ spell_after_public exact (named_doctype name (Some public_id) (identifier_told system) (has_system_quirks system)) space system) (Between Data)
   unfolding system_or_end_step
-  goes-behind_public name public_id space (Missing []) all h =
+  goes-after_public name public_id space (Missing []) all h =
       let d : DoctypeOf = named_doctype name (Some public_id) None false in
-      Goes-append exact (InDoctype (AfterIdentifier Public) d) (behind_public d space) (Between Data) (spell_silent space) _
+      Goes-append exact (InDoctype (AfterIdentifier Public) d) (after_public d space) (Between Data) (spell_silent space) _
       (goes-space_between d space all)
-      (Goes-one exact (behind_public d space) (Between Data) greater_than (Doctype d ∷ []) (step-between d space greater_than end-no_white))
-  goes-behind_public name public_id space (Missing (c ∷ rest)) all h = goes-some_system name public_id space (Missing (c ∷ rest)) refl all h
-  goes-behind_public name public_id space (Unclosed quotes run) all h = goes-some_system name public_id space (Unclosed quotes run) refl all h
-  goes-behind_public name public_id space (Closed quotes run later rest) all h = goes-some_system name public_id space (Closed quotes run later rest) refl all h
+      (Goes-one exact (after_public d space) (Between Data) greater_than (Doctype d ∷ []) (step-between d space greater_than end-no_white))
+  goes-after_public name public_id space (Missing (c ∷ rest)) all h = goes-some_system name public_id space (Missing (c ∷ rest)) refl all h
+  goes-after_public name public_id space (Unclosed quotes run) all h = goes-some_system name public_id space (Unclosed quotes run) refl all h
+  goes-after_public name public_id space (Closed quotes run later rest) all h = goes-some_system name public_id space (Closed quotes run later rest) refl all h
 
   -- ---- the public identifier
 
   goes-public : (opened : Open) (space : List ℕ) (named : State) (name : List ℕ) (identifier : PublicIdentifier)
       → ((c : ℕ) → is_white_space c ≡ false → Wants exact opened space named Public (named_doctype name None None false) c)
       → is_public identifier ≡ true
-      → Goes exact opened (spell_identifier exact Public named (with_public name identifier) space (spell_behind_public exact (with_public name identifier)) identifier) (Between Data)
+      → Goes exact opened (spell_identifier exact Public named (with_public name identifier) space (spell_after_public exact (with_public name identifier)) identifier) (Between Data)
   unfolding wanted_identifier_step
   goes-public opened space named name (Missing []) wants h =
       goes-odd_none exact opened named (named_doctype name None None true) (wants greater_than end-no_white)
@@ -145,43 +145,43 @@ module _ (exact : Bool) where
       let q = and_parts (list_all is_white_space later) (is_system system) p.1 in
       let id : List ℕ = flat_map value_bytes run in
       goes-closed exact opened space named Public (named_doctype name None None false) quotes run
-      (spell_silent later ++ spell_behind_public exact (named_doctype name (Some id) (identifier_told system) (has_system_quirks system)) later system)
+      (spell_silent later ++ spell_after_public exact (named_doctype name (Some id) (identifier_told system) (has_system_quirks system)) later system)
       (wants (quote_mark quotes) (quote-no_white quotes)) p.0
-      (goes-behind_public name id later system q.0 q.1)
+      (goes-after_public name id later system q.0 q.1)
 
   -- ---- after a keyword
 
-  abbrev pub behind_keyword : DoctypeIdKind → DoctypeOf → List ℕ → Open
-  behind_keyword kind d space = behind_space space (InDoctype (AfterKeyword kind) d) (InDoctype (BeforeIdentifier kind) d)
+  abbrev pub after_keyword : DoctypeIdKind → DoctypeOf → List ℕ → Open
+  after_keyword kind d space = after_space space (InDoctype (AfterKeyword kind) d) (InDoctype (BeforeIdentifier kind) d)
 
-  pub goes-space_behind_keyword : (kind : DoctypeIdKind) (d : DoctypeOf) (space : List ℕ) → list_all is_white_space space ≡ true
-      → Goes exact (InDoctype (AfterKeyword kind) d) (spell_silent space) (behind_keyword kind d space)
+  pub goes-space_after_keyword : (kind : DoctypeIdKind) (d : DoctypeOf) (space : List ℕ) → list_all is_white_space space ≡ true
+      → Goes exact (InDoctype (AfterKeyword kind) d) (spell_silent space) (after_keyword kind d space)
   unfolding step_at doctype_step space_step
-  goes-space_behind_keyword kind d space all =
+  goes-space_after_keyword kind d space all =
       goes-space exact (InDoctype (AfterKeyword kind) d) (InDoctype (BeforeIdentifier kind) d) (λ c h. rw h refl) (λ c h. rw h refl) space all
 
-  pub step-behind_keyword : (kind : DoctypeIdKind) (d : DoctypeOf) (space : List ℕ) (c : ℕ) → is_white_space c ≡ false
-      → Wants exact (behind_keyword kind d space) space (keyword_state kind space) kind d c
+  pub step-after_keyword : (kind : DoctypeIdKind) (d : DoctypeOf) (space : List ℕ) (c : ℕ) → is_white_space c ≡ false
+      → Wants exact (after_keyword kind d space) space (keyword_state kind space) kind d c
   unfolding step_at doctype_step space_step
-  step-behind_keyword kind d [] c h = rw h refl
-  step-behind_keyword kind d (b ∷ space) c h = rw h refl
+  step-after_keyword kind d [] c h = rw h refl
+  step-after_keyword kind d (b ∷ space) c h = rw h refl
 
   pub goes-public_keyword : (name space : List ℕ) (identifier : PublicIdentifier) → list_all is_white_space space ≡ true → is_public identifier ≡ true
       → Goes exact (InDoctype (AfterKeyword Public) (named_doctype name None None false))
-      (spell_wanted exact Public (with_public name identifier) space (spell_behind_public exact (with_public name identifier)) identifier) (Between Data)
+      (spell_wanted exact Public (with_public name identifier) space (spell_after_public exact (with_public name identifier)) identifier) (Between Data)
   goes-public_keyword name space identifier all h =
       let d : DoctypeOf = named_doctype name None None false in
-      Goes-append exact (InDoctype (AfterKeyword Public) d) (behind_keyword Public d space) (Between Data) (spell_silent space) _
-      (goes-space_behind_keyword Public d space all)
-      (goes-public (behind_keyword Public d space) space (keyword_state Public space) name identifier
-      (step-behind_keyword Public d space) h)
+      Goes-append exact (InDoctype (AfterKeyword Public) d) (after_keyword Public d space) (Between Data) (spell_silent space) _
+      (goes-space_after_keyword Public d space all)
+      (goes-public (after_keyword Public d space) space (keyword_state Public space) name identifier
+      (step-after_keyword Public d space) h)
 
   pub goes-system_keyword : (name space : List ℕ) (identifier : SystemIdentifier) → list_all is_white_space space ≡ true → is_system identifier ≡ true
       → Goes exact (InDoctype (AfterKeyword System) (named_doctype name None None false))
-      (spell_wanted exact System (with_system name None identifier) space (spell_behind_system exact (with_system name None identifier)) identifier) (Between Data)
+      (spell_wanted exact System (with_system name None identifier) space (spell_after_system exact (with_system name None identifier)) identifier) (Between Data)
   goes-system_keyword name space identifier all h =
       let d : DoctypeOf = named_doctype name None None false in
-      Goes-append exact (InDoctype (AfterKeyword System) d) (behind_keyword System d space) (Between Data) (spell_silent space) _
-      (goes-space_behind_keyword System d space all)
-      (goes-system (behind_keyword System d space) space (keyword_state System space) name None identifier
-      (λ c no_white no_end. step-behind_keyword System d space c no_white) (λ none. step-behind_keyword System d space greater_than end-no_white) h)
+      Goes-append exact (InDoctype (AfterKeyword System) d) (after_keyword System d space) (Between Data) (spell_silent space) _
+      (goes-space_after_keyword System d space all)
+      (goes-system (after_keyword System d space) space (keyword_state System space) name None identifier
+      (λ c no_white no_end. step-after_keyword System d space c no_white) (λ none. step-after_keyword System d space greater_than end-no_white) h)

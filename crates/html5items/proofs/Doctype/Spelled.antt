@@ -9,8 +9,8 @@ use Rattle.html5ever_interface.specs.declared.states.State.TheVariants as state
 use Rattle.html5grammar.specs.Characters.{greater_than}
 use Rattle.html5grammar.specs.Doctype.{quote_mark, identifier_state}
 use Rattle.html5grammar.specs.ErrorText.{error_in}
-use Rattle.html5items.specs.Doctype.{Identifier, SystemIdentifier, BehindName, identifier_text, system_text, behind_name_text, opening, spell_end, spell_skipped, spell_odd, spell_rest, keyword_state, between_state, spell_begun, spell_identifier, spell_behind_system, spell_behind_public, spell_wanted, spell_behind_name, spell_name}
-use Rattle.html5items.specs.Doctype.BehindName.{NoKeyword, PublicKeyword, SystemKeyword}
+use Rattle.html5items.specs.Doctype.{Identifier, SystemIdentifier, RestAfterName, identifier_text, system_text, after_name_text, opening, spell_end, spell_skipped, spell_odd, spell_rest, keyword_state, between_state, spell_begun, spell_identifier, spell_after_system, spell_after_public, spell_wanted, spell_after_name, spell_name}
+use Rattle.html5items.specs.Doctype.RestAfterName.{NoKeyword, PublicKeyword, SystemKeyword}
 use Rattle.html5items.specs.Doctype.Identifier.{Missing, Unclosed, Closed}
 use Rattle.html5items.specs.Spelled.{Spelled, spell, spell_silent}
 use Rattle.html5grammar.specs.Slice.{silent}
@@ -39,50 +39,50 @@ module _ (exact : Bool) where
       → characters (spell_begun exact kind named space quotes run) ≡ quote_mark quotes ∷ run
   characters-begun kind named space quotes run = ap (λ l. quote_mark quotes ∷ l) (characters-spell (null_error exact (identifier_state quotes kind)) run)
 
-  characters-identifier : {B : Type 0} → (kind : DoctypeIdKind) (named : State) (d : DoctypeOf) (space : List ℕ) (spell_behind : List ℕ → B → List Spelled) (text_behind : B → List ℕ)
-      → ((later : List ℕ) (behind : B) → characters (spell_behind later behind) ≡ text_behind behind ++ greater_than ∷ [])
+  characters-identifier : {B : Type 0} → (kind : DoctypeIdKind) (named : State) (d : DoctypeOf) (space : List ℕ) (spell_after : List ℕ → B → List Spelled) (text_after : B → List ℕ)
+      → ((later : List ℕ) (afterwards : B) → characters (spell_after later afterwards) ≡ text_after afterwards ++ greater_than ∷ [])
       → (identifier : Identifier B)
-      → characters (spell_identifier exact kind named d space spell_behind identifier) ≡ identifier_text text_behind identifier ++ greater_than ∷ []
-  characters-identifier kind named d space spell_behind text_behind behinds (Missing rest) = characters-odd named d rest
-  characters-identifier kind named d space spell_behind text_behind behinds (Unclosed quotes run) =
+      → characters (spell_identifier exact kind named d space spell_after identifier) ≡ identifier_text text_after identifier ++ greater_than ∷ []
+  characters-identifier kind named d space spell_after text_after afters (Missing rest) = characters-odd named d rest
+  characters-identifier kind named d space spell_after text_after afters (Unclosed quotes run) =
       characters-two (spell_begun exact kind named space quotes run) (spell_end (error_in exact (identifier_state quotes kind) greater_than ∷ []) d) (quote_mark quotes ∷ run) (greater_than ∷ [])
       (characters-begun kind named space quotes run) refl
-  characters-identifier kind named d space spell_behind text_behind behinds (Closed quotes run later behind) =
-      characters-end (spell_begun exact kind named space quotes run) (spell_silent (quote_mark quotes ∷ later) ++ spell_behind later behind)
-      (quote_mark quotes ∷ run) (quote_mark quotes ∷ later ++ text_behind behind) (characters-begun kind named space quotes run)
-      (characters-end (spell_silent (quote_mark quotes ∷ later)) (spell_behind later behind) (quote_mark quotes ∷ later) (text_behind behind)
-      (characters-spell silent (quote_mark quotes ∷ later)) (behinds later behind))
+  characters-identifier kind named d space spell_after text_after afters (Closed quotes run later afterwards) =
+      characters-end (spell_begun exact kind named space quotes run) (spell_silent (quote_mark quotes ∷ later) ++ spell_after later afterwards)
+      (quote_mark quotes ∷ run) (quote_mark quotes ∷ later ++ text_after afterwards) (characters-begun kind named space quotes run)
+      (characters-end (spell_silent (quote_mark quotes ∷ later)) (spell_after later afterwards) (quote_mark quotes ∷ later) (text_after afterwards)
+      (characters-spell silent (quote_mark quotes ∷ later)) (afters later afterwards))
 
-  characters-behind_system : (d : DoctypeOf) (space rest : List ℕ) → characters (spell_behind_system exact d space rest) ≡ rest ++ greater_than ∷ []
-  characters-behind_system d space rest = characters-rest (state.AfterDoctypeIdentifier System) d rest
+  characters-after_system : (d : DoctypeOf) (space rest : List ℕ) → characters (spell_after_system exact d space rest) ≡ rest ++ greater_than ∷ []
+  characters-after_system d space rest = characters-rest (state.AfterDoctypeIdentifier System) d rest
 
-  characters-behind_public : (d : DoctypeOf) (space : List ℕ) (system : SystemIdentifier) → characters (spell_behind_public exact d space system) ≡ system_text system ++ greater_than ∷ []
-  characters-behind_public d space (Missing []) = refl
-  characters-behind_public d space (Missing (c ∷ rest)) = characters-odd (between_state space) d (c ∷ rest)
-  characters-behind_public d space (Unclosed quotes run) =
-      characters-identifier System (between_state space) d space (spell_behind_system exact d) (λ rest. rest) (characters-behind_system d) (Unclosed quotes run)
-  characters-behind_public d space (Closed quotes run later rest) =
-      characters-identifier System (between_state space) d space (spell_behind_system exact d) (λ rest. rest) (characters-behind_system d) (Closed quotes run later rest)
+  characters-after_public : (d : DoctypeOf) (space : List ℕ) (system : SystemIdentifier) → characters (spell_after_public exact d space system) ≡ system_text system ++ greater_than ∷ []
+  characters-after_public d space (Missing []) = refl
+  characters-after_public d space (Missing (c ∷ rest)) = characters-odd (between_state space) d (c ∷ rest)
+  characters-after_public d space (Unclosed quotes run) =
+      characters-identifier System (between_state space) d space (spell_after_system exact d) (λ rest. rest) (characters-after_system d) (Unclosed quotes run)
+  characters-after_public d space (Closed quotes run later rest) =
+      characters-identifier System (between_state space) d space (spell_after_system exact d) (λ rest. rest) (characters-after_system d) (Closed quotes run later rest)
 
   -- a keyword, white space, and what stands where its identifier can
-  characters-keyword : {B : Type 0} → (kind : DoctypeIdKind) (d : DoctypeOf) (keyword space : List ℕ) (spell_behind : List ℕ → B → List Spelled) (text_behind : B → List ℕ)
-      → ((later : List ℕ) (behind : B) → characters (spell_behind later behind) ≡ text_behind behind ++ greater_than ∷ [])
+  characters-keyword : {B : Type 0} → (kind : DoctypeIdKind) (d : DoctypeOf) (keyword space : List ℕ) (spell_after : List ℕ → B → List Spelled) (text_after : B → List ℕ)
+      → ((later : List ℕ) (afterwards : B) → characters (spell_after later afterwards) ≡ text_after afterwards ++ greater_than ∷ [])
       → (identifier : Identifier B)
-      → characters (spell_silent keyword ++ spell_wanted exact kind d space spell_behind identifier)
-      ≡ (keyword ++ (space ++ identifier_text text_behind identifier)) ++ greater_than ∷ []
-  characters-keyword kind d keyword space spell_behind text_behind behinds identifier =
+      → characters (spell_silent keyword ++ spell_wanted exact kind d space spell_after identifier)
+      ≡ (keyword ++ (space ++ identifier_text text_after identifier)) ++ greater_than ∷ []
+  characters-keyword kind d keyword space spell_after text_after afters identifier =
       let named : State = keyword_state kind space in
-      let text : List ℕ = identifier_text text_behind identifier in
-      characters-end (spell_silent keyword) (spell_wanted exact kind d space spell_behind identifier) keyword (space ++ text) (characters-spell silent keyword)
-      (characters-end (spell_silent space) (spell_identifier exact kind named d space spell_behind identifier) space text (characters-spell silent space)
-      (characters-identifier kind named d space spell_behind text_behind behinds identifier))
+      let text : List ℕ = identifier_text text_after identifier in
+      characters-end (spell_silent keyword) (spell_wanted exact kind d space spell_after identifier) keyword (space ++ text) (characters-spell silent keyword)
+      (characters-end (spell_silent space) (spell_identifier exact kind named d space spell_after identifier) space text (characters-spell silent space)
+      (characters-identifier kind named d space spell_after text_after afters identifier))
 
-  pub characters-behind_name : (d : DoctypeOf) (behind : BehindName) → characters (spell_behind_name exact d behind) ≡ behind_name_text behind ++ greater_than ∷ []
-  characters-behind_name d (NoKeyword rest) = characters-rest state.AfterDoctypeName d rest
-  characters-behind_name d (PublicKeyword keyword space identifier) =
-      characters-keyword Public d keyword space (spell_behind_public exact d) system_text (characters-behind_public d) identifier
-  characters-behind_name d (SystemKeyword keyword space identifier) =
-      characters-keyword System d keyword space (spell_behind_system exact d) (λ rest. rest) (characters-behind_system d) identifier
+  pub characters-after_name : (d : DoctypeOf) (afterwards : RestAfterName) → characters (spell_after_name exact d afterwards) ≡ after_name_text afterwards ++ greater_than ∷ []
+  characters-after_name d (NoKeyword rest) = characters-rest state.AfterDoctypeName d rest
+  characters-after_name d (PublicKeyword keyword space identifier) =
+      characters-keyword Public d keyword space (spell_after_public exact d) system_text (characters-after_public d) identifier
+  characters-after_name d (SystemKeyword keyword space identifier) =
+      characters-keyword System d keyword space (spell_after_system exact d) (λ rest. rest) (characters-after_system d) identifier
 
   pub characters-name : (word space : List ℕ) (first : ℕ) (rest later : List ℕ)
       → characters (spell_name exact word space first rest later) ≡ opening word space ++ (first ∷ rest ++ later)

@@ -12,7 +12,7 @@ use Rattle.html5ever_interface.specs.declared.states.State.TheVariants as state
 use Rattle.html5grammar.specs.Characters.{quotation_mark, apostrophe, greater_than, is_white_space}
 use Rattle.html5grammar.specs.Doctype.{with_quirks, with_begun_identifier, with_identifier, in_skipped_rest, quote_mark, identifier_state, in_identifier}
 use Rattle.html5grammar.specs.ErrorText.{error_in, where_true}
-use Rattle.html5items.specs.Doctype.{is_rest, belongs_before, spell_end, spell_skipped, spell_odd, spell_rest, behind_space, spell_begun, spell_behind_system}
+use Rattle.html5items.specs.Doctype.{is_rest, belongs_before, spell_end, spell_skipped, spell_odd, spell_rest, after_space, spell_begun, spell_after_system}
 use Rattle.html5items.specs.Spelled.{Spelled, spell, spell_silent}
 use Rattle.html5grammar.specs.Reading.Here.{Tells}
 use Rattle.html5grammar.specs.Start.{Quotes, Open}
@@ -21,7 +21,7 @@ use Rattle.html5grammar.specs.Start.Mode.{Data}
 use Rattle.html5grammar.specs.Start.Open.{Between, InDoctype}
 use Rattle.html5grammar.specs.Start.Quotes.{DoubleQuotes, SingleQuotes}
 use Rattle.html5grammar.specs.Tag.{null_error}
-use Rattle.html5grammar.specs.Machine.{step_at, doctype_step, skipped_step, wanted_identifier_step, identifier_step, behind_identifier_step}
+use Rattle.html5grammar.specs.Machine.{step_at, doctype_step, skipped_step, wanted_identifier_step, identifier_step, after_identifier_step}
 use Rattle.html5items.proofs.Goes.{Goes, Goes-append, Goes-one, goes-run}
 use Rattle.html5items.proofs.Tag.Steps.{no_or}
 use Rattle.html5grammar.proofs.Letters.{is_not}
@@ -56,7 +56,7 @@ module _ (exact : Bool) where
   -- or it is another after white space
   pub goes-space : (direct spaced : Open) → ((c : ℕ) → is_white_space c ≡ true → step_at exact direct c ≡ Tells [] spaced)
       → ((c : ℕ) → is_white_space c ≡ true → step_at exact spaced c ≡ Tells [] spaced)
-      → (space : List ℕ) → list_all is_white_space space ≡ true → Goes exact direct (spell_silent space) (behind_space space direct spaced)
+      → (space : List ℕ) → list_all is_white_space space ≡ true → Goes exact direct (spell_silent space) (after_space space direct spaced)
   unfolding Goes
   goes-space direct spaced first step [] all = refl
   goes-space direct spaced first step (c ∷ space) all =
@@ -93,7 +93,7 @@ module _ (exact : Bool) where
 
   -- where an identifier is wanted, the machine tells an error if nothing stands between
   abbrev pub Wants : Open → List ℕ → State → DoctypeIdKind → DoctypeOf → ℕ → Type 0
-  Wants opened space named kind d c = step_at exact opened c ≡ wanted_identifier_step exact (behind_space space true false) named kind d c
+  Wants opened space named kind d c = step_at exact opened c ≡ wanted_identifier_step exact (after_space space true false) named kind d c
 
   abbrev pub whole : DoctypeIdKind → DoctypeOf → List ℕ → DoctypeOf
   whole kind d run = with_identifier kind (with_begun_identifier kind d) run
@@ -120,7 +120,7 @@ module _ (exact : Bool) where
   unfolding Goes
   goes-begun opened space named kind d quotes run wants all = (
     InDoctype (InIdentifier quotes kind) (with_begun_identifier kind d),
-    wants ∙ step-begun quotes named kind d (behind_space space true false),
+    wants ∙ step-begun quotes named kind d (after_space space true false),
     goes-run_in quotes kind (with_begun_identifier kind d) run all,
   )
 
@@ -174,22 +174,22 @@ module _ (exact : Bool) where
 
   -- ---- after identifiers
 
-  pub step-behind_system : (d : DoctypeOf) (c : ℕ) → is_white_space c ≡ true → step_at exact (InDoctype (AfterIdentifier System) d) c ≡ Tells [] (InDoctype (AfterIdentifier System) d)
-  unfolding step_at doctype_step behind_identifier_step
-  step-behind_system d c h = rw h refl
+  pub step-after_system : (d : DoctypeOf) (c : ℕ) → is_white_space c ≡ true → step_at exact (InDoctype (AfterIdentifier System) d) c ≡ Tells [] (InDoctype (AfterIdentifier System) d)
+  unfolding step_at doctype_step after_identifier_step
+  step-after_system d c h = rw h refl
 
-  goes-rest_behind_system : (d : DoctypeOf) (rest : List ℕ) → is_rest is_white_space rest ≡ true
+  goes-rest_after_system : (d : DoctypeOf) (rest : List ℕ) → is_rest is_white_space rest ≡ true
       → Goes exact (InDoctype (AfterIdentifier System) d) (spell_rest exact (state.AfterDoctypeIdentifier System) d rest) (Between Data)
-  unfolding step_at doctype_step behind_identifier_step in_skipped_rest is_white_space
-  goes-rest_behind_system d [] h = Goes-one exact (InDoctype (AfterIdentifier System) d) (Between Data) greater_than (Doctype d ∷ []) refl
-  goes-rest_behind_system d (c ∷ rest) h =
+  unfolding step_at doctype_step after_identifier_step in_skipped_rest is_white_space
+  goes-rest_after_system d [] h = Goes-one exact (InDoctype (AfterIdentifier System) d) (Between Data) greater_than (Doctype d ∷ []) refl
+  goes-rest_after_system d (c ∷ rest) h =
       let p = and_parts (not (is_white_space c)) (list_all in_skipped_rest (c ∷ rest)) h in
       let q = and_parts (in_skipped_rest c) (list_all in_skipped_rest rest) p.1 in
       goes-odd_some (InDoctype (AfterIdentifier System) d) (state.AfterDoctypeIdentifier System) d c rest
       (rw (not-true (is_white_space c) p.0, not-true (c == greater_than) q.0) refl) p.1
 
-  pub goes-behind_system : (d : DoctypeOf) (space rest : List ℕ) → list_all is_white_space space ≡ true → is_rest is_white_space rest ≡ true
-      → Goes exact (InDoctype (AfterIdentifier System) d) (spell_silent space ++ spell_behind_system exact d space rest) (Between Data)
-  goes-behind_system d space rest all h =
+  pub goes-after_system : (d : DoctypeOf) (space rest : List ℕ) → list_all is_white_space space ≡ true → is_rest is_white_space rest ≡ true
+      → Goes exact (InDoctype (AfterIdentifier System) d) (spell_silent space ++ spell_after_system exact d space rest) (Between Data)
+  goes-after_system d space rest all h =
       Goes-append exact (InDoctype (AfterIdentifier System) d) (InDoctype (AfterIdentifier System) d) (Between Data) (spell_silent space) _
-      (goes-stay (InDoctype (AfterIdentifier System) d) (step-behind_system d) space all) (goes-rest_behind_system d rest h)
+      (goes-stay (InDoctype (AfterIdentifier System) d) (step-after_system d) space all) (goes-rest_after_system d rest h)

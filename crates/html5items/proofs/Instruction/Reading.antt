@@ -10,7 +10,7 @@ use Rattle.html5grammar.specs.Characters.{greater_than, is_letter}
 use Rattle.html5grammar.specs.EndOfInput.{late_at_end_of, open_at_end_of, told_at_end_of, tokens_at_end}
 use Rattle.html5grammar.specs.Instruction.{in_instruction}
 use Rattle.html5grammar.specs.NormalisedText.{normalised, line_after}
-use Rattle.html5items.specs.Instruction.{WrittenInstruction, end_text, written, is_written, told_content, spell_end, spell_instruction, told_at_end, messages_of, instruction_messages, open_behind_instruction, IsInstruction}
+use Rattle.html5items.specs.Instruction.{WrittenInstruction, end_text, written, is_written, told_content, spell_end, spell_instruction, told_at_end, messages_of, instruction_messages, open_after_instruction, IsInstruction}
 use Rattle.html5items.specs.Spelled.{Spelled, spell, spell_silent}
 use Rattle.html5grammar.specs.Reading.{reading, told, messages, after}
 use Rattle.html5grammar.specs.Slice.{silent}
@@ -63,7 +63,7 @@ module _ (exact : Bool) where
   goes-end content false = refl
 
   goes-instruction : (instruction : WrittenInstruction) → is_written instruction ≡ true
-      → Goes exact (Between Data) (spell_instruction exact instruction) (open_behind_instruction instruction)
+      → Goes exact (Between Data) (spell_instruction exact instruction) (open_after_instruction instruction)
   unfolding is_written Goes step_at data_step less_than_step is_letter
   goes-instruction instruction h =
       let content : List ℕ = instruction.content in
@@ -73,14 +73,14 @@ module _ (exact : Bool) where
         (
           InInstruction [],
           refl,
-          Goes-append exact (InInstruction []) (InInstruction (bytes_of content)) (open_behind_instruction instruction) cells (spell_end instruction.is_ended content)
+          Goes-append exact (InInstruction []) (InInstruction (bytes_of content)) (open_after_instruction instruction) cells (spell_end instruction.is_ended content)
               (goes-content [] content h) (goes-end content instruction.is_ended),
         ),
       )
 
-decided-behind : (is_ended : Bool) (content : List ℕ) → is_undecided_open (if is_ended then Between Data else InInstruction content) ≡ false
-decided-behind true content = refl
-decided-behind false content = refl
+decided-after : (is_ended : Bool) (content : List ℕ) → is_undecided_open (if is_ended then Between Data else InInstruction content) ≡ false
+decided-after true content = refl
+decided-after false content = refl
 
 -- ---- what the end tells
 
@@ -93,19 +93,19 @@ tokens_at_end-instruction rules false content = refl
 module _ {S H : Type 0} (step : S → Told → ℕ → S) (reply : S → Told → ℕ → Reply H) (foreign : S → Bool) (rules : Rules) where
   pub reads : (K : Start) (s : S) (X : List ℕ) (instruction : WrittenInstruction) → IsInstruction K X instruction
       → trace step reply foreign rules s (line_after K.input []) K.last_start_tag K.opened (normalised K.input X)
-      ≡ record { messages = messages_of rules.exact K.input instruction; opened = open_behind_instruction instruction; last_start_tag = K.last_start_tag }
+      ≡ record { messages = messages_of rules.exact K.input instruction; opened = open_after_instruction instruction; last_start_tag = K.last_start_tag }
   unfolding messages_of
   reads K s X instruction one =
       let cells : List Spelled = spell_instruction rules.exact instruction in
-      let later : Open = open_behind_instruction instruction in
+      let later : Open = open_after_instruction instruction in
       rw (one.starts, one.text)
       (trace-text step reply foreign rules K.input [] s K.last_start_tag (Between Data) later cells (written instruction)
       (characters-instruction rules.exact instruction)
-      (leads-goes rules (Between Data) later cells (decided-behind instruction.is_ended (bytes_of instruction.content))
+      (leads-goes rules (Between Data) later cells (decided-after instruction.is_ended (bytes_of instruction.content))
       (goes-instruction rules.exact instruction one.is_instruction)))
 
   after-instruction : (K : Start) (s : S) (X : List ℕ) (instruction : WrittenInstruction) → IsInstruction K X instruction
-      → (after step reply foreign rules K s X).opened ≡ open_behind_instruction instruction
+      → (after step reply foreign rules K s X).opened ≡ open_after_instruction instruction
   after-instruction K s X instruction one = after-opened step reply foreign rules K s X ∙ ap (λ (t : Trace). t.opened) (reads K s X instruction one)
 
   -- a text that is one instruction

@@ -9,14 +9,14 @@ use Rattle.std.proofs.lemmas.List.{append_assoc, append-nil}
 use Rattle.html5ever_interface.specs.declared.interface.token.TagKind.TheVariants.{EndTag}
 use Rattle.markup5ever.proofs.NameOrder.{bytes_eq-same}
 use Rattle.html5grammar.specs.Characters.{exclamation_mark, hyphen, solidus, less_than, greater_than, is_letter}
-use Rattle.html5items.specs.Tag.{Part, WrittenTag, part_text, place_behind_parts, is_attribute_name, written, OpenAttribute, can_follow, is_written, is_open_written, open_written}
+use Rattle.html5items.specs.Tag.{Part, WrittenTag, part_text, place_after_parts, is_attribute_name, written, OpenAttribute, can_follow, is_written, is_open_written, open_written}
 use Rattle.html5grammar.specs.RawText.{lower, ends_name, kind_of, ends_raw_text}
-use Rattle.html5grammar.specs.Slice.{run_of, behind_run}
+use Rattle.html5grammar.specs.Slice.{run_of, after_run}
 use Rattle.html5grammar.specs.Start.{Dashes, Raw}
 use Rattle.html5grammar.specs.Start.Place.{InName}
 use Rattle.html5grammar.specs.Start.Raw.{Rcdata, Rawtext, ScriptData, Escaped, DoubleEscaped}
 use Rattle.html5grammar.specs.Tag.{in_tag_name}
-use Rattle.html5items.specs.RawText.{RawItem, text_behind_less_than, item_text, next_is, begins_dashes, begins_name_and_end, is_double_escaped, can_stand}
+use Rattle.html5items.specs.RawText.{RawItem, text_after_less_than, item_text, next_is, begins_dashes, begins_name_and_end, is_double_escaped, can_stand}
 use Rattle.html5items.specs.RawText.RawItem.{Character, LessThan, Letters, Mark, Switch}
 use Rattle.html5grammar.proofs.Letters.{letter-in_tag_name}
 use Rattle.html5items.proofs.RawText.Reading.{ends-no_name}
@@ -46,7 +46,7 @@ pub data RawForm (raw : Raw) (name T : List ℕ) : Type 0 where
       → less_than ∷ T ≡ open_written tag last → RawForm raw name T
 
 -- an item that begins with `<`
-pub item-begins : (raw : Raw) (item : RawItem) → (is_text_at_once item || is_text_later item) ≡ true → item_text raw item ≡ less_than ∷ text_behind_less_than (kind_of raw) item
+pub item-begins : (raw : Raw) (item : RawItem) → (is_text_at_once item || is_text_later item) ≡ true → item_text raw item ≡ less_than ∷ text_after_less_than (kind_of raw) item
 item-begins raw (Character c) h = absurd (false≢true h)
 item-begins raw LessThan h = refl
 item-begins raw (Letters letters) h = refl
@@ -67,22 +67,22 @@ all-run (c ∷ text) = at (is_letter c) refl (all-run text)
     at true h all = rw (h, all) refl
     at false h all = refl
 
-parts-run : (text : List ℕ) → text ≡ run_of is_letter text ++ behind_run is_letter text
-unfolding run_of behind_run
+parts-run : (text : List ℕ) → text ≡ run_of is_letter text ++ after_run is_letter text
+unfolding run_of after_run
 parts-run [] = refl
 parts-run (c ∷ text) = at (is_letter c) (parts-run text)
   where
-    at : (b : Bool) → text ≡ run_of is_letter text ++ behind_run is_letter text
-        → c ∷ text ≡ (if b then c ∷ run_of is_letter text else []) ++ (if b then behind_run is_letter text else c ∷ text)
+    at : (b : Bool) → text ≡ run_of is_letter text ++ after_run is_letter text
+        → c ∷ text ≡ (if b then c ∷ run_of is_letter text else []) ++ (if b then after_run is_letter text else c ∷ text)
     at true e = ap (λ l. c ∷ l) e
     at false e = refl
 
-ends-run : (text : List ℕ) → next_is is_letter (behind_run is_letter text) ≡ false
-unfolding behind_run
+ends-run : (text : List ℕ) → next_is is_letter (after_run is_letter text) ≡ false
+unfolding after_run
 ends-run [] = refl
 ends-run (c ∷ text) = at (is_letter c) refl (ends-run text)
   where
-    at : (b : Bool) → is_letter c ≡ b → next_is is_letter (behind_run is_letter text) ≡ false → next_is is_letter (if b then behind_run is_letter text else c ∷ text) ≡ false
+    at : (b : Bool) → is_letter c ≡ b → next_is is_letter (after_run is_letter text) ≡ false → next_is is_letter (if b then after_run is_letter text else c ∷ text) ≡ false
     at true h e = e
     at false h e = h
 
@@ -98,7 +98,7 @@ next is_kind [] h = absurd (false≢true h)
 next is_kind (c ∷ text) h = record { c = c; more = text; parts = refl; kind = h }
 
 -- the letters of a name, and a character that ends it
-name-parts : (text : List ℕ) (n : Next ends_name (behind_run is_letter text)) → text ≡ (run_of is_letter text ++ n.c ∷ []) ++ n.more
+name-parts : (text : List ℕ) (n : Next ends_name (after_run is_letter text)) → text ≡ (run_of is_letter text ++ n.c ∷ []) ++ n.more
 name-parts text n =
     let run : List ℕ = run_of is_letter text in
     parts-run text ∙ ap (λ l. run ++ l) n.parts ∙ sym (append_assoc run (n.c ∷ []) n.more)
@@ -149,14 +149,14 @@ some-cut : (c : ℕ) (F : List ℕ) (parts : List Part) (tail : List ℕ) → c 
 some-cut c F [] tail e none = absurd (nil≢cons (sym none ∙ sym e))
 some-cut c F (part ∷ parts) tail e none = not-none part parts
 
-some-within : (parts : List Part) (first : ℕ) (rest : List ℕ) → is_attribute_name (place_behind_parts InName parts) first rest ≡ true → nat_eq (length parts) 0 ≡ false
-unfolding place_behind_parts
+some-within : (parts : List Part) (first : ℕ) (rest : List ℕ) → is_attribute_name (place_after_parts InName parts) first rest ≡ true → nat_eq (length parts) 0 ≡ false
+unfolding place_after_parts
 some-within [] first rest h = absurd (false≢true h)
 some-within (part ∷ parts) first rest h = not-none part parts
 
 -- by how the parts end
 form-ending : (raw : Raw) (name : List ℕ) (first : ℕ) (rest : List ℕ) (c : ℕ) (F : List ℕ) (parts : List Part) (tail T : List ℕ) → ends_raw name raw (end_tag first rest parts) ≡ true
-    → list_all is_letter (first ∷ rest) ≡ true → can_follow InName parts ≡ true → c ∷ F ≡ flat_map part_text parts ++ tail → Ending (place_behind_parts InName parts) tail
+    → list_all is_letter (first ∷ rest) ≡ true → can_follow InName parts ≡ true → c ∷ F ≡ flat_map part_text parts ++ tail → Ending (place_after_parts InName parts) tail
     → T ≡ solidus ∷ first ∷ rest ++ c ∷ F → RawForm raw name T
 unfolding is_written is_open_written open_written
 form-ending raw name first rest c F parts tail T ends letters follow parts_are (Closed Z closed) e =
@@ -169,8 +169,8 @@ form-ending raw name first rest c F parts tail T ends letters follow parts_are (
     (ap (λ l. less_than ∷ l) e ∙ ap (λ l. less_than ∷ solidus ∷ first ∷ rest ++ l) (parts_are ∙ ap (λ l. flat_map part_text parts ++ l) none))
 form-ending raw name first rest c F parts tail T ends letters follow parts_are (CutWithin start more value named cut tail_is) e =
     let p = and_parts (is_letter first) (list_all is_letter rest) letters in
-    let last : OpenAttribute = record { first = start; name = more; space = cut.space; behind = cut.behind; kind = cut.kind; run = cut.run } in
-    OpenEnd (end_tag first rest parts) (Some last) ends (some-within parts start more named) (rw (p.0, letters-in_name rest p.1, follow, named, cut.space_white, cut.behind_white, cut.is_open) refl)
+    let last : OpenAttribute = record { first = start; name = more; space = cut.space; afterwards = cut.afterwards; kind = cut.kind; run = cut.run } in
+    OpenEnd (end_tag first rest parts) (Some last) ends (some-within parts start more named) (rw (p.0, letters-in_name rest p.1, follow, named, cut.space_white, cut.after_white, cut.is_open) refl)
     (ap (λ l. less_than ∷ l) e ∙ ap (λ l. less_than ∷ solidus ∷ first ∷ rest ++ l) (parts_are ∙ ap (λ l. flat_map part_text parts ++ l) (tail_is ∙ ap (λ l. start ∷ more ++ l) cut.parts)))
 
 -- letters that are the name, and what ends it
@@ -195,7 +195,7 @@ form-letters raw name letters (c ∷ F) T single all ends e = at (ends_raw_text 
 
 form-solidus : (raw : Raw) (name T : List ℕ) (c : ℕ) → is_double_escaped (kind_of raw) ≡ false → (c == solidus) ≡ true → RawForm raw name (c ∷ T)
 form-solidus raw name T c single h =
-    form-letters raw name (run_of is_letter T) (behind_run is_letter T) (c ∷ T) single (all-run T) (ends-run T)
+    form-letters raw name (run_of is_letter T) (after_run is_letter T) (c ∷ T) single (all-run T) (ends-run T)
     (ap (λ d. d ∷ T) (eqb-true c solidus h) ∙ ap (λ l. solidus ∷ l) (parts-run T))
 
 -- ---- by the raw text
@@ -245,7 +245,7 @@ unfolding kind_of
 form-escaped dashes name c T true m l h g f = form-solidus (Escaped dashes) name T c refl h
 form-escaped dashes name c T false true l h g f =
     let p = and_parts (is_letter c) (begins_name_and_end T) g in
-    let n : Next ends_name (behind_run is_letter T) = next ends_name (behind_run is_letter T) p.1 in
+    let n : Next ends_name (after_run is_letter T) = next ends_name (after_run is_letter T) p.1 in
     AtOnce (Switch (c ∷ run_of is_letter T) n.c) n.more refl (switches dashes name c (run_of is_letter T) n.c (rw (p.0, all-run T) refl) n.kind) (ap (λ l. less_than ∷ c ∷ l) (name-parts T n))
 form-escaped dashes name c T false false true h g f = OpenLetters dashes c T refl f refl
 form-escaped dashes name c T false false false h g f = form-later (Escaped dashes) name LessThan c T (c ∷ T) refl (rw (h, g, f) refl) refl
@@ -254,7 +254,7 @@ form-double : (dashes : Dashes) (name : List ℕ) (c : ℕ) (T : List ℕ) (m : 
 unfolding kind_of
 form-double dashes name c T true g =
     let p = and_parts (c == solidus) (begins_name_and_end T) g in
-    let n : Next ends_name (behind_run is_letter T) = next ends_name (behind_run is_letter T) p.1 in
+    let n : Next ends_name (after_run is_letter T) = next ends_name (after_run is_letter T) p.1 in
     AtOnce (Switch (run_of is_letter T) n.c) n.more refl (double-switches dashes name (run_of is_letter T) n.c (all-run T) n.kind) (ap (λ x. less_than ∷ x ∷ T) (eqb-true c solidus p.0) ∙ ap (λ l. less_than ∷ solidus ∷ l) (name-parts T n))
 form-double dashes name c T false g = form-later (DoubleEscaped dashes) name LessThan c T (c ∷ T) refl (rw g refl) refl
 

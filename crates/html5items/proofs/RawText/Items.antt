@@ -17,7 +17,7 @@ use Rattle.html5ever_interface.specs.declared.states.ScriptEscapeKind.{ScriptEsc
 use Rattle.html5ever_interface.specs.declared.states.ScriptEscapeKind.TheVariants as escape_kind
 use Rattle.html5ever_interface.specs.declared.states.State.TheVariants as state
 use Rattle.markup5ever.specs.NamedReferences.{IsTable}
-use Rattle.html5items.specs.Anywhere.{start_behind, start_behind_tag, last_reply}
+use Rattle.html5items.specs.Anywhere.{start_beyond, start_after_tag, last_reply}
 use Rattle.html5grammar.specs.Characters.{line_feed, ampersand, less_than, greater_than, is_letter, is_white_space, is_bad_character}
 use Rattle.html5grammar.specs.EndOfInput.{raw_end_error, tokens_at_end, late_at_end_of, open_at_end_of, told_at_end_of, told_at_raw_end}
 use Rattle.html5grammar.specs.ErrorText.{bad_character_error}
@@ -25,8 +25,8 @@ use Rattle.html5grammar.specs.Machine.{step_at, raw_step, raw_less_than_step, sw
 use Rattle.html5grammar.specs.NormalisedText.{normalised, line_after, input_after}
 use Rattle.html5items.specs.Tag.{WrittenTag, opening, part_text, end_place, OpenAttribute, can_follow, can_end_in, is_written, spelled, tag_told, is_open_written, open_written, open_attribute_text, spell_open_tag, open_tag_at_end}
 use Rattle.html5items.specs.Spelled.{Spelled, spell, spell_silent, spelled_messages}
-use Rattle.html5grammar.specs.RawText.{texts, lower, ends_name, kind_of, is_rcdata, raw_behind, raw_character, ends_raw_text, told_at_less_than, begins_mark, begins_switch}
-use Rattle.html5grammar.specs.Reading.{last_behind, open_after_reply}
+use Rattle.html5grammar.specs.RawText.{texts, lower, ends_name, kind_of, is_rcdata, raw_after, raw_character, ends_raw_text, told_at_less_than, begins_mark, begins_switch}
+use Rattle.html5grammar.specs.Reading.{last_after, open_after_reply}
 use Rattle.html5grammar.specs.Reading.Here.{Tells}
 use Rattle.html5grammar.specs.Start.{Dashes, Raw, Start, Open, Rules, begun, is_undecided_open}
 use Rattle.html5grammar.specs.Start.Dashes.{NoDash}
@@ -37,7 +37,7 @@ use Rattle.html5grammar.specs.Start.Raw.{Rcdata, Rawtext, ScriptData, Escaped, D
 use Rattle.html5grammar.specs.Start.RawPlace.{AfterLessThan, InEndName, AfterMark, AfterMarkAndDash, InSwitch}
 use Rattle.html5grammar.specs.Start.Stand.{InText}
 use Rattle.html5grammar.specs.Tag.{with_name, null_error, in_tag_name, is_end_tag}
-use Rattle.html5items.specs.RawText.{RawItem, raw_behind_item, item_text, next_is, is_double_escaped, can_switch, can_stand, carried, spell_text, spell_item, ends_in_letters}
+use Rattle.html5items.specs.RawText.{RawItem, raw_after_item, item_text, next_is, is_double_escaped, can_switch, can_stand, carried, spell_text, spell_item, ends_in_letters}
 use Rattle.html5items.specs.RawText.RawItem.{Character, LessThan, Letters, Mark, Switch}
 use Rattle.html5grammar.proofs.InputLemmas.{line_past, input_after-line_none, line_after-lines_past}
 use Rattle.html5items.proofs.Leading.{leads-goes, trace-goes, trace-text}
@@ -76,12 +76,12 @@ continues-other name standing c d h other =
     false_from_ne_true (c == d) (λ e. false≢true (sym other ∙ ap (continues name standing) (sym (eqb-true c d e)) ∙ h))
 
 step-text : (exact : Bool) (raw : Raw) (name : List ℕ) (c : ℕ) → (c == less_than) ≡ false → (is_rcdata raw && (c == ampersand)) ≡ false
-    → step_at exact (Between (RawText raw name)) c ≡ Tells (raw_character exact raw c) (Between (RawText (raw_behind raw c) name))
+    → step_at exact (Between (RawText raw name)) c ≡ Tells (raw_character exact raw c) (Between (RawText (raw_after raw c) name))
 unfolding step_at raw_step
 step-text exact raw name c no_less_than no_ampersand = rw (no_less_than, no_ampersand) refl
 
 -- after `<` and letters the raw text has references where it had them before
-same-rcdata : (raw : Raw) (item : RawItem) → is_text_later item ≡ true → is_rcdata (raw_behind_item raw item) ≡ is_rcdata raw
+same-rcdata : (raw : Raw) (item : RawItem) → is_text_later item ≡ true → is_rcdata (raw_after_item raw item) ≡ is_rcdata raw
 unfolding kind_of
 same-rcdata raw (Character c) h = absurd (false≢true h)
 same-rcdata raw Mark h = absurd (false≢true h)
@@ -97,8 +97,8 @@ same-rcdata ScriptData (Letters letters) h = refl
 same-rcdata (Escaped dashes) (Letters letters) h = refl
 same-rcdata (DoubleEscaped dashes) (Letters letters) h = refl
 
-line-behind : (K : Start) (Y : List ℕ) → line_after (input_after K.input Y) [] ≡ line_after K.input (normalised K.input Y)
-line-behind K Y = input_after-line_none K.input Y ∙ sym (line_after-lines_past K.input [] (normalised K.input Y))
+line-after : (K : Start) (Y : List ℕ) → line_after (input_after K.input Y) [] ≡ line_after K.input (normalised K.input Y)
+line-after K Y = input_after-line_none K.input Y ∙ sym (line_after-lines_past K.input [] (normalised K.input Y))
 
 -- `<` or the `&` of a reference, which the machine reads alike after any text that is carried to it
 record IsMarkup (exact : Bool) (raw : Raw) (name : List ℕ) (c : ℕ) : Type 0 where
@@ -140,29 +140,29 @@ is-markup exact raw name c h = at (c == less_than) (is_rcdata raw && (c == amper
 -- ---- the machine after `<`, or `</` and letters
 
 -- where it stands there, before this text
-record Behind (exact : Bool) (name : List ℕ) (raw : Raw) (item : RawItem) (text : List ℕ) : Type 0 where
+record Afterwards (exact : Bool) (name : List ℕ) (raw : Raw) (item : RawItem) (text : List ℕ) : Type 0 where
   standing : Standing
   goes : Goes exact (Between (RawText raw name)) (spell_item exact raw item) (opened_at name standing)
-  raw_is : raw_at standing ≡ raw_behind_item raw item
+  raw_is : raw_at standing ≡ raw_after_item raw item
   carried_is : carried_at standing ≡ carried raw item
-  fits_behind : fits name standing text ≡ true
+  fits_after : fits name standing text ≡ true
   letters_is : in_letters standing text ≡ ends_in_letters item (kind_of raw) text
 
-behind : (exact : Bool) (name : List ℕ) (raw : Raw) (item : RawItem) (text : List ℕ) → is_text_later item ≡ true → can_stand name raw item text ≡ true
-    → Behind exact name raw item text
+afterwards : (exact : Bool) (name : List ℕ) (raw : Raw) (item : RawItem) (text : List ℕ) → is_text_later item ≡ true → can_stand name raw item text ≡ true
+    → Afterwards exact name raw item text
 unfolding Goes
-behind exact name raw (Character c) text h can = absurd (false≢true h)
-behind exact name raw Mark text h can = absurd (false≢true h)
-behind exact name raw (Switch letters c) text h can = absurd (false≢true h)
-behind exact name raw LessThan text h can = record {
+afterwards exact name raw (Character c) text h can = absurd (false≢true h)
+afterwards exact name raw Mark text h can = absurd (false≢true h)
+afterwards exact name raw (Switch letters c) text h can = absurd (false≢true h)
+afterwards exact name raw LessThan text h can = record {
   standing = Within (AfterLessThan (kind_of raw));
   goes = (InRaw (AfterLessThan (kind_of raw)) name, reads_less_than exact name (Free raw), refl);
   raw_is = refl;
   carried_is = refl;
-  fits_behind = can;
+  fits_after = can;
   letters_is = refl;
 }
-behind exact name raw (Letters letters) text h can =
+afterwards exact name raw (Letters letters) text h can =
     let kind : RawKind = kind_of raw in
     let p = and_parts (not (is_double_escaped kind)) _ can in
     let q = and_parts (list_all is_letter letters) _ p.1 in
@@ -172,7 +172,7 @@ behind exact name raw (Letters letters) text h can =
           (InRaw (AfterLessThan kind) name, reads_less_than exact name (Free raw), goes-end_letters exact name kind (λ c. []) letters (λ c g. refl) (not-true (is_double_escaped kind) p.0) q.0);
       raw_is = refl;
       carried_is = refl;
-      fits_behind = q.1;
+      fits_after = q.1;
       letters_is = refl;
     }
 
@@ -230,9 +230,9 @@ module _ {X S H : Type 0} (means : Means X S H) (rules : Rules) where
       let no_ampersand : (is_rcdata raw && (c == ampersand)) ≡ false =
       ap (λ b. is_rcdata raw && b) (continues-other name standing c ampersand h (ampersand-anew name standing)) ∙ and-false (is_rcdata raw) in
       let r : ReadsCharacter rules.exact name standing c text = reads_character rules.exact name standing c text no_less_than no_ampersand f in
-      let rest : Alike means rules (opened_at name r.next) (Between (RawText (raw_behind raw c) name)) text =
-      subst (λ q. Alike means rules (opened_at name r.next) (Between (RawText q name)) text) r.raw_is (further r.next r.carried_is r.fits_behind (sym (r.letters_is text) ∙ letters)) in
-      alike-cons (opened_at name standing) (Between (RawText raw name)) (opened_at name r.next) (Between (RawText (raw_behind raw c) name)) c text (raw_character rules.exact raw c) (decided-standing name standing) refl
+      let rest : Alike means rules (opened_at name r.next) (Between (RawText (raw_after raw c) name)) text =
+      subst (λ q. Alike means rules (opened_at name r.next) (Between (RawText q name)) text) r.raw_is (further r.next r.carried_is r.fits_after (sym (r.letters_is text) ∙ letters)) in
+      alike-cons (opened_at name standing) (Between (RawText raw name)) (opened_at name r.next) (Between (RawText (raw_after raw c) name)) c text (raw_character rules.exact raw c) (decided-standing name standing) refl
       (r.step ∙ ap (λ told. Tells (told ++ raw_character rules.exact raw c) (opened_at name r.next)) none)
       (step-text rules.exact raw name c no_less_than no_ampersand) rest
 
@@ -253,16 +253,16 @@ module _ {X S H : Type 0} (means : Means X S H) (rules : Rules) where
   -- ---- items
 
   -- the item tells what it spells, and the text F after it is told as if nothing were open
-  tells-goes : (Z : List ℕ) (K : Start) (s : S) (Y : List ℕ) (opened behind later : Open) (cells : List Spelled) (F : List ℕ)
-      → K.opened ≡ opened → normalised K.input Y ≡ characters cells → normalised (input_after K.input Y) Z ≡ F → is_undecided_open behind ≡ false
-      → Goes rules.exact opened cells behind → Alike means rules behind later F
-      → TellsWith means rules Z K s Y (spelled_messages rules.exact K.input [] cells) (start_behind K Y later K.last_start_tag)
-  tells-goes Z K s Y opened behind later cells F starts text next decided goes alike =
-      tells-alike means rules Z K s Y (spelled_messages rules.exact K.input [] cells) behind later F next alike
-      (rw (line-behind K Y, starts, text) (trace-goes means.step means.reply means.foreign rules K.input [] s K.last_start_tag opened behind cells F decided goes))
+  tells-goes : (Z : List ℕ) (K : Start) (s : S) (Y : List ℕ) (opened afterwards later : Open) (cells : List Spelled) (F : List ℕ)
+      → K.opened ≡ opened → normalised K.input Y ≡ characters cells → normalised (input_after K.input Y) Z ≡ F → is_undecided_open afterwards ≡ false
+      → Goes rules.exact opened cells afterwards → Alike means rules afterwards later F
+      → TellsWith means rules Z K s Y (spelled_messages rules.exact K.input [] cells) (start_beyond K Y later K.last_start_tag)
+  tells-goes Z K s Y opened afterwards later cells F starts text next decided goes alike =
+      tells-alike means rules Z K s Y (spelled_messages rules.exact K.input [] cells) afterwards later F next alike
+      (rw (line-after K Y, starts, text) (trace-goes means.step means.reply means.foreign rules K.input [] s K.last_start_tag opened afterwards cells F decided goes))
 
   goes-at_once : (name : List ℕ) (raw : Raw) (item : RawItem) → is_text_at_once item ≡ true → can_stand name raw item [] ≡ true
-      → Goes rules.exact (Between (RawText raw name)) (spell_item rules.exact raw item) (Between (RawText (raw_behind_item raw item) name))
+      → Goes rules.exact (Between (RawText raw name)) (spell_item rules.exact raw item) (Between (RawText (raw_after_item raw item) name))
   unfolding Goes
   goes-at_once name raw (Character c) h can = absurd (false≢true h)
   goes-at_once name raw LessThan h can = absurd (false≢true h)
@@ -275,9 +275,9 @@ module _ {X S H : Type 0} (means : Means X S H) (rules : Rules) where
 
   -- a mark, or a switch
   pub tells-raw_mark : (Z : List ℕ) (K : Start) (s : S) (Y : List ℕ) (raw : Raw) (name : List ℕ) (item : RawItem) → IsRawMark K Y raw name item
-      → TellsWith means rules Z K s Y (spelled_messages rules.exact K.input [] (spell_item rules.exact raw item)) (start_behind K Y (Between (RawText (raw_behind_item raw item) name)) K.last_start_tag)
+      → TellsWith means rules Z K s Y (spelled_messages rules.exact K.input [] (spell_item rules.exact raw item)) (start_beyond K Y (Between (RawText (raw_after_item raw item) name)) K.last_start_tag)
   tells-raw_mark Z K s Y raw name item one =
-      let later : Open = Between (RawText (raw_behind_item raw item) name) in
+      let later : Open = Between (RawText (raw_after_item raw item) name) in
       let F : List ℕ = normalised (input_after K.input Y) Z in
       tells-goes Z K s Y (Between (RawText raw name)) later later (spell_item rules.exact raw item) F one.starts
       (one.text ∙ sym (characters-item rules.exact raw item)) refl refl (goes-at_once name raw item one.at_once one.stands) (alike-refl later F)
@@ -285,27 +285,27 @@ module _ {X S H : Type 0} (means : Means X S H) (rules : Rules) where
   -- `<`, or `</` and letters, with a character after that
   pub tells-raw_less_than : (Z : List ℕ) (K : Start) (s : S) (Y : List ℕ) (raw : Raw) (name : List ℕ) (item : RawItem) (c : ℕ) (F : List ℕ) → IsRawLessThan K Y Z raw name item c F
       → TellsWith means rules Z K s Y (spelled_messages rules.exact K.input [] (spell_raw_less_than rules.exact raw item c))
-      (start_behind K Y (Between (RawText (raw_behind (raw_behind_item raw item) c) name)) K.last_start_tag)
+      (start_beyond K Y (Between (RawText (raw_after (raw_after_item raw item) c) name)) K.last_start_tag)
   tells-raw_less_than Z K s Y raw name item c F one =
-      let next_raw : Raw = raw_behind_item raw item in
+      let next_raw : Raw = raw_after_item raw item in
       let told : List Told = carried raw item ++ raw_character rules.exact next_raw c in
       let cells : List Spelled = spell_item rules.exact raw item in
       let cell : Spelled = record { character = c; told = told } in
       let p = and_parts (can_stand name raw item (c ∷ F)) (not (ends_in_letters item (kind_of raw) (c ∷ F))) one.stands in
       let q = and_parts (not (c == less_than)) (not (is_rcdata raw && (c == ampersand))) one.is_text in
-      let b : Behind rules.exact name raw item (c ∷ F) = behind rules.exact name raw item (c ∷ F) one.later p.0 in
+      let b : Afterwards rules.exact name raw item (c ∷ F) = afterwards rules.exact name raw item (c ∷ F) one.later p.0 in
       let no_ampersand : (is_rcdata (raw_at b.standing) && (c == ampersand)) ≡ false =
       ap (λ t. t && (c == ampersand)) (ap is_rcdata b.raw_is ∙ same-rcdata raw item one.later) ∙ not-true (is_rcdata raw && (c == ampersand)) q.1 in
-      let r : ReadsCharacter rules.exact name b.standing c F = reads_character rules.exact name b.standing c F (not-true (c == less_than) q.0) no_ampersand b.fits_behind in
-      let raw_is : raw_at r.next ≡ raw_behind next_raw c = r.raw_is ∙ ap (λ w. raw_behind w c) b.raw_is in
+      let r : ReadsCharacter rules.exact name b.standing c F = reads_character rules.exact name b.standing c F (not-true (c == less_than) q.0) no_ampersand b.fits_after in
+      let raw_is : raw_at r.next ≡ raw_after next_raw c = r.raw_is ∙ ap (λ w. raw_after w c) b.raw_is in
       let letters : in_letters r.next F ≡ false = sym (r.letters_is F) ∙ b.letters_is ∙ not-true (ends_in_letters item (kind_of raw) (c ∷ F)) p.1 in
       let step : step_at rules.exact (opened_at name b.standing) c ≡ Tells told (opened_at name r.next) =
       r.step ∙ ap (λ t. Tells (t ++ raw_character rules.exact (raw_at b.standing) c) (opened_at name r.next)) b.carried_is
       ∙ ap (λ w. Tells (carried raw item ++ raw_character rules.exact w c) (opened_at name r.next)) b.raw_is in
-      tells-goes Z K s Y (Between (RawText raw name)) (opened_at name r.next) (Between (RawText (raw_behind next_raw c) name)) (cells ++ cell ∷ []) F one.starts
+      tells-goes Z K s Y (Between (RawText raw name)) (opened_at name r.next) (Between (RawText (raw_after next_raw c) name)) (cells ++ cell ∷ []) F one.starts
       (one.text ∙ sym (characters-two cells (cell ∷ []) (item_text raw item) (c ∷ []) (characters-item rules.exact raw item) refl)) one.next (decided-standing name r.next)
       (Goes-append rules.exact (Between (RawText raw name)) (opened_at name b.standing) (opened_at name r.next) cells (cell ∷ []) b.goes (Goes-one rules.exact (opened_at name b.standing) (opened_at name r.next) c told step))
-      (subst (λ w. Alike means rules (opened_at name r.next) (Between (RawText w name)) F) raw_is (alike-standing name r.next F r.carried_is r.fits_behind letters))
+      (subst (λ w. Alike means rules (opened_at name r.next) (Between (RawText w name)) F) raw_is (alike-standing name r.next F r.carried_is r.fits_after letters))
 
   on_line-append : (line : ℕ) (a b : List Told) → on_line line (a ++ b) ≡ on_line line a ++ on_line line b
   on_line-append line a b = map-append (λ t. record { token = t; line = line }) a b
@@ -335,16 +335,16 @@ module _ {X S H : Type 0} (means : Means X S H) (rules : Rules) where
   pub tells-raw_less_than_before : (Z : List ℕ) (K : Start) (s : S) (Y : List ℕ) (raw : Raw) (name : List ℕ) (item : RawItem) (c : ℕ) (F : List ℕ) → IsRawLessThanBefore K Y Z raw name item c F
       → TellsWith means rules Z K s Y
       (spelled_messages rules.exact K.input [] (spell_item rules.exact raw item) ++ on_line (line_after K.input (item_text raw item)) (carried raw item))
-      (start_behind K Y (Between (RawText (raw_behind_item raw item) name)) K.last_start_tag)
+      (start_beyond K Y (Between (RawText (raw_after_item raw item) name)) K.last_start_tag)
   tells-raw_less_than_before Z K s Y raw name item c F one =
-      let next_raw : Raw = raw_behind_item raw item in
+      let next_raw : Raw = raw_after_item raw item in
       let between : Open = Between (RawText next_raw name) in
       let cells : List Spelled = spell_item rules.exact raw item in
       let M : List Message = spelled_messages rules.exact K.input [] cells in
       let line : ℕ = line_after K.input (item_text raw item) in
       let N : List Message = on_line line (carried raw item) in
       let p = and_parts (can_stand name raw item (c ∷ F)) (not (ends_in_letters item (kind_of raw) (c ∷ F))) one.stands in
-      let b : Behind rules.exact name raw item (c ∷ F) = behind rules.exact name raw item (c ∷ F) one.later p.0 in
+      let b : Afterwards rules.exact name raw item (c ∷ F) = afterwards rules.exact name raw item (c ∷ F) one.later p.0 in
       let markup : is_raw_text next_raw c ≡ false = ap (λ t. not (c == less_than) && not (t && (c == ampersand))) (same-rcdata raw item one.later) ∙ one.is_markup in
       let m : IsMarkup rules.exact next_raw name c = is-markup rules.exact next_raw name c markup in
       let step : step_at rules.exact (opened_at name b.standing) c ≡ raw_step rules.exact next_raw name (carried raw item) c =
@@ -353,7 +353,7 @@ module _ {X S H : Type 0} (means : Means X S H) (rules : Rules) where
       let text : normalised K.input Y ≡ characters cells = one.text ∙ sym (characters-item rules.exact raw item) in
       let line_is : line_after K.input (characters cells) ≡ line = ap (line_after K.input) (characters-item rules.exact raw item) in
       tells-alike means rules Z K s Y (M ++ N) between between (c ∷ F) one.next (alike-refl between (c ∷ F))
-      (rw (line-behind K Y, one.starts, text)
+      (rw (line-after K Y, one.starts, text)
       (trace-goes means.step means.reply means.foreign rules K.input [] s K.last_start_tag (Between (RawText raw name)) (opened_at name b.standing) cells (c ∷ F) (decided-standing name b.standing) b.goes
       ∙ rw line_is
       (ap (with_messages M)
@@ -363,14 +363,14 @@ module _ {X S H : Type 0} (means : Means X S H) (rules : Rules) where
   -- ---- raw text that ends within an item
 
   -- the whole text tells what it spells, and its end what is open there
-  tells-ends : (K : Start) (s : S) (Y : List ℕ) (opened behind : Open) (cells : List Spelled) (E : List Told)
-      → K.opened ≡ opened → normalised K.input Y ≡ characters cells → is_undecided_open behind ≡ false → Goes rules.exact opened cells behind → tokens_at_end rules behind ≡ E
+  tells-ends : (K : Start) (s : S) (Y : List ℕ) (opened afterwards : Open) (cells : List Spelled) (E : List Told)
+      → K.opened ≡ opened → normalised K.input Y ≡ characters cells → is_undecided_open afterwards ≡ false → Goes rules.exact opened cells afterwards → tokens_at_end rules afterwards ≡ E
       → TellsAll means rules K s Y (spelled_messages rules.exact K.input [] cells) (on_line (line_after (input_after K.input Y) []) E)
-  tells-ends K s Y opened behind cells E starts text decided goes at_end =
+  tells-ends K s Y opened afterwards cells E starts text decided goes at_end =
       subst (λ tokens. TellsAll means rules K s Y (spelled_messages rules.exact K.input [] cells) (on_line (line_after (input_after K.input Y) []) tokens)) at_end
-      (tells-trace means rules K s Y (spelled_messages rules.exact K.input [] cells) behind K.last_start_tag
+      (tells-trace means rules K s Y (spelled_messages rules.exact K.input [] cells) afterwards K.last_start_tag
       (rw starts
-      (trace-text means.step means.reply means.foreign rules K.input [] s K.last_start_tag opened behind cells (normalised K.input Y) (sym text) (leads-goes rules opened behind cells decided goes))))
+      (trace-text means.step means.reply means.foreign rules K.input [] s K.last_start_tag opened afterwards cells (normalised K.input Y) (sym text) (leads-goes rules opened afterwards cells decided goes))))
 
   -- after `<` alone, or `</` and letters, no letters of a switch stand
   no_letters : (item : RawItem) (kind : RawKind) → ends_in_letters item kind [] ≡ false
@@ -387,12 +387,12 @@ module _ {X S H : Type 0} (means : Means X S H) (rules : Rules) where
   -- `<`, or `</` and letters
   pub tells-open_raw : (K : Start) (s : S) (Y : List ℕ) (raw : Raw) (name : List ℕ) (item : RawItem) → IsOpenRaw K Y raw name item
       → TellsAll means rules K s Y (spelled_messages rules.exact K.input [] (spell_item rules.exact raw item))
-      (on_line (line_after (input_after K.input Y) []) (carried raw item ++ raw_end_error rules.exact (raw_behind_item raw item) ++ End ∷ []))
+      (on_line (line_after (input_after K.input Y) []) (carried raw item ++ raw_end_error rules.exact (raw_after_item raw item) ++ End ∷ []))
   tells-open_raw K s Y raw name item one =
       let cells : List Spelled = spell_item rules.exact raw item in
-      let b : Behind rules.exact name raw item [] = behind rules.exact name raw item [] one.later one.stands in
+      let b : Afterwards rules.exact name raw item [] = afterwards rules.exact name raw item [] one.later one.stands in
       let letters : in_letters b.standing [] ≡ false = b.letters_is ∙ no_letters item (kind_of raw) in
-      tells-ends K s Y (Between (RawText raw name)) (opened_at name b.standing) cells (carried raw item ++ raw_end_error rules.exact (raw_behind_item raw item) ++ End ∷ []) one.starts
+      tells-ends K s Y (Between (RawText raw name)) (opened_at name b.standing) cells (carried raw item ++ raw_end_error rules.exact (raw_after_item raw item) ++ End ∷ []) one.starts
       (one.text ∙ sym (characters-item rules.exact raw item)) (decided-standing name b.standing) b.goes
       (tokens-standing rules name b.standing
       ∙ ap (λ told. (told ++ raw_end_error rules.exact (end_from b.standing [] (raw_at b.standing))) ++ End ∷ []) b.carried_is
@@ -419,8 +419,8 @@ module _ {X S H : Type 0} (means : Means X S H) (rules : Rules) where
   unfolding Goes step_at raw_place_step raw_less_than_step begins_mark begins_switch late_at_end_of open_at_end_of told_at_end_of told_at_raw_end kind_of
   tells-open_switch K s Y dashes name first letters one =
       let p = and_parts (is_letter first) (list_all is_letter letters) one.are_letters in
-      let behind_it : Open = InRaw (InSwitch escape_kind.Escaped (first ∷ letters)) name in
-      tells-ends K s Y (Between (RawText (Escaped dashes) name)) behind_it (spell_open_switch first letters) (raw_end_error rules.exact (DoubleEscaped NoDash) ++ End ∷ []) one.starts
+      let after_it : Open = InRaw (InSwitch escape_kind.Escaped (first ∷ letters)) name in
+      tells-ends K s Y (Between (RawText (Escaped dashes) name)) after_it (spell_open_switch first letters) (raw_end_error rules.exact (DoubleEscaped NoDash) ++ End ∷ []) one.starts
       (one.text ∙ ap (λ l. less_than ∷ first ∷ l) (sym (characters-spell (λ c. texts (c ∷ [])) letters))) refl (
         InRaw (AfterLessThan (raw_kind.ScriptDataEscaped escape_kind.Escaped)) name,
         reads_less_than rules.exact name (Free (Escaped dashes)),
@@ -470,11 +470,11 @@ module _ {X S H : Type 0} (means : Means X S H) (rules : Rules) where
   -- with its `>`
   pub tells-raw_end : (Z : List ℕ) (K : Start) (s : S) (Y : List ℕ) (raw : Raw) (name : List ℕ) (tag : WrittenTag) → IsTable rules.names → IsRawEnd K Y raw name tag
       → TellsWith means rules Z K s Y (spelled_messages rules.exact K.input [] (spelled rules tag))
-      (start_behind_tag means K s Y (tag_told rules tag) (spelled_messages rules.exact K.input [] (spelled rules tag)))
+      (start_after_tag means K s Y (tag_told rules tag) (spelled_messages rules.exact K.input [] (spelled rules tag)))
   unfolding is_written ends_name is_white_space
   tells-raw_end Z K s Y raw name tag table one =
       let M : List Message = spelled_messages rules.exact K.input [] (spelled rules tag) in
-      let last : List ℕ = last_behind K.last_start_tag (tag_told rules tag) in
+      let last : List ℕ = last_after K.last_start_tag (tag_told rules tag) in
       let p = and_parts (is_letter tag.first) _ one.is_tag in
       let q = and_parts (list_all in_tag_name tag.rest) (can_follow InName tag.parts) p.1 in
       tells-before_with means rules Z K s Y M (open_after_reply last (last_reply means.step means.reply s M)) last

@@ -27,8 +27,8 @@ use Rattle.html5items.specs.Tag as one_tag
 use Rattle.html5items.specs.Tag.{Part, WrittenTag, spell_parts, part_text, name_shown, all_attributes, end_place, tag_told, end_errors, spelled, body}
 use Rattle.html5items.specs.Spelled.{Spelled, spell, spell_silent, spelled_messages}
 use Rattle.html5items.specs.Tag.Part.{Blank, Solidus, Name, Attribute}
-use Rattle.html5grammar.specs.RawText.{texts, lower, ends_name, kind_of, ends_raw_text, told_at_less_than, told_behind_less_than}
-use Rattle.html5grammar.specs.Reading.{reading, told, messages, last_behind, open_after_reply}
+use Rattle.html5grammar.specs.RawText.{texts, lower, ends_name, kind_of, ends_raw_text, told_at_less_than, told_after_less_than}
+use Rattle.html5grammar.specs.Reading.{reading, told, messages, last_after, open_after_reply}
 use Rattle.html5grammar.specs.Reading.Here.{Tells, TellsTag}
 use Rattle.html5grammar.specs.Slice.{silent}
 use Rattle.html5grammar.specs.Start.{Raw, OpenTag, Open, Start, Rules, is_undecided_open, begun}
@@ -37,7 +37,7 @@ use Rattle.html5grammar.specs.Start.Place.{InName}
 use Rattle.html5grammar.specs.Start.Open.{Between, InTag, InRaw}
 use Rattle.html5grammar.specs.Start.RawPlace.{AfterLessThan, InEndName, AfterMark, AfterMarkAndDash, InSwitch}
 use Rattle.html5grammar.specs.Tag.{with_name, null_error, in_tag_name}
-use Rattle.html5items.specs.RawText.{RawItem, WrittenRaw, raw_behind_item, raw_behind_items, switch_text, item_text, items_text, written, next_is, is_double_escaped, can_stand, can_follow, is_raw, carried, carried_to, spell_text, spell_item, spell_items, carried_behind, spell_raw, raw_at_end, told_at_end, raw_messages, IsRawText}
+use Rattle.html5items.specs.RawText.{RawItem, WrittenRaw, raw_after_item, raw_after_items, switch_text, item_text, items_text, written, next_is, is_double_escaped, can_stand, can_follow, is_raw, carried, carried_to, spell_text, spell_item, spell_items, carried_after, spell_raw, raw_at_end, told_at_end, raw_messages, IsRawText}
 use Rattle.html5items.specs.RawText.RawItem.{Character, LessThan, Letters, Mark, Switch}
 use Rattle.html5items.proofs.Leading.{trace-goes, spelled_messages-append}
 use Rattle.html5grammar.specs.Machine.{step_at, raw_place_step, end_name_step, tag_name_end_step, tag_step, tag_name_step}
@@ -67,14 +67,14 @@ characters-item exact raw (Letters letters) = ap (λ l. less_than ∷ solidus �
 characters-item exact raw Mark = refl
 characters-item exact raw (Switch letters c) =
     let text : List ℕ = switch_text (kind_of raw) letters c in
-    ap (λ l. less_than ∷ l) (characters-carried (told_behind_less_than (kind_of raw)) (spell_text text) ∙ characters-spell (λ d. texts (d ∷ [])) text)
+    ap (λ l. less_than ∷ l) (characters-carried (told_after_less_than (kind_of raw)) (spell_text text) ∙ characters-spell (λ d. texts (d ∷ [])) text)
 
 characters-items : (exact : Bool) (raw : Raw) (before : List Told) (items : List RawItem) (later : List ℕ)
     → characters (spell_items exact raw before items) ++ later ≡ items_text raw items later
 unfolding spell_items items_text
 characters-items exact raw before [] later = refl
 characters-items exact raw before (item ∷ items) later =
-    let next : Raw = raw_behind_item raw item in
+    let next : Raw = raw_after_item raw item in
     let more : List Spelled = spell_items exact next (carried raw item) items in
     ap (λ l. l ++ later) (characters-two (carried_to before (spell_item exact raw item)) more (item_text raw item) (characters more) (characters-carried before (spell_item exact raw item) ∙ characters-item exact raw item) refl)
     ∙ append_assoc (item_text raw item) (characters more) later
@@ -85,33 +85,33 @@ characters-items exact raw before (item ∷ items) later =
 module _ (exact : Bool) (name : List ℕ) where
   -- items, and where the machine stands after them
   record ReadsItems (standing : Standing) (raw : Raw) (before : List Told) (items : List RawItem) : Type 0 where
-    behind : Standing
-    goes : Goes exact (opened_at name standing) (spell_items exact raw before items) (opened_at name behind)
-    raw_is : raw_at behind ≡ raw_behind_items raw items
-    carried_is : carried_at behind ≡ carried_behind raw before items
-    end_is : end_from standing (items_text raw items []) (raw_at_end raw items) ≡ end_from behind [] (raw_at behind)
+    afterwards : Standing
+    goes : Goes exact (opened_at name standing) (spell_items exact raw before items) (opened_at name afterwards)
+    raw_is : raw_at afterwards ≡ raw_after_items raw items
+    carried_is : carried_at afterwards ≡ carried_after raw before items
+    end_is : end_from standing (items_text raw items []) (raw_at_end raw items) ≡ end_from afterwards [] (raw_at afterwards)
 
   abbrev ReadsFrom : Standing → Raw → List Told → List RawItem → List ℕ → Type 0
   ReadsFrom standing raw before items later =
       can_follow name raw items later ≡ true → fits name standing (items_text raw items later) ≡ true → ReadsItems standing raw before items
 
   reads_items : (standing : Standing) (items : List RawItem) (later : List ℕ) → ReadsFrom standing (raw_at standing) (carried_at standing) items later
-  unfolding Goes items_text can_follow spell_items raw_behind_items carried_behind raw_at_end
-  reads_items standing [] later can f = record { behind = standing; goes = refl; raw_is = refl; carried_is = refl; end_is = refl }
+  unfolding Goes items_text can_follow spell_items raw_after_items carried_after raw_at_end
+  reads_items standing [] later can f = record { afterwards = standing; goes = refl; raw_is = refl; carried_is = refl; end_is = refl }
   reads_items standing (item ∷ items) later can f =
-      let raw : Raw = raw_behind_item (raw_at standing) item in
+      let raw : Raw = raw_after_item (raw_at standing) item in
       let before : List Told = carried (raw_at standing) item in
       let p = and_parts (can_stand name (raw_at standing) item (items_text raw items later)) (can_follow name raw items later) can in
       let one : ReadsItem exact name standing item (items_text raw items later) = reads_item exact name standing item (items_text raw items later) p.0 f in
       let rest : ReadsItems one.next raw before items =
       subst (λ r. ReadsFrom one.next r before items later) one.raw_is
-      (subst (λ b. ReadsFrom one.next (raw_at one.next) b items later) one.carried_is (reads_items one.next items later)) p.1 one.fits_behind in
+      (subst (λ b. ReadsFrom one.next (raw_at one.next) b items later) one.carried_is (reads_items one.next items later)) p.1 one.fits_after in
       record {
-        behind = rest.behind;
-        goes = Goes-append exact (opened_at name standing) (opened_at name one.next) (opened_at name rest.behind) (carried_to (carried_at standing) (spell_item exact (raw_at standing) item)) (spell_items exact raw before items) one.goes rest.goes;
+        afterwards = rest.afterwards;
+        goes = Goes-append exact (opened_at name standing) (opened_at name one.next) (opened_at name rest.afterwards) (carried_to (carried_at standing) (spell_item exact (raw_at standing) item)) (spell_items exact raw before items) one.goes rest.goes;
         raw_is = rest.raw_is;
         carried_is = rest.carried_is;
-        end_is = ◌∙◌ {c = end_from rest.behind [] (raw_at rest.behind)} (one.end_is (items_text raw items []) (raw_at_end raw items)) rest.end_is;
+        end_is = ◌∙◌ {c = end_from rest.afterwards [] (raw_at rest.afterwards)} (one.end_is (items_text raw items []) (raw_at_end raw items)) rest.end_is;
       }
 
 -- what the end tells where the machine stands
@@ -157,10 +157,10 @@ pub parts-end_name : (parts : List Part) (text : List ℕ) → one_tag.can_follo
     → next_is ends_name (flat_map part_text parts ++ text) ≡ true
 unfolding one_tag.can_follow ends_name is_white_space
 parts-end_name [] text h ends = ends refl
-parts-end_name (Blank c ∷ parts) text h ends = rw (and_parts (is_white_space c) (one_tag.can_follow (one_tag.place_behind InName (Blank c)) parts) h).0 refl
+parts-end_name (Blank c ∷ parts) text h ends = rw (and_parts (is_white_space c) (one_tag.can_follow (one_tag.place_after InName (Blank c)) parts) h).0 refl
 parts-end_name (Solidus ∷ parts) text h ends = refl
 parts-end_name (Name first rest ∷ parts) text h ends = absurd (false≢true h)
-parts-end_name (Attribute first rest space behind value ∷ parts) text h ends = absurd (false≢true h)
+parts-end_name (Attribute first rest space afterwards value ∷ parts) text h ends = absurd (false≢true h)
 
 -- a name that letters are in lower case isn't empty
 filled_name : (name : List ℕ) (first : ℕ) (rest : List ℕ) → bytes_eq (lower (first ∷ rest)) name ≡ true → nat_eq (length name) 0 ≡ false
@@ -198,7 +198,7 @@ cells-end_tag rules before first rest parts =
 -- what is known of raw text that ends with an end tag
 record IsEnded (name : List ℕ) (raw : Raw) (items : List RawItem) (first : ℕ) (rest : List ℕ) (parts : List Part) : Type 0 where
   follow : can_follow name raw items (one_tag.written (end_tag_of first rest parts)) ≡ true
-  single : is_double_escaped (kind_of (raw_behind_items raw items)) ≡ false
+  single : is_double_escaped (kind_of (raw_after_items raw items)) ≡ false
   letters : list_all is_letter (first ∷ rest) ≡ true
   name_is : bytes_eq (lower (first ∷ rest)) name ≡ true
   parts_follow : one_tag.can_follow InName parts ≡ true
@@ -207,7 +207,7 @@ is_ended : (name : List ℕ) (raw : Raw) (items : List RawItem) (first : ℕ) (r
     → is_raw name raw (record { items = items; end_tag = Some (end_tag_of first rest parts) }) ≡ true → IsEnded name raw items first rest parts
 unfolding is_raw one_tag.is_written
 is_ended name raw items first rest parts h =
-    let double : Bool = is_double_escaped (kind_of (raw_behind_items raw items)) in
+    let double : Bool = is_double_escaped (kind_of (raw_after_items raw items)) in
     let p = and_parts (can_follow name raw items (one_tag.written (end_tag_of first rest parts))) _ h in
     let q = and_parts (not double) _ p.1 in
     let r = and_parts (list_all is_letter rest) _ q.1 in
@@ -229,7 +229,7 @@ module _ (exact : Bool) (name : List ℕ) where
 
   -- raw text up to the end of the name of its end tag
   abbrev front : Raw → List RawItem → ℕ → List ℕ → List Spelled
-  front raw items first rest = spell_items exact raw [] items ++ name_cells exact (carried_behind raw [] items) first rest
+  front raw items first rest = spell_items exact raw [] items ++ name_cells exact (carried_after raw [] items) first rest
 
   record ReadsName (raw : Raw) (items : List RawItem) (first : ℕ) (rest : List ℕ) : Type 0 where
     kind : RawKind
@@ -238,14 +238,14 @@ module _ (exact : Bool) (name : List ℕ) where
   reads_name : (raw : Raw) (items : List RawItem) (first : ℕ) (rest : List ℕ) (parts : List Part) → IsEnded name raw items first rest parts → ReadsName raw items first rest
   reads_name raw items first rest parts ended =
       let r : ReadsItems exact name (Free raw) raw [] items = reads_items exact name (Free raw) items (one_tag.written (end_tag_of first rest parts)) ended.follow refl in
-      let kind : RawKind = kind_of (raw_at r.behind) in
+      let kind : RawKind = kind_of (raw_at r.afterwards) in
       let opened : Open = InRaw (InEndName kind (first ∷ rest)) name in
       record {
         kind = kind;
         goes =
-            Goes-append exact (Between (RawText raw name)) (opened_at name r.behind) opened (spell_items exact raw [] items) (name_cells exact (carried_behind raw [] items) first rest) r.goes
-            (subst (λ before. Goes exact (opened_at name r.behind) (name_cells exact before first rest) opened) r.carried_is
-            (goes-end_tag r.behind first rest (ap (λ later. is_double_escaped (kind_of later)) r.raw_is ∙ ended.single) ended.letters));
+            Goes-append exact (Between (RawText raw name)) (opened_at name r.afterwards) opened (spell_items exact raw [] items) (name_cells exact (carried_after raw [] items) first rest) r.goes
+            (subst (λ before. Goes exact (opened_at name r.afterwards) (name_cells exact before first rest) opened) r.carried_is
+            (goes-end_tag r.afterwards first rest (ap (λ later. is_double_escaped (kind_of later)) r.raw_is ∙ ended.single) ended.letters));
       }
 
   -- where the name of the end tag ends, the machine goes on as after the name of any tag
@@ -271,17 +271,17 @@ module _ {Q S H : Type 0} (means : Means Q S H) (rules : Rules) where
 
   -- what a text tells, and what is open after it
   record Reads (K : Start) (s : S) (X : List ℕ) (raw : Raw) (items : List RawItem) (end_tag : Option WrittenTag) : Type 0 where
-    behind : Open
+    afterwards : Open
     last : List ℕ
     trace_is : trace means.step means.reply means.foreign rules s (line_after K.input []) K.last_start_tag K.opened (normalised K.input X)
-        ≡ record { messages = spelled_messages rules.exact K.input [] (spell_raw rules raw (record { items = items; end_tag = end_tag })); opened = behind; last_start_tag = last }
-    end_is : tokens_at_end rules behind ≡ told_at_end rules.exact raw items end_tag
+        ≡ record { messages = spelled_messages rules.exact K.input [] (spell_raw rules raw (record { items = items; end_tag = end_tag })); opened = afterwards; last_start_tag = last }
+    end_is : tokens_at_end rules afterwards ≡ told_at_end rules.exact raw items end_tag
 
   -- the same where the last message is this tag, and the sink's reply to it says what is open after it
   abbrev IsReadByReply : Start → S → List ℕ → Raw → WrittenRaw → WrittenTag → Type 0
   IsReadByReply K s X raw written_as tag =
       let M : List Message = spelled_messages rules.exact K.input [] (spell_raw rules raw written_as) in
-      let last : List ℕ = last_behind K.last_start_tag (tag_told rules tag) in
+      let last : List ℕ = last_after K.last_start_tag (tag_told rules tag) in
       trace means.step means.reply means.foreign rules s (line_after K.input []) K.last_start_tag K.opened (normalised K.input X)
       ≡ record { messages = M; opened = open_after_reply last (last_reply means.step means.reply s M); last_start_tag = last }
 
@@ -292,16 +292,16 @@ module _ {Q S H : Type 0} (means : Means Q S H) (rules : Rules) where
       let r : ReadsItems rules.exact name (Free raw) raw [] items = reads_items rules.exact name (Free raw) items [] (and_parts (can_follow name raw items []) true one.is_raw).0 refl in
       let cells : List Spelled = spell_items rules.exact raw [] items in
       record {
-        behind = opened_at name r.behind;
+        afterwards = opened_at name r.afterwards;
         last = K.last_start_tag;
         trace_is =
             rw (one.starts, one.text, ← characters-items rules.exact raw [] items [], append-nil cells)
-            (trace-goes means.step means.reply means.foreign rules K.input [] s K.last_start_tag (Between (RawText raw name)) (opened_at name r.behind) cells [] (decided-standing name r.behind) r.goes
-            ∙ ap (λ l. record { messages = l; opened = opened_at name r.behind; last_start_tag = K.last_start_tag }) (append-nil (spelled_messages rules.exact K.input [] cells)));
+            (trace-goes means.step means.reply means.foreign rules K.input [] s K.last_start_tag (Between (RawText raw name)) (opened_at name r.afterwards) cells [] (decided-standing name r.afterwards) r.goes
+            ∙ ap (λ l. record { messages = l; opened = opened_at name r.afterwards; last_start_tag = K.last_start_tag }) (append-nil (spelled_messages rules.exact K.input [] cells)));
         end_is =
-            tokens-standing rules name r.behind
-            ∙ ap (λ told. (told ++ raw_end_error rules.exact (end_from r.behind [] (raw_at r.behind))) ++ End ∷ []) r.carried_is
-            ∙ ap (λ end. (carried_behind raw [] items ++ raw_end_error rules.exact end) ++ End ∷ []) (sym r.end_is);
+            tokens-standing rules name r.afterwards
+            ∙ ap (λ told. (told ++ raw_end_error rules.exact (end_from r.afterwards [] (raw_at r.afterwards))) ++ End ∷ []) r.carried_is
+            ∙ ap (λ end. (carried_after raw [] items ++ raw_end_error rules.exact end) ++ End ∷ []) (sym r.end_is);
       }
 
   -- the end tag after items
@@ -320,7 +320,7 @@ module _ {Q S H : Type 0} (means : Means Q S H) (rules : Rules) where
   text-end_tag K X raw name items first rest parts one =
       let tag : WrittenTag = end_tag_of first rest parts in
       let cells : List Spelled = spell_items rules.exact raw [] items in
-      let before : List Told = carried_behind raw [] items in
+      let before : List Told = carried_after raw [] items in
       let named : List Spelled = name_cells rules.exact before first rest in
       let tail : List Spelled = spell_parts rules InName [] parts in
       let ends : characters (tail ++ end_cell rules tag ∷ []) ≡ characters tail ++ greater_than ∷ [] = characters-append tail (end_cell rules tag ∷ []) in
@@ -333,9 +333,9 @@ module _ {Q S H : Type 0} (means : Means Q S H) (rules : Rules) where
   -- raw text up to the name of its end tag, and then a tag from its name on, up to its `>`
   record ReachesEnd (K : Start) (s : S) (X : List ℕ) (raw : Raw) (items : List RawItem) (first : ℕ) (rest : List ℕ) (parts : List Part) : Type 0 where
     before : List Spelled
-    behind : Open
-    passes : Passes means rules (InTag InName (with_name (begun EndTag) (first ∷ rest))) (spell_parts rules InName [] parts) behind (greater_than ∷ [])
-    ends : step_at rules.exact behind greater_than ≡ TellsTag (end_errors rules (end_tag_of first rest parts)) (tag_told rules (end_tag_of first rest parts))
+    afterwards : Open
+    passes : Passes means rules (InTag InName (with_name (begun EndTag) (first ∷ rest))) (spell_parts rules InName [] parts) afterwards (greater_than ∷ [])
+    ends : step_at rules.exact afterwards greater_than ≡ TellsTag (end_errors rules (end_tag_of first rest parts)) (tag_told rules (end_tag_of first rest parts))
     cells_are : spelled_messages rules.exact K.input [] before
         ++ spelled_messages rules.exact K.input (characters before) (spell_parts rules InName [] parts ++ end_cell rules (end_tag_of first rest parts) ∷ [])
         ≡ spelled_messages rules.exact K.input [] (spell_raw rules raw (record { items = items; end_tag = Some (end_tag_of first rest parts) }))
@@ -359,16 +359,16 @@ module _ {Q S H : Type 0} (means : Means Q S H) (rules : Rules) where
       passes-parts means rules EndTag (name_shown first rest) InName [] named parts (greater_than ∷ []) table.plain (Holds-none EndTag (name_shown first rest)) ended.parts_follow
       (λ needs. record { c = greater_than; more = []; parts = refl; stop = quote-stop Unquoted }) in
       let cells : before ++ (tail ++ end_cell rules tag ∷ []) ≡ spell_raw rules raw (record { items = items; end_tag = Some tag }) =
-      append_assoc (spell_items rules.exact raw [] items) (name_cells rules.exact (carried_behind raw [] items) first rest) (tail ++ end_cell rules tag ∷ [])
-      ∙ ap (λ l. spell_items rules.exact raw [] items ++ l) (sym (cells-end_tag rules (carried_behind raw [] items) first rest parts)) in
+      append_assoc (spell_items rules.exact raw [] items) (name_cells rules.exact (carried_after raw [] items) first rest) (tail ++ end_cell rules tag ∷ [])
+      ∙ ap (λ l. spell_items rules.exact raw [] items ++ l) (sym (cells-end_tag rules (carried_after raw [] items) first rest parts)) in
       let begins : next_is ends_name (characters tail ++ greater_than ∷ []) ≡ true =
       ap (λ l. next_is ends_name (l ++ greater_than ∷ [])) (characters-parts means rules InName [] parts) ∙ parts-end_name parts (greater_than ∷ []) ended.parts_follow (λ none. greater_than-ends) in
       let M : List Message = spelled_messages rules.exact K.input [] before in
       record {
         before = before;
-        behind = InTag (end_place tag) led.behind;
+        afterwards = InTag (end_place tag) led.afterwards;
         passes = led.passes;
-        ends = ends-tag means rules tag led.behind (can_end-parts InName parts refl) led.holds;
+        ends = ends-tag means rules tag led.afterwards (can_end-parts InName parts refl) led.holds;
         cells_are =
             sym (spelled_messages-append rules.exact K.input [] before (tail ++ end_cell rules tag ∷ []))
             ∙ ap (spelled_messages rules.exact K.input []) cells;
@@ -391,14 +391,14 @@ module _ {Q S H : Type 0} (means : Means Q S H) (rules : Rules) where
       let tail : List Spelled = spell_parts rules InName [] parts in
       let M : List Message = spelled_messages rules.exact K.input [] r.before in
       let N : List Message = spelled_messages rules.exact K.input (characters r.before) (tail ++ end_cell rules tag ∷ []) in
-      let last : List ℕ = last_behind K.last_start_tag (tag_told rules tag) in
+      let last : List ℕ = last_after K.last_start_tag (tag_told rules tag) in
       record {
-        behind = Between Data;
+        afterwards = Between Data;
         last = last;
         trace_is =
             r.trace_is
             ∙ ap (with_messages M)
-            (trace-tag means rules K.input (characters r.before) (stepped means.step s M) K.last_start_tag (InTag InName (with_name (begun EndTag) (first ∷ rest))) r.behind tail (end_errors rules tag) (tag_told rules tag) r.passes r.ends)
+            (trace-tag means rules K.input (characters r.before) (stepped means.step s M) K.last_start_tag (InTag InName (with_name (begun EndTag) (first ∷ rest))) r.afterwards tail (end_errors rules tag) (tag_told rules tag) r.passes r.ends)
             ∙ ap (λ a. record { messages = M ++ N; opened = open_after_reply last a; last_start_tag = last })
             (last_reply-keeps means.step means.reply means.foreign rules (stepped means.step s M) K.input (characters r.before) tail greater_than (end_errors rules tag) (tag_told rules tag) keeps)
             ∙ ap (λ l. record { messages = l; opened = Between Data; last_start_tag = last }) r.cells_are;
@@ -415,10 +415,10 @@ module _ {Q S H : Type 0} (means : Means Q S H) (rules : Rules) where
       let tail : List Spelled = spell_parts rules InName [] parts in
       let M : List Message = spelled_messages rules.exact K.input [] r.before in
       let N : List Message = spelled_messages rules.exact K.input (characters r.before) (tail ++ end_cell rules tag ∷ []) in
-      let last : List ℕ = last_behind K.last_start_tag (tag_told rules tag) in
+      let last : List ℕ = last_after K.last_start_tag (tag_told rules tag) in
       r.trace_is
       ∙ ap (with_messages M)
-      (trace-tag means rules K.input (characters r.before) (stepped means.step s M) K.last_start_tag (InTag InName (with_name (begun EndTag) (first ∷ rest))) r.behind tail (end_errors rules tag) (tag_told rules tag) r.passes r.ends)
+      (trace-tag means rules K.input (characters r.before) (stepped means.step s M) K.last_start_tag (InTag InName (with_name (begun EndTag) (first ∷ rest))) r.afterwards tail (end_errors rules tag) (tag_told rules tag) r.passes r.ends)
       ∙ ap (λ a. record { messages = M ++ N; opened = open_after_reply last a; last_start_tag = last })
       (sym (last_reply-spelled means.step means.reply means.foreign rules s M K.input (characters r.before) tail greater_than (end_errors rules tag) (tag_told rules tag)))
       ∙ ap (λ l. record { messages = l; opened = open_after_reply last (last_reply means.step means.reply s l); last_start_tag = last }) r.cells_are
@@ -429,7 +429,7 @@ module _ {Q S H : Type 0} (means : Means Q S H) (rules : Rules) where
   unfolding is_raw
   reads_ended_reply K s X raw name items StartTag first rest parts table one =
       let p = and_parts (can_follow name raw items (one_tag.written (record { kind = StartTag; first = first; rest = rest; parts = parts }))) _ one.is_raw in
-      absurd (false≢true (and_parts (not (is_double_escaped (kind_of (raw_behind_items raw items)))) false p.1).1)
+      absurd (false≢true (and_parts (not (is_double_escaped (kind_of (raw_after_items raw items)))) false p.1).1)
   reads_ended_reply K s X raw name items EndTag first rest parts table one = reads_end_tag_reply K s X raw name items first rest parts table one
 
   pub reads_raw_reply : (K : Start) (s : S) (X : List ℕ) (raw : Raw) (name : List ℕ) (written_as : WrittenRaw) (tag : WrittenTag) → written_as.end_tag ≡ Some tag
@@ -457,7 +457,7 @@ module _ {Q S H : Type 0} (means : Means Q S H) (rules : Rules) where
   unfolding is_raw
   reads_ended K s X raw name items StartTag first rest parts table keeps one =
       let p = and_parts (can_follow name raw items (one_tag.written (record { kind = StartTag; first = first; rest = rest; parts = parts }))) _ one.is_raw in
-      absurd (false≢true (and_parts (not (is_double_escaped (kind_of (raw_behind_items raw items)))) false p.1).1)
+      absurd (false≢true (and_parts (not (is_double_escaped (kind_of (raw_after_items raw items)))) false p.1).1)
   reads_ended K s X raw name items EndTag first rest parts table keeps one = reads_end_tag K s X raw name items first rest parts table keeps one
 
   reads_raw : (K : Start) (s : S) (X : List ℕ) (raw : Raw) (name : List ℕ) (items : List RawItem) (end_tag : Option WrittenTag)

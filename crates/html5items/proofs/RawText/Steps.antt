@@ -12,9 +12,9 @@ use Rattle.html5ever_interface.specs.declared.states.ScriptEscapeKind.{ScriptEsc
 use Rattle.html5ever_interface.specs.declared.states.ScriptEscapeKind.TheVariants as escape_kind
 use Rattle.html5grammar.specs.Characters.{null, exclamation_mark, ampersand, hyphen, solidus, less_than, greater_than, is_letter, is_white_space}
 use Rattle.html5items.specs.Spelled.{spell}
-use Rattle.html5grammar.specs.RawText.{texts, ends_name, kind_of, is_rcdata, dashes_behind, raw_behind, raw_character, ends_raw_text, switched, told_at_less_than, told_behind_less_than, begins_mark, begins_switch}
+use Rattle.html5grammar.specs.RawText.{texts, ends_name, kind_of, is_rcdata, dashes_after, raw_after, raw_character, ends_raw_text, switched, told_at_less_than, told_after_less_than, begins_mark, begins_switch}
 use Rattle.html5grammar.specs.Reading.Here.{Tells}
-use Rattle.html5grammar.specs.Slice.{behind_run}
+use Rattle.html5grammar.specs.Slice.{after_run}
 use Rattle.html5grammar.specs.Start.{Raw, RawPlace, Open, raw_of}
 use Rattle.html5grammar.specs.Start.Dashes.{NoDash, TwoDashes}
 use Rattle.html5grammar.specs.Start.Mode.{RawText}
@@ -22,7 +22,7 @@ use Rattle.html5grammar.specs.Start.Open.{Between, InRaw}
 use Rattle.html5grammar.specs.Start.Raw.{ScriptData, Escaped, DoubleEscaped}
 use Rattle.html5grammar.specs.Start.RawPlace.{AfterLessThan, InEndName, AfterMark, AfterMarkAndDash, InSwitch}
 use Rattle.html5grammar.specs.Tag.{in_tag_name}
-use Rattle.html5items.specs.RawText.{RawItem, switched_kind, raw_behind_item, switch_text, item_text, next_is, begins_dash, begins_dashes, begins_name_and_end, is_alone_before, is_double_escaped, is_script_data, can_switch, can_stand, carried, carried_to, spell_text, spell_behind_less_than, spell_item, ends_in_letters}
+use Rattle.html5items.specs.RawText.{RawItem, switched_kind, raw_after_item, switch_text, item_text, next_is, begins_dash, begins_dashes, begins_name_and_end, is_alone_before, is_double_escaped, is_script_data, can_switch, can_stand, carried, carried_to, spell_text, spell_after_less_than, spell_item, ends_in_letters}
 use Rattle.html5items.specs.RawText.RawItem.{Character, LessThan, Letters, Mark, Switch}
 use Rattle.html5grammar.proofs.Letters.{letter-no_null, letter-no_solidus, is_not, letter-in_tag_name}
 use Rattle.html5grammar.specs.Machine.{step_at, raw_step, end_name_step, switch_step, mark_step, mark_and_dash_step, raw_solidus_step, raw_less_than_step, raw_place_step}
@@ -51,7 +51,7 @@ raw_at (Within (InSwitch kind letters)) = raw_of (raw_kind.ScriptDataEscaped kin
 -- what is carried there
 abbrev pub carried_at : Standing → List Told
 carried_at (Free raw) = []
-carried_at (Within (AfterLessThan kind)) = told_behind_less_than kind
+carried_at (Within (AfterLessThan kind)) = told_after_less_than kind
 carried_at (Within (InEndName kind letters)) = texts (less_than ∷ solidus ∷ letters)
 carried_at (Within AfterMark) = []
 carried_at (Within AfterMarkAndDash) = []
@@ -143,9 +143,9 @@ module _ (exact : Bool) (name : List ℕ) where
   pub record ReadsCharacter (standing : Standing) (c : ℕ) (text : List ℕ) : Type 0 where
     pub next : Standing
     pub step : step_at exact (opened_at name standing) c ≡ Tells (carried_at standing ++ raw_character exact (raw_at standing) c) (opened_at name next)
-    pub raw_is : raw_at next ≡ raw_behind (raw_at standing) c
+    pub raw_is : raw_at next ≡ raw_after (raw_at standing) c
     pub carried_is : carried_at next ≡ []
-    pub fits_behind : fits name next text ≡ true
+    pub fits_after : fits name next text ≡ true
     pub letters_is : (T : List ℕ) → in_letters standing (c ∷ T) ≡ in_letters next T
 
   -- what is read anew ends such letters before it
@@ -167,27 +167,27 @@ module _ (exact : Bool) (name : List ℕ) where
       → continues name standing c ≡ false → ReadsCharacter standing c text
   unfolding raw_step
   reads-anew_character standing c text no_less_than no_ampersand h = record {
-    next = Free (raw_behind (raw_at standing) c);
+    next = Free (raw_after (raw_at standing) c);
     step = reads_anew standing c h ∙ rw (no_less_than, no_ampersand) refl;
     raw_is = refl;
     carried_is = refl;
-    fits_behind = refl;
+    fits_after = refl;
     letters_is = λ T. letters-anew standing c T h;
   }
 
   -- after a letter nothing has changed
-  behind-letter : (c : ℕ) → is_letter c ≡ true → raw_behind (Escaped NoDash) c ≡ Escaped NoDash
-  unfolding raw_behind dashes_behind is_letter
-  behind-letter c h = rw (and-false (c == greater_than), is_not is_letter c hyphen refl h) refl
+  after-letter : (c : ℕ) → is_letter c ≡ true → raw_after (Escaped NoDash) c ≡ Escaped NoDash
+  unfolding raw_after dashes_after is_letter
+  after-letter c h = rw (and-false (c == greater_than), is_not is_letter c hyphen refl h) refl
 
-  behind-double_letter : (c : ℕ) → is_letter c ≡ true → raw_behind (DoubleEscaped NoDash) c ≡ DoubleEscaped NoDash
-  unfolding raw_behind dashes_behind is_letter
-  behind-double_letter c h = rw (and-false (c == greater_than), is_not is_letter c hyphen refl h) refl
+  after-double_letter : (c : ℕ) → is_letter c ≡ true → raw_after (DoubleEscaped NoDash) c ≡ DoubleEscaped NoDash
+  unfolding raw_after dashes_after is_letter
+  after-double_letter c h = rw (and-false (c == greater_than), is_not is_letter c hyphen refl h) refl
 
-  behind-in_switch : (kind : ScriptEscapeKind) (c : ℕ) → is_letter c ≡ true
-      → raw_behind (raw_of (raw_kind.ScriptDataEscaped kind)) c ≡ raw_of (raw_kind.ScriptDataEscaped kind)
-  behind-in_switch escape_kind.Escaped c h = behind-letter c h
-  behind-in_switch escape_kind.DoubleEscaped c h = behind-double_letter c h
+  after-in_switch : (kind : ScriptEscapeKind) (c : ℕ) → is_letter c ≡ true
+      → raw_after (raw_of (raw_kind.ScriptDataEscaped kind)) c ≡ raw_of (raw_kind.ScriptDataEscaped kind)
+  after-in_switch escape_kind.Escaped c h = after-letter c h
+  after-in_switch escape_kind.DoubleEscaped c h = after-double_letter c h
 
   letters-in_switch : (kind : ScriptEscapeKind) (letters more : List ℕ) (c : ℕ) (T : List ℕ) → is_letter c ≡ true
       → in_letters (Within (InSwitch kind letters)) (c ∷ T) ≡ in_letters (Within (InSwitch kind more)) T
@@ -198,22 +198,22 @@ module _ (exact : Bool) (name : List ℕ) where
 
   reads-in_switch : (kind : ScriptEscapeKind) (letters : List ℕ) (c : ℕ) (text : List ℕ) (b : Bool) → is_letter c ≡ b
       → not (begins_name_and_end (c ∷ text)) ≡ true → (is_letter c || ends_name c) ≡ true → ReadsCharacter (Within (InSwitch kind letters)) c text
-  unfolding step_at raw_place_step switch_step behind_run
+  unfolding step_at raw_place_step switch_step after_run
   reads-in_switch kind letters c text true letter f h = record {
     next = Within (InSwitch kind (letters ++ c ∷ []));
     step = rw (letter, told-plain exact (raw_of (raw_kind.ScriptDataEscaped kind)) c (letter-no_null c letter)) refl;
-    raw_is = sym (behind-in_switch kind c letter);
+    raw_is = sym (after-in_switch kind c letter);
     carried_is = refl;
-    fits_behind = sym (ap (λ b. not (next_is ends_name (if b then behind_run is_letter text else c ∷ text))) letter) ∙ f;
+    fits_after = sym (ap (λ b. not (next_is ends_name (if b then after_run is_letter text else c ∷ text))) letter) ∙ f;
     letters_is = λ T. letters-in_switch kind letters (letters ++ c ∷ []) c T letter;
   }
   reads-in_switch kind letters c text false other f h =
       let ends : ends_name c ≡ true = sym (ap (λ b. b || ends_name c) other) ∙ h in
-      absurd (false≢true (sym (ap not ends) ∙ sym (ap (λ b. not (next_is ends_name (if b then behind_run is_letter text else c ∷ text))) other) ∙ f))
+      absurd (false≢true (sym (ap not ends) ∙ sym (ap (λ b. not (next_is ends_name (if b then after_run is_letter text else c ∷ text))) other) ∙ f))
 
   reads-after_less_than : (kind : RawKind) (c : ℕ) (text : List ℕ) → is_alone_before kind (c ∷ text) ≡ true
       → continues name (Within (AfterLessThan kind)) c ≡ true → ReadsCharacter (Within (AfterLessThan kind)) c text
-  unfolding step_at raw_place_step raw_less_than_step raw_solidus_step begins_mark begins_switch raw_behind dashes_behind raw_character
+  unfolding step_at raw_place_step raw_less_than_step raw_solidus_step begins_mark begins_switch raw_after dashes_after raw_character
   reads-after_less_than raw_kind.Rcdata c text f h = absurd (false≢true (sym (ap (λ b. b || false) (not-true (c == solidus) f)) ∙ h))
   reads-after_less_than raw_kind.Rawtext c text f h = absurd (false≢true (sym (ap (λ b. b || false) (not-true (c == solidus) f)) ∙ h))
   reads-after_less_than raw_kind.ScriptData c text f h =
@@ -225,7 +225,7 @@ module _ (exact : Bool) (name : List ℕ) where
         step = rw (eqb-true c exclamation_mark mark) refl;
         raw_is = refl;
         carried_is = refl;
-        fits_behind = sym (ap (λ b. not (b && begins_dashes text)) mark) ∙ p.1;
+        fits_after = sym (ap (λ b. not (b && begins_dashes text)) mark) ∙ p.1;
         letters_is = λ T. refl;
       }
   reads-after_less_than (raw_kind.ScriptDataEscaped escape_kind.Escaped) c text f h =
@@ -235,9 +235,9 @@ module _ (exact : Bool) (name : List ℕ) where
       record {
         next = Within (InSwitch escape_kind.Escaped (c ∷ []));
         step = rw (no_solidus, letter, letter-no_null c letter) refl;
-        raw_is = sym (behind-letter c letter);
+        raw_is = sym (after-letter c letter);
         carried_is = refl;
-        fits_behind = sym (ap (λ b. not (b && begins_name_and_end text)) letter) ∙ p.1;
+        fits_after = sym (ap (λ b. not (b && begins_name_and_end text)) letter) ∙ p.1;
         letters_is = λ T. rw letter refl;
       }
   reads-after_less_than (raw_kind.ScriptDataEscaped escape_kind.DoubleEscaped) c text f h =
@@ -247,13 +247,13 @@ module _ (exact : Bool) (name : List ℕ) where
         step = rw (eqb-true c solidus is_solidus) refl;
         raw_is = rw (eqb-true c solidus is_solidus) refl;
         carried_is = refl;
-        fits_behind = sym (ap (λ b. not (b && begins_name_and_end text)) is_solidus) ∙ f;
+        fits_after = sym (ap (λ b. not (b && begins_name_and_end text)) is_solidus) ∙ f;
         letters_is = λ T. refl;
       }
 
   reads-on_character : (standing : Standing) (c : ℕ) (text : List ℕ) → fits name standing (c ∷ text) ≡ true
       → continues name standing c ≡ true → ReadsCharacter standing c text
-  unfolding step_at raw_place_step mark_step raw_behind raw_character
+  unfolding step_at raw_place_step mark_step raw_after raw_character
   reads-on_character (Free raw) c text f h = absurd (false≢true h)
   reads-on_character (Within (AfterLessThan kind)) c text f h = reads-after_less_than kind c text f h
   reads-on_character (Within (InEndName kind letters)) c text f h =
@@ -264,7 +264,7 @@ module _ (exact : Bool) (name : List ℕ) where
     step = rw (eqb-true c hyphen h) refl;
     raw_is = refl;
     carried_is = refl;
-    fits_behind = sym (ap (λ b. not (b && begins_dash text)) h) ∙ f;
+    fits_after = sym (ap (λ b. not (b && begins_dash text)) h) ∙ f;
     letters_is = λ T. refl;
   }
   reads-on_character (Within AfterMarkAndDash) c text f h = absurd (false≢true (sym (ap not h) ∙ f))
@@ -314,7 +314,7 @@ module _ (exact : Bool) (name : List ℕ) where
       (InRaw (InEndName kind []) name, step-end_solidus kind single, goes-end_name kind tells [] letters silent all)
 
   pub goes-mark : (kind : RawKind) → is_script_data kind ≡ true
-      → Goes exact (InRaw (AfterLessThan kind) name) (spell_behind_less_than kind Mark) (Between (RawText (Escaped TwoDashes) name))
+      → Goes exact (InRaw (AfterLessThan kind) name) (spell_after_less_than kind Mark) (Between (RawText (Escaped TwoDashes) name))
   unfolding Goes step_at raw_place_step raw_less_than_step mark_step mark_and_dash_step begins_mark
   goes-mark raw_kind.Rcdata h = absurd (false≢true h)
   goes-mark raw_kind.Rawtext h = absurd (false≢true h)
@@ -342,7 +342,7 @@ module _ (exact : Bool) (name : List ℕ) where
       )
 
   pub goes-switch : (kind : RawKind) (letters : List ℕ) (c : ℕ) → can_switch kind letters ≡ true → list_all is_letter letters ≡ true → ends_name c ≡ true
-      → Goes exact (InRaw (AfterLessThan kind) name) (spell_behind_less_than kind (Switch letters c)) (Between (RawText (raw_of (switched_kind kind letters)) name))
+      → Goes exact (InRaw (AfterLessThan kind) name) (spell_after_less_than kind (Switch letters c)) (Between (RawText (raw_of (switched_kind kind letters)) name))
   unfolding Goes step_at raw_place_step raw_less_than_step raw_solidus_step begins_mark begins_switch
   goes-switch raw_kind.Rcdata letters c can all ends = absurd (false≢true can)
   goes-switch raw_kind.Rawtext letters c can all ends = absurd (false≢true can)
@@ -361,9 +361,9 @@ module _ (exact : Bool) (name : List ℕ) where
   pub record ReadsItem (standing : Standing) (item : RawItem) (text : List ℕ) : Type 0 where
     pub next : Standing
     pub goes : Goes exact (opened_at name standing) (carried_to (carried_at standing) (spell_item exact (raw_at standing) item)) (opened_at name next)
-    pub raw_is : raw_at next ≡ raw_behind_item (raw_at standing) item
+    pub raw_is : raw_at next ≡ raw_after_item (raw_at standing) item
     pub carried_is : carried_at next ≡ carried (raw_at standing) item
-    pub fits_behind : fits name next text ≡ true
+    pub fits_after : fits name next text ≡ true
     pub end_is : (T : List ℕ) (r : Raw)
         → end_from standing (item_text (raw_at standing) item ++ T) (if ends_in_letters item (kind_of (raw_at standing)) T then DoubleEscaped NoDash else r)
         ≡ end_from next T r
@@ -383,7 +383,7 @@ module _ (exact : Bool) (name : List ℕ) where
         goes = (opened_at name r.next, r.step, refl);
         raw_is = r.raw_is;
         carried_is = r.carried_is;
-        fits_behind = r.fits_behind;
+        fits_after = r.fits_after;
         end_is = λ T raw. ap (λ b. if b then DoubleEscaped NoDash else raw) (r.letters_is T);
       }
   reads_item standing LessThan text can f = record {
@@ -391,7 +391,7 @@ module _ (exact : Bool) (name : List ℕ) where
     goes = (InRaw (AfterLessThan (kind_of (raw_at standing))) name, reads_less_than standing, refl);
     raw_is = refl;
     carried_is = refl;
-    fits_behind = can;
+    fits_after = can;
     end_is = λ T raw. rw (letters-less_than standing T) refl;
   }
   reads_item standing (Letters letters) text can f =
@@ -403,7 +403,7 @@ module _ (exact : Bool) (name : List ℕ) where
         goes = (InRaw (AfterLessThan kind) name, reads_less_than standing, goes-end_letters kind (λ c. []) letters (λ c h. refl) (not-true (is_double_escaped kind) p.0) q.0);
         raw_is = refl;
         carried_is = refl;
-        fits_behind = q.1;
+        fits_after = q.1;
         end_is = λ T raw. rw (letters-less_than standing ((solidus ∷ letters) ++ T)) refl;
       }
   reads_item standing Mark text can f =
@@ -413,7 +413,7 @@ module _ (exact : Bool) (name : List ℕ) where
         goes = (InRaw (AfterLessThan kind) name, reads_less_than standing, goes-mark kind can);
         raw_is = refl;
         carried_is = refl;
-        fits_behind = refl;
+        fits_after = refl;
         end_is = λ T raw. rw (letters-less_than standing (codes "!--" ++ T)) refl;
       }
   reads_item standing (Switch letters c) text can f =
@@ -425,6 +425,6 @@ module _ (exact : Bool) (name : List ℕ) where
         goes = (InRaw (AfterLessThan kind) name, reads_less_than standing, goes-switch kind letters c p.0 q.0 q.1);
         raw_is = refl;
         carried_is = refl;
-        fits_behind = refl;
+        fits_after = refl;
         end_is = λ T raw. rw (letters-less_than standing (switch_text kind letters c ++ T)) refl;
       }

@@ -17,10 +17,10 @@ use Rattle.html5ever_interface.specs.Token.Told.{Text}
 use Rattle.html5ever_interface.proofs.Steppings.{stepped-append}
 use Rattle.html5ever_interface.specs.declared.states.AttrValueKind.TheVariants.{Unquoted, SingleQuoted, DoubleQuoted}
 use Rattle.html5grammar.specs.Characters.{null, line_feed, number_sign, quotation_mark, apostrophe, ampersand, less_than, semicolon, is_bad_character, is_white_space}
-use Rattle.html5grammar.specs.RawText.{raw_behind, raw_character}
+use Rattle.html5grammar.specs.RawText.{raw_after, raw_character}
 use Rattle.html5grammar.specs.Reading.Here.{Tells}
-use Rattle.html5grammar.specs.Reference.{Found, in_value, reference, number_reference, named_reference, no_name, has_digits, longest_name, longer, is_ended, goes_on, first_or, is_undecided, is_number, is_x, ends_number, text_in, opened_in, told_of, characters_in, held_text, late_tokens, opened_behind, with_value}
-use Rattle.html5grammar.specs.Slice.{Late, tokens_of_late, run_while, behind_while}
+use Rattle.html5grammar.specs.Reference.{Found, in_value, reference, number_reference, named_reference, no_name, has_digits, longest_name, longer, is_ended, goes_on, first_or, is_undecided, is_number, is_x, ends_number, text_in, opened_in, told_of, characters_in, held_text, late_tokens, opened_after, with_value}
+use Rattle.html5grammar.specs.Slice.{Late, tokens_of_late, run_while, after_while}
 use Rattle.html5grammar.specs.Start.{Input, Start, OpenTag, Mode, Stand, Open, Rules, is_undecided_open}
 use Rattle.html5grammar.specs.Start.Mode.{Data, Plain, RawText, Cdata}
 use Rattle.html5grammar.specs.Start.Raw.{Rcdata, Rawtext, ScriptData, Escaped, DoubleEscaped}
@@ -32,7 +32,7 @@ use Rattle.html5grammar.proofs.GoodCharacters.{good_between}
 use Rattle.html5items.proofs.HeldWords.{is_good, begins-while, while-parts, trace-settles}
 use Rattle.html5grammar.proofs.InputLemmas.{line_past, lines_past, line_after-last, line_after-past, input_after-line_none, normalised-append}
 use Rattle.html5items.proofs.ByItself.{trace-before}
-use Rattle.html5items.specs.Anywhere.{TellsBefore, start_behind}
+use Rattle.html5items.specs.Anywhere.{TellsBefore, start_beyond}
 use Rattle.html5grammar.specs.NormalisedText.{line_after, input_after}
 use Rattle.html5items.specs.Items.{IsReferenceIn}
 use Rattle.html5items.specs.Reference.{has_references}
@@ -175,7 +175,7 @@ with_value-push tag cs c =
 module _ (exact : Bool) where
   step-held : (stand : Stand) (cs : List ℕ) (c : ℕ) → takes_reference stand ≡ true → is_held_character c ≡ true
       → step_at exact (opened_in stand cs) c ≡ Tells (text_in stand (c ∷ [])) (opened_in stand (cs ++ c ∷ []))
-  unfolding step_at data_step raw_step raw_behind raw_character tag_step quoted_step unquoted_step in_quoted unquoted_error
+  unfolding step_at data_step raw_step raw_after raw_character tag_step quoted_step unquoted_step in_quoted unquoted_error
   step-held (InText Data) cs c takes h = rw (none-less_than c h, none-ampersand c h, none-null c h) refl
   step-held (InText Plain) cs c takes h = absurd (false≢true takes)
   step-held (InText Cdata) cs c takes h = absurd (false≢true takes)
@@ -289,14 +289,14 @@ ends-held (d ∷ held) c h =
     subst (λ e. (is_ascii_alphanumeric e || (e == number_sign) || (e == semicolon)) ≡ true) (sym (eqb-true c semicolon q.1)) refl
 
 -- the character after what is held decides
-behind-decides : (begins : List ℕ → Bool) (before text : List ℕ) (c : ℕ) (more : List ℕ) → behind_while begins before text ≡ c ∷ more
+later-decides : (begins : List ℕ → Bool) (before text : List ℕ) (c : ℕ) (more : List ℕ) → after_while begins before text ≡ c ∷ more
     → begins ((before ++ run_while begins before text) ++ c ∷ []) ≡ false
-unfolding run_while behind_while
-behind-decides begins before [] c more e = absurd (nil≢cons e)
-behind-decides begins before (d ∷ text) c more e =
+unfolding run_while after_while
+later-decides begins before [] c more e = absurd (nil≢cons e)
+later-decides begins before (d ∷ text) c more e =
     let past : List ℕ = before ++ d ∷ [] in
-    elim (begins past) as (λ b. begins past ≡ b → (if b then behind_while begins past text else d ∷ text) ≡ c ∷ more → begins ((before ++ (if b then d ∷ run_while begins past text else [])) ++ c ∷ []) ≡ false) [
-      | true ↦ λ g h. ap (λ l. begins (l ++ c ∷ [])) (sym (append_assoc before (d ∷ []) (run_while begins past text))) ∙ behind-decides begins past text c more h
+    elim (begins past) as (λ b. begins past ≡ b → (if b then after_while begins past text else d ∷ text) ≡ c ∷ more → begins ((before ++ (if b then d ∷ run_while begins past text else [])) ++ c ∷ []) ≡ false) [
+      | true ↦ λ g h. ap (λ l. begins (l ++ c ∷ [])) (sym (append_assoc before (d ∷ []) (run_while begins past text))) ∙ later-decides begins past text c more h
       | false ↦ λ g h. ap (λ l. begins (l ++ c ∷ [])) (append-nil before) ∙ ap (λ x. begins (before ++ x ∷ [])) (sym (cons_first h)) ∙ g
     ] refl e
 
@@ -313,8 +313,8 @@ module _ {X S H : Type 0} (means : Means X S H) (rules : Rules) where
 
   pub trace-run : (stand : Stand) (s : S) (line : ℕ) (last held F : List ℕ) → IsLine line → list_all is_held_character (run_while (is_undecided rules.names) held F) ≡ true
       → trace means.step means.reply means.foreign rules s line last (InReference stand held) F
-      ≡ trace means.step means.reply means.foreign rules s line last (InReference stand (held ++ run_while (is_undecided rules.names) held F)) (behind_while (is_undecided rules.names) held F)
-  unfolding run_while behind_while trace trace_brought trace_here brought_at reference_step stepped
+      ≡ trace means.step means.reply means.foreign rules s line last (InReference stand (held ++ run_while (is_undecided rules.names) held F)) (after_while (is_undecided rules.names) held F)
+  unfolding run_while after_while trace trace_brought trace_here brought_at reference_step stepped
   trace-run stand s line last held [] same all = rw (append-nil held) refl
   trace-run stand s line last held (c ∷ F) same all = by (is_undecided rules.names (held ++ c ∷ [])) refl all (trace-run stand s line last (held ++ c ∷ []) F same)
     where
@@ -322,13 +322,13 @@ module _ {X S H : Type 0} (means : Means X S H) (rules : Rules) where
           → list_all is_held_character (if b then c ∷ run_while (is_undecided rules.names) (held ++ c ∷ []) F else []) ≡ true
           → (list_all is_held_character (run_while (is_undecided rules.names) (held ++ c ∷ []) F) ≡ true
           → trace means.step means.reply means.foreign rules s line last (InReference stand (held ++ c ∷ [])) F
-          ≡ trace means.step means.reply means.foreign rules s line last (InReference stand ((held ++ c ∷ []) ++ run_while (is_undecided rules.names) (held ++ c ∷ []) F)) (behind_while (is_undecided rules.names) (held ++ c ∷ []) F))
+          ≡ trace means.step means.reply means.foreign rules s line last (InReference stand ((held ++ c ∷ []) ++ run_while (is_undecided rules.names) (held ++ c ∷ []) F)) (after_while (is_undecided rules.names) (held ++ c ∷ []) F))
           → trace means.step means.reply means.foreign rules s line last (InReference stand held) (c ∷ F)
-          ≡ trace means.step means.reply means.foreign rules s line last (InReference stand (held ++ (if b then c ∷ run_while (is_undecided rules.names) (held ++ c ∷ []) F else []))) (if b then behind_while (is_undecided rules.names) (held ++ c ∷ []) F else c ∷ F)
+          ≡ trace means.step means.reply means.foreign rules s line last (InReference stand (held ++ (if b then c ∷ run_while (is_undecided rules.names) (held ++ c ∷ []) F else []))) (if b then after_while (is_undecided rules.names) (held ++ c ∷ []) F else c ∷ F)
       by true e h further =
           let p = and_parts (is_held_character c) _ h in
           rw (e, good-held c p.0, and-false rules.exact, same c (none-line_feed c p.0))
-          (further p.1 ∙ ap (λ l. trace means.step means.reply means.foreign rules s line last (InReference stand l) (behind_while (is_undecided rules.names) (held ++ c ∷ []) F)) (append_assoc held (c ∷ []) _))
+          (further p.1 ∙ ap (λ l. trace means.step means.reply means.foreign rules s line last (InReference stand l) (after_while (is_undecided rules.names) (held ++ c ∷ []) F)) (append_assoc held (c ∷ []) _))
       by false e h further = ap (λ l. trace means.step means.reply means.foreign rules s line last (InReference stand l) (c ∷ F)) (sym (append-nil held))
 
   with-two : (s : S) (M N : List Message) (line : ℕ) (last : List ℕ) (opened : Open) (text : List ℕ)
@@ -370,7 +370,7 @@ module _ {X S H : Type 0} (means : Means X S H) (rules : Rules) where
 
   step-decides : (stand : Stand) (run : List ℕ) (c : ℕ) (answer : Bool) → is_undecided rules.names (run ++ c ∷ []) ≡ false → ends_number run c ≡ false
       → let found : Found = reference rules (in_value stand) run (Some c) in
-      brought_at rules answer (InReference stand run) c ≡ record { settled = late_tokens stand found run; here = step_at rules.exact (opened_behind stand found run) c }
+      brought_at rules answer (InReference stand run) c ≡ record { settled = late_tokens stand found run; here = step_at rules.exact (opened_after stand found run) c }
   unfolding brought_at reference_step
   step-decides stand run c answer e f = rw (e, f) refl
 
@@ -379,7 +379,7 @@ module _ {X S H : Type 0} (means : Means X S H) (rules : Rules) where
       → let found : Found = reference rules (in_value stand) run (Some c) in
       let M : List Message = on_line line (tokens_of_late (late_tokens stand found run)) in
       trace means.step means.reply means.foreign rules s line last (InReference stand run) (c ∷ more)
-      ≡ with_messages M (trace means.step means.reply means.foreign rules (stepped means.step s M) line last (opened_behind stand found run) more)
+      ≡ with_messages M (trace means.step means.reply means.foreign rules (stepped means.step s M) line last (opened_after stand found run) more)
   unfolding trace trace_brought trace_here brought_at reference_step stepped
   trace-ended_step stand s line last run c more same h e f = rw (e, f, good-held c h, and-false rules.exact, same c (none-line_feed c h)) refl
 
@@ -402,7 +402,7 @@ module _ {X S H : Type 0} (means : Means X S H) (rules : Rules) where
       ∙ ap (drop (length (run ++ c ∷ []))) (sym (append_assoc run (c ∷ []) more))
       ∙ drop_at (run ++ c ∷ []) more (length (run ++ c ∷ [])) refl in
       trace-ended_step stand s line last run c more same (ends-held run c ends) decides ends
-      ∙ ap (λ l. with_messages l (trace means.step means.reply means.foreign rules (stepped means.step s l) line last (opened_behind stand found run) more))
+      ∙ ap (λ l. with_messages l (trace means.step means.reply means.foreign rules (stepped means.step s l) line last (opened_after stand found run) more))
       (ap (on_line line) (tokens-late stand found run ∙ ap (λ l. told_of stand found ++ text_in stand l) none ∙ ap (λ l. told_of stand found ++ l) (text_in-nil stand) ∙ append-nil (told_of stand found)))
       ∙ ap (λ l. with_messages M (trace means.step means.reply means.foreign rules (stepped means.step s M) line last (opened_in stand l) more)) (ap (λ l. characters_in found ++ l) none ∙ append-nil (characters_in found))
       ∙ ap (λ l. with_messages M (trace means.step means.reply means.foreign rules (stepped means.step s M) line last (opened_in stand (characters_in found)) l)) (sym rest)
@@ -411,7 +411,7 @@ module _ {X S H : Type 0} (means : Means X S H) (rules : Rules) where
       let M : List Message = on_line line (told_of stand found) in
       let held : List ℕ = drop found.taken run in
       let N : List Message = on_line line (text_in stand held) in
-      let later : Open = opened_behind stand found run in
+      let later : Open = opened_after stand found run in
       trace-settles means.step means.reply means.foreign rules s line last (InReference stand run) later (late_tokens stand found run) c more
       (step-decides stand run c (means.foreign s) decides ends) (λ other. brought-tells rules other later c _ (decided-in stand (characters_in found ++ held)) refl)
       ∙ ap (λ l. with_messages l (trace means.step means.reply means.foreign rules (stepped means.step s l) line last later (c ∷ more))) (ap (on_line line) (tokens-late stand found run) ∙ on_line-append line (told_of stand found) (text_in stand held))
@@ -422,7 +422,7 @@ module _ {X S H : Type 0} (means : Means X S H) (rules : Rules) where
   -- a reference after its `&`: by what is held of the text F and the character after that
   pub trace-reference : (stand : Stand) (s : S) (line : ℕ) (last F : List ℕ) (c : ℕ) (more : List ℕ) → takes_reference stand ≡ true → IsLine line
       → All (λ entry. IsTrue (is_plain_name entry.name)) rules.names
-      → behind_while (is_undecided rules.names) [] F ≡ c ∷ more
+      → after_while (is_undecided rules.names) [] F ≡ c ∷ more
       → let found : Found = reference rules (in_value stand) (run_while (is_undecided rules.names) [] F) (Some c) in
       let M : List Message = on_line line (told_of stand found) in
       trace means.step means.reply means.foreign rules s line last (InReference stand []) F
@@ -436,7 +436,7 @@ module _ {X S H : Type 0} (means : Means X S H) (rules : Rules) where
       let parts : run ++ c ∷ more ≡ F = ap (λ l. run ++ l) (sym next) ∙ while-parts (is_undecided rules.names) [] F in
       trace-run stand s line last [] F same all
       ∙ ap (trace means.step means.reply means.foreign rules s line last (InReference stand run)) next
-      ∙ trace-decided stand s line last run c more takes same all (behind-decides (is_undecided rules.names) [] F c more next) (ends_number run c) refl
+      ∙ trace-decided stand s line last run c more takes same all (later-decides (is_undecided rules.names) [] F c more next) (ends_number run c) refl
       ∙ ap (λ l. with_messages M (trace means.step means.reply means.foreign rules (stepped means.step s M) line last (opened_in stand (characters_in found)) (drop found.taken l))) parts
 
   -- ---- an `&` between items
@@ -486,10 +486,10 @@ module _ {X S H : Type 0} (means : Means X S H) (rules : Rules) where
   pub record DecidedIn (F : List ℕ) : Type 0 where
     pub c : ℕ
     pub more : List ℕ
-    pub next : behind_while (is_undecided rules.names) [] F ≡ c ∷ more
+    pub next : after_while (is_undecided rules.names) [] F ≡ c ∷ more
     pub is : deciding_in rules.names F ≡ Some c
 
-  pub decided-by : (F rest : List ℕ) → behind_while (is_undecided rules.names) [] F ≡ rest → is_none (deciding_in rules.names F) ≡ false → DecidedIn F
+  pub decided-by : (F rest : List ℕ) → after_while (is_undecided rules.names) [] F ≡ rest → is_none (deciding_in rules.names F) ≡ false → DecidedIn F
   decided-by F [] e h = absurd (false≢true (sym h ∙ ap (λ l. is_none (first_or l None)) e))
   decided-by F (c ∷ more) e h = record { c = c; more = more; next = e; is = ap (λ l. first_or l None) e }
 
@@ -504,9 +504,9 @@ module _ {X S H : Type 0} (means : Means X S H) (rules : Rules) where
       ∙ ap (λ l. list_all is_held_character (take found.taken l)) (sym parts) ∙ taken-held v run d.c d.more all (ends_number run d.c) refl
 
   pub reference-before_all : (Z : List ℕ) (K : Start) (s : S) (Y : List ℕ) (mode : Mode) (F : List ℕ) → IsTable rules.names → IsReferenceIn rules K Y Z mode F
-      → TellsBefore means rules Z K s Y (on_line (line_after K.input (ampersand ∷ [])) (told_of (InText mode) (found_in rules false F))) (start_behind K Y (Between mode) K.last_start_tag)
+      → TellsBefore means rules Z K s Y (on_line (line_after K.input (ampersand ∷ [])) (told_of (InText mode) (found_in rules false F))) (start_beyond K Y (Between mode) K.last_start_tag)
   reference-before_all Z K s Y mode F table one =
-      let d : DecidedIn F = decided-by F (behind_while (is_undecided rules.names) [] F) refl one.decided in
+      let d : DecidedIn F = decided-by F (after_while (is_undecided rules.names) [] F) refl one.decided in
       let run : List ℕ = held_in rules.names F in
       let found : Found = reference rules false run (Some d.c) in
       let same_found : found_in rules false F ≡ found = ap (reference rules false run) d.is in
@@ -517,30 +517,30 @@ module _ {X S H : Type 0} (means : Means X S H) (rules : Rules) where
       let parts : run ++ d.c ∷ d.more ≡ F = ap (λ l. run ++ l) (sym d.next) ∙ while-parts (is_undecided rules.names) [] F in
       let taken : list_all is_held_character (take found.taken F) ≡ true =
       ap (λ l. list_all is_held_character (take found.taken l)) (sym parts) ∙ taken-held false run d.c d.more all (ends_number run d.c) refl in
-      let behind : line_after (input_after K.input Y) [] ≡ line =
+      let afterwards : line_after (input_after K.input Y) [] ≡ line =
       input_after-line_none K.input Y
       ∙ ap (lines_past (line_after K.input [])) (one.text ∙ ap (λ f. ampersand ∷ take f.taken F) same_found)
       ∙ lines-first (line_after K.input []) (take found.taken F) ∙ ap (λ n. lines_past n (take found.taken F)) past ∙ lines-same line (take found.taken F) same taken in
       let M : List Message = on_line line (told_of (InText mode) found) in
-      subst (λ f. TellsBefore means rules Z K s Y (on_line line (told_of (InText mode) f)) (start_behind K Y (Between mode) K.last_start_tag)) (sym same_found)
+      subst (λ f. TellsBefore means rules Z K s Y (on_line line (told_of (InText mode) f)) (start_beyond K Y (Between mode) K.last_start_tag)) (sym same_found)
       (trace-before means rules Z K s Y M (Between mode)
       (rw (one.starts, normalised-append K.input Y Z, one.text, one.next, take-append-drop (found_in rules false F).taken F)
       (trace-ampersand means.step means.reply means.foreign rules mode s (line_after K.input []) K.last_start_tag F one.has
       ∙ ap (λ n. trace means.step means.reply means.foreign rules s n K.last_start_tag (InReference (InText mode) []) F) past
       ∙ trace-reference (InText mode) s line K.last_start_tag F d.c d.more (has-takes mode one.has) same table.plain d.next
-      ∙ rw (behind, same_found) refl)))
+      ∙ rw (afterwards, same_found) refl)))
 
   -- an `&` and a text that leaves it undecided
-  pub none-behind : (F rest : List ℕ) → behind_while (is_undecided rules.names) [] F ≡ rest → is_none (deciding_in rules.names F) ≡ true → behind_while (is_undecided rules.names) [] F ≡ []
-  none-behind F [] e h = e
-  none-behind F (c ∷ more) e h = absurd (false≢true (ap (λ l. is_none (first_or l None)) (sym e) ∙ h))
+  pub none-after : (F rest : List ℕ) → after_while (is_undecided rules.names) [] F ≡ rest → is_none (deciding_in rules.names F) ≡ true → after_while (is_undecided rules.names) [] F ≡ []
+  none-after F [] e h = e
+  none-after F (c ∷ more) e h = absurd (false≢true (ap (λ l. is_none (first_or l None)) (sym e) ∙ h))
 
   pub trace-open_reference : (mode : Mode) (s : S) (line : ℕ) (last F : List ℕ) → has_references mode ≡ true → IsLine (line_past line ampersand)
       → All (λ entry. IsTrue (is_plain_name entry.name)) rules.names → is_none (deciding_in rules.names F) ≡ true
       → trace means.step means.reply means.foreign rules s line last (Between mode) (ampersand ∷ F) ≡ record { messages = []; opened = InReference (InText mode) F; last_start_tag = last }
   unfolding trace
   trace-open_reference mode s line last F has same plain undecided =
-      let none : behind_while (is_undecided rules.names) [] F ≡ [] = none-behind F (behind_while (is_undecided rules.names) [] F) refl undecided in
+      let none : after_while (is_undecided rules.names) [] F ≡ [] = none-after F (after_while (is_undecided rules.names) [] F) refl undecided in
       let run : List ℕ = held_in rules.names F in
       let whole : run ≡ F = sym (append-nil run) ∙ ap (λ l. run ++ l) (sym none) ∙ while-parts (is_undecided rules.names) [] F in
       trace-ampersand means.step means.reply means.foreign rules mode s line last F has

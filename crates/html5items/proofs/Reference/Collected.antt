@@ -23,17 +23,17 @@ use Rattle.markup5ever.specs.NamedReferences.{IsTable}
 -- ---- texts after messages
 
 -- a text after messages without one
-from_first-behind : (line : ℕ) (token : Told) (tokens : List Told) (text : List ℕ) → HasNoText (token ∷ tokens)
+from_first-after : (line : ℕ) (token : Told) (tokens : List Told) (text : List ℕ) → HasNoText (token ∷ tokens)
     → from_first_with_text (record { token = token; line = line }) (on_line line tokens) text ≡ on_line line (token ∷ tokens) ++ kept_text text ∷ []
 unfolding from_first_with_text
-from_first-behind line token [] text none = rw (none.0) refl
-from_first-behind line token (next ∷ tokens) text none =
-    ap (λ l. record { token = token; line = line } ∷ l) (from_first-behind line next tokens text none.1)
+from_first-after line token [] text none = rw (none.0) refl
+from_first-after line token (next ∷ tokens) text none =
+    ap (λ l. record { token = token; line = line } ∷ l) (from_first-after line next tokens text none.1)
 
-with_text-behind : (line : ℕ) (tokens : List Told) (text : List ℕ) → HasNoText tokens → with_text (on_line line tokens) text ≡ on_line line tokens ++ kept_text text ∷ []
+with_text-after : (line : ℕ) (tokens : List Told) (text : List ℕ) → HasNoText tokens → with_text (on_line line tokens) text ≡ on_line line tokens ++ kept_text text ∷ []
 unfolding with_text
-with_text-behind line [] text none = refl
-with_text-behind line (token ∷ tokens) text none = from_first-behind line token tokens text none
+with_text-after line [] text none = refl
+with_text-after line (token ∷ tokens) text none = from_first-after line token tokens text none
 
 -- a text after another
 with_text-joined : (M : List Message) (before text : List ℕ) → with_text (M ++ kept_text before ∷ []) text ≡ M ++ kept_text (before ++ text) ∷ []
@@ -88,7 +88,7 @@ unfolding stepped
 collected-texts c line tokens first more e none =
     let m : Message = record { token = Text (encode_utf8 first); line = line } in
     let now : with_message c.messages (Some (encode_utf8 first)) m ≡ on_line line tokens ++ kept_text (encode_utf8 first) ∷ [] =
-    rw e (with_message-character (on_line line tokens) first m ∙ with_text-behind line tokens (encode_utf8 first) none) in
+    rw e (with_message-character (on_line line tokens) first m ∙ with_text-after line tokens (encode_utf8 first) none) in
     collected-joined (record c { messages = with_message c.messages (Some (encode_utf8 first)) m }) (on_line line tokens) (encode_utf8 first) line more now
 
 -- errors, characters, and the end

@@ -19,7 +19,7 @@ use Rattle.html5grammar.specs.NormalisedText.{normalised, line_after}
 use Rattle.html5items.specs.Reference.{WrittenReference, x_text, written, is_base, is_base_digit, value_of, reference_errors, reference_characters, reference_tokens, has_references, IsReference}
 use Rattle.html5items.specs.Reference.WrittenReference.{Ampersand, Number, Named}
 use Rattle.html5grammar.specs.Reading.{reading, told, messages, after}
-use Rattle.html5grammar.specs.Reference.{Found, is_x, behind_x, is_number, has_digits, number_value, unended_number, is_invalid_number, invalid_number, character_of_number, number_reference, longest_name, is_ended, second_of, named_reference, reference, semicolon_len, is_undecided, ends_number, characters_in, late_tokens, held_text}
+use Rattle.html5grammar.specs.Reference.{Found, is_x, after_x, is_number, has_digits, number_value, unended_number, is_invalid_number, invalid_number, character_of_number, number_reference, longest_name, is_ended, second_of, named_reference, reference, semicolon_len, is_undecided, ends_number, characters_in, late_tokens, held_text}
 use Rattle.html5grammar.specs.Slice.{tokens_of_late}
 use Rattle.html5grammar.specs.Start.{Start, Mode, Open, Rules}
 use Rattle.html5grammar.specs.Start.Mode.{Data, Plain, RawText, Cdata}
@@ -71,10 +71,10 @@ digit-no_x d h = grind (arith, nat_tests)
 
 -- ---- a number as it is written
 
-behind-written : (x : Option ℕ) (digits : List ℕ) → is_base x ≡ true → list_all (is_base_digit x) digits ≡ true → behind_x (x_text x ++ digits) ≡ digits
-behind-written None [] base all = refl
-behind-written None (d ∷ digits) base all = rw (digit-no_x d (and_parts (is_ascii_digit d) (list_all is_ascii_digit digits) all).0) refl
-behind-written (Some x) digits base all = rw base refl
+after-written : (x : Option ℕ) (digits : List ℕ) → is_base x ≡ true → list_all (is_base_digit x) digits ≡ true → after_x (x_text x ++ digits) ≡ digits
+after-written None [] base all = refl
+after-written None (d ∷ digits) base all = rw (digit-no_x d (and_parts (is_ascii_digit d) (list_all is_ascii_digit digits) all).0) refl
+after-written (Some x) digits base all = rw base refl
 
 value-written : (x : Option ℕ) (digits : List ℕ) → is_base x ≡ true → list_all (is_base_digit x) digits ≡ true → number_value (x_text x ++ digits) ≡ value_of x digits
 unfolding number_value
@@ -165,7 +165,7 @@ end-found rules mode held found has e taken = rw (e, told_at_end-references rule
 pub has_digits-written : (x : Option ℕ) (digits : List ℕ) → is_base x ≡ true → not (nat_eq (length digits) 0) ≡ true → list_all (is_base_digit x) digits ≡ true
     → has_digits (x_text x ++ digits) ≡ true
 unfolding has_digits
-has_digits-written x digits base some all = rw (behind-written x digits base all) some
+has_digits-written x digits base some all = rw (after-written x digits base all) some
 
 -- what follows a number decides whether a semicolon is missing
 abbrev pub found_number : Bool → Option ℕ → List ℕ → Option ℕ → Found
@@ -221,11 +221,11 @@ unfolding is_bad_character
 good-semicolon = refl
 
 -- what is open after the last character: only the semicolon of a number decides a reference
-abbrev pub open_behind_reference : Mode → WrittenReference → Open
-open_behind_reference mode Ampersand = InReference (InText mode) []
-open_behind_reference mode (Number x digits false) = InReference (InText mode) (number_sign ∷ (x_text x ++ digits))
-open_behind_reference mode (Number x digits true) = Between mode
-open_behind_reference mode (Named entry) = InReference (InText mode) entry.name
+abbrev pub open_after_reference : Mode → WrittenReference → Open
+open_after_reference mode Ampersand = InReference (InText mode) []
+open_after_reference mode (Number x digits false) = InReference (InText mode) (number_sign ∷ (x_text x ++ digits))
+open_after_reference mode (Number x digits true) = Between mode
+open_after_reference mode (Named entry) = InReference (InText mode) entry.name
 
 module _ {S H : Type 0} (step : S → Told → ℕ → S) (reply : S → Told → ℕ → Reply H) (foreign : S → Bool) (rules : Rules) where
   trace-held : (mode : Mode) (s : S) (line : ℕ) (last held run more : List ℕ) → Holds rules.names held run
@@ -312,7 +312,7 @@ module _ {S H : Type 0} (step : S → Told → ℕ → S) (reply : S → Told �
       (rw (last, told_at_end-references rules.exact mode has) (sym (map-append (λ (token : Told). record { token = token; line = line }) (tokens_in found) (End ∷ []))))
 
   reads-reference : (K : Start) (s : S) (X : List ℕ) (written_as : WrittenReference) → IsTable rules.names → (one : IsReference rules.names K X written_as)
-      → Reads K s X (reference_tokens rules.exact written_as) (open_behind_reference one.mode written_as)
+      → Reads K s X (reference_tokens rules.exact written_as) (open_after_reference one.mode written_as)
   unfolding written reference_tokens reference_errors reference_characters reference is_undecided ends_number unended_number Holds
   reads-reference K s X Ampersand table one =
       reads-held one.mode K s X [] (record { taken = 0; errors = []; first = ampersand; more = [] }) one.has one.starts one.text tt refl refl
@@ -342,5 +342,5 @@ module _ {S H : Type 0} (step : S → Told → ℕ → S) (reply : S → Told �
       ∙ ap (λ text. on_line (line_after K.input text) (reference_tokens rules.exact written_as)) one.text
 
   pub after-reference : (K : Start) (s : S) (X : List ℕ) (written_as : WrittenReference) → IsTable rules.names → (one : IsReference rules.names K X written_as)
-      → (after step reply foreign rules K s X).opened ≡ open_behind_reference one.mode written_as
+      → (after step reply foreign rules K s X).opened ≡ open_after_reference one.mode written_as
   after-reference K s X written_as table one = (reads-reference K s X written_as table one).leaves

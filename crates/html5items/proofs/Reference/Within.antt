@@ -8,7 +8,7 @@ use Rattle.std.proofs.lemmas.Bool.{and_parts, not-true}
 use Rattle.std.proofs.lemmas.List.{append-nil}
 use Rattle.html5ever_interface.specs.Sink.{Means, stepped, on_line}
 use Rattle.html5ever_interface.specs.Token.Told.{Error}
-use Rattle.html5items.specs.Anywhere.{TellsBefore, TellsByItself, start_behind, is_decided_by, errors_within, told_within, messages_within}
+use Rattle.html5items.specs.Anywhere.{TellsBefore, TellsByItself, start_beyond, is_decided_by, errors_within, told_within, messages_within}
 use Rattle.html5grammar.specs.Characters.{number_sign, ampersand, semicolon}
 use Rattle.html5grammar.specs.ErrorText.{where_true}
 use Rattle.html5grammar.specs.NormalisedText.{normalised, line_after, input_after}
@@ -71,7 +71,7 @@ module _ {X S H : Type 0} (means : Means X S H) (rules : Rules) where
       → has_references mode ≡ true → K.opened ≡ Between mode → normalised K.input Y ≡ ampersand ∷ run → normalised (input_after K.input Y) Z ≡ c ∷ more → Holds rules.names [] run
       → is_undecided rules.names (run ++ c ∷ []) ≡ false → ends_number run c ≡ false
       → reference rules false run (Some c) ≡ found → drop found.taken run ≡ []
-      → TellsBefore means rules Z K s Y (on_line (line_after K.input (ampersand ∷ run)) (tokens_in found)) (start_behind K Y (Between mode) K.last_start_tag)
+      → TellsBefore means rules Z K s Y (on_line (line_after K.input (ampersand ∷ run)) (tokens_in found)) (start_beyond K Y (Between mode) K.last_start_tag)
   before-held mode Z K s Y run c more found has starts text next holds decides ends is taken =
       let line : ℕ = line_after K.input (ampersand ∷ run) in
       let same : line_after (input_after K.input Y) [] ≡ line =
@@ -83,7 +83,7 @@ module _ {X S H : Type 0} (means : Means X S H) (rules : Rules) where
 
   -- a number that has its semicolon is decided
   pub number-by_itself : (K : Start) (s : S) (Y : List ℕ) (x : Option ℕ) (digits : List ℕ) → (one : IsReference rules.names K Y (Number x digits true))
-      → TellsByItself means rules K s Y (messages_within rules.exact K.input (Number x digits true)) (start_behind K Y (Between one.mode) K.last_start_tag)
+      → TellsByItself means rules K s Y (messages_within rules.exact K.input (Number x digits true)) (start_beyond K Y (Between one.mode) K.last_start_tag)
   unfolding written errors_within reference_characters reference is_undecided ends_number unended_number line_past
   number-by_itself K s Y x digits one =
       let p = and_parts (is_base x) _ one.is_reference in
@@ -101,7 +101,7 @@ module _ {X S H : Type 0} (means : Means X S H) (rules : Rules) where
 
   pub reference-before : (Z : List ℕ) (K : Start) (s : S) (Y : List ℕ) (written_as : WrittenReference) (c : ℕ) (more : List ℕ) → IsTable rules.names → (one : IsReference rules.names K Y written_as)
       → normalised (input_after K.input Y) Z ≡ c ∷ more → is_decided_by rules.names written_as c ≡ true
-      → TellsBefore means rules Z K s Y (messages_within rules.exact K.input written_as) (start_behind K Y (Between one.mode) K.last_start_tag)
+      → TellsBefore means rules Z K s Y (messages_within rules.exact K.input written_as) (start_beyond K Y (Between one.mode) K.last_start_tag)
   unfolding written errors_within reference_errors reference_characters reference is_decided_by unended_number Holds ends_number
   reference-before Z K s Y Ampersand c more table one next decides =
       before-held one.mode Z K s Y [] c more (record { taken = 0; errors = []; first = ampersand; more = [] }) one.has one.starts one.text next tt (not-true (is_undecided rules.names (c ∷ [])) decides) refl refl refl
@@ -112,7 +112,7 @@ module _ {X S H : Type 0} (means : Means X S H) (rules : Rules) where
       let held : List ℕ = number_sign ∷ (x_text x ++ digits) in
       let d = and_parts (not (is_undecided rules.names (held ++ c ∷ []))) (not (c == semicolon)) decides in
       let other : (c == semicolon) ≡ false = not-true (c == semicolon) d.1 in
-      subst (λ l. TellsBefore means rules Z K s Y (on_line (line_after K.input l) (told_within rules.exact (Number x digits false))) (start_behind K Y (Between one.mode) K.last_start_tag))
+      subst (λ l. TellsBefore means rules Z K s Y (on_line (line_after K.input l) (told_within rules.exact (Number x digits false))) (start_beyond K Y (Between one.mode) K.last_start_tag))
       (sym (append-nil (ampersand ∷ held)))
       (before-held one.mode Z K s Y held c more (found_unended rules.exact x digits) one.has one.starts (one.text ∙ append-nil (ampersand ∷ held)) next (Holds-number rules.names x digits p.0 q.1)
       (not-true (is_undecided rules.names (held ++ c ∷ [])) d.0) (unended (x_text x ++ digits) c other)

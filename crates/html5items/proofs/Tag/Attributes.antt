@@ -9,7 +9,7 @@ use lib.Dec.{ltb}
 use lib.Utf8.{encode}
 use Rattle.html5ever_interface.specs.declared.interface.token.TagKind.{TagKind}
 use Rattle.html5grammar.specs.Characters.{equals_sign, is_white_space, name_bytes}
-use Rattle.html5items.specs.Tag.{Value, Part, spell_name, begins_attribute, takes_attribute, is_attribute_name, place_behind_value, place_behind, place_behind_parts, name_shown, repeats, has_repeated, kept, repeated_error, tag_with}
+use Rattle.html5items.specs.Tag.{Value, Part, spell_name, begins_attribute, takes_attribute, is_attribute_name, place_after_value, place_after, place_after_parts, name_shown, repeats, has_repeated, kept, repeated_error, tag_with}
 use Rattle.html5items.specs.Spelled.{spell, spell_silent}
 use Rattle.html5items.specs.Tag.Part.{Blank, Solidus, Name, Attribute}
 use Rattle.html5items.specs.Tag.Value.{InDoubleQuotes, InSingleQuotes, Bare}
@@ -19,7 +19,7 @@ use Rattle.html5grammar.specs.Start.Place.{InName, BeforeAttribute, InAttributeN
 use Rattle.html5grammar.specs.Start.Open.{InTag}
 use Rattle.html5grammar.specs.Tag.{attribute, has_attribute, repeats_attribute, with_last_attribute, duplicate_error, in_attribute_name, attribute_name_error, with_last_name, place_error, first_error}
 use Rattle.html5grammar.specs.Machine.{step_at, tag_step, attribute_name_step, after_attribute_name_step}
-use Rattle.html5items.proofs.Tag.Steps.{can_end, goes-attribute_name, goes-space_behind_name, goes-space_before_value, step-blank, step-first}
+use Rattle.html5items.proofs.Tag.Steps.{can_end, goes-attribute_name, goes-space_after_name, goes-space_before_value, step-blank, step-first}
 use Rattle.html5items.proofs.Goes.{Goes, Goes-append}
 use Rattle.html5grammar.proofs.Slices.{with_last_name-cons}
 use Rattle.markup5ever.specs.Names.{AttributeOf}
@@ -121,17 +121,17 @@ name-some first rest = (IsFilled-encode _).some _
 
 module _ (exact : Bool) where
   -- white space and `=` after an attribute's name
-  pub goes-equals : (tag : OpenTag) (space behind : List ℕ) → list_all is_white_space space ≡ true → list_all is_white_space behind ≡ true
-      → Goes exact (InTag InAttributeName tag) (spell_silent space ++ spell_silent (equals_sign ∷ behind)) (InTag BeforeValue tag)
+  pub goes-equals : (tag : OpenTag) (space afterwards : List ℕ) → list_all is_white_space space ≡ true → list_all is_white_space afterwards ≡ true
+      → Goes exact (InTag InAttributeName tag) (spell_silent space ++ spell_silent (equals_sign ∷ afterwards)) (InTag BeforeValue tag)
   unfolding Goes step_at tag_step attribute_name_step after_attribute_name_step in_attribute_name is_white_space place_error
-  goes-equals tag [] behind white_space white_behind = (InTag BeforeValue tag, refl, goes-space_before_value exact tag behind white_behind)
-  goes-equals tag (c ∷ space) behind white_space white_behind =
+  goes-equals tag [] afterwards white_space white_after = (InTag BeforeValue tag, refl, goes-space_before_value exact tag afterwards white_after)
+  goes-equals tag (c ∷ space) afterwards white_space white_after =
       let p = and_parts (is_white_space c) (list_all is_white_space space) white_space in (
         InTag AfterAttributeName tag,
         step-blank exact InAttributeName tag c refl p.0,
-        Goes-append exact (InTag AfterAttributeName tag) (InTag AfterAttributeName tag) (InTag BeforeValue tag) (spell_silent space) (spell_silent (equals_sign ∷ behind))
-            (goes-space_behind_name exact tag space p.1)
-            (InTag BeforeValue tag, refl, goes-space_before_value exact tag behind white_behind),
+        Goes-append exact (InTag AfterAttributeName tag) (InTag AfterAttributeName tag) (InTag BeforeValue tag) (spell_silent space) (spell_silent (equals_sign ∷ afterwards))
+            (goes-space_after_name exact tag space p.1)
+            (InTag BeforeValue tag, refl, goes-space_before_value exact tag afterwards white_after),
       )
 
   module _ (kind : TagKind) (name : List ℕ) where
@@ -152,13 +152,13 @@ module _ (exact : Bool) where
 
 -- parts end at a place where the tag can end
 
-can_end-value : (value : Value) → can_end (place_behind_value value) ≡ true
+can_end-value : (value : Value) → can_end (place_after_value value) ≡ true
 can_end-value (InDoubleQuotes run) = refl
 can_end-value (InSingleQuotes run) = refl
 can_end-value (Bare []) = refl
 can_end-value (Bare (c ∷ run)) = refl
 
-can_end-part : (place : Place) (part : Part) → can_end (place_behind place part) ≡ true
+can_end-part : (place : Place) (part : Part) → can_end (place_after place part) ≡ true
 can_end-part InName (Blank c) = refl
 can_end-part BeforeAttribute (Blank c) = refl
 can_end-part InAttributeName (Blank c) = refl
@@ -169,9 +169,9 @@ can_end-part AfterQuotedValue (Blank c) = refl
 can_end-part AfterSolidus (Blank c) = refl
 can_end-part place Solidus = refl
 can_end-part place (Name first rest) = refl
-can_end-part place (Attribute first rest space behind value) = can_end-value value
+can_end-part place (Attribute first rest space afterwards value) = can_end-value value
 
-pub can_end-parts : (place : Place) (parts : List Part) → can_end place ≡ true → can_end (place_behind_parts place parts) ≡ true
-unfolding place_behind_parts
+pub can_end-parts : (place : Place) (parts : List Part) → can_end place ≡ true → can_end (place_after_parts place parts) ≡ true
+unfolding place_after_parts
 can_end-parts place [] h = h
-can_end-parts place (part ∷ parts) h = can_end-parts (place_behind place part) parts (can_end-part place part)
+can_end-parts place (part ∷ parts) h = can_end-parts (place_after place part) parts (can_end-part place part)

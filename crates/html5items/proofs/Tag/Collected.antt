@@ -9,7 +9,7 @@ use Rattle.html5ever_interface.specs.Token.Told.{End}
 use Rattle.html5ever_interface.specs.declared.states.AttrValueKind.TheVariants.{SingleQuoted, DoubleQuoted, Unquoted}
 use Rattle.html5ever_interface.specs.declared.states.State.TheVariants as state
 use Rattle.html5grammar.specs.NormalisedText.{line_after}
-use Rattle.html5items.specs.Tag.{Value, Part, WrittenTag, spell_value, spell_name, spell_part, spell_parts, opening, place_behind, attributes_with, repeated_error, all_attributes, end_place, end_error, end_errors, unclosed, written, spelled, tag_messages, IsTag, spell_run, value_error, found_in_value, body}
+use Rattle.html5items.specs.Tag.{Value, Part, WrittenTag, spell_value, spell_name, spell_part, spell_parts, opening, place_after, attributes_with, repeated_error, all_attributes, end_place, end_error, end_errors, unclosed, written, spelled, tag_messages, IsTag, spell_run, value_error, found_in_value, body}
 use Rattle.html5items.specs.Spelled.{spell, spell_silent, spelled_messages}
 use Rattle.html5items.specs.Tag.Part.{Blank, Solidus, Name, Attribute}
 use Rattle.html5items.specs.Tag.Value.{InDoubleQuotes, InSingleQuotes, Bare}
@@ -115,10 +115,10 @@ TellNoText-part : (rules : Rules) (place : Place) (before : List AttributeOf) (p
 TellNoText-part rules place before (Blank c) = (HasNoText-place rules.exact place c, tt)
 TellNoText-part rules place before Solidus = (HasNoText-place rules.exact place _, tt)
 TellNoText-part rules place before (Name first rest) = TellNoText-name rules.exact place before first rest
-TellNoText-part rules place before (Attribute first rest space behind value) =
+TellNoText-part rules place before (Attribute first rest space afterwards value) =
     TellNoText-append (spell_name rules.exact place before first rest) _ (TellNoText-name rules.exact place before first rest)
-    (TellNoText-append (spell_silent space ++ spell_silent (equals_sign ∷ behind)) (spell_value rules value)
-    (TellNoText-append (spell_silent space) (spell_silent (equals_sign ∷ behind)) (TellNoText-silent space) (TellNoText-silent (equals_sign ∷ behind)))
+    (TellNoText-append (spell_silent space ++ spell_silent (equals_sign ∷ afterwards)) (spell_value rules value)
+    (TellNoText-append (spell_silent space) (spell_silent (equals_sign ∷ afterwards)) (TellNoText-silent space) (TellNoText-silent (equals_sign ∷ afterwards)))
     (TellNoText-value rules value))
 
 TellNoText-parts : (rules : Rules) (place : Place) (before : List AttributeOf) (parts : List Part) → TellNoText (spell_parts rules place before parts)
@@ -126,7 +126,7 @@ unfolding spell_parts
 TellNoText-parts rules place before [] = tt
 TellNoText-parts rules place before (part ∷ parts) =
     TellNoText-append (spell_part rules place before part) _ (TellNoText-part rules place before part)
-    (TellNoText-parts rules (place_behind place part) (attributes_with rules before part) parts)
+    (TellNoText-parts rules (place_after place part) (attributes_with rules before part) parts)
 
 HasNoText-end_error : (exact : Bool) (place : Place) → HasNoText (end_error exact place)
 HasNoText-end_error exact InName = tt

@@ -7,7 +7,7 @@ use Rattle.std.proofs.lemmas.List.{append_assoc, append-nil}
 use Rattle.html5ever_interface.specs.declared.states.AttrValueKind.{AttrValueKind}
 use Rattle.html5ever_interface.specs.declared.states.AttrValueKind.TheVariants.{Unquoted, SingleQuoted, DoubleQuoted}
 use Rattle.html5grammar.specs.Characters.{quotation_mark, apostrophe, solidus, equals_sign, greater_than, is_white_space}
-use Rattle.html5items.specs.Tag.{Value, Part, value_text, part_text, place_behind, place_behind_value, place_behind_parts, takes_blank, takes_solidus, takes_attribute, is_attribute_name, begins_attribute, is_in_value, is_value, is_open_value, open_quote, needs_stop, can_stand, can_follow}
+use Rattle.html5items.specs.Tag.{Value, Part, value_text, part_text, place_after, place_after_value, place_after_parts, takes_blank, takes_solidus, takes_attribute, is_attribute_name, begins_attribute, is_in_value, is_value, is_open_value, open_quote, needs_stop, can_stand, can_follow}
 use Rattle.html5items.specs.Tag.Part.{Blank, Solidus, Name, Attribute}
 use Rattle.html5items.specs.Tag.Value.{InDoubleQuotes, InSingleQuotes, Bare}
 use Rattle.html5grammar.specs.Start.{Place}
@@ -17,13 +17,13 @@ use Rattle.html5grammar.specs.Tag.{in_tag_name, in_attribute_name, quote_of}
 -- a value that the text ends, after an attribute's name
 pub record OpenValue (text : List ℕ) : Type 0 where
   pub space : List ℕ
-  pub behind : List ℕ
+  pub afterwards : List ℕ
   pub kind : AttrValueKind
   pub run : List ℕ
   pub space_white : list_all is_white_space space ≡ true
-  pub behind_white : list_all is_white_space behind ≡ true
+  pub after_white : list_all is_white_space afterwards ≡ true
   pub is_open : is_open_value kind run ≡ true
-  pub parts : text ≡ space ++ (equals_sign ∷ behind ++ (open_quote kind ++ run))
+  pub parts : text ≡ space ++ (equals_sign ∷ afterwards ++ (open_quote kind ++ run))
 
 -- how parts end: with `>`, with the text, or within a value in quotes
 pub data Ending (place : Place) (text : List ℕ) : Type 0 where
@@ -37,20 +37,20 @@ pub record Parts (place : Place) (text : List ℕ) : Type 0 where
   pub tail : List ℕ
   pub follow : can_follow place list ≡ true
   pub parts : text ≡ flat_map part_text list ++ tail
-  pub ending : Ending (place_behind_parts place list) tail
+  pub ending : Ending (place_after_parts place list) tail
 
 -- an attribute's value, from the white space after its name on
 pub data Assigned (text : List ℕ) : Type 0 where
-  Given : (space behind : List ℕ) (value : Value) (later : List ℕ) → list_all is_white_space space ≡ true → list_all is_white_space behind ≡ true → is_value value ≡ true
-      → text ≡ (space ++ (equals_sign ∷ behind ++ value_text value)) ++ later → Parts (place_behind_value value) later → Assigned text
+  Given : (space afterwards : List ℕ) (value : Value) (later : List ℕ) → list_all is_white_space space ≡ true → list_all is_white_space afterwards ≡ true → is_value value ≡ true
+      → text ≡ (space ++ (equals_sign ∷ afterwards ++ value_text value)) ++ later → Parts (place_after_value value) later → Assigned text
   Open : OpenValue text → Assigned text
 
 -- the same from the `=` on, after it
 pub data ValueRest (text : List ℕ) : Type 0 where
-  GivenRest : (behind : List ℕ) (value : Value) (later : List ℕ) → list_all is_white_space behind ≡ true → is_value value ≡ true
-      → text ≡ (behind ++ value_text value) ++ later → Parts (place_behind_value value) later → ValueRest text
-  OpenRest : (behind : List ℕ) (kind : AttrValueKind) (run : List ℕ) → list_all is_white_space behind ≡ true → is_open_value kind run ≡ true
-      → text ≡ behind ++ (open_quote kind ++ run) → ValueRest text
+  GivenRest : (afterwards : List ℕ) (value : Value) (later : List ℕ) → list_all is_white_space afterwards ≡ true → is_value value ≡ true
+      → text ≡ (afterwards ++ value_text value) ++ later → Parts (place_after_value value) later → ValueRest text
+  OpenRest : (afterwards : List ℕ) (kind : AttrValueKind) (run : List ℕ) → list_all is_white_space afterwards ≡ true → is_open_value kind run ≡ true
+      → text ≡ afterwards ++ (open_quote kind ++ run) → ValueRest text
 
 pub data QuotedRest (kind : AttrValueKind) (text : List ℕ) : Type 0 where
   Quoted : (run later : List ℕ) → list_all (is_in_value kind) run ≡ true → text ≡ run ++ quote_of kind ∷ later → Parts AfterQuotedValue later → QuotedRest kind text
@@ -89,11 +89,11 @@ pub record All (text : List ℕ) : Type 0 where
 -- ---- building
 
 parts-end : (place : Place) (text : List ℕ) → Ending place text → Parts place text
-unfolding can_follow place_behind_parts
+unfolding can_follow place_after_parts
 parts-end place text ending = record { list = []; tail = text; follow = refl; parts = refl; ending = ending }
 
-parts-cons : (place : Place) (part : Part) (text : List ℕ) → can_stand place part ≡ true → Parts (place_behind place part) text → Parts place (part_text part ++ text)
-unfolding can_follow place_behind_parts
+parts-cons : (place : Place) (part : Part) (text : List ℕ) → can_stand place part ≡ true → Parts (place_after place part) text → Parts place (part_text part ++ text)
+unfolding can_follow place_after_parts
 parts-cons place part text h p = record {
   list = part ∷ p.list;
   tail = p.tail;
@@ -111,31 +111,31 @@ attribute-named place first text takes begins n = by n.more
 
     by : Parts InAttributeName n.later ⊎ Assigned n.later → Parts place (first ∷ text)
     by (inl p) = subst (λ l. Parts place (first ∷ l)) (sym n.parts) (parts-cons place (Name first n.rest) n.later named p)
-    by (inr (Given space behind value later h g f e p)) =
-        subst (λ l. Parts place (first ∷ l)) (sym (n.parts ∙ ap (λ l. n.rest ++ l) e ∙ sym (append_assoc n.rest (space ++ (equals_sign ∷ behind ++ value_text value)) later)))
-        (parts-cons place (Attribute first n.rest space behind value) later (rw (named, h, g, f) refl) p)
+    by (inr (Given space afterwards value later h g f e p)) =
+        subst (λ l. Parts place (first ∷ l)) (sym (n.parts ∙ ap (λ l. n.rest ++ l) e ∙ sym (append_assoc n.rest (space ++ (equals_sign ∷ afterwards ++ value_text value)) later)))
+        (parts-cons place (Attribute first n.rest space afterwards value) later (rw (named, h, g, f) refl) p)
     by (inr (Open o)) = parts-end place (first ∷ text) (CutWithin first n.rest n.later named o (ap (λ l. first ∷ l) n.parts))
 
 assigned-space : (c : ℕ) (text : List ℕ) → is_white_space c ≡ true → Assigned text → Assigned (c ∷ text)
-assigned-space c text h (Given space behind value later g f e parts p) = Given (c ∷ space) behind value later (rw (h, g) refl) f e (ap (λ l. c ∷ l) parts) p
+assigned-space c text h (Given space afterwards value later g f e parts p) = Given (c ∷ space) afterwards value later (rw (h, g) refl) f e (ap (λ l. c ∷ l) parts) p
 assigned-space c text h (Open o) = Open (record {
   space = c ∷ o.space;
-  behind = o.behind;
+  afterwards = o.afterwards;
   kind = o.kind;
   run = o.run;
   space_white = rw (h, o.space_white) refl;
-  behind_white = o.behind_white;
+  after_white = o.after_white;
   is_open = o.is_open;
   parts = ap (λ l. c ∷ l) o.parts;
 })
 
 assigned-equals : (text : List ℕ) → ValueRest text → Assigned (equals_sign ∷ text)
-assigned-equals text (GivenRest behind value later h g parts p) = Given [] behind value later refl h g (ap (λ l. equals_sign ∷ l) parts) p
-assigned-equals text (OpenRest behind kind run h g parts) = Open (record { space = []; behind = behind; kind = kind; run = run; space_white = refl; behind_white = h; is_open = g; parts = ap (λ l. equals_sign ∷ l) parts })
+assigned-equals text (GivenRest afterwards value later h g parts p) = Given [] afterwards value later refl h g (ap (λ l. equals_sign ∷ l) parts) p
+assigned-equals text (OpenRest afterwards kind run h g parts) = Open (record { space = []; afterwards = afterwards; kind = kind; run = run; space_white = refl; after_white = h; is_open = g; parts = ap (λ l. equals_sign ∷ l) parts })
 
 value-space : (c : ℕ) (text : List ℕ) → is_white_space c ≡ true → ValueRest text → ValueRest (c ∷ text)
-value-space c text h (GivenRest behind value later g f parts p) = GivenRest (c ∷ behind) value later (rw (h, g) refl) f (ap (λ l. c ∷ l) parts) p
-value-space c text h (OpenRest behind kind run g f parts) = OpenRest (c ∷ behind) kind run (rw (h, g) refl) f (ap (λ l. c ∷ l) parts)
+value-space c text h (GivenRest afterwards value later g f parts p) = GivenRest (c ∷ afterwards) value later (rw (h, g) refl) f (ap (λ l. c ∷ l) parts) p
+value-space c text h (OpenRest afterwards kind run g f parts) = OpenRest (c ∷ afterwards) kind run (rw (h, g) refl) f (ap (λ l. c ∷ l) parts)
 
 value-double : (text : List ℕ) → QuotedRest DoubleQuoted text → ValueRest (quotation_mark ∷ text)
 value-double text (Quoted run later h parts p) = GivenRest [] (InDoubleQuotes run) later refl h (ap (λ l. quotation_mark ∷ l) (parts ∙ sym (append_assoc run (quotation_mark ∷ []) later))) p
@@ -177,7 +177,7 @@ between-stops BeforeValue h = absurd (false≢true h)
 between-stops (InValue kind) h = absurd (false≢true h)
 
 all-nil : All []
-unfolding can_follow place_behind_parts
+unfolding can_follow place_after_parts
 all-nil = record {
   at = λ place h. parts-end place [] (CutOff (between-stops place h) refl);
   name = name-ends [] (inl (parts-end InAttributeName [] (CutOff refl refl)));
@@ -233,7 +233,7 @@ at-cons place c text false true s e f h between all = between-blank place c text
 at-cons place c text false false true e f h between all = solidus-at place c text h (between-solidus place between) (all.at AfterSolidus refl)
 at-cons place c text false false false e f h between all = attribute-named place c text (between-takes place c between) (rw (e, f, h) refl) all.name
 
-blank-more : (place : Place) (c : ℕ) (text : List ℕ) → takes_blank place ≡ true → is_white_space c ≡ true → place_behind place (Blank c) ≡ AfterAttributeName → Parts AfterAttributeName text ⊎ Assigned text
+blank-more : (place : Place) (c : ℕ) (text : List ℕ) → takes_blank place ≡ true → is_white_space c ≡ true → place_after place (Blank c) ≡ AfterAttributeName → Parts AfterAttributeName text ⊎ Assigned text
     → Parts place (c ∷ text) ⊎ Assigned (c ∷ text)
 blank-more place c text takes white e (inl p) = inl (parts-cons place (Blank c) text (rw (takes, white) refl) (subst (λ q. Parts q text) (sym e) p))
 blank-more place c text takes white e (inr a) = inr (assigned-space c text white a)

@@ -19,7 +19,7 @@ use Rattle.html5grammar.specs.NormalisedText.{line_after}
 use Rattle.html5items.specs.Tag.{WrittenTag, spell_name, opening, part_text, is_attribute_name, name_shown, end_place, found_in, held_in, deciding_in, is_in_value, is_open_value, open_quote, needs_stop, value_error, spell_open_run, errors_at_end, can_follow, spell_parts, all_attributes, body, OpenAttribute, open_attribute_text, open_written, can_end_in, is_open_written, spell_open_attribute, spell_open_tag, open_tag_at_end}
 use Rattle.html5items.specs.Spelled.{Spelled, spell, spell_silent, spelled_messages}
 use Rattle.html5grammar.specs.Reference.{Found, first_or, reference, is_undecided, characters_in, told_of, with_value}
-use Rattle.html5grammar.specs.Slice.{silent, behind_while}
+use Rattle.html5grammar.specs.Slice.{silent, after_while}
 use Rattle.html5grammar.specs.Start.{Input, OpenTag, Place, Open, Rules}
 use Rattle.html5grammar.specs.Start.Mode.{Data}
 use Rattle.html5grammar.specs.Start.Place.{InName, BeforeAttribute, InAttributeName, AfterAttributeName, BeforeValue, InValue, AfterQuotedValue, AfterSolidus}
@@ -34,7 +34,7 @@ use Rattle.html5items.proofs.Comment.Reading.{spelled-nothing}
 use Rattle.html5items.proofs.Tag.Attributes.{Holds, Holds-none, goes-equals, goes-name_of_attribute, with_attribute}
 use Rattle.html5items.proofs.Goes.{characters, characters-spell, characters-two}
 use Rattle.html5grammar.proofs.Traces.{trace, with_messages}
-use Rattle.html5items.proofs.Reference.Anywhere.{is_held_character, held-undecided, held-good, DecidedIn, decided-by, taken-plain, trace-reference, trace-run, none-behind, undecided-run, is-line, tokens-late}
+use Rattle.html5items.proofs.Reference.Anywhere.{is_held_character, held-undecided, held-good, DecidedIn, decided-by, taken-plain, trace-reference, trace-run, none-after, undecided-run, is-line, tokens-late}
 use Rattle.html5items.proofs.Tag.Parts.{Stops, passes-goes, trace-same, bare-same, Led, passes-parts, characters-parts, name_cells, named_tag, passes-name}
 use Rattle.html5items.proofs.Tag.Values.{Passes, passes-one, passes-append, trace-ampersand_in, messages-reference, line-reference, step-in_value}
 use Rattle.markup5ever.specs.NamedReferences.{is_plain_name}
@@ -123,7 +123,7 @@ module _ {X S H : Type 0} (means : Means X S H) (rules : Rules) where
       → Leaves (InTag (InValue kind) tag) (ampersand ∷ F) (spell_silent (ampersand ∷ F)) ((found_in rules true F).errors ++ end_error_in rules.exact (state_at (InValue kind)) ∷ End ∷ [])
   unfolding trace
   leaves-open kind tag F plain undecided =
-      let none : behind_while (is_undecided rules.names) [] F ≡ [] = none-behind means rules F _ refl undecided in
+      let none : after_while (is_undecided rules.names) [] F ≡ [] = none-after means rules F _ refl undecided in
       let run : List ℕ = held_in rules.names F in
       let whole : run ≡ F = sym (append-nil run) ∙ ap (λ l. run ++ l) (sym none) ∙ while-parts (is_undecided rules.names) [] F in
       let held : list_all is_held_character run ≡ true = held-undecided rules.names run plain (undecided-run means rules F) in
@@ -236,29 +236,29 @@ module _ {X S H : Type 0} (means : Means X S H) (rules : Rules) where
   leaves-attribute : (kind : TagKind) (name : List ℕ) (place : Place) (before : List AttributeOf) (tag : OpenTag) (a : OpenAttribute) → All (λ entry. IsTrue (is_plain_name entry.name)) rules.names
       → Holds kind name before tag → can_end_in place (Some a) ≡ true
       → Leaves (InTag place tag) (open_attribute_text (Some a))
-      (spell_name rules.exact place before a.first a.name ++ ((spell_silent a.space ++ spell_silent (equals_sign ∷ a.behind)) ++ (spell_silent (open_quote a.kind) ++ spell_open_run rules a.kind zero a.run)))
+      (spell_name rules.exact place before a.first a.name ++ ((spell_silent a.space ++ spell_silent (equals_sign ∷ a.afterwards)) ++ (spell_silent (open_quote a.kind) ++ spell_open_run rules a.kind zero a.run)))
       (errors_at_end rules zero a.run ++ end_error_in rules.exact (state_at (InValue a.kind)) ∷ End ∷ [])
   leaves-attribute kind name place before tag a plain holds h =
       let p = and_parts (is_attribute_name place a.first a.name) _ h in
       let q = and_parts (list_all is_white_space a.space) _ p.1 in
-      let r = and_parts (list_all is_white_space a.behind) (is_open_value a.kind a.run) q.1 in
+      let r = and_parts (list_all is_white_space a.afterwards) (is_open_value a.kind a.run) q.1 in
       let named : OpenTag = with_attribute kind name before (name_shown a.first a.name) [] in
       let named_cells : List Spelled = spell_name rules.exact place before a.first a.name in
-      let equals_cells : List Spelled = spell_silent a.space ++ spell_silent (equals_sign ∷ a.behind) in
+      let equals_cells : List Spelled = spell_silent a.space ++ spell_silent (equals_sign ∷ a.afterwards) in
       let value_cells : List Spelled = spell_silent (open_quote a.kind) ++ spell_open_run rules a.kind zero a.run in
       let value_is : List ℕ = open_quote a.kind ++ a.run in
       let E : List Told = errors_at_end rules zero a.run ++ end_error_in rules.exact (state_at (InValue a.kind)) ∷ End ∷ [] in
-      let equals_text : characters equals_cells ++ value_is ≡ a.space ++ (equals_sign ∷ a.behind ++ value_is) =
-      ap (λ l. l ++ value_is) (characters-two (spell_silent a.space) (spell_silent (equals_sign ∷ a.behind)) a.space (equals_sign ∷ a.behind) (characters-spell silent a.space) (characters-spell silent (equals_sign ∷ a.behind)))
-      ∙ append_assoc a.space (equals_sign ∷ a.behind) value_is in
+      let equals_text : characters equals_cells ++ value_is ≡ a.space ++ (equals_sign ∷ a.afterwards ++ value_is) =
+      ap (λ l. l ++ value_is) (characters-two (spell_silent a.space) (spell_silent (equals_sign ∷ a.afterwards)) a.space (equals_sign ∷ a.afterwards) (characters-spell silent a.space) (characters-spell silent (equals_sign ∷ a.afterwards)))
+      ∙ append_assoc a.space (equals_sign ∷ a.afterwards) value_is in
       let text : characters named_cells ++ (characters equals_cells ++ value_is) ≡ open_attribute_text (Some a) =
       ap (λ l. characters named_cells ++ l) equals_text
-      ∙ ap (λ l. a.first ∷ l ++ (a.space ++ (equals_sign ∷ a.behind ++ value_is))) (characters-spell (attribute_name_error rules.exact) a.name) in
+      ∙ ap (λ l. a.first ∷ l ++ (a.space ++ (equals_sign ∷ a.afterwards ++ value_is))) (characters-spell (attribute_name_error rules.exact) a.name) in
       subst (λ l. Leaves (InTag place tag) l (named_cells ++ (equals_cells ++ value_cells)) E) text
       (leaves-append (InTag place tag) (InTag InAttributeName named) named_cells (equals_cells ++ value_cells) (characters equals_cells ++ value_is) E
       (passes-goes means rules (InTag place tag) (InTag InAttributeName named) named_cells _ refl (goes-name_of_attribute rules.exact kind name place before tag a.first a.name holds p.0))
       (leaves-append (InTag InAttributeName named) (InTag BeforeValue named) equals_cells value_cells value_is E
-      (passes-goes means rules (InTag InAttributeName named) (InTag BeforeValue named) equals_cells _ refl (goes-equals rules.exact named a.space a.behind q.0 r.0))
+      (passes-goes means rules (InTag InAttributeName named) (InTag BeforeValue named) equals_cells _ refl (goes-equals rules.exact named a.space a.afterwards q.0 r.0))
       (leaves-value a.kind named a.run plain r.1)))
 
   needs-none : (place : Place) (first : ℕ) (name : List ℕ) → is_attribute_name place first name ≡ true → needs_stop place ≡ true → (⊥)
@@ -277,11 +277,11 @@ module _ {X S H : Type 0} (means : Means X S H) (rules : Rules) where
   stops-none place None h needs = absurd (false≢true (sym (not-true (needs_stop place) h) ∙ needs))
   stops-none place (Some a) h needs = absurd (needs-none place a.first a.name (and_parts (is_attribute_name place a.first a.name) _ h).0 needs)
 
-  leaves-last : (tag : WrittenTag) (behind : OpenTag) (last : Option OpenAttribute) → All (λ entry. IsTrue (is_plain_name entry.name)) rules.names
-      → Holds tag.kind (name_shown tag.first tag.rest) (all_attributes rules tag) behind → can_end_in (end_place tag) last ≡ true
-      → Leaves (InTag (end_place tag) behind) (open_attribute_text last) (spell_open_attribute rules tag last) (open_tag_at_end rules tag last)
-  leaves-last tag behind None plain holds h = leaves-tag (end_place tag) behind
-  leaves-last tag behind (Some a) plain holds h = leaves-attribute tag.kind (name_shown tag.first tag.rest) (end_place tag) (all_attributes rules tag) behind a plain holds h
+  leaves-last : (tag : WrittenTag) (afterwards : OpenTag) (last : Option OpenAttribute) → All (λ entry. IsTrue (is_plain_name entry.name)) rules.names
+      → Holds tag.kind (name_shown tag.first tag.rest) (all_attributes rules tag) afterwards → can_end_in (end_place tag) last ≡ true
+      → Leaves (InTag (end_place tag) afterwards) (open_attribute_text last) (spell_open_attribute rules tag last) (open_tag_at_end rules tag last)
+  leaves-last tag afterwards None plain holds h = leaves-tag (end_place tag) afterwards
+  leaves-last tag afterwards (Some a) plain holds h = leaves-attribute tag.kind (name_shown tag.first tag.rest) (end_place tag) (all_attributes rules tag) afterwards a plain holds h
 
   -- from where its opening and its name are read as that
   pub leaves-open_from : (opened : Open) (tag : WrittenTag) (last : Option OpenAttribute) → All (λ entry. IsTrue (is_plain_name entry.name)) rules.names
@@ -298,10 +298,10 @@ module _ {X S H : Type 0} (means : Means X S H) (rules : Rules) where
       let flat : List ℕ = flat_map part_text tag.parts in
       let led : Led means rules tag.kind name InName named parts (end_place tag) (all_attributes rules tag) rest =
       passes-parts means rules tag.kind name InName [] named tag.parts rest plain (Holds-none tag.kind name) follow (λ needs. stops-none (end_place tag) last ends needs) in
-      let passes : Passes means rules opened (body rules tag) (InTag (end_place tag) led.behind) rest =
-      subst (λ l. Passes means rules opened l (InTag (end_place tag) led.behind) rest)
+      let passes : Passes means rules opened (body rules tag) (InTag (end_place tag) led.afterwards) rest =
+      subst (λ l. Passes means rules opened l (InTag (end_place tag) led.afterwards) rest)
       (append_assoc (spell_silent (opening tag.kind)) cells parts)
-      (passes-append means rules opened (InTag InName named) (InTag (end_place tag) led.behind) (name_cells means rules tag) parts rest
+      (passes-append means rules opened (InTag InName named) (InTag (end_place tag) led.afterwards) (name_cells means rules tag) parts rest
       (subst (λ l. Passes means rules opened (name_cells means rules tag) (InTag InName named) (l ++ rest)) (sym (characters-parts means rules InName [] tag.parts)) begins)
       led.passes) in
       let body_text : characters (body rules tag) ≡ opening tag.kind ++ (tag.first ∷ tag.rest ++ flat) =
@@ -312,8 +312,8 @@ module _ {X S H : Type 0} (means : Means X S H) (rules : Rules) where
       ∙ append_assoc (opening tag.kind) (tag.first ∷ tag.rest ++ flat) rest
       ∙ ap (λ l. opening tag.kind ++ tag.first ∷ l) (append_assoc tag.rest flat rest) in
       subst (λ l. Leaves opened l (spell_open_tag rules tag last) (open_tag_at_end rules tag last)) text
-      (leaves-append opened (InTag (end_place tag) led.behind) (body rules tag) (spell_open_attribute rules tag last) rest _ passes
-      (leaves-last tag led.behind last plain led.holds ends))
+      (leaves-append opened (InTag (end_place tag) led.afterwards) (body rules tag) (spell_open_attribute rules tag last) rest _ passes
+      (leaves-last tag led.afterwards last plain led.holds ends))
 
   pub leaves-open_tag : (tag : WrittenTag) (last : Option OpenAttribute) → All (λ entry. IsTrue (is_plain_name entry.name)) rules.names → is_open_written tag last ≡ true
       → Leaves (Between Data) (open_written tag last) (spell_open_tag rules tag last) (open_tag_at_end rules tag last)

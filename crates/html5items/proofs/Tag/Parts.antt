@@ -11,15 +11,15 @@ use Rattle.html5ever_interface.specs.declared.interface.token.TagKind.{TagKind}
 use Rattle.html5ever_interface.specs.declared.states.AttrValueKind.{AttrValueKind}
 use Rattle.html5ever_interface.specs.declared.states.AttrValueKind.TheVariants.{Unquoted, SingleQuoted, DoubleQuoted}
 use Rattle.html5ever_interface.specs.declared.states.State.TheVariants as state
-use Rattle.html5items.specs.Anywhere.{TellsByItself, last_reply, start_behind_tag}
+use Rattle.html5items.specs.Anywhere.{TellsByItself, last_reply, start_after_tag}
 use Rattle.html5grammar.specs.Characters.{quotation_mark, apostrophe, solidus, equals_sign, greater_than, is_letter, is_white_space}
 use Rattle.html5grammar.specs.ErrorText.{bad_character_error}
 use Rattle.html5grammar.specs.NormalisedText.{normalised, line_after}
-use Rattle.html5items.specs.Tag.{Value, Part, WrittenTag, spell_name, value_text, part_text, opening, written, place_behind, place_behind_value, place_behind_parts, takes_blank, is_attribute_name, name_shown, repeated_error, end_error, end_place, needs_stop, decoded, is_in_value, is_value, shown_run, value_shown, spell_run, spell_value, can_stand, can_follow, is_written, attributes_with, spell_part, spell_parts, attributes_with_parts, all_attributes, tag_told, end_errors, body, spelled, IsTag}
+use Rattle.html5items.specs.Tag.{Value, Part, WrittenTag, spell_name, value_text, part_text, opening, written, place_after, place_after_value, place_after_parts, takes_blank, is_attribute_name, name_shown, repeated_error, end_error, end_place, needs_stop, decoded, is_in_value, is_value, shown_run, value_shown, spell_run, spell_value, can_stand, can_follow, is_written, attributes_with, spell_part, spell_parts, attributes_with_parts, all_attributes, tag_told, end_errors, body, spelled, IsTag}
 use Rattle.html5items.specs.Spelled.{Spelled, spell, spell_silent, spelled_messages}
 use Rattle.html5items.specs.Tag.Part.{Blank, Solidus, Name, Attribute}
 use Rattle.html5items.specs.Tag.Value.{InDoubleQuotes, InSingleQuotes, Bare}
-use Rattle.html5grammar.specs.Reading.{last_behind, open_after_reply}
+use Rattle.html5grammar.specs.Reading.{last_after, open_after_reply}
 use Rattle.html5grammar.specs.Reading.Here.{Tells, TellsTag}
 use Rattle.html5grammar.specs.Slice.{silent}
 use Rattle.html5grammar.specs.Start.{Input, Start, OpenTag, Place, Open, Rules, begun, is_undecided_open}
@@ -50,23 +50,23 @@ pub record Stops (text : List ℕ) : Type 0 where
   pub parts : text ≡ c ∷ more
   pub stop : IsStop c
 
-pub stops-behind : (place : Place) (parts : List Part) (rest : List ℕ) → can_follow place parts ≡ true → (needs_stop (place_behind_parts place parts) ≡ true → Stops rest) → needs_stop place ≡ true → Stops (flat_map part_text parts ++ rest)
-unfolding can_follow place_behind_parts
-stops-behind (InValue Unquoted) [] rest h last needs = last needs
-stops-behind (InValue Unquoted) (Blank c ∷ parts) rest h last needs =
+pub stops-after : (place : Place) (parts : List Part) (rest : List ℕ) → can_follow place parts ≡ true → (needs_stop (place_after_parts place parts) ≡ true → Stops rest) → needs_stop place ≡ true → Stops (flat_map part_text parts ++ rest)
+unfolding can_follow place_after_parts
+stops-after (InValue Unquoted) [] rest h last needs = last needs
+stops-after (InValue Unquoted) (Blank c ∷ parts) rest h last needs =
     record { c = c; more = flat_map part_text parts ++ rest; parts = refl; stop = white-stop c (and_parts (is_white_space c) (can_follow BeforeAttribute parts) h).0 }
-stops-behind (InValue Unquoted) (Solidus ∷ parts) rest h last needs = absurd (false≢true h)
-stops-behind (InValue Unquoted) (Name first name ∷ parts) rest h last needs = absurd (false≢true h)
-stops-behind (InValue Unquoted) (Attribute first name before behind value ∷ parts) rest h last needs = absurd (false≢true h)
-stops-behind (InValue SingleQuoted) parts rest h last needs = absurd (false≢true needs)
-stops-behind (InValue DoubleQuoted) parts rest h last needs = absurd (false≢true needs)
-stops-behind InName parts rest h last needs = absurd (false≢true needs)
-stops-behind BeforeAttribute parts rest h last needs = absurd (false≢true needs)
-stops-behind InAttributeName parts rest h last needs = absurd (false≢true needs)
-stops-behind AfterAttributeName parts rest h last needs = absurd (false≢true needs)
-stops-behind BeforeValue parts rest h last needs = absurd (false≢true needs)
-stops-behind AfterQuotedValue parts rest h last needs = absurd (false≢true needs)
-stops-behind AfterSolidus parts rest h last needs = absurd (false≢true needs)
+stops-after (InValue Unquoted) (Solidus ∷ parts) rest h last needs = absurd (false≢true h)
+stops-after (InValue Unquoted) (Name first name ∷ parts) rest h last needs = absurd (false≢true h)
+stops-after (InValue Unquoted) (Attribute first name before afterwards value ∷ parts) rest h last needs = absurd (false≢true h)
+stops-after (InValue SingleQuoted) parts rest h last needs = absurd (false≢true needs)
+stops-after (InValue DoubleQuoted) parts rest h last needs = absurd (false≢true needs)
+stops-after InName parts rest h last needs = absurd (false≢true needs)
+stops-after BeforeAttribute parts rest h last needs = absurd (false≢true needs)
+stops-after InAttributeName parts rest h last needs = absurd (false≢true needs)
+stops-after AfterAttributeName parts rest h last needs = absurd (false≢true needs)
+stops-after BeforeValue parts rest h last needs = absurd (false≢true needs)
+stops-after AfterQuotedValue parts rest h last needs = absurd (false≢true needs)
+stops-after AfterSolidus parts rest h last needs = absurd (false≢true needs)
 
 module _ {X S H : Type 0} (means : Means X S H) (rules : Rules) where
   -- ---- the characters that are spelled are the text
@@ -82,20 +82,20 @@ module _ {X S H : Type 0} (means : Means X S H) (rules : Rules) where
   characters-part place before (Blank c) = refl
   characters-part place before Solidus = refl
   characters-part place before (Name first rest) = ap (λ l. first ∷ l) (characters-spell (attribute_name_error rules.exact) rest)
-  characters-part place before (Attribute first rest space behind value) =
+  characters-part place before (Attribute first rest space afterwards value) =
       ap (λ l. first ∷ l)
       (characters-two (spell (attribute_name_error rules.exact) rest) _ rest _ (characters-spell (attribute_name_error rules.exact) rest)
-      (characters-two (spell_silent space ++ spell_silent (equals_sign ∷ behind)) (spell_value rules value) (space ++ (equals_sign ∷ behind)) (value_text value)
-      (characters-two (spell_silent space) (spell_silent (equals_sign ∷ behind)) space (equals_sign ∷ behind) (characters-spell silent space) (characters-spell silent (equals_sign ∷ behind)))
+      (characters-two (spell_silent space ++ spell_silent (equals_sign ∷ afterwards)) (spell_value rules value) (space ++ (equals_sign ∷ afterwards)) (value_text value)
+      (characters-two (spell_silent space) (spell_silent (equals_sign ∷ afterwards)) space (equals_sign ∷ afterwards) (characters-spell silent space) (characters-spell silent (equals_sign ∷ afterwards)))
       (characters-value value)
-      ∙ append_assoc space (equals_sign ∷ behind) (value_text value)))
+      ∙ append_assoc space (equals_sign ∷ afterwards) (value_text value)))
 
   pub characters-parts : (place : Place) (before : List AttributeOf) (parts : List Part) → characters (spell_parts rules place before parts) ≡ flat_map part_text parts
   unfolding spell_parts
   characters-parts place before [] = refl
   characters-parts place before (part ∷ parts) =
       characters-two (spell_part rules place before part) _ (part_text part) _ (characters-part place before part)
-      (characters-parts (place_behind place part) (attributes_with rules before part) parts)
+      (characters-parts (place_after place part) (attributes_with rules before part) parts)
 
   -- ---- values
 
@@ -130,8 +130,8 @@ module _ {X S H : Type 0} (means : Means X S H) (rules : Rules) where
       let p = both-none (is_white_space c) (c == greater_than) (not-true (is_white_space c || (c == greater_than)) h) in
       rw (p.0, no_double, no_single, p.1) refl
 
-  passes-value : (tag : OpenTag) (value : Value) (rest : List ℕ) → All (λ entry. IsTrue (is_plain_name entry.name)) rules.names → is_value value ≡ true → (needs_stop (place_behind_value value) ≡ true → Stops rest)
-      → Passes means rules (InTag BeforeValue tag) (spell_value rules value) (InTag (place_behind_value value) (with_shown tag value)) rest
+  passes-value : (tag : OpenTag) (value : Value) (rest : List ℕ) → All (λ entry. IsTrue (is_plain_name entry.name)) rules.names → is_value value ≡ true → (needs_stop (place_after_value value) ≡ true → Stops rest)
+      → Passes means rules (InTag BeforeValue tag) (spell_value rules value) (InTag (place_after_value value) (with_shown tag value)) rest
   unfolding step_at tag_step before_value_step quoted_step in_quoted is_white_space spell_run decoded Leads
   passes-value tag (InDoubleQuotes run) rest plain all stops = passes-quoted DoubleQuoted quotation_mark tag run rest plain (quote-stop DoubleQuoted) all refl (λ t. refl)
   passes-value tag (InSingleQuotes run) rest plain all stops = passes-quoted SingleQuoted apostrophe tag run rest plain (quote-stop SingleQuoted) all refl (λ t. refl)
@@ -154,54 +154,54 @@ module _ {X S H : Type 0} (means : Means X S H) (rules : Rules) where
   module _ (kind : TagKind) (name : List ℕ) where
     -- what parts lead to, before this text
     pub record Led (place : Place) (tag : OpenTag) (cells : List Spelled) (later : Place) (attributes : List AttributeOf) (rest : List ℕ) : Type 0 where
-      pub behind : OpenTag
-      pub passes : Passes means rules (InTag place tag) cells (InTag later behind) rest
-      pub holds : Holds kind name attributes behind
+      pub afterwards : OpenTag
+      pub passes : Passes means rules (InTag place tag) cells (InTag later afterwards) rest
+      pub holds : Holds kind name attributes afterwards
 
     passes-part : (place : Place) (before : List AttributeOf) (tag : OpenTag) (part : Part) (rest : List ℕ) → All (λ entry. IsTrue (is_plain_name entry.name)) rules.names → Holds kind name before tag → can_stand place part ≡ true
-        → (needs_stop (place_behind place part) ≡ true → Stops rest)
-        → Led place tag (spell_part rules place before part) (place_behind place part) (attributes_with rules before part) rest
+        → (needs_stop (place_after place part) ≡ true → Stops rest)
+        → Led place tag (spell_part rules place before part) (place_after place part) (attributes_with rules before part) rest
     passes-part place before tag (Blank c) rest plain holds h stops =
         let p = and_parts (takes_blank place) (is_white_space c) h in
-        record { behind = tag; passes = passes-one means rules _ _ c _ rest refl (step-blank rules.exact place tag c p.0 p.1); holds = holds }
+        record { afterwards = tag; passes = passes-one means rules _ _ c _ rest refl (step-blank rules.exact place tag c p.0 p.1); holds = holds }
     passes-part place before tag Solidus rest plain holds h stops =
-        record { behind = tag; passes = passes-one means rules _ _ solidus _ rest refl (step-solidus rules.exact place tag h); holds = holds }
+        record { afterwards = tag; passes = passes-one means rules _ _ solidus _ rest refl (step-solidus rules.exact place tag h); holds = holds }
     passes-part place before tag (Name first name_rest) rest plain holds h stops = record {
-      behind = with_attribute kind name before (name_shown first name_rest) [];
+      afterwards = with_attribute kind name before (name_shown first name_rest) [];
       passes = passes-goes _ _ _ rest refl (goes-name_of_attribute rules.exact kind name place before tag first name_rest holds h);
       holds = Holds-attribute kind name before (name_shown first name_rest) [] (name-some first name_rest);
     }
-    passes-part place before tag (Attribute first name_rest space behind value) rest plain holds h stops =
+    passes-part place before tag (Attribute first name_rest space afterwards value) rest plain holds h stops =
         let p = and_parts (is_attribute_name place first name_rest) _ h in
         let q = and_parts (list_all is_white_space space) _ p.1 in
-        let r = and_parts (list_all is_white_space behind) (is_value value) q.1 in
+        let r = and_parts (list_all is_white_space afterwards) (is_value value) q.1 in
         let named : OpenTag = with_attribute kind name before (name_shown first name_rest) [] in
         let valued : OpenTag = with_attribute kind name before (name_shown first name_rest) (value_shown rules value) in
         record {
-          behind = valued;
+          afterwards = valued;
           passes =
-              passes-append means rules (InTag place tag) (InTag InAttributeName named) (InTag (place_behind_value value) valued) (spell_name rules.exact place before first name_rest) _ rest
+              passes-append means rules (InTag place tag) (InTag InAttributeName named) (InTag (place_after_value value) valued) (spell_name rules.exact place before first name_rest) _ rest
               (passes-goes _ _ _ _ refl (goes-name_of_attribute rules.exact kind name place before tag first name_rest holds p.0))
-              (passes-append means rules (InTag InAttributeName named) (InTag BeforeValue named) (InTag (place_behind_value value) valued) (spell_silent space ++ spell_silent (equals_sign ∷ behind)) (spell_value rules value) rest
-              (passes-goes _ _ _ _ refl (goes-equals rules.exact named space behind q.0 r.0))
+              (passes-append means rules (InTag InAttributeName named) (InTag BeforeValue named) (InTag (place_after_value value) valued) (spell_silent space ++ spell_silent (equals_sign ∷ afterwards)) (spell_value rules value) rest
+              (passes-goes _ _ _ _ refl (goes-equals rules.exact named space afterwards q.0 r.0))
               (passes-value named value rest plain r.1 stops));
           holds = Holds-attribute kind name before (name_shown first name_rest) (value_shown rules value) (name-some first name_rest);
         }
 
-    pub passes-parts : (place : Place) (before : List AttributeOf) (tag : OpenTag) (parts : List Part) (rest : List ℕ) → All (λ entry. IsTrue (is_plain_name entry.name)) rules.names → Holds kind name before tag → can_follow place parts ≡ true → (needs_stop (place_behind_parts place parts) ≡ true → Stops rest)
-        → Led place tag (spell_parts rules place before parts) (place_behind_parts place parts) (attributes_with_parts rules before parts) rest
-    unfolding spell_parts place_behind_parts attributes_with_parts can_follow Leads
-    passes-parts place before tag [] rest plain holds h last = record { behind = tag; passes = passes-leads means rules (InTag place tag) (InTag place tag) [] rest refl; holds = holds }
+    pub passes-parts : (place : Place) (before : List AttributeOf) (tag : OpenTag) (parts : List Part) (rest : List ℕ) → All (λ entry. IsTrue (is_plain_name entry.name)) rules.names → Holds kind name before tag → can_follow place parts ≡ true → (needs_stop (place_after_parts place parts) ≡ true → Stops rest)
+        → Led place tag (spell_parts rules place before parts) (place_after_parts place parts) (attributes_with_parts rules before parts) rest
+    unfolding spell_parts place_after_parts attributes_with_parts can_follow Leads
+    passes-parts place before tag [] rest plain holds h last = record { afterwards = tag; passes = passes-leads means rules (InTag place tag) (InTag place tag) [] rest refl; holds = holds }
     passes-parts place before tag (part ∷ parts) rest plain holds h last =
-        let p = and_parts (can_stand place part) (can_follow (place_behind place part) parts) h in
-        let later : List Spelled = spell_parts rules (place_behind place part) (attributes_with rules before part) parts in
-        let text : characters later ≡ flat_map part_text parts = characters-parts (place_behind place part) (attributes_with rules before part) parts in
+        let p = and_parts (can_stand place part) (can_follow (place_after place part) parts) h in
+        let later : List Spelled = spell_parts rules (place_after place part) (attributes_with rules before part) parts in
+        let text : characters later ≡ flat_map part_text parts = characters-parts (place_after place part) (attributes_with rules before part) parts in
         let one = passes-part place before tag part (characters later ++ rest) plain holds p.0
-        (λ needs. subst (λ l. Stops (l ++ rest)) (sym text) (stops-behind (place_behind place part) parts rest p.1 last needs)) in
-        let more = passes-parts (place_behind place part) (attributes_with rules before part) one.behind parts rest plain one.holds p.1 last in
+        (λ needs. subst (λ l. Stops (l ++ rest)) (sym text) (stops-after (place_after place part) parts rest p.1 last needs)) in
+        let more = passes-parts (place_after place part) (attributes_with rules before part) one.afterwards parts rest plain one.holds p.1 last in
         record {
-          behind = more.behind;
-          passes = passes-append means rules (InTag place tag) (InTag (place_behind place part) one.behind) _ (spell_part rules place before part) later rest one.passes more.passes;
+          afterwards = more.afterwards;
+          passes = passes-append means rules (InTag place tag) (InTag (place_after place part) one.afterwards) _ (spell_part rules place before part) later rest one.passes more.passes;
           holds = more.holds;
         }
 
@@ -234,18 +234,18 @@ module _ {X S H : Type 0} (means : Means X S H) (rules : Rules) where
 
   -- a tag up to its `>`, and what that tells
   record ReadsTag (opened : Open) (tag : WrittenTag) : Type 0 where
-    behind : Open
-    passes : Passes means rules opened (body rules tag) behind (greater_than ∷ [])
-    ends : step_at rules.exact behind greater_than ≡ TellsTag (end_errors rules tag) (tag_told rules tag)
+    afterwards : Open
+    passes : Passes means rules opened (body rules tag) afterwards (greater_than ∷ [])
+    ends : step_at rules.exact afterwards greater_than ≡ TellsTag (end_errors rules tag) (tag_told rules tag)
 
-  pub ends-tag : (tag : WrittenTag) (behind : OpenTag) → can_end (end_place tag) ≡ true
-      → Holds tag.kind (name_shown tag.first tag.rest) (all_attributes rules tag) behind
-      → step_at rules.exact (InTag (end_place tag) behind) greater_than ≡ TellsTag (end_errors rules tag) (tag_told rules tag)
-  ends-tag tag behind ends holds =
+  pub ends-tag : (tag : WrittenTag) (afterwards : OpenTag) → can_end (end_place tag) ≡ true
+      → Holds tag.kind (name_shown tag.first tag.rest) (all_attributes rules tag) afterwards
+      → step_at rules.exact (InTag (end_place tag) afterwards) greater_than ≡ TellsTag (end_errors rules tag) (tag_told rules tag)
+  ends-tag tag afterwards ends holds =
       let place : Place = end_place tag in
       let closes : Bool = is_after_solidus place in
-      step-end rules.exact place behind ends
-      ∙ ap (λ errors. TellsTag (end_error rules.exact place ++ (errors ++ end_tag_errors (with_last_attribute behind) closes)) (told_tag (with_last_attribute behind) closes)) holds.error
+      step-end rules.exact place afterwards ends
+      ∙ ap (λ errors. TellsTag (end_error rules.exact place ++ (errors ++ end_tag_errors (with_last_attribute afterwards) closes)) (told_tag (with_last_attribute afterwards) closes)) holds.error
       ∙ ap (λ closed. TellsTag (end_error rules.exact place ++ (repeated_error (all_attributes rules tag) ++ end_tag_errors closed closes)) (told_tag closed closes)) holds.closed
 
   -- from where its opening and its name are read as that
@@ -258,38 +258,38 @@ module _ {X S H : Type 0} (means : Means X S H) (rules : Rules) where
       let led : Led tag.kind name InName (named_tag tag) parts (end_place tag) (all_attributes rules tag) (greater_than ∷ []) =
       passes-parts tag.kind name InName [] (named_tag tag) tag.parts (greater_than ∷ []) plain (Holds-none tag.kind name) follow (λ needs. record { c = greater_than; more = []; parts = refl; stop = quote-stop Unquoted }) in
       record {
-        behind = InTag (end_place tag) led.behind;
+        afterwards = InTag (end_place tag) led.afterwards;
         passes =
-            subst (λ cells. Passes means rules opened cells (InTag (end_place tag) led.behind) (greater_than ∷ []))
+            subst (λ cells. Passes means rules opened cells (InTag (end_place tag) led.afterwards) (greater_than ∷ []))
             (append_assoc (spell_silent (opening tag.kind)) (spell (null_error rules.exact state.TagName) (tag.first ∷ tag.rest)) parts)
-            (passes-append means rules opened (InTag InName (named_tag tag)) (InTag (end_place tag) led.behind) (name_cells tag) parts (greater_than ∷ [])
+            (passes-append means rules opened (InTag InName (named_tag tag)) (InTag (end_place tag) led.afterwards) (name_cells tag) parts (greater_than ∷ [])
             (subst (λ l. Passes means rules opened (name_cells tag) (InTag InName (named_tag tag)) (l ++ greater_than ∷ [])) (sym (characters-parts InName [] tag.parts)) begins)
             led.passes);
-        ends = ends-tag tag led.behind (can_end-parts InName tag.parts refl) led.holds;
+        ends = ends-tag tag led.afterwards (can_end-parts InName tag.parts refl) led.holds;
       }
 
   -- what is spelled is told, and its `>` tells the tag
-  pub trace-tag : (input : Input) (before : List ℕ) (s : S) (last : List ℕ) (opened behind : Open) (cells : List Spelled) (errors : List Told) (tag : TagOf)
-      → Passes means rules opened cells behind (greater_than ∷ [])
-      → step_at rules.exact behind greater_than ≡ TellsTag errors tag
+  pub trace-tag : (input : Input) (before : List ℕ) (s : S) (last : List ℕ) (opened afterwards : Open) (cells : List Spelled) (errors : List Told) (tag : TagOf)
+      → Passes means rules opened cells afterwards (greater_than ∷ [])
+      → step_at rules.exact afterwards greater_than ≡ TellsTag errors tag
       → trace means.step means.reply means.foreign rules s (line_after input before) last opened (characters cells ++ greater_than ∷ [])
       ≡ record {
         messages = spelled_messages rules.exact input before (cells ++ record { character = greater_than; told = errors ++ Tag tag ∷ [] } ∷ []);
-        opened = open_after_reply (last_behind last tag) (last_reply means.step means.reply s (spelled_messages rules.exact input before (cells ++ record { character = greater_than; told = errors ++ Tag tag ∷ [] } ∷ [])));
-        last_start_tag = last_behind last tag;
+        opened = open_after_reply (last_after last tag) (last_reply means.step means.reply s (spelled_messages rules.exact input before (cells ++ record { character = greater_than; told = errors ++ Tag tag ∷ [] } ∷ [])));
+        last_start_tag = last_after last tag;
       }
-  trace-tag input before s last opened behind cells errors tag passes ends =
+  trace-tag input before s last opened afterwards cells errors tag passes ends =
       let past : List ℕ = before ++ characters cells in
       let line : ℕ = line_after input (past ++ greater_than ∷ []) in
       let tokens : List Told = bad_character_error rules.exact greater_than ++ errors in
       let M : List Message = spelled_messages rules.exact input before cells in
       let N : List Message = on_line line (tokens ++ Tag tag ∷ []) in
       let cell : Spelled = record { character = greater_than; told = errors ++ Tag tag ∷ [] } in
-      let name : List ℕ = last_behind last tag in
+      let name : List ℕ = last_after last tag in
       let whole : spelled_messages rules.exact input before (cells ++ cell ∷ []) ≡ M ++ N =
       spelled_messages-append rules.exact input before cells (cell ∷ []) ∙ ap (λ l. M ++ l) (messages-cell means.step means.reply means.foreign rules input past greater_than errors tag) in
       passes input before s last
-      ∙ ap (with_messages M) (trace-cell means.step means.reply means.foreign rules input past (stepped means.step s M) last behind greater_than errors tag ends)
+      ∙ ap (with_messages M) (trace-cell means.step means.reply means.foreign rules input past (stepped means.step s M) last afterwards greater_than errors tag ends)
       ∙ ap (λ r. record { messages = M ++ N; opened = open_after_reply name r; last_start_tag = name }) (sym (last_reply-append means.step means.reply s M line tokens (Tag tag)))
       ∙ ap (λ l. record { messages = l; opened = open_after_reply name (last_reply means.step means.reply s l); last_start_tag = name }) (sym whole)
 
@@ -297,7 +297,7 @@ module _ {X S H : Type 0} (means : Means X S H) (rules : Rules) where
   abbrev pub IsReadAs : Start → S → List ℕ → WrittenTag → Type 0
   IsReadAs K s Y tag =
       let M : List Message = spelled_messages rules.exact K.input [] (spelled rules tag) in
-      let last : List ℕ = last_behind K.last_start_tag (tag_told rules tag) in
+      let last : List ℕ = last_after K.last_start_tag (tag_told rules tag) in
       trace means.step means.reply means.foreign rules s (line_after K.input []) K.last_start_tag K.opened (normalised K.input Y)
       ≡ record { messages = M; opened = open_after_reply last (last_reply means.step means.reply s M); last_start_tag = last }
 
@@ -310,17 +310,17 @@ module _ {X S H : Type 0} (means : Means X S H) (rules : Rules) where
   reads-from K s Y opened tag plain starts follow text begins =
       let r : ReadsTag opened tag = reads-tag opened tag plain follow begins in
       rw (starts, text, ← characters-body tag)
-      (trace-tag K.input [] s K.last_start_tag opened r.behind (body rules tag) (end_errors rules tag) (tag_told rules tag) r.passes r.ends)
+      (trace-tag K.input [] s K.last_start_tag opened r.afterwards (body rules tag) (end_errors rules tag) (tag_told rules tag) r.passes r.ends)
 
   pub tag-from : (K : Start) (s : S) (Y : List ℕ) (opened : Open) (tag : WrittenTag) → All (λ entry. IsTrue (is_plain_name entry.name)) rules.names
       → K.opened ≡ opened → can_follow InName tag.parts ≡ true → normalised K.input Y ≡ written tag
       → Passes means rules opened (name_cells tag) (InTag InName (named_tag tag)) (flat_map part_text tag.parts ++ greater_than ∷ [])
       → TellsByItself means rules K s Y (spelled_messages rules.exact K.input [] (spelled rules tag))
-      (start_behind_tag means K s Y (tag_told rules tag) (spelled_messages rules.exact K.input [] (spelled rules tag)))
+      (start_after_tag means K s Y (tag_told rules tag) (spelled_messages rules.exact K.input [] (spelled rules tag)))
   tag-from K s Y opened tag plain starts follow text begins =
       let M : List Message = spelled_messages rules.exact K.input [] (spelled rules tag) in
       trace-by_itself means rules K s Y M
-      (open_after_reply (last_behind K.last_start_tag (tag_told rules tag)) (last_reply means.step means.reply s M)) (last_behind K.last_start_tag (tag_told rules tag))
+      (open_after_reply (last_after K.last_start_tag (tag_told rules tag)) (last_reply means.step means.reply s M)) (last_after K.last_start_tag (tag_told rules tag))
       (reads-from K s Y opened tag plain starts follow text begins)
 
   -- a text that is one tag
@@ -334,9 +334,9 @@ module _ {X S H : Type 0} (means : Means X S H) (rules : Rules) where
   -- wherever it stands
   pub tag-by_itself : (K : Start) (s : S) (Y : List ℕ) (tag : WrittenTag) → IsTable rules.names → IsTag K Y tag
       → TellsByItself means rules K s Y (spelled_messages rules.exact K.input [] (spelled rules tag))
-      (start_behind_tag means K s Y (tag_told rules tag) (spelled_messages rules.exact K.input [] (spelled rules tag)))
+      (start_after_tag means K s Y (tag_told rules tag) (spelled_messages rules.exact K.input [] (spelled rules tag)))
   tag-by_itself K s Y tag table one =
       let M : List Message = spelled_messages rules.exact K.input [] (spelled rules tag) in
       trace-by_itself means rules K s Y M
-      (open_after_reply (last_behind K.last_start_tag (tag_told rules tag)) (last_reply means.step means.reply s M)) (last_behind K.last_start_tag (tag_told rules tag))
+      (open_after_reply (last_after K.last_start_tag (tag_told rules tag)) (last_reply means.step means.reply s M)) (last_after K.last_start_tag (tag_told rules tag))
       (reads-one_tag K s Y tag table one)

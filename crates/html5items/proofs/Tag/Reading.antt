@@ -6,7 +6,7 @@ use Rattle.html5ever_interface.specs.Token.Reply.{KeepOn}
 use Rattle.html5grammar.specs.Characters.{greater_than}
 use Rattle.html5grammar.specs.EndOfInput.{late_at_end_of, open_at_end_of, told_at_end_of}
 use Rattle.html5grammar.specs.NormalisedText.{normalised, line_after}
-use Rattle.html5grammar.specs.Reading.{reading, read, told, messages, after, end_events, late_events, last_behind, open_after_reply}
+use Rattle.html5grammar.specs.Reading.{reading, read, told, messages, after, end_events, late_events, last_after, open_after_reply}
 use Rattle.html5grammar.specs.Start.{Start, Rules}
 use Rattle.html5grammar.specs.Start.Mode.{Data}
 use Rattle.html5grammar.specs.Start.Open.{Between}
@@ -23,10 +23,10 @@ module _ {Q S H : Type 0} (means : Means Q S H) (rules : Rules) where
       → ((t : S) (line : ℕ) → means.reply t (Tag (tag_told rules tag)) line ≡ KeepOn)
       → IsTable rules.names → IsTag K X tag
       → trace means.step means.reply means.foreign rules s (line_after K.input []) K.last_start_tag K.opened (normalised K.input X)
-      ≡ record { messages = spelled_messages rules.exact K.input [] (spelled rules tag); opened = Between Data; last_start_tag = last_behind K.last_start_tag (tag_told rules tag) }
+      ≡ record { messages = spelled_messages rules.exact K.input [] (spelled rules tag); opened = Between Data; last_start_tag = last_after K.last_start_tag (tag_told rules tag) }
   unfolding spelled
   reads-kept K s X tag keeps table one =
-      let last : List ℕ = last_behind K.last_start_tag (tag_told rules tag) in
+      let last : List ℕ = last_after K.last_start_tag (tag_told rules tag) in
       reads-one_tag means rules K s X tag table one
       ∙ ap (λ a. record { messages = spelled_messages rules.exact K.input [] (spelled rules tag); opened = open_after_reply last a; last_start_tag = last })
       (last_reply-keeps means.step means.reply means.foreign rules s K.input [] (body rules tag) greater_than (end_errors rules tag) (tag_told rules tag) keeps)

@@ -7,7 +7,7 @@ use Rattle.html5ever_interface.specs.declared.states.AttrValueKind.TheVariants.{
 use Rattle.html5ever_interface.specs.declared.states.State.TheVariants as state
 use Rattle.html5grammar.specs.Characters.{ampersand, solidus, equals_sign, greater_than, is_white_space, is_letter}
 use Rattle.html5items.specs.Spelled.{spell, spell_silent, Spelled}
-use Rattle.html5items.specs.Tag.{begins_attribute, takes_blank, takes_solidus, takes_attribute, place_behind, end_error, opening}
+use Rattle.html5items.specs.Tag.{begins_attribute, takes_blank, takes_solidus, takes_attribute, place_after, end_error, opening}
 use Rattle.html5items.specs.Tag.Part.{Blank}
 use Rattle.html5grammar.specs.Reading.Here.{Tells, TellsTag}
 use Rattle.html5grammar.specs.Start.{OpenTag, Place, begun, Open}
@@ -71,10 +71,10 @@ module _ (exact : Bool) where
   abbrev unchanged : OpenTag → List ℕ → OpenTag
   unchanged tag run = tag
 
-  pub goes-space_behind_name : (tag : OpenTag) (run : List ℕ) → list_all is_white_space run ≡ true
+  pub goes-space_after_name : (tag : OpenTag) (run : List ℕ) → list_all is_white_space run ≡ true
       → Goes exact (InTag AfterAttributeName tag) (spell_silent run) (InTag AfterAttributeName tag)
   unfolding step_at tag_step after_attribute_name_step
-  goes-space_behind_name tag run all =
+  goes-space_after_name tag run all =
       goes-run exact (InTag AfterAttributeName) unchanged is_white_space silent (λ t. refl) (λ t c r. refl) (λ t c h. rw h refl) tag run all
 
   pub goes-space_before_value : (tag : OpenTag) (run : List ℕ) → list_all is_white_space run ≡ true
@@ -87,7 +87,7 @@ module _ (exact : Bool) where
 
   -- white space between two parts
   pub step-blank : (place : Place) (tag : OpenTag) (c : ℕ) → takes_blank place ≡ true → is_white_space c ≡ true
-      → step_at exact (InTag place tag) c ≡ Tells (place_error exact place c) (InTag (place_behind place (Blank c)) tag)
+      → step_at exact (InTag place tag) c ≡ Tells (place_error exact place c) (InTag (place_after place (Blank c)) tag)
   unfolding step_at tag_step tag_name_step part_step attribute_name_step after_attribute_name_step unquoted_step in_tag_name in_attribute_name in_unquoted place_error
   step-blank InName tag c takes h = rw h refl
   step-blank BeforeAttribute tag c takes h = rw ((is_blank c h).no_end, h) refl

@@ -8,7 +8,7 @@ use Rattle.std.proofs.lemmas.Bool.{false≢true, and_parts, false_from_ne_true}
 use Rattle.std.proofs.lemmas.List.Folds.{list_all-append}
 use Rattle.html5grammar.specs.Characters.{number_sign, semicolon, equals_sign}
 use Rattle.html5grammar.specs.Reference.{reference, number_reference, named_reference, no_name, unended_number, without_digits, longest_name, goes_on, first_or, is_undecided}
-use Rattle.html5grammar.specs.Slice.{run_while, behind_while}
+use Rattle.html5grammar.specs.Slice.{run_while, after_while}
 use Rattle.html5grammar.specs.Start.{Rules}
 use Rattle.html5items.specs.Tag.{found_in, held_in, deciding_in}
 use Rattle.html5items.proofs.Reference.Anywhere.{is_held_character, held-undecided}
@@ -62,25 +62,25 @@ reference-stop rules v (e ∷ held) c d f g =
     ∙ ap (λ n. if e == number_sign then number_reference rules.exact held (Some d) else n) (named-stop rules.exact v (e ∷ held) c d (longest_name rules.names (e ∷ held)) f g)
 
 module _ (names : List NamedReference) (plain : All (λ entry. IsTrue (is_plain_name entry.name)) names) (c d : ℕ) (more : List ℕ) (f : IsStop c) (g : IsStop d) where
-  abbrev behind_c : List ℕ → List ℕ → List ℕ
-  behind_c held F = behind_while (is_undecided names) held (F ++ c ∷ more)
+  abbrev after_c : List ℕ → List ℕ → List ℕ
+  after_c held F = after_while (is_undecided names) held (F ++ c ∷ more)
 
-  abbrev behind_d : List ℕ → List ℕ → List ℕ
-  behind_d held F = behind_while (is_undecided names) held (F ++ d ∷ [])
+  abbrev after_d : List ℕ → List ℕ → List ℕ
+  after_d held F = after_while (is_undecided names) held (F ++ d ∷ [])
 
   record Within (held F : List ℕ) : Type 0 where
     run : run_while (is_undecided names) held (F ++ c ∷ more) ≡ run_while (is_undecided names) held (F ++ d ∷ [])
-    next : first_or (behind_c held F) None ≡ first_or (behind_d held F) None
-    some : is_none (first_or (behind_c held F) None) ≡ false
+    next : first_or (after_c held F) None ≡ first_or (after_d held F) None
+    some : is_none (first_or (after_c held F) None) ≡ false
 
   record AtEnd (held F : List ℕ) : Type 0 where
     run_c : run_while (is_undecided names) held (F ++ c ∷ more) ≡ F
     run_d : run_while (is_undecided names) held (F ++ d ∷ []) ≡ F
-    next_c : first_or (behind_c held F) None ≡ Some c
-    next_d : first_or (behind_d held F) None ≡ Some d
+    next_c : first_or (after_c held F) None ≡ Some c
+    next_d : first_or (after_d held F) None ≡ Some d
 
   ends : (held F : List ℕ) → Within held F ⊎ AtEnd held F
-  unfolding run_while behind_while
+  unfolding run_while after_while
   ends held [] =
       let e : is_undecided names (held ++ c ∷ []) ≡ false = stop-decides names held c plain f in
       let h : is_undecided names (held ++ d ∷ []) ≡ false = stop-decides names held d plain g in

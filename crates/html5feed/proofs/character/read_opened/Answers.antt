@@ -2,7 +2,7 @@ use Rattle.std.proofs.Common.{◌∙◌, ap, subst, arith, rules}
 use Rattle.std.proofs.lemmas.Result.{IfOk-weaker, on_ok_weaker}
 use Rattle.html5opened.specs.CharRef.{begun_reference}
 use Rattle.html5opened.specs.Steps.{Leads}
-use Rattle.html5feed.proofs.CharacterReading.{held_len-behind, closes-open, data-any_tag, tells-ended, opened-ended, pause-ended, tells-going, opened-going, pause-going, tells-refused, leads-refused, tells-bad, last-ended, last-going}
+use Rattle.html5feed.proofs.CharacterReading.{held_len-after, closes-open, data-any_tag, tells-ended, opened-ended, pause-ended, tells-going, opened-going, pause-going, tells-refused, leads-refused, tells-bad, last-ended, last-going}
 use Rattle.html5grammar.proofs.Holding.{holds_at_most_one}
 use Rattle.html5opened.specs.CurrentTag.{opened_of}
 use Rattle.html5opened.proofs.Decided.{begun-decided, beside-decided, with_reference-none}
@@ -116,7 +116,7 @@ pub returns-in-Continues-clause-held : goal.returns-in-Continues-clause-held
 returns-in-Continues-clause-held g c =
     let here = rw c.in_ok-emit_bad_character.ensures.kept.exact_errors at c.in_ok-step.ensures.reads in
     rw (with_reference-none _ _ _ (rw (← c.position.view_is) at c.requires) _)
-    (held_len-behind _ _ (holds_at_most_one c.rules.inside.exact_errors c.args.c (opened_of c.position.inside.opened) (beside-decided _ _ _ (rw (← c.position.view_is) at c.requires))) (rw c.in-Continues.is at here.leads.0))
+    (held_len-after _ _ (holds_at_most_one c.rules.inside.exact_errors c.args.c (opened_of c.position.inside.opened) (beside-decided _ _ _ (rw (← c.position.view_is) at c.requires))) (rw c.in-Continues.is at here.leads.0))
 
 pub begin_reference-requires-clause-decided : goal.begin_reference-requires-clause-decided
 begin_reference-requires-clause-decided g c =

@@ -5,7 +5,7 @@ use Rattle.std.specs.String.{string_bytes}
 use Rattle.html5feed.specs.Feed.{pauses}
 use Rattle.html5feed.proofs.Pauses.{reply_in-pauses}
 use Rattle.html5feed.proofs.QuietReading.{HasRead-quietly, refused-at_once, leaves-quietly}
-use Rattle.html5feed.proofs.QueueReading.{nil-from_append, none_other, HasRead-none, HasRead-run, HasRead-more, HasRead-stops, HasRead-refused, HasRead-leaves, HasFed-all, HasFed-pause, character-taken, quiet-taken, end-behind, count-behind, not-empty, moved-behind}
+use Rattle.html5feed.proofs.QueueReading.{nil-from_append, none_other, HasRead-none, HasRead-run, HasRead-more, HasRead-stops, HasRead-refused, HasRead-leaves, HasFed-all, HasFed-pause, character-taken, quiet-taken, end-after, count-after, not-empty, moved-after}
 use Rattle.markup5ever.specs.BufferQueue.{TextQueue}
 use Rattle.html5feed.proofs.reading.read_queue.Goals as goal
 
@@ -30,7 +30,7 @@ returns-in_err-read_waiting_run-clause-refused g c =
 pub returns-in_err-read_waiting_run-clause-end_of_queue : goal.returns-in_err-read_waiting_run-clause-end_of_queue
 returns-in_err-read_waiting_run-clause-end_of_queue g c =
     let run = c.in_err-read_waiting_run.ensures.reads in
-    end-behind g.S.TokenSink.means c.args.rules.now _ _ _ _ _ _ _ run.run c.loop-position.invariant.0 run.takes
+    end-after g.S.TokenSink.means c.args.rules.now _ _ _ _ _ _ _ run.run c.loop-position.invariant.0 run.takes
 
 pub returns-in_err-read_waiting_run-clause-empty : goal.returns-in_err-read_waiting_run-clause-empty
 returns-in_err-read_waiting_run-clause-empty g c = λ nothing.
@@ -54,7 +54,7 @@ returns-in_err-read_waiting_quietly-clause-refused g c =
 
 pub returns-in_err-read_waiting_quietly-clause-end_of_queue : goal.returns-in_err-read_waiting_quietly-clause-end_of_queue
 returns-in_err-read_waiting_quietly-clause-end_of_queue g c =
-    end-behind g.S.TokenSink.means c.args.rules.now _ _ _ _ _ _ _ _ (HasRead-run g.S.TokenSink.means c.args.rules.now _ _ _ _ _ _ _ _ _ c.loop-position.invariant.0 c.in_ok-read_waiting_run.ensures.reads) c.in_err-read_waiting_quietly.ensures.reads.takes
+    end-after g.S.TokenSink.means c.args.rules.now _ _ _ _ _ _ _ _ (HasRead-run g.S.TokenSink.means c.args.rules.now _ _ _ _ _ _ _ _ _ c.loop-position.invariant.0 c.in_ok-read_waiting_run.ensures.reads) c.in_err-read_waiting_quietly.ensures.reads.takes
 
 pub returns-in_err-read_waiting_quietly-clause-empty : goal.returns-in_err-read_waiting_quietly-clause-empty
 returns-in_err-read_waiting_quietly-clause-empty g c = λ nothing.
@@ -99,7 +99,7 @@ returns-in_err-pause-clause-refused g c =
     rw (p.1, p.2) (HasRead-leaves g.S.TokenSink.means c.args.rules.now _ _ _ _ _ _ _ _ _ (c.in-Some.c ∷ []) (HasRead-quietly g.S.TokenSink.means c.args.rules.now _ _ _ _ _ _ _ _ (HasRead-run g.S.TokenSink.means c.args.rules.now _ _ _ _ _ _ _ _ _ c.loop-position.invariant.0 c.in_ok-read_waiting_run.ensures.reads) c.in_ok-read_waiting_quietly.ensures.reads) c.in-Some.ensures.some (inl (omega arith)) c.in_err-pause.ensures.tells)
 
 pub returns-in_err-pause-clause-end_of_queue : goal.returns-in_err-pause-clause-end_of_queue
-returns-in_err-pause-clause-end_of_queue g c = end-behind g.S.TokenSink.means c.args.rules.now _ _ _ _ _ _ _ (c.in-Some.c ∷ []) (HasRead-quietly g.S.TokenSink.means c.args.rules.now _ _ _ _ _ _ _ _ (HasRead-run g.S.TokenSink.means c.args.rules.now _ _ _ _ _ _ _ _ _ c.loop-position.invariant.0 c.in_ok-read_waiting_run.ensures.reads) c.in_ok-read_waiting_quietly.ensures.reads) c.in-Some.ensures.some
+returns-in_err-pause-clause-end_of_queue g c = end-after g.S.TokenSink.means c.args.rules.now _ _ _ _ _ _ _ (c.in-Some.c ∷ []) (HasRead-quietly g.S.TokenSink.means c.args.rules.now _ _ _ _ _ _ _ _ (HasRead-run g.S.TokenSink.means c.args.rules.now _ _ _ _ _ _ _ _ _ c.loop-position.invariant.0 c.in_ok-read_waiting_run.ensures.reads) c.in_ok-read_waiting_quietly.ensures.reads) c.in-Some.ensures.some
 
 pub returns-in_err-pause-clause-empty : goal.returns-in_err-pause-clause-empty
 returns-in_err-pause-clause-empty g c = λ nothing. absurd (not-empty g.S.TokenSink.means c.args.rules.now _ _ _ _ _ _ _ c.in-Some.c (HasRead-quietly g.S.TokenSink.means c.args.rules.now _ _ _ _ _ _ _ _ (HasRead-run g.S.TokenSink.means c.args.rules.now _ _ _ _ _ _ _ _ _ c.loop-position.invariant.0 c.in_ok-read_waiting_run.ensures.reads) c.in_ok-read_waiting_quietly.ensures.reads) c.in-Some.ensures.some nothing)
@@ -111,7 +111,7 @@ loop-position-preserved g c =
     let leads = c.in_ok-pause.ensures.leads in
     let quiet = rw c.in-Done.is at c.in_ok-pause.ensures.answer in (
       HasRead-more g.S.TokenSink.means c.args.rules.now _ _ _ _ _ _ _ _ _ (c.in-Some.c ∷ []) (HasRead-quietly g.S.TokenSink.means c.args.rules.now _ _ _ _ _ _ _ _ (HasRead-run g.S.TokenSink.means c.args.rules.now _ _ _ _ _ _ _ _ _ c.loop-position.invariant.0 c.in_ok-read_waiting_run.ensures.reads) c.in_ok-read_waiting_quietly.ensures.reads) c.in-Some.ensures.some c.in_ok-pause.ensures.tells
-          (moved-behind g.S.TokenSink.means c.args.rules.now _ _ _ (c.in-Some.c ∷ []) leads c.in_ok-pause.ensures.last c.read_character.ensures.input) (ap pauses (sym quiet)),
+          (moved-after g.S.TokenSink.means c.args.rules.now _ _ _ (c.in-Some.c ∷ []) leads c.in_ok-pause.ensures.last c.read_character.ensures.input) (ap pauses (sym quiet)),
       omega (arith, c.in_ok-pause.ensures.faults, c.in_ok-read_waiting_run.ensures.faults, c.loop-position.invariant.1),
       omega (arith, ap length c.in-Some.ensures.some.text, c.read_character.ensures.held, c.in_ok-read_waiting_run.ensures.held, c.loop-position.invariant.2),
     )
@@ -121,7 +121,7 @@ returns-in_default-2 g c =
     let leads = c.in_ok-pause.ensures.leads in
     let read = HasRead-quietly g.S.TokenSink.means c.args.rules.now _ _ _ _ _ _ _ _ (HasRead-run g.S.TokenSink.means c.args.rules.now _ _ _ _ _ _ _ _ _ c.loop-position.invariant.0 c.in_ok-read_waiting_run.ensures.reads) c.in_ok-read_waiting_quietly.ensures.reads in
     let fed = HasFed-pause g.S.TokenSink.means c.args.rules.now _ _ _ _ _ _ _ _ _ c.in-Some.c _ read c.in-Some.ensures.some c.in_ok-pause.ensures.tells
-    (moved-behind g.S.TokenSink.means c.args.rules.now _ _ _ (c.in-Some.c ∷ []) leads c.in_ok-pause.ensures.last c.read_character.ensures.input) c.in_ok-pause.ensures.answer (reply_in-pauses string_bytes _ c.in_default-2.not-Done) in
+    (moved-after g.S.TokenSink.means c.args.rules.now _ _ _ (c.in-Some.c ∷ []) leads c.in_ok-pause.ensures.last c.read_character.ensures.input) c.in_ok-pause.ensures.answer (reply_in-pauses string_bytes _ c.in_default-2.not-Done) in
     record {
       tells = fed.told_all;
       moves = fed.position;
@@ -129,8 +129,8 @@ returns-in_default-2 g c =
       left = fed.left;
       refusal = tt;
       refused = tt;
-      end_of_queue = end-behind g.S.TokenSink.means c.args.rules.now _ _ _ _ _ _ _ (c.in-Some.c ∷ []) read c.in-Some.ensures.some;
-      taken = count-behind g.S.TokenSink.means c.args.rules.now _ _ _ _ _ _ _ (c.in-Some.c ∷ []) read c.in-Some.ensures.some;
+      end_of_queue = end-after g.S.TokenSink.means c.args.rules.now _ _ _ _ _ _ _ (c.in-Some.c ∷ []) read c.in-Some.ensures.some;
+      taken = count-after g.S.TokenSink.means c.args.rules.now _ _ _ _ _ _ _ (c.in-Some.c ∷ []) read c.in-Some.ensures.some;
       handed_in = c.in-Some.ensures.some.handed_in ∙ read.takes.handed_in;
       held = omega (arith, ap length c.in-Some.ensures.some.text, c.read_character.ensures.held, c.in_ok-read_waiting_run.ensures.held, c.loop-position.invariant.2);
       faults = omega (arith, c.in_ok-pause.ensures.faults, c.in_ok-read_waiting_run.ensures.faults, c.loop-position.invariant.1);

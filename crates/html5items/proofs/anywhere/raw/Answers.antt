@@ -4,7 +4,7 @@ use Rattle.html5ever_interface.specs.Sink.{Message}
 use Rattle.html5items.specs.Anywhere.{last_reply}
 use Rattle.html5items.specs.Tag.{tag_told}
 use Rattle.html5items.specs.Spelled.{spelled_messages}
-use Rattle.html5grammar.specs.Reading.{after, last_behind, open_after_reply}
+use Rattle.html5grammar.specs.Reading.{after, last_after, open_after_reply}
 use Rattle.html5items.specs.RawText.{spell_raw}
 use Rattle.html5items.proofs.ByItself.{tells-by_itself, trace-by_itself}
 use Rattle.html5items.proofs.RawText.Reading.{reads_raw_reply, told-raw_open}
@@ -14,7 +14,7 @@ pub returns-clause-ended : goal.returns-clause-ended
 returns-clause-ended g c = λ rules K s Y raw name written_as tag e table one.
     let M : List Message = spelled_messages rules.exact K.input [] (spell_raw rules raw written_as) in
     trace-by_itself g.S.TokenSink.means rules K s Y M
-    (open_after_reply (last_behind K.last_start_tag (tag_told rules tag)) (last_reply g.S.TokenSink.means.step g.S.TokenSink.means.reply s M)) (last_behind K.last_start_tag (tag_told rules tag))
+    (open_after_reply (last_after K.last_start_tag (tag_told rules tag)) (last_reply g.S.TokenSink.means.step g.S.TokenSink.means.reply s M)) (last_after K.last_start_tag (tag_told rules tag))
     (reads_raw_reply g.S.TokenSink.means rules K s Y raw name written_as tag e table one)
 
 pub returns-clause-open : goal.returns-clause-open

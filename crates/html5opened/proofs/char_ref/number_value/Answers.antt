@@ -3,7 +3,7 @@ use Rattle.std.specs.Prelude.{min}
 use Rattle.std.specs.Str.Parse.{digits_value}
 use Rattle.std.proofs.Math.Nat.{mul-le-mul}
 use Rattle.std.proofs.lemmas.List.{take_all}
-use Rattle.html5grammar.specs.Reference.{number_value, behind_x}
+use Rattle.html5grammar.specs.Reference.{number_value, after_x}
 use Rattle.html5opened.proofs.Numbers.{value-more, low_bits-more, digit-at}
 use Rattle.html5opened.proofs.char_ref.number_value.Goals as goal
 
@@ -40,7 +40,7 @@ returns c =
     let digits = c.as_bytes-digits.result.now in
     let whole : digits_value c.base_of-base.result (take c.loop-byte.byte-index digits) ≡ number_value c.args.number.now =
     ap (digits_value c.base_of-base.result) (take_all c.loop-byte.byte-index digits c.loop-byte-test.false ∙ c.as_bytes-digits.ensures.value ∙ c.digits_of.ensures)
-    ∙ ap (λ b. digits_value b (behind_x c.args.number.now)) c.base_of-base.ensures.base in
+    ∙ ap (λ b. digits_value b (after_x c.args.number.now)) c.base_of-base.ensures.base in
     record {
       value = c.loop-byte.invariant.value ∙ ap (λ v. min v 0x11_0000) whole;
       low_bits = c.loop-byte.invariant.low_bits ∙ ap (λ v. v % 2 ^ 32) whole;

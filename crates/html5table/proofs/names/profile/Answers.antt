@@ -1,5 +1,5 @@
 use Rattle.std.proofs.Common.{refl}
-use Rattle.markup5ever.specs.NamedReferences.{fault_behind, first_fault_behind, has_zero, is_plain_name, characters_of_name}
+use Rattle.markup5ever.specs.NamedReferences.{fault_after, first_fault_after, has_zero, is_plain_name, characters_of_name}
 use Rattle.html5table.specs.Listed.{listed, entries_said, entry_said, characters_said, character_said, parts_round}
 use Rattle.html5table.specs.Profile.{profile_entries}
 use Rattle.html5table.proofs.names.profile.Goals as goal
@@ -9,5 +9,5 @@ unfolding listed entries_said entry_said characters_said character_said parts_ro
 returns-clause-said c = refl
 
 pub returns-clause-faultless : goal.returns-clause-faultless
-unfolding profile_entries first_fault_behind fault_behind is_plain_name has_zero characters_of_name
+unfolding profile_entries first_fault_after fault_after is_plain_name has_zero characters_of_name
 returns-clause-faultless c = refl

@@ -2,12 +2,12 @@ use Rattle.std.proofs.Common.{[], refl, ap, ◌∙◌, ◌≡◌, string_bytes}
 use Rattle.std.specs.Str.{chars}
 use Rattle.std.proofs.lemmas.Str.{chars-nil}
 use Rattle.html5grammar.specs.Cdata.{open_cdata}
-use Rattle.html5opened.specs.Steps.{behind, tokens_of}
+use Rattle.html5opened.specs.Steps.{afterwards, tokens_of}
 use Rattle.html5opened.specs.Steps.Next.{Opens}
 use Rattle.html5states.proofs.teller.Teller.cut_section.Goals as goal
 
 pub returns : goal.returns
-unfolding behind tokens_of
+unfolding afterwards tokens_of
 returns g c =
     let emits = rw c.replace-text.ensures.value at c.in_ok-emit_cdata_null.ensures in
     let nothing : string_bytes c.replace-text.new.dest ≡ [] = ap string_bytes c.replace-text.ensures.after ∙ c.new.ensures.bytes in

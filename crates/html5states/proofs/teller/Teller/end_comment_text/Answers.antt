@@ -12,4 +12,4 @@ pub returns : goal.returns
 returns g c =
     let content : c.range.result.now ≡ comment_content c.args.text.now =
     c.range.ensures.value ∙ range_from_start c.args.text.now c.content_len.result ∙ c.content_len.ensures.content in
-    emits_then (rw c.state_in_comment.ensures at c.in_ok-emit_end_error.ensures) (rw content at c.end_behind_comment.ensures) refl
+    emits_then (rw c.state_in_comment.ensures at c.in_ok-emit_end_error.ensures) (rw content at c.end_after_comment.ensures) refl

@@ -6,4 +6,4 @@ pub returns-in_err-emit_end_error : goal.returns-in_err-emit_end_error
 returns-in_err-emit_end_error g c = emits_stop _ c.from_residual.ensures.1 c.in_err-emit_end_error.ensures _ refl
 
 pub returns : goal.returns
-returns g c = emits_then c.in_ok-emit_end_error.ensures c.end_behind_instruction.ensures refl
+returns g c = emits_then c.in_ok-emit_end_error.ensures c.end_after_instruction.ensures refl

@@ -16,20 +16,20 @@ returns-in_err-found-clause-emits g c =
 pub returns-in_err-put_characters-clause-emits : goal.returns-in_err-put_characters-clause-emits
 returns-in_err-put_characters-clause-emits g c =
     emits_then c.in_ok-found.ensures.emits (emits_stop _ c.from_residual-in_err-put_characters.ensures.1 c.in_err-put_characters.ensures.emits [] (sym (append-nil _)))
-    (told-found c.args.self.now.exact_errors c.args.names.now c.is_in_value.result (stand_of (opened_of c.args.at.now)) c.args.held.now c.text-text.result.now c.behind.result.now c.args.next c.in_ok-found.found c.is_in_value.ensures
-    c.in_ok-found.ensures.found c.text-text.ensures.text c.behind.ensures)
+    (told-found c.args.self.now.exact_errors c.args.names.now c.is_in_value.result (stand_of (opened_of c.args.at.now)) c.args.held.now c.text-text.result.now c.afterwards.result.now c.args.next c.in_ok-found.found c.is_in_value.ensures
+    c.in_ok-found.ensures.found c.text-text.ensures.text c.afterwards.ensures)
 
 pub returns-clause-emits : goal.returns-clause-emits
 returns-clause-emits g c =
     emits_then c.in_ok-found.ensures.emits (emits_ok c.in_ok-put_characters.ensures.emits refl)
-    (told-found c.args.self.now.exact_errors c.args.names.now c.is_in_value.result (stand_of (opened_of c.args.at.now)) c.args.held.now c.text-text.result.now c.behind.result.now c.args.next c.in_ok-found.found c.is_in_value.ensures
-    c.in_ok-found.ensures.found c.text-text.ensures.text c.behind.ensures)
+    (told-found c.args.self.now.exact_errors c.args.names.now c.is_in_value.result (stand_of (opened_of c.args.at.now)) c.args.held.now c.text-text.result.now c.afterwards.result.now c.args.next c.in_ok-found.found c.is_in_value.ensures
+    c.in_ok-found.ensures.found c.text-text.ensures.text c.afterwards.ensures)
 
 pub returns-clause-leads : goal.returns-clause-leads
 returns-clause-leads g c =
     c.in_ok-put_characters.ensures.leads
-    ∙ leads-found c.args.self.now.exact_errors c.args.names.now c.is_in_value.result (stand_of (opened_of c.args.at.now)) c.args.held.now c.text-text.result.now c.behind.result.now c.args.next c.in_ok-found.found c.is_in_value.ensures
-    c.in_ok-found.ensures.found c.text-text.ensures.text c.behind.ensures
+    ∙ leads-found c.args.self.now.exact_errors c.args.names.now c.is_in_value.result (stand_of (opened_of c.args.at.now)) c.args.held.now c.text-text.result.now c.afterwards.result.now c.args.next c.in_ok-found.found c.is_in_value.ensures
+    c.in_ok-found.ensures.found c.text-text.ensures.text c.afterwards.ensures
 
 pub returns-clause-ends : goal.returns-clause-ends
 returns-clause-ends g c = λ d e. ap (λ text. nat_lt (length text) c.in_ok-found.found.taken) c.text-text.ensures.text ∙ c.in_ok-found.ensures.ends d e

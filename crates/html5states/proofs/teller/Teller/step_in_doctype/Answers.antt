@@ -4,21 +4,21 @@ use Rattle.html5ever_interface.specs.Token.{DoctypeOf, doctype_of}
 use Rattle.html5grammar.specs.Machine.{step_at, doctype_step}
 use Rattle.html5grammar.specs.Start.{is_undecided_open}
 use Rattle.html5grammar.specs.Start.DoctypePlace.{AfterName}
-use Rattle.html5opened.specs.CurrentTag.{behind_doctype_name}
+use Rattle.html5opened.specs.CurrentTag.{after_doctype_name}
 use Rattle.html5states.proofs.Tellings.{reads_as}
 use Rattle.html5states.proofs.teller.Teller.step_in_doctype.Goals as goal
 
 -- nothing is held after the name where nothing is undecided
-step-behind_name : (exact : Bool) (held : List ℕ) (d : DoctypeOf) (c : ℕ) → is_undecided_open (behind_doctype_name held d) ≡ false
-    → step_at exact (behind_doctype_name held d) c ≡ doctype_step exact AfterName d c
+step-after_name : (exact : Bool) (held : List ℕ) (d : DoctypeOf) (c : ℕ) → is_undecided_open (after_doctype_name held d) ≡ false
+    → step_at exact (after_doctype_name held d) c ≡ doctype_step exact AfterName d c
 unfolding step_at
-step-behind_name exact [] d c decided = refl
-step-behind_name exact (b ∷ held) d c decided = absurd (false≢true (sym decided))
+step-after_name exact [] d c decided = refl
+step-after_name exact (b ∷ held) d c decided = absurd (false≢true (sym decided))
 
 pub returns-in-AfterDoctypeName : goal.returns-in-AfterDoctypeName
 returns-in-AfterDoctypeName g c =
     let at = c.args.at.now in
-    let decided : is_undecided_open (behind_doctype_name (string_bytes at.comment) (doctype_of at.doctype)) ≡ false =
+    let decided : is_undecided_open (after_doctype_name (string_bytes at.comment) (doctype_of at.doctype)) ≡ false =
     rw c.in-AfterDoctypeName.is at c.requires.decided in
     reads_as c.after_doctype_name_state.ensures
-    (rw c.in-AfterDoctypeName.is (step-behind_name c.args.self.now.exact_errors (string_bytes at.comment) (doctype_of at.doctype) c.args.c decided)) refl
+    (rw c.in-AfterDoctypeName.is (step-after_name c.args.self.now.exact_errors (string_bytes at.comment) (doctype_of at.doctype) c.args.c decided)) refl

@@ -7,7 +7,7 @@ use Rattle.html5states.proofs.teller.Teller.tell_end_of_input.Goals as goal
 
 pub returns-in-RawEndTagOpen : goal.returns-in-RawEndTagOpen
 unfolding told_at_end_of told_at_raw_end
-returns-in-RawEndTagOpen g c = rw c.in-RawEndTagOpen.is (rw chars-nil at c.end_behind_end_name.ensures)
+returns-in-RawEndTagOpen g c = rw c.in-RawEndTagOpen.is (rw chars-nil at c.end_after_end_name.ensures)
 
 pub returns-in-ScriptDataEscapedDash : goal.returns-in-ScriptDataEscapedDash
 unfolding told_at_end_of escaped_state

@@ -1,6 +1,6 @@
 use Rattle.std.proofs.Common.{◌+◌, None, Some, true, false, refl, ap, ◌∙◌}
 use Rattle.std.proofs.lemmas.Bool.{iff_false}
-use Rattle.markup5ever.proofs.CaseLemmas.{Answer, answer_begins, answer_differs, answer_ends, begins_from_bytes, differs_from_bytes, ends_from_bytes, front_chars, behind_utf8, length-front}
+use Rattle.markup5ever.proofs.CaseLemmas.{Answer, answer_begins, answer_differs, answer_ends, begins_from_bytes, differs_from_bytes, ends_from_bytes, front_chars, after_utf8, length-front}
 use Rattle.markup5ever.proofs.buffer_queue.BufferQueue.eat.Given.{Over}
 use Rattle.markup5ever.proofs.buffer_queue.BufferQueue.eat.Goals as goal
 
@@ -50,7 +50,7 @@ skip-requires-clause-rest_utf8 g c =
     let least = rw (is, c.as_bytes-pattern.ensures.value) at c.min-shared.ensures in
     let within = rw (is, c.as_bytes-pattern.ensures.value) at c.if-front-pattern.false in
     let utf8 = rw is at c.as_bytes-front.ensures.utf8 in
-    rw c.as_bytes-pattern.ensures.value (behind_utf8 c.args.case text pattern utf8 c.requires.ascii (begins_from_bytes c.args.case text pattern utf8 c.requires.ascii c.min-shared.result least like within))
+    rw c.as_bytes-pattern.ensures.value (after_utf8 c.args.case text pattern utf8 c.requires.ascii (begins_from_bytes c.args.case text pattern utf8 c.requires.ascii c.min-shared.result least like within))
 
 begins : (g : Over) (c : goal.After-skip g) → Answer c.args.case c.args.self.now.text c.args.pat.now (Some true)
 begins g c =

@@ -2,7 +2,7 @@ use Rattle.std.proofs.Common.{◌≡◌, [], ◌∷◌, ◌++◌, length, sym, a
 use Rattle.std.specs.Vec.Iter.{into_iter_items}
 use Rattle.std.proofs.lemmas.List.{map-append, nil_from_length}
 use Rattle.std.proofs.lemmas.Result.{err_from_is_err_and}
-use Rattle.markup5ever.specs.NamedReferences.{begins_name, characters_of_name, references_of, reference_of, first_fault, first_fault_behind}
+use Rattle.markup5ever.specs.NamedReferences.{begins_name, characters_of_name, references_of, reference_of, first_fault, first_fault_after}
 use Rattle.markup5ever.proofs.NamedReferencesLemmas.{IsTable-none, IsAscending-none}
 use Rattle.markup5ever.proofs.TableChecks.{IsTableOf-more, faultless-more, fault-first, faultless-end}
 use Rattle.markup5ever.proofs.data.NamedReferences.check.Goals as goal
@@ -34,7 +34,7 @@ returns-in_err-add-clause-fault g c =
     let entry = c.in-Some.entry in
     let rest = into_iter_items c.next.new.self in
     let steps : into_iter_items at.entry-iterator ≡ entry ∷ rest = c.in-Some.ensures.steps.0 in
-    let whole : first_fault_behind (references_of at.yielded) (reference_of entry ∷ references_of rest) ≡ first_fault (references_of c.args.entries.items) =
+    let whole : first_fault_after (references_of at.yielded) (reference_of entry ∷ references_of rest) ≡ first_fault (references_of c.args.entries.items) =
     rw steps at at.invariant.faultless ∙ ap (λ es. first_fault (references_of es)) c.into_iter-entry-iterator.ensures.into_iter_gives.0 in
     let p = err_from_is_err_and c.from_residual-in_err-add.result c.from_residual-in_err-add.ensures.1 in
     rw (p.1, p.2) (elim c.in_err-add.ensures.fault [

@@ -5,4 +5,4 @@ use Rattle.token_printer.proofs.print_sink.PrintSinkTokenSinkToken.process_token
 pub returns-in-Ok-clause-steps : goal.returns-in-Ok-clause-steps
 unfolding page_step
 returns-in-Ok-clause-steps g c =
-    rw (← c.self.view_is, c.in-Ok.ensures.ok, c.is_open_behind-self-inside.ensures) refl
+    rw (← c.self.view_is, c.in-Ok.ensures.ok, c.is_open_after-self-inside.ensures) refl

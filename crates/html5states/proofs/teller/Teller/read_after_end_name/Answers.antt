@@ -7,7 +7,7 @@ use Rattle.html5grammar.specs.Machine.{raw_step}
 use Rattle.html5grammar.proofs.Steps.{raw_step-before}
 use Rattle.html5opened.specs.CurrentTag.{last_name_of}
 use Rattle.html5states.proofs.Tellings.{reads_then, reads_stop}
-use Rattle.html5states.proofs.teller.Teller.read_behind_end_name.Goals as goal
+use Rattle.html5states.proofs.teller.Teller.read_after_end_name.Goals as goal
 
 pub returns-in_err-emit_end_name : goal.returns-in_err-emit_end_name
 returns-in_err-emit_end_name g c =

@@ -1,15 +1,15 @@
 use Rattle.std.proofs.Common.{ℕ, ◌+◌, ◌++◌, length, refl, ap, ◌∙◌}
 use Rattle.std.proofs.lemmas.List.{take_rest}
 use Rattle.std.proofs.lemmas.Result.{err_from_is_err_and}
-use Rattle.utf8_pieces.specs.Pieces.{Decoding, place_behind}
+use Rattle.utf8_pieces.specs.Pieces.{Decoding, place_after}
 use Rattle.utf8_pieces.specs.declared.error.DecodeError.TheVariants.{NotUtf8}
 use Rattle.utf8_pieces.proofs.Fronts.{Decodes-ok, Decodes-refused, Decodes-memory}
-use Rattle.utf8_pieces.proofs.decoder.Decoder.decode_behind.Goals as goal
+use Rattle.utf8_pieces.proofs.decoder.Decoder.decode_after.Goals as goal
 
 pub returns-in-Err : goal.returns-in-Err
 returns-in-Err g c =
     let taken = ap (λ (d : Decoding). d.taken) c.self.view_is in
-    let place = c.place_behind.ensures ∙ ap (λ (t : ℕ). place_behind t (length c.args.first.now + c.in-Err.valid)) taken in
+    let place = c.place_after.ensures ∙ ap (λ (t : ℕ). place_after t (length c.args.first.now + c.in-Err.valid)) taken in
     Decodes-refused c.args.self.now c.args.self.now c.args.first.now c.args.bytes.now c.in-Err.valid _ c.utf8.first c.in-Err.ensures.valid
     c.in-Err.ensures.refused (ap NotUtf8 place) refl
 

@@ -3,7 +3,7 @@ use Rattle.std.specs.List.{list_all}
 use Rattle.html5ever_interface.specs.Token.{told_by}
 use Rattle.html5cleaner.specs.Allowed.{is_clean}
 use Rattle.html5cleaner.proofs.CleanPieces.{clean-more}
-use Rattle.html5cleaner.proofs.cleaner.CleanerRunHandlerToken.take_run.Goals as goal
+use Rattle.html5cleaner.proofs.cleaner.CleanerTokenHandlerToken.take_token.Goals as goal
 
 pub invariant_of-self : goal.invariant_of-self
 invariant_of-self g c =

@@ -2,7 +2,7 @@ use Rattle.std.proofs.Common.{[], ◌∷◌, ap, sym}
 use Rattle.html5ever_interface.specs.Token.{DoctypeOf}
 use Rattle.html5ever_interface.specs.Token.Told.{Doctype, End}
 use Rattle.html5states.proofs.Tellings.{emits_then, emits_stop}
-use Rattle.html5states.proofs.teller.Teller.end_behind_doctype.Goals as goal
+use Rattle.html5states.proofs.teller.Teller.end_after_doctype.Goals as goal
 
 pub returns-in_err-tell : goal.returns-in_err-tell
 returns-in_err-tell g c =

@@ -1,6 +1,6 @@
 use Rattle.std.proofs.Common.{refl}
 use Rattle.html5states.proofs.Tellings.{emits_then, emits_stop}
-use Rattle.html5states.proofs.teller.Teller.end_behind_instruction.Goals as goal
+use Rattle.html5states.proofs.teller.Teller.end_after_instruction.Goals as goal
 
 pub returns-in_err-emit_instruction_text : goal.returns-in_err-emit_instruction_text
 returns-in_err-emit_instruction_text g c = emits_stop _ c.from_residual.ensures.1 c.in_err-emit_instruction_text.ensures _ refl
