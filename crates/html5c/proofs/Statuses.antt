@@ -16,6 +16,7 @@ ok_is_no_error x e same = cc
 pub over_status : {A : Type 0} (error : SessionError) → ◌≡◌ {A = Result A SessionError} (Err error) (Err Over) → error_status error ≡ 7
 over_status error same = let is : error ≡ Over = cc in ap error_status is
 
+-- the status of a feed that was answered says what it left
 pub feed_says-fed : (old new : SessionOf) (bytes : List ℕ) (fed : Fed) → FeedsPiece old new bytes fed
     → (is_over old ≡ true → (fed_status fed ≡ 7) × (new ≡ old)) → FeedSays old new bytes (fed_status fed)
 feed_says-fed old new bytes Done feeds unchanged = record {
@@ -49,6 +50,7 @@ feed_says-fed old new bytes Encoding feeds unchanged = record {
   only = (λ e. omega (arith, e), λ e. omega (arith, e), λ e. omega (arith, e), λ e. omega (arith, e));
 }
 
+-- the status of a feed that was refused says what it left
 pub feed_says-error : (old new : SessionOf) (bytes : List ℕ) (error : SessionError) → FeedRefused old new bytes error
     → (is_over old ≡ true → (error_status error ≡ 7) × (new ≡ old)) → FeedSays old new bytes (error_status error)
 feed_says-error old new bytes Memory refused unchanged = record {
@@ -95,6 +97,7 @@ end_says-done old new ends going = record {
   only = inl refl;
 }
 
+-- the status of an end that was refused says what it left
 pub end_says-error : (old new : SessionOf) (error : SessionError) → EndRefused old new error
     → (is_over old ≡ true → (error_status error ≡ 7) × (new ≡ old)) → EndSays old new (error_status error)
 end_says-error old new Memory refused unchanged = record {
@@ -144,6 +147,7 @@ new_says-done now name o start = record {
   only = inl refl;
 }
 
+-- the status of a refused `html5_new` says why
 pub new_says-error : (now : Option SessionOf) (name : List ℕ) (o : Options) (error : OpenError) → now ≡ None → OpenFails name o error
     → NewSays now name o (open_status error)
 new_says-error now name o opening.Memory closed fails = record {

@@ -63,7 +63,7 @@ pub extern "C" fn html5_insert(alloc: Global, h: &mut Handle, text: &[u8]) -> u3
     status
 }
 
-/// Tells the end of the page.
+/// Ends the page.
 #[unsafe(no_mangle)]
 pub extern "C" fn html5_end(alloc: Global, h: &mut Handle) -> u32
     ensures { Ends (session_of h.old.owned.value) (session_of h.new.owned.value) result }

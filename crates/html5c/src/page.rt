@@ -69,7 +69,7 @@ impl Page {
         }
     }
 
-    /// Tells the end.
+    /// Ends the page.
     pub fn end(&mut self) -> u32
         ensures { Ends self.old.session self.new.session result }
     {

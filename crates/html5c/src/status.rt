@@ -15,13 +15,13 @@ pub const NO_MEMORY: u32 = 3;
 /// The bytes are no UTF-8.
 pub const NOT_UTF8: u32 = 4;
 
-/// The end is told within a character.
+/// The page ends within a character.
 pub const CUT: u32 = 5;
 
-/// The end is told while text waits.
+/// The page ends while text waits.
 pub const WAITING: u32 = 6;
 
-/// The end was told, or an earlier call failed.
+/// The page has ended, or an earlier call failed.
 pub const OVER: u32 = 7;
 
 /// The handle is closed.

@@ -36,6 +36,7 @@ FedTo-start first text queue utf8 going_on not_failed waiting = record {
   waiting = waiting;
 }
 
+-- one piece more of the text was fed
 pub FedTo-more : (first now next : Tokenizing Printer) (text piece : List ℕ) (start len : ℕ) (queue later : TextQueue)
     → FedTo first now text start queue → IsUtf8 text → IsCut text (start + len) → piece ≡ take len (drop start text)
     → ReadsOn printer_means now next (chars piece)

@@ -13,6 +13,7 @@ use Rattle.markup5ever.specs.NamedReferences.{NamedReference, IsTable}
 use Rattle.token_printer.specs.Page.{blank_page}
 use Rattle.token_printer.specs.Printed.{printed}
 
+-- what is printed of a reading is printed of its items
 pub prints-items : (settings : SettingsOf) (names : List NamedReference) (known : Traffic) → IsTable names → PrintsReading settings names known → PrintsItems settings names known
 unfolding printed_reading
 prints-items settings names known table p =

@@ -32,7 +32,7 @@ use Rattle.html5cli.specs.Printing.{printed_reading}
 use Rattle.html5cli.specs.Settings.{SettingsOf}
 use Rattle.markup5ever.specs.NamedReferences.{NamedReference}
 
--- the end is told last
+-- the end is sent last
 EndsWithEnd : List Told → Type 0
 EndsWithEnd tokens = (front : List Told) × (tokens ≡ front ++ End ∷ [])
 
@@ -43,6 +43,7 @@ between-ends exact Plain = ([], refl)
 between-ends exact Cdata = (end_error_in exact state.CdataSection ∷ [], refl)
 between-ends exact (RawText raw name) = (raw_end_error exact raw, refl)
 
+-- whatever is open, the end tells the end last
 told_at_end_of-ends : (rules : Rules) (opened : Open) → EndsWithEnd (told_at_end_of rules.exact (open_at_end_of rules opened))
 unfolding told_at_end_of open_at_end_of EndsWithEnd
 told_at_end_of-ends rules (Between mode) = between-ends rules.exact mode
@@ -73,6 +74,7 @@ module _ (rules : Rules) (K : Start) (p : Page) (X : List ℕ) where
   front-messages : List Told → List Message
   front-messages tokens = messages (told page_step reply page_foreign rules K p X) ++ (messages late-events ++ on_line (line_after K.input (normalised K.input X)) tokens)
 
+  -- so a reading ends with the end
   reading-ends : (tokens : List Told) → told_at_end_of rules.exact (open_at_end_of rules (read page_step reply page_foreign rules K p X).opened) ≡ tokens ++ End ∷ []
       → messages (reading page_step reply page_foreign rules K p X)
       ≡ front-messages tokens ++ record { token = End; line = line_after K.input (normalised K.input X) } ∷ []

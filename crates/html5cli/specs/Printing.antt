@@ -13,7 +13,7 @@ use Rattle.html5cli.specs.Settings.{SettingsOf}
 use Rattle.html5ever.specs.Tokenizer.{rules_of}
 use Rattle.markup5ever.specs.NamedReferences.{NamedReference}
 
--- what a printing sink makes of what it is told
+-- what a printing sink makes of what it is sent
 abbrev pub printer_means : Means Printer Page (Unit {0})
 printer_means = record {
   state = λ sink. sink.page;
@@ -25,8 +25,8 @@ printer_means = record {
   end_faulted = λ page. page;
 }
 
--- the printed lines of the reading of a text by a table, where the text's bytes are given: the cut is not in it, nor the table
--- that the settings say
+-- the printed lines of the reading of a text by a table, where the text's bytes are given. Neither the cut nor the table that the
+-- settings say is in it.
 unfoldable pub printed_reading : SettingsOf → List NamedReference → List ℕ → List ℕ
 printed_reading settings names bytes =
     printed (all_messages printer_means (rules_of settings.opts names) (start_of settings.opts) (blank_page settings.foreign) (chars bytes))

@@ -103,6 +103,7 @@ record DoctypeFlagsRead (name public_id system_id quirks : Bool) (flags : ℕ) :
   pub system_id_is : has_flag flags 4 ≡ system_id
   pub quirks_is : has_flag flags 8 ≡ quirks
 
+-- the four flags of a doctype are read back from their sum
 doctype_flags_read : (a b c d : Bool) → DoctypeFlagsRead a b c d (flag a 1 + flag b 2 + flag c 4 + flag d 8)
 doctype_flags_read true true true true = record { low = refl; name_is = refl; public_id_is = refl; system_id_is = refl; quirks_is = refl }
 doctype_flags_read true true true false = record { low = refl; name_is = refl; public_id_is = refl; system_id_is = refl; quirks_is = refl }
@@ -130,6 +131,7 @@ read_flags-cons limit flags rest low = rw low refl
 regrouped : (a b c d : List ℕ) → ((a ++ b) ++ c) ++ d ≡ a ++ (b ++ (c ++ d))
 regrouped a b c d = simp append_assoc
 
+-- a tag is read back from its parts
 read_tag-parts : (tag : TagOf) (rest : List ℕ) → IsTagToldWhole tag → read_tag tag.kind (tag_parts tag ++ rest) ≡ Some (Tag tag, rest)
 unfolding read_tag tag_parts attribute_records
 read_tag-parts tag rest whole =
@@ -154,6 +156,7 @@ unfolding read_optional optional
 read_optional-optional None rest short = refl
 read_optional-optional (Some text) rest short = rw (read_counted-counted text rest short) refl
 
+-- a doctype is read back from its parts
 read_doctype-parts : (doctype : DoctypeOf) (rest : List ℕ) → IsDoctypeToldWhole doctype → read_doctype (doctype_parts doctype ++ rest) ≡ Some (Doctype doctype, rest)
 unfolding read_doctype doctype_parts
 read_doctype-parts doctype rest whole =

@@ -86,6 +86,7 @@ record SplitAs (count : ℕ) (bytes text rest : List ℕ) : Type 0 where
   pub begins : BeginsAs bytes text rest
   pub length_is : length text ≡ count
 
+-- bytes that are split off are the text and the rest
 split_off-only : (count : ℕ) (bytes text rest : List ℕ) → AreBytes bytes → split_off count bytes ≡ Some (text, rest) → SplitAs count bytes text rest
 unfolding split_off
 split_off-only count bytes text rest are read =
@@ -106,6 +107,7 @@ read_counted-only bytes text rest are read =
     let second = split_off-only s.x.0 s.x.1 text rest first.rest_bytes s.then_was in
     rw second.length_is (begins_as-more bytes (number s.x.0) s.x.1 text rest first second.begins)
 
+-- a text that was read was written so
 read_text-only : (bytes text rest : List ℕ) → AreBytes bytes → read_text bytes ≡ Some (text, rest) → BeginsAs bytes (text ++ text_end ∷ []) rest
 unfolding read_text
 read_text-only bytes text rest are read =
@@ -120,6 +122,7 @@ read_text-only bytes text rest are read =
     (begins_as bytes (take s.x bytes ++ text_end ∷ []) (drop (s.x + 1) bytes) are
     (whole ∙ ap (λ b. take s.x bytes ++ (b ∷ drop (s.x + 1) bytes)) last ∙ sym (append_assoc (take s.x bytes) (text_end ∷ []) (drop (s.x + 1) bytes))))
 
+-- an attribute that was read was written so
 read_attribute-only : (bytes rest : List ℕ) (attribute : AttributeOf) → AreBytes bytes → read_attribute bytes ≡ Some (attribute, rest)
     → BeginsAs bytes (attribute_record attribute) rest
 unfolding read_attribute attribute_record
@@ -137,6 +140,7 @@ record ManyAs (count : ℕ) (bytes : List ℕ) (attributes : List AttributeOf) (
   pub begins : BeginsAs bytes (flat_map attribute_record attributes) rest
   pub length_is : length attributes ≡ count
 
+-- attributes that were read were written so
 after_attributes-only : (count : ℕ) (bytes rest : List ℕ) → AreBytes bytes → after_attributes count bytes ≡ Some rest
     → ManyAs count bytes (attributes_in count bytes) rest
 unfolding after_attributes attributes_in
@@ -175,6 +179,7 @@ tag_flags-only (suc (suc zero)) low = refl
 tag_flags-only (suc (suc (suc zero))) low = refl
 tag_flags-only (suc (suc (suc (suc n)))) low = absurd (omega arith)
 
+-- the flags of a doctype that were read are their byte
 doctype_flags-only : (flags : ℕ) → flags < 16 → flag (has_flag flags 1) 1 + flag (has_flag flags 2) 2 + flag (has_flag flags 4) 4 + flag (has_flag flags 8) 8 ≡ flags
 doctype_flags-only zero low = refl
 doctype_flags-only (suc zero) low = refl
@@ -204,6 +209,7 @@ record PartsAs (code : ℕ) (bytes : List ℕ) (read : Told × List ℕ) : Type 
 parts_as : (code : ℕ) (bytes : List ℕ) (made read : Told × List ℕ) → Some made ≡ Some read → PartsAs code bytes made → PartsAs code bytes read
 parts_as code bytes made read is parted = let P : Told × List ℕ → Type 0 = λ r. PartsAs code bytes r in subst P (the_same made read is) parted
 
+-- a tag that was read was written so
 read_tag-only : (kind : TagKind) (bytes rest : List ℕ) (told : Told) → AreBytes bytes → read_tag kind bytes ≡ Some (told, rest)
     → PartsAs (tag_code kind) bytes (told, rest)
 unfolding read_tag parts tag_parts attribute_records
@@ -235,6 +241,7 @@ record OptionalAs (is_there : Bool) (bytes : List ℕ) (read : Option (List ℕ)
   pub there : is_some read.0 ≡ is_there
   pub begins : BeginsAs bytes (optional read.0) read.1
 
+-- a text that was read, or its lack, was written so
 read_optional-only : (is_there : Bool) (bytes : List ℕ) (read : Option (List ℕ) × List ℕ) → AreBytes bytes → read_optional is_there bytes ≡ Some read
     → OptionalAs is_there bytes read
 unfolding read_optional optional
@@ -247,6 +254,7 @@ read_optional-only true bytes read are is =
     subst P (the_same (Some t.x.0, t.x.1) read t.then_was)
     (record { there = refl; begins = read_counted-only bytes t.x.0 t.x.1 are t.was })
 
+-- a doctype that was read was written so
 read_doctype-only : (bytes rest : List ℕ) (told : Told) → AreBytes bytes → read_doctype bytes ≡ Some (told, rest) → PartsAs 6 bytes (told, rest)
 unfolding read_doctype parts doctype_parts
 read_doctype-only bytes rest told are read =
@@ -305,6 +313,7 @@ read_text_token-only code bytes rest told are read =
     parts_as code bytes (k.x, t.x.1) (told, rest) k.then_was
     (record { no_text = token.no_text; code_is = token.code_is; begins = rw token.parts_are (read_counted-only bytes t.x.0 t.x.1 are t.was) })
 
+-- the parts of a token that were read were written so
 read_parts-only : (code : ℕ) (bytes rest : List ℕ) (told : Told) → AreBytes bytes → read_parts code bytes ≡ Some (told, rest) → PartsAs code bytes (told, rest)
 unfolding read_parts parts
 read_parts-only code bytes rest told are read =
@@ -326,6 +335,7 @@ read_text_record-only bytes rest m are read =
     let P : Message × List ℕ → Type 0 = λ r. 3 ∷ bytes ≡ (heading_of r.0.token r.0.line ++ parts r.0.token) ++ r.1 in
     subst P (the_same (made, t.x.1) (m, rest) t.then_was) (ap (λ l. 3 ∷ l) text.whole)
 
+-- a record other than a text that was read was written so
 read_other_record-only : (code : ℕ) (bytes rest : List ℕ) (m : Message) → AreBytes bytes → read_other_record code bytes ≡ Some (m, rest)
     → code ∷ bytes ≡ record_of m.token m.line ++ rest
 unfolding read_other_record record_of heading

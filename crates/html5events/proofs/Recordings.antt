@@ -1,4 +1,4 @@
--- What a sink that is told messages has written: the records of those messages, with texts joined.
+-- What a sink has written that was sent messages: their records, with texts joined.
 use Rattle.std.proofs.Common.{◌≡◌, ℕ, Bool, true, false, List, [], ◌∷◌, ◌++◌, None, refl, ap, sym, ◌∙◌}
 use Rattle.std.proofs.lemmas.List.{append-nil, append_assoc}
 use Rattle.html5ever_interface.proofs.Steppings.{stepped-append}
@@ -55,6 +55,7 @@ regrouped : (start before : List ℕ) (text more : List ℕ) → (start ++ (befo
 regrouped start before text more =
     append_assoc start (before ++ 3 ∷ text) more ∙ ap (λ l. start ++ l) (append_assoc before (3 ∷ text) more)
 
+-- one text more is joined to the text before it
 stands-text : (start : List ℕ) (r : Recorded) (J : List Message) (b : ℕ) (bs : List ℕ) (line : ℕ) → Stands start r J
     → Stands start (recorded_step r (Text (b ∷ bs)) line) (with_text J (b ∷ bs))
 unfolding recorded_step added_by added_by_text open_after

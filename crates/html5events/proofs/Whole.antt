@@ -38,6 +38,7 @@ next-low c = omega arith
 AreLow-next : (c : ℕ) (bytes : List ℕ) → AreLow bytes → AreLow (next c ∷ bytes)
 AreLow-next c bytes more = AreLow-cons (next c) bytes (next-low c) more
 
+-- the bytes of a character are below the byte that ends a text
 AreLow-encode : (c : ℕ) → scalar c ≡ true → AreLow (encode c)
 unfolding encode
 AreLow-encode c is =
@@ -94,6 +95,7 @@ IsRecordable-all (a ∷ attributes) plain zero d within = record {
 IsRecordable-all (a ∷ attributes) plain (suc k) d within =
     IsRecordable-all attributes (λ i e inside. plain (suc i) e (omega arith)) k d (omega arith)
 
+-- each token whose names are plain can be read back
 pub IsToldWhole-told_by : {Z : Type 0} (token : Token Z) → HasPlainNames (told_by token) → IsToldWhole (told_by token)
 IsToldWhole-told_by (DoctypeToken doctype) plain = record {
   name = IsShortIfAny-string_bytes doctype.name;

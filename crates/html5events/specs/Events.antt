@@ -1,7 +1,7 @@
--- What a sink of records makes of what it is told.
+-- What a sink of records makes of what it is sent.
 --
 -- The abstract state is all that was ever written, and whether a text is open at its end: it is the same whether bytes were
--- taken or not. A text is written as it is told and ends where another token comes, so that two adjacent texts are as one.
+-- taken or not. A text is written as it is sent and ends where another token comes, so that two adjacent texts are as one.
 use Rattle.std.specs.Prelude.{◌≡◌, ℕ, ◌-◌, ◌^◌, ◌≤◌, min, Bool, true, false, List, [], ◌∷◌, ◌++◌, length, take, drop}
 use Rattle.html5events.specs.Records.{text_end, record_of}
 use Rattle.html5ever_interface.specs.Collected.{with_told}
@@ -69,7 +69,7 @@ unfoldable pub recorded_step : Recorded → Told → ℕ → Recorded
 recorded_step r told line =
     record r { bytes = r.bytes ++ added_by r.in_text told line; in_text = open_after r.in_text told }
 
--- the reply to what is told: where none is wanted it is to read on
+-- the reply to what the sink is sent: where none is wanted it is to read on
 abbrev pub reply_by : Replies → Told → Reply (Unit {0})
 reply_by None told = KeepOn
 reply_by Standard told = reply_where_tag standard_reply told
@@ -86,7 +86,7 @@ recorded_foreign r = r.foreign
 abbrev pub recorded_faulted : Recorded → Told → ℕ → Recorded
 recorded_faulted r told line = r
 
--- what a sink of records makes of what it is told
+-- what a sink of records makes of what it is sent
 abbrev pub recorded_means : Means Events Recorded (Unit {0})
 recorded_means = record {
   state = λ s. s.recorded;

@@ -1,4 +1,4 @@
-//! A sink that writes what it is told as records of bytes.
+//! A sink that writes what it is sent as records of bytes.
 ghost use Rattle.std.specs.Prelude.{◌≡◌, ℕ, false, List, [], ◌∷◌, ◌+◌, ◌-◌, ◌/◌, ◌^◌, ◌≤◌, ◌++◌, length, take, drop, min, vec_len, string_bytes, IfOk, OnOk, OnErr};
 ghost use Rattle.html5events.specs.Events.{Recorded, no_events, reply_by, added_by, recorded_step, closed_bytes, joined, after_taking};
 ghost use Rattle.html5events.specs.Records.{records_of, BeginsWith};
@@ -134,9 +134,9 @@ fn skip_front<A: Allocator>(page: &mut Vec<u8, A>, skipped: &mut usize, count: u
     }
 }
 
-/// What is written for messages is their records, one after the other, where adjacent texts are one and an empty text has
-/// none: once the last text is ended, and at once where the messages end with the end of the input. What was written
-/// before stays in front.
+/// What is written for messages is their records, one after the other. Adjacent texts are one, and an empty text has none.
+/// It is all there once the last text is ended, or at once where the messages end with the end of the input. What was
+/// written before stays in front.
 pub fn writes_records()
     ensures begins { (r : Recorded) (M : List Message) →
         BeginsWith (stepped recorded_step r M).bytes r.bytes }
@@ -147,7 +147,7 @@ pub fn writes_records()
         → (stepped recorded_step r M).bytes ≡ r.bytes ++ records_of (joined M) }
 {}
 
-/// Writes what it is told as records: a text as it comes, and any other token at once. The bytes wait in the sink until
+/// Writes what it is sent as records: a text as it comes, and any other token at once. The bytes wait in the sink until
 /// they are taken. A token whose bytes find no memory, or its reply, is a fault, and leaves none of them.
 #[derive(Drop)]
 pub struct EventSink<A: Allocator = Global> {
@@ -184,7 +184,7 @@ impl<A: Allocator> Model for EventSink<A> {
 }
 
 impl<A: Allocator> EventSink<A> {
-    /// A sink that was told nothing.
+    /// A sink that was sent nothing.
     pub fn new(alloc: A, options: EventOptions) -> EventSink<A>
         ensures { result ≡ no_events options.replies options.foreign }
     {

@@ -71,7 +71,7 @@ pub enum TokenRecord<'a> {
     End,
 }
 
-/// A record: a token, and the line that was told with it. The line of a text is 0.
+/// A record: a token, and the line that was sent with it. The line of a text is 0.
 #[derive(Clone, Copy, Debug, PartialEq, Eq)]
 pub struct Record<'a> {
     pub line: u64,

@@ -1,4 +1,4 @@
--- What is told of a text is what its items tell.
+-- The sink is sent of a text what its items tell.
 use Rattle.std.proofs.Common.{◌≡◌, ℕ, Bool, List, ◌++◌, Result, Ok, Err, refl, ap, ◌∙◌, subst}
 use Rattle.std.specs.Prelude.{IsOk, IfOk}
 use Rattle.std.proofs.lemmas.Bool.{false≢true}

@@ -30,7 +30,7 @@ module _ {X S H : Type 0} (means : Means X S H) (rules : Rules) where
       ∙ ap (λ v. messages_so_far means rules (start_after means rules K s (X ++ A)) v B) (sym (state_beyond-append means rules K s X A))
       ∙ sym (told_beyond-after means rules K s (X ++ A) B))
 
-  -- what is told of two texts is what is told of the first, and what the second tells beyond it
+  -- what is sent of two texts is what is sent of the first, and what the second tells beyond it
   pub told-beyond : (K : Start) (s : S) (X A : List ℕ)
       → messages_so_far means rules K s (X ++ A) ≡ messages_so_far means rules K s X ++ told_beyond means rules K s X A
   told-beyond K s X A =
@@ -55,6 +55,7 @@ module _ {X S H : Type 0} (means : Means X S H) where
     pub linear : IsLinear (held_len first.position.opened) old (held_len now.position.opened) queue
     pub handed_in : queue.handed_in ≡ old.handed_in
 
+  -- at the first feed nothing was taken yet
   pub HasDrained-none : (first : Tokenizing X) (old : TextQueue) → first.ended ≡ false → HasDrained first first old old
   HasDrained-none first old going_on = record {
     front = [];
@@ -74,6 +75,7 @@ module _ {X S H : Type 0} (means : Means X S H) where
       append_cancel_right (feed means rules K s text queue).taken front left
       (ap (λ l. (feed means rules K s text queue).taken ++ l) leaves ∙ feed-parts means rules K s text queue ∙ parts)
 
+  -- one feed more goes on from where the last one stopped
   pub HasDrained-more : (first now next : Tokenizing X) (old mid new : TextQueue) (reply : Reply H) → HasDrained first now old mid
       → Feeds means now next mid.text new.text reply → IsEndOf new.text mid.text
       → next.rules ≡ now.rules → next.ended ≡ false → next.failed ≡ now.failed → IsLinear (held_len now.position.opened) mid (held_len next.position.opened) new → new.handed_in ≡ mid.handed_in
@@ -113,6 +115,7 @@ module _ {X S H : Type 0} (means : Means X S H) where
   drained-stops Sink s t v F T L e stop = stops_after means.step means.faulted Sink s t v F (T ++ L) e (stops_before means.step means.faulted Sink t v T L tt stop)
   drained-stops Failed s t v F T L e stop = stop
 
+  -- a refused feed stops within what all the queue would have told
   pub HasDrained-stops : (e : TokenizerError) (first now : Tokenizing X) (old queue : TextQueue) (left : List ℕ) (v : S) → HasDrained first now old queue
       → StopsFeeding means e now queue.text left v → StopsReading means e first old.text v
   HasDrained-stops e first now old queue left v drained stops K s text stands =

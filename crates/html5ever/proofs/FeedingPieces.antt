@@ -128,7 +128,7 @@ module _ {X S H : Type 0} (means : Means X S H) where
       (subst (λ b. Stops means.step means.faulted e (means.state now.sink) (told_beyond means b K s (text ++ front) waiting) v) so_far.rules
       (stops K s (text ++ front) now_stands)))
 
-  -- where there is no room for the next piece, nothing more was told
+  -- where there is no room for the next piece, nothing more was sent
   pub HasFed-no_room : (first now : Tokenizing X) (old mid : TextQueue) (pieces later : List (List ℕ)) → HasFed first now old mid pieces later
       → StopsReading means Memory first (old.text ++ text_of pieces) (means.state now.sink)
   HasFed-no_room first now old mid pieces later so_far =

@@ -45,7 +45,7 @@ module _ {X S H : Type 0} (means : Means X S H) where
       messages-at_end means.step means.reply means.foreign rules K s X
       ∙ ap (λ line. on_line line (tokens_at_end rules (start_after means rules K s X).opened)) (sym (position-line K.input X h))
 
-  -- the reading is what was told, and then the end
+  -- the reading is what was sent, and then the end
   messages-reading : (rules : Rules) (K : Start) (s : S) (X : List ℕ) → (start_after means rules K s X).input.line < 2 ^ 64
       → all_messages means rules K s X
       ≡ messages_so_far means rules K s X ++ on_line (start_after means rules K s X).input.line (tokens_at_end rules (start_after means rules K s X).opened)
@@ -82,6 +82,7 @@ module _ {X S H : Type 0} (means : Means X S H) where
   StandsAt-plain t before opened last input not_failed not_ended =
       StandsAt-start t (record before { opened = Between Plain }) (rw (← opened, ← last, ← input) refl) not_failed not_ended
 
+  -- a tokenizer that read `more` from its own position stands after it: forgetting, for a tokenizer
   pub StandsAt-more : (t u : Tokenizing X) (K : Start) (s : S) (text more : List ℕ)
       → u.rules ≡ t.rules → means.state u.sink ≡ stepped means.step (means.state t.sink) (messages_so_far means t.rules t.position (means.state t.sink) more)
       → u.position ≡ start_after means t.rules t.position (means.state t.sink) more → u.failed ≡ false → u.ended ≡ t.ended
@@ -101,7 +102,7 @@ module _ {X S H : Type 0} (means : Means X S H) where
     not_ended = ended ∙ stands.not_ended;
   }
 
-  -- what a feed does is told by where the tokenizer stands
+  -- where the tokenizer stands says what a feed does
   pub feed-stands : (t : Tokenizing X) (K : Start) (s : S) (text queue : List ℕ) → StandsAt means t K s text
       → feed means t.rules K s text queue ≡ feed means t.rules t.position (means.state t.sink) [] queue
   feed-stands t K s text queue stands =
@@ -156,7 +157,7 @@ module _ {X S H : Type 0} (means : Means X S H) where
 -- what a feed leaves
 
 module _ {X S H : Type 0} (means : Means X S H) where
-  -- what a refused feed leaves is told by where the tokenizer stands
+  -- where the tokenizer stands says what a refused feed leaves
   RefusedAfter-stands : (e : TokenizerError) (t : Tokenizing X) (queue left : List ℕ) (v : S)
       → RefusedAfter means t.rules e t.position (means.state t.sink) [] queue left v
       → (K : Start) (s : S) (text : List ℕ) → StandsAt means t K s text

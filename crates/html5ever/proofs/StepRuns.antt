@@ -82,6 +82,7 @@ module _ {X S H : Type 0} (means : Means X S H) where
     not_failed = not_failed;
   }
 
+  -- one step more was handed in and fed
   pub HasTaken-more : (first now next : Tokenizing X) (steps rest : List StepOf) (t : StepOf) (queue waiting left : List ℕ) (reply : Reply H)
       → HasTaken first now steps (t ∷ rest) queue → waiting ≡ waiting_with t queue
       → Feeds means now next waiting left reply → IsEndOf left waiting
@@ -110,7 +111,7 @@ module _ {X S H : Type 0} (means : Means X S H) where
     not_failed = not_failed;
   }
 
-  -- all steps were taken, then all that waited, and then the end was told
+  -- all steps were taken, then all that waited, and then the end was sent
   pub HasTaken-finishes : (first now last : Tokenizing X) (steps : List StepOf) (queue : List ℕ) (v : S) → HasTaken first now steps [] queue
       → ReadsOn means now last queue → last.rules ≡ now.rules → Finishes means last v
       → FinishesRun means first steps v

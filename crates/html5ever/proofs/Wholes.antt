@@ -21,7 +21,7 @@ use Rattle.html5states.proofs.Tellings.{stops_before, stops_after}
 use Rattle.std.proofs.Math.Seq.{drop-append_seam}
 
 module _ {X S H : Type 0} (means : Means X S H) where
-  -- the reading is what is told, and then what the end tells
+  -- the reading is what is sent, and then what the end tells
   reading-parts : (rules : Rules) (K : Start) (s : S) (text : List ℕ)
       → all_messages means rules K s text ≡ messages_so_far means rules K s text ++ told_at_end means rules K s text
   reading-parts rules K s text =
@@ -75,6 +75,7 @@ module _ {X S H : Type 0} (means : Means X S H) where
   whole-feed_stops e t K s u text stands stops =
       rw (← append-nil text) (whole-within_stops e t K s u [] text [] stands stops)
 
+  -- an end that was refused stopped within the whole reading
   pub whole-end_stops : (e : TokenizerError) (t : Tokenizing X) (K : Start) (s u : S) (text : List ℕ)
       → StandsAt means t K s text
       → EndStops means e (means.state t.sink) (told_at_end means t.rules K s text) u
@@ -90,7 +91,7 @@ module _ {X S H : Type 0} (means : Means X S H) where
       (inr (ended ∙ ap means.end_faulted (rw (stands.told) (sym (stepped-append means.step s (messages_so_far means t.rules K s text) (told_at_end means t.rules K s text))))))
   whole-end_stops Failed t K s u text stands stops = stops
 
--- a sink that was told nothing yet
+-- a sink that was sent nothing yet
 pub untold : {X S H : Type 0} → (means : Means X S H) (s : S) (M : List Message) → StopsWithin means.step means.faulted s M s
 unfolding stepped
 untold means s M = record { before = []; rest = M; parts = refl; state = refl }

@@ -10,7 +10,7 @@ use Rattle.html5grammar.specs.Start.{start_of}
 use Rattle.html5items.specs.Items.{Composed}
 use Rattle.markup5ever.specs.NamedReferences.{NamedReference}
 
--- what a collector makes of what it is told
+-- what a collector makes of what it is sent
 abbrev pub collector_means : Means Collecting Collected (Unit {0})
 collector_means = record {
   state = λ c. c.collected;
@@ -30,7 +30,7 @@ collected_of opts names foreign text = finished_reading collector_means opts nam
 abbrev pub Collects : Collecting → Bool → List Message → Type 0
 Collects sink foreign M = sink.collected ≡ collected_finish (stepped collected_step (none_collected foreign) M)
 
--- a whole text as items, where a collector is told
+-- a whole text as items, which a collector is sent
 abbrev pub ComposedOf : OptionsOf → List NamedReference → Bool → List ℕ → Type 0
 ComposedOf opts names foreign text = Composed collector_means (rules_of opts names) (start_of opts) (none_collected foreign) text
 

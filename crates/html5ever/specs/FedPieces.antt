@@ -1,4 +1,4 @@
--- Pieces that a tokenizer is fed one after another, after a text that waits.
+-- Pieces that a tokenizer is fed one after another, while a text waits before them.
 use Rattle.std.specs.Prelude.{◌≡◌, ℕ, ◌+◌, ◌*◌, ◌≤◌, List, [], ◌∷◌, ◌++◌, length}
 use Rattle.html5ever_interface.specs.Sink.{Means}
 use Rattle.markup5ever.specs.BufferQueue.{TextQueue}
@@ -15,8 +15,8 @@ abbrev pub left_of : List ℕ → List (List ℕ) → List ℕ
 left_of waiting [] = waiting
 left_of waiting (piece ∷ pieces) = []
 
--- at most two characters were taken for each that waited or was handed in, and left the queue, where so many are held of a
--- reference or a keyword before and after
+-- at most two characters were taken for each that waited or was handed in, and left the queue. What is held of a reference or a
+-- keyword before and after counts, too.
 abbrev pub IsLinearFor : ℕ → TextQueue → ℕ → TextQueue → Type 0
 IsLinearFor held old held_after new =
     (new.taken + held_after) + 2 * (length new.text + old.handed_in) ≤ (old.taken + held) + 2 * (length old.text + new.handed_in)

@@ -3,6 +3,6 @@ use Rattle.std.specs.Prelude.{ℕ, List, map}
 use Rattle.std.specs.List.{concat}
 use Rattle.std.specs.Str.{chars}
 
--- the characters of the pieces, one after the other: of each piece its bytes are given
+-- the characters of the pieces, one after the other. Each piece is given by its bytes.
 abbrev pub text_of : List (List ℕ) → List ℕ
 text_of pieces = concat (map chars pieces)

@@ -13,7 +13,7 @@ pub record RestingOf (X : Type 0) : Type 0 where
   pub position : Start
   -- an earlier call was refused
   pub failed : Bool
-  -- the end of input was told
+  -- the sink was sent the end of input
   pub ended : Bool
 
 -- the tokenizer that goes on by this table

@@ -1,4 +1,4 @@
--- The text that a run takes, which hands in texts at the back or at the front of what waits, and feeds once after each.
+-- The text that a run takes. It hands in texts at the back or at the front of what waits, and feeds once after each.
 use Rattle.std.specs.Prelude.{◌≡◌, ℕ, List, [], ◌∷◌, ◌++◌}
 use Rattle.std.specs.Str.{chars}
 use Rattle.std.specs.String.{string_bytes}
@@ -22,14 +22,14 @@ abbrev pub step_of : {Z : Type 0} → Step Z → StepOf
 step_of (Push text) = AtBack (chars (string_bytes text))
 step_of (Insert text) = AtFront (chars (string_bytes text))
 
--- what waits when a step was handed in
+-- what waits after a step was handed in
 abbrev pub waiting_with : StepOf → List ℕ → List ℕ
 waiting_with (AtBack text) queue = queue ++ text
 waiting_with (AtFront text) queue = text ++ queue
 
 module _ {X S H : Type 0} (means : Means X S H) where
-  -- the text taken in all, where `text` was taken and `queue` waits: a feed after each step takes a beginning of what
-  -- waits, and after the last step all is taken
+  -- the text taken in all, where `text` was taken and `queue` waits. A feed after each step takes a beginning of what waits, and
+  -- after the last step all is taken.
   unfoldable pub run_text : Rules → Start → S → List ℕ → List ℕ → List StepOf → List ℕ
   run_text rules K s text queue [] = text ++ queue
   run_text rules K s text queue (t ∷ ts) =
@@ -40,7 +40,7 @@ module _ {X S H : Type 0} (means : Means X S H) where
   abbrev pub text_of_steps : OptionsOf → List NamedReference → S → List StepOf → List ℕ
   text_of_steps opts names state steps = run_text (rules_of opts names) (start_of opts) state [] [] steps
 
-  -- from the start of a text, the reading of what the steps make the tokenizer take was told, and then the sink finished
+  -- from the start of a text, the sink was sent the reading of what the steps make the tokenizer take, and then finished
   abbrev pub FinishesRun : Tokenizing X → List StepOf → S → Type 0
   FinishesRun old steps t =
       (K : Start) (s : S) → StandsAt means old K s [] → t ≡ state_at_end means old.rules K s (run_text old.rules K s [] [] steps)

@@ -22,7 +22,7 @@ pub record Tokenizing (X : Type 0) : Type 0 where
   pub position : Start
   -- an earlier call was refused
   pub failed : Bool
-  -- the end of input was told
+  -- the sink was sent the end of input
   pub ended : Bool
 
 -- what a tokenizer with these options and this table reads by
@@ -32,7 +32,7 @@ rules_of opts names = record { exact = opts.exact_errors; names = names }
 -- ---- whole readings
 
 module _ {X S H : Type 0} (means : Means X S H) where
-  -- the sink's state where the whole reading of a text was told, and the sink then finished
+  -- the sink's state after it was sent the whole reading of a text, and finished
   abbrev pub state_at_end : Rules → Start → S → List ℕ → S
   state_at_end rules K s text = means.finish (stepped means.step s (all_messages means rules K s text))
 
@@ -40,13 +40,13 @@ module _ {X S H : Type 0} (means : Means X S H) where
   abbrev pub finished_reading : OptionsOf → List NamedReference → S → List ℕ → S
   finished_reading opts names state text = state_at_end (rules_of opts names) (start_of opts) state text
 
-  -- from the start of a stream, by these options and this table, exactly what a text's items and its end tell was told, and the sink
-  -- then finished
+  -- from the start of a stream, by these options and this table, the sink was sent exactly what a text's items and its end tell,
+  -- and then finished
   abbrev pub FinishedByItems : OptionsOf → List NamedReference → S → List ℕ → S → Type 0
   FinishedByItems opts names state text t = FinishedItems means (rules_of opts names) (start_of opts) state text t
 
-  -- what a refused end, or the refused reading of a whole text, leaves of the messages that it tells: the sink may also fault at
-  -- its own end
+  -- what a refused end leaves of the messages that it tells, or a refused reading of a whole text. The sink may also fault at its
+  -- own end.
   abbrev pub EndStops : TokenizerError → S → List Message → S → Type 0
   EndStops Memory s M t = StopsWithin means.step means.faulted s M t
   EndStops Sink s M t = FaultsWithin means.step means.faulted s M t ⊎ (t ≡ means.end_faulted (stepped means.step s M))
@@ -61,7 +61,7 @@ module _ {X S H : Type 0} (means : Means X S H) where
 module _ {X S H : Type 0} (means : Means X S H) where
   -- the tokenizer stands where the text taken, from the start K and the sink's state s, leaves it
   pub record StandsAt (t : Tokenizing X) (K : Start) (s : S) (text : List ℕ) : Type 0 where
-    -- exactly the decided beginning was told
+    -- the sink was sent exactly the decided beginning
     pub told : means.state t.sink ≡ state_after means t.rules K s text
     -- what follows is read from the start after the text
     pub position : t.position ≡ start_after means t.rules K s text
@@ -78,23 +78,24 @@ module _ {X S H : Type 0} (means : Means X S H) where
     pub answer : reply ≡ fed.answer
     pub left : queue ≡ fed.left
 
-  -- from wherever it stood, the tokenizer was fed a queue's text: a beginning was taken, `left` waits, and that reply was handed on
+  -- from wherever it stood, the tokenizer was fed a queue's text. It took a beginning, `left` waits, and that reply was handed
+  -- on.
   abbrev pub Feeds : Tokenizing X → Tokenizing X → List ℕ → List ℕ → Reply H → Type 0
   Feeds old new queue left reply =
       (K : Start) (s : S) (text : List ℕ) → StandsAt old K s text → FedFrom (feed means old.rules K s text queue) new K s text left reply
 
-  -- from wherever the tokenizer stood, the whole reading was told, and then the sink finished
+  -- from wherever the tokenizer stood, the sink was sent the whole reading, and then finished
   abbrev pub Finishes : Tokenizing X → S → Type 0
   Finishes old t = (K : Start) (s : S) (text : List ℕ) → StandsAt old K s text → t ≡ state_at_end means old.rules K s text
 
-  -- from wherever the tokenizer stood, the reading of what was taken and `more` was told, and then the sink finished
+  -- from wherever the tokenizer stood, the sink was sent the reading of what was taken and `more`, and then finished
   abbrev pub ReadsWhole : Tokenizing X → List ℕ → S → Type 0
   ReadsWhole old more t =
       (K : Start) (s : S) (text : List ℕ) → StandsAt old K s text → t ≡ state_at_end means old.rules K s (text ++ more)
 
   -- ---- by items: where nothing was open at the start K, the text after it is items, and at most one unfinished one
 
-  -- after `more`, exactly what the items tell was told
+  -- after `more`, the sink was sent exactly what the items tell
   abbrev pub ReadsItems : Tokenizing X → Tokenizing X → List ℕ → Type 0
   ReadsItems old new more =
       (K : Start) (s : S) (text : List ℕ) → is_clean K.opened ≡ true → StandsAt old K s text
@@ -106,32 +107,32 @@ module _ {X S H : Type 0} (means : Means X S H) where
       (K : Start) (s : S) (text : List ℕ) → is_clean K.opened ≡ true → StandsAt old K s text
       → ToldItems means old.rules K s (text ++ (feed means old.rules K s text queue).taken) (means.state new.sink)
 
-  -- what the items and the end tell was told, and the sink then finished
+  -- the sink was sent what the items and the end tell, and then finished
   abbrev pub FinishesItems : Tokenizing X → S → Type 0
   FinishesItems old t =
       (K : Start) (s : S) (text : List ℕ) → is_clean K.opened ≡ true → StandsAt old K s text → FinishedItems means old.rules K s text t
 
   -- ---- refused calls
 
-  -- from wherever it stood, the tokenizer stopped within what `more` would have told
+  -- from wherever it stood, the tokenizer stopped within what `more` tells
   abbrev pub StopsReading : TokenizerError → Tokenizing X → List ℕ → S → Type 0
   StopsReading e old more t =
       (K : Start) (s : S) (text : List ℕ) → StandsAt old K s text
       → Stops means.step means.faulted e (means.state old.sink) (told_beyond means old.rules K s text more) t
 
-  -- after `text` a feed of a queue's text was refused, where `fed` says what it would have done
+  -- after `text` a feed of a queue's text was refused, where `fed` says what the feed would have done
   pub record StopsFrom (e : TokenizerError) (fed : Feed H) (t : Tokenizing X) (K : Start) (s : S) (text queue left : List ℕ) (v : S) : Type 0 where
-    -- it stopped within what it would have told, and so before any pause
+    -- it stopped within what it would have sent, and so before any pause
     pub stops : Stops means.step means.faulted e (means.state t.sink) (told_beyond means t.rules K s text fed.taken) v
-    -- a beginning of the queue's text is gone: all that it tells was told, but for the last item, within which the feed stopped
+    -- a beginning of the queue's text is gone. All that it tells was sent, except for the last item, within which the feed stopped.
     pub refused : RefusedAfter means t.rules e K s text queue left v
 
-  -- from wherever it stood, the tokenizer was refused a feed of a queue's text: it stopped within that, and `left` waits
+  -- from wherever it stood, the tokenizer was refused a feed of a queue's text. It stopped within that, and `left` waits.
   abbrev pub StopsFeeding : TokenizerError → Tokenizing X → List ℕ → List ℕ → S → Type 0
   StopsFeeding e old queue left v =
       (K : Start) (s : S) (text : List ℕ) → StandsAt old K s text → StopsFrom e (feed means old.rules K s text queue) old K s text queue left v
 
-  -- from wherever it stood, the tokenizer stopped within what the end would have told
+  -- from wherever it stood, the tokenizer stopped within what the end tells
   abbrev pub StopsEnding : TokenizerError → Tokenizing X → S → Type 0
   StopsEnding e old t =
       (K : Start) (s : S) (text : List ℕ) → StandsAt old K s text

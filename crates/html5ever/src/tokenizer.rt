@@ -50,10 +50,10 @@ pub use markup5ever::buffer_queue::{BufferQueue, SetResult};
 pub use markup5ever::data::{NamedReferences, TableError};
 pub use markup5ever::tokenizer_result::TokenizerResult;
 
-/// Reads a stream of text and tells its sink the tokens.
+/// Reads a stream of text and sends its sink the tokens.
 #[derive(Drop)]
 pub struct Tokenizer<'t, Sink, A: Allocator = Global> {
-    /// The sink that is told.
+    /// The sink that is sent the tokens.
     pub sink: Sink,
     alloc: A,
     rules: Rules<'t, A>,
@@ -104,7 +104,7 @@ impl<'t, Sink: TokenSink<Token<A>>, A: Allocator + Copy> Tokenizer<'t, Sink, A> 
     }
 
     /// Reads the text that waits in the queue, up to the first tag after which the sink asks to
-    /// pause: then the queue holds what follows that tag's `>`, text may be put in front of it, and
+    /// pause. Then the queue holds what follows that tag's `>`. Text may be put in front of it, and
     /// the caller goes on by feeding again. After a refusal the queue holds an end of the text that
     /// it held, and every further call is refused.
     pub fn feed(
@@ -114,7 +114,7 @@ impl<'t, Sink: TokenSink<Token<A>>, A: Allocator + Copy> Tokenizer<'t, Sink, A> 
         requires { self.old.ended ≡ false }
 
         // What an `Ok` says: a beginning of the queue's text was taken, and exactly what it decides
-        // was told; the rest waits, and the answer is the reply that pauses.
+        // was sent; the rest waits, and the answer is the reply that pauses.
         ensures reads { IfOk result (λ answer.
             Feeds Sink.means self.old self.new queue.old.text queue.new.text (reply_in string_bytes answer)) }
         ensures items { IsOk result → FeedsItems Sink.means self.old self.new queue.old.text }
@@ -157,11 +157,11 @@ impl<'t, Sink: TokenSink<Token<A>>, A: Allocator + Copy> Tokenizer<'t, Sink, A> 
         result
     }
 
-    /// Tells the end of the input, and has the sink finish. Nothing can be fed afterwards.
+    /// Sends the end of the input, and has the sink finish. Nothing can be fed afterwards.
     pub fn end(&mut self) -> Result<(), TokenizerError>
         requires { self.old.ended ≡ false }
 
-        // What an `Ok` says: the whole reading was told, and the sink has finished.
+        // What an `Ok` says: the whole reading was sent, and the sink has finished.
         ensures finishes { OnOk result (Finishes Sink.means self.old (Sink.means.state self.new.sink)) }
         ensures items { OnOk result (FinishesItems Sink.means self.old (Sink.means.state self.new.sink)) }
 
@@ -183,7 +183,7 @@ impl<'t, Sink: TokenSink<Token<A>>, A: Allocator + Copy> Tokenizer<'t, Sink, A> 
         result
     }
 
-    /// Tells the end of the input as `end` does, and gives the sink back, with what it was told.
+    /// Sends the end of the input as `end` does, and gives the sink back, with what it was sent.
     pub fn finish(mut self) -> (Sink, Result<(), TokenizerError>)
         requires { self.ended ≡ false }
         ensures finishes { OnOk result.1 (Finishes Sink.means self.entry (Sink.means.state result.0)) }
@@ -197,9 +197,9 @@ impl<'t, Sink: TokenSink<Token<A>>, A: Allocator + Copy> Tokenizer<'t, Sink, A> 
         (self.into_sink(), result)
     }
 
-    /// Whether nothing is pending: no item is open, and no call was refused, nor the end told. A CR
-    /// that may be followed by its LF is no bar. What follows can then be told to another sink, put
-    /// in the field `sink`.
+    /// Whether nothing is pending: no item is open, no call was refused, and the end was not sent. A
+    /// CR whose LF may still follow is no bar. Then what follows can be sent to another sink, which
+    /// the caller puts in the field `sink`.
     pub fn nothing_pending(&self) -> bool
         ensures exact { result ≡ (is_clean self.now.position.opened && not self.now.failed && not self.now.ended) }
         ensures anew { result ≡ true → (x : Sink)
@@ -224,7 +224,7 @@ impl<'t, Sink: TokenSink<Token<A>>, A: Allocator + Copy> Tokenizer<'t, Sink, A> 
         self.position.set_plaintext();
     }
 
-    /// Whether the end of the input was told.
+    /// Whether the end of the input was sent.
     pub fn is_ended(&self) -> bool
         ensures { result ≡ self.now.ended }
     {
@@ -238,7 +238,7 @@ impl<'t, Sink: TokenSink<Token<A>>, A: Allocator + Copy> Tokenizer<'t, Sink, A> 
         self.failed
     }
 
-    /// The sink, with what it was told.
+    /// The sink, with what it was sent.
     pub fn into_sink(self) -> Sink
         ensures { result ≡ self.entry.sink }
     {
@@ -246,7 +246,7 @@ impl<'t, Sink: TokenSink<Token<A>>, A: Allocator + Copy> Tokenizer<'t, Sink, A> 
     }
 }
 
-// The laws of the table that is gone by.
+// The laws of the table that a reading goes by.
 fn table_laws<A: Allocator>(rules: &Rules<'_, A>)
     ensures { IsTable rules.now.names }
 {
@@ -254,7 +254,7 @@ fn table_laws<A: Allocator>(rules: &Rules<'_, A>)
     names.table_laws();
 }
 
-// Tells the end of the input, and has the sink finish.
+// Sends the end of the input, and has the sink finish.
 fn tell_end<S: TokenSink<Token<A>>, A: Allocator + Copy>(
     alloc: A,
     sink: &mut S,

@@ -60,6 +60,7 @@ module _ {X : Type 0} (test : X → X → Bool) (decides : (x y : X) → Decides
       (λ y within. omega (arith, count_equal-cons y x part, count_equal-cons y x others, count_equal-permutation whole (x ∷ others) y moved))
       part covered
 
+  -- a list that has each element of a part at least as often is the part and a rest
   exceeds : (part whole : List X) → All (IsCovered part whole) part → Exceeds part whole
   exceeds [] whole covered = record { rest = whole; is = IsPermutation-refl whole }
   exceeds (x ∷ part) whole covered =

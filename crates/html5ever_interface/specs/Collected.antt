@@ -1,4 +1,4 @@
--- What a collector keeps of what it is told, and what each token does to it.
+-- What a collector keeps of what it is sent, and what each token does to it.
 use Rattle.std.specs.Prelude.{ℕ, Bool, true, false, List, [], ◌∷◌, ◌++◌, Option, Some, None}
 use Rattle.html5ever_interface.specs.Sink.{Message}
 use Rattle.html5ever_interface.specs.Token.{Told, Reply, told_by}
@@ -6,6 +6,7 @@ use Rattle.html5ever_interface.specs.Token.Told.{Text}
 use Rattle.html5ever_interface.specs.Token.Reply.{KeepOn}
 use Rattle.html5ever_interface.specs.declared.interface.token.Token.{Token}
 
+-- what was collected
 pub record Collected : Type 0 where
   -- the tokens, with their lines
   pub messages : List Message
@@ -27,11 +28,11 @@ none_collected foreign = record { messages = []; finished = false; foreign = for
 abbrev pub collected_foreign : Collected → Bool
 collected_foreign collected = collected.foreign
 
--- what an entry tells
+-- the message of an entry
 abbrev pub message_of : {Z : Type 0} → Token Z × ℕ → Message
 message_of entry = record { token = told_by entry.0; line = entry.1 }
 
--- the text that is told, where it is one
+-- the text of a token, where it is one
 abbrev pub told_text : Told → Option (List ℕ)
 told_text (Text text) = Some text
 told_text other = None
@@ -40,31 +41,32 @@ told_text other = None
 abbrev pub kept_text : List ℕ → Message
 kept_text text = record { token = Text text; line = 0 }
 
--- the last message and a text after it, where `before` is the text of that message: two texts are one, on the line of the first
+-- the last message and a text after it, where `before` is the text of that message. Two texts are one, on the line of the first.
 abbrev pub last_with_text : Option (List ℕ) → Message → List ℕ → List Message
 last_with_text (Some before) last text = record last { token = Text (before ++ text) } ∷ []
 last_with_text None last text = last ∷ kept_text text ∷ []
 
--- `m` and the messages after it, and a text after them
+-- `m` and the messages after it, and then a text
 unfoldable pub from_first_with_text : Message → List Message → List ℕ → List Message
 from_first_with_text m [] text = last_with_text (told_text m.token) m text
 from_first_with_text m (n ∷ ms) text = m ∷ from_first_with_text n ms text
 
--- messages and a text after them, which the last one takes up where it is a text
+-- messages and then a text, which the last one takes up where it is a text
 unfoldable pub with_text : List Message → List ℕ → List Message
 with_text [] text = kept_text text ∷ []
 with_text (m ∷ ms) text = from_first_with_text m ms text
 
--- messages and another after them, where the option is its text: an empty text is dropped
+-- messages and then another one, where the option is its text. An empty text is dropped.
 unfoldable pub with_message : List Message → Option (List ℕ) → Message → List Message
 with_message ms None m = ms ++ m ∷ []
 with_message ms (Some []) m = ms
 with_message ms (Some (b ∷ bs)) m = with_text ms (b ∷ bs)
 
--- messages and what is told after them
+-- messages and then a token
 abbrev pub with_told : List Message → Told → ℕ → List Message
 with_told ms told line = with_message ms (told_text told) (record { token = told; line = line })
 
+-- what a token does to what was collected
 abbrev pub collected_step : Collected → Told → ℕ → Collected
 collected_step c told line = record c { messages = with_told c.messages told line }
 
@@ -76,5 +78,6 @@ collected_reply c told line = KeepOn
 abbrev pub collected_faulted : Collected → Told → ℕ → Collected
 collected_faulted c told line = c
 
+-- what the end does to what was collected
 abbrev pub collected_finish : Collected → Collected
 collected_finish c = record c { finished = true }

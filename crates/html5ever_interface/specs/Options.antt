@@ -1,14 +1,16 @@
--- How a tokenizer reads, as contracts speak of it: texts are the bytes of their UTF-8.
+-- How a tokenizer reads, in the words of contracts. Texts are the bytes of their UTF-8.
 use Rattle.std.specs.Prelude.{ℕ, Bool, true, false, List, Option, None, option_map, string_bytes}
 use Rattle.html5ever_interface.specs.declared.options.TokenizerOpts.{TokenizerOpts}
 use Rattle.html5ever_interface.specs.declared.states.State.{State}
 
+-- the options of a tokenizer
 pub record OptionsOf : Type 0 where
   pub exact_errors : Bool
   pub discard_bom : Bool
   pub initial_state : Option State
   pub last_start_tag_name : Option (List ℕ)
 
+-- the options, in the words of contracts
 abbrev pub options_of : {Z : Type 0} → TokenizerOpts Z → OptionsOf
 options_of opts = record {
   exact_errors = opts.exact_errors;

@@ -1,8 +1,8 @@
--- What a sink makes of what it is told: messages, and the state that telling them leaves.
+-- What a sink makes of what it is sent: messages, and the state that they leave.
 use Rattle.std.specs.Prelude.{ℕ, Bool, List, [], ◌∷◌, map}
 use Rattle.html5ever_interface.specs.Token.{Told, Reply}
 
--- what a sink of the type X, with the states S and the scripts H, makes of what it is told
+-- what a sink of the type X, with the states S and the scripts H, makes of what it is sent
 pub record Means (X S H : Type 0) : Type 0 where
   -- the state that a sink has
   pub state : X → S
@@ -23,11 +23,11 @@ pub record Message : Type 0 where
   pub token : Told
   pub line : ℕ
 
--- the state of a sink that stepped by each message in turn
+-- the state of a sink after each message in turn
 unfoldable pub stepped : {S : Type 0} → (S → Told → ℕ → S) → S → List Message → S
 stepped step s [] = s
 stepped step s (m ∷ ms) = stepped step (step s m.token m.line) ms
 
--- tokens that are told on one line
+-- tokens that are sent on one line
 abbrev pub on_line : ℕ → List Told → List Message
 on_line line tokens = map (λ token. record { token = token; line = line }) tokens

@@ -1,4 +1,4 @@
--- The states of the tokenizer: their names, and which of them read text.
+-- The states of the tokenizer, the standard's "Tokenization": their names, and which of them read text.
 use Rattle.std.specs.Prelude.{ℕ, Bool, true, false, List, ◌++◌, codes}
 use Rattle.html5ever_interface.specs.declared.states.ScriptEscapeKind.{ScriptEscapeKind}
 use Rattle.html5ever_interface.specs.declared.states.ScriptEscapeKind.TheVariants.{Escaped, DoubleEscaped}
@@ -11,20 +11,24 @@ use Rattle.html5ever_interface.specs.declared.states.AttrValueKind.TheVariants.{
 use Rattle.html5ever_interface.specs.declared.states.State.{State}
 use Rattle.html5ever_interface.specs.declared.states.State.TheVariants.{Data, Plaintext, TagOpen, EndTagOpen, TagName, RawData, RawLessThanSign, RawEndTagOpen, RawEndTagName, ScriptDataEscapeStart, ScriptDataEscapeStartDash, ScriptDataEscapedDash, ScriptDataEscapedDashDash, ScriptDataDoubleEscapeEnd, BeforeAttributeName, AttributeName, AfterAttributeName, BeforeAttributeValue, AttributeValue, AfterAttributeValueQuoted, SelfClosingStartTag, BogusComment, MarkupDeclarationOpen, CommentStart, CommentStartDash, Comment, CommentLessThanSign, CommentLessThanSignBang, CommentLessThanSignBangDash, CommentLessThanSignBangDashDash, CommentEndDash, CommentEnd, CommentEndBang, Doctype, BeforeDoctypeName, DoctypeName, AfterDoctypeName, AfterDoctypeKeyword, BeforeDoctypeIdentifier, DoctypeIdentifierDoubleQuoted, DoctypeIdentifierSingleQuoted, AfterDoctypeIdentifier, BetweenDoctypePublicAndSystemIdentifiers, BogusDoctype, CdataSection, CdataSectionBracket, CdataSectionEnd, ProcessingInstruction}
 
+-- the name of a kind of escaped script data
 abbrev pub script_escape_kind_name : ScriptEscapeKind → List ℕ
 script_escape_kind_name Escaped = codes "Escaped"
 script_escape_kind_name DoubleEscaped = codes "DoubleEscaped"
 
+-- the name of a kind of identifier
 abbrev pub doctype_id_kind_name : DoctypeIdKind → List ℕ
 doctype_id_kind_name Public = codes "Public"
 doctype_id_kind_name System = codes "System"
 
+-- the name of a kind of raw text
 abbrev pub raw_kind_name : RawKind → List ℕ
 raw_kind_name Rcdata = codes "Rcdata"
 raw_kind_name Rawtext = codes "Rawtext"
 raw_kind_name ScriptData = codes "ScriptData"
 raw_kind_name (ScriptDataEscaped kind) = codes "ScriptDataEscaped(" ++ script_escape_kind_name kind ++ codes ")"
 
+-- the name of a kind of value
 abbrev pub attr_value_kind_name : AttrValueKind → List ℕ
 attr_value_kind_name Unquoted = codes "Unquoted"
 attr_value_kind_name SingleQuoted = codes "SingleQuoted"
@@ -81,7 +85,8 @@ state_name CdataSectionBracket = codes "CdataSectionBracket"
 state_name CdataSectionEnd = codes "CdataSectionEnd"
 state_name ProcessingInstruction = codes "ProcessingInstruction"
 
--- the states in which text is read, where a stream may start
+-- "Data state", "PLAINTEXT state", the states of raw text and "CDATA section state": the states in which text is read, where a
+-- stream may start
 abbrev pub is_text_state : State → Bool
 is_text_state Data = true
 is_text_state Plaintext = true

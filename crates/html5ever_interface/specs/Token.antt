@@ -1,4 +1,4 @@
--- What a sink is told, and what it replies, as contracts speak of them: texts are the bytes of their UTF-8.
+-- What a sink is sent, and what it replies, in the words of contracts. Texts are the bytes of their UTF-8.
 use Rattle.std.specs.Prelude.{◌≡◌, ℕ, Bool, true, false, List, Option, None, option_map, map, string_bytes, IsPermutation}
 use Rattle.markup5ever.specs.Names.{AttributeOf, attribute_of}
 use Rattle.html5ever_interface.specs.declared.interface.token.TagKind.{TagKind}
@@ -10,6 +10,7 @@ use Rattle.html5ever_interface.specs.declared.interface.token.TokenSinkResult.{T
 use Rattle.html5ever_interface.specs.declared.interface.token.TokenSinkResult.TheVariants.{Continue, Script, Plaintext, RawData, EncodingIndicator}
 use Rattle.html5ever_interface.specs.declared.states.RawKind.{RawKind}
 
+-- a start tag or an end tag
 pub record TagOf : Type 0 where
   pub kind : TagKind
   pub name : List ℕ
@@ -17,12 +18,14 @@ pub record TagOf : Type 0 where
   pub attributes : List AttributeOf
   pub had_duplicate_attributes : Bool
 
+-- a DOCTYPE
 pub record DoctypeOf : Type 0 where
   pub name : Option (List ℕ)
   pub public_id : Option (List ℕ)
   pub system_id : Option (List ℕ)
   pub force_quirks : Bool
 
+-- what a sink is sent
 pub data Told : Type 0 where
   Text : List ℕ → Told
   Null : Told
@@ -34,6 +37,7 @@ pub data Told : Type 0 where
   Doctype : DoctypeOf → Told
   End : Told
 
+-- a tag, in the words of contracts
 abbrev pub tag_of : {Z : Type 0} → RustTag Z → TagOf
 tag_of tag = record {
   kind = tag.kind;
@@ -43,12 +47,13 @@ tag_of tag = record {
   had_duplicate_attributes = tag.had_duplicate_attributes;
 }
 
--- one kind, one name and the same attributes, each as often, in any order: the flags may differ
+-- one kind, one name and the same attributes, each as often, in any order. The flags may differ.
 pub record IsEquivalent (tag other : TagOf) : Type 0 where
   pub kind : tag.kind ≡ other.kind
   pub name : tag.name ≡ other.name
   pub attributes : IsPermutation tag.attributes other.attributes
 
+-- a DOCTYPE, in the words of contracts
 abbrev pub doctype_of : {Z : Type 0} → RustDoctype Z → DoctypeOf
 doctype_of doctype = record {
   name = option_map string_bytes doctype.name;
@@ -61,7 +66,7 @@ doctype_of doctype = record {
 abbrev pub empty_doctype : DoctypeOf
 empty_doctype = record { name = None; public_id = None; system_id = None; force_quirks = false }
 
--- what a token tells
+-- the meaning of a token
 abbrev pub told_by : {Z : Type 0} → Token Z → Told
 told_by (DoctypeToken doctype) = Doctype (doctype_of doctype)
 told_by (TagToken tag) = Tag (tag_of tag)
@@ -72,14 +77,17 @@ told_by NullCharacterToken = Null
 told_by EOFToken = End
 told_by (ParseError message) = Error (string_bytes message)
 
+-- whether it is a tag
 abbrev pub is_tag : Told → Bool
 is_tag (Tag tag) = true
 is_tag other = false
 
+-- whether it is a text
 abbrev pub is_text : Told → Bool
 is_text (Text text) = true
 is_text other = false
 
+-- what a sink replies
 pub data Reply (H : Type 0) : Type 0 where
   KeepOn : Reply H
   ReadPlainText : Reply H
@@ -87,7 +95,7 @@ pub data Reply (H : Type 0) : Type 0 where
   RunScript : H → Reply H
   SwitchEncoding : List ℕ → Reply H
 
--- what an answer of the sink says, where `bytes` are those of a text
+-- the meaning of a sink's reply, where `bytes` are those of a text
 abbrev pub reply_of : {H T : Type 0} → (T → List ℕ) → TokenSinkResult H T → Reply H
 reply_of bytes Continue = KeepOn
 reply_of bytes (Script handle) = RunScript handle

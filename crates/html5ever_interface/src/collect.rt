@@ -1,4 +1,4 @@
-//! A sink that keeps what it is told.
+//! A sink that keeps what it is sent.
 ghost use Rattle.std.specs.Prelude.{◌≡◌, [], ◌∷◌, ◌++◌, map, OnOk, OnErr, string_bytes};
 ghost use Rattle.html5ever_interface.specs.Collected.{message_of, with_text, with_told, none_collected};
 ghost use Rattle.html5ever_interface.specs.Token.{told_by};
@@ -68,7 +68,7 @@ fn push_token<A: Allocator>(
     }
 }
 
-/// Keeps the tokens that it is told, with their lines. Adjacent texts are one entry, whose line is
+/// Keeps the tokens that it is sent, with their lines. Adjacent texts are one entry, whose line is
 /// 0, and an empty text has none. A token that could not be kept leaves nothing.
 #[derive(Drop)]
 pub struct Collector<A: Allocator = Global> {
@@ -95,7 +95,7 @@ impl<A: Allocator> Model for Collector<A> {
 }
 
 impl<A: Allocator> Collector<A> {
-    /// A sink that was told nothing. `foreign` is its answer about the current node, at each call.
+    /// A sink that was sent nothing. `foreign` is its answer about the current node, at each call.
     pub fn new(alloc: A, foreign: bool) -> Collector<A>
         ensures collected { result.collected ≡ none_collected foreign }
         ensures faults { result.faults ≡ 0 }
@@ -115,7 +115,7 @@ impl<A: Allocator> Collector<A> {
         self.entries.as_slice()
     }
 
-    /// Whether the sink was told that no token follows.
+    /// Whether the sink was sent the end, so that no token follows.
     pub fn is_finished(&self) -> bool
         ensures { result ≡ self.now.collected.finished }
     {

@@ -1,3 +1,3 @@
-//! What a tokenizer tells a sink, and what a sink is.
+//! What a tokenizer sends its sink, and what a sink is.
 pub mod sink;
 pub mod token;

@@ -47,7 +47,7 @@ unfolding afterwards
 held_len-after (Tells told opened) later one is = let same : later ≡ opened = cc in rw same one
 held_len-after (TellsTag told tag) later one is = cc
 
--- the tag that is told last, where one ends
+-- the tag that is sent last, where one ends
 abbrev pub tag_in : Next → List Told
 tag_in (Opens later) = []
 tag_in (Closes tag later) = Tag tag ∷ []
@@ -93,6 +93,7 @@ section≢data : (held : List ℕ) → open_cdata held ≢ Between Data
 section≢data [] = λ e. cc
 section≢data (c ∷ held) = λ e. cc
 
+-- in Data what is open doesn't depend on the tag that was begun before
 pub data-any_tag : {Z : Type 0} (q : State) (at later : Opened Z) → open_of q at ≡ Between Data → open_of q later ≡ Between Data
 data-any_tag state.Data at later e = e
 data-any_tag state.Plaintext at later e = cc
@@ -169,14 +170,14 @@ module _ {X S H : Type 0} (means : Means X S H) (rules : Rules) where
       ∙ first_pause-append means s (on_line line tokens) (on_line line last)
       ∙ rw quiet refl
 
-  -- a tag that ends is told last
+  -- a tag that ends is sent last
   messages-tokens : (line d : ℕ) (h : Here Open)
       → messages_here means.step means.reply rules line d h ≡ on_line line ((bad_character_error rules.exact d ++ tokens_of h) ++ tag_in (afterwards h))
   unfolding messages_here tokens_of afterwards
   messages-tokens line d (Tells told later) = ap (on_line line) (sym (append-nil (bad_character_error rules.exact d ++ told)))
   messages-tokens line d (TellsTag told tag) = refl
 
-  -- the reply to a tag is asked after all that was told before
+  -- the reply to a tag is asked after all that was sent before
   opened-after : (s : S) (line : ℕ) (last : List ℕ) (d : ℕ) (h : Here Open)
       → opened_here means.step means.reply rules s line last d h ≡ open_after means.reply (stepped means.step s (on_line line (bad_character_error rules.exact d ++ tokens_of h))) line last (afterwards h)
   unfolding opened_here tokens_of afterwards
@@ -195,7 +196,7 @@ module _ {X S H : Type 0} (means : Means X S H) (rules : Rules) where
         ≡ open_after means.reply (stepped means.step s (on_line line (bad_character_error rules.exact d ++ tokens_of (step_at rules.exact (open_of now at) d)))) line (last_name_of at) (afterwards (step_at rules.exact (open_of now at) d))
     after-character = opened-after s line (last_name_of at) d (step_at rules.exact (open_of now at) d)
 
-    -- the bad character, the tokens of its state and then the tag that it ends, told by calls
+    -- the bad character, the tokens of its state and then the tag that it ends, as calls send them
     abbrev here_tokens : List Told
     here_tokens = bad_character_error rules.exact d ++ tokens_of (step_at rules.exact (open_of now at) d)
 

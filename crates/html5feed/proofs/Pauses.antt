@@ -1,4 +1,4 @@
--- Where a feed pauses: told by what was told before, as by the start after it.
+-- Where a feed pauses: what was sent before says it, and so does the start after that.
 use Rattle.std.proofs.Common.{◌≡◌, ℕ, Bool, true, false, List, [], ◌∷◌, ◌++◌, refl, ap, sym, ◌∙◌, length, drop, ◌<◌, suc, arith}
 use Rattle.std.specs.Prelude.{if◌then◌else◌}
 use Rattle.std.proofs.Math.Seq.{drop-append_seam}
@@ -100,7 +100,7 @@ up_to_pause-shorter true r c text rest h e = rw (up_to_pause-pauses r c text res
 up_to_pause-shorter false r c text rest h e = rw (up_to_pause-goes_on r c text rest h) (λ pausing. omega (arith, e pausing))
 
 module _ {X S H : Type 0} (means : Means X S H) (rules : Rules) where
-  -- what is told beyond X is what the rest tells from the start after X
+  -- what is sent beyond X is what the rest tells from the start after X
   pub told_beyond-after : (K : Start) (s : S) (X Z : List ℕ)
       → told_beyond means rules K s X Z ≡ messages_so_far means rules (start_after means rules K s X) (state_after means rules K s X) Z
   told_beyond-after K s X Z =

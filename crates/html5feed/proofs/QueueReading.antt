@@ -52,7 +52,7 @@ module _ {X S H : Type 0} (means : Means X S H) (rules : Rules) where
   abbrev pub fed : Start → S → List ℕ → Feed H
   fed K s Q = feed means rules K s [] Q
 
-  -- the characters taken so far were told, the tokenizer stands after them, and none of them paused
+  -- the characters taken so far were sent, the tokenizer stands after them, and none of them paused
   pub record HasRead (K L : Start) (old new : TextQueue) (s t : S) : Type 0 where
     pub front : List ℕ
     pub takes : Takes old new front
@@ -93,6 +93,7 @@ module _ {X S H : Type 0} (means : Means X S H) (rules : Rules) where
     taken = omega (arith, taken.taken, first.taken, length-append front item);
   }
 
+  -- one item more was taken, and it didn't pause
   pub HasRead-more : (K L N : Start) (old mid new : TextQueue) (s t u : S) (item : List ℕ)
       → HasRead K L old mid s t → Takes mid new item
       → u ≡ state_after means rules L t item → N ≡ start_after means rules L t item
@@ -172,7 +173,7 @@ module _ {X S H : Type 0} (means : Means X S H) (rules : Rules) where
     quiet = run-quiet means keeps_on rules K s run is_run fits;
   }
 
-  -- a run of text was told on the line that is reached after it, or refused
+  -- a run of text was sent on the line that is reached after it, or refused
   pub ReadsRun-text : {T : Type 0} (r : Result T TokenizerError)
       → ((s : S) (told : Told) (line : ℕ) → is_tag told ≡ false → means.reply s told line ≡ KeepOn)
       → (K L : Start) (old new : TextQueue) (s t : S) (run bytes : List ℕ) → IsRun rules K run → is_clean K.opened ≡ true → K.input.line < 2 ^ 64 → Takes old new run
@@ -298,6 +299,7 @@ module _ {X S H : Type 0} (means : Means X S H) (rules : Rules) where
     pub answers : answer ≡ (feed means rules K s [] old.text).answer
     pub left : new.text ≡ (feed means rules K s [] old.text).left
 
+  -- a feed ends where the queue is empty: it took all
   pub HasFed-all : (K L : Start) (old new : TextQueue) (s t : S) → HasRead K L old new s t → new.text ≡ [] → HasFed K L old new s t KeepOn
   unfolding feed
   HasFed-all K L old new s t read none =
@@ -310,6 +312,7 @@ module _ {X S H : Type 0} (means : Means X S H) (rules : Rules) where
         left = none ∙ ap (λ (f : Feed H). f.left) (sym whole);
       }
 
+  -- a feed ends after a character whose reply pauses
   pub HasFed-pause : (K L N : Start) (old mid new : TextQueue) (s t u : S) (c : ℕ) (answer : Reply H)
       → HasRead K L old mid s t → Takes mid new (c ∷ [])
       → u ≡ state_after means rules L t (c ∷ []) → N ≡ start_after means rules L t (c ∷ [])

@@ -117,7 +117,7 @@ module _ {X S H : Type 0} (means : Means X S H) (rules : Rules) where
       after-last means.step means.reply means.foreign rules K s text ∙ ap (λ (t : Trace). t.last_start_tag) (quiet-trace K s text later q) in
       rw (opened, last, input_after-ordinary K.input text q.past_line_break q.past_stream_start (all_ordinary K.opened text later q.reads) q.fits) refl
 
-  -- so the tokenizer has read on to where it leads, and told nothing
+  -- so the tokenizer has read on to where it leads, and sent nothing
   HasRead-text : (K L N : Start) (old mid new : TextQueue) (s t : S) (front : List ℕ) (later : Open) → HasRead means rules K L old mid s t → Takes mid new front
       → N ≡ record L { opened = later } → IsQuietText rules L front later ⊎ ((front ≡ []) × (later ≡ L.opened)) → HasRead means rules K N old new s t
   unfolding stepped first_pause
@@ -143,6 +143,7 @@ module _ {X S H : Type 0} (means : Means X S H) (rules : Rules) where
     pub read : HasRead means rules K stands old waits s t
     pub takes : Takes waits new item
 
+  -- where memory was refused, all before that character was read
   pub read_before : {T : Type 0} (K L N : Start) (old mid new : TextQueue) (s t : S) → HasRead means rules K L old mid s t
       → (takes : TakesQuietly {T = T} rules (Err Memory) L N mid new) → ReadBefore K old new s t takes.item
   read_before K L N old mid new s t read takes =

@@ -1,4 +1,5 @@
--- A run tells its characters each on its own line, and moves the line alone; where something is open that takes it, it tells nothing.
+-- Between tags a run tells its characters, each on its own line, and moves nothing but the line. Where something is open that takes
+-- it, it tells nothing.
 use Rattle.html5grammar.specs.Reading.Here.{Tells}
 use Rattle.html5grammar.specs.Machine.{step_at}
 use Rattle.std.proofs.Common.{◌≡◌, ◌≢◌, ℕ, ◌<◌, ◌^◌, false, cond, List, [], ◌∷◌, ◌++◌, inr, refl, ap, sym, ◌∙◌, arith, Some, true, take, drop, subst, ◌↔◌}
@@ -103,12 +104,13 @@ run-found K set text len has ends stops =
     let same : (c : ℕ) → IsMember set c ↔ Contains (run_ends found.0) c = rw found.1 at ends in
     rw found.1 (λ c rest first out. λ zero. out ((same c).0 (stops c rest (subst (λ n. chars (drop n text) ≡ c ∷ rest) (sym zero) first))))
 
--- no tag is told in a run
+-- a run tells no tag
 no_tags-texts : (cs : List ℕ) → NoTags (map (λ (c : ℕ). Text (encode_utf8 c)) cs)
 unfolding NoTags
 no_tags-texts [] = tt
 no_tags-texts (c ∷ cs) = (refl, no_tags-texts cs)
 
+-- case by case: a run tells texts or nothing
 no_tags-run : (opened : Open) (run : List ℕ) → NoTags (run_tokens opened run)
 unfolding NoTags
 no_tags-run (Between mode) run = no_tags-texts run
@@ -191,6 +193,7 @@ trace_is : {M : List Message} {o p : Open} {last : List ℕ} → o ≡ p
 trace_is e = rw e refl
 
 module _ {X S H : Type 0} (means : Means X S H) where
+  -- the trace of a run is what the run tells, and what is open after it
   trace-run : (rules : Rules) → rules.exact ≡ false → (s : S) (line : ℕ) (last : List ℕ) (opened : Open) (others run : List ℕ) → other_run_ends opened ≡ Some others
       → All (λ c. ¬ Contains (run_ends others) c) run
       → trace means.step means.reply means.foreign rules s line last opened run

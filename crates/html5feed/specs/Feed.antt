@@ -1,5 +1,5 @@
--- What a feed takes of the text that waits and what it answers, what is told of a text that goes on or ends, and what a
--- feed may cost.
+-- What a feed takes of the text that waits, what it answers, and what it may cost. What the sink is sent of a text that goes on
+-- or ends.
 use Rattle.std.specs.Prelude.{◌≡◌, ℕ, ◌+◌, ◌*◌, ◌≤◌, Bool, true, false, List, [], ◌∷◌, ◌++◌, length, drop, if◌then◌else◌}
 use Rattle.html5ever_interface.specs.Sink.{Means, Message}
 use Rattle.html5ever_interface.specs.Token.{Reply}
@@ -28,26 +28,26 @@ pub record Feed (H : Type 0) : Type 0 where
   pub left : List ℕ
   pub answer : Reply H
 
--- a feed that takes a text before the rest
+-- a feed that takes a text first
 abbrev pub takes_before : {H : Type 0} → List ℕ → Feed H → Feed H
 takes_before text feed = record { taken = text ++ feed.taken; left = feed.left; answer = feed.answer }
 
--- a feed of c and a text: it ends after c where the reply there pauses, and else it is c and then the feed `rest`
+-- a feed of c and a text. It ends after c where the reply there pauses, and else it is c and then the feed `rest`.
 unfoldable pub up_to_pause : {H : Type 0} → Reply H → ℕ → List ℕ → Feed H → Feed H
 up_to_pause reply c text rest =
     if pauses reply then record { taken = c ∷ []; left = text; answer = reply }
     else takes_before (c ∷ []) rest
 
 module _ {X S H : Type 0} (means : Means X S H) where
-  -- what is told of a text that goes on, beyond what was told of it before
+  -- what the sink is sent of a text that goes on, beyond what it was sent of the text before
   abbrev pub told_beyond : Rules → Start → S → List ℕ → List ℕ → List Message
   told_beyond rules K s text more = drop (length (messages_so_far means rules K s text)) (messages_so_far means rules K s (text ++ more))
 
-  -- what is told at the end of a text, beyond what was told of it before
+  -- what the sink is sent at the end of a text, beyond what it was sent of it before
   abbrev pub told_at_end : Rules → Start → S → List ℕ → List Message
   told_at_end rules K s text = drop (length (messages_so_far means rules K s text)) (all_messages means rules K s text)
 
-  -- the first reply to some messages that pauses, and to keep on where none does
+  -- the first reply to some messages that pauses, or to keep on where none does
   unfoldable pub first_pause : S → List Message → Reply H
   first_pause s [] = KeepOn
   first_pause s (m ∷ M) =
@@ -67,6 +67,6 @@ pub record IsEndOf (left text : List ℕ) : Type 0 where
   pub front : List ℕ
   pub parts : text ≡ front ++ left
 
--- at most two characters were taken for each that left the queue, where so many are held of a reference before and after
+-- at most two characters were taken for each that left the queue. What is held of a reference before and after counts, too.
 abbrev pub IsLinear : ℕ → TextQueue → ℕ → TextQueue → Type 0
 IsLinear held old held_after new = (new.taken + held_after) + 2 * length new.text ≤ (old.taken + held) + 2 * length old.text

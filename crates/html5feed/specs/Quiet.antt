@@ -5,7 +5,7 @@ use Rattle.html5opened.specs.declared.error.TokenizerError.{TokenizerError}
 use Rattle.html5quiet.specs.Quiet.{ReadsQuietly}
 use Rattle.markup5ever.specs.BufferQueue.{TextQueue, Takes}
 
--- from K on the text tells nothing, and `later` is open after it: errors are not exact, and no first character may be dropped
+-- from K on the text tells nothing, and `later` is open after it. Errors are not exact, and no first character may be dropped.
 pub record IsQuietText (rules : Rules) (K : Start) (text : List ℕ) (later : Open) : Type 0 where
   pub not_exact : rules.exact ≡ false
   pub past_line_break : K.input.after_carriage_return ≡ false
@@ -22,7 +22,7 @@ pub record StopsAtCharacter (rules : Rules) (K : Start) (text : List ℕ) : Type
   pub later : Open
   pub quiet : IsQuietText rules K front later
 
--- such a text, or none, was taken of the queue and read; a refusal is one at the character after it
+-- such a text, or none, was taken from the queue and read. A refusal is one at the character after it.
 pub record TakesQuietly {T : Type 0} (rules : Rules) (result : Result T TokenizerError) (K L : Start) (old new : TextQueue) : Type 0 where
   pub front : List ℕ
   pub item : List ℕ

@@ -1,4 +1,4 @@
--- What a refused feed leaves: which beginning of the queue's text is gone, and how much of what it tells was told.
+-- What a refused feed leaves: which beginning of the queue's text is gone, and how much of what it tells was sent.
 use Rattle.std.specs.Prelude.{◌≡◌, ◌≤◌, ◌⊎◌, ℕ, false, List, ◌++◌, length}
 use Rattle.html5ever_interface.specs.Sink.{Means}
 use Rattle.html5grammar.specs.Reading.{state_after, start_after}
@@ -8,7 +8,7 @@ use Rattle.html5opened.specs.Runs.{IsRunAt}
 use Rattle.html5states.specs.Telling.{Stops}
 use Rattle.html5opened.specs.declared.error.TokenizerError.{TokenizerError}
 
--- a run that is read at once: errors are not exact, and no first character may be dropped
+-- a run that is read at once. Errors are not exact, and no first character may be dropped.
 pub record IsRun (rules : Rules) (K : Start) (run : List ℕ) : Type 0 where
   pub not_exact : rules.exact ≡ false
   pub past_line_break : K.input.after_carriage_return ≡ false
@@ -20,8 +20,8 @@ abbrev pub IsItem : Rules → Start → List ℕ → Type 0
 IsItem rules K item = (length item ≤ 1) ⊎ IsRun rules K item
 
 module _ {X S H : Type 0} (means : Means X S H) (rules : Rules) where
-  -- after `text` a feed of `queue` was refused: all that the characters `front` tell was told, the feed stopped within
-  -- what the item after them tells, and what follows that item is left
+  -- after `text` a feed of `queue` was refused. The sink was sent all that the characters `front` tell. The feed stopped within
+  -- what the item after them tells, and what follows that item is left.
   pub record RefusedAfter (e : TokenizerError) (K : Start) (s : S) (text queue left : List ℕ) (t : S) : Type 0 where
     pub front : List ℕ
     pub item : List ℕ

@@ -11,7 +11,7 @@ use Rattle.html5opened.specs.declared.error.TokenizerError.{TokenizerError}
 use Rattle.markup5ever.specs.BufferQueue.{TextQueue, Takes}
 
 module _ {X S H T : Type 0} (means : Means X S H) (rules : Rules) where
-  -- a run, or nothing, was taken of the queue and read: no tag ends in it, and a refusal is one within what it tells
+  -- a run, or nothing, was taken from the queue and read. No tag ends in it, and a refusal is one within what it tells.
   pub record ReadsRun (result : Result T TokenizerError) (K L : Start) (old new : TextQueue) (s t : S) : Type 0 where
     pub run : List ℕ
     pub takes : Takes old new run

@@ -1,4 +1,5 @@
--- What is read at a character where a reference is not decided, or what may begin a keyword.
+-- "Character reference state", "Markup declaration open state" and "After DOCTYPE name state": what is read at a character where
+-- a reference or a keyword is not decided.
 use Rattle.std.specs.Prelude.{◌≡◌, ◌≤◌, ℕ, ◌+◌, Bool, true, false, List, Result, Ok, IfErr}
 use Rattle.html5ever_interface.specs.Sink.{Means, on_line}
 use Rattle.html5grammar.specs.Machine.{brought_at}
@@ -10,13 +11,13 @@ use Rattle.html5states.specs.Telling.{Tells, IsRefusal, faults_of}
 use Rattle.html5states.specs.declared.teller.Teller.{Teller}
 use Rattle.markup5ever.specs.NamedReferences.{NamedReference}
 
--- what is read by, where a teller tells and the names are these
+-- what a teller reads by, with these names
 abbrev pub rules_with : {Q Z : Type 0} → Teller Q Z → List NamedReference → Rules
 rules_with teller names = record { exact = teller.exact_errors; names = names }
 
 module _ {X S H : Type 0} (means : Means X S H) (count : X → ℕ) where
-  -- the character c, read where `old` stands and `before` is the sink: `Ok true` where it belongs to what is held, `Ok false` where
-  -- it decides, and is still to be read
+  -- the character c, read where `old` stands and `before` is the sink. The answer is `Ok true` where c belongs to what is held,
+  -- and `Ok false` where it decides, and is still to be read.
   pub record ReadsUndecided (rules : Rules) (line c : ℕ) (result : Result Bool TokenizerError) (before after : X) (old new : Start) : Type 0 where
     pub tells : Tells means.step means.faulted result (means.state before)
         (on_line line (tokens_of_late (brought_at rules (means.foreign (means.state before)) old.opened c).settled)) (means.state after)

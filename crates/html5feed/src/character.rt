@@ -26,7 +26,7 @@ use html5states::teller::Teller;
 use markup5ever::tokenizer_result::TokenizerResult;
 use std::alloc::Allocator;
 
-// Reads one character in the state that is open. Where that is refused, nothing is held.
+// Reads one character in the state that is open. After a refusal nothing is held.
 #[inline(always)]
 fn step<S: TokenSink<Token<A>>, A: Allocator + Copy>(
     teller: &mut Teller<'_, S, A>,
@@ -45,7 +45,7 @@ fn step<S: TokenSink<Token<A>>, A: Allocator + Copy>(
     step
 }
 
-// Tells the sink a tag, and goes on as it replies.
+// Sends the sink a tag, and goes on as it replies.
 #[tactic(auto, using(html5states::proofs::Tellings::tells_from_memory), unfolding(html5ever_interface::specs::Sink::stepped, crate::specs::Feed::first_pause))]
 #[inline(always)]
 fn tell_tag<S: TokenSink<Token<A>>, A: Allocator + Copy>(
@@ -129,7 +129,7 @@ fn read_opened<S: TokenSink<Token<A>>, A: Allocator + Copy>(
     }
 }
 
-/// Reads one character of the stream. The answer is `Done`, but after a tag whose reply pauses.
+/// Reads one character of the stream. The answer is `Done`, except after a tag whose reply pauses.
 #[inline(always)]
 pub fn read_character<S: TokenSink<Token<A>>, A: Allocator + Copy>(
     alloc: A,

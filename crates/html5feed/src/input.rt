@@ -55,7 +55,7 @@ impl Input {
         self.current_line
     }
 
-    /// Whether characters from here on are read as they stand, but for line breaks.
+    /// Whether characters from here on are read as they stand, except for line breaks.
     #[inline(always)]
     pub fn is_past_start(&self) -> bool
         ensures past { IsTrue result
@@ -122,8 +122,8 @@ fn line_feeds(text: &str) -> u64
     found
 }
 
-// How many of the bytes of a block are line feeds. It has no exit and is no part of the loop above, so
-// that the compiler makes it one step over all of them.
+// How many of the bytes of a block are line feeds. It has no early exit and stands outside the loop
+// above, so that the compiler makes it one step over all of them.
 #[inline(never)]
 fn line_feeds_in_block(bytes: &[u8], from: usize) -> u64
     requires { from + 16 ≤ length bytes.now }

@@ -120,7 +120,7 @@ impl<A: Allocator + Copy> Position<A> {
         self.input.line()
     }
 
-    /// Tells what the end of input tells of what is open.
+    /// Sends what the end of input tells, by what is open.
     pub fn tell_end_of_input<S: TokenSink<Token<A>>>(
         &mut self,
         alloc: A,
@@ -144,7 +144,7 @@ impl<A: Allocator + Copy> Position<A> {
         teller.tell_end_of_input(&self.opened)
     }
 
-    // Tells what the end of input decides of a reference, or of what stands after `<!`.
+    // Sends what the end of input decides of a reference or a keyword.
     fn decide_at_end<S: TokenSink<Token<A>>>(
         &mut self,
         teller: &mut Teller<'_, S, A>,
@@ -167,7 +167,7 @@ impl<A: Allocator + Copy> Position<A> {
         decide_keyword(teller, &mut self.opened)
     }
 
-    /// Whether a reference is not decided, or what stands after `<!`.
+    /// Whether a reference or a keyword is not decided.
     #[inline(always)]
     pub(crate) fn is_undecided(&self) -> bool
         ensures { result ≡ is_undecided_open self.now.opened }
@@ -203,7 +203,7 @@ impl<A: Allocator + Copy> Position<A> {
         self.in_reference = false;
     }
 
-    /// Keeps the name of a start tag, which is told next, as that of the last one.
+    /// Keeps the name of a start tag as that of the last one. The tag is sent next.
     pub(crate) fn note_tag(&mut self, tag: &Tag<A>) -> Result<(), TokenizerError>
         requires { self.old.opened ≡ Between Data }
         ensures opened { self.new.opened ≡ Between Data }
@@ -228,8 +228,8 @@ impl<A: Allocator + Copy> Position<A> {
         self.held.clear();
     }
 
-    /// How many bytes of a text can be read at once from here: those of a run, where errors are not
-    /// exact and no first character may be dropped.
+    /// How many bytes of a text can be read at once from here. They are those of a run. There are none
+    /// where errors are exact, or where a first character may be dropped.
     #[inline(always)]
     pub fn run_len(&self, rules: &Rules<'_, A>, text: &str) -> usize
         ensures within { result ≤ length text.now }
@@ -249,7 +249,7 @@ impl<A: Allocator + Copy> Position<A> {
         }
     }
 
-    /// Tells a run of text as one token, on the line that is reached after it.
+    /// Sends a run of text as one token, on the line that is reached after it.
     #[inline(always)]
     pub fn tell_run<S: TokenSink<Token<A>>>(
         &mut self,
@@ -280,9 +280,9 @@ impl<A: Allocator + Copy> Position<A> {
         teller.hand_on(Token::CharacterTokens(run))
     }
 
-    /// Reads a text, from its front, as long as its characters tell nothing; none where errors are
-    /// exact, where a reference is open, or where a first character may be dropped. Answers how many
-    /// bytes it read.
+    /// Reads a text, from its front, as long as its characters tell nothing. Answers how many bytes it
+    /// read. It reads none where errors are exact, where a reference is open, or where a first character
+    /// may be dropped.
     #[inline(always)]
     pub fn read_quietly(
         &mut self,
@@ -309,7 +309,7 @@ impl<A: Allocator + Copy> Position<A> {
         read_quietly(&mut self.opened, alloc, text)
     }
 
-    /// Puts a run to the open name, value or comment.
+    /// Appends a run to the open name, value or comment.
     #[inline(always)]
     pub fn push_run(&mut self, run: &str) -> Result<(), TokenizerError>
         requires is_run { IsRunAt self.old.opened (chars run.now) }
@@ -335,7 +335,7 @@ fn name_or_empty<A: Allocator>(alloc: A, name: Option<String<A>>) -> String<A>
     }
 }
 
-// Whether nothing is open in the state, where no reference is and this is held of a CDATA section.
+// Whether nothing is open in the state, where no reference is open and this is held of a CDATA section.
 #[inline(always)]
 fn is_between(state: State, held: &str) -> bool
     ensures { result ≡ is_between state (chars held.now) }

@@ -19,8 +19,8 @@ use markup5ever::buffer_queue::BufferQueue;
 use markup5ever::tokenizer_result::TokenizerResult;
 use std::alloc::Allocator;
 
-// Tells the run of text with which the queue's text begins, and that takes so many bytes. Where it
-// is all of the queue's text it is moved, not copied. It leaves the queue also where it is refused.
+// Sends the run of text with which the queue's text begins, and that takes so many bytes. Where it
+// is all of the queue's text it is moved, not copied. The run leaves the queue even after a refusal.
 #[inline(always)]
 fn tell_waiting_run<S: TokenSink<Token<A>>, A: Allocator + Copy>(
     alloc: A,
@@ -48,8 +48,8 @@ fn tell_waiting_run<S: TokenSink<Token<A>>, A: Allocator + Copy>(
     position.tell_run(alloc, sink, run)
 }
 
-// Reads the run with which the queue's text begins, where it begins with one that can be read at
-// once. It leaves the queue also where it is refused.
+// Reads the run with which the queue's text begins, if it begins with one. The run leaves the queue
+// even after a refusal.
 #[inline(always)]
 fn read_waiting_run<S: TokenSink<Token<A>>, A: Allocator + Copy>(
     alloc: A,
@@ -78,8 +78,8 @@ fn read_waiting_run<S: TokenSink<Token<A>>, A: Allocator + Copy>(
     read
 }
 
-// Reads the characters with which the queue's text begins, as long as they tell nothing. One for
-// which memory is refused leaves the queue, too.
+// Reads the characters with which the queue's text begins, as long as they tell nothing. A character
+// for which memory is refused leaves the queue, too.
 #[inline(always)]
 fn read_waiting_quietly<A: Allocator + Copy>(
     alloc: A,

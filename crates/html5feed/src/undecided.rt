@@ -1,4 +1,4 @@
-//! One character where a reference is not decided, or what may begin a keyword.
+//! One character where a reference or a keyword is not decided.
 #![tactic(auto, unfolding(html5opened::specs::CharRef::with_reference))]
 
 ghost use Rattle.std.specs.Prelude.{◌≡◌, ◌&&◌, List, true};
@@ -24,8 +24,8 @@ use html5states::teller::Teller;
 use markup5ever::data::NamedReferences;
 use std::alloc::Allocator;
 
-// Whether the sink says that the content is foreign. It is asked only where the character may belong
-// to the keyword of a CDATA section, and so to no other.
+// Whether the sink says that the content is foreign. The sink is asked only where the character may
+// belong to the keyword of a CDATA section.
 fn asked_about_foreign<S: TokenSink<Token<A>>, A: Allocator>(
     sink: &S,
     opened: &Opened<A>,
@@ -43,8 +43,8 @@ fn asked_about_foreign<S: TokenSink<Token<A>>, A: Allocator>(
     }
 }
 
-/// Tells that no keyword stands where characters are held that may begin one. No name of the table
-/// has a part in that, so it holds with every table.
+/// Sends the error of a keyword that doesn't come, where characters are held that may begin one. It
+/// has nothing to do with names of the table, so it holds with every table.
 pub fn decide_keyword<S: TokenSink<Token<A>>, A: Allocator + Copy>(
     teller: &mut Teller<'_, S, A>,
     opened: &mut Opened<A>,
@@ -62,8 +62,8 @@ pub fn decide_keyword<S: TokenSink<Token<A>>, A: Allocator + Copy>(
     }
 }
 
-// Reads a character after what is held of a reference: whether it belongs to the reference. Else the
-// reference is decided, and the character is still to be read.
+// Reads a character after what is held of a reference, and answers whether it belongs to the
+// reference. Else the reference is decided, and the character is still to be read.
 fn read_reference<S: TokenSink<Token<A>>, A: Allocator + Copy>(
     teller: &mut Teller<'_, S, A>,
     names: &NamedReferences<A>,
@@ -84,8 +84,8 @@ fn read_reference<S: TokenSink<Token<A>>, A: Allocator + Copy>(
     Ok(ends)
 }
 
-// Reads a character after what may begin a keyword, in the same way. The sink is asked where that
-// may be the keyword of a CDATA section.
+// The same for what may begin a keyword. The sink is asked where that may be the keyword of a CDATA
+// section.
 fn read_keyword<S: TokenSink<Token<A>>, A: Allocator + Copy>(
     teller: &mut Teller<'_, S, A>,
     position: &mut Position<A>,
@@ -105,8 +105,8 @@ fn read_keyword<S: TokenSink<Token<A>>, A: Allocator + Copy>(
     Ok(false)
 }
 
-/// Reads a character where a reference is not decided, or what stands after `<!`, whose line before it
-/// was `line`: whether it belongs to that. Else it decides, and is still to be read.
+/// Reads a character where a reference or a keyword is not decided, and answers whether it belongs to
+/// that. Else the character decides, and is still to be read. `line` is the line before it.
 pub fn read_undecided<S: TokenSink<Token<A>>, A: Allocator + Copy>(
     alloc: A,
     sink: &mut S,

@@ -25,7 +25,7 @@ use Rattle.html5grammar.specs.Text.{after_solidus, after_less_than, data_text, p
 abbrev start_in : Mode → Start
 start_in mode = record { opened = Between mode; last_start_tag = []; input = record { line = 1; after_carriage_return = false; drops_byte_order_mark = true } }
 
--- what a text tells a sink that gives always the same answer, and one that counts what it was told
+-- what a text tells a sink that gives always the same answer, and one that counts what it was sent
 abbrev events : Bool → Bool → List ℕ → List Event
 events exact foreign text = reading {S = ℕ} {H = ℕ} (λ s t l. s) (λ s t l. KeepOn) (λ s. foreign) (record { exact = exact; names = [] }) (start_in Data) 0 text
 

@@ -28,7 +28,7 @@ start = record { opened = Between Data; last_start_tag = []; input = record { li
 abbrev events : Bool → List ℕ → List Event
 events exact text = reading {S = ℕ} {H = ℕ} (λ s t l. s) (λ s t l. KeepOn) (λ s. false) (record { exact = exact; names = [] }) start 0 text
 
--- what is told where the text may go on, and what is open then
+-- what is sent where the text may go on, and what is open then
 abbrev told_of : List ℕ → List Event
 told_of text = told {S = ℕ} {H = ℕ} (λ s t l. s) (λ s t l. KeepOn) (λ s. false) (record { exact = false; names = [] }) start 0 text
 

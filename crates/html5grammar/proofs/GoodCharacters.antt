@@ -10,6 +10,7 @@ outside : (low high c : ℕ) → (c < low) ⊎ (high < c) → is_between low hig
 outside low high c (inl below) = rw (lt-leb low c below) refl
 outside low high c (inr above) = rw (lt-leb c high above) (and-false (leb low c))
 
+-- from `#` to `z` no character is bad
 pub good_between : (c : ℕ) → 0x23 ≤ c → c ≤ 0x7A → is_bad_character c ≡ false
 unfolding is_bad_character
 good_between c low high =

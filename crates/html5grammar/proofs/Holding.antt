@@ -73,6 +73,7 @@ module _ (exact : Bool) (c : ℕ) where
   unfolding data_step
   holds-data before = holds-if (c == less_than) _ _ none (holds-if (c == ampersand) _ _ none (holds-if (c == null) _ _ none none))
 
+  -- a step in a tag leaves at most one character held
   holds-tag : (place : Place) (tag : OpenTag) → HoldsAtMostOne (tag_step exact place tag c)
   unfolding tag_step before_value_step after_attribute_name_step
   holds-tag InName tag = holds-tag_name tag
@@ -147,6 +148,7 @@ module _ (exact : Bool) (c : ℕ) where
   unfolding space_step
   holds-space place d next f = holds-if (is_white_space c) (Tells [] (InDoctype place d)) next none f
 
+  -- a step in a doctype leaves at most one character held
   holds-doctype : (place : DoctypePlace) (d : DoctypeOf) → HoldsAtMostOne (doctype_step exact place d c)
   unfolding doctype_step doctype_name_step keyword_or_end_step identifier_step
   holds-doctype AfterWord d = holds-space _ d _ (holds-wanted_name _ d)
@@ -161,6 +163,7 @@ module _ (exact : Bool) (c : ℕ) where
   holds-doctype BetweenIdentifiers d = holds-space _ d _ (holds-system_or_end false state.BetweenDoctypePublicAndSystemIdentifiers d)
   holds-doctype Skipped d = holds-skipped [] d
 
+  -- where nothing is undecided a character holds itself at most. So a feed takes at most two characters for one.
   pub holds_at_most_one : (opened : Open) → is_undecided_open opened ≡ false → HoldsAtMostOne (step_at exact opened c)
   unfolding step_at less_than_step solidus_step comment_step instruction_step
   holds_at_most_one (Between Data) decided = holds-data []

@@ -10,6 +10,7 @@ use Rattle.html5grammar.specs.Start.{Input}
 
 -- normalised text
 
+-- line breaks of two texts are those of the first, and of the second after the CR with which the first may end
 with_line_feeds-append : (b : Bool) (X Z : List ℕ)
     → with_line_feeds b (X ++ Z) ≡ with_line_feeds b X ++ with_line_feeds (ends_with_carriage_return b X) Z
 unfolding with_line_feeds ends_with_carriage_return

@@ -25,6 +25,7 @@ module _ (p : ℕ → Bool) (high : (b : ℕ) → 128 ≤ b → p b ≡ true) wh
   all-four : (a b d e : ℕ) → 128 ≤ a → 128 ≤ b → 128 ≤ d → 128 ≤ e → list_all p (a ∷ b ∷ d ∷ e ∷ []) ≡ true
   all-four a b d e f g h i = rw (high a f) (all-three b d e g h i)
 
+  -- where a test passes each byte from 128 on, it passes the bytes of a character if it passes the character
   pub all-encode : (d : ℕ) → p d ≡ true → list_all p (encode d) ≡ true
   unfolding encode
   all-encode d h =

@@ -94,6 +94,7 @@ module _ (rules : Rules) (table : IsTable rules.names) where
       (λ f. lawful-brought_if (begins_doctype_keyword (held ++ c ∷ [])) _ _ (λ g. (tt, (tt, lawful)))
       (λ g. (lawful-keyword_error rules.exact held, lawful-skipped rules.exact c [] (with_quirks d) (lawful-quirks d lawful) tt))))
 
+  -- what a character brings is lawful, and leaves open what is fit for lawful tokens
   lawful-brought : (foreign : Bool) (opened : Open) (c : ℕ) → IsFit opened → LawfulBrought (brought_at rules foreign opened c)
   unfolding brought_at IsFit
   lawful-brought foreign (Between mode) c fit = (lawful-nil, lawful-step_at rules.exact c (Between mode) fit)
@@ -141,6 +142,7 @@ no_null-solidus : has_no_null (codes "/") ≡ true
 unfolding has_no_null
 no_null-solidus = refl
 
+-- what the end tells is lawful
 lawful-told_at_end : (exact : Bool) (opened : Open) → IsFit opened → AllLawful (told_at_end_of exact opened)
 unfolding told_at_end_of told_at_doctype_end IsFit AllLawful
 lawful-told_at_end exact (Between Data) fit = lawful-end
@@ -243,6 +245,7 @@ module _ {S H : Type 0} (step : S → Told → ℕ → S) (reply : S → Told �
       (λ t name later fit. lawful-trace table t (line_past line c) name later text fit)
       s line last c (brought_at rules (foreign s) opened c) (lawful-brought rules table (foreign s) opened c fit)
 
+  -- each token of a reading is lawful: the statement of `lawful_tokens`
   pub lawful-reading : (K : Start) (s : S) (X : List ℕ) → IsTable rules.names → is_clean K.opened ≡ true
       → All (λ m. IsLawful m.token) (messages (reading step reply foreign rules K s X))
   lawful-reading K s X table clean =

@@ -116,6 +116,7 @@ begun-no_null names text plain begins =
       | false ↦ λ odd. absurd (false≢true (sym (none_begins names text plain odd) ∙ begins))
     ] refl
 
+-- what leaves a reference undecided has no NUL
 pub no_null-undecided : (names : List NamedReference) (held : List ℕ) → All (λ entry. IsTrue (is_plain_name entry.name)) names
     → is_undecided names held ≡ true → has_no_null held ≡ true
 unfolding is_undecided
@@ -213,6 +214,7 @@ plain-named exact in_value held next (Some entry) nonzero =
     plain-if (is_ended entry.name) _ _ (λ ended. (tt, no_null-entry entry nonzero))
     (λ open_name. plain-if (in_value && goes_on (first_or (drop (length entry.name) held) next)) _ _ (λ going. (tt, no_null-ampersand)) (λ ends. ((tt, tt), no_null-entry entry nonzero)))
 
+-- the longest name of a table stands for a character other than NUL
 longest-nonzero : (names : List NamedReference) (text : List ℕ) → All (λ entry. has_zero entry ≡ false) names → IfSome (longest_name names text) (λ e. has_zero e ≡ false)
 unfolding longest_name
 longest-nonzero [] text nonzero = tt
@@ -238,7 +240,7 @@ plain-reference rules in_value (c ∷ held) next table =
     plain-if (c == number_sign) _ _ (λ sign. plain-number rules.exact held next)
     (λ name. plain-named rules.exact in_value (c ∷ held) next (longest_name rules.names (c ∷ held)) (longest-nonzero rules.names (c ∷ held) table.nonzero))
 
--- ---- what is told of it
+-- ---- what is sent of it
 
 lawful-text_in : (stand : Stand) (characters : List ℕ) → has_no_null characters ≡ true → AllLawful (text_in stand characters)
 unfolding AllLawful

@@ -48,7 +48,7 @@ abbrev pub IsFitStand : Stand → Type 0
 IsFitStand (InText mode) = Unit {0}
 IsFitStand (InAttribute kind tag) = IsFitTag tag
 
--- what is open is fit for what will be told of it
+-- what is open is fit for what will be sent of it
 unfoldable pub IsFit : Open → Type 0
 IsFit (InTag place tag) = IsFitTag tag
 IsFit (InRaw (InEndName kind letters) name) = list_all is_letter letters ≡ true
@@ -188,6 +188,7 @@ module _ (exact : Bool) (c : ℕ) where
       lawful-if (in_quoted kind c) _ _ (λ e. (lawful-where _ _ tt, fit-value tag (c ∷ []) fit))
       (λ e. lawful-if (c == ampersand) _ _ (λ f. (lawful-nil, (fit, no_null-nil))) (λ f. (lawful-nil, fit)))
 
+  -- a step in a tag that is fit keeps it fit, or tells it
   lawful-tag : (place : Place) (tag : OpenTag) → IsFitTag tag → LawfulHere (tag_step exact place tag c)
   unfolding tag_step before_value_step after_attribute_name_step LawfulHere IsFit
   lawful-tag InName tag fit = lawful-tag_name tag fit
@@ -303,6 +304,7 @@ module _ (exact : Bool) (c : ℕ) where
   fit-end_tag (b ∷ name) [] all h = absurd (false≢true (and_parts (ends_name c) false (and_parts (not (nat_eq (length (b ∷ name)) 0)) (ends_name c && false) h).1).1)
   fit-end_tag (b ∷ name) (d ∷ letters) all h = fit-begun EndTag d letters (and_parts (is_letter d) (list_all is_letter letters) all).0
 
+  -- a step in raw text tells lawful tokens, and begins an end tag that is fit
   lawful-raw_place : (place : RawPlace) (name : List ℕ) → IsFit (InRaw place name) → LawfulHere (raw_place_step exact place name c)
   unfolding raw_place_step end_name_step switch_step mark_step mark_and_dash_step LawfulHere IsFit
   lawful-raw_place (AfterLessThan kind) name fit = lawful-after_less_than kind name
@@ -389,6 +391,7 @@ module _ (exact : Bool) (c : ℕ) where
   unfolding space_step LawfulHere IsFit
   lawful-space place d next lawful f = lawful-if (is_white_space c) (Tells [] (InDoctype place d)) next (λ e. (lawful-nil, lawful)) (λ e. f)
 
+  -- a step in a doctype keeps it lawful, or tells it
   lawful-doctype : (place : DoctypePlace) (d : DoctypeOf) → IsLawfulDoctype d → LawfulHere (doctype_step exact place d c)
   unfolding doctype_step doctype_name_step keyword_or_end_step identifier_step LawfulHere IsFit AllLawful
   lawful-doctype AfterWord d lawful = lawful-space _ d _ lawful (lawful-wanted_name (word_error exact c) d lawful (lawful-where _ _ tt))
@@ -410,6 +413,7 @@ module _ (exact : Bool) (c : ℕ) where
 
   -- ---- all that may be open
 
+  -- the same for all that may be open
   pub lawful-step_at : (opened : Open) → IsFit opened → LawfulHere (step_at exact opened c)
   unfolding step_at less_than_step solidus_step LawfulHere IsFit AllLawful
   lawful-step_at (Between Data) fit = lawful-data [] tt

@@ -1,4 +1,4 @@
--- Tags that are open, so that they will be lawful when they are told, and doctypes.
+-- Tags that are open, so that they will be lawful when they are sent, and doctypes.
 use Rattle.std.proofs.Common.{◌≡◌, ℕ, Bool, true, false, not, List, [], ◌∷◌, ◌++◌, refl, sym, ap, ◌∙◌, subst}
 use Rattle.std.specs.Prelude.{flat_map, IfSome, option_map, None, Some, if◌then◌else◌}
 use Rattle.std.specs.List.{list_all, list_any, IsDistinct}

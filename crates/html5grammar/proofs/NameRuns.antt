@@ -56,6 +56,7 @@ longest-after names held c text none =
     longest-cut names (held ++ c ∷ text) (length held) within (ap (begins_name names) cut ∙ none)
     ∙ ap (longest_name names) (take-append_seam held (c ∷ text))
 
+-- the longest name that begins what is held is the longest that begins the whole text
 pub longest-run : (names : List NamedReference) (held text : List ℕ) → IsNoNumber (held ++ text)
     → longest_name names (held ++ run_while (is_undecided names) held text) ≡ longest_name names (held ++ text)
 unfolding run_while
@@ -110,6 +111,7 @@ unnamed-front (x ∷ names) text more e =
       | false ↦ λ starts. unnamed-front names text more p.1
     ] refl
 
+-- where a name begins a text and more, but none begins the text, the text begins a name
 named-front : (names : List NamedReference) (text more : List ℕ) → is_none (longest_name names (text ++ more)) ≡ false → is_none (longest_name names text) ≡ true → begins_name names text ≡ true
 unfolding longest_name begins_name
 named-front [] text more some none = absurd (false≢true (sym some))
@@ -147,6 +149,7 @@ held-named names held (c ∷ text) other some =
 pub odd-within : (p : ℕ → Bool) (before : List ℕ) (c : ℕ) (afterwards : List ℕ) → p c ≡ false → list_all p (before ++ c ∷ afterwards) ≡ false
 odd-within p before c afterwards odd = list_all-append p before (c ∷ afterwards) ∙ rw odd (and-false (list_all p before))
 
+-- in a plain name a character that is no letter and no digit stands last
 plain-end : (before : List ℕ) (c : ℕ) (afterwards : List ℕ) → is_plain_name (before ++ c ∷ afterwards) ≡ true → is_ascii_alphanumeric c ≡ false → afterwards ≡ []
 unfolding is_plain_name
 plain-end before c [] plain odd = refl
@@ -173,6 +176,7 @@ whole-name name held c plain odd begins =
     let same : name ≡ front = split ∙ ap (λ l. held ++ c ∷ l) none in
     ap (starts_with nat_eq front) same ∙ begins-itself front
 
+-- where a text ends with such a character, and no name begins the text, the text begins no name
 unnamed-begins : (names : List NamedReference) (held : List ℕ) (c : ℕ) → ArePlain names → is_ascii_alphanumeric c ≡ false → longest_name names (held ++ c ∷ []) ≡ None
     → begins_name names (held ++ c ∷ []) ≡ false
 unfolding begins_name

@@ -40,7 +40,7 @@ unfoldable pub NoTags : List Told → Type 0
 NoTags [] = Unit {0}
 NoTags (t ∷ ts) = (is_tag t ≡ false) × NoTags ts
 
--- no tag is told before the one that ends
+-- no tag is sent before the one that ends
 unfoldable pub NoTagsHere : Here Open → Type 0
 NoTagsHere (Tells told later) = NoTags told
 NoTagsHere (TellsTag told tag) = NoTags told
@@ -153,6 +153,7 @@ module _ (exact : Bool) (c : ℕ) where
     | false ↦ (refl, tt)
   ]
 
+  -- a step in a tag tells no tag but the one that it ends
   no_tags-tag : (place : Place) (tag : OpenTag) → NoTagsHere (tag_step exact place tag c)
   unfolding tag_step before_value_step after_attribute_name_step NoTagsHere NoTags
   no_tags-tag InName tag = no_tags-tag_name tag
@@ -237,6 +238,7 @@ module _ (exact : Bool) (c : ℕ) where
   unfolding space_step NoTagsHere NoTags
   no_tags-space place d next f = no_tags-if (is_white_space c) (Tells [] (InDoctype place d)) next tt f
 
+  -- a step in a doctype tells no tag
   no_tags-doctype : (place : DoctypePlace) (d : DoctypeOf) → NoTagsHere (doctype_step exact place d c)
   unfolding doctype_step doctype_name_step keyword_or_end_step identifier_step NoTagsHere NoTags
   no_tags-doctype AfterWord d = no_tags-space _ d _ (no_tags-wanted_name (word_error exact c) d (no_tags-where _ _ refl))
@@ -275,6 +277,7 @@ module _ (exact : Bool) (c : ℕ) where
   no_tags-raw_place (InSwitch kind letters) name =
       no_tags-if (is_letter c) _ _ (refl, tt) (no_tags-if (ends_name c) _ _ (refl, tt) (no_tags-raw (raw_of (raw_kind.ScriptDataEscaped kind)) name [] tt))
 
+  -- where nothing is undecided a step tells no tag before the one that ends
   pub no_tags-step_at : (opened : Open) → NoTagsHere (step_at exact opened c)
   unfolding step_at less_than_step solidus_step instruction_step NoTagsHere NoTags
   no_tags-step_at (Between Data) = no_tags-data [] tt
@@ -392,6 +395,7 @@ no_tags-doctype_keyword exact held d c =
     (no_tags-brought (is_keyword System (held ++ c ∷ [])) _ _ tt
     (no_tags-brought (begins_doctype_keyword (held ++ c ∷ [])) _ _ tt (no_tags-keyword_error exact held)))
 
+-- what a character settles of a reference or a keyword has no tag
 pub no_tags-settled : (rules : Rules) (foreign : Bool) (opened : Open) (c : ℕ) → NoTags (tokens_of_late (brought_at rules foreign opened c).settled)
 unfolding brought_at reference_step NoTags
 no_tags-settled rules foreign (Between mode) c = tt

@@ -43,6 +43,7 @@ no_tags-raw_end exact AfterMark = tt
 no_tags-raw_end exact AfterMarkAndDash = tt
 no_tags-raw_end exact (InSwitch kind letters) = no_tags-raw_error exact _
 
+-- what the end tells has no tag
 no_tags-told_at_end : (exact : Bool) (opened : Open) → NoTags (told_at_end_of exact opened)
 unfolding told_at_end_of told_at_doctype_end NoTags
 no_tags-told_at_end exact (Between Data) = no_tags-end
@@ -81,6 +82,7 @@ no_tags-on_line line (t ∷ tokens) none =
     All-cons (λ (m : Message). is_tag m.token ≡ false) (record { token = t; line = line }) (on_line line tokens) none.0 (no_tags-on_line line tokens none.1)
 
 module _ {S H : Type 0} (step : S → Told → ℕ → S) (reply : S → Told → ℕ → Reply H) (foreign : S → Bool) (rules : Rules) where
+  -- what the end decides and tells has no tag: the statement of `tags_cut_off`
   pub cut_off_tags : (K : Start) (s : S) (X : List ℕ)
       → TellsNoTagAfter (messages (told step reply foreign rules K s X)) (messages (reading step reply foreign rules K s X))
   cut_off_tags K s X =

@@ -68,6 +68,7 @@ none_decided : (f : Told → Event) → ((x : Told) → is_character (f x).decid
 none_decided f h [] = refl
 none_decided f h (x ∷ tokens) = rw (h x) refl
 
+-- no character decides what the end tells
 decided-told_at_end : (exact : Bool) (opened : Open) (f : Told → Event) → ((x : Told) → is_character (f x).decided_by ≡ false)
     → take_while (λ (e : Event). is_character e.decided_by) (map f (told_at_end_of exact opened)) ≡ []
 unfolding told_at_end_of
@@ -140,6 +141,7 @@ module _ (I : Input) (Y : List ℕ) (E : List Event) (none : take_while (λ (e :
   decided-late_tokens (InAttribute kind tag) found held =
       rw (held_text-in_value kind tag (drop found.taken held)) (decided-none _ found.errors)
 
+  -- no character decides what the end decides of a reference or a keyword
   decided-late_at_end : (rules : Rules) (opened : Open)
       → take_while (λ (e : Event). is_character e.decided_by) (late_events I Y EndOfInput (late_at_end_of rules opened) ++ E) ≡ []
   unfolding late_at_end_of late_events keyword_error
@@ -239,6 +241,7 @@ module _ {S H : Type 0} (step : S → Told → ℕ → S) (reply : S → Told �
   stepped-last s line [] token = refl
   stepped-last s line (x ∷ tokens) token = stepped-last (step s x line) line tokens token
 
+  -- one character of a trace that goes on over two texts
   trace-append-here : (s : S) (line : ℕ) (last : List ℕ) (c : ℕ) (Y W : List ℕ) (h : Here Open)
       → ((t : S) (name : List ℕ) (later : Open) → trace step reply foreign rules t line name later (Y ++ W) ≡ going_on t (lines_past line Y) (trace step reply foreign rules t line name later Y) W)
       → trace_here step reply foreign rules (λ t name later. trace step reply foreign rules t line name later (Y ++ W)) s line last c h
@@ -343,7 +346,7 @@ module _ {S H : Type 0} (step : S → Told → ℕ → S) (reply : S → Told �
   unfolding trace
   after-none K s c e = rw (after-opened K s (c ∷ []), after-last K s (c ∷ []), e) refl
 
-  -- what is told at the character that is read for c
+  -- what is sent at the character that is read for c
 
   trace_here-one : (s : S) (line : ℕ) (last : List ℕ) (d : ℕ) (h : Here Open)
       → trace_here step reply foreign rules (λ t name later. record { messages = []; opened = later; last_start_tag = name }) s line last d h
@@ -352,10 +355,11 @@ module _ {S H : Type 0} (step : S → Told → ℕ → S) (reply : S → Told �
   trace_here-one s line last d (Tells told later) = rw (append-nil (on_line line (bad_character_error rules.exact d ++ told))) refl
   trace_here-one s line last d (TellsTag told tag) = rw (append-nil (on_line line ((bad_character_error rules.exact d ++ told) ++ Tag tag ∷ []))) refl
 
-  -- the state of the sink in which the character is told
+  -- the state of the sink in which the character is sent
   abbrev pub state_here : Start → S → ℕ → S
   state_here K s d = stepped step s (on_line (line_after K.input []) (tokens_of_late (brought_at rules (foreign s) K.opened d).settled))
 
+  -- the trace of one character is one step of the machine
   trace-one : (K : Start) (s : S) (c d : ℕ) → normalised K.input (c ∷ []) ≡ d ∷ []
       → trace step reply foreign rules s (line_after K.input []) K.last_start_tag K.opened (normalised K.input (c ∷ []))
       ≡ record {

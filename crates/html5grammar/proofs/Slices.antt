@@ -229,6 +229,7 @@ module _ (rules : Rules) (foreign : Bool) (c : ℕ) (text : List ℕ) where
 
   -- a value and what comes before it
 
+  -- a value: its slice tells at c what the machine tells there
   follows-value : (tag : OpenTag) → follows (value rules tag (c ∷ text))
       (if c == quotation_mark then Tells [] (InTag (InValue DoubleQuoted) tag)
       else if c == apostrophe then Tells [] (InTag (InValue SingleQuoted) tag)
@@ -476,6 +477,7 @@ module _ (rules : Rules) (foreign : Bool) (c : ℕ) (text : List ℕ) where
   unfolding doctype space_step here slice_at brought rest_of
   follows-doctype_word d = follows-if (is_white_space c) _ _ _ _ (refl, refl) (follows-wanted_name (word_error rules.exact c) d)
 
+  -- a doctype: its slice tells at c what the machine tells there
   follows-doctype : (place : DoctypePlace) (d : DoctypeOf) → follows (rest_of rules (InDoctype place d) (c ∷ text)) (step_at rules.exact (InDoctype place d) c)
   unfolding rest_of step_at doctype_step here slice_at brought next_slice
   follows-doctype AfterWord d = follows-doctype_word d
@@ -619,6 +621,7 @@ module _ (rules : Rules) (foreign : Bool) (c : ℕ) (text : List ℕ) where
   here-opened_in (InText mode) characters = (follows-between mode).0
   here-opened_in (InAttribute kind tag) characters = (follows-tag (InValue kind) (with_value tag characters)).0
 
+  -- after what is held of a reference, the slice brings at c what the machine brings there
   brings-after_held : (stand : Stand) (held : List ℕ) → brings (after_held rules stand held (c ∷ text))
       (if ends_number held c then record {
         settled = late_tokens stand (reference rules (in_value stand) held (Some c)) held;
@@ -674,6 +677,7 @@ module _ (rules : Rules) (foreign : Bool) (c : ℕ) (text : List ℕ) where
       (brings-if (begins_doctype_keyword (held ++ c ∷ [])) _ _ _ _ refl
       (ap (λ h. record { settled = keyword_error rules.exact held; here = h }) (follows-skipped_rest (with_quirks d)).0)))
 
+  -- whatever is open, the rest of its slice brings at c what the machine brings there
   pub rest_of-brought_at : (opened : Open) → brings (rest_of rules opened (c ∷ text)) (brought_at rules foreign opened c)
   unfolding rest_of brought_at step_at here slice_at brought next_slice
   rest_of-brought_at (Between mode) = brings-from (rest_of rules (Between mode) (c ∷ text)) _ (follows-between mode)

@@ -1,5 +1,5 @@
--- What is told of a text is a beginning of the reading of it and more: all before the first event that a later character decides,
--- or the end.
+-- What the sink is sent of a text is a beginning of the reading of that text and more. It is all before the first event that a
+-- later character decides, or the end.
 use Rattle.std.proofs.Common.{◌≡◌, ℕ, ◌≤◌, ◌+◌, suc, Bool, true, false, None, Some, List, [], ◌∷◌, ◌++◌, drop, refl, ap, sym, ◌∙◌, subst, length, length-append, arith}
 use Rattle.std.specs.Prelude.{codes, ◌&&◌, map, take_while, if◌then◌else◌, ◌-◌}
 use Rattle.std.proofs.lemmas.Bool.{le-leb, lt-leb, false≢true}
@@ -38,6 +38,7 @@ module _ {S H : Type 0} (step : S → Told → ℕ → S) (reply : S → Told �
   abbrev Splits : S → Read → Read → (S → List ℕ → Open → Read) → Type 0
   Splits s whole part tail = whole ≡ with_events part.events (tail (stepped step s (messages part.events)) part.last_start_tag part.opened)
 
+  -- events in front of the whole and of a part: the whole is still the part and the tail
   splits-with : (s : S) (E : List Event) (M : List Message) (whole part : Read) (tail : S → List ℕ → Open → Read) → messages E ≡ M
       → Splits (stepped step s M) whole part tail → Splits s (with_events E whole) (with_events E part) tail
   splits-with s E M whole part tail e h =
@@ -58,6 +59,7 @@ module _ {S H : Type 0} (step : S → Told → ℕ → S) (reply : S → Told �
   abbrev from : List ℕ → List ℕ → S → List ℕ → Open → Read
   from before text t name opened = read_from step reply foreign rules K t name before (rest_of rules opened text) text
 
+  -- one character in front of the whole and of a part
   splits-here : (s : S) (last before : List ℕ) (c : ℕ) (A B : List ℕ) (tail : S → List ℕ → Open → Read) (h : Here Open)
       → ((t : S) (name : List ℕ) (opened : Open) → Splits t (from (before ++ c ∷ []) (A ++ B) t name opened) (from (before ++ c ∷ []) A t name opened) tail)
       → Splits s
@@ -95,14 +97,14 @@ module _ {S H : Type 0} (step : S → Told → ℕ → S) (reply : S → Told �
       (λ t name later. subst (λ l. Splits t (from (before ++ c ∷ []) (A ++ B) t name later) (from (before ++ c ∷ []) A t name later) (from l B)) (append_assoc before (c ∷ []) A)
       (splits t name (before ++ c ∷ []) later A B))))
 
--- ---- which characters decide what is told late
+-- ---- which characters decide what is sent late
 
 -- a held character is one that stands before the deciding one
 abbrev IsSound : List Late → Type 0
 IsSound [] = Unit {0}
 IsSound (late ∷ more) = (late.is_held ≡ true → 1 ≤ late.back) × IsSound more
 
--- what is told late begins with what the deciding character decides
+-- what is sent late begins with what the deciding character decides
 abbrev BeginsUnheld : List Late → Type 0
 BeginsUnheld [] = Unit {0}
 BeginsUnheld (late ∷ more) = late.is_held ≡ false
@@ -285,6 +287,7 @@ module _ {S H : Type 0} (step : S → Told → ℕ → S) (reply : S → Told �
   among-here s last before c A E (TellsTag here tag) within ih =
       at-among K.input n before c ((bad_character_error rules.exact c ++ here) ++ Tag tag ∷ []) _ E within (ih _ _ _ _ (rest_of-reply rules (last_after last tag) _ A))
 
+  -- the first n characters decide the events of a text that lies among them
   read-among : (before A : List ℕ) (E : List Event) → length before + length A ≤ n → IsAmong before A E
   unfolding read_from
   read-among before [] E within s last opened slice is = refl
@@ -314,6 +317,7 @@ module _ {S H : Type 0} (step : S → Told → ℕ → S) (reply : S → Told �
       rw (append_assoc (events_at K.input before c tokens) _ E)
       (beyond-at K.input n before c tokens _ past (ih _ _ _ _ (rest_of-reply rules (last_after last tag) _ B)))
 
+  -- they decide no event of a text that comes after them
   read-beyond : (before B : List ℕ) (E : List Event) → n ≤ length before → among n E ≡ [] → IsBeyond before B E
   unfolding read_from
   read-beyond before [] E past none s last opened slice is = none
@@ -333,7 +337,7 @@ module _ {S H : Type 0} (step : S → Told → ℕ → S) (reply : S → Told �
       (beyond-end K.input n (told_at_end_of rules.exact (open_at_end_of rules opened)) (line_after K.input Y))
 
 module _ {S H : Type 0} (step : S → Told → ℕ → S) (reply : S → Told → ℕ → Reply H) (foreign : S → Bool) (rules : Rules) where
-  -- what is told of a text is all of the reading of it and more that its characters decide, before what other places decide
+  -- what is sent of a text is all of the reading of it and more that its characters decide, before what other places decide
   pub told-within : (K : Start) (s : S) (text more : List ℕ)
       → told step reply foreign rules K s text
       ≡ take_while (λ e. is_among (length (normalised K.input text)) e.decided_by) (reading step reply foreign rules K s (text ++ more))

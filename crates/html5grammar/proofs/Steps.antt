@@ -1,4 +1,4 @@
--- Steps that are another with more told in front: a character that is read again.
+-- Steps that are another one with more sent first: a character that is reconsumed.
 use Rattle.std.proofs.Common.{◌≡◌, ℕ, Bool, true, false, List, [], ◌∷◌, refl, ap, sym}
 use Rattle.std.specs.Prelude.{◌==◌, ◌&&◌, ◌||◌, if◌then◌else◌}
 use Rattle.std.proofs.lemmas.List.{append-nil}

@@ -62,6 +62,7 @@ starts-shorter (a ∷ text) (x ∷ n) starts other =
 
 -- ---- the longest of a table
 
+-- the longest name begins the text
 longest-starts : (names : List NamedReference) (text : List ℕ) (found : NamedReference) → longest_name names text ≡ Some found → starts_with nat_eq text found.name ≡ true
 unfolding longest_name
 longest-starts [] text found e = absurd cc
@@ -176,6 +177,7 @@ named_alone name plain =
       | false ↦ λ end letters. letters_named name letters
     ] refl (and_parts _ _ plain).1
 
+-- a text with a character that no name has begins no name
 pub none_begins : (names : List NamedReference) (text : List ℕ) → All (λ entry. IsTrue (is_plain_name entry.name)) names → list_all is_name_character text ≡ false → begins_name names text ≡ false
 unfolding begins_name
 none_begins [] text plain odd = refl

@@ -35,6 +35,7 @@ ends_in-none text =
     let n : length text ≤ length text - 0 = omega arith in
     ap (pointwise nat_eq []) (drop_all (length text - 0) text n)
 
+-- two texts with one more character each are equal where both parts are
 pointwise-push : (word text : List ℕ) (x b : ℕ) → pointwise nat_eq (word ++ x ∷ []) (text ++ b ∷ []) ≡ pointwise nat_eq word text && nat_eq x b
 pointwise-push [] [] x b = and-true (nat_eq x b)
 pointwise-push [] (y ∷ []) x b = and-false (nat_eq x y)
@@ -73,6 +74,7 @@ pub record LastByte (c : ℕ) (bytes : List ℕ) : Type 0 where
 following : (k : ℕ) → 128 ≤ 128 + k
 following k = omega arith
 
+-- the last byte of a character is the character, or is not ASCII
 pub encode-last : (d : ℕ) → LastByte d (encode d)
 unfolding encode
 encode-last d =

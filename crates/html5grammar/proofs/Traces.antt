@@ -45,7 +45,7 @@ abbrev pub with_messages : List Message → Trace → Trace
 with_messages M trace = record { messages = M ++ trace.messages; opened = trace.opened; last_start_tag = trace.last_start_tag }
 
 module _ {S H : Type 0} (step : S → Told → ℕ → S) (reply : S → Told → ℕ → Reply H) (foreign : S → Bool) (rules : Rules) where
-  -- what is told at a character, on its line, and then by what goes on
+  -- what is sent at a character, on its line, and then by what goes on
   unfoldable pub trace_here : (S → List ℕ → Open → Trace) → S → ℕ → List ℕ → ℕ → Here Open → Trace
   trace_here rest s line last c (Tells told opened) =
       let M : List Message = on_line line (bad_character_error rules.exact c ++ told) in
@@ -69,6 +69,7 @@ module _ {S H : Type 0} (step : S → Told → ℕ → S) (reply : S → Told �
 
 -- a character decides nothing that stands before it where nothing is undecided
 
+-- where nothing is undecided a character brings its step, and settles nothing
 pub brought-step : (rules : Rules) (foreign : Bool) (opened : Open) (c : ℕ) → is_undecided_open opened ≡ false
     → brought_at rules foreign opened c ≡ record { settled = []; here = step_at rules.exact opened c }
 unfolding brought_at step_at
@@ -105,6 +106,7 @@ brought-unasked rules foreign other held c h =
 
 -- what is open where a slice has no more
 
+-- before an empty text what is open stays open
 pub rest_of-nil : (rules : Rules) (opened : Open) → open_after (rest_of rules opened []).afterwards ≡ opened
 unfolding rest_of tag_name after_tag_name attribute_after_first after_attribute_name after_name_and_space value_or_next value_after_space value quoted_value after_quoted unquoted_value after_unquoted after_less_than after_solidus after_raw_less_than end_name after_end_name after_mark after_mark_and_dash switch after_switch declaration cdata comment bogus_comment after_bogus_comment instruction after_instruction doctype before_doctype_name after_word_and_space doctype_name after_doctype_name after_doctype_name_and_space keyword_or_end doctype_keyword after_keyword identifier_after_space after_keyword_and_space identifier after_in_identifier between_identifiers after_space_between skipped_rest after_skipped_rest reference_text after_held run_while after_while run_of after_run
 rest_of-nil rules (Between mode) = refl
@@ -186,6 +188,7 @@ module _ {S H : Type 0} (step : S → Told → ℕ → S) (reply : S → Told �
       → Traces (read_from step reply foreign rules K t name (before ++ c ∷ []) (rest_of rules opened text) text)
       (trace step reply foreign rules t (line_past (line_after K.input before) c) name opened text)
 
+  -- one character: its events are those of the trace, where the rest traces
   traces-here : (s : S) (last : List ℕ) (before : List ℕ) (c : ℕ) (text : List ℕ) (h : Here Open)
       → TracesAfter before c text
       → Traces

@@ -1,5 +1,5 @@
--- CDATA sections. Their characters are held until `]]>`, a NUL or the end of input tells them, each as a text.
--- The slices below are vocabulary of proofs: how a section is written stands in `html5items/specs/Cdata`.
+-- CDATA sections. Their characters are held until `]]>`, a NUL or the end of input. There each is sent as a text.
+-- The slices below are vocabulary of proofs: `html5items/specs/Cdata` says how a section is written.
 use Rattle.std.specs.Prelude.{ℕ, Bool, List, [], ◌∷◌, ◌++◌, ◌==◌, ◌&&◌, codes, if◌then◌else◌}
 use Rattle.html5ever_interface.specs.Token.{Told}
 use Rattle.html5ever_interface.specs.Token.Told.{Null}
@@ -16,16 +16,17 @@ abbrev pub open_cdata : List ℕ → Open
 open_cdata [] = Between Cdata
 open_cdata (c ∷ held) = InCdata (c ∷ held)
 
--- whether `>` ends the section after these characters
+-- "CDATA section end state": whether `>` ends the section after these characters
 unfoldable pub ends_cdata : List ℕ → Bool
 ends_cdata held = ends_in held (codes "]]")
 
--- what is told at the end of the section: without its brackets
+-- "CDATA section end state": what is sent at the end of the section, without its brackets
 abbrev pub told_at_end_of_cdata : List ℕ → List Told
 told_at_end_of_cdata held = texts (without_last 2 held)
 
--- a section of which some characters are held: `>` ends it after `]]`, a NUL is told after the characters that are held, and none
--- is held then, and another character is text
+-- "CDATA section state", "CDATA section bracket state" and "CDATA section end state": a section of which some characters are
+-- held. `>` ends it after `]]`. A NUL is sent after the characters that are held, and none is held then. Another character is
+-- text.
 unfoldable pub cdata : List ℕ → List ℕ → Slice
 cdata held [] = cut_off (InCdata held)
 cdata held (c ∷ text) =
@@ -33,7 +34,7 @@ cdata held (c ∷ text) =
     else if c == null then one_character (texts held ++ Null ∷ []) (Between Cdata)
     else with_character [] (cdata (held ++ c ∷ []) text)
 
--- the same from c on where none is held, and `before` is told first
+-- "CDATA section state": the same from c on where none is held, and `before` is sent first
 unfoldable pub cdata_from : List Told → ℕ → List ℕ → Slice
 cdata_from before c text =
     if c == null then one_character (before ++ Null ∷ []) (Between Cdata)

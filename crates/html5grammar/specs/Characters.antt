@@ -1,4 +1,5 @@
--- The characters that have names, and the kinds of characters that the grammar speaks of.
+-- The characters that have names, and the kinds of characters that the grammar speaks of. Their names are those of the standard's
+-- states.
 use Rattle.std.specs.Prelude.{ℕ, Bool, ◌==◌, ◌||◌, ◌&&◌, ◌%◌, nat_le, List, map, encode_utf8, if◌then◌else◌}
 use Rattle.std.specs.Char.{to_ascii_lowercase}
 
@@ -71,10 +72,11 @@ byte_order_mark = 0xFEFF
 abbrev pub replacement_character : ℕ
 replacement_character = 0xFFFD
 
+-- whether c is one of these, with both ends
 abbrev pub is_between : ℕ → ℕ → ℕ → Bool
 is_between low high c = nat_le low c && nat_le c high
 
--- a control other than NUL and white space, or one of the 66 noncharacters
+-- "Preprocessing the input stream": a control other than NUL and white space, or one of the 66 noncharacters
 unfoldable pub is_bad_character : ℕ → Bool
 is_bad_character c =
     is_between 0x0001 0x0008 c || (c == 0x000B) || is_between 0x000E 0x001F c || is_between 0x007F 0x009F c
@@ -87,7 +89,7 @@ is_white_space c = (c == tab) || (c == line_feed) || (c == form_feed) || (c == s
 unfoldable pub is_letter : ℕ → Bool
 is_letter c = is_between 0x0041 0x005A c || is_between 0x0061 0x007A c
 
--- a number that no character has, or that of a surrogate
+-- "Numeric character reference end state": a number that no character has, or that of a surrogate
 unfoldable pub is_no_character : ℕ → Bool
 is_no_character c = is_between 0xD800 0xDFFF c || nat_le 0x11_0000 c
 

@@ -1,5 +1,5 @@
--- Comments, and what stands after `<!`. What a character of a comment tells is said by the text of the comment before it.
--- The slices below are vocabulary of proofs: how a comment is written stands in `html5items/specs/Comment`.
+-- Comments, and what stands after `<!`. The text of a comment before a character says what that character tells.
+-- The slices below are vocabulary of proofs: `html5items/specs/Comment` says how a comment is written.
 use Rattle.std.specs.Prelude.{ℕ, ◌+◌, ◌-◌, Bool, true, false, List, [], ◌∷◌, ◌++◌, ◌==◌, ◌||◌, ◌&&◌, codes, flat_map, length, nat_eq, not, take, if◌then◌else◌}
 use Rattle.std.specs.List.{ends_with, starts_with}
 use Rattle.std.specs.Str.{bytes_eq}
@@ -30,7 +30,8 @@ is_lone_dash text = bytes_eq text (codes "-")
 
 -- ---- errors
 
--- the state that an error names, where `after_dashes` is that after two dashes or more
+-- "Comment start state" to "Comment end bang state": the state that an error names, where `after_dashes` is that after two dashes
+-- or more
 unfoldable pub comment_state : State → List ℕ → State
 comment_state after_dashes text =
     if nat_eq (length text) 0 then state.CommentStart
@@ -40,29 +41,31 @@ comment_state after_dashes text =
     else if ends_in text (codes "-") then state.CommentEndDash
     else state.Comment
 
--- whether the text ends in a mark, a `<!--` within the comment
+-- "Comment less-than sign bang dash dash state": whether the text ends in a `<!--` within the comment
 unfoldable pub ends_in_mark : List ℕ → Bool
 ends_in_mark text = ends_in text (codes "<!--")
 
+-- "Comment less-than sign bang dash dash state": a nested comment is an error, unless `>` follows
 unfoldable pub mark_error : Bool → List ℕ → ℕ → List Told
 mark_error exact text c =
     where_true (ends_in_mark text && not (c == greater_than)) (error_in exact state.CommentLessThanSignBangDashDash c)
 
--- what a character of the text tells
+-- "Comment state": what a character of the text tells
 unfoldable pub comment_errors : Bool → List ℕ → ℕ → List Told
 comment_errors exact text c = mark_error exact text c ++ null_error exact (comment_state state.Comment text) c
 
 -- ---- the end of a comment
 
--- whether `>` ends the comment after this text
+-- "Comment start state", "Comment start dash state", "Comment end state" and "Comment end bang state": whether `>` ends the
+-- comment after this text
 unfoldable pub ends_comment : List ℕ → Bool
 ends_comment text = nat_eq (length text) 0 || is_lone_dash text || ends_in text (codes "--") || ends_in text (codes "--!")
 
--- only after two dashes that is no error
+-- "Comment end state": only after two dashes the `>` is no error
 unfoldable pub comment_end_error : Bool → List ℕ → List Told
 comment_end_error exact text = where_true (not (ends_in text (codes "--"))) (error_in exact (comment_state state.Comment text) greater_than)
 
--- the text that is told: without the dashes that belong to the end
+-- the text that is sent: without the dashes that belong to the end
 unfoldable pub comment_content : List ℕ → List ℕ
 comment_content text =
     if ends_in text (codes "--!") then without_last 3 text
@@ -70,7 +73,7 @@ comment_content text =
     else if ends_in text (codes "-") then without_last 1 text
     else text
 
--- a comment, of which `before` was read after its `<!--`
+-- "Comment start state" to "Comment end bang state": a comment, of which `before` was read after its `<!--`
 unfoldable pub comment : Bool → List ℕ → List ℕ → Slice
 comment exact before [] = cut_off (InComment before)
 comment exact before (c ∷ text) =
@@ -80,20 +83,22 @@ comment exact before (c ∷ text) =
 
 -- ---- bogus comments
 
+-- whether a character goes on with a bogus comment
 unfoldable pub in_bogus_comment : ℕ → Bool
 in_bogus_comment c = not (c == greater_than)
 
+-- "Bogus comment state", at its `>`
 unfoldable pub after_bogus_comment : List ℕ → List ℕ → Slice
 after_bogus_comment told [] = cut_off (InBogusComment told)
 after_bogus_comment told (c ∷ text) = one_character (Comment told ∷ []) (Between Data)
 
--- a bogus comment runs to `>`
+-- "Bogus comment state": a bogus comment runs to `>`
 unfoldable pub bogus_comment : Bool → List ℕ → List ℕ → Slice
 bogus_comment exact before text =
     let run : List ℕ = run_of in_bogus_comment text in
     with_run (null_error exact state.BogusComment) run (after_bogus_comment (before ++ flat_map value_bytes run) (after_run in_bogus_comment text))
 
--- the same from c on, where something is told first
+-- "Bogus comment state": the same from c on, where something is sent first
 unfoldable pub bogus_comment_from : Bool → List ℕ → List Told → ℕ → List ℕ → Slice
 bogus_comment_from exact before first c text =
     if c == greater_than then one_character (first ++ Comment before ∷ []) (Between Data)
@@ -101,17 +106,18 @@ bogus_comment_from exact before first c text =
 
 -- ---- after `<!`
 
--- the first two keywords, one in any case. What is held of them is ASCII, so its characters are its bytes.
+-- "Markup declaration open state": the first two keywords, `doctype` in any case. What is held of them is ASCII, so its
+-- characters are its bytes.
 unfoldable pub begins_keyword : List ℕ → Bool
 begins_keyword held = starts_with nat_eq (codes "--") held || starts_with nat_eq (codes "doctype") (lower_case held)
 
--- where no keyword comes, that is an error at the `!`, and a comment begins after that
+-- "Markup declaration open state": where no keyword comes, that is an error at the `!`, and a comment begins after that
 abbrev pub declaration_error : Bool → List ℕ → List Late
 declaration_error exact held =
     record { token = error_in exact state.MarkupDeclarationOpen exclamation_mark; back = length held + 2; is_at = true; is_held = false } ∷ []
 
--- the first keyword with which the text after `<!` begins decides, or the first character by which neither of these two begins:
--- there the sink is asked whether a CDATA section may begin
+-- "Markup declaration open state": the first keyword with which the text after `<!` begins decides. Where neither of the first
+-- two begins, the sink is asked at that character whether a CDATA section may begin.
 unfoldable pub declaration : Bool → List ℕ → List ℕ → Slice
 declaration exact held [] = cut_off (InDeclaration held)
 declaration exact held (c ∷ text) =
@@ -120,15 +126,15 @@ declaration exact held (c ∷ text) =
     else if begins_keyword (held ++ c ∷ []) then with_character [] (declaration exact (held ++ c ∷ []) text)
     else no_character (Asks held)
 
--- the keyword of a CDATA section, in this case only
+-- "Markup declaration open state": the keyword of a CDATA section, in this case only
 abbrev pub cdata_keyword : List ℕ
 cdata_keyword = codes "[CDATA["
 
 unfoldable pub begins_cdata : List ℕ → Bool
 begins_cdata held = starts_with nat_eq cdata_keyword held
 
--- where c goes on with neither of these two, by the sink's answer whether that is in foreign content: there a CDATA section begins
--- after its keyword, and else a bogus comment
+-- "Markup declaration open state", where c goes on with neither of the first two. By the sink's answer whether that is in foreign
+-- content, a CDATA section begins after its keyword, and else a bogus comment.
 unfoldable pub declaration_by_answer : Bool → Bool → List ℕ → ℕ → List ℕ → Slice
 declaration_by_answer exact foreign held c text =
     if foreign && bytes_eq (held ++ c ∷ []) cdata_keyword then one_character [] (Between Cdata)

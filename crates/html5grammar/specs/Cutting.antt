@@ -19,7 +19,7 @@ use Rattle.html5grammar.specs.RawText.{after_raw_less_than, end_name, after_mark
 use Rattle.html5grammar.specs.Tag.{part, tag_name, attribute_after_first, after_name_and_space, value_after_space, quoted_value, unquoted_value}
 use Rattle.html5grammar.specs.Text.{plain_text, after_solidus, after_less_than, data_text}
 
--- the rest of the slice that is open
+-- the rest of the slice that is open, by the state that was reached
 unfoldable pub rest_of : Rules → Open → List ℕ → Slice
 rest_of rules LessThan text = after_less_than rules.exact text
 rest_of rules LessThanSolidus text = after_solidus rules.exact text
@@ -57,7 +57,7 @@ rest_of rules (InCdata held) text = cdata held text
 rest_of rules (Between mode) text = cut_off (Between mode)
 rest_of rules (InReference stand held) text = reference_text rules stand held text
 
--- the next slice, which c begins, where `before` is told first
+-- the next slice, which c begins, where `before` is sent first
 unfoldable pub next_slice : Rules → Open → List Told → ℕ → List ℕ → Slice
 next_slice rules (Between Data) before c text = data_text rules before c text
 next_slice rules (Between Plain) before c text = one_character (before ++ plain_text rules.exact c) (Between Plain)

@@ -1,5 +1,5 @@
--- What the end of input tells, by what is open there. Vocabulary of proofs: what it tells of each unfinished item stands in
--- `html5items/specs/Items`.
+-- What the end of input tells, by what is open there. Vocabulary of proofs: `html5items/specs/Items` says what it tells of each
+-- unfinished item.
 use Rattle.std.specs.Prelude.{Bool, List, [], ◌∷◌, ◌++◌, codes, None}
 use Rattle.html5ever_interface.specs.Token.{Told, DoctypeOf}
 use Rattle.html5ever_interface.specs.Token.Told.{Text, Comment, Instruction, Doctype, End}
@@ -46,7 +46,8 @@ doctype_state_at (AfterIdentifier kind) = state.AfterDoctypeIdentifier kind
 doctype_state_at BetweenIdentifiers = state.BetweenDoctypePublicAndSystemIdentifiers
 doctype_state_at Skipped = state.BogusDoctype
 
--- what the end decides of a reference, or of a keyword, which is told first
+-- "Character reference state", "Markup declaration open state" and "After DOCTYPE name state", at the end: what the end decides
+-- of a reference or of a keyword, which is sent first
 unfoldable pub late_at_end_of : Rules → Open → List Late
 late_at_end_of rules (InReference stand held) = late_tokens stand (reference rules (in_value stand) held None) held
 late_at_end_of rules (InDeclaration held) = declaration_error rules.exact held
@@ -60,13 +61,14 @@ open_at_end_of rules (InDeclaration held) = InBogusComment held
 open_at_end_of rules (InDoctypeKeyword held d) = InDoctype Skipped (with_quirks d)
 open_at_end_of rules opened = opened
 
--- what the end tells in raw text between items: in escaped script data it is an error
+-- "Script data escaped state" and "Script data double escaped state", at the end: only there the end is an error in raw text
 unfoldable pub raw_end_error : Bool → Raw → List Told
 raw_end_error exact (Escaped dashes) = end_error_in exact (raw_state (Escaped dashes)) ∷ []
 raw_end_error exact (DoubleEscaped dashes) = end_error_in exact (raw_state (DoubleEscaped dashes)) ∷ []
 raw_end_error exact other = []
 
--- what is held there is text, and comes first; after `<` and letters the error names double-escaped script data
+-- "RCDATA less-than sign state", the end tag name states and the escape states, at the end: what is held there is text, and comes
+-- first. After `<` and letters the error names double-escaped script data.
 unfoldable pub told_at_raw_end : Bool → RawPlace → List Told
 told_at_raw_end exact (AfterLessThan kind) = told_after_less_than kind ++ raw_end_error exact (raw_of kind)
 told_at_raw_end exact (InEndName kind letters) = texts (less_than ∷ solidus ∷ letters) ++ raw_end_error exact (raw_of kind)
@@ -74,12 +76,13 @@ told_at_raw_end exact AfterMark = []
 told_at_raw_end exact AfterMarkAndDash = []
 told_at_raw_end exact (InSwitch kind letters) = raw_end_error exact (DoubleEscaped NoDash)
 
--- a doctype without its end is told, and that is an error with quirks, but for one whose rest is skipped
+-- "DOCTYPE state" to "Bogus DOCTYPE state", at the end: a doctype without its end is sent, and that is an error with quirks,
+-- except where its rest is skipped
 unfoldable pub told_at_doctype_end : Bool → DoctypePlace → DoctypeOf → List Told
 told_at_doctype_end exact Skipped d = Doctype d ∷ []
 told_at_doctype_end exact place d = end_error_in exact (doctype_state_at place) ∷ Doctype (with_quirks d) ∷ []
 
--- what is told at the end: a tag without its end is an error, and is not told
+-- each state at the end: what the end tells of what is open. A tag without its end is an error, and is not sent.
 unfoldable pub told_at_end_of : Bool → Open → List Told
 told_at_end_of exact (Between (RawText raw name)) = raw_end_error exact raw ++ End ∷ []
 told_at_end_of exact (Between Cdata) = end_error_in exact state.CdataSection ∷ End ∷ []

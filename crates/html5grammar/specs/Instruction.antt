@@ -1,5 +1,5 @@
 -- Processing instructions: a rule of this project's own. The standard has a bogus comment in their place.
--- The slices below are vocabulary of proofs: how one is written stands in `html5items/specs/Instruction`.
+-- The slices below are vocabulary of proofs: `html5items/specs/Instruction` says how one is written.
 use Rattle.std.specs.Prelude.{ℕ, Bool, List, [], ◌∷◌, ◌++◌, ◌==◌, flat_map, not}
 use Rattle.html5ever_interface.specs.Token.Told.{Instruction}
 use Rattle.html5ever_interface.specs.declared.states.State.TheVariants as state
@@ -9,9 +9,11 @@ use Rattle.html5grammar.specs.Start.Mode.{Data}
 use Rattle.html5grammar.specs.Start.Open.{Between, InInstruction}
 use Rattle.html5grammar.specs.Tag.{null_error}
 
+-- whether a character goes on with an instruction
 unfoldable pub in_instruction : ℕ → Bool
 in_instruction c = not (c == greater_than)
 
+-- the `>` of an instruction
 unfoldable pub after_instruction : List ℕ → List ℕ → Slice
 after_instruction content [] = cut_off (InInstruction content)
 after_instruction content (c ∷ text) = one_character (Instruction content ∷ []) (Between Data)

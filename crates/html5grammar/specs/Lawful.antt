@@ -1,4 +1,4 @@
--- What holds of each token that is told.
+-- What holds of each token that is sent.
 use Rattle.std.specs.Prelude.{◌≡◌, ℕ, Bool, true, false, List, [], ◌∷◌, ◌++◌, ◌==◌, not, map, All, IfSome}
 use Rattle.std.specs.Char.{is_ascii_lowercase, is_ascii_uppercase}
 use Rattle.std.specs.List.{list_all, IsDistinct}

@@ -1,18 +1,21 @@
--- The text that is read, and its lines: each line break is one LF, and a byte order mark at the start of the stream is gone.
+-- "Preprocessing the input stream": the text that is read, and its lines. Each line break is one LF, and a byte order mark at the
+-- start of the stream is gone.
 use Rattle.std.specs.Prelude.{ℕ, ◌+◌, ◌-◌, ◌^◌, min, Bool, true, false, List, [], ◌∷◌, ◌==◌, ◌&&◌, ◌||◌, count_by, if◌then◌else◌}
 use Rattle.html5grammar.specs.Characters.{line_feed, carriage_return, byte_order_mark}
 use Rattle.html5grammar.specs.Start.{Input}
 
--- whether c is dropped where it is the first character after the start
+-- "Preprocessing the input stream": whether c is dropped where it is the first character after the start
 abbrev pub drops_first : Input → ℕ → Bool
 drops_first input c =
     (input.drops_byte_order_mark && (c == byte_order_mark)) || (input.after_carriage_return && (c == line_feed))
 
+-- "Preprocessing the input stream": the text without such a first character
 unfoldable pub without_dropped_first : Input → List ℕ → List ℕ
 without_dropped_first input [] = []
 without_dropped_first input (c ∷ X) = if drops_first input c then X else c ∷ X
 
--- each CR LF and each other CR is one LF, where `after_cr` says that a CR stands directly before
+-- "Preprocessing the input stream": each CR LF and each other CR is one LF, where `after_cr` says that a CR stands directly
+-- before
 unfoldable pub with_line_feeds : Bool → List ℕ → List ℕ
 with_line_feeds after_cr [] = []
 with_line_feeds after_cr (c ∷ X) =
@@ -20,14 +23,15 @@ with_line_feeds after_cr (c ∷ X) =
     else if after_cr && (c == line_feed) then with_line_feeds false X
     else c ∷ with_line_feeds false X
 
+-- "Preprocessing the input stream": what is read of a text
 unfoldable pub normalised : Input → List ℕ → List ℕ
 normalised input X = with_line_feeds false (without_dropped_first input X)
 
--- line numbers stop here
+-- the highest line number
 abbrev pub last_line : ℕ
 last_line = 2 ^ 64 - 1
 
--- the line that is reached after `past`, which ends with the character in question
+-- the line that `past` reaches: the characters up to the one in question, and that one
 unfoldable pub line_after : Input → List ℕ → ℕ
 line_after input past = min (input.line + count_by (λ c. c == line_feed) past) last_line
 

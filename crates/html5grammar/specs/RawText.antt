@@ -1,6 +1,6 @@
--- Raw text: text in which nothing but the end tag of one name is markup. Script data has `<!--` and `<script` besides, which
--- hide that end tag.
--- The slices below are vocabulary of proofs: how raw text is written stands in `html5items/specs/RawText`.
+-- Raw text: text in which nothing but the end tag of one name is markup. Script data also has `<!--` and `<script`, which hide
+-- that end tag.
+-- The slices below are vocabulary of proofs: `html5items/specs/RawText` says how raw text is written.
 use Rattle.std.specs.Prelude.{ℕ, Bool, true, false, List, [], ◌∷◌, ◌++◌, ◌==◌, ◌||◌, ◌&&◌, codes, encode_utf8, flat_map, map, length, nat_eq, not, if◌then◌else◌}
 use Rattle.std.specs.Str.{bytes_eq}
 use Rattle.html5ever_interface.specs.Token.{Told}
@@ -40,12 +40,13 @@ ends_name c = is_white_space c || (c == solidus) || (c == greater_than)
 
 -- ---- one character
 
--- the state that an error names: in escaped script data by the dashes directly before
+-- the state that an error names: in escaped script data the dashes directly before choose it
 unfoldable pub escaped_state : ScriptEscapeKind → Dashes → State
 escaped_state kind NoDash = state.RawData (raw_kind.ScriptDataEscaped kind)
 escaped_state kind OneDash = state.ScriptDataEscapedDash kind
 escaped_state kind TwoDashes = state.ScriptDataEscapedDashDash kind
 
+-- the state that an error in raw text names
 unfoldable pub raw_state : Raw → State
 raw_state Rcdata = state.RawData raw_kind.Rcdata
 raw_state Rawtext = state.RawData raw_kind.Rawtext
@@ -77,13 +78,13 @@ one_more other = TwoDashes
 unfoldable pub dashes_after : Dashes → ℕ → Dashes
 dashes_after dashes c = if c == hyphen then one_more dashes else NoDash
 
--- the raw text after a character: `>` after two dashes ends what `<!--` began
+-- "Script data escaped dash dash state" and its double escaped form: `>` after two dashes ends what `<!--` began
 unfoldable pub raw_after : Raw → ℕ → Raw
 raw_after (Escaped dashes) c = if (c == greater_than) && is_two dashes then ScriptData else Escaped (dashes_after dashes c)
 raw_after (DoubleEscaped dashes) c = if (c == greater_than) && is_two dashes then ScriptData else DoubleEscaped (dashes_after dashes c)
 raw_after other c = other
 
--- a character is text; NUL is an error and U+FFFD
+-- "RCDATA state", "RAWTEXT state", "Script data state" and the escaped states: a character is text; NUL is an error and U+FFFD
 unfoldable pub raw_character : Bool → Raw → ℕ → List Told
 raw_character exact raw c =
     if c == null then error_in exact (raw_state raw) c ∷ Text (encode_utf8 replacement_character) ∷ []
@@ -95,17 +96,18 @@ raw_character exact raw c =
 abbrev pub lower : List ℕ → List ℕ
 lower letters = flat_map name_bytes letters
 
--- whether the letters are, in lower case, the name whose end tag ends the text, and c ends a name
+-- "Appropriate end tag token": whether the letters are, in lower case, the name whose end tag ends the text, and c ends a name
 unfoldable pub ends_raw_text : List ℕ → List ℕ → ℕ → Bool
 ends_raw_text name letters c = not (nat_eq (length name) 0) && (ends_name c && bytes_eq (lower letters) name)
 
--- after the letters an end tag goes on, or all of it is text
+-- "RCDATA end tag name state" and those of other raw text: after the letters an end tag goes on, or all of it is text
 unfoldable pub after_end_name : RawKind → List ℕ → List ℕ → List ℕ → Slice
 after_end_name kind name letters [] = cut_off (InRaw (InEndName kind letters) name)
 after_end_name kind name letters (c ∷ text) =
     if ends_raw_text name letters c then after_tag_name (with_name (begun EndTag) letters) (c ∷ text)
     else no_character (Leaves (texts (less_than ∷ solidus ∷ letters)) (raw_text_of kind name))
 
+-- "RCDATA end tag open state", "RCDATA end tag name state" and those of other raw text: the letters after `</`
 unfoldable pub end_name : RawKind → List ℕ → List ℕ → List ℕ → Slice
 end_name kind name letters text =
     let run : List ℕ = run_of is_letter text in
@@ -113,33 +115,37 @@ end_name kind name letters text =
 
 -- ---- script data: `<!--`, and the switches between escaped and double-escaped
 
+-- "Script data escape start dash state": a second dash begins escaped script data
 unfoldable pub after_mark_and_dash : List ℕ → List ℕ → Slice
 after_mark_and_dash name [] = cut_off (InRaw AfterMarkAndDash name)
 after_mark_and_dash name (c ∷ text) =
     if c == hyphen then one_character (texts (c ∷ [])) (Between (RawText (Escaped TwoDashes) name))
     else cut_off (raw_text_of raw_kind.ScriptData name)
 
+-- "Script data escape start state": what follows `<!`
 unfoldable pub after_mark : List ℕ → List ℕ → Slice
 after_mark name [] = cut_off (InRaw AfterMark name)
 after_mark name (c ∷ text) =
     if c == hyphen then with_character (texts (c ∷ [])) (after_mark_and_dash name text)
     else cut_off (raw_text_of raw_kind.ScriptData name)
 
+-- the other of the two kinds of escaped script data
 abbrev pub other_escape : ScriptEscapeKind → ScriptEscapeKind
 other_escape escape_kind.Escaped = escape_kind.DoubleEscaped
 other_escape escape_kind.DoubleEscaped = escape_kind.Escaped
 
--- the letters `script` switch
+-- "Script data double escape start state" and "Script data double escape end state": the letters `script` switch
 unfoldable pub switched : ScriptEscapeKind → List ℕ → ScriptEscapeKind
 switched kind letters = if bytes_eq (lower letters) (codes "script") then other_escape kind else kind
 
+-- "Script data double escape start state" and "Script data double escape end state", at the character that ends the letters
 unfoldable pub after_switch : ScriptEscapeKind → List ℕ → List ℕ → List ℕ → Slice
 after_switch kind name letters [] = cut_off (InRaw (InSwitch kind letters) name)
 after_switch kind name letters (c ∷ text) =
     if ends_name c then one_character (texts (c ∷ [])) (raw_text_of (raw_kind.ScriptDataEscaped (switched kind letters)) name)
     else cut_off (raw_text_of (raw_kind.ScriptDataEscaped kind) name)
 
--- letters that are text, and what follows them
+-- "Script data double escape start state" and "Script data double escape end state": letters that are text, and what follows them
 unfoldable pub switch : ScriptEscapeKind → List ℕ → List ℕ → List ℕ → Slice
 switch kind name letters text =
     let run : List ℕ = run_of is_letter text in
@@ -147,31 +153,34 @@ switch kind name letters text =
 
 -- ---- `<`
 
--- in double-escaped script data `<` is told at once
+-- "Script data double escaped state": only there is `<` sent at once
 abbrev pub told_at_less_than : RawKind → List Told
 told_at_less_than (raw_kind.ScriptDataEscaped escape_kind.DoubleEscaped) = texts (less_than ∷ [])
 told_at_less_than kind = []
 
--- and else at the next character
+-- everywhere else it is sent at the next character
 abbrev pub told_after_less_than : RawKind → List Told
 told_after_less_than (raw_kind.ScriptDataEscaped escape_kind.DoubleEscaped) = []
 told_after_less_than kind = texts (less_than ∷ [])
 
--- the text after `</`
+-- "RCDATA end tag open state" and those of other raw text, or "Script data double escape end state": the text after `</`
 unfoldable pub after_raw_solidus : RawKind → List ℕ → List ℕ → Slice
 after_raw_solidus (raw_kind.ScriptDataEscaped escape_kind.DoubleEscaped) name text =
     with_character (texts (solidus ∷ [])) (switch escape_kind.DoubleEscaped name [] text)
 after_raw_solidus kind name text = with_character [] (end_name kind name [] text)
 
--- whether c after `<` begins a mark, or a switch
+-- "Script data less-than sign state": whether c after `<` begins a `<!--`
 unfoldable pub begins_mark : RawKind → ℕ → Bool
 begins_mark raw_kind.ScriptData c = c == exclamation_mark
 begins_mark kind c = false
 
+-- "Script data escaped less-than sign state": whether c after `<` begins a `<script`
 unfoldable pub begins_switch : RawKind → ℕ → Bool
 begins_switch (raw_kind.ScriptDataEscaped escape_kind.Escaped) c = is_letter c
 begins_switch kind c = false
 
+-- "RCDATA less-than sign state", "RAWTEXT less-than sign state", "Script data less-than sign state" and the escaped ones: the
+-- text after `<`
 unfoldable pub after_raw_less_than : RawKind → List ℕ → List ℕ → Slice
 after_raw_less_than kind name [] = cut_off (InRaw (AfterLessThan kind) name)
 after_raw_less_than kind name (c ∷ text) =
@@ -180,7 +189,7 @@ after_raw_less_than kind name (c ∷ text) =
     else if begins_switch kind c then with_character (texts (less_than ∷ c ∷ [])) (switch escape_kind.Escaped name (c ∷ []) text)
     else no_character (Leaves (told_after_less_than kind) (raw_text_of kind name))
 
--- what begins with c in raw text, where `before` is told first
+-- "RCDATA state", "RAWTEXT state", "Script data state" and the escaped states: what begins with c, where `before` is sent first
 unfoldable pub raw_text : Rules → Raw → List ℕ → List Told → ℕ → List ℕ → Slice
 raw_text rules raw name before c text =
     if c == less_than then with_character (before ++ told_at_less_than (kind_of raw)) (after_raw_less_than (kind_of raw) name text)

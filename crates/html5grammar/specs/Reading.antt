@@ -41,7 +41,7 @@ pub record Event : Type 0 where
   pub stands : TextPlace
   pub decided_by : TextPlace
 
--- the events of tokens that are told at the place of c, with `before` in front of it
+-- the events of tokens that are sent at the place of c, with `before` in front of it
 unfoldable pub events_at : Input → List ℕ → ℕ → List Told → List Event
 events_at input before c tokens =
     let place = Character (length before) in
@@ -52,8 +52,8 @@ events_at input before c tokens =
     } in
     map event tokens
 
--- the events of what `decided_by` decides, after the text `before`: a reference's own tokens stand before the first character
--- that it doesn't take, characters that were held stand at their places, the error of a declaration stands at its `!`, and that
+-- the events of what `decided_by` decides, after the text `before`. A reference's own tokens stand before the first character
+-- that it doesn't take. Characters that were held stand at their places. The error of a declaration stands at its `!`, and that
 -- of a keyword at its first character. There is no line break among them.
 abbrev pub late_event : Input → List ℕ → TextPlace → Late → Event
 late_event input before decided_by late =
@@ -67,18 +67,18 @@ late_event input before decided_by late =
 unfoldable pub late_events : Input → List ℕ → TextPlace → List Late → List Event
 late_events input before decided_by late = map (late_event input before decided_by) late
 
--- what is told at a character besides a bad character, and how the text goes on after it
+-- what is sent at a character besides a bad character, and how the text goes on after it
 pub data Here (G : Type 0) : Type 0 where
   Tells : List Told → G → Here G
-  -- a tag is told last, and the sink's reply chooses
+  -- a tag is sent last, and the sink's reply chooses
   TellsTag : List Told → TagOf → Here G
 
--- what a character brings: first what it decides, and then what is told at it
+-- what a character brings: first what it decides, and then what is sent at it
 pub record Brought (G : Type 0) : Type 0 where
   pub settled : List Late
   pub here : Here G
 
--- what is told at the first character of a slice, which `text` follows
+-- what is sent at the first character of a slice, which `text` follows
 abbrev pub at_first : Rules → List ℕ → List Cell → Afterwards → Here Slice
 at_first rules text (Says told ∷ cells) afterwards = Tells told (record { cells = cells; afterwards = afterwards })
 at_first rules text (Ends told tag ∷ cells) afterwards = TellsTag told tag
@@ -151,7 +151,7 @@ module _ {S H : Type 0} (step : S → Told → ℕ → S) (reply : S → Told �
 
   -- the events at the places of a text, with `before` in front of it, where the sink has the state s and the last start tag
   -- had the name `last`. The sink is asked about foreign content in the state after all events before the `<!`, since nothing is
-  -- told between that and the answer.
+  -- sent between that and the answer.
   unfoldable pub read_from : S → List ℕ → List ℕ → Slice → List ℕ → Read
   read_from s last before slice [] = record { events = []; opened = open_after slice.afterwards; last_start_tag = last }
   read_from s last before slice (c ∷ text) =
@@ -178,7 +178,7 @@ module _ {S H : Type 0} (step : S → Told → ℕ → S) (reply : S → Told �
   unfoldable pub reading : S → List ℕ → List Event
   reading s X = (read s X).events ++ end_events (read s X).opened (normalised K.input X)
 
-  -- the events before the first that the end decides: those are told however the text goes on
+  -- the events before the first that the end decides: those are sent however the text goes on
   unfoldable pub told : S → List ℕ → List Event
   told s X = take_while (λ e. is_character e.decided_by) (reading s X)
 

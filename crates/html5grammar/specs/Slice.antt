@@ -1,9 +1,9 @@
--- Slices of a text: what is told at each of their characters, and how the text goes on after them. Vocabulary of proofs.
+-- Slices of a text: what each of their characters tells, and how the text goes on after them. Vocabulary of proofs.
 use Rattle.std.specs.Prelude.{ℕ, Bool, List, [], ◌∷◌, ◌++◌, map, if◌then◌else◌}
 use Rattle.html5ever_interface.specs.Token.{Told, TagOf}
 use Rattle.html5grammar.specs.Start.{Open}
 
--- what is told only when a later character, the last one of its own item, or the end decides it
+-- what is sent only when a later character, the last one of its own item, or the end decides it
 pub record Late : Type 0 where
   pub token : Told
   -- how many characters before the place after the deciding one the token stands
@@ -13,26 +13,27 @@ pub record Late : Type 0 where
   -- whether it is text of that character, which is decided by itself
   pub is_held : Bool
 
--- what is told at a character
+-- what is sent at a character
 pub data Cell : Type 0 where
   Says : List Told → Cell
-  -- a tag is told last, and the sink's reply chooses how the text goes on
+  -- a tag is sent last, and the sink's reply chooses how the text goes on
   Ends : List Told → TagOf → Cell
   -- the character decides this, and ends the slice within another, of which this is open
   Returns : List Late → Open → Cell
 
 -- how a text goes on after a slice
 pub data Afterwards : Type 0 where
-  -- first something is told at the next character, and this is open
+  -- first something is sent at the next character, and this is open
   Leaves : List Told → Open → Afterwards
-  -- the next character decides what is told before it, and then this is open; what the end decides is said in `EndOfInput`
+  -- the next character decides what is sent before it, and then this is open; what the end decides is said in `EndOfInput`
   Settles : List Late → Open → Afterwards
   -- after `<!` and what is held the next character begins no comment and no doctype: whether a CDATA section may begin there is
   -- asked of the sink
   Asks : List ℕ → Afterwards
 
+-- characters of a text that are read as one, with what each of them tells
 pub record Slice : Type 0 where
-  -- what is told at each character
+  -- what is sent at each character
   pub cells : List Cell
   pub afterwards : Afterwards
 

@@ -14,13 +14,15 @@ use Rattle.html5ever_interface.specs.declared.states.State.TheVariants as state
 use Rattle.markup5ever.specs.NamedReferences.{NamedReference}
 use Rattle.markup5ever.specs.Names.{AttributeOf}
 
--- how many dashes stand directly before, of which two are counted
+-- "Script data escaped state", "Script data escaped dash state" and "Script data escaped dash dash state": how many dashes stand
+-- directly before, of which two are counted
 pub data Dashes : Type 0 where
   NoDash : Dashes
   OneDash : Dashes
   TwoDashes : Dashes
 
--- the kinds of raw text
+-- the kinds of raw text: "RCDATA state", "RAWTEXT state", "Script data state", "Script data escaped state" and "Script data
+-- double escaped state"
 pub data Raw : Type 0 where
   Rcdata : Raw
   Rawtext : Raw
@@ -30,7 +32,8 @@ pub data Raw : Type 0 where
   -- the same after a `<script`
   DoubleEscaped : Dashes → Raw
 
--- how the characters of the text are read between items
+-- how the characters of the text are read between items: "Data state", "PLAINTEXT state", the states of raw text, and "CDATA
+-- section state"
 pub data Mode : Type 0 where
   Data : Mode
   Plain : Mode
@@ -51,7 +54,7 @@ pub record OpenTag : Type 0 where
   pub last_name : List ℕ
   pub last_value : List ℕ
 
--- a place in a tag
+-- a place in a tag: "Tag name state" to "Self-closing start tag state"
 pub data Place : Type 0 where
   InName : Place
   BeforeAttribute : Place
@@ -66,7 +69,8 @@ pub data Place : Type 0 where
   -- directly after a `/` outside a value
   AfterSolidus : Place
 
--- a place in raw text where something is open
+-- a place in raw text where something is open: the less-than sign states, the end tag name states, and those of `<!--` and
+-- `<script`
 pub data RawPlace : Type 0 where
   -- after `<`
   AfterLessThan : RawKind → RawPlace
@@ -83,7 +87,7 @@ pub data Quotes : Type 0 where
   DoubleQuotes : Quotes
   SingleQuotes : Quotes
 
--- a place in a doctype
+-- a place in a doctype: "DOCTYPE state" to "Bogus DOCTYPE state"
 pub data DoctypePlace : Type 0 where
   -- directly after `doctype`
   AfterWord : DoctypePlace
@@ -104,13 +108,13 @@ pub data DoctypePlace : Type 0 where
   -- in what is skipped up to `>`
   Skipped : DoctypePlace
 
--- where a character reference stands
+-- where a character reference stands: the return state of the standard
 pub data Stand : Type 0 where
   InText : Mode → Stand
   -- in a value
   InAttribute : AttrValueKind → OpenTag → Stand
 
--- what is open at the end of a text
+-- what is open at the end of a text: the state that was reached, with what was begun there
 pub data Open : Type 0 where
   -- nothing
   Between : Mode → Open
@@ -132,17 +136,17 @@ pub data Open : Type 0 where
   InDoctype : DoctypePlace → DoctypeOf → Open
   -- after a doctype's name and white space, with the characters, at least one, that may begin `public` or `system`
   InDoctypeKeyword : List ℕ → DoctypeOf → Open
-  -- inside a CDATA section, with its characters that are not told yet: there is one, and its brackets belong to them
+  -- inside a CDATA section, with its characters that are not sent yet: there is one, and its brackets belong to them
   InCdata : List ℕ → Open
   -- a reference that is not decided, with the characters after its `&`
   InReference : Stand → List ℕ → Open
 
--- nothing is open, so that what follows can be read anew
+-- whether nothing is open, so that what follows can be read anew
 abbrev pub is_clean : Open → Bool
 is_clean (Between mode) = true
 is_clean other = false
 
--- a reference is not decided, or a keyword
+-- whether a reference or a keyword is not decided
 abbrev pub is_undecided_open : Open → Bool
 is_undecided_open (InReference stand held) = true
 is_undecided_open (InDeclaration held) = true

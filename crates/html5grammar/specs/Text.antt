@@ -1,5 +1,5 @@
 -- Text between tags: plain text, and the text of the mode Data with the choice that `<` opens there.
--- The slices below are vocabulary of proofs: how text is written stands in `html5items/specs/Items`.
+-- The slices below are vocabulary of proofs: `html5items/specs/Items` says how text is written.
 use Rattle.std.specs.Prelude.{ℕ, Bool, List, [], ◌∷◌, ◌++◌, ◌==◌, codes, encode_utf8, if◌then◌else◌}
 use Rattle.html5ever_interface.specs.Token.{Told}
 use Rattle.html5ever_interface.specs.Token.Told.{Text, Null}
@@ -18,13 +18,14 @@ use Rattle.html5grammar.specs.Start.Mode.{Data}
 use Rattle.html5grammar.specs.Start.Open.{Between, LessThan, LessThanSolidus, InBogusComment}
 use Rattle.html5grammar.specs.Tag.{tag_name}
 
--- a character of plain text is text; NUL is an error and U+FFFD
+-- "PLAINTEXT state": a character of plain text is text; NUL is an error and U+FFFD
 unfoldable pub plain_text : Bool → ℕ → List Told
 plain_text exact c =
     if c == null then error_in exact state.Plaintext c ∷ Text (encode_utf8 replacement_character) ∷ []
     else Text (encode_utf8 c) ∷ []
 
--- after `</`: a letter begins an end tag, `>` leaves nothing, and another character a bogus comment, with an error
+-- "End tag open state": after `</` a letter begins an end tag, `>` leaves nothing, and another character begins a bogus comment,
+-- with an error
 unfoldable pub after_solidus : Bool → List ℕ → Slice
 after_solidus exact [] = cut_off LessThanSolidus
 after_solidus exact (c ∷ text) =
@@ -32,8 +33,8 @@ after_solidus exact (c ∷ text) =
     else if c == greater_than then one_character (error_in exact state.EndTagOpen c ∷ []) (Between Data)
     else no_character (Leaves (error_in exact state.EndTagOpen c ∷ []) (InBogusComment []))
 
--- after `<`: a letter begins a start tag, `/` and `!` lead on, and `?` begins a processing instruction; before another character `<` is text,
--- with an error
+-- "Tag open state": after `<` a letter begins a start tag, `/` and `!` lead on, and `?` begins a processing instruction. Before
+-- another character `<` is text, with an error.
 unfoldable pub after_less_than : Bool → List ℕ → Slice
 after_less_than exact [] = cut_off LessThan
 after_less_than exact (c ∷ text) =
@@ -43,7 +44,7 @@ after_less_than exact (c ∷ text) =
     else if c == question_mark then with_character [] (instruction exact [] text)
     else no_character (Leaves (error_in exact state.TagOpen c ∷ Text (codes "<") ∷ []) (Between Data))
 
--- what begins with c in the mode Data, where `before` is told first
+-- "Data state": what begins with c, where `before` is sent first
 unfoldable pub data_text : Rules → List Told → ℕ → List ℕ → Slice
 data_text rules before c text =
     if c == less_than then with_character before (after_less_than rules.exact text)

@@ -1,5 +1,5 @@
-//! The grammar: what a text tells, by slices of the whole text. Its definitions are in specs/; here
-//! stand the laws that readers of a text in pieces rest on.
+//! The words of the grammar, and what a text tells by slices of the whole text. The definitions are in
+//! specs/. Here stand the laws that readers of a text in pieces rest on.
 #![tactic(auto)]
 
 ghost use Rattle.std.specs.Prelude.{◌≡◌, ◌≢◌, ℕ, List, [], ◌++◌, All, length, take_while, true, None, Some, if◌then◌else◌};
@@ -19,9 +19,9 @@ use html5ever_interface::interface::sink::TokenSink;
 use html5ever_interface::interface::token::Token;
 use std::alloc::Allocator;
 
-/// Forgetting: what a text tells is what its first part tells, then what its rest tells from the
-/// start after that part, in the state of the sink that the first part leaves. So a reader may
-/// forget all but that start, wherever a text is cut.
+/// Forgetting: what a text tells is what its first part tells, and then what its rest tells. The rest
+/// is read from the start after the first part, in the state of the sink that this part leaves. So,
+/// wherever a text is cut, a reader may forget all but that start.
 pub fn forgetting<S: TokenSink<Token<A>>, A: Allocator>()
     ensures told { (rules : Rules) (K : Start) (s : S.State) (text rest : List ℕ) →
         messages_so_far S.means rules K s (text ++ rest)
@@ -34,15 +34,15 @@ pub fn forgetting<S: TokenSink<Token<A>>, A: Allocator>()
         (state_after S.means rules K s text) rest }
 {}
 
-/// What is told of a text is a beginning of what is told of it and more.
+/// What the sink is sent of a text is a beginning of what it is sent of that text and more.
 pub fn beginning<S: TokenSink<Token<A>>, A: Allocator>()
     ensures { (rules : Rules) (K : Start) (s : S.State) (text rest : List ℕ) → (later : List Message)
         × (messages_so_far S.means rules K s (text ++ rest)
         ≡ messages_so_far S.means rules K s text ++ later) }
 {}
 
-/// What is told of a text, however it goes on: the events of the reading of the whole before the first
-/// that a character after the text decides, or the end.
+/// What the sink is sent of a text, however that goes on. Of the reading of the whole it is the events
+/// before the first one that a character after the text decides, or the end.
 pub fn told_of_a_split<S: TokenSink<Token<A>>, A: Allocator>()
     ensures { (rules : Rules) (K : Start) (s : S.State) (text more : List ℕ) →
         told S.means.step S.means.reply S.means.foreign rules K s text
@@ -50,10 +50,10 @@ pub fn told_of_a_split<S: TokenSink<Token<A>>, A: Allocator>()
         (reading S.means.step S.means.reply S.means.foreign rules K s (text ++ more)) }
 {}
 
-/// Names after an `&` that no `#` follows: the longest name that begins what is held when a reference
-/// is decided is the longest that begins the whole text. By a table what is held is the longest
-/// beginning of the text that begins a name, or, where no name begins the text, its letters and digits
-/// up to another character.
+/// Names after an `&` that no `#` follows. When a reference is decided, the longest name that begins
+/// what is held is the longest that begins the whole text. By a table what is held is the longest
+/// beginning of the text that begins a name. Where no name begins the text, it is the text's letters
+/// and digits up to another character.
 pub fn longest_name_of_text()
     ensures name { (names : List NamedReference) (text : List ℕ) → first_or text None ≢ Some number_sign →
         longest_name names (run_while (is_undecided names) [] text) ≡ longest_name names text }
@@ -64,15 +64,15 @@ pub fn longest_name_of_text()
         else run_while (begins_name names) [] text) }
 {}
 
-/// A tag that the end of input cuts off is never told: what the end decides and tells has no tag.
+/// A tag that the end of input cuts off is never sent: what the end decides and tells has no tag.
 pub fn tags_cut_off<S: TokenSink<Token<A>>, A: Allocator>()
     ensures { (rules : Rules) (K : Start) (s : S.State) (text : List ℕ) →
         TellsNoTagAfter (messages_so_far S.means rules K s text) (all_messages S.means rules K s text) }
 {}
 
-/// By a table of names each token that a text tells is lawful, where nothing was open before it: text
-/// without NUL, a tag whose name begins with a letter, with no capital in its names and no attribute
-/// twice, a doctype whose name has no capital.
+/// By a table of names each token that a text tells is lawful, where nothing was open before it. A
+/// text has no NUL. A tag's name begins with a letter, its names have no capital, and no attribute
+/// comes twice. A doctype's name has no capital.
 pub fn lawful_tokens<S: TokenSink<Token<A>>, A: Allocator>()
     ensures { (rules : Rules) (K : Start) (s : S.State) (text : List ℕ) → IsTable rules.names → is_clean K.opened
         ≡ true →

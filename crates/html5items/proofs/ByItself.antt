@@ -1,4 +1,4 @@
--- What an item tells by itself, from what is told of a text that is the item alone.
+-- What an item tells by itself, from what a text tells that is the item alone.
 use Rattle.std.proofs.Common.{◌≡◌, ℕ, List, [], ◌++◌, ap, sym, ◌∙◌}
 use Rattle.html5ever_interface.specs.Sink.{Means, Message, stepped}
 use Rattle.html5items.specs.Anywhere.{TellsBefore, TellsByItself, start_beyond}

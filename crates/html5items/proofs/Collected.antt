@@ -58,6 +58,7 @@ collected-on_line c line (token ∷ tokens) h =
     ∙ (collected-on_line (record c { messages = c.messages ++ record { token = token; line = line } ∷ [] }) line tokens h.1
     ∙ rw (append_assoc c.messages (record { token = token; line = line } ∷ []) (on_line line tokens)) refl)
 
+-- a collector keeps messages without text as they are
 pub collected-spelled_messages : (exact : Bool) (input : Input) (before : List ℕ) (c : Collected) (cells : List Spelled) → TellNoText cells
     → stepped collected_step c (spelled_messages exact input before cells) ≡ record c { messages = c.messages ++ spelled_messages exact input before cells }
 unfolding spelled_messages stepped

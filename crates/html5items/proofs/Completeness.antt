@@ -106,6 +106,7 @@ begins-later front later h =
     let word : List ℕ = codes "]]>" in
     ap (begins_with word) (ap (λ l. l ++ later) (begins-parts word front h) ∙ append_assoc word (drop 3 front) later) ∙ begins-word word (drop 3 front ++ later)
 
+-- a text has a first `]]>`, or none
 first_end : (T : List ℕ) → FirstEnd T
 unfolding occurs
 first_end [] = NoneEnds refl
@@ -413,6 +414,7 @@ module _ {X S H : Type 0} (means : Means X S H) (rules : Rules) where
   next-raw_form K s X raw name T (OpenEnd tag last ends has_parts is_open parts) starts e =
       Cut _ _ (OpenRawEnd raw name tag last (record { starts = starts; ends = ends; has_parts = has_parts; is_open = is_open; text = e ∙ parts }))
 
+  -- a tag, and what follows it, is the next item
   next-tag_by : (K : Start) (s : S) (X : List ℕ) (kind : TagKind) (c : ℕ) (rest : List ℕ) (parts : List Part) (tail : List ℕ) → is_letter c ≡ true → list_all in_tag_name rest ≡ true → can_follow InName parts ≡ true
       → Ending (place_after_parts InName parts) tail → K.opened ≡ Between Data → normalised K.input X ≡ opening kind ++ (c ∷ rest ++ (flat_map part_text parts ++ tail)) → Next K s X
   unfolding one_tag.is_written one_tag.is_open_written one_tag.open_written
@@ -445,6 +447,7 @@ module _ {X S H : Type 0} (means : Means X S H) (rules : Rules) where
       next-tag_by K s X kind c t.rest p.list p.tail letter t.all p.follow p.ending starts
       (e ∙ ap (λ l. opening kind ++ c ∷ l) (t.parts ∙ ap (λ l. t.rest ++ l) p.parts))
 
+  -- after `<!` without dashes stands a doctype, a section or a bogus comment, each maybe unfinished
   next-after_mark : (K : Start) (s : S) (X T : List ℕ) → begins_with (codes "--") T ≡ false → (t : Bool) → (means.foreign s && begins_with (codes "[CDATA[") T) ≡ t → K.opened ≡ Between Data → normalised K.input X ≡ less_than ∷ exclamation_mark ∷ T → UpTo_end T → Next K s X
   next-after_mark K s X T no_dashes true h starts e w =
       let p = and_parts (means.foreign s) (begins_with (codes "[CDATA[") T) h in

@@ -98,7 +98,7 @@ decides-open begins before (c ∷ text) h none =
       | false ↦ λ e. ap not (ap (λ l. begins (l ++ c ∷ [])) (append-nil before) ∙ e)
     ] refl
 
--- ---- what is told
+-- ---- what is sent
 
 -- what is held tells nothing as the content of a bogus comment
 spelled-held : (exact : Bool) (input : Input) (before held rest content : List ℕ) → held ++ rest ≡ content → list_all is_good held ≡ true
@@ -114,6 +114,7 @@ spelled-held exact input before held rest content parts good =
     ∙ ap (λ l. spelled_messages exact input (before ++ l) (spell_bogus exact rest)) (characters-spell (null_error exact state.BogusComment) held)
 
 module _ {X S H : Type 0} (means : Means X S H) (rules : Rules) where
+  -- a keyword that is not decided tells nothing, and its end the rest
   pub tells-open_keyword : (K : Start) (s : S) (Y held : List ℕ) → IsOpenKeyword K (means.foreign s) Y held
       → TellsAll means rules K s Y [] (on_line (line_after (input_after K.input Y) []) (keyword_at_end rules.exact held))
   unfolding trace may_begin begins_declaration late_at_end_of open_at_end_of told_at_end_of

@@ -67,7 +67,7 @@ module _ (exact : Bool) where
   Goes-decided a b [] goes h = ap is_undecided_open goes ∙ h
   Goes-decided a b (here ∷ more) goes h = stays_decided a goes.0 here.character here.told goes.1 (Goes-decided goes.0 b more goes.2 h)
 
-  -- nor where a tag is told
+  -- nor where a tag is sent
   pub tag-decided : (opened : Open) (c : ℕ) (told : List Told) (tag : TagOf) → step_at exact opened c ≡ TellsTag told tag → is_undecided_open opened ≡ false
   unfolding step_at
   tag-decided (InReference stand held) c told tag e = absurd (false≢true (ap tells_tag e))

@@ -166,6 +166,7 @@ module _ (rules : Rules) (undecided : List ℕ → Open) where
   abbrev pub IsHeld : List ℕ → ℕ → Type 0
   IsHeld held c = (foreign : Bool) → brought_at rules foreign (undecided held) c ≡ record { settled = []; here = Tells [] (undecided (held ++ c ∷ [])) }
 
+  -- characters that are held one after another tell nothing, and stay undecided
   pub leads-while : (begins : List ℕ → Bool) (content : List ℕ)
       → ((held : List ℕ) (c : ℕ) (later : List ℕ) → content ≡ held ++ c ∷ later → begins (held ++ c ∷ []) ≡ true → IsHeld held c)
       → (before text : List ℕ) → content ≡ before ++ text
@@ -206,6 +207,7 @@ module _ (rules : Rules) (undecided : List ℕ → Open) (foreign : Bool) where
   AreHeld held [] = Unit {0}
   AreHeld held (c ∷ run) = IsHeldBy held c × AreHeld (held ++ c ∷ []) run
 
+  -- characters that are held one after another, by the sink's answer
   pub held-while : (begins : List ℕ → Bool) (content : List ℕ)
       → ((held : List ℕ) (c : ℕ) (later : List ℕ) → content ≡ held ++ c ∷ later → begins (held ++ c ∷ []) ≡ true → IsHeldBy held c)
       → (before text : List ℕ) → content ≡ before ++ text → AreHeld before (run_while begins before text)
@@ -218,7 +220,7 @@ module _ (rules : Rules) (undecided : List ℕ → Open) (foreign : Bool) where
         | false ↦ λ e. tt
       ] refl
 
--- what is told where a character decides: then it is read where something else is open
+-- what is sent where a character decides. Then it is read where something else is open.
 
 module _ {S H : Type 0} (step : S → Told → ℕ → S) (reply : S → Told → ℕ → Reply H) (foreign : S → Bool) (rules : Rules) where
   pub trace-settles : (s : S) (line : ℕ) (last : List ℕ) (undecided afterwards : Open) (late : List Late) (c : ℕ) (text : List ℕ)

@@ -54,6 +54,7 @@ module _ {S H : Type 0} (step : S → Told → ℕ → S) (reply : S → Told �
       append-nil (on_line line (bad_character_error rules.exact c ++ (errors ++ Tag tag ∷ [])))
       ∙ ap (on_line line) (sym (append_assoc (bad_character_error rules.exact c) errors (Tag tag ∷ [])))
 
+  -- a character that tells a tag: its trace, and what the sink's reply leaves open
   pub trace-cell : (input : Input) (before : List ℕ) (s : S) (last : List ℕ) (opened : Open) (c : ℕ) (errors : List Told) (tag : TagOf)
       → step_at rules.exact opened c ≡ TellsTag errors tag
       → trace step reply foreign rules s (line_after input before) last opened (c ∷ [])

@@ -40,6 +40,7 @@ module _ (rules : Rules) where
   Leads-append a b c [] ys f g = subst (λ x. Leads x ys c) (sym f) g
   Leads-append a b c (x ∷ xs) ys f g = (f.0, f.1, Leads-append f.0 b c xs ys f.2 g)
 
+-- the messages of two texts are those of the first, and those of the second after it
 pub spelled_messages-append : (exact : Bool) (input : Input) (before : List ℕ) (xs ys : List Spelled)
     → spelled_messages exact input before (xs ++ ys) ≡ spelled_messages exact input before xs ++ spelled_messages exact input (before ++ characters xs) ys
 unfolding spelled_messages
@@ -61,7 +62,7 @@ module _ {S H : Type 0} (step : S → Told → ℕ → S) (reply : S → Told �
       rw (stepped-append step s M N)
       (ap (λ l. record { messages = l; opened = rest.opened; last_start_tag = rest.last_start_tag }) (sym (append_assoc M N rest.messages)))
 
-  -- what is spelled is told, and the machine goes on after it
+  -- what is spelled is sent, and the machine goes on after it
   pub trace-leads : (input : Input) (before : List ℕ) (s : S) (last : List ℕ) (opened afterwards : Open) (cells : List Spelled) (text : List ℕ)
       → Leads rules opened cells afterwards
       → trace step reply foreign rules s (line_after input before) last opened (characters cells ++ text)

@@ -168,6 +168,7 @@ module _ {X S H : Type 0} (means : Means X S H) (rules : Rules) where
       at false true e f g = subst (λ d. (later : Open) × (step_at rules.exact (Between Data) d ≡ Tells [] later) × (bad_character_error rules.exact d ≡ []) × ((d == line_feed) ≡ false)) (sym (eqb-true c ampersand f)) (InReference (InText Data) [], refl, rw (and-false rules.exact) refl, refl)
       at false false e f g = absurd (false≢true (sym g))
 
+  -- a `<` before markup tells its error and itself
   lone-before : (Z : List ℕ) (K : Start) (s : S) (Y : List ℕ) (c : ℕ) (rest : List ℕ) → IsLoneBefore K Y Z c rest
       → TellsBefore means rules Z K s Y (on_line (line_after K.input (less_than ∷ [])) (error_in rules.exact state.TagOpen c ∷ Text (codes "<") ∷ [])) (start_beyond K Y (Between Data) K.last_start_tag)
   unfolding line_past stepped
@@ -185,6 +186,7 @@ module _ {X S H : Type 0} (means : Means X S H) (rules : Rules) where
       ∙ trace-lone_at s line K.last_start_tag c rest opens.0 E opens.2 same (lone-step c one.is_lone one.is_markup ∙ rw opens.1 refl) opens.1
       ∙ rw (← afterwards) refl))
 
+  -- each item tells its messages before the text after it: a case for each form
   pub item-tells : (Z : List ℕ) (K : Start) (s : S) (Y : List ℕ) (M : List Message) (later : Start) → IsTable rules.names
       → Item means rules Z K s Y M later → TellsWith means rules Z K s Y M later
   item-tells Z K s Y M later table (OneCharacter mode c one) =
@@ -240,6 +242,7 @@ module _ {X S H : Type 0} (means : Means X S H) (rules : Rules) where
 
   -- ---- unfinished items
 
+  -- a comment without its end tells its errors, and stays open
   leads-open_comment : (content : List ℕ) → is_content content ≡ true → Leads rules (Between Data) (spell_open_comment rules.exact content) (InComment (bytes_of content))
   unfolding Leads brought_at step_at data_step less_than_step declaration_step begins_keyword is_letter
   leads-open_comment content h = (
@@ -304,6 +307,7 @@ module _ {X S H : Type 0} (means : Means X S H) (rules : Rules) where
       ∙ ap (λ l. (told_of (InText mode) found ++ texts (drop found.taken F)) ++ l) (nothing-end mode)
       ∙ ap (λ (f : Found). (told_of (InText mode) f ++ texts (drop f.taken F)) ++ nothing_at_end rules.exact mode) (sym (found-open F undecided))
 
+  -- each unfinished item tells its messages, and its end the rest: a case for each form
   tells-unfinished : (K : Start) (s : S) (X : List ℕ) (M E : List Message) → IsTable rules.names → Unfinished means rules K s X M E → TellsAll means rules K s X M E
   unfolding late_at_end_of open_at_end_of told_at_end_of Leads brought_at step_at data_step less_than_step is_letter
   tells-unfinished K s X M E table (OpenLessThan starts text) =
@@ -401,6 +405,7 @@ module _ {X S H : Type 0} (means : Means X S H) (rules : Rules) where
       Leads-append rules (Between mode) (Between mode) (Between mode) (record { character = c; told = text_told rules.exact mode c } ∷ []) (spell (text_told rules.exact mode) run)
       (leads-character rules mode c p.0) (leads-run mode run p.1)
 
+  -- a run of text tells its characters
   pub reading-run : (K : Start) (s : S) (X : List ℕ) (mode : Mode) (run : List ℕ) → IsTextRun K X mode run
       → all_messages means rules K s X ≡ text_run_messages rules.exact K.input X mode run
   reading-run K s X mode run one =

@@ -33,6 +33,7 @@ module _ {X S H : Type 0} (means : Means X S H) (rules : Rules) where
         (after-opened means.step means.reply means.foreign rules K s text ∙ ap (λ (t : Trace). t.opened) e);
   }
 
+  -- an item that tells its messages before a text, and then all that this text tells
   pub tells-before_with : (Z : List ℕ) (K : Start) (s : S) (Y : List ℕ) (M : List Message) (opened : Open) (last : List ℕ)
       → TellsBefore means rules Z K s Y M (start_beyond K Y opened last) → TellsWith Z K s Y M (start_beyond K Y opened last)
   unfolding stepped
@@ -51,15 +52,15 @@ module _ {X S H : Type 0} (means : Means X S H) (rules : Rules) where
             ∙ rest.at_end;
       }
 
-  -- ---- two places from which the same is told
+  -- ---- two places from which a text tells the same
 
-  -- the text is told alike from either place, and so is its end
+  -- the text tells the same from either place, and so does its end
   pub record Alike (one other : Open) (text : List ℕ) : Type 0 where
     pub told : (s : S) (line : ℕ) (last : List ℕ) → (trace_of s line last one text).messages ≡ (trace_of s line last other text).messages
     pub at_end : (s : S) (line : ℕ) (last : List ℕ)
         → tokens_at_end rules (trace_of s line last one text).opened ≡ tokens_at_end rules (trace_of s line last other text).opened
 
-  -- an item that leaves something open, from where the rest is told as where nothing is
+  -- an item that leaves something open, from where the rest tells the same as where nothing is open
   pub tells-alike : (Z : List ℕ) (K : Start) (s : S) (Y : List ℕ) (M : List Message) (opened later : Open) (F : List ℕ)
       → normalised (input_after K.input Y) Z ≡ F → Alike opened later F
       → trace_of s (line_after K.input []) K.last_start_tag K.opened (normalised K.input Y ++ F)

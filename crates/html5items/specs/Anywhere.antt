@@ -14,7 +14,7 @@ use Rattle.html5grammar.specs.Reading.{last_after, open_after_reply, messages_so
 use Rattle.html5grammar.specs.Start.{Input, Start, Open, Rules}
 use Rattle.markup5ever.specs.NamedReferences.{NamedReference}
 
--- the start after the text Y: what is open there, and the name of the last start tag
+-- the start after the text Y, by what is open there and the name of the last start tag
 abbrev pub start_beyond : Start → List ℕ → Open → List ℕ → Start
 start_beyond K Y opened last = record { opened = opened; last_start_tag = last; input = input_after K.input Y }
 
@@ -26,15 +26,15 @@ module _ {S H : Type 0} (step : S → Told → ℕ → S) (reply : S → Told �
   last_reply s (m ∷ n ∷ more) = last_reply (step s m.token m.line) (n ∷ more)
 
 module _ {X S H : Type 0} (means : Means X S H) where
-  -- the start after the text Y, whose last message is this tag: the sink's reply to it says what is open
+  -- the start after the text Y, whose last message is this tag. The sink's reply to it says what is open.
   abbrev pub start_after_tag : Start → S → List ℕ → TagOf → List Message → Start
   start_after_tag K s Y tag M =
       let last : List ℕ = last_after K.last_start_tag tag in
       start_beyond K Y (open_after_reply last (last_reply means.step means.reply s M)) last
 
   module _ (rules : Rules) where
-    -- read from K in the sink's state s and before the text Z, the text Y tells the messages M, and Z is read from `later`: after
-    -- any text X that leads there
+    -- read from K in the sink's state s and before the text Z, the text Y tells the messages M, and Z is read from `later`. That
+    -- holds after any text X that leads there.
     pub record TellsBefore (Z : List ℕ) (K : Start) (s : S) (Y : List ℕ) (M : List Message) (later : Start) : Type 0 where
       pub tells : (L : Start) (t : S) (X : List ℕ) → start_after means rules L t X ≡ K → state_after means rules L t X ≡ s
           → messages_so_far means rules L t (X ++ (Y ++ Z))
@@ -48,14 +48,16 @@ module _ {X S H : Type 0} (means : Means X S H) where
 
 -- ---- references, which what follows them decides
 
--- whether c after a reference decides it, and is no part of it; a number that has its semicolon is decided
+-- "Character reference state": whether c after a reference decides it, and is no part of it. A number that has its semicolon is
+-- decided.
 unfoldable pub is_decided_by : List NamedReference → WrittenReference → ℕ → Bool
 is_decided_by names Ampersand c = not (is_undecided names (c ∷ []))
 is_decided_by names (Number x digits true) c = true
 is_decided_by names (Number x digits false) c = not (is_undecided names (number_sign ∷ (x_text x ++ digits) ++ c ∷ [])) && not (c == semicolon)
 is_decided_by names (Named entry) c = not (is_undecided names (entry.name ++ c ∷ []))
 
--- what is wrong with a reference after which the text goes on
+-- "Numeric character reference end state" and "Named character reference state": what is wrong with a reference after which the
+-- text goes on
 unfoldable pub errors_within : Bool → WrittenReference → List Told
 errors_within exact (Number x digits ends) =
     where_true (not ends) (Error (codes "Semicolon missing after numeric character reference"))
@@ -66,6 +68,6 @@ errors_within exact reference = reference_errors exact reference
 abbrev pub told_within : Bool → WrittenReference → List Told
 told_within exact reference = errors_within exact reference ++ map (λ c. Text (encode_utf8 c)) (reference_characters reference)
 
--- on the line that it reaches
+-- the same with the line that it reaches
 abbrev pub messages_within : Bool → Input → WrittenReference → List Message
 messages_within exact input reference = on_line (line_after input (written reference)) (told_within exact reference)

@@ -18,6 +18,7 @@ use Rattle.html5grammar.specs.Start.Open.{Between}
 
 -- ---- how a section is written
 
+-- "CDATA section state" to "CDATA section end state": a section as it is written
 pub record WrittenCdata : Type 0 where
   -- whether it begins with `<![CDATA[`: else it is read from inside a section on
   pub has_opening : Bool
@@ -30,9 +31,11 @@ pub record WrittenCdata : Type 0 where
 
 -- ---- its text
 
+-- the opening, if there is one
 abbrev pub opening_text : Bool → List ℕ
 opening_text has_opening = if has_opening then codes "<![CDATA[" else []
 
+-- the end, if there is one
 abbrev pub end_text : Bool → List ℕ
 end_text is_ended = if is_ended then codes "]]>" else []
 
@@ -41,30 +44,33 @@ unfoldable pub pieces_text : List (List ℕ) → List ℕ → List ℕ
 pieces_text [] last = last
 pieces_text (piece ∷ pieces) last = piece ++ null ∷ pieces_text pieces last
 
+-- the text of a section
 unfoldable pub written : WrittenCdata → List ℕ
 written cdata = opening_text cdata.has_opening ++ (pieces_text cdata.pieces cdata.last ++ end_text cdata.is_ended)
 
 -- ---- which sections there are
 
--- a piece has no NUL, and no `]]>` stands in it, since the first one ends the section
+-- "CDATA section end state": whether this is a piece. It has no NUL, and no `]]>` stands in it, since the first one ends the
+-- section.
 unfoldable pub is_piece : List ℕ → Bool
 is_piece piece = list_all (λ c. not (c == null)) piece && not (occurs (codes "]]>") piece)
 
--- only in foreign content `<![CDATA[` begins a section
+-- "Markup declaration open state": only in foreign content `<![CDATA[` begins a section
 unfoldable pub is_written : Bool → WrittenCdata → Bool
 is_written foreign cdata = (not cdata.has_opening || foreign) && (list_all is_piece cdata.pieces && is_piece cdata.last)
 
 -- ---- what it tells
 
--- a NUL tells the piece before it, each character as a text, and itself
+-- "CDATA section state": a NUL tells the piece before it, each character as a text, and itself
 abbrev pub spell_null : List ℕ → List Spelled
 spell_null piece = record { character = null; told = texts piece ++ Null ∷ [] } ∷ []
 
+-- "CDATA section state": pieces, each with a NUL after it
 unfoldable pub spell_pieces : List (List ℕ) → List Spelled
 spell_pieces [] = []
 spell_pieces (piece ∷ pieces) = (spell_silent piece ++ spell_null piece) ++ spell_pieces pieces
 
--- the `>` after `]]` tells the last piece, each character as a text
+-- "CDATA section end state": the `>` after `]]` tells the last piece, each character as a text
 abbrev pub spell_end : Bool → List ℕ → List Spelled
 spell_end is_ended last =
     if is_ended then spell_silent (codes "]]") ++ record { character = greater_than; told = texts last } ∷ []
@@ -74,7 +80,7 @@ spell_end is_ended last =
 abbrev pub spell_cdata : WrittenCdata → List Spelled
 spell_cdata cdata = spell_pieces cdata.pieces ++ (spell_silent cdata.last ++ spell_end cdata.is_ended cdata.last)
 
--- the end of input tells the last piece where no `]]>` did, and that is an error
+-- "CDATA section state", at the end: the end of input tells the last piece where no `]]>` did, and that is an error
 abbrev pub told_at_end : Bool → Bool → List ℕ → List Told
 told_at_end exact is_ended last =
     if is_ended then End ∷ [] else texts last ++ end_error_in exact state.CdataSection ∷ End ∷ []
@@ -95,7 +101,7 @@ pub record IsCdata (K : Start) (foreign : Bool) (X : List ℕ) (cdata : WrittenC
   pub is_cdata : is_written foreign cdata ≡ true
   pub text : normalised K.input X ≡ written cdata
 
--- the text is that of a section, written out, between its opening and its end, if it has these
+-- the text is that of a section, written out, between its opening and its end, where it has these
 pub record IsCdataText (has_opening is_ended : Bool) (text : List ℕ) : Type 0 where
   pub cdata : WrittenCdata
   pub opens : cdata.has_opening ≡ has_opening

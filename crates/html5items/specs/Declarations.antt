@@ -27,24 +27,26 @@ use Rattle.html5grammar.specs.Tag.{null_error}
 
 -- ---- a keyword that is not decided
 
--- whether the text begins a keyword: `--`, `doctype` in any case, or in foreign content `[CDATA[`
+-- "Markup declaration open state": whether the text begins a keyword: `--`, `doctype` in any case, or in foreign content
+-- `[CDATA[`
 unfoldable pub may_begin : Bool → List ℕ → Bool
 may_begin foreign text = begins_keyword text || (foreign && begins_cdata text)
 
--- the text Y is `<!` and a beginning of a keyword, but not the whole of one
+-- "Markup declaration open state", at the end: the text Y is `<!` and a beginning of a keyword, but not the whole of one
 pub record IsOpenKeyword (K : Start) (foreign : Bool) (Y : List ℕ) (held : List ℕ) : Type 0 where
   pub starts : K.opened ≡ Between Data
   pub opens : can_open foreign ExclamationMark held ≡ true
   pub undecided : may_begin foreign held ≡ true
   pub text : normalised K.input Y ≡ codes "<!" ++ held
 
--- the end makes it a bogus comment; what can begin a keyword is ASCII, so its characters are its bytes
+-- "Bogus comment state", at the end: the end makes it a bogus comment. What can begin a keyword is ASCII, so its characters are
+-- its bytes.
 abbrev pub keyword_at_end : Bool → List ℕ → List Told
 keyword_at_end exact held = error_in exact state.MarkupDeclarationOpen exclamation_mark ∷ Comment held ∷ End ∷ []
 
 -- ---- a bogus comment
 
--- the text Y is `<!` and a content that begins no keyword, and in which no `>` stands
+-- "Bogus comment state", at the end: the text Y is `<!` and a content that begins no keyword, and in which no `>` stands
 pub record IsOpenBogusDeclaration (K : Start) (foreign : Bool) (Y : List ℕ) (content : List ℕ) : Type 0 where
   pub starts : K.opened ≡ Between Data
   pub opens : can_open foreign ExclamationMark content ≡ true
@@ -52,6 +54,7 @@ pub record IsOpenBogusDeclaration (K : Start) (foreign : Bool) (Y : List ℕ) (c
   pub within : list_all in_bogus_comment content ≡ true
   pub text : normalised K.input Y ≡ codes "<!" ++ content
 
+-- what such a comment tells before the end
 abbrev pub bogus_declaration_messages : Bool → Input → List ℕ → List Message
 bogus_declaration_messages exact input content =
     on_line (line_after input (codes "<!")) (error_in exact state.MarkupDeclarationOpen exclamation_mark ∷ [])
@@ -59,7 +62,7 @@ bogus_declaration_messages exact input content =
 
 -- ---- a doctype
 
--- the text Y is a doctype, written out, but for its `>`
+-- "DOCTYPE state" to "Bogus DOCTYPE state", at the end: the text Y is a doctype, written out, but for its `>`
 pub record IsOpenDoctype (K : Start) (Y : List ℕ) (doctype : WrittenDoctype) : Type 0 where
   pub starts : K.opened ≡ Between Data
   pub is_doctype : is_written doctype ≡ true
@@ -71,8 +74,8 @@ before_end [] = []
 before_end (here ∷ []) = []
 before_end (here ∷ next ∷ more) = here ∷ before_end (next ∷ more)
 
--- the messages after the name and white space: those of a whole doctype before its `>`. Where a rest may still begin a keyword,
--- nothing is told yet.
+-- "After DOCTYPE name state", at the end: the messages after the name and white space. They are those of a whole doctype before
+-- its `>`. Where a rest may still begin a keyword, nothing is sent yet.
 unfoldable pub messages_after_open_name : Bool → Input → List ℕ → DoctypeOf → RestAfterName → List Message
 messages_after_open_name exact input before d (NoKeyword (c ∷ rest)) =
     if begins_doctype_keyword (c ∷ rest) then []
@@ -82,43 +85,50 @@ messages_after_open_name exact input before d (NoKeyword (c ∷ rest)) =
     else spelled_messages exact input before (before_end (spell_after_name exact d (NoKeyword (c ∷ rest))))
 messages_after_open_name exact input before d afterwards = spelled_messages exact input before (before_end (spell_after_name exact d afterwards))
 
+-- what such a doctype tells before the end
 unfoldable pub open_doctype_messages : Bool → Input → List ℕ → List ℕ → Content → List Message
 open_doctype_messages exact input word space NoName = spelled_messages exact input [] (spell_silent (opening word space))
 open_doctype_messages exact input word space (Named first rest later afterwards) =
     spelled_messages exact input [] (spell_name exact word space first rest later)
     ++ messages_after_open_name exact input (opening word space ++ (first ∷ rest ++ later)) (told_after_name (flat_map name_bytes (first ∷ rest)) afterwards) afterwards
 
--- the state that the error of the end names: there is none where a rest is skipped
+-- "Bogus DOCTYPE state": the state that the error of the end names. There is none where a rest is skipped.
 abbrev pub rest_state : State → List ℕ → Option State
 rest_state named [] = Some named
 rest_state named (c ∷ rest) = None
 
+-- the same where an identifier can stand
 abbrev pub identifier_end : {B : Type 0} → DoctypeIdKind → State → (List ℕ → B → Option State) → Identifier B → Option State
 identifier_end kind named end_after (Missing rest) = rest_state named rest
 identifier_end kind named end_after (Unclosed quotes run) = Some (identifier_state quotes kind)
 identifier_end kind named end_after (Closed quotes run space afterwards) = end_after space afterwards
 
+-- the same where a system identifier can stand
 abbrev pub system_end : State → SystemIdentifier → Option State
 system_end named system = identifier_end System named (λ space rest. rest_state (state.AfterDoctypeIdentifier System) rest) system
 
+-- the same where a public identifier can stand
 abbrev pub public_end : State → PublicIdentifier → Option State
 public_end named identifier = identifier_end Public named (λ space system. system_end (between_state space) system) identifier
 
+-- the same after a name and white space
 abbrev pub after_name_end : List ℕ → RestAfterName → Option State
 after_name_end space (NoKeyword rest) = rest_state (after_space space state.DoctypeName state.AfterDoctypeName) rest
 after_name_end space (PublicKeyword keyword later identifier) = public_end (keyword_state Public later) identifier
 after_name_end space (SystemKeyword keyword later identifier) = system_end (keyword_state System later) identifier
 
--- the end is an error with quirks, but where a rest is skipped, which the doctype is told with already
+-- "DOCTYPE state" to "After DOCTYPE system identifier state", at the end: that is an error with quirks. Where a rest is skipped,
+-- the doctype already says them.
 abbrev pub doctype_end : Bool → Option State → DoctypeOf → List Told
 doctype_end exact None d = Doctype d ∷ End ∷ []
 doctype_end exact (Some named) d = end_error_in exact named ∷ Doctype (with_quirks d) ∷ End ∷ []
 
--- a rest that may still begin a keyword is an error at its first character
+-- "After DOCTYPE name state", at the end: a rest that may still begin a keyword is an error at its first character
 abbrev pub keyword_error_at_end : Bool → RestAfterName → List Told
 keyword_error_at_end exact (NoKeyword (c ∷ rest)) = if begins_doctype_keyword (c ∷ rest) then error_in exact state.AfterDoctypeName c ∷ [] else []
 keyword_error_at_end exact afterwards = []
 
+-- what the end tells of a doctype
 abbrev pub open_doctype_at_end : Bool → List ℕ → Content → List Told
 open_doctype_at_end exact space NoName = doctype_end exact (Some (after_space space state.Doctype state.BeforeDoctypeName)) empty_doctype
 open_doctype_at_end exact space (Named first rest later afterwards) =

@@ -35,7 +35,7 @@ use Rattle.html5items.specs.RawText.{next_is}
 
 -- ---- how a doctype is written
 
--- what stands where an identifier can, with what can stand after it. A rest is skipped; it is maybe empty.
+-- what stands where an identifier can, with what can stand after it. A rest is skipped; it may be empty.
 pub data Identifier (Afterwards : Type 0) : Type 0 where
   -- none, but a rest
   Missing : List ℕ → Identifier Afterwards
@@ -44,14 +44,15 @@ pub data Identifier (Afterwards : Type 0) : Type 0 where
   -- the identifier in its quotes, white space, and what stands after that
   Closed : Quotes → List ℕ → List ℕ → Afterwards → Identifier Afterwards
 
--- after the identifier of the system stands a rest, and after the public one that of the system can stand
+-- after the identifier of the system stands a rest
 abbrev pub SystemIdentifier : Type 0
 SystemIdentifier = Identifier (List ℕ)
 
+-- after the public identifier that of the system can stand
 abbrev pub PublicIdentifier : Type 0
 PublicIdentifier = Identifier SystemIdentifier
 
--- what stands after a name and white space
+-- "After DOCTYPE name state": what stands after a name and white space
 pub data RestAfterName : Type 0 where
   -- no keyword, but a rest
   NoKeyword : List ℕ → RestAfterName
@@ -60,12 +61,13 @@ pub data RestAfterName : Type 0 where
   -- `system` likewise
   SystemKeyword : List ℕ → List ℕ → SystemIdentifier → RestAfterName
 
+-- "Before DOCTYPE name state": what stands after `doctype` and white space
 pub data Content : Type 0 where
   NoName : Content
   -- the first character of the name, the rest of it, white space, and what stands after that
   Named : ℕ → List ℕ → List ℕ → RestAfterName → Content
 
--- after `<!` the word `doctype` in any case, white space, the content, and `>`
+-- "DOCTYPE state" to "Bogus DOCTYPE state": after `<!` the word `doctype` in any case, white space, the content, and `>`
 pub record WrittenDoctype : Type 0 where
   pub word : List ℕ
   pub space : List ℕ
@@ -73,22 +75,27 @@ pub record WrittenDoctype : Type 0 where
 
 -- ---- its text
 
+-- the text of an identifier, and of what stands after it
 abbrev pub identifier_text : {B : Type 0} → (B → List ℕ) → Identifier B → List ℕ
 identifier_text text_after (Missing rest) = rest
 identifier_text text_after (Unclosed quotes run) = quote_mark quotes ∷ run
 identifier_text text_after (Closed quotes run space afterwards) = quote_mark quotes ∷ run ++ (quote_mark quotes ∷ space ++ text_after afterwards)
 
+-- the text of a system identifier and its rest
 abbrev pub system_text : SystemIdentifier → List ℕ
 system_text identifier = identifier_text (λ rest. rest) identifier
 
+-- the text of a public identifier, and of what stands after it
 abbrev pub public_text : PublicIdentifier → List ℕ
 public_text identifier = identifier_text system_text identifier
 
+-- the text after a name and white space
 abbrev pub after_name_text : RestAfterName → List ℕ
 after_name_text (NoKeyword rest) = rest
 after_name_text (PublicKeyword keyword space identifier) = keyword ++ (space ++ public_text identifier)
 after_name_text (SystemKeyword keyword space identifier) = keyword ++ (space ++ system_text identifier)
 
+-- the text of a content
 abbrev pub content_text : Content → List ℕ
 content_text NoName = []
 content_text (Named first rest space afterwards) = (first ∷ rest ++ space) ++ after_name_text afterwards
@@ -97,47 +104,53 @@ content_text (Named first rest space afterwards) = (first ∷ rest ++ space) ++ 
 abbrev pub opening : List ℕ → List ℕ → List ℕ
 opening word space = codes "<!" ++ (word ++ space)
 
+-- the text of a doctype
 unfoldable pub written : WrittenDoctype → List ℕ
 written doctype = opening doctype.word doctype.space ++ (content_text doctype.content ++ greater_than ∷ [])
 
 -- ---- which parts there are
 
--- a rest has no `>`, and doesn't begin with a character that belongs where it stands
+-- "Bogus DOCTYPE state": whether this is a rest. It has no `>`, and doesn't begin with a character that belongs where it stands.
 abbrev pub is_rest : (ℕ → Bool) → List ℕ → Bool
 is_rest belongs rest = not (next_is belongs rest) && list_all in_skipped_rest rest
 
--- where an identifier can stand, white space and its quote belong
+-- "Before DOCTYPE public identifier state": where an identifier can stand, white space and its quote belong
 abbrev pub belongs_before : ℕ → Bool
 belongs_before c = is_white_space c || (c == quotation_mark) || (c == apostrophe)
 
--- an identifier has neither its quote nor `>`
+-- "DOCTYPE public identifier (double-quoted) state" and its three others: whether this is an identifier. It has neither its quote
+-- nor `>`.
 abbrev pub is_identifier : {B : Type 0} → (B → Bool) → Identifier B → Bool
 is_identifier is_after (Missing rest) = is_rest belongs_before rest
 is_identifier is_after (Unclosed quotes run) = list_all (in_identifier quotes) run
 is_identifier is_after (Closed quotes run space afterwards) =
     list_all (in_identifier quotes) run && (list_all is_white_space space && is_after afterwards)
 
+-- whether this can stand where a system identifier can
 abbrev pub is_system : SystemIdentifier → Bool
 is_system identifier = is_identifier (is_rest is_white_space) identifier
 
+-- whether this can stand where a public identifier can
 abbrev pub is_public : PublicIdentifier → Bool
 is_public identifier = is_identifier is_system identifier
 
--- whether a rest after the name begins with no keyword, in any case
+-- "After DOCTYPE name state": whether a rest after the name begins with no keyword, in any case
 abbrev pub begins_no_keyword : List ℕ → Bool
 begins_no_keyword rest = not (begins_with (keyword_of Public) (lower_case rest)) && not (begins_with (keyword_of System) (lower_case rest))
 
+-- whether this can stand after a name and white space
 abbrev pub is_after_name : RestAfterName → Bool
 is_after_name (NoKeyword rest) = begins_no_keyword rest && is_rest is_white_space rest
 is_after_name (PublicKeyword keyword space identifier) = is_keyword Public keyword && (list_all is_white_space space && is_public identifier)
 is_after_name (SystemKeyword keyword space identifier) = is_keyword System keyword && (list_all is_white_space space && is_system identifier)
 
--- a name runs to white space or `>`, so after it stands white space, or nothing
+-- "DOCTYPE name state": a name runs to white space or `>`, so after it stands white space, or nothing
 abbrev pub can_stand_after : List ℕ → RestAfterName → Bool
 can_stand_after [] (NoKeyword []) = true
 can_stand_after [] afterwards = false
 can_stand_after (c ∷ space) afterwards = list_all is_white_space (c ∷ space) && is_after_name afterwards
 
+-- whether this can stand after `doctype` and white space
 abbrev pub is_content : Content → Bool
 is_content NoName = true
 is_content (Named first rest space afterwards) = list_all in_doctype_name (first ∷ rest) && can_stand_after space afterwards
@@ -147,9 +160,9 @@ unfoldable pub is_written : WrittenDoctype → Bool
 is_written doctype =
     bytes_eq (lower_case doctype.word) (codes "doctype") && (list_all is_white_space doctype.space && is_content doctype.content)
 
--- ---- the doctype that is told
+-- ---- the doctype that is sent
 
--- an identifier that was begun is a text, maybe an empty one
+-- the identifier that is sent. One that was begun is a text, maybe an empty one.
 abbrev pub identifier_told : {B : Type 0} → Identifier B → Option (List ℕ)
 identifier_told (Missing rest) = None
 identifier_told (Unclosed quotes run) = Some (flat_map value_bytes run)
@@ -161,22 +174,24 @@ system_told (Missing rest) = None
 system_told (Unclosed quotes run) = None
 system_told (Closed quotes run space system) = identifier_told system
 
--- where an identifier is wanted, one that is missing or not closed brings quirks
+-- whether an identifier is missing or not closed. Where one is wanted that brings quirks.
 abbrev pub is_not_closed : {B : Type 0} → Identifier B → Bool
 is_not_closed (Missing rest) = true
 is_not_closed (Unclosed quotes run) = true
 is_not_closed (Closed quotes run space afterwards) = false
 
--- after a public identifier that of the system is not wanted: also nothing can stand there
+-- whether there are quirks after a public identifier. There that of the system is not wanted, so nothing can stand there, too.
 abbrev pub has_system_quirks : SystemIdentifier → Bool
 has_system_quirks (Missing []) = false
 has_system_quirks system = is_not_closed system
 
+-- whether there are quirks after `public`
 abbrev pub has_public_quirks : PublicIdentifier → Bool
 has_public_quirks (Missing rest) = true
 has_public_quirks (Unclosed quotes run) = true
 has_public_quirks (Closed quotes run space system) = has_system_quirks system
 
+-- the doctype that is sent, by its name and what stands after it
 abbrev pub told_after_name : List ℕ → RestAfterName → DoctypeOf
 told_after_name name (NoKeyword []) = record { name = Some name; public_id = None; system_id = None; force_quirks = false }
 told_after_name name (NoKeyword (c ∷ rest)) = record { name = Some name; public_id = None; system_id = None; force_quirks = true }
@@ -193,27 +208,29 @@ told_after_name name (SystemKeyword keyword space identifier) = record {
   force_quirks = is_not_closed identifier;
 }
 
--- ---- what it tells: below, d is the doctype that is told at the `>`
+-- ---- what it tells: below, d is the doctype that is sent at the `>`
 
+-- the `>` of a doctype, with errors before it
 abbrev pub spell_end : List Told → DoctypeOf → List Spelled
 spell_end errors d = record { character = greater_than; told = errors ++ Doctype d ∷ [] } ∷ []
 
--- what is skipped, up to the `>`
+-- "Bogus DOCTYPE state": what is skipped, up to the `>`
 abbrev pub spell_skipped : Bool → DoctypeOf → List ℕ → List Spelled
 spell_skipped exact d rest = spell (null_error exact state.BogusDoctype) rest ++ spell_end [] d
 
--- where something else is wanted, the first character of a rest is an error, and so is the `>` of an empty one
+-- "Bogus DOCTYPE state": where something else is wanted, the first character of a rest is an error, and so is the `>` of an empty
+-- one
 abbrev pub spell_odd : Bool → State → DoctypeOf → List ℕ → List Spelled
 spell_odd exact named d [] = spell_end (error_in exact named greater_than ∷ []) d
 spell_odd exact named d (c ∷ rest) =
     record { character = c; told = error_in exact named c ∷ null_error exact state.BogusDoctype c } ∷ spell_skipped exact d rest
 
--- where only the `>` is wanted, an empty rest is none
+-- "Bogus DOCTYPE state": where only the `>` is wanted, an empty rest is no error
 abbrev pub spell_rest : Bool → State → DoctypeOf → List ℕ → List Spelled
 spell_rest exact named d [] = spell_end [] d
 spell_rest exact named d (c ∷ rest) = spell_odd exact named d (c ∷ rest)
 
--- the first, directly after what came before, or the second, where this white space stands between
+-- the first where no white space stands between, and else the second
 abbrev pub after_space : {X : Type 0} → List ℕ → X → X → X
 after_space [] direct spaced = direct
 after_space (c ∷ space) direct spaced = spaced
@@ -222,20 +239,25 @@ after_space (c ∷ space) direct spaced = spaced
 abbrev pub direct_error : List ℕ → Told → List Told
 direct_error space error = where_true (after_space space true false) error
 
--- the state that an error names after a keyword, and after a public identifier
+-- "After DOCTYPE public keyword state" or "Before DOCTYPE public identifier state", and those of the system: the state that an
+-- error names after a keyword
 abbrev pub keyword_state : DoctypeIdKind → List ℕ → State
 keyword_state kind space = after_space space (state.AfterDoctypeKeyword kind) (state.BeforeDoctypeIdentifier kind)
 
+-- "After DOCTYPE public identifier state" or "Between DOCTYPE public and system identifiers state": the state that an error names
+-- after a public identifier
 abbrev pub between_state : List ℕ → State
 between_state space = after_space space (state.AfterDoctypeIdentifier Public) state.BetweenDoctypePublicAndSystemIdentifiers
 
--- a quote, which is an error where no white space stands before it, and the identifier
+-- "DOCTYPE public identifier (double-quoted) state" and its three others: the identifier and its first quote, which is an error
+-- where no white space stands before it
 abbrev pub spell_begun : Bool → DoctypeIdKind → State → List ℕ → Quotes → List ℕ → List Spelled
 spell_begun exact kind named space quotes run =
     record { character = quote_mark quotes; told = direct_error space (error_in exact named (quote_mark quotes)) }
     ∷ spell (null_error exact (identifier_state quotes kind)) run
 
--- what stands where an identifier can, after white space
+-- "Before DOCTYPE public identifier state" and "Before DOCTYPE system identifier state": what stands where an identifier can,
+-- after white space
 abbrev pub spell_identifier : {B : Type 0} → Bool → DoctypeIdKind → State → DoctypeOf → List ℕ → (List ℕ → B → List Spelled) → Identifier B → List Spelled
 spell_identifier exact kind named d space spell_after (Missing rest) = spell_odd exact named d rest
 spell_identifier exact kind named d space spell_after (Unclosed quotes run) =
@@ -243,21 +265,23 @@ spell_identifier exact kind named d space spell_after (Unclosed quotes run) =
 spell_identifier exact kind named d space spell_after (Closed quotes run later afterwards) =
     spell_begun exact kind named space quotes run ++ (spell_silent (quote_mark quotes ∷ later) ++ spell_after later afterwards)
 
--- after the identifier of the system, and after the public one
+-- "After DOCTYPE system identifier state": what stands after the identifier of the system
 abbrev pub spell_after_system : Bool → DoctypeOf → List ℕ → List ℕ → List Spelled
 spell_after_system exact d space rest = spell_rest exact (state.AfterDoctypeIdentifier System) d rest
 
+-- "Between DOCTYPE public and system identifiers state": what stands after the public identifier
 abbrev pub spell_after_public : Bool → DoctypeOf → List ℕ → SystemIdentifier → List Spelled
 spell_after_public exact d space (Missing []) = spell_end [] d
 spell_after_public exact d space system =
     spell_identifier exact System (between_state space) d space (spell_after_system exact d) system
 
--- after a keyword
+-- "After DOCTYPE public keyword state" and "After DOCTYPE system keyword state": what stands after a keyword
 abbrev pub spell_wanted : {B : Type 0} → Bool → DoctypeIdKind → DoctypeOf → List ℕ → (List ℕ → B → List Spelled) → Identifier B → List Spelled
 spell_wanted exact kind d space spell_after identifier =
     spell_silent space
     ++ spell_identifier exact kind (keyword_state kind space) d space spell_after identifier
 
+-- "After DOCTYPE name state": what stands after the name and white space
 abbrev pub spell_after_name : Bool → DoctypeOf → RestAfterName → List Spelled
 spell_after_name exact d (NoKeyword rest) = spell_rest exact state.AfterDoctypeName d rest
 spell_after_name exact d (PublicKeyword keyword space identifier) =
@@ -265,23 +289,25 @@ spell_after_name exact d (PublicKeyword keyword space identifier) =
 spell_after_name exact d (SystemKeyword keyword space identifier) =
     spell_silent keyword ++ spell_wanted exact System d space (spell_after_system exact d) identifier
 
--- up to the name and the white space after it: a name directly after `doctype` is an error
+-- "DOCTYPE state" to "DOCTYPE name state": up to the name and the white space after it. A name directly after `doctype` is an
+-- error.
 abbrev pub spell_name : Bool → List ℕ → List ℕ → ℕ → List ℕ → List ℕ → List Spelled
 spell_name exact word space first rest later =
     spell_silent (opening word space)
     ++ (record { character = first; told = direct_error space (error_in exact state.Doctype first) ++ null_error exact state.BeforeDoctypeName first }
     ∷ spell (null_error exact state.DoctypeName) rest ++ spell_silent later)
 
--- the longest beginning of a rest that is a beginning of a keyword, and what follows it
+-- "After DOCTYPE name state": the longest beginning of a rest that is a beginning of a keyword
 abbrev pub held_of : List ℕ → List ℕ
 held_of rest = run_while begins_doctype_keyword [] rest
 
+-- what follows that
 abbrev pub after_held_of : List ℕ → List ℕ
 after_held_of rest = after_while begins_doctype_keyword [] rest
 
--- the messages after the name and white space, with `before` up to there. Where a rest begins as a keyword does, that is an
--- error on the line of its first character, which it names; it is told when the first character after what could begin a
--- keyword shows it, before what that character tells.
+-- "After DOCTYPE name state": the messages after the name and white space, with `before` up to there. Where a rest begins as a
+-- keyword does, that is an error on the line of its first character, which it names. It is sent when the first character after
+-- what could begin a keyword shows it, before what that character tells.
 unfoldable pub messages_after_name : Bool → Input → List ℕ → DoctypeOf → RestAfterName → List Message
 messages_after_name exact input before d (NoKeyword (c ∷ rest)) =
     if begins_doctype_keyword (c ∷ []) then
@@ -291,6 +317,7 @@ messages_after_name exact input before d (NoKeyword (c ∷ rest)) =
     else spelled_messages exact input before (spell_after_name exact d (NoKeyword (c ∷ rest)))
 messages_after_name exact input before d afterwards = spelled_messages exact input before (spell_after_name exact d afterwards)
 
+-- the messages of a doctype, without those of the end of input
 unfoldable pub messages_of : Bool → Input → List ℕ → List ℕ → Content → List Message
 messages_of exact input word space NoName =
     spelled_messages exact input []

@@ -1,4 +1,4 @@
--- One processing instruction as it is written, and what it tells.
+-- One processing instruction as it is written, and what it tells. The standard has a bogus comment in its place.
 use Rattle.std.specs.Prelude.{◌≡◌, ℕ, Bool, true, List, [], ◌∷◌, ◌++◌, flat_map, codes, if◌then◌else◌}
 use Rattle.std.specs.List.{list_all}
 use Rattle.html5ever_interface.specs.Sink.{Message, on_line}
@@ -17,6 +17,7 @@ use Rattle.html5grammar.specs.Tag.{null_error}
 
 -- ---- how an instruction is written
 
+-- an instruction as it is written
 pub record WrittenInstruction : Type 0 where
   -- what stands after `<?`
   pub content : List ℕ
@@ -25,13 +26,15 @@ pub record WrittenInstruction : Type 0 where
 
 -- ---- its text
 
+-- the `>`, if there is one
 abbrev pub end_text : Bool → List ℕ
 end_text is_ended = if is_ended then greater_than ∷ [] else []
 
+-- the text of an instruction
 unfoldable pub written : WrittenInstruction → List ℕ
 written instruction = codes "<?" ++ (instruction.content ++ end_text instruction.is_ended)
 
--- it is an instruction, written out, where no `>` stands in its content, since the first one ends it
+-- whether this is an instruction, written out. No `>` stands in its content, since the first one ends it.
 unfoldable pub is_written : WrittenInstruction → Bool
 is_written instruction = list_all in_instruction instruction.content
 
@@ -45,12 +48,13 @@ told_content content = Instruction (flat_map value_bytes content)
 abbrev pub spell_end : Bool → List ℕ → List Spelled
 spell_end is_ended content = if is_ended then record { character = greater_than; told = told_content content ∷ [] } ∷ [] else []
 
+-- the characters of an instruction
 abbrev pub spell_instruction : Bool → WrittenInstruction → List Spelled
 spell_instruction exact instruction =
     spell_silent (codes "<?")
     ++ (spell (null_error exact state.ProcessingInstruction) instruction.content ++ spell_end instruction.is_ended instruction.content)
 
--- the end of input tells one that has no `>`, and that is an error
+-- the end of input tells an instruction that has no `>`, and that is an error
 abbrev pub told_at_end : Bool → Bool → List ℕ → List Told
 told_at_end exact is_ended content =
     if is_ended then End ∷ [] else end_error_in exact state.ProcessingInstruction ∷ told_content content ∷ End ∷ []

@@ -19,6 +19,7 @@ use Rattle.markup5ever.specs.NamedReferences.{NamedReference, characters_of_name
 
 -- ---- how a reference is written
 
+-- "Character reference state": a reference as it is written
 pub data WrittenReference : Type 0 where
   -- an ampersand alone, which stands for itself
   Ampersand : WrittenReference
@@ -29,13 +30,16 @@ pub data WrittenReference : Type 0 where
 
 -- ---- its text
 
+-- "Numeric character reference state": the `x` or `X` of base 16
 abbrev pub x_text : Option ℕ → List ℕ
 x_text None = []
 x_text (Some x) = x ∷ []
 
+-- the semicolon, if there is one
 abbrev pub end_text : Bool → List ℕ
 end_text ends = if ends then semicolon ∷ [] else []
 
+-- the text of a reference
 unfoldable pub written : WrittenReference → List ℕ
 written Ampersand = ampersand ∷ []
 written (Number x digits ends) = (ampersand ∷ number_sign ∷ x_text x ++ digits) ++ end_text ends
@@ -43,16 +47,18 @@ written (Named entry) = ampersand ∷ entry.name
 
 -- ---- which references there are
 
+-- "Numeric character reference state": whether c can stand before digits of base 16
 abbrev pub is_base : Option ℕ → Bool
 is_base None = true
 is_base (Some x) = is_x x
 
--- whether d is a digit of base 10, or of base 16 after an `x`
+-- "Hexadecimal character reference state" and "Decimal character reference state": whether d is a digit of base 10, or of base 16
+-- after an `x`
 abbrev pub is_base_digit : Option ℕ → ℕ → Bool
 is_base_digit None d = is_ascii_digit d
 is_base_digit (Some x) d = is_ascii_hexdigit d
 
--- this is a reference, written out: a number has a digit, and the table has the name with these characters
+-- whether this is a reference, written out. A number has a digit, and the table has the name with these characters.
 abbrev pub IsWritten : List NamedReference → WrittenReference → Type 0
 IsWritten names Ampersand = Unit {0}
 IsWritten names (Number x digits ends) = is_base x && (not (nat_eq (length digits) 0) && list_all (is_base_digit x) digits) ≡ true
@@ -60,12 +66,13 @@ IsWritten names (Named entry) = characters_of_name names entry.name ≡ Some (en
 
 -- ---- what it tells
 
--- the number that the digits write, without a bound
+-- "Hexadecimal character reference state" and "Decimal character reference state": the number that the digits write, without a
+-- bound
 abbrev pub value_of : Option ℕ → List ℕ → ℕ
 value_of None digits = digits_value 10 digits
 value_of (Some x) digits = digits_value 16 digits
 
--- what is wrong with it
+-- "Numeric character reference end state" and "Named character reference state": what is wrong with it
 unfoldable pub reference_errors : Bool → WrittenReference → List Told
 reference_errors exact Ampersand = []
 reference_errors exact (Number x digits ends) =
@@ -73,7 +80,7 @@ reference_errors exact (Number x digits ends) =
     ++ where_true (is_invalid_number (value_of x digits)) (Error (invalid_number exact (value_of x digits)))
 reference_errors exact (Named entry) = where_true (not (is_ended entry.name)) (Error (codes "Character reference does not end with semicolon"))
 
--- the characters that it stands for
+-- "Numeric character reference end state" and "Named character reference state": the characters that it stands for
 unfoldable pub reference_characters : WrittenReference → List ℕ
 reference_characters Ampersand = ampersand ∷ []
 reference_characters (Number x digits ends) = character_of_number (value_of x digits) ∷ []
@@ -84,7 +91,7 @@ unfoldable pub reference_tokens : Bool → WrittenReference → List Told
 reference_tokens exact reference =
     (reference_errors exact reference ++ map (λ c. Text (encode_utf8 c)) (reference_characters reference)) ++ End ∷ []
 
--- the messages that a collector keeps of it: its characters are one text
+-- the messages that a collector keeps of it. Its characters are one text.
 unfoldable pub reference_messages : Bool → Input → WrittenReference → List Message
 reference_messages exact input reference =
     let line : ℕ = line_after input (written reference) in

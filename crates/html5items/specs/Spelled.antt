@@ -1,4 +1,4 @@
--- What is spelled: characters, each with what is told there.
+-- What is spelled: characters, each with what is sent there.
 use Rattle.std.specs.Prelude.{ℕ, Bool, List, [], ◌∷◌, ◌++◌, map}
 use Rattle.html5ever_interface.specs.Sink.{Message, on_line}
 use Rattle.html5ever_interface.specs.Token.{Told}
@@ -7,14 +7,16 @@ use Rattle.html5grammar.specs.NormalisedText.{line_after}
 use Rattle.html5grammar.specs.Start.{Input}
 use Rattle.html5grammar.specs.Slice.{silent}
 
--- a character with what is told there, besides a bad character
+-- a character with what is sent there, besides a bad character
 pub record Spelled : Type 0 where
   pub character : ℕ
   pub told : List Told
 
+-- characters, each of which tells its own
 abbrev pub spell : (ℕ → List Told) → List ℕ → List Spelled
 spell tells run = map (λ c. record { character = c; told = tells c }) run
 
+-- characters that tell nothing
 abbrev pub spell_silent : List ℕ → List Spelled
 spell_silent run = spell silent run
 

@@ -1,5 +1,5 @@
-//! Items of a text as they are written, wherever they stand: what each tells by itself, after any
-//! text that leads to where it is read, and before any text.
+//! Items of a text as they are written, wherever they stand. Here stands what each tells by itself,
+//! after any text that leads to where it is read, and before any text.
 #![tactic(auto)]
 
 ghost use Rattle.std.specs.Prelude.{◌≡◌, ℕ, true, false, List, [], ◌∷◌, Option, None, Some};
@@ -33,7 +33,7 @@ use html5ever_interface::interface::sink::TokenSink;
 use html5ever_interface::interface::token::Token;
 use std::alloc::Allocator;
 
-/// A tag, with references in its values. What is open after it is by the sink's reply to it.
+/// A tag, with references in its values. The sink's reply to it says what is open after it.
 pub fn tag<S: TokenSink<Token<A>>, A: Allocator>()
     ensures { (rules : Rules) (K : Start) (s : S.State) (Y : List ℕ) (tag : WrittenTag) → IsTable rules.names
         → IsTag K Y tag
@@ -42,7 +42,7 @@ pub fn tag<S: TokenSink<Token<A>>, A: Allocator>()
 {}
 
 /// A character reference, in each mode that has references, before a text whose first character decides
-/// it and is no part of it; a number with its semicolon is decided before any text. `whole` is for each
+/// it and is no part of it. A number with its semicolon is decided before any text. `whole` is for each
 /// reference that the text after it decides: it tells what it comes to by that text.
 pub fn reference<S: TokenSink<Token<A>>, A: Allocator>()
     ensures number { (rules : Rules) (K : Start) (s : S.State) (Y : List ℕ) (x : Option ℕ) (digits : List ℕ)
@@ -62,8 +62,8 @@ pub fn reference<S: TokenSink<Token<A>>, A: Allocator>()
         (start_beyond K Y (Between mode) K.last_start_tag) }
 {}
 
-/// Raw text up to its end tag, or without one: then letters and marks at its end may be told only
-/// after it.
+/// Raw text up to its end tag, or without one. Without it, letters and marks at the text's end may be
+/// sent only after it.
 pub fn raw<S: TokenSink<Token<A>>, A: Allocator>()
     ensures ended { (rules : Rules) (K : Start) (s : S.State) (Y : List ℕ) (raw : Raw) (name : List ℕ)
         (written_as : WrittenRaw) (tag : WrittenTag)
@@ -86,7 +86,7 @@ pub fn comment<S: TokenSink<Token<A>>, A: Allocator>()
         (start_beyond K Y (Between Data) K.last_start_tag) }
 {}
 
-/// A processing instruction, also one without its `>`: then it is open after it, and is not told yet.
+/// A processing instruction, also one without its `>`. That one is still open, and is not sent yet.
 pub fn instruction<S: TokenSink<Token<A>>, A: Allocator>()
     ensures { (rules : Rules) (K : Start) (s : S.State) (Y : List ℕ) (instruction : WrittenInstruction)
         → IsInstruction K Y instruction
@@ -102,8 +102,8 @@ pub fn doctype<S: TokenSink<Token<A>>, A: Allocator>()
         (start_beyond K Y (Between Data) K.last_start_tag) }
 {}
 
-/// A CDATA section, also one that is open already or doesn't end: then what is open after it is the
-/// section with its last piece, of which nothing is told yet.
+/// A CDATA section, also one that is open already or doesn't end. One that doesn't end is open after
+/// it, with its last piece, of which nothing is sent yet.
 pub fn cdata<S: TokenSink<Token<A>>, A: Allocator>()
     ensures { (rules : Rules) (K : Start) (s : S.State) (Y : List ℕ) (cdata : WrittenCdata) → IsCdata K
         (S.means.foreign s) Y cdata

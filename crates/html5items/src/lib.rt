@@ -41,8 +41,8 @@ pub fn each_text<S: TokenSink<Token<A>>, A: Allocator>()
         → Composed S.means rules K s text }
 {}
 
-/// Each text of `<!`, `doctype` in any case, characters other than `>`, and `>` is one doctype, written
-/// out. So what is said of one doctype is said of all.
+/// Take `<!`, `doctype` in any case, characters other than `>`, and `>`. Each such text is one doctype,
+/// written out. So what is said of one doctype is said of all.
 pub fn each_doctype()
     ensures { (word text : List ℕ) → bytes_eq (lower_case word) (codes "doctype") ≡ true
         → list_all in_skipped_rest text ≡ true → IsDoctypeText word text }

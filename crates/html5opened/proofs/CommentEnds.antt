@@ -26,6 +26,7 @@ ends_in_dash-none text c other =
     ap (λ l. ends_in l (codes "-")) (ap (λ l. text ++ l) last.parts ∙ sym (append_assoc text last.front (last.last ∷ [])))
     ∙ ends_in-other (text ++ last.front) [] last.last hyphen (last_byte-other c hyphen (value_bytes c) last (omega arith) other)
 
+-- a text that ends in no dash ends in no mark
 pub ends_in_mark-none : (text : List ℕ) → ends_in text (codes "-") ≡ false → ends_in_mark text ≡ false
 unfolding ends_in_mark
 ends_in_mark-none text none =

@@ -7,6 +7,7 @@ use Rattle.html5grammar.specs.Start.Open.{InComment}
 use Rattle.html5opened.specs.CurrentTag.{open_of, is_comment_state}
 use Rattle.html5opened.specs.declared.opened.Opened.{Opened}
 
+-- in each state of a comment a comment is open, with its text
 pub open-comment : {Z : Type 0} → (s : State) (at : Opened Z) → is_comment_state s ≡ true → open_of s at ≡ InComment (string_bytes at.comment)
 open-comment state.Comment at h = refl
 open-comment state.CommentStart at h = refl

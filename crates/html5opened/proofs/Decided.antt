@@ -23,6 +23,7 @@ pub record IsDecided (opened : Open) : Type 0 where
   pub no_keyword : is_keyword_open opened ≡ false
   pub nothing_held : held_len opened ≡ 0
 
+-- where nothing is undecided, neither a reference nor a keyword is open, and nothing is held
 pub is_decided : (opened : Open) → is_undecided_open opened ≡ false → IsDecided opened
 is_decided (Between mode) h = record { no_reference = refl; no_keyword = refl; nothing_held = refl }
 is_decided LessThan h = record { no_reference = refl; no_keyword = refl; nothing_held = refl }

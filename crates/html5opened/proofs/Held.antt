@@ -84,6 +84,7 @@ no_number-push (d ∷ held) c other wrong = other
 
 -- ---- a character that no name has
 
+-- a character that no name has decides a reference
 pub undecided-odd : (names : List NamedReference) (held : List ℕ) (c : ℕ) → IsTable names → first_or held None ≢ Some number_sign → ((length held == 0) && (c == number_sign)) ≡ false
     → (is_ascii_alphanumeric c || (c == semicolon)) ≡ false → is_undecided names (held ++ c ∷ []) ≡ false
 unfolding is_undecided is_name_character

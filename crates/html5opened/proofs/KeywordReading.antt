@@ -18,6 +18,7 @@ use Rattle.html5opened.proofs.Decided.{is_decided, keyword-out, with_reference-f
 
 -- ---- after `<!`
 
+-- a character that is held after `<!` belongs to a keyword
 pub declaration-goes_on : (foreign : Bool) (held : List ℕ) (c : ℕ) (later : Open)
     → ((exact : Bool) → declaration_step exact foreign held c ≡ record { settled = []; here = Tells [] later })
     → GoesOn foreign (InDeclaration held) c later
@@ -30,6 +31,7 @@ declaration-goes_on foreign held c later step = record {
   };
 }
 
+-- a character after `<!` that belongs to no keyword ends what is held
 pub declaration-ends : (foreign : Bool) (held : List ℕ) (c : ℕ)
     → ((exact : Bool) → declaration_step exact foreign held c ≡ record { settled = declaration_error exact held; here = bogus_comment_step exact held [] c })
     → EndsKeyword foreign (InDeclaration held) c
@@ -44,6 +46,7 @@ declaration-ends foreign held c step = record {
 
 -- ---- after the name of a doctype
 
+-- a character that is held after a doctype's name belongs to a keyword
 pub doctype_keyword-goes_on : (foreign : Bool) (held : List ℕ) (d : DoctypeOf) (c : ℕ) (later : Open) → held ≢ []
     → ((exact : Bool) → doctype_keyword_step exact held d c ≡ record { settled = []; here = Tells [] later })
     → GoesOn foreign (InDoctypeKeyword held d) c later
@@ -57,6 +60,7 @@ doctype_keyword-goes_on foreign (first ∷ held) d c later holds step = record {
   };
 }
 
+-- a character after a doctype's name that belongs to no keyword ends what is held
 pub doctype_keyword-ends : (foreign : Bool) (held : List ℕ) (d : DoctypeOf) (c : ℕ)
     → ((exact : Bool) → doctype_keyword_step exact held d c ≡ record { settled = keyword_error exact held; here = skipped_step exact [] (with_quirks d) c })
     → EndsKeyword foreign (InDoctypeKeyword held d) c
@@ -71,6 +75,7 @@ doctype_keyword-ends foreign held d c step = record {
 
 -- ---- where the sink is not asked
 
+-- where the sink is not asked, its answer changes nothing
 brought-asked : (rules : Rules) (foreign : Bool) (opened : Open) (c : ℕ) → brought_at rules (asks opened c && foreign) opened c ≡ brought_at rules foreign opened c
 unfolding brought_at
 brought-asked rules foreign (InDeclaration held) c =

@@ -97,6 +97,7 @@ lower-apart c (inr above) = rw (le-ltb c 65 (omega (arith, above)), le-ltb c 91 
 lower-append : (held : List ℕ) (c : ℕ) → IsOutside c → lower_case (held ++ c ∷ []) ≡ lower_case held ++ c ∷ []
 lower-append held c out = map-append to_ascii_lowercase held (c ∷ []) ∙ ap (λ d. lower_case held ++ d ∷ []) (lower-apart c out)
 
+-- a character outside of all keywords belongs to none after `<!`
 no_keyword : (exact foreign : Bool) (held : List ℕ) (c : ℕ) → IsOutside c
     → declaration_step exact foreign held c ≡ record { settled = declaration_error exact held; here = bogus_comment_step exact held [] c }
 unfolding declaration_step declaration_answer_step begins_keyword begins_cdata
@@ -159,6 +160,7 @@ keyword-good exact foreign held c later step =
 
 -- ---- the keywords of doctypes
 
+-- a character outside of all keywords belongs to none after a doctype's name
 no_doctype_keyword : (exact : Bool) (held : List ℕ) (d : DoctypeOf) (c : ℕ) → IsOutside c
     → doctype_keyword_step exact held d c ≡ record { settled = keyword_error exact held; here = skipped_step exact [] (with_quirks d) c }
 unfolding doctype_keyword_step begins_doctype_keyword

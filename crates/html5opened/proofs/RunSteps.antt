@@ -34,6 +34,7 @@ value_bytes-run (c ∷ run) all =
     rw (ne_eqb c null (All-head (λ c. c ≢ null) c run all))
     (ap (λ l. encode_utf8 c ++ l) (value_bytes-run run (All-tail (λ c. c ≢ null) c run all)))
 
+-- an empty run leaves open what is open
 pub opened_after_run-nil : (opened : Open) → opened_after_run opened [] ≡ opened
 opened_after_run-nil (Between mode) = refl
 opened_after_run-nil LessThan = refl
@@ -56,6 +57,7 @@ opened_after_run-nil (InDoctypeKeyword held doctype) = refl
 opened_after_run-nil (InCdata text) = ap InCdata (append-nil text)
 opened_after_run-nil (InReference stand held) = refl
 
+-- a run leaves open what its characters leave open one after another
 pub opened_after_run-cons : (opened : Open) (c : ℕ) (run : List ℕ)
     → opened_after_run opened (c ∷ run) ≡ opened_after_run (opened_after_run opened (c ∷ [])) run
 opened_after_run-cons (Between mode) c run = refl

@@ -65,6 +65,7 @@ pub record Bracketed (text : List ℕ) : Type 0 where
   pub boundary : IsCharBoundary text (length text - 2)
   pub content : chars (take (length text - 2) text) ≡ without_last 2 (chars text)
 
+-- a text that ends in two brackets is a text and these
 pub bracketed : (text : List ℕ) → IsUtf8 text → ends_cdata (chars text) ≡ true → Bracketed text
 unfolding encode
 bracketed text utf8 h =

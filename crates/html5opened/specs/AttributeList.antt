@@ -1,4 +1,4 @@
--- The names of a tag's attributes, as a set.
+-- "Attribute name state": the names of a tag's attributes, as a set.
 use Rattle.std.specs.Prelude.{◌≡◌, ℕ, Bool, true, List, ◌||◌, String}
 use Rattle.std.specs.BTreeSet.{BTreeSet, contains_text}
 use Rattle.std.specs.Str.{bytes_eq}

@@ -1,4 +1,4 @@
--- What a tokenizer keeps of what is open, as the grammar speaks of it.
+-- What a tokenizer keeps of what is open, in the words of the grammar.
 use Rattle.std.specs.Prelude.{ℕ, Bool, true, false, List, [], ◌∷◌, string_bytes}
 use Rattle.std.specs.Str.{chars}
 use Rattle.html5ever_interface.specs.Token.{DoctypeOf, doctype_of}
@@ -17,6 +17,7 @@ use Rattle.html5grammar.specs.Start.Quotes.{DoubleQuotes, SingleQuotes}
 use Rattle.html5opened.specs.declared.current_tag.CurrentTag.{CurrentTag}
 use Rattle.html5opened.specs.declared.opened.Opened.{Opened}
 
+-- the tag that was begun
 abbrev pub open_tag : {Z : Type 0} → CurrentTag Z → OpenTag
 open_tag tag = record {
   kind = tag.kind;
@@ -27,7 +28,7 @@ open_tag tag = record {
   last_value = string_bytes tag.attr_value;
 }
 
--- after the name and white space, with what may begin a keyword
+-- "After DOCTYPE name state": what is open after the name and white space, with what may begin a keyword
 abbrev pub after_doctype_name : List ℕ → DoctypeOf → Open
 after_doctype_name [] doctype = InDoctype AfterName doctype
 after_doctype_name (c ∷ held) doctype = InDoctypeKeyword (c ∷ held) doctype
@@ -36,12 +37,12 @@ after_doctype_name (c ∷ held) doctype = InDoctypeKeyword (c ∷ held) doctype
 abbrev pub last_name_of : {Z : Type 0} → Opened Z → List ℕ
 last_name_of at = string_bytes at.last_start_tag
 
--- the letters that raw text holds
+-- the standard's temporary buffer: the letters that raw text holds
 abbrev pub letters_of : {Z : Type 0} → Opened Z → List ℕ
 letters_of at = chars (string_bytes at.letters)
 
--- what is open in a state, with what is kept of what was begun. In a comment its text says which of the standard's states it is,
--- so the other states of comments, and of CDATA sections, are never set: each stands for a comment, too.
+-- what is open in each state, with what is kept of what was begun. In a comment its text says which of the standard's states it
+-- is. So the other states of comments, and of CDATA sections, are never set: each stands for a comment, too.
 abbrev pub open_of : {Z : Type 0} → State → Opened Z → Open
 open_of state.Data at = Between Data
 open_of state.Plaintext at = Between Plain
@@ -82,6 +83,7 @@ open_of state.BogusDoctype at = InDoctype Skipped (doctype_of at.doctype)
 open_of state.CdataSection at = open_cdata (chars (string_bytes at.comment))
 open_of other at = InComment (string_bytes at.comment)
 
+-- what is open in the state that was reached
 abbrev pub opened_of : {Z : Type 0} → Opened Z → Open
 opened_of at = open_of at.state at
 
@@ -95,7 +97,7 @@ is_between (state.ScriptDataEscapedDashDash kind) held = true
 is_between state.CdataSection [] = true
 is_between other held = false
 
--- whether a DOCTYPE is open in the state
+-- "DOCTYPE state" to "Bogus DOCTYPE state": whether a DOCTYPE is open in the state
 abbrev pub is_doctype_state : State → Bool
 is_doctype_state state.Doctype = true
 is_doctype_state state.BeforeDoctypeName = true
@@ -110,7 +112,7 @@ is_doctype_state state.BetweenDoctypePublicAndSystemIdentifiers = true
 is_doctype_state state.BogusDoctype = true
 is_doctype_state other = false
 
--- whether a comment is open in the state
+-- "Comment start state" to "Comment end bang state": whether a comment is open in the state
 abbrev pub is_comment_state : State → Bool
 is_comment_state state.Comment = true
 is_comment_state state.CommentStart = true

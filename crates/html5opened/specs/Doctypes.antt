@@ -1,4 +1,4 @@
--- Parts of a DOCTYPE, as the grammar speaks of them.
+-- Parts of a DOCTYPE, in the words of the grammar.
 use Rattle.std.specs.Prelude.{ℕ, List, [], Option, None, Some, if◌then◌else◌}
 use Rattle.html5ever_interface.specs.declared.states.DoctypeIdKind.{DoctypeIdKind}
 use Rattle.html5ever_interface.specs.declared.states.DoctypeIdKind.TheVariants.{Public, System}
@@ -13,10 +13,11 @@ abbrev pub begun_text : Option (List ℕ) → List ℕ
 begun_text None = []
 begun_text (Some text) = text
 
+-- the kind of quotes
 abbrev pub quotes_of : RustQuotes → Quotes
 quotes_of Double = DoubleQuotes
 quotes_of Single = SingleQuotes
 
--- the keyword, where the text is one, in any case
+-- "After DOCTYPE name state": the keyword, where the text is one, in any case
 abbrev pub keyword_in : List ℕ → Option DoctypeIdKind
 keyword_in held = if is_keyword Public held then Some Public else if is_keyword System held then Some System else None

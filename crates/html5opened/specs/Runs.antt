@@ -1,4 +1,4 @@
--- Runs: characters that are read at once, since each of them tells itself alone or is put to the open name or value.
+-- Runs: characters that are read at once. Each of them tells itself alone, or is put to the open name or value.
 use Rattle.std.specs.Prelude.{◌≡◌, ◌≢◌, ℕ, Bool, not, ◌==◌, ◌&&◌, ◌||◌, nat_lt, List, [], ◌∷◌, ◌++◌, All, Contains, Option, None, Some, codes, flat_map, map, encode_utf8, if◌then◌else◌}
 use Rattle.html5ever_interface.specs.Token.{Told}
 use Rattle.html5ever_interface.specs.Token.Told.{Text}
@@ -15,13 +15,13 @@ use Rattle.html5grammar.specs.Comment.{ends_in}
 use Rattle.html5grammar.specs.Reference.{with_value}
 use Rattle.html5grammar.specs.Tag.{with_name, with_last_name}
 
--- the characters that end a run in a value, beside NUL and CR
+-- "Attribute value (double-quoted) state" and the two others: the characters that end a run in a value, besides NUL and CR
 abbrev pub other_value_ends : AttrValueKind → List ℕ
 other_value_ends DoubleQuoted = line_feed ∷ quotation_mark ∷ ampersand ∷ []
 other_value_ends SingleQuoted = line_feed ∷ apostrophe ∷ ampersand ∷ []
 other_value_ends Unquoted = line_feed ∷ tab ∷ form_feed ∷ space ∷ ampersand ∷ greater_than ∷ []
 
--- where runs are read, the characters that end one, beside NUL and CR: a run of text between tags goes on over LF
+-- where runs are read, the characters that end one, besides NUL and CR. A run of text between tags goes on over LF.
 abbrev pub other_run_ends : Open → Option (List ℕ)
 other_run_ends (Between Data) = Some (less_than ∷ ampersand ∷ [])
 other_run_ends (Between Plain) = Some []
@@ -51,7 +51,8 @@ pub record IsRunAt (opened : Open) (run : List ℕ) : Type 0 where
   pub filled : run ≢ []
   pub ordinary : All (λ c. ¬ Contains (run_ends others) c) run
 
--- whether a byte of a run stands in a name as it is: it is no capital letter and not NUL
+-- "Tag name state" and "Attribute name state": whether a byte of a run stands in a name as it is. It is no capital letter and not
+-- NUL.
 abbrev pub stays_in_names : ℕ → Bool
 stays_in_names byte = not (byte == null) && (nat_lt byte 65 || not (nat_lt byte 91))
 

@@ -1,4 +1,4 @@
--- What reading one character tells, and what is after it.
+-- What reading one character tells, and what is open after it.
 use Rattle.std.specs.Prelude.{◌≡◌, List, Result, Ok, Err}
 use Rattle.html5ever_interface.specs.Token.{Told, TagOf}
 use Rattle.html5grammar.specs.Reading.{Here}
@@ -15,7 +15,7 @@ use Rattle.html5opened.specs.declared.opened.Progress.TheVariants.{Continues, Be
 use Rattle.html5opened.specs.declared.error.TokenizerError.{TokenizerError}
 use Rattle.html5opened.specs.declared.error.TokenizerError.TheVariants.{Memory, Sink, Failed}
 
--- the tokens that are told at a character, before the tag that it ends
+-- the tokens that are sent at a character, before the tag that it ends
 unfoldable pub tokens_of : Here Open → List Told
 tokens_of (Tells told later) = told
 tokens_of (TellsTag told tag) = told
@@ -25,11 +25,12 @@ pub data Next : Type 0 where
   Opens : Open → Next
   Closes : TagOf → Open → Next
 
+-- what is after a character
 unfoldable pub afterwards : Here Open → Next
 afterwards (Tells told later) = Opens later
 afterwards (TellsTag told tag) = Closes tag (Between Data)
 
--- where a call that reads a character leads
+-- a call that reads a character leads there
 abbrev pub Leads : {T : Type 0} → Result T TokenizerError → Open → Open → Type 0
 Leads (Ok x) now later = now ≡ later
 Leads (Err Memory) now later = Unit {0}
@@ -42,12 +43,12 @@ next_of Continues at = Opens (opened_of at)
 next_of BeginsReference at = Opens (begun_reference (opened_of at))
 next_of (EndsTag self_closing) at = Closes (told_tag (open_tag at.tag) self_closing) (opened_of at)
 
--- a reference begins only where one can stand
+-- "Character reference state": a reference begins only where one can stand
 abbrev pub BeginsWhereItCan : Progress → Open → Type 0
 BeginsWhereItCan BeginsReference opened = HasStand opened
 BeginsWhereItCan progress opened = Unit {0}
 
--- where a call leads that may end a tag
+-- a call that may end a tag leads there
 abbrev pub Ends : {Z : Type 0} → Result Progress TokenizerError → Opened Z → Next → Type 0
 Ends (Ok progress) at next = (next_of progress at ≡ next) × BeginsWhereItCan progress (opened_of at)
 Ends (Err Memory) at next = Unit {0}

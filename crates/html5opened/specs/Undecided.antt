@@ -1,4 +1,5 @@
--- What a character makes of a reference that is not decided, or of what may begin a keyword.
+-- "Character reference state", "Markup declaration open state" and "After DOCTYPE name state": what a character makes of a
+-- reference, or of a keyword, that is not decided.
 use Rattle.std.specs.Prelude.{◌≡◌, ℕ, Bool, true, false, List, [], ◌∷◌, ◌++◌, ◌==◌, length, not}
 use Rattle.html5ever_interface.specs.declared.states.State.{State}
 use Rattle.html5ever_interface.specs.declared.states.State.TheVariants as state
@@ -10,44 +11,45 @@ use Rattle.html5grammar.specs.Reading.Here.{Tells}
 use Rattle.html5grammar.specs.Start.{Open, Rules, is_undecided_open}
 use Rattle.html5grammar.specs.Start.Open.{InDeclaration, InDoctypeKeyword, InReference}
 
--- a reference is not decided
+-- "Character reference state": whether a reference is not decided
 abbrev pub is_reference : Open → Bool
 is_reference (InReference stand held) = true
 is_reference other = false
 
--- what stands after `<!` is not decided, or characters that may begin a keyword of a doctype
+-- "Markup declaration open state" and "After DOCTYPE name state": whether a keyword is not decided
 abbrev pub is_keyword_open : Open → Bool
 is_keyword_open (InDeclaration held) = true
 is_keyword_open (InDoctypeKeyword held doctype) = true
 is_keyword_open other = false
 
--- whether the sink is asked at a character: it belongs to the keyword of a CDATA section
+-- "Markup declaration open state": whether the sink is asked at a character. It is where that belongs to the keyword of a CDATA
+-- section.
 abbrev pub asks : Open → ℕ → Bool
 asks (InDeclaration held) c = begins_cdata (held ++ c ∷ [])
 asks other c = false
 
--- the same of a state and of what is held
+-- whether a keyword is not decided, by the state and what is held
 abbrev pub holds_keyword_in : State → List ℕ → Bool
 holds_keyword_in state.MarkupDeclarationOpen held = true
 holds_keyword_in state.AfterDoctypeName held = not (length held == 0)
 holds_keyword_in other held = false
 
--- it is held, or the last character of what is decided
+-- the character is held, or it is the last one of what is decided
 pub record BelongsTo (rules : Rules) (foreign : Bool) (opened : Open) (c : ℕ) (later : Open) : Type 0 where
   pub here : (brought_at rules foreign opened c).here ≡ Tells [] later
   pub good : is_bad_character c ≡ false
 
--- it decides, and is then read as what is open after that says
+-- the character decides, and is then read as what is open after that says
 pub record Decides (rules : Rules) (foreign : Bool) (opened : Open) (c : ℕ) (later : Open) : Type 0 where
   pub here : (brought_at rules foreign opened c).here ≡ step_at rules.exact later c
   pub decided : is_undecided_open later ≡ false
 
--- it belongs to a keyword, and settles nothing
+-- the character belongs to a keyword, and settles nothing
 pub record GoesOn (foreign : Bool) (opened : Open) (c : ℕ) (later : Open) : Type 0 where
   pub settled : (rules : Rules) → (brought_at rules foreign opened c).settled ≡ []
   pub belongs : (rules : Rules) → BelongsTo rules foreign opened c later
 
--- no keyword goes on with it, and so what the end would settle is settled
+-- no keyword goes on with the character, and so what the end would settle is settled
 pub record EndsKeyword (foreign : Bool) (opened : Open) (c : ℕ) : Type 0 where
   pub settled : (rules : Rules) → (brought_at rules foreign opened c).settled ≡ late_at_end_of rules opened
   pub decides : (rules : Rules) → Decides rules foreign opened c (open_at_end_of rules opened)

@@ -12,7 +12,7 @@ use std::collections::BTreeSet;
 use std::marker::Model;
 use std::mem;
 
-/// Beyond so many attributes a name is looked up in the set of names, and not attribute by attribute.
+/// From more attributes than this on, a name is looked up in the set of names.
 const FEW: usize = 16;
 
 /// The attributes of a tag, in order. None has a prefix or a namespace.

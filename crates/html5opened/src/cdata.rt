@@ -20,7 +20,7 @@ pub fn ends_section(text: &str) -> bool
     ends_in(text, b"]]")
 }
 
-/// The length of the text that is told at the section's end: without the two brackets.
+/// The length of the text that is sent at the section's end, without the two brackets.
 pub fn section_len(text: &str) -> usize
     requires { ends_cdata (chars text.now) ≡ true }
     ensures content { chars (take result text.now) ≡ without_last 2 (chars text.now) }
@@ -29,7 +29,7 @@ pub fn section_len(text: &str) -> usize
     text.len() - 2
 }
 
-/// Puts a character to the text that is held of a section.
+/// Appends a character to the text that is held of a section.
 pub fn push_text<A: Allocator>(at: &mut Opened<A>, c: char) -> Result<(), AllocError>
     requires { at.old.state ≡ State.CdataSection }
     ensures text { OnOk result (opened_of at.new ≡ InCdata (chars (string_bytes at.old.comment) ++ c ∷ [])) }

@@ -33,7 +33,7 @@ impl<A: Allocator> Model for CharRef<A> {
     ghost invariant = { λ r. IsHeld (string_bytes r.held) r.is_alphanumeric };
 }
 
-/// What a reference comes to, beside its errors: how many bytes after the `&` it takes, with the
+/// What a reference comes to, besides its errors: how many bytes after the `&` it takes, with the
 /// semicolon of a number, and its one or two characters.
 #[derive(Clone, Copy, Debug, PartialEq, Eq)]
 pub struct Found {
@@ -85,7 +85,7 @@ impl<A: Allocator> CharRef<A> {
         self.held.strip_prefix('#')
     }
 
-    /// Holds the character too, where that leaves the reference undecided, and answers whether it does.
+    /// Holds the character, too, where that leaves the reference undecided. Answers whether it does.
     pub fn hold(&mut self, names: &NamedReferences<A>, c: char) -> Result<bool, AllocError>
         ensures undecided { IfOk result (λ undecided. undecided ≡ is_undecided names.now (self.old ++ c ∷ [])) }
         ensures held { IfOk result (λ undecided. self.new ≡ (if undecided then self.old ++ c ∷ [] else self.old)) }
@@ -216,7 +216,7 @@ fn digits_of(number: &str) -> &str
     }
 }
 
-/// Whether digits stand after a number's `#`, and an `x` where there is one.
+/// Whether digits stand after a number's `#`, and after its `x` if it has one.
 #[tactic(auto, unfolding(html5grammar::specs::Reference::has_digits))]
 pub fn has_digits(number: &str) -> bool
     ensures { result ≡ has_digits number.now }
@@ -227,8 +227,8 @@ pub fn has_digits(number: &str) -> bool
 // Numbers from here on have no character.
 const NUMBER_LIMIT: u32 = 0x11_0000;
 
-/// The value of a number: itself below 0x110000, from where numbers have no character, and else that;
-/// and its last 32 bits.
+/// The value of a number. From 0x110000 on no number has a character, so larger ones count as that.
+/// The last 32 bits of the number are kept beside it.
 #[derive(Clone, Copy)]
 pub struct Number {
     pub value: u32,
@@ -283,8 +283,8 @@ impl Number {
     }
 }
 
-/// The longest name of the table with which the text begins: most texts are a name, and found by one
-/// search.
+/// The longest name of the table with which the text begins. Most texts are a name, which one search
+/// finds.
 pub fn longest_name<A: Allocator>(names: &NamedReferences<A>, text: &str) -> Option<Named>
     requires { IsAscii text.now }
     ensures { IsNamed text.now result (longest_name names.now text.now) }

@@ -1,5 +1,5 @@
-//! What the text of a comment says of the next character. The standard's ten comment states are told
-//! by the end of that text.
+//! What the text of a comment says of the next character. Its end says which of the standard's ten
+//! comment states is open.
 #![tactic(auto, unfolding(html5grammar::specs::Comment::comment_state, html5grammar::specs::Comment::ends_in_mark, html5grammar::specs::Comment::ends_comment, html5grammar::specs::Comment::comment_content))]
 
 ghost use Rattle.std.specs.Prelude.{◌≡◌, ◌==◌, ◌&&◌, not, take};
@@ -60,7 +60,7 @@ pub fn ends_comment(text: &str) -> bool
     text.is_empty() || text == "-" || ends_in(text, b"--") || ends_in(text, b"--!")
 }
 
-/// The length of the comment that is told: without the dashes that belong to its end.
+/// The length of the comment that is sent: without the dashes that belong to its end.
 pub fn content_len(text: &str) -> usize
     ensures content { take result text.now ≡ comment_content text.now }
     ensures boundary { IsCharBoundary text.now result }

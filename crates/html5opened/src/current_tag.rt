@@ -41,8 +41,8 @@ impl<A: Allocator + Copy> CurrentTag<A> {
         }
     }
 
-    /// Ends the tag after its last attribute, and answers it. What it leaves says nothing until the
-    /// next tag begins.
+    /// Ends the tag after its last attribute, and answers the tag. What stays here says nothing until
+    /// the next tag begins.
     pub fn end(&mut self, alloc: A, self_closing: bool) -> Tag<A>
         ensures { tag_of result ≡ told_tag (open_tag self.old) self_closing }
     {
@@ -55,8 +55,8 @@ impl<A: Allocator + Copy> CurrentTag<A> {
         }
     }
 
-    /// Ends the last attribute, where there is one, unless its name stands in the tag already: then
-    /// nothing changes. Answers whether it ended.
+    /// Ends the last attribute, if there is one. Where the tag already has its name, nothing changes.
+    /// Answers whether it ended.
     pub fn keep_attribute(&mut self, alloc: A) -> Result<bool, AllocError>
         ensures kept { IfOk result (λ kept. kept
             ≡ not (has_last (open_tag self.old) && repeats_attribute (open_tag self.old))) }
@@ -76,8 +76,8 @@ impl<A: Allocator + Copy> CurrentTag<A> {
         Ok(true)
     }
 
-    /// Ends the last attribute, where there is one: it is dropped where its name stands in the tag
-    /// already. Answers whether that is so.
+    /// Ends the last attribute, if there is one. It is dropped where the tag already has its name.
+    /// Answers whether it was dropped.
     pub fn end_attribute(&mut self, alloc: A) -> Result<bool, AllocError>
         ensures repeated { IfOk result (λ repeated. repeated
             ≡ (has_last (open_tag self.old) && repeats_attribute (open_tag self.old))) }

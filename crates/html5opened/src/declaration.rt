@@ -1,5 +1,5 @@
-//! What stands after `<!`: the keyword of a comment, of a doctype or, in foreign content, of a CDATA
-//! section, or else a bogus comment.
+//! The standard's "Markup declaration open state": what stands after `<!`. That is the keyword of a
+//! comment, of a doctype or, in foreign content, of a CDATA section. Else it is a bogus comment.
 #![tactic(auto, unfolding(html5grammar::specs::Machine::declaration_step, html5grammar::specs::Machine::declaration_answer_step, html5grammar::specs::Comment::begins_keyword, html5grammar::specs::Comment::begins_cdata))]
 
 ghost use Rattle.std.specs.Prelude.{◌≡◌, Bool, [], ◌∷◌, ◌++◌, codes, nat_eq, ◌≤◌, ◌+◌, OnOk, Ok, true, false, if◌then◌else◌, string_bytes};
@@ -40,8 +40,8 @@ fn begins_cdata(held: &[u8]) -> bool
     b"[CDATA[".starts_with(held)
 }
 
-/// Whether a character after `<!` belongs to the keyword of a CDATA section, which is one only in
-/// foreign content: what the character brings depends on the sink.
+/// Whether a character after `<!` belongs to the keyword of a CDATA section. It is one only in foreign
+/// content, so the sink decides what the character brings.
 pub fn depends_on_sink<A: Allocator>(at: &Opened<A>, c: char) -> bool
     ensures { result ≡ begins_cdata (string_bytes at.now.comment ++ c ∷ []) }
 {
@@ -67,8 +67,8 @@ fn open_cdata<A: Allocator>(at: &mut Opened<A>)
 }
 
 /// Holds a character after `<!`, and answers whether it belongs to a keyword. A whole keyword begins
-/// what it stands for; that of a CDATA section is one where the content is foreign. A character by
-/// which no keyword begins is still to be read.
+/// what it stands for. That of a CDATA section counts only where the content is foreign. A character
+/// that belongs to no keyword is still to be read.
 pub fn hold_declaration<A: Allocator>(
     at: &mut Opened<A>,
     c: char,

@@ -1,4 +1,4 @@
-//! What stands after the name of a DOCTYPE: the keyword of an identifier, or else what is skipped.
+//! The standard's "After DOCTYPE name state": the keyword of an identifier, or else what is skipped.
 #![tactic(auto, unfolding(html5grammar::specs::Machine::doctype_keyword_step, html5grammar::specs::Doctype::begins_doctype_keyword, html5grammar::specs::Doctype::keyword_error))]
 
 ghost use Rattle.std.specs.Prelude.{◌≡◌, ◌≢◌, Bool, ◌∷◌, [], ◌||◌, nat_eq, ◌<◌, ◌≤◌, ◌+◌, OnOk, Ok, true, false, string_bytes};
@@ -53,7 +53,7 @@ fn keyword_of(held: &str) -> Option<DoctypeIdKind>
 }
 
 /// Holds a character after those that begin a keyword, and answers whether it belongs to one. A
-/// character by which no keyword goes on is still to be read.
+/// character with which no keyword goes on is still to be read.
 pub fn hold_doctype_keyword<A: Allocator>(at: &mut Opened<A>, c: char) -> Result<bool, AllocError>
     requires state { at.old.state ≡ State.AfterDoctypeName }
     requires held { string_bytes at.old.comment ≢ [] }

@@ -7,13 +7,13 @@ use thiserror::Error;
 /// Why a call of the tokenizer stopped. After each of these every further call is refused.
 #[derive(Clone, Copy, Debug, PartialEq, Eq, Error)]
 pub enum TokenizerError {
-    /// A growth was refused: the sink was told a beginning of what was due.
+    /// A growth was refused: the sink was sent a beginning of what was due.
     #[error("out of memory")]
     Memory,
     /// The sink faulted at a token, or at its end: it is as its own contract says of that fault.
     #[error("the sink could not take a token")]
     Sink,
-    /// An earlier call was refused: nothing was told, and nothing was taken.
+    /// An earlier call was refused: nothing was sent, and nothing was taken.
     #[error("an earlier call failed")]
     Failed,
 }

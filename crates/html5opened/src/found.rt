@@ -1,5 +1,5 @@
-//! What a reference comes to: the text after it, what decides whether it is one, its characters and
-//! the texts of its errors.
+//! What a reference comes to: its characters, the texts of its errors, and what the text after it
+//! decides.
 #![tactic(auto)]
 
 ghost use Rattle.std.specs.Prelude.{◌≡◌, ◌≤◌, ◌∷◌, ◌++◌, true, All, Option, IfOk, OnOk, drop, flat_map, encode_utf8_all, string_bytes};
@@ -12,7 +12,7 @@ use crate::char_ref::Found;
 use crate::current_tag::push_value;
 use std::alloc::{AllocError, Allocator};
 
-/// What stands after so much of the text.
+/// The character after so much of the text.
 pub fn afterwards(text: &str, len: usize) -> &str
     requires { IsAscii text.now }
     ensures { result.now ≡ drop len text.now }
@@ -20,14 +20,14 @@ pub fn afterwards(text: &str, len: usize) -> &str
     if len < text.len() { &text[len..] } else { "" }
 }
 
-// Whether a name without a semicolon is none in a value, before this.
+// Whether a name without a semicolon is no reference in a value, before this character.
 fn goes_on(next: Option<char>) -> bool
     ensures { result ≡ goes_on next }
 {
     next.is_some_and(|c| c == '=' || c.is_ascii_alphanumeric())
 }
 
-/// Whether it is none before this text, and what follows it.
+/// Whether such a name is no reference before this text and what follows it.
 pub fn goes_on_with(text: &str, next: Option<char>) -> bool
     requires { IsAscii text.now }
     ensures { result ≡ goes_on (first_or text.now next) }
@@ -45,7 +45,7 @@ pub fn is_ended(name: &str) -> bool
     name.ends_with(';')
 }
 
-/// How many characters the semicolon of a number takes, where one stands after it.
+/// How many characters the semicolon of a number takes: none where it has no semicolon.
 pub fn semicolon_len(next: Option<char>) -> usize
     ensures { result ≡ semicolon_len next }
 {
@@ -94,7 +94,7 @@ pub fn unknown_name_message<A: Allocator>(
     }
 }
 
-/// Puts a reference's characters, and ASCII after them, to a value.
+/// Appends a reference's characters, and ASCII after them, to a value.
 pub fn push_found<A: Allocator>(
     value: &mut String<A>,
     found: &Found,

@@ -12,7 +12,7 @@ use crate::opened::Opened;
 use html5ever_interface::states::State;
 use std::alloc::{AllocError, Allocator};
 
-/// Whether what stands after `<!` is open, or characters that may begin a keyword of a DOCTYPE.
+/// Whether a keyword is not decided: after `<!`, or after the name of a DOCTYPE.
 #[inline(always)]
 pub fn holds_keyword<A: Allocator>(opened: &Opened<A>) -> bool
     ensures { result ≡ holds_keyword_in opened.now.state (string_bytes opened.now.comment) }
@@ -25,7 +25,7 @@ pub fn holds_keyword<A: Allocator>(opened: &Opened<A>) -> bool
 }
 
 /// Holds a character after those that may begin a keyword, and answers whether it belongs to one.
-/// Else it is still to be read. `foreign` is whether that of a CDATA section is one here.
+/// Else the character is still to be read. `foreign` says whether `[CDATA[` is a keyword here.
 pub fn hold_keyword<A: Allocator>(
     opened: &mut Opened<A>,
     c: char,

@@ -1,5 +1,5 @@
-//! Letters that raw text holds: after `</`, where they may be the name of an end tag, and after
-//! the `<` and `</` that may switch between escaped and double-escaped script data.
+//! The standard's temporary buffer: letters that raw text holds. After `</` they may be the name of an
+//! end tag. After the `<` and `</` of escaped script data they may switch to double-escaped and back.
 #![tactic(auto, unfolding(html5grammar::specs::RawText::switched, html5grammar::specs::RawText::ends_raw_text))]
 
 ghost use Rattle.std.specs.Prelude.{◌≡◌, ◌∷◌, [], ◌++◌, OnOk, IfOk, IfSome, is_some, string_bytes};
@@ -61,8 +61,8 @@ pub fn switched<A: Allocator>(
     Ok(kind)
 }
 
-/// The name of the end tag that ends raw text, in lower case, where the letters after `</` are that
-/// name and the character ends it.
+/// The name of the standard's "appropriate end tag token", in lower case, where the letters after `</`
+/// are that name and the character ends it.
 pub fn end_tag_name<A: Allocator>(
     alloc: A,
     at: &Opened<A>,

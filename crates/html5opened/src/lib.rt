@@ -1,5 +1,5 @@
 //! What is open, and what is kept of it: the state, the tag, the text of a comment, the DOCTYPE, letters,
-//! what is held of references and keywords, and the texts of messages. Nothing here tells.
+//! what is held of references and keywords, and the texts of messages. Nothing here knows a sink.
 #![tactic(auto)]
 
 pub mod attribute_list;

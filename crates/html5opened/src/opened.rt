@@ -10,18 +10,19 @@ use std::alloc::{Allocator, Global};
 pub struct Opened<A: Allocator = Global> {
     pub state: State,
     pub tag: CurrentTag<A>,
-    /// The comment or the processing instruction that was begun, up to here, the text that is held
-    /// of a CDATA section, or the characters that may begin a keyword.
+    /// The comment or processing instruction so far; or the text that is held of a CDATA section; or
+    /// the characters that may begin a keyword.
     pub comment: String<A>,
-    /// The DOCTYPE that was begun, up to here.
+    /// The DOCTYPE so far.
     pub doctype: Doctype<A>,
-    /// In raw text the letters after `</`, or after the `<` of escaped script data.
+    /// The standard's temporary buffer: in raw text the letters after `</`, or after the `<` of escaped
+    /// script data.
     pub letters: String<A>,
     /// The name whose end tag ends raw text, that of the last start tag. The empty name is none.
     pub last_start_tag: String<A>,
 }
 
-// By hand, since a derived drop is written out wherever a value is dropped, and proved there.
+// By hand: a derived drop is written out, and proved, at each place where a value is dropped.
 impl<A: Allocator> Drop for Opened<A> {
     fn drop(self) {
         let Opened {
@@ -35,14 +36,14 @@ impl<A: Allocator> Drop for Opened<A> {
     }
 }
 
-/// What a character brings, beside what it tells.
+/// What a character brings, besides what it tells.
 #[derive(Clone, Copy, Debug, PartialEq, Eq)]
 pub enum Progress {
     /// Reading goes on in the state that is open.
     Continues,
     /// The character is an `&`: a reference begins, and stands where the state is.
     BeginsReference,
-    /// The open tag ends: it is to be told, and the sink's reply may choose another state.
+    /// The open tag ends: it is to be sent, and the sink's reply may choose another state.
     EndsTag {
         /// Whether the tag closes itself.
         self_closing: bool,

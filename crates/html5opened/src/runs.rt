@@ -1,6 +1,6 @@
-//! Runs: characters that are read at once. A state that reads runs names here the characters that
-//! end one, and where a run within a tag goes. A run between tags is told as one text, and goes on
-//! over line feeds.
+//! Runs: characters that are read at once. Here stands, for each state that reads runs, which
+//! characters end one, and where a run within a tag goes. A run between tags is sent as one text, and
+//! goes on over line feeds.
 ghost use Rattle.std.specs.Prelude.{◌≡◌, ℕ, [], false, ◌↔◌, ◌++◌, Contains, OnOk, IfSome, is_some, string_bytes, flat_map};
 ghost use Rattle.std.specs.Str.{chars};
 ghost use Rattle.html5grammar.specs.Cdata.{open_cdata};
@@ -102,8 +102,8 @@ fn stays_in_names(byte: u8) -> bool
     byte != 0 && (byte < b'A' || byte > b'Z')
 }
 
-// Whether each byte of a run stands in a name as it is. It looks at all of them, so that the compiler makes it a step
-// over many at once.
+// Whether each byte of a run stands in a name as it is. It looks at all of them, so that the compiler
+// makes it one step over many.
 fn is_plain_name(run: &[u8]) -> bool
     ensures { result ≡ list_all stays_in_names run.now }
 {
@@ -129,7 +129,7 @@ pub fn push_names<A: Allocator>(name: &mut String<A>, run: &str) -> Result<(), A
     Ok(())
 }
 
-/// Puts a run to the open name or value, or to the text of a comment, an instruction or a section.
+/// Appends a run to the open name or value, or to the text of a comment, an instruction or a section.
 #[inline(always)]
 pub fn push_run<A: Allocator>(at: &mut Opened<A>, run: &str) -> Result<(), AllocError>
     requires is_run { IsRunAt (opened_of at.old) (chars run.now) }

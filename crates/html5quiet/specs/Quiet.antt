@@ -6,14 +6,14 @@ use Rattle.html5grammar.specs.Machine.{step_at}
 use Rattle.html5grammar.specs.Reading.Here.{Tells}
 use Rattle.html5grammar.specs.Start.{Open, is_undecided_open}
 
--- c belongs to no line break and tells nothing where `opened` is, and `later` is open after it
+-- c belongs to no line break and tells nothing where `opened` is. After it `later` is open.
 pub record IsQuiet (opened later : Open) (c : ℕ) : Type 0 where
   pub decided : is_undecided_open opened ≡ false
   pub steps : step_at false opened c ≡ Tells [] later
   pub no_line_feed : c ≢ line_feed
   pub no_carriage_return : c ≢ carriage_return
 
--- a character that neither ends a comment nor is shown as another one, and is part of no line break
+-- a character that doesn't end a comment, is not shown as another one, and is part of no line break
 pub record IsOrdinary (c : ℕ) : Type 0 where
   pub no_greater_than : c ≢ greater_than
   pub no_null : c ≢ null

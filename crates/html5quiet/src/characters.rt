@@ -69,8 +69,8 @@ fn begin_tag<A: Allocator + Copy>(
     Ok(())
 }
 
-// Begins an attribute with the first letter of its name, unless the one before it repeats a name:
-// then nothing changes.
+// Begins an attribute with the first letter of its name. Where the one before it repeats a name,
+// nothing changes.
 fn begin_attribute<A: Allocator + Copy>(
     at: &mut Opened<A>,
     alloc: A,

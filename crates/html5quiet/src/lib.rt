@@ -1,4 +1,4 @@
-//! Characters that tell nothing, as most of a tag's are: they are read without a sink, and many at
+//! Characters that tell nothing, as most of a tag's are. They are read without a sink, and many at
 //! once.
 #![tactic(auto)]
 

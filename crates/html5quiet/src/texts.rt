@@ -34,7 +34,8 @@ fn reads_open_runs<A: Allocator>(at: &Opened<A>) -> bool
     )
 }
 
-// Reads the run with which a text begins, where something is open that takes runs. Answers how many bytes it takes.
+// Reads the run with which a text begins, if something is open that takes runs. Answers how many bytes
+// it takes.
 #[inline(always)]
 fn read_run<A: Allocator>(at: &mut Opened<A>, text: &str) -> Result<usize, AllocError>
     ensures within { IfOk result (λ bytes. bytes ≤ length text.now) }
@@ -148,7 +149,7 @@ fn first_len(text: &str) -> usize
 }
 
 /// Reads a text, from its front, as long as its characters tell nothing. Answers how many bytes it
-/// read; what follows tells something, or is left to the states. Errors must not be exact, and no
+/// read. What follows tells something, or is left to the states. Errors must not be exact, and no
 /// first character may be dropped.
 pub fn read_quietly<A: Allocator + Copy>(
     at: &mut Opened<A>,

@@ -45,6 +45,7 @@ keeps_taken old was new is count begins ends before after below written =
     let keeps : KeepsTaken was is = record { count = omega arith; written = written } in
     subst (λ (w : Events). KeepsTaken w new) begins (subst (λ (w : Events). KeepsTaken was w) ends keeps)
 
+-- a feed of the tokenizer is a feed of the session
 pub feeds_text : (r out : RestingOf Events) (names : List NamedReference) (t u : Tokenizing Events) (text left : List ℕ) (fed : Fed) (reply : Reply (Unit {0}))
     → t ≡ tokenizing r names → u.rules ≡ t.rules → tokenizing out u.rules.names ≡ u
     → Feeds recorded_means t u text left reply → fed ≡ fed_by reply → (fed ≡ Done → left ≡ []) → (fed ≢ Done → length left < length text)
@@ -109,6 +110,7 @@ loses_piece s t d queue bytes text same completes = record {
   kept = ap (λ (w : SessionOf). record w { resting = s.resting; decoder = d; text = queue; lost = true }) same;
 }
 
+-- bytes that are no UTF-8 are refused, at their place
 pub refuses_bytes : (s t : SessionOf) (d : Decoding) (bytes : List ℕ) (place : ℕ) (error : DecodeError) → s ≡ t → d ≡ s.decoder → error ≡ decoder.NotUtf8 place
     → (error ≡ decoder.Memory) ⊎ IsFault s.decoder.taken (s.decoder.held ++ bytes) error
     → (error ≢ decoder.Memory → IsNeverUtf8 (s.decoder.held ++ bytes))
@@ -142,6 +144,7 @@ completes_piece : (s mid t : SessionOf) (bytes : List ℕ) (lost : Bool) (takes 
 completes_piece s mid t bytes lost takes kept =
     subst (λ (d : Decoding). Completes s.decoder d bytes takes.text) (sym (ap (λ (w : SessionOf). w.decoder) kept)) takes.completes
 
+-- a piece that was decoded and fed was fed to the session
 pub feeds_piece : (result : Result Fed SessionError) (s mid t : SessionOf) (bytes : List ℕ) → is_over s ≡ false → TakesPiece s mid bytes
     → t ≡ record mid { resting = t.resting; text = t.text; lost = is_err result }
     → IfOk result (λ fed. FeedsText (tokenizer_of mid) (tokenizer_of t) mid.text t.text fed)
@@ -156,6 +159,7 @@ feeds_piece (Ok fed) s mid t bytes going takes kept feeds = record {
   going_on = over-none t.lost t.resting.failed t.resting.ended (ap (λ (w : SessionOf). w.lost) kept) feeds.not_failed feeds.going_on;
 }
 
+-- a piece that was decoded, and whose feed was refused, was refused by the session
 pub feed_refused : (result : Result Fed SessionError) (s mid t : SessionOf) (bytes : List ℕ) → TakesPiece s mid bytes
     → t ≡ record mid { resting = t.resting; text = t.text; lost = is_err result }
     → IfErr result (λ error. TextRefused (tokenizer_of mid) mid.text t.text (recorded_by t) error)
@@ -172,6 +176,7 @@ feed_refused (Err Cut) s mid t bytes takes kept refused = absurd refused
 feed_refused (Err Waiting) s mid t bytes takes kept refused = absurd refused
 feed_refused (Err Over) s mid t bytes takes kept refused = ap (λ (w : SessionOf). w.lost || (t.resting.failed || t.resting.ended)) kept
 
+-- an end that the tokenizer refused was refused by the session
 pub end_refused : (result : Result (Unit {0}) SessionError) (s t : SessionOf) (out : RestingOf Events) (lost : Bool) → s ≡ t → lost ≡ is_err result
     → IfErr result (λ error. TextEndRefused (tokenizer_of s) out.sink.recorded error)
     → IfErr result (λ error. EndRefused t (record s { resting = out; lost = lost }) error)

@@ -38,7 +38,7 @@ tokenizer_of s = tokenizing s.resting s.names
 abbrev pub recorded_by : SessionOf → Recorded
 recorded_by s = s.resting.sink.recorded
 
--- nothing more is read: a call failed, or the end was told
+-- nothing more is read: a call failed, or the end was sent
 abbrev pub is_over : SessionOf → Bool
 is_over s = s.lost || (s.resting.failed || s.resting.ended)
 
@@ -68,7 +68,7 @@ pub record TakesPiece (old new : SessionOf) (bytes : List ℕ) : Type 0 where
   pub completes : Completes old.decoder new.decoder bytes text
   pub taken : new ≡ record old { decoder = new.decoder; text = old.text ++ chars text }
 
--- a piece was refused, since bytes in it are no UTF-8, whatever follows: that is told, and all else is as it was
+-- a piece was refused, since bytes in it are no UTF-8, whatever follows. The place is kept, and all else is as it was.
 pub record RefusesBytes (old new : SessionOf) (bytes : List ℕ) (place : ℕ) : Type 0 where
   pub unchanged : new ≡ record old { error_at = Some place }
   pub fault : IsFault old.decoder.taken (old.decoder.held ++ bytes) (decoder.NotUtf8 place)
@@ -94,7 +94,7 @@ pub record FeedsText (old new : Tokenizing Events) (text left : List ℕ) (fed :
   pub not_failed : new.failed ≡ false
   pub going_on : new.ended ≡ false
 
--- a feed failed within what it would have told
+-- a feed failed within what it would have sent
 abbrev pub StopsText : Tokenizing Events → List ℕ → List ℕ → Recorded → Type 0
 StopsText old text left told = (error : TokenizerError) × StopsFeeding recorded_means error old text left told
 
@@ -108,7 +108,7 @@ pub record FeedsPiece (old new : SessionOf) (bytes : List ℕ) (fed : Fed) : Typ
   pub kept : new ≡ record old { resting = new.resting; decoder = new.decoder; text = new.text }
   pub going_on : is_over new ≡ false
 
--- a piece was lost to want of memory: what was told before stays, and maybe a beginning of what it tells was told
+-- a piece was lost to want of memory: what was sent before stays, and maybe a beginning of what it tells was sent
 pub record LosesPiece (old new : SessionOf) (bytes : List ℕ) : Type 0 where
   pub text : List ℕ
   pub completes : Completes old.decoder new.decoder bytes text
@@ -131,12 +131,12 @@ TextRefused old text left told Cut = ⊥
 TextRefused old text left told Waiting = ⊥
 TextRefused old text left told Over = Unit {0}
 
--- from wherever the tokenizer stood, the whole reading was told
+-- from wherever the tokenizer stood, the whole reading was sent
 pub record EndsText (old : Tokenizing Events) (new : Events) : Type 0 where
   pub finishes : Finishes recorded_means old new.recorded
   pub taken : KeepsTaken old.sink new
 
--- the end was told, where nothing waited, and nothing was held of a character
+-- the end was sent, where nothing waited, and nothing was held of a character
 pub record EndsSession (old new : SessionOf) : Type 0 where
   pub ends : EndsText (tokenizer_of old) new.resting.sink
   pub read : old.text ≡ []
@@ -144,7 +144,7 @@ pub record EndsSession (old new : SessionOf) : Type 0 where
   pub kept : new ≡ record old { resting = new.resting }
   pub over : is_over new ≡ true
 
--- the end failed for want of memory, within what it would have told
+-- the end failed for want of memory, within what it would have sent
 pub record LosesEnd (old new : SessionOf) : Type 0 where
   pub error : TokenizerError
   pub stops : StopsEnding recorded_means error (tokenizer_of old) (recorded_by new)

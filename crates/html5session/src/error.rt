@@ -10,13 +10,13 @@ pub enum SessionError {
     /// The bytes stop being UTF-8 at this place, counted in bytes from the first of the first piece.
     #[error("the bytes from place {valid_up_to} on are no UTF-8")]
     NotUtf8 { valid_up_to: u64 },
-    /// The end is told within a character: its bytes are not all there.
+    /// The page ends within a character: its bytes are not all there.
     #[error("the bytes end within a character")]
     Cut,
-    /// The end is told while text waits after a pause.
+    /// The page ends while text waits after a pause.
     #[error("text waits to be fed")]
     Waiting,
-    /// The end was told, or an earlier call failed.
+    /// The page has ended, or an earlier call failed.
     #[error("the session is over")]
     Over,
 }

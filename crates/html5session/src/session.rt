@@ -67,7 +67,7 @@ fn feed_text<A: Allocator + Copy>(
     }
 }
 
-// Tells the tokenizer the end.
+// Ends the tokenizer.
 fn end_text<A: Allocator + Copy>(
     names: &NamedReferences<A>,
     resting: Resting<EventSink<A>, A>,
@@ -122,7 +122,7 @@ impl<A: Allocator> Model for Session<A> {
 }
 
 impl<A: Allocator> Session<A> {
-    /// Whether nothing more is read: a call failed, or the end was told. What was recorded can still be
+    /// Whether nothing more is read: a call failed, or the page has ended. What was recorded can still be
     /// taken.
     pub fn is_over(&self) -> bool
         ensures { result ≡ is_over self.now }
@@ -273,7 +273,7 @@ impl<A: Allocator + Copy> Session<A> {
         }
     }
 
-    /// Tells the end of the page. It is refused, and changes nothing, while text waits, and where the
+    /// Ends the page. It is refused, and changes nothing, while text waits, and where the
     /// bytes so far end within a character.
     pub fn end(self) -> (Session<A>, Result<(), SessionError>)
         ensures ends { OnOk result.1 (EndsSession self result.0) }

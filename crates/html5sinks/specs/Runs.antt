@@ -1,4 +1,4 @@
--- What a sink that joins texts makes of what it is told.
+-- What a sink that joins texts makes of what it is sent.
 use Rattle.std.specs.Prelude.{ℕ, Bool, List, [], ◌++◌}
 use Rattle.html5ever_interface.specs.Token.{Told, TagOf, Reply}
 use Rattle.html5ever_interface.specs.Token.Told.{Text, Tag, Error}

@@ -1,4 +1,4 @@
--- What a sink of tags alone makes of what it is told.
+-- What a sink of tags alone makes of what it is sent.
 use Rattle.std.specs.Prelude.{ℕ, Bool, true, false, List, ◌&&◌}
 use Rattle.std.specs.Str.{bytes_eq}
 use Rattle.html5ever_interface.specs.Token.{Told, TagOf, Reply}

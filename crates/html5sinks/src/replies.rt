@@ -7,9 +7,9 @@ use html5ever_interface::interface::token::{Tag, TagKind, TokenSinkResult};
 use html5ever_interface::states::RawKind;
 use std::alloc::Allocator;
 
-/// The kind of raw text that stands after a start tag of this name, if any does: in `title` and
-/// `textarea` references are read, in `style`, `xmp`, `iframe`, `noembed` and `noframes` nothing is,
-/// and `script` has rules of its own.
+/// The kind of raw text that stands after a start tag of this name, if any does. In `title` and
+/// `textarea` references are read. In `style`, `xmp`, `iframe`, `noembed` and `noframes` nothing is
+/// markup. `script` has rules of its own.
 #[tactic(auto, unfolding(crate::specs::Replies::raw_text_in))]
 pub fn raw_text_in(name: &str) -> Option<RawKind>
     ensures { result ≡ raw_text_in name.now }

@@ -50,7 +50,7 @@ ends-name (d ∷ held) c taken other within =
     let letter : d ≢ number_sign = λ e. other (ap Some e) in
     rw (ne_eqb d number_sign letter) (grind (arith, nat_tests))
 
--- ---- what is told
+-- ---- what is sent
 
 told_late : (told : List Told) (back : ℕ) (is_at is_held : Bool) → tokens_of_late (map (λ (token : Told). record { token = token; back = back; is_at = is_at; is_held = is_held }) told) ≡ told
 told_late [] back is_at is_held = refl

@@ -34,7 +34,7 @@ pub number-some : (exact : Bool) (number : List ℕ) (next : Option ℕ) → has
 unfolding number_reference
 number-some exact number next some = rw some refl
 
--- the errors as they are told of a value that is cut
+-- the errors as they are sent of a value that is cut
 pub number-errors : (exact : Bool) (number : List ℕ) (next : Option ℕ) (value low_bits : ℕ) (is_invalid : Bool) → has_digits number ≡ true
     → value ≡ min (number_value number) 0x11_0000 → low_bits ≡ number_value number % 2 ^ 32 → is_invalid ≡ is_invalid_number value
     → (number_reference exact number next).errors ≡ unended_number next ++ where_true is_invalid (Error (invalid_number exact low_bits))
@@ -108,7 +108,7 @@ goes_on-cut in_value goes text rest next inside cut is none =
     let here : goes_on (first_or rest next) ≡ false = sym is ∙ none in
     rw inside (rw cut at here)
 
--- a call that told what is due has its own answer
+-- a call that sent what is due has its own answer
 module _ {Q S H Z : Type 0} {means : Means Q S H} {count : Q → ℕ} where
   pub emits_ok : {T U : Type 0} {x : U} {y : T} {before after : Teller Q Z} {A all : List Told} → Emits means count {T = U} (Ok x) before after A → all ≡ A
       → Emits means count {T = T} (Ok y) before after all

@@ -55,7 +55,7 @@ texts≢nil (c ∷ cs) filled = λ e. cc
 pub filled-text : (bytes : List ℕ) → IsUtf8 bytes → bytes ≢ [] → tokens_in (Text bytes) ≢ []
 filled-text bytes utf8 filled = texts≢nil (chars bytes) (λ none. filled (sym (encodes-chars bytes utf8) ∙ ap encode_utf8_all none))
 
--- a token that is told says what the grammar has for it
+-- a token that is sent says what the grammar has for it
 pub says-token : {Z : Type 0} → (token : Token Z) (line : ℕ) → tokens_in (told_by token) ≢ []
     → IsToldAs (told_by token) line (on_line line (tokens_in (told_by token)))
 says-token (DoctypeToken doctype) line filled = inl refl
@@ -95,7 +95,7 @@ module _ {S : Type 0} (step faulted : S → Told → ℕ → S) where
       ∙ stepped-texts joins empty any_line (step s (Text text) line) line M texts more
       ∙ ap (λ u. stepped step u M) (any_line s text line m.line ∙ ap (λ token. step s token m.line) (sym first))
 
-  -- a token that was told, whatever messages it says, and one at which the sink faulted
+  -- a token that was sent, whatever messages it says, and one at which the sink faulted
   pub token-tells : ((s : S) (a b : List ℕ) (line : ℕ) → step (step s (Text a) line) (Text b) line ≡ step s (Text (a ++ b)) line)
       → ((s : S) (line : ℕ) → step s (Text []) line ≡ s)
       → ((s : S) (a : List ℕ) (line other : ℕ) → step s (Text a) line ≡ step s (Text a) other)
@@ -105,6 +105,7 @@ module _ {S : Type 0} (step faulted : S → Told → ℕ → S) where
   token-tells joins empty any_line s t token line M (inr text) e =
       e ∙ ap (λ told. step s told line) text.joined ∙ stepped-texts joins empty any_line s line M text.texts text.says
 
+  -- a fault at a token stops within the messages that the token says
   pub token-faults : (s t : S) (token : Told) (line : ℕ) (M : List Message) → IsToldAs token line M → t ≡ faulted s token line → Stops step faulted Sink s M t
   unfolding stepped
   token-faults s t token line M says e = record {
@@ -118,7 +119,7 @@ module _ {S : Type 0} (step faulted : S → Told → ℕ → S) where
     state = e;
   }
 
-  -- a call after messages that were told
+  -- a call after messages that were sent
   pub stops_after : (e : TokenizerError) (s t u : S) (M N : List Message) → t ≡ stepped step s M
       → Stops step faulted e t N u → Stops step faulted e s (M ++ N) u
   stops_after Memory s t u M N told stop = record {
@@ -165,12 +166,12 @@ module _ {S : Type 0} (step faulted : S → Told → ℕ → S) where
   }
   stops_before Failed s t M N refusal stop = stop
 
-  -- a growth that was refused before anything was told
+  -- a growth that was refused before anything was sent
   pub Memory-at_once : (s : S) (M : List Message) → Stops step faulted Memory s M s
   unfolding stepped
   Memory-at_once s M = record { before = []; rest = M; parts = refl; state = refl }
 
-  -- the exit of a `?`: want of memory before anything was told, and a stop of the call before
+  -- the exit of a `?`: want of memory before anything was sent, and a stop of the call before
   pub tells_from_memory : {T : Type 0} → (r : Result T TokenizerError) (s : S) (M : List Message)
       → IsErrAnd r (λ e. e ≡ Memory) → Tells step faulted r s M s
   tells_from_memory r s M h = let p = err_from_is_err_and r h in rw (p.1, p.2) (Memory-at_once s M)
@@ -179,7 +180,7 @@ module _ {S : Type 0} (step faulted : S → Told → ℕ → S) where
       → IsErrAnd r (λ x. x ≡ e) → IsRefusal e → Stops step faulted e s M t → Tells step faulted r s (M ++ N) t
   tells_from_stop r e s t M N h refusal stop = let p = err_from_is_err_and r h in rw (p.1, p.2) (stops_before e s t M N refusal stop)
 
-  -- tokens on one line, told by two calls: by both, by the first and then a stop of the first, and want of memory between
+  -- tokens on one line, sent by two calls: by both, by the first and then a stop of the first, and want of memory between
 
   pub told_then : {T : Type 0} → (r : Result T TokenizerError) (s t u : S) (line : ℕ) (A B : List Told) → t ≡ stepped step s (on_line line A)
       → Tells step faulted r t (on_line line B) u → Tells step faulted r s (on_line line (A ++ B)) u
@@ -193,7 +194,7 @@ module _ {S : Type 0} (step faulted : S → Told → ℕ → S) where
       subst (λ M. Tells step faulted r s M t) (sym (map-append (λ (token : Told). record { token = token; line = line }) A B))
       (tells_from_stop r e s t (on_line line A) (on_line line B) h refusal stop)
 
-  -- the exit of a `?` after all that is told
+  -- the exit of a `?` after all that is sent
   pub tells_stop : {T : Type 0} → (r : Result T TokenizerError) (e : TokenizerError) (s t : S) (M : List Message)
       → IsErrAnd r (λ x. x ≡ e) → Stops step faulted e s M t → Tells step faulted r s M t
   tells_stop r e s t M h stop = let p = err_from_is_err_and r h in rw (p.1, p.2) stop
@@ -204,7 +205,7 @@ module _ {S : Type 0} (step faulted : S → Told → ℕ → S) where
       let p = err_from_is_err_and r h in
       rw (p.1, p.2) (record { before = M; rest = []; parts = sym (append-nil M); state = told })
 
-  -- a step after what is told first
+  -- a step after what is sent first
   tokens-told_first : (before : List Told) (step : Here Open) → tokens_of (told_first before step) ≡ before ++ tokens_of step
   unfolding tokens_of
   tokens-told_first before (Here.Tells told later) = refl
@@ -270,6 +271,7 @@ module _ {Q S H Z : Type 0} {means : Means Q S H} {count : Q → ℕ} where
     kept = kept_then first.kept later.kept;
   }
 
+  -- a call that stopped, before more that would have been sent
   pub emits_stop : {T U : Type 0} {e : TokenizerError} {before after : Teller Q Z} {A all : List Told} (r : Result T TokenizerError)
       → IsErrAnd r (λ x. x ≡ e) → Emits means count {T = U} (Err e) before after A → (B : List Told) → all ≡ A ++ B
       → Emits means count r before after all
@@ -282,7 +284,7 @@ module _ {Q S H Z : Type 0} {means : Means Q S H} {count : Q → ℕ} where
         kept = first.kept;
       }
 
-  -- a state that is read after what is told first
+  -- a state that is read after what is sent first
   pub reads_then : {U : Type 0} {x : U} {r : Result Progress TokenizerError} {before middle after : Teller Q Z} {A : List Told} {all later : Here Open} {was then_at at : Opened Z}
       → Emits means count {T = U} (Ok x) before middle A → Reads means count r middle after later then_at at → all ≡ told_first A later
       → last_name_of then_at ≡ last_name_of was
@@ -295,6 +297,7 @@ module _ {Q S H Z : Type 0} {means : Means Q S H} {count : Q → ℕ} where
     kept = kept_then first.kept reads.kept;
   }
 
+  -- a call that stopped, in a state that would have sent more
   pub reads_stop : {U : Type 0} {e : TokenizerError} {before after : Teller Q Z} {A : List Told} {all : Here Open} {was at : Opened Z} (r : Result Progress TokenizerError)
       → IsErrAnd r (λ x. x ≡ e) → Emits means count {T = U} (Err e) before after A → (later : Here Open) → all ≡ told_first A later → last_name_of at ≡ last_name_of was
       → Reads means count r before after all was at
@@ -349,6 +352,7 @@ module _ {Q S H Z : Type 0} {means : Means Q S H} {count : Q → ℕ} where
       → Emits means count {T = Unit {0}} (Ok tt) before after (told_by token ∷ [])
   emits_one token steps count kept = emits_reply token steps count kept
 
+  -- a fault at the one token that a call sends
   pub emits_fault-one : {T : Type 0} {before after : Teller Q Z} (token : Token Z)
       → means.state after.sink.now ≡ means.faulted (means.state before.sink.now) (told_by token) before.line
       → count after.sink.now ≡ count before.sink.now + 1 → IsKept before after

@@ -1,4 +1,4 @@
--- How a call that tells its sink some messages may leave it.
+-- How a call that sends its sink some messages may leave it.
 use Rattle.std.specs.Prelude.{◌≡◌, ◌⊎◌, ℕ, ◌+◌, List, [], ◌∷◌, ◌++◌, Result, Ok, Err, IfErr, map, encode_utf8}
 use Rattle.std.specs.List.{concat}
 use Rattle.std.specs.Str.{chars}
@@ -15,12 +15,12 @@ use Rattle.html5states.specs.declared.teller.Teller.{Teller}
 use Rattle.html5opened.specs.declared.error.TokenizerError.{TokenizerError}
 use Rattle.html5opened.specs.declared.error.TokenizerError.TheVariants.{Memory, Sink, Failed}
 
--- the tokens that the grammar has for one that is told: a text for each character of a text, and else the token itself
+-- the tokens that the grammar has for one that is sent: a text for each character of a text, and else the token itself
 abbrev pub tokens_in : Told → List Told
 tokens_in (Text text) = map (λ c. Text (encode_utf8 c)) (chars text)
 tokens_in told = told ∷ []
 
--- the messages are texts that make this token, whose line is that of the last of them
+-- the messages are texts that make this token. Its line is that of the last of them.
 pub record IsTextOf (token : Told) (line : ℕ) (messages : List Message) : Type 0 where
   pub texts : List (List ℕ)
   pub says : map (λ (m : Message). m.token) messages ≡ map (λ text. Text text) texts
@@ -35,14 +35,14 @@ abbrev pub IsToldAs : Told → ℕ → List Message → Type 0
 IsToldAs token line messages = (messages ≡ record { token = token; line = line } ∷ []) ⊎ IsTextOf token line messages
 
 module _ {S : Type 0} (step faulted : S → Told → ℕ → S) where
-  -- the sink was told a beginning of the messages
+  -- the sink was sent a beginning of the messages
   pub record StopsWithin (s : S) (M : List Message) (t : S) : Type 0 where
     pub before : List Message
     pub rest : List Message
     pub parts : M ≡ before ++ rest
     pub state : t ≡ stepped step s before
 
-  -- the sink faulted at a token, after a beginning of the messages: the token says the next of them
+  -- the sink faulted at a token, after a beginning of the messages. The token says the next of them.
   pub record FaultsWithin (s : S) (M : List Message) (t : S) : Type 0 where
     pub before : List Message
     pub token : Told
@@ -59,7 +59,7 @@ module _ {S : Type 0} (step faulted : S → Told → ℕ → S) where
   Stops Sink s M t = FaultsWithin s M t
   Stops Failed s M t = ⊥
 
-  -- told all the messages, or stopped within them
+  -- the sink was sent all the messages, or the call stopped within them
   abbrev pub Tells : {T : Type 0} → Result T TokenizerError → S → List Message → S → Type 0
   Tells (Ok x) s M t = t ≡ stepped step s M
   Tells (Err e) s M t = Stops e s M t
@@ -71,27 +71,28 @@ faults_of (Err Memory) = 0
 faults_of (Err Sink) = 1
 faults_of (Err Failed) = 0
 
--- a refusal of a call that tells: want of memory, or a fault of the sink
+-- a refusal of a call that sends: want of memory, or a fault of the sink
 abbrev pub IsRefusal : TokenizerError → Type 0
 IsRefusal Memory = Unit {0}
 IsRefusal Sink = Unit {0}
 IsRefusal Failed = ⊥
 
--- what a teller is stays while it tells
+-- what a teller is stays while it sends
 pub record IsKept {Q Z : Type 0} (before after : Teller Q Z) : Type 0 where
   pub sink : after.sink.ghost_name ≡ before.sink.ghost_name
   pub line : after.line ≡ before.line
   pub exact_errors : after.exact_errors ≡ before.exact_errors
 
 module _ {Q S H Z : Type 0} (means : Means Q S H) (count : Q → ℕ) where
-  -- the tokens were told on the teller's line, or the call stopped within them
+  -- the tokens were sent on the teller's line, or the call stopped within them
   pub record Emits {T : Type 0} (result : Result T TokenizerError) (before after : Teller Q Z) (tokens : List Told) : Type 0 where
     pub tells : Tells means.step means.faulted result (means.state before.sink.now) (on_line before.line tokens) (means.state after.sink.now)
     pub refusal : IfErr result IsRefusal
     pub faults : count after.sink.now ≡ count before.sink.now + faults_of result
     pub kept : IsKept before after
 
-  -- a character told what the machine tells here, and left open what the machine leaves, with the last start tag as it was
+  -- at a character the sink was sent what the machine tells here. What the machine leaves open is open, with the last start tag
+  -- as it was.
   pub record Reads (result : Result Progress TokenizerError) (before after : Teller Q Z) (here : Here Open) (was at : Opened Z) : Type 0 where
     pub tells : Tells means.step means.faulted result (means.state before.sink.now) (on_line before.line (tokens_of here)) (means.state after.sink.now)
     pub leads : Ends result at (afterwards here)

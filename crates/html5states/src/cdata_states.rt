@@ -1,5 +1,5 @@
-//! The states of CDATA sections, the standard's "CDATA section state", "CDATA section bracket state" and
-//! "CDATA section end state": which of them is open is told by the end of the text that is held.
+//! The states of CDATA sections. The text that is held says by its end which of the standard's states
+//! is open.
 #![tactic(auto, using(crate::proofs::Tellings::tells_from_memory), unfolding(html5grammar::specs::Machine::cdata_step, html5opened::specs::Steps::tokens_of, html5opened::specs::Steps::afterwards, html5ever_interface::specs::Sink::stepped))]
 
 ghost use Rattle.std.specs.Prelude.{◌≡◌, ◌∷◌, [], ◌++◌, true, string_bytes};
@@ -25,7 +25,8 @@ use std::alloc::Allocator;
 use std::mem;
 
 impl<S: TokenSink<Token<A>>, A: Allocator + Copy> Teller<'_, S, A> {
-    /// Reads a character of a CDATA section.
+    /// The standard's "CDATA section state", "CDATA section bracket state" and "CDATA section end
+    /// state".
     pub fn cdata_section_state(&mut self, at: &mut Opened<A>, c: char) -> Step
         requires { at.old.state ≡ State.CdataSection }
         ensures { Reads S.means S.faults result self.old self.new
@@ -41,7 +42,7 @@ impl<S: TokenSink<Token<A>>, A: Allocator + Copy> Teller<'_, S, A> {
         Ok(Progress::Continues)
     }
 
-    // Tells the text before a NUL, and the NUL.
+    // Sends the text before a NUL, and the NUL.
     fn cut_section(&mut self, at: &mut Opened<A>) -> Step
         requires { at.old.state ≡ State.CdataSection }
         ensures { Reads S.means S.faults result self.old self.new
@@ -52,7 +53,7 @@ impl<S: TokenSink<Token<A>>, A: Allocator + Copy> Teller<'_, S, A> {
         Ok(Progress::Continues)
     }
 
-    // Tells a text, where there is one, and NUL.
+    // Sends a text, if there is one, and NUL.
     fn emit_cdata_null(&mut self, text: String<A>) -> Result<(), TokenizerError>
         ensures { Emits S.means S.faults result self.old self.new
             (texts (chars (string_bytes text)) ++ Null ∷ []) }
@@ -75,7 +76,7 @@ impl<S: TokenSink<Token<A>>, A: Allocator + Copy> Teller<'_, S, A> {
         Ok(Progress::Continues)
     }
 
-    // Tells a text, where there is one.
+    // Sends a text, if there is one.
     fn emit_piece(&mut self, text: String<A>) -> Result<(), TokenizerError>
         ensures { Emits S.means S.faults result self.old self.new
             (texts (chars (string_bytes text))) }
@@ -86,7 +87,7 @@ impl<S: TokenSink<Token<A>>, A: Allocator + Copy> Teller<'_, S, A> {
         self.hand_on(Token::CharacterTokens(text))
     }
 
-    /// Ends in a section, whose text is told as it stands.
+    /// The standard's CDATA section states at the end of input: the text is sent as it stands.
     pub fn end_in_cdata(&mut self, text: &str) -> Result<(), TokenizerError>
         ensures { Emits S.means S.faults result self.old self.new
             (texts (chars text.now) ++ end_error_in self.old.exact_errors State.CdataSection ∷ End ∷ []) }

@@ -24,7 +24,7 @@ use std::alloc::Allocator;
 use std::mem;
 
 impl<S: TokenSink<Token<A>>, A: Allocator + Copy> Teller<'_, S, A> {
-    /// The standard's comment states, from its "comment start state" to its "comment end bang state".
+    /// The standard's "Comment start state" to "Comment end bang state".
     pub fn comment_state(&mut self, at: &mut Opened<A>, c: char) -> Step
         ensures { Reads S.means S.faults result self.old self.new
             (comment_step self.old.exact_errors (string_bytes at.old.comment) c) at.old at.new }
@@ -38,7 +38,7 @@ impl<S: TokenSink<Token<A>>, A: Allocator + Copy> Teller<'_, S, A> {
         Ok(Progress::Continues)
     }
 
-    // Tells what is wrong with a character of a comment: one after a mark, and NUL.
+    // Sends what is wrong with a character of a comment: one after a mark, and NUL.
     fn emit_comment_errors(&mut self, before: &str, c: char) -> Result<(), TokenizerError>
         ensures { Emits S.means S.faults result self.old self.new
             (comment_errors self.old.exact_errors before.now c) }
@@ -65,7 +65,7 @@ impl<S: TokenSink<Token<A>>, A: Allocator + Copy> Teller<'_, S, A> {
         Ok(Progress::Continues)
     }
 
-    // Tells a comment, where its end is wrong after an error that names the state.
+    // Sends a comment, where its end is wrong after an error that names the state.
     fn emit_ended_comment(
         &mut self,
         wrong: bool,
@@ -79,7 +79,7 @@ impl<S: TokenSink<Token<A>>, A: Allocator + Copy> Teller<'_, S, A> {
         self.emit_comment(text)
     }
 
-    /// Tells a comment.
+    /// Sends a comment.
     pub fn emit_comment(&mut self, text: String<A>) -> Result<(), TokenizerError>
         ensures { Emits S.means S.faults result self.old self.new
             (Comment (string_bytes text) ∷ []) }
@@ -87,7 +87,7 @@ impl<S: TokenSink<Token<A>>, A: Allocator + Copy> Teller<'_, S, A> {
         self.tell(Token::CommentToken(text))
     }
 
-    /// The standard's "bogus comment state".
+    /// The standard's "Bogus comment state".
     pub fn bogus_comment_state(&mut self, at: &mut Opened<A>, c: char) -> Step
         requires { at.old.state ≡ State.BogusComment }
         ensures { Reads S.means S.faults result self.old self.new

@@ -25,7 +25,7 @@ use std::alloc::Allocator;
 use std::mem;
 
 impl<S: TokenSink<Token<A>>, A: Allocator + Copy> Teller<'_, S, A> {
-    /// Tells the DOCTYPE that was begun.
+    /// Sends the DOCTYPE that was begun.
     pub fn emit_doctype(&mut self, at: &mut Opened<A>) -> Step
         ensures { Reads S.means S.faults result self.old self.new
             (Tells (Told.Doctype (doctype_of at.old.doctype) ∷ []) (Between Data)) at.old at.new }
@@ -36,7 +36,7 @@ impl<S: TokenSink<Token<A>>, A: Allocator + Copy> Teller<'_, S, A> {
         Ok(Progress::Continues)
     }
 
-    /// The standard's "bogus DOCTYPE state".
+    /// The standard's "Bogus DOCTYPE state".
     pub fn bogus_doctype_state(&mut self, at: &mut Opened<A>, c: char) -> Step
         requires { at.old.state ≡ State.BogusDoctype }
         ensures { Reads S.means S.faults result self.old self.new
@@ -49,7 +49,8 @@ impl<S: TokenSink<Token<A>>, A: Allocator + Copy> Teller<'_, S, A> {
         Ok(Progress::Continues)
     }
 
-    /// Tells an error that names the state, and skips the rest from the character on.
+    /// Sends an error that names the state, and reconsumes the character in the standard's "Bogus
+    /// DOCTYPE state".
     pub fn skip_doctype(&mut self, at: &mut Opened<A>, c: char, expected: State) -> Step
         ensures { Reads S.means S.faults result self.old self.new
             (skipped_step self.old.exact_errors (error_in self.old.exact_errors expected c ∷ [])
@@ -70,7 +71,8 @@ impl<S: TokenSink<Token<A>>, A: Allocator + Copy> Teller<'_, S, A> {
         self.skip_doctype(at, c, expected)
     }
 
-    // Begins the name, or tells a DOCTYPE without one.
+    // The standard's "Before DOCTYPE name state" after white space: begins the name, or sends a DOCTYPE
+    // without one.
     fn begin_doctype_name(&mut self, at: &mut Opened<A>, c: char) -> Step
         ensures { Reads S.means S.faults result self.old self.new
             (wanted_name_step self.old.exact_errors [] (doctype_of at.old.doctype) c) at.old at.new }
@@ -98,7 +100,7 @@ impl<S: TokenSink<Token<A>>, A: Allocator + Copy> Teller<'_, S, A> {
         self.begin_doctype_name(at, c)
     }
 
-    /// The standard's "before DOCTYPE name state".
+    /// The standard's "Before DOCTYPE name state".
     pub fn before_doctype_name_state(&mut self, at: &mut Opened<A>, c: char) -> Step
         requires { at.old.state ≡ State.BeforeDoctypeName }
         ensures { Reads S.means S.faults result self.old self.new
@@ -129,7 +131,7 @@ impl<S: TokenSink<Token<A>>, A: Allocator + Copy> Teller<'_, S, A> {
         Ok(Progress::Continues)
     }
 
-    /// The standard's "after DOCTYPE name state", where no keyword was begun.
+    /// The standard's "After DOCTYPE name state", where no keyword was begun.
     pub fn after_doctype_name_state(&mut self, at: &mut Opened<A>, c: char) -> Step
         requires state { at.old.state ≡ State.AfterDoctypeName }
         requires nothing_held { string_bytes at.old.comment ≡ [] }

@@ -60,7 +60,7 @@ impl<S: TokenSink<Token<A>>, A: Allocator + Copy> Teller<'_, S, A> {
         self.end_after('/')
     }
 
-    // Ends in the standard's "tag open state".
+    // The standard's "Tag open state" at the end of input.
     fn end_in_tag_open(&mut self) -> Result<(), TokenizerError>
         ensures { Emits S.means S.faults result self.old self.new
             (end_error_in self.old.exact_errors State.TagOpen ∷ Text (codes "<") ∷ End ∷ []) }
@@ -69,7 +69,7 @@ impl<S: TokenSink<Token<A>>, A: Allocator + Copy> Teller<'_, S, A> {
         self.end_after('<')
     }
 
-    // Ends in the standard's "end tag open state".
+    // The standard's "End tag open state" at the end of input.
     fn end_in_end_tag_open(&mut self) -> Result<(), TokenizerError>
         ensures { Emits S.means S.faults result self.old self.new
             (end_error_in self.old.exact_errors State.EndTagOpen
@@ -118,7 +118,7 @@ impl<S: TokenSink<Token<A>>, A: Allocator + Copy> Teller<'_, S, A> {
         self.tell(Token::EOFToken)
     }
 
-    // Tells a comment with that text.
+    // Sends a comment with that text.
     fn emit_comment_text(&mut self, text: &str) -> Result<(), TokenizerError>
         ensures { Emits S.means S.faults result self.old self.new
             (Comment text.now ∷ []) }
@@ -126,7 +126,7 @@ impl<S: TokenSink<Token<A>>, A: Allocator + Copy> Teller<'_, S, A> {
         self.emit_comment(String::from_str(self.alloc, text)?)
     }
 
-    // Ends in a comment, which is told without the dashes at its end.
+    // Ends in a comment, which is sent without the dashes at its end.
     fn end_comment_text(&mut self, text: &str) -> Result<(), TokenizerError>
         ensures { Emits S.means S.faults result self.old self.new
             (end_error_in self.old.exact_errors (comment_state State.CommentEnd text.now)
@@ -161,7 +161,7 @@ impl<S: TokenSink<Token<A>>, A: Allocator + Copy> Teller<'_, S, A> {
         self.end_after_doctype(doctype, true)
     }
 
-    /// Tells what the end of input tells in the state. A tag without its end is not told.
+    /// The end of input in each state. A tag without its end is not sent.
     pub fn tell_end_of_input(&mut self, at: &Opened<A>) -> Result<(), TokenizerError>
         requires decided { is_undecided_open (opened_of at.now) ≡ false }
         ensures { Emits S.means S.faults result self.old self.new

@@ -39,7 +39,7 @@ fn has_wrong_solidus<A: Allocator>(tag: &CurrentTag<A>, self_closing: bool) -> b
 }
 
 impl<S: TokenSink<Token<A>>, A: Allocator + Copy> Teller<'_, S, A> {
-    // Tells the errors of an end tag that has attributes, or closes itself.
+    // Sends the errors of an end tag that has attributes, or closes itself.
     fn emit_end_tag_errors(
         &mut self,
         tag: &CurrentTag<A>,
@@ -54,7 +54,7 @@ impl<S: TokenSink<Token<A>>, A: Allocator + Copy> Teller<'_, S, A> {
         self.emit_message_where(solidus, "Self-closing end tag")
     }
 
-    // Ends the last attribute of a tag that ends, and tells the errors of the tag.
+    // Ends the last attribute of a tag that ends, and sends the errors of the tag.
     fn finish_tag(
         &mut self,
         tag: &mut CurrentTag<A>,
@@ -69,7 +69,7 @@ impl<S: TokenSink<Token<A>>, A: Allocator + Copy> Teller<'_, S, A> {
         self.emit_end_tag_errors(tag, self_closing)
     }
 
-    /// Ends the open tag at its `>`. It is told after this, and the sink's reply to it may choose
+    /// Ends the open tag at its `>`. The tag is sent after this, and the sink's reply to it may choose
     /// another state than Data.
     pub fn end_tag(&mut self, at: &mut Opened<A>, self_closing: bool) -> Step
         ensures { Reads S.means S.faults result self.old self.new

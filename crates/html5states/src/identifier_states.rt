@@ -58,7 +58,7 @@ impl<S: TokenSink<Token<A>>, A: Allocator + Copy> Teller<'_, S, A> {
         self.begin_or_skip(at, kind, c, expected)
     }
 
-    /// The standard's "after DOCTYPE public keyword state", and that of the system keyword.
+    /// The standard's "After DOCTYPE public keyword state" and "After DOCTYPE system keyword state".
     pub fn after_doctype_keyword_state(
         &mut self,
         at: &mut Opened<A>,
@@ -76,7 +76,8 @@ impl<S: TokenSink<Token<A>>, A: Allocator + Copy> Teller<'_, S, A> {
         self.begin_at_once(at, kind, c, State::AfterDoctypeKeyword(kind))
     }
 
-    /// The standard's "before DOCTYPE public identifier state", and that of the system identifier.
+    /// The standard's "Before DOCTYPE public identifier state" and "Before DOCTYPE system identifier
+    /// state".
     pub fn before_doctype_identifier_state(
         &mut self,
         at: &mut Opened<A>,
@@ -93,7 +94,8 @@ impl<S: TokenSink<Token<A>>, A: Allocator + Copy> Teller<'_, S, A> {
         self.begin_or_skip(at, kind, c, State::BeforeDoctypeIdentifier(kind))
     }
 
-    /// The standard's states of a quoted identifier.
+    /// The standard's "DOCTYPE public identifier (double-quoted) state" and "DOCTYPE public identifier
+    /// (single-quoted) state", and the same two of the system identifier.
     #[tactic(auto, using(crate::proofs::Tellings::tells_from_memory), unfolding(html5grammar::specs::Machine::doctype_step, html5grammar::specs::Machine::identifier_step, html5grammar::specs::Machine::skipped_step, html5grammar::specs::Doctype::in_identifier, html5opened::specs::Steps::tokens_of, html5opened::specs::Steps::afterwards, html5ever_interface::specs::Sink::stepped))]
     pub fn doctype_identifier_state(
         &mut self,
@@ -119,7 +121,7 @@ impl<S: TokenSink<Token<A>>, A: Allocator + Copy> Teller<'_, S, A> {
         Ok(Progress::Continues)
     }
 
-    /// The standard's "after DOCTYPE public identifier state".
+    /// The standard's "After DOCTYPE public identifier state".
     pub fn after_public_identifier_state(&mut self, at: &mut Opened<A>, c: char) -> Step
         requires { at.old.state ≡ State.AfterDoctypeIdentifier DoctypeIdKind.Public }
         ensures { Reads S.means S.faults result self.old self.new
@@ -136,7 +138,7 @@ impl<S: TokenSink<Token<A>>, A: Allocator + Copy> Teller<'_, S, A> {
         self.begin_at_once(at, System, c, State::AfterDoctypeIdentifier(Public))
     }
 
-    /// The standard's "between DOCTYPE public and system identifiers state".
+    /// The standard's "Between DOCTYPE public and system identifiers state".
     pub fn between_identifiers_state(&mut self, at: &mut Opened<A>, c: char) -> Step
         requires { at.old.state ≡ State.BetweenDoctypePublicAndSystemIdentifiers }
         ensures { Reads S.means S.faults result self.old self.new
@@ -156,7 +158,7 @@ impl<S: TokenSink<Token<A>>, A: Allocator + Copy> Teller<'_, S, A> {
         )
     }
 
-    /// The standard's "after DOCTYPE system identifier state".
+    /// The standard's "After DOCTYPE system identifier state".
     pub fn after_system_identifier_state(&mut self, at: &mut Opened<A>, c: char) -> Step
         requires { at.old.state ≡ State.AfterDoctypeIdentifier DoctypeIdKind.System }
         ensures { Reads S.means S.faults result self.old self.new

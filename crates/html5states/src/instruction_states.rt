@@ -18,7 +18,8 @@ use std::alloc::Allocator;
 use std::mem;
 
 impl<S: TokenSink<Token<A>>, A: Allocator + Copy> Teller<'_, S, A> {
-    /// Reads a character of a processing instruction. Its `>` ends it; a `?` before that belongs to it.
+    /// Reads a character of a processing instruction. The standard has its "Bogus comment state" here.
+    /// The first `>` ends it, and a `?` before that belongs to it.
     pub fn processing_instruction_state(&mut self, at: &mut Opened<A>, c: char) -> Step
         requires { at.old.state ≡ State.ProcessingInstruction }
         ensures { Reads S.means S.faults result self.old self.new
@@ -35,7 +36,7 @@ impl<S: TokenSink<Token<A>>, A: Allocator + Copy> Teller<'_, S, A> {
         Ok(Progress::Continues)
     }
 
-    // Tells a processing instruction.
+    // Sends a processing instruction.
     fn emit_instruction(&mut self, content: String<A>) -> Result<(), TokenizerError>
         ensures { Emits S.means S.faults result self.old self.new
             (Instruction (string_bytes content) ∷ []) }
@@ -43,7 +44,7 @@ impl<S: TokenSink<Token<A>>, A: Allocator + Copy> Teller<'_, S, A> {
         self.tell(Token::ProcessingInstructionToken(content))
     }
 
-    // Tells a processing instruction with that content.
+    // Sends a processing instruction with that content.
     fn emit_instruction_text(&mut self, content: &str) -> Result<(), TokenizerError>
         ensures { Emits S.means S.faults result self.old self.new
             (Instruction content.now ∷ []) }
@@ -60,7 +61,7 @@ impl<S: TokenSink<Token<A>>, A: Allocator + Copy> Teller<'_, S, A> {
         self.tell(Token::EOFToken)
     }
 
-    /// Ends in a processing instruction, which is told as far as it goes.
+    /// The end of input in a processing instruction, which is sent as far as it goes.
     pub fn end_in_instruction(&mut self, content: &str) -> Result<(), TokenizerError>
         ensures { Emits S.means S.faults result self.old self.new
             (end_error_in self.old.exact_errors State.ProcessingInstruction

@@ -1,4 +1,4 @@
-//! The states of the tokenizer: whom they tell, and what a character makes of what is open.
+//! The states of the tokenizer: what a character makes of what is open, and what the sink is sent.
 #![tactic(auto)]
 
 mod attributes;

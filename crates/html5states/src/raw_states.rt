@@ -27,8 +27,8 @@ use html5opened::opened::{Opened, Progress, Step};
 use std::alloc::Allocator;
 
 impl<S: TokenSink<Token<A>>, A: Allocator + Copy> Teller<'_, S, A> {
-    /// The standard's "RCDATA state", "RAWTEXT state" and "script data state", and its "script data
-    /// escaped state" and "script data double escaped state".
+    /// The standard's "RCDATA state", "RAWTEXT state", "Script data state", "Script data escaped state"
+    /// and "Script data double escaped state".
     #[inline(always)]
     pub fn raw_data_state(&mut self, at: &mut Opened<A>, kind: RawKind, c: char) -> Step
         requires { at.old.state ≡ State.RawData kind }
@@ -46,7 +46,7 @@ impl<S: TokenSink<Token<A>>, A: Allocator + Copy> Teller<'_, S, A> {
         Ok(Progress::Continues)
     }
 
-    // The standard's "script data escaped state" and "script data double escaped state".
+    // The standard's "Script data escaped state" and "Script data double escaped state".
     fn script_data_escaped_state(
         &mut self,
         at: &mut Opened<A>,
@@ -68,7 +68,7 @@ impl<S: TokenSink<Token<A>>, A: Allocator + Copy> Teller<'_, S, A> {
         Ok(Progress::Continues)
     }
 
-    // Opens a `<` of escaped script data, which is told at once where it is double-escaped.
+    // Opens a `<` of escaped script data, which is sent at once where it is double-escaped.
     fn open_less_than(
         &mut self,
         at: &mut Opened<A>,
@@ -86,7 +86,7 @@ impl<S: TokenSink<Token<A>>, A: Allocator + Copy> Teller<'_, S, A> {
         }
     }
 
-    /// The standard's "script data escaped dash state" and "script data double escaped dash state".
+    /// The standard's "Script data escaped dash state" and "Script data double escaped dash state".
     pub fn script_data_escaped_dash_state(
         &mut self,
         at: &mut Opened<A>,
@@ -111,7 +111,7 @@ impl<S: TokenSink<Token<A>>, A: Allocator + Copy> Teller<'_, S, A> {
         Ok(Progress::Continues)
     }
 
-    /// The standard's "script data escaped dash dash state" and "script data double escaped dash
+    /// The standard's "Script data escaped dash dash state" and "Script data double escaped dash
     /// dash state".
     pub fn script_data_escaped_dash_dash_state(
         &mut self,
@@ -138,8 +138,9 @@ impl<S: TokenSink<Token<A>>, A: Allocator + Copy> Teller<'_, S, A> {
         Ok(Progress::Continues)
     }
 
-    /// The standard's less-than sign states of raw text, for RCDATA, RAWTEXT, script data, escaped
-    /// and double-escaped script data.
+    /// The standard's "RCDATA less-than sign state", "RAWTEXT less-than sign state", "Script data
+    /// less-than sign state", "Script data escaped less-than sign state" and "Script data double
+    /// escaped less-than sign state".
     pub fn raw_less_than_sign_state(&mut self, at: &mut Opened<A>, kind: RawKind, c: char) -> Step
         requires { at.old.state ≡ State.RawLessThanSign kind }
         ensures { Reads S.means S.faults result self.old self.new
@@ -156,7 +157,7 @@ impl<S: TokenSink<Token<A>>, A: Allocator + Copy> Teller<'_, S, A> {
         }
     }
 
-    // Reads the `/` after `<`, which is told at once in double-escaped script data.
+    // Reads the `/` after `<`, which is sent at once in double-escaped script data.
     fn open_end_tag(&mut self, at: &mut Opened<A>, kind: RawKind) -> Step
         ensures { Reads S.means S.faults result self.old self.new
             (raw_solidus_step kind (last_name_of at.old)) at.old at.new }
@@ -172,7 +173,7 @@ impl<S: TokenSink<Token<A>>, A: Allocator + Copy> Teller<'_, S, A> {
         Ok(Progress::Continues)
     }
 
-    // Tells a `<` with the character after it.
+    // Sends a `<` with the character after it.
     fn emit_less_than_and(&mut self, c: char) -> Result<(), TokenizerError>
         ensures { Emits S.means S.faults result self.old self.new (texts (less_than ∷ c ∷ [])) }
     {
@@ -203,7 +204,7 @@ impl<S: TokenSink<Token<A>>, A: Allocator + Copy> Teller<'_, S, A> {
         Ok(Progress::Continues)
     }
 
-    // Tells the `<` that began nothing where it wasn't told, and reads the character as it stands in raw text.
+    // Sends the `<` that began nothing where it wasn't sent, and reconsumes the character in raw text.
     fn read_after_less_than(&mut self, at: &mut Opened<A>, kind: RawKind, c: char) -> Step
         ensures { Reads S.means S.faults result self.old self.new
             (raw_step self.old.exact_errors (raw_of kind) (last_name_of at.old) (told_after_less_than kind) c) at.old
@@ -213,7 +214,7 @@ impl<S: TokenSink<Token<A>>, A: Allocator + Copy> Teller<'_, S, A> {
         self.read_raw_data(at, kind, c)
     }
 
-    /// Tells a `<` of raw text that wasn't told yet.
+    /// Sends a `<` of raw text that wasn't sent yet.
     pub fn emit_after_less_than(&mut self, kind: RawKind) -> Result<(), TokenizerError>
         ensures { Emits S.means S.faults result self.old self.new (told_after_less_than kind) }
     {
@@ -223,7 +224,7 @@ impl<S: TokenSink<Token<A>>, A: Allocator + Copy> Teller<'_, S, A> {
         }
     }
 
-    // Reads the character as it stands in raw text.
+    // Reconsumes the character in raw text.
     fn read_raw_data(&mut self, at: &mut Opened<A>, kind: RawKind, c: char) -> Step
         ensures { Reads S.means S.faults result self.old self.new
             (raw_step self.old.exact_errors (raw_of kind) (last_name_of at.old) [] c) at.old at.new }
@@ -232,7 +233,8 @@ impl<S: TokenSink<Token<A>>, A: Allocator + Copy> Teller<'_, S, A> {
         self.raw_data_state(at, kind, c)
     }
 
-    /// The end tag open states of raw text.
+    /// The standard's "RCDATA end tag open state", "RAWTEXT end tag open state", "Script data end tag
+    /// open state" and "Script data escaped end tag open state".
     pub fn raw_end_tag_open_state(&mut self, at: &mut Opened<A>, kind: RawKind, c: char) -> Step
         requires { at.old.state ≡ State.RawEndTagOpen kind }
         ensures { Reads S.means S.faults result self.old self.new
@@ -242,7 +244,8 @@ impl<S: TokenSink<Token<A>>, A: Allocator + Copy> Teller<'_, S, A> {
         self.raw_end_tag_name_state(at, kind, c)
     }
 
-    /// The end tag name states of raw text. The tag begins where its name ends.
+    /// The standard's "RCDATA end tag name state", "RAWTEXT end tag name state", "Script data end tag
+    /// name state" and "Script data escaped end tag name state". The tag begins where its name ends.
     pub fn raw_end_tag_name_state(&mut self, at: &mut Opened<A>, kind: RawKind, c: char) -> Step
         ensures { Reads S.means S.faults result self.old self.new
             (end_name_step self.old.exact_errors kind (last_name_of at.old) (chars (string_bytes at.old.letters)) c)
@@ -271,7 +274,7 @@ impl<S: TokenSink<Token<A>>, A: Allocator + Copy> Teller<'_, S, A> {
         self.tag_name_state(at, c)
     }
 
-    // Tells the `</` and the letters that are no end tag, and reads the character as it stands in raw text.
+    // Sends the `</` and the letters that are no end tag, and reconsumes the character in raw text.
     fn read_after_end_name(&mut self, at: &mut Opened<A>, kind: RawKind, c: char) -> Step
         ensures { Reads S.means S.faults result self.old self.new
             (raw_step self.old.exact_errors (raw_of kind) (last_name_of at.old)
@@ -281,7 +284,7 @@ impl<S: TokenSink<Token<A>>, A: Allocator + Copy> Teller<'_, S, A> {
         self.read_raw_data(at, kind, c)
     }
 
-    /// Tells `</` and letters that are text.
+    /// Sends `</` and letters that are text.
     pub fn emit_end_name(&mut self, letters: &str) -> Result<(), TokenizerError>
         ensures { Emits S.means S.faults result self.old self.new
             (texts (less_than ∷ solidus ∷ chars letters.now)) }
@@ -291,8 +294,8 @@ impl<S: TokenSink<Token<A>>, A: Allocator + Copy> Teller<'_, S, A> {
         self.tell(Token::CharacterTokens(text))
     }
 
-    /// The standard's "script data escape start state", and its "script data double escape start
-    /// state", which is that of `DoubleEscaped`.
+    /// The standard's "Script data escape start state", and for `DoubleEscaped` its "Script data double
+    /// escape start state".
     pub fn script_data_escape_start_state(
         &mut self,
         at: &mut Opened<A>,
@@ -309,7 +312,7 @@ impl<S: TokenSink<Token<A>>, A: Allocator + Copy> Teller<'_, S, A> {
         }
     }
 
-    // Reads after the `<!` of script data.
+    // The standard's "Script data escape start state".
     fn read_after_mark(&mut self, at: &mut Opened<A>, c: char) -> Step
         ensures { Reads S.means S.faults result self.old self.new
             (mark_step self.old.exact_errors (last_name_of at.old) c) at.old at.new }
@@ -322,7 +325,7 @@ impl<S: TokenSink<Token<A>>, A: Allocator + Copy> Teller<'_, S, A> {
         Ok(Progress::Continues)
     }
 
-    /// The standard's "script data escape start dash state".
+    /// The standard's "Script data escape start dash state".
     pub fn script_data_escape_start_dash_state(&mut self, at: &mut Opened<A>, c: char) -> Step
         ensures { Reads S.means S.faults result self.old self.new
             (mark_and_dash_step self.old.exact_errors (last_name_of at.old) c) at.old at.new }
@@ -335,7 +338,7 @@ impl<S: TokenSink<Token<A>>, A: Allocator + Copy> Teller<'_, S, A> {
         Ok(Progress::Continues)
     }
 
-    /// The standard's "script data double escape end state".
+    /// The standard's "Script data double escape end state".
     pub fn script_data_double_escape_end_state(&mut self, at: &mut Opened<A>, c: char) -> Step
         ensures { Reads S.means S.faults result self.old self.new
             (switch_step self.old.exact_errors ScriptEscapeKind.DoubleEscaped (last_name_of at.old)
@@ -344,7 +347,7 @@ impl<S: TokenSink<Token<A>>, A: Allocator + Copy> Teller<'_, S, A> {
         self.read_switch(at, ScriptEscapeKind::DoubleEscaped, c)
     }
 
-    // Reads after letters that may switch between escaped and double-escaped script data.
+    // The standard's "Script data double escape start state" and "Script data double escape end state".
     fn read_switch(&mut self, at: &mut Opened<A>, kind: ScriptEscapeKind, c: char) -> Step
         ensures { Reads S.means S.faults result self.old self.new
             (switch_step self.old.exact_errors kind (last_name_of at.old) (chars (string_bytes at.old.letters)) c)
@@ -362,7 +365,7 @@ impl<S: TokenSink<Token<A>>, A: Allocator + Copy> Teller<'_, S, A> {
         Ok(Progress::Continues)
     }
 
-    // Reads a letter more of those that may switch.
+    // Reads one more of the letters that may switch.
     fn read_letter(&mut self, at: &mut Opened<A>, kind: ScriptEscapeKind, c: char) -> Step
         ensures { Reads S.means S.faults result self.old self.new
             (Tells (texts (c ∷ [])) (InRaw (InSwitch kind (chars (string_bytes at.old.letters) ++ c ∷ []))

@@ -1,4 +1,4 @@
-//! What a character reference comes to, and telling it.
+//! The standard's states of character references: what a reference comes to, and what is sent of it.
 #![tactic(auto, using(crate::proofs::Tellings::tells_from_memory), unfolding(html5ever_interface::specs::Sink::stepped))]
 
 ghost use Rattle.std.specs.Prelude.{◌≡◌, ◌≤◌, ◌||◌, ◌&&◌, ℕ, ◌+◌, ◌∷◌, ◌++◌, true, not, All, Option, Some, None, IfOk, OnOk, nat_lt, length};
@@ -42,7 +42,7 @@ fn is_in_value<A: Allocator>(at: &Opened<A>) -> bool
 }
 
 impl<S: TokenSink<Token<A>>, A: Allocator + Copy> Teller<'_, S, A> {
-    // Tells the errors of a number, and answers what it comes to.
+    // Sends the errors of a number, and answers what it comes to.
     #[tactic(auto, using(crate::proofs::Tellings::tells_from_memory), unfolding(html5grammar::specs::Reference::number_reference, html5ever_interface::specs::Sink::stepped))]
     fn resolve_number(&mut self, number: &str, next: Option<char>) -> Result<Found, TokenizerError>
         requires { is_number number.now ≡ true }
@@ -64,7 +64,7 @@ impl<S: TokenSink<Token<A>>, A: Allocator + Copy> Teller<'_, S, A> {
         })
     }
 
-    // Tells the error of a number after which no semicolon stands.
+    // Sends the error of a number that has no semicolon after it.
     #[tactic(auto, using(crate::proofs::Tellings::tells_from_memory), unfolding(html5grammar::specs::Reference::unended_number, html5ever_interface::specs::Sink::stepped))]
     fn emit_unended_number(&mut self, next: Option<char>) -> Result<(), TokenizerError>
         ensures { Emits S.means S.faults result self.old self.new (unended_number next) }
@@ -78,7 +78,7 @@ impl<S: TokenSink<Token<A>>, A: Allocator + Copy> Teller<'_, S, A> {
         }
     }
 
-    // Tells the error of a number that no character should have, where it is one.
+    // Sends the error of a number that no character should have, if it is one.
     #[tactic(auto, using(crate::proofs::Tellings::tells_from_memory), unfolding(html5grammar::specs::Reference::invalid_number, html5ever_interface::specs::Sink::stepped))]
     fn emit_invalid_number(&mut self, is_invalid: bool, low_bits: u32) -> Result<(), TokenizerError>
         ensures { Emits S.means S.faults result self.old self.new
@@ -93,7 +93,7 @@ impl<S: TokenSink<Token<A>>, A: Allocator + Copy> Teller<'_, S, A> {
         self.emit_error(invalid_number_message(self.alloc, low_bits)?)
     }
 
-    // Tells the errors of a name, and answers what it comes to.
+    // Sends the errors of a name, and answers what it comes to.
     #[tactic(auto, using(crate::proofs::Tellings::tells_from_memory), unfolding(html5grammar::specs::Reference::named_reference, html5ever_interface::specs::Sink::stepped))]
     fn resolve_name(
         &mut self,
@@ -126,7 +126,7 @@ impl<S: TokenSink<Token<A>>, A: Allocator + Copy> Teller<'_, S, A> {
         })
     }
 
-    // Tells the error of letters and digits, up to a semicolon, that no name begins.
+    // Sends the error of letters and digits, up to a semicolon, that no name begins.
     #[tactic(auto, using(crate::proofs::Tellings::tells_from_memory), unfolding(html5grammar::specs::Reference::no_name, html5ever_interface::specs::Sink::stepped))]
     fn emit_unknown_name(&mut self, held: &str, next: Option<char>) -> Result<(), TokenizerError>
         requires { IsAscii held.now }
@@ -139,7 +139,7 @@ impl<S: TokenSink<Token<A>>, A: Allocator + Copy> Teller<'_, S, A> {
         self.emit_error(unknown_name_message(self.alloc, self.exact_errors, held)?)
     }
 
-    // Tells the errors of a reference, and answers what it comes to.
+    // Sends the errors of a reference, and answers what it comes to.
     fn resolve(
         &mut self,
         names: &NamedReferences<A>,
@@ -163,7 +163,7 @@ impl<S: TokenSink<Token<A>>, A: Allocator + Copy> Teller<'_, S, A> {
         }
     }
 
-    // Puts characters where the reference stands: text is told, and a value goes on with them.
+    // Flushes characters where the reference stands: text is sent, and a value goes on with them.
     fn put_characters(
         &mut self,
         at: &mut Opened<A>,
@@ -185,8 +185,9 @@ impl<S: TokenSink<Token<A>>, A: Allocator + Copy> Teller<'_, S, A> {
         }
     }
 
-    /// Tells what the character after a reference, or the end, decides of it, and puts its
-    /// characters where it stands. Answers whether that character is the semicolon of a number.
+    /// The standard's "Character reference state" to "Numeric character reference end state", where
+    /// the reference is decided. Sends its errors, and puts its characters where it stands. Answers
+    /// whether the character after it is the semicolon of a number.
     pub fn finish_reference(
         &mut self,
         names: &NamedReferences<A>,

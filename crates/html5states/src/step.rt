@@ -17,7 +17,7 @@ use html5opened::opened::{Opened, Step};
 use std::alloc::Allocator;
 
 impl<S: TokenSink<Token<A>>, A: Allocator + Copy> Teller<'_, S, A> {
-    /// Reads one character, and tells what it brings.
+    /// Reads one character, and sends what it brings.
     #[inline(always)]
     pub fn step(&mut self, at: &mut Opened<A>, c: char) -> Step
         requires { is_undecided_open (opened_of at.old) ≡ false }

@@ -17,7 +17,7 @@ use html5opened::opened::{Opened, Step};
 use std::alloc::Allocator;
 
 impl<S: TokenSink<Token<A>>, A: Allocator + Copy> Teller<'_, S, A> {
-    /// Reads one character in a state of DOCTYPEs.
+    /// Reads one character in the standard's "DOCTYPE state" to "Bogus DOCTYPE state".
     pub fn step_in_doctype(&mut self, at: &mut Opened<A>, c: char) -> Step
         requires doctype { is_doctype_state at.old.state ≡ true }
         requires decided { is_undecided_open (opened_of at.old) ≡ false }

@@ -1,4 +1,4 @@
-//! The states within a tag but those of values, one function for each.
+//! The states within a tag, except those of values: one function for each.
 #![tactic(auto, using(crate::proofs::Tellings::tells_from_memory, crate::proofs::Tellings::tells_memory), unfolding(html5grammar::specs::Machine::tag_name_step, html5grammar::specs::Machine::part_step, html5grammar::specs::Machine::attribute_name_step, html5grammar::specs::Machine::after_attribute_name_step, html5grammar::specs::Tag::in_tag_name, html5grammar::specs::Tag::in_attribute_name, html5grammar::specs::Tag::place_error, html5grammar::specs::Tag::first_error, html5opened::specs::Steps::tokens_of, html5opened::specs::Steps::afterwards, html5ever_interface::specs::Sink::stepped))]
 
 ghost use Rattle.std.specs.Prelude.{◌≡◌, ◌∷◌, [], ◌++◌, OnOk};
@@ -22,7 +22,7 @@ use html5opened::opened::{Opened, Progress, Step};
 use std::alloc::Allocator;
 
 impl<S: TokenSink<Token<A>>, A: Allocator + Copy> Teller<'_, S, A> {
-    /// The standard's "tag name state".
+    /// The standard's "Tag name state".
     #[tactic(auto, using(crate::proofs::Tellings::tells_from_memory, crate::proofs::Tellings::tells_memory), unfolding(html5grammar::specs::Machine::tag_name_step, html5grammar::specs::Tag::in_tag_name, html5opened::specs::Steps::tokens_of, html5opened::specs::Steps::afterwards, html5ever_interface::specs::Sink::stepped))]
     pub fn tag_name_state(&mut self, at: &mut Opened<A>, c: char) -> Step
         requires { at.old.state ≡ State.TagName }
@@ -44,7 +44,7 @@ impl<S: TokenSink<Token<A>>, A: Allocator + Copy> Teller<'_, S, A> {
         Ok(Progress::Continues)
     }
 
-    /// The standard's "before attribute name state".
+    /// The standard's "Before attribute name state".
     pub fn before_attribute_name_state(&mut self, at: &mut Opened<A>, c: char) -> Step
         ensures { Reads S.means S.faults result self.old self.new
             (part_step self.old.exact_errors BeforeAttribute (open_tag at.old.tag) c) at.old at.new }
@@ -63,7 +63,7 @@ impl<S: TokenSink<Token<A>>, A: Allocator + Copy> Teller<'_, S, A> {
         Ok(Progress::Continues)
     }
 
-    /// The standard's "attribute name state".
+    /// The standard's "Attribute name state".
     #[tactic(auto, using(crate::proofs::Tellings::tells_from_memory, crate::proofs::Tellings::tells_memory), unfolding(html5grammar::specs::Machine::attribute_name_step, html5grammar::specs::Tag::in_attribute_name, html5opened::specs::Steps::tokens_of, html5opened::specs::Steps::afterwards, html5ever_interface::specs::Sink::stepped))]
     pub fn attribute_name_state(&mut self, at: &mut Opened<A>, c: char) -> Step
         requires { at.old.state ≡ State.AttributeName }
@@ -86,7 +86,7 @@ impl<S: TokenSink<Token<A>>, A: Allocator + Copy> Teller<'_, S, A> {
         Ok(Progress::Continues)
     }
 
-    /// The standard's "after attribute name state".
+    /// The standard's "After attribute name state".
     pub fn after_attribute_name_state(&mut self, at: &mut Opened<A>, c: char) -> Step
         requires { at.old.state ≡ State.AfterAttributeName }
         ensures { Reads S.means S.faults result self.old self.new
@@ -104,7 +104,7 @@ impl<S: TokenSink<Token<A>>, A: Allocator + Copy> Teller<'_, S, A> {
         Ok(Progress::Continues)
     }
 
-    // Tells the errors that stand before an attribute: one of its first character, and one of the
+    // Sends the errors that stand before an attribute: one of its first character, and one of the
     // attribute before it, which ends here.
     fn finish_previous_attribute(
         &mut self,
@@ -142,7 +142,7 @@ impl<S: TokenSink<Token<A>>, A: Allocator + Copy> Teller<'_, S, A> {
         Ok(())
     }
 
-    /// The standard's "self-closing start tag state".
+    /// The standard's "Self-closing start tag state".
     pub fn self_closing_start_tag_state(&mut self, at: &mut Opened<A>, c: char) -> Step
         ensures { Reads S.means S.faults result self.old self.new
             (part_step self.old.exact_errors AfterSolidus (open_tag at.old.tag) c) at.old at.new }
@@ -153,7 +153,8 @@ impl<S: TokenSink<Token<A>>, A: Allocator + Copy> Teller<'_, S, A> {
         self.read_before_attribute(at, c, State::SelfClosingStartTag)
     }
 
-    /// Tells that the character is not what was expected, and reads it as before an attribute.
+    /// Sends the error of a character that was not expected, and reconsumes it in the standard's
+    /// "Before attribute name state".
     pub fn read_before_attribute(&mut self, at: &mut Opened<A>, c: char, expected: State) -> Step
         ensures { Reads S.means S.faults result self.old self.new
             (told_first (error_in self.old.exact_errors expected c ∷ [])

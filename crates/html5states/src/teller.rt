@@ -1,4 +1,4 @@
-//! Whom a tokenizer tells, and how.
+//! Sends tokens and errors to the sink.
 #![tactic(auto, using(crate::proofs::Tellings::tells_from_memory), unfolding(html5ever_interface::specs::Sink::stepped))]
 
 ghost use Rattle.std.specs.Prelude.{◌≡◌, ◌≢◌, List, ◌∷◌, [], false, IfOk, encode_utf8, string_bytes};
@@ -15,7 +15,7 @@ use html5opened::error::TokenizerError;
 use html5opened::message::{bad_character_message, is_bad, saw_end_message, saw_message, text_of};
 use std::alloc::Allocator;
 
-/// The sink that is told, the line of what it is told, and whether errors are exact.
+/// The sink, the line of what it is sent, and whether errors are exact.
 pub struct Teller<'s, S, A> {
     pub sink: &'s mut S,
     pub alloc: A,
@@ -37,8 +37,8 @@ impl<S, A: Drop> Drop for Teller<'_, S, A> {
 }
 
 impl<S: TokenSink<Token<A>>, A: Allocator + Copy> Teller<'_, S, A> {
-    /// Hands the sink a token that isn't a tag, so the tokenizer keeps on. A text of several characters
-    /// is the same to a sink as each of them by itself, also where some of them stand on earlier lines.
+    /// Sends the sink a token that isn't a tag, so the tokenizer keeps on. To a sink a text of several
+    /// characters is the same as each of them by itself, even where some stand on earlier lines.
     #[inline(always)]
     pub fn hand_on(&mut self, token: Token<A>) -> Result<(), TokenizerError>
         requires no_tag { is_tag (told_by token) ≡ false }
@@ -57,7 +57,7 @@ impl<S: TokenSink<Token<A>>, A: Allocator + Copy> Teller<'_, S, A> {
         }
     }
 
-    /// Tells the sink a token that isn't a tag, a text by its characters.
+    /// Sends the sink a token that isn't a tag, a text by its characters.
     #[inline(always)]
     pub fn tell(&mut self, token: Token<A>) -> Result<(), TokenizerError>
         requires no_tag { is_tag (told_by token) ≡ false }
@@ -68,7 +68,7 @@ impl<S: TokenSink<Token<A>>, A: Allocator + Copy> Teller<'_, S, A> {
         self.hand_on(token)
     }
 
-    /// Tells the sink a tag, and answers its reply.
+    /// Sends the sink a tag, and answers its reply.
     #[inline(always)]
     pub fn tell_tag(
         &mut self,
@@ -84,7 +84,7 @@ impl<S: TokenSink<Token<A>>, A: Allocator + Copy> Teller<'_, S, A> {
         }
     }
 
-    /// Tells the sink a text of one character.
+    /// Sends the sink a text of one character.
     #[inline(always)]
     pub fn emit_char(&mut self, c: char) -> Result<(), TokenizerError>
         ensures { Emits S.means S.faults result self.old self.new
@@ -93,7 +93,7 @@ impl<S: TokenSink<Token<A>>, A: Allocator + Copy> Teller<'_, S, A> {
         self.tell(Token::CharacterTokens(text_of(self.alloc, c)?))
     }
 
-    /// Tells the sink an error.
+    /// Sends the sink an error.
     pub fn emit_error(&mut self, message: String<A>) -> Result<(), TokenizerError>
         ensures { Emits S.means S.faults result self.old self.new
             (Error (string_bytes message) ∷ []) }
@@ -101,7 +101,7 @@ impl<S: TokenSink<Token<A>>, A: Allocator + Copy> Teller<'_, S, A> {
         self.tell(Token::ParseError(message))
     }
 
-    /// Tells the sink an error with that text.
+    /// Sends the sink an error with that text.
     pub fn emit_message(&mut self, message: &str) -> Result<(), TokenizerError>
         ensures { Emits S.means S.faults result self.old self.new
             (Error message.now ∷ []) }
@@ -109,7 +109,7 @@ impl<S: TokenSink<Token<A>>, A: Allocator + Copy> Teller<'_, S, A> {
         self.emit_error(String::from_str(self.alloc, message)?)
     }
 
-    /// Tells the sink an error with that text, where there is one.
+    /// Sends the sink an error with that text, if there is one.
     pub fn emit_message_where(&mut self, holds: bool, message: &str) -> Result<(), TokenizerError>
         ensures { Emits S.means S.faults result self.old self.new
             (where_true holds (Error message.now)) }
@@ -120,7 +120,7 @@ impl<S: TokenSink<Token<A>>, A: Allocator + Copy> Teller<'_, S, A> {
         self.emit_message(message)
     }
 
-    /// Tells the sink that a state doesn't expect the character.
+    /// Sends the sink the error of a character that a state doesn't expect.
     pub fn emit_unexpected(&mut self, c: char, state: State) -> Result<(), TokenizerError>
         ensures { Emits S.means S.faults result self.old self.new
             (error_in self.old.exact_errors state c ∷ []) }
@@ -128,7 +128,7 @@ impl<S: TokenSink<Token<A>>, A: Allocator + Copy> Teller<'_, S, A> {
         self.emit_error(saw_message(self.alloc, self.exact_errors, c, state.name())?)
     }
 
-    /// Tells the sink that a state doesn't expect the character, where that is so.
+    /// Sends the sink the error of a character that a state doesn't expect, if it is one.
     pub fn emit_unexpected_where(
         &mut self,
         holds: bool,
@@ -144,7 +144,7 @@ impl<S: TokenSink<Token<A>>, A: Allocator + Copy> Teller<'_, S, A> {
         self.emit_unexpected(c, state)
     }
 
-    /// Tells the sink that a state doesn't expect the end of input.
+    /// Sends the sink the error of an end of input that a state doesn't expect.
     pub fn emit_end_error(&mut self, state: State) -> Result<(), TokenizerError>
         ensures { Emits S.means S.faults result self.old self.new
             (end_error_in self.old.exact_errors state ∷ []) }
@@ -152,7 +152,7 @@ impl<S: TokenSink<Token<A>>, A: Allocator + Copy> Teller<'_, S, A> {
         self.emit_error(saw_end_message(self.alloc, self.exact_errors, state.name())?)
     }
 
-    /// Reports a bad character, with exact errors.
+    /// Sends the sink the error of a bad character, where errors are exact.
     #[inline(always)]
     pub fn emit_bad_character(&mut self, c: char) -> Result<(), TokenizerError>
         ensures { Emits S.means S.faults result self.old self.new

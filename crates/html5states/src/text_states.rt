@@ -22,7 +22,7 @@ use html5opened::opened::{Opened, Progress, Step};
 use std::alloc::Allocator;
 
 impl<S: TokenSink<Token<A>>, A: Allocator + Copy> Teller<'_, S, A> {
-    // Tells that the character is not what was expected, and then a text of one character.
+    // Sends the error of a character that was not expected, and then a text of one character.
     fn emit_unexpected_then(
         &mut self,
         c: char,
@@ -36,7 +36,7 @@ impl<S: TokenSink<Token<A>>, A: Allocator + Copy> Teller<'_, S, A> {
         self.emit_char(text)
     }
 
-    // Tells a NUL between tags, which is an error and a token of its own.
+    // Sends a NUL between tags, which is an error and a token of its own.
     fn emit_null(&mut self, c: char) -> Result<(), TokenizerError>
         ensures { Emits S.means S.faults result self.old self.new
             (error_in self.old.exact_errors State.Data c ∷ Null ∷ []) }
@@ -45,7 +45,7 @@ impl<S: TokenSink<Token<A>>, A: Allocator + Copy> Teller<'_, S, A> {
         self.tell(Token::NullCharacterToken)
     }
 
-    /// Tells a character that is text; NUL is an error in the state, and U+FFFD.
+    /// Sends a character that is text; NUL is an error in the state, and U+FFFD.
     #[inline(always)]
     pub fn emit_text_character(&mut self, c: char, state: State) -> Result<(), TokenizerError>
         ensures { Emits S.means S.faults result self.old self.new
@@ -69,7 +69,7 @@ impl<S: TokenSink<Token<A>>, A: Allocator + Copy> Teller<'_, S, A> {
         Ok(Progress::Continues)
     }
 
-    /// The standard's "data state".
+    /// The standard's "Data state".
     #[inline(always)]
     pub fn data_state(&mut self, at: &mut Opened<A>, c: char) -> Step
         requires { at.old.state ≡ State.Data }
@@ -85,7 +85,7 @@ impl<S: TokenSink<Token<A>>, A: Allocator + Copy> Teller<'_, S, A> {
         Ok(Progress::Continues)
     }
 
-    // Tells the `<` that opened nothing, and reads the character as it stands between tags.
+    // Sends the `<` that opened nothing, and reconsumes the character in the standard's "Data state".
     fn read_in_data(&mut self, at: &mut Opened<A>, c: char) -> Step
         ensures { Reads S.means S.faults result self.old self.new
             (data_step self.old.exact_errors (error_in self.old.exact_errors State.TagOpen c ∷ Text (codes "<") ∷ []) c)
@@ -106,7 +106,7 @@ impl<S: TokenSink<Token<A>>, A: Allocator + Copy> Teller<'_, S, A> {
         self.tag_name_state(at, c)
     }
 
-    /// The standard's "tag open state".
+    /// The standard's "Tag open state".
     pub fn tag_open_state(&mut self, at: &mut Opened<A>, c: char) -> Step
         requires { at.old.state ≡ State.TagOpen }
         ensures { Reads S.means S.faults result self.old self.new
@@ -134,7 +134,7 @@ impl<S: TokenSink<Token<A>>, A: Allocator + Copy> Teller<'_, S, A> {
         }
     }
 
-    /// The standard's "end tag open state".
+    /// The standard's "End tag open state".
     pub fn end_tag_open_state(&mut self, at: &mut Opened<A>, c: char) -> Step
         requires { at.old.state ≡ State.EndTagOpen }
         ensures { Reads S.means S.faults result self.old self.new

@@ -20,7 +20,7 @@ use html5opened::opened::{Opened, Progress, Step};
 use std::alloc::Allocator;
 
 impl<S: TokenSink<Token<A>>, A: Allocator + Copy> Teller<'_, S, A> {
-    /// The standard's "before attribute value state".
+    /// The standard's "Before attribute value state".
     pub fn before_attribute_value_state(&mut self, at: &mut Opened<A>, c: char) -> Step
         requires { at.old.state ≡ State.BeforeAttributeValue }
         ensures { Reads S.means S.faults result self.old self.new
@@ -52,8 +52,8 @@ impl<S: TokenSink<Token<A>>, A: Allocator + Copy> Teller<'_, S, A> {
         self.end_tag(at, false)
     }
 
-    /// The standard's "attribute value (double-quoted) state" and its
-    /// "attribute value (single-quoted) state".
+    /// The standard's "Attribute value (double-quoted) state" and its
+    /// "Attribute value (single-quoted) state".
     pub fn attribute_value_quoted_state(&mut self, at: &mut Opened<A>, kind: Kind, c: char) -> Step
         requires { at.old.state ≡ State.AttributeValue kind }
         ensures { Reads S.means S.faults result self.old self.new
@@ -71,7 +71,7 @@ impl<S: TokenSink<Token<A>>, A: Allocator + Copy> Teller<'_, S, A> {
         Ok(Progress::Continues)
     }
 
-    /// The standard's "attribute value (unquoted) state".
+    /// The standard's "Attribute value (unquoted) state".
     pub fn attribute_value_unquoted_state(&mut self, at: &mut Opened<A>, c: char) -> Step
         requires { at.old.state ≡ State.AttributeValue Kind.Unquoted }
         ensures { Reads S.means S.faults result self.old self.new
@@ -93,7 +93,7 @@ impl<S: TokenSink<Token<A>>, A: Allocator + Copy> Teller<'_, S, A> {
         Ok(Progress::Continues)
     }
 
-    /// The standard's "after attribute value (quoted) state".
+    /// The standard's "After attribute value (quoted) state".
     pub fn after_attribute_value_quoted_state(&mut self, at: &mut Opened<A>, c: char) -> Step
         ensures { Reads S.means S.faults result self.old self.new
             (part_step self.old.exact_errors AfterQuotedValue (open_tag at.old.tag) c) at.old at.new }

@@ -1,4 +1,4 @@
--- What is told of a source, or handed to a handler, is what the items of its text tell.
+-- What is sent of a source, or handed to a handler, is what the items of its text tell.
 use Rattle.std.proofs.Common.{◌≡◌, ℕ, List, ◌++◌, Option, refl, ap, ◌∙◌}
 use Rattle.std.specs.Str.{chars}
 use Rattle.html5ever_interface.specs.Options.{OptionsOf, default_options}

@@ -36,7 +36,7 @@ SourceStops-unmoved means Sink s M t unmoved (inr all) =
 SourceStops-unmoved means TooLong s M t unmoved stops = stops
 
 module _ {X S T H : Type 0} (means : Means X T H) (handler : T → S) (page : S → List ℕ → List Message) (handed : S → List Message → S) where
-  -- a page's messages are those of a reading, and the handler is handed what its sink is told
+  -- a page's messages are those of a reading, and the handler is handed what its sink is sent
   pub record IsPage (opts : OptionsOf) (names : List NamedReference) (from : T) (s : S) : Type 0 where
     pub told : (bytes : List ℕ) → page s bytes ≡ all_messages means (rules_of opts names) (start_of opts) from (chars bytes)
     pub afterwards : (M : List Message) → handed s M ≡ handler (stepped means.step from M)
@@ -53,6 +53,7 @@ module _ {X S T H : Type 0} (means : Means X T H) (handler : T → S) (page : S 
     told = ap handler (reads.told ∙ is.unmoved.finish _) ∙ sym (is.afterwards _) ∙ ap (λ M. handed s M) (sym (is.told reads.bytes));
   }
 
+  -- a handler stops where its sink does
   pub page-stopped : (opts : OptionsOf) (names : List NamedReference) (from : T) (s : S) (before after : Option (List ℕ)) (t : T)
       → IsPage opts names from s → (e : StreamError) → StopsSource means e opts names from before after t
       → StopsPage page handed before after s (handler t)

@@ -96,6 +96,7 @@ module _ {X S H : Type 0} (means : Means X S H) where
     pub going_on : t.ended ≡ false
     pub not_failed : t.failed ≡ false
 
+  -- at the start of a stream nothing was read
   pub HasRead-start : (known : Option (List ℕ)) (first : Tokenizing X) (decoder : Decoding) → decoder.held ≡ [] → decoder.taken ≡ 0
       → first.ended ≡ false → first.failed ≡ false → HasRead known known first first decoder
   HasRead-start known first decoder none start going_on not_failed =
@@ -112,6 +113,7 @@ module _ {X S H : Type 0} (means : Means X S H) where
         not_failed = not_failed;
       }
 
+  -- one piece more was read, decoded and fed
   pub HasRead-more : (before now after : Option (List ℕ)) (first t u : Tokenizing X) (old new : Decoding) (more : List ℕ)
       → HasRead before now first t old → Consumes now after more → TakesBytes means old new t u more
       → HasRead before after first u new
@@ -151,6 +153,7 @@ module _ {X S H : Type 0} (means : Means X S H) where
         not_failed = had.not_failed;
       }
 
+  -- at the end of the source all of its text was fed
   pub HasRead-whole : (before after : Option (List ℕ)) (first t : Tokenizing X) (decoder : Decoding)
       → HasRead before after first t decoder → decoder.held ≡ [] → IsAtEnd after → TakesText means before after first t
   HasRead-whole before after first t decoder had none at_end =
@@ -197,6 +200,7 @@ module _ {X S H : Type 0} (means : Means X S H) where
         settled = inl (IsNeverUtf8-after had.text (held.held ++ more) had.utf8 never);
       }
 
+  -- the text was taken, and then the end was sent
   pub FinishesText-end : (before after : Option (List ℕ)) (t u : Tokenizing X) (v : S)
       → TakesText means before after t u → Finishes means u v
       → FinishesText means before after t v
@@ -224,6 +228,7 @@ module _ {X S H : Type 0} (means : Means X S H) where
         told = subst (λ b. v ≡ state_at_end means b (start_of opts) s (chars read.bytes)) same (read.finishes (start_of opts) s [] stands);
       }
 
+  -- a stop within a text is one within its reading from the start of a stream
   pub StopsSource-start : (opts : OptionsOf) (names : List NamedReference) (before after : Option (List ℕ)) (t : Tokenizing X) (s v : S)
       → StandsAt means t (start_of opts) s [] → t.rules ≡ rules_of opts names
       → (error : StreamError) → StopsText means error before after t v
@@ -239,6 +244,7 @@ module _ {X S H : Type 0} (means : Means X S H) where
         may_go_on = stops.may_go_on;
       }
 
+  -- where a read failed, the sink was sent what the text up to there decides
   pub TellsGiven-start : {T : Type 0} (r : Result T StreamError) (opts : OptionsOf) (names : List NamedReference) (before after : Option (List ℕ)) (t : Tokenizing X) (s v : S)
       → StandsAt means t (start_of opts) s [] → t.rules ≡ rules_of opts names
       → IfErr r (λ error. StopsText means error before after t v) → r ≡ Err Read
@@ -273,7 +279,7 @@ module _ {X S H : Type 0} (means : Means X S H) where
   SourceStops-within Sink s v M none stops = absurd (omega (arith, none))
   SourceStops-within TooLong s v M none stops = stops
 
-  -- what was told so far is a beginning of the reading
+  -- what was sent so far is a beginning of the reading
   stops-here : (t : Tokenizing X) (K : Start) (s : S) (text : List ℕ) → StandsAt means t K s text
       → StopsWithin means.step means.faulted s (all_messages means t.rules K s text) (means.state t.sink)
   stops-here t K s text stands =

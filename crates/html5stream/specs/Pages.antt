@@ -47,7 +47,7 @@ pub record StopsPage {S : Type 0} (page : S → List ℕ → List Message) (hand
   pub parts : page before text ≡ told ++ untold
   pub state : after ≡ handed before told
 
--- what a sink of tags makes of what it is told, and what a sink of runs does, where a handler replies as the standard does
+-- what a sink of tags makes of what it is sent, and what a sink of runs does, where a handler replies as the standard does
 module _ {X S : Type 0} where
   abbrev pub tags_means : (X → Tagged S) → (S → TagOf → ℕ → S) → Means X (Tagged S) (Unit {0})
   tags_means state step = record {
@@ -76,7 +76,7 @@ module _ {S : Type 0} where
   abbrev pub tags_start : S → Tagged S
   tags_start s = record { handler = s; foreign = false }
 
-  -- the messages of a page whose bytes are given, where a handler of tags is told
+  -- the messages of a page whose bytes are given, as a handler of tags is sent them
   unfoldable pub tags_page : (S → TagOf → ℕ → S) → List NamedReference → S → List ℕ → List Message
   tags_page step names s bytes =
       all_messages (tags_means (λ t. t) step) (rules_of default_options names) (start_of default_options) (tags_start s) (chars bytes)
@@ -98,7 +98,7 @@ module _ {S : Type 0} where
   abbrev pub runs_start : S → Running S
   runs_start s = record { joined = joined_of s []; foreign = false }
 
-  -- the messages of a page whose bytes are given, where a handler of runs is told
+  -- the messages of a page whose bytes are given, as a handler of runs is sent them
   unfoldable pub runs_page : (S → List ℕ → Told → ℕ → S) → List NamedReference → S → List ℕ → List Message
   runs_page step names s bytes =
       all_messages (runs_means (λ t. t) step) (rules_of default_options names) (start_of default_options) (runs_start s) (chars bytes)

@@ -49,7 +49,7 @@ pub record GivesNoText (place : ℕ) (before after : Option (List ℕ)) : Type 0
   pub settled : IsNeverUtf8 bytes ⊎ IsAtEnd after
 
 module _ {X S H : Type 0} (means : Means X S H) where
-  -- what each error leaves of the messages that a text tells: a beginning of them was told, and the sink may have faulted after it,
+  -- what each error leaves of the messages that a text tells: a beginning of them was sent, and the sink may have faulted after it,
   -- or at its own end
   abbrev pub SourceStops : StreamError → S → List Message → S → Type 0
   SourceStops Read s M t = StopsWithin means.step means.faulted s M t
@@ -58,7 +58,7 @@ module _ {X S H : Type 0} (means : Means X S H) where
   SourceStops Sink s M t = FaultsWithin means.step means.faulted s M t ⊎ (t ≡ means.end_faulted (stepped means.step s M))
   SourceStops TooLong s M t = StopsWithin means.step means.faulted s M t
 
-  -- the source gave a text up to its end, and its whole reading was told; then the sink finished
+  -- the source gave a text up to its end, and its whole reading was sent; then the sink finished
   pub record ReadsSource (opts : OptionsOf) (names : List NamedReference) (s : S) (before after : Option (List ℕ)) (t : S) : Type 0 where
     pub bytes : List ℕ
     pub given : Consumes before after bytes
@@ -66,7 +66,7 @@ module _ {X S H : Type 0} (means : Means X S H) where
     pub utf8 : IsUtf8 bytes
     pub told : t ≡ finished_reading means opts names s (chars bytes)
 
-  -- the same by items: what the items of the text tell, and its end, was told
+  -- the same by items: what the items of the text tell, and its end, was sent
   pub record ReadsSourceItems (opts : OptionsOf) (names : List NamedReference) (s : S) (before after : Option (List ℕ)) (t : S) : Type 0 where
     pub bytes : List ℕ
     pub given : Consumes before after bytes
@@ -74,8 +74,8 @@ module _ {X S H : Type 0} (means : Means X S H) where
     pub utf8 : IsUtf8 bytes
     pub told : FinishedByItems means opts names s (chars bytes) t
 
-  -- what the source gave begins with a text, and the sink stopped within the reading of that; where the error is not of the bytes,
-  -- they can still become a text
+  -- what the source gave begins with a text, and the sink stopped within the reading of that. Where the error is not of the bytes,
+  -- they can still become a text.
   pub record StopsSource (error : StreamError) (opts : OptionsOf) (names : List NamedReference) (s : S)
       (before after : Option (List ℕ)) (t : S) : Type 0 where
     pub text : List ℕ
@@ -85,7 +85,7 @@ module _ {X S H : Type 0} (means : Means X S H) where
     pub stopped : SourceStops error s (all_messages means (rules_of opts names) (start_of opts) s (chars text)) t
     pub may_go_on : ((place : ℕ) → error ≢ NotUtf8 place) → ¬ (IsNeverUtf8 (text ++ rest))
 
-  -- what the source gave is a text, and after it at most a beginning of a character: exactly what the text decides was told
+  -- what the source gave is a text, and after it at most a beginning of a character: exactly what the text decides was sent
   pub record TellsGiven (opts : OptionsOf) (names : List NamedReference) (s : S) (before after : Option (List ℕ)) (t : S) : Type 0 where
     pub text : List ℕ
     pub rest : List ℕ

@@ -34,7 +34,7 @@ module _ {X S H : Type 0} (means : Means X S H) where
     pub reads : ReadsOn means t u (chars bytes)
     pub rules : u.rules ≡ t.rules
 
-  -- and then the end was told, and the sink finished
+  -- and then the end was sent, and the sink finished
   pub record FinishesText (before after : Option (List ℕ)) (t : Tokenizing X) (v : S) : Type 0 where
     pub bytes : List ℕ
     pub given : Consumes before after bytes
@@ -42,7 +42,7 @@ module _ {X S H : Type 0} (means : Means X S H) where
     pub utf8 : IsUtf8 bytes
     pub finishes : ReadsWhole means t (chars bytes) v
 
-  -- from wherever the tokenizer stood, exactly what is decided by what was taken and `more` was told
+  -- from wherever the tokenizer stood, exactly what is decided by what was taken and `more` was sent
   abbrev pub TellsDecided : Tokenizing X → List ℕ → S → Type 0
   TellsDecided t more v =
       (K : Start) (s : S) (front : List ℕ) → StandsAt means t K s front

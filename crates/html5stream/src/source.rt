@@ -152,7 +152,7 @@ fn read_text<R: Source, S: TokenSink<Token<A>>, A: Allocator + Copy>(
     Err(StreamError::TooLong)
 }
 
-// Tells the end of the input, and has the sink finish.
+// Sends the end of the input, and has the sink finish.
 fn tell_end<S: TokenSink<Token<A>>, A: Allocator + Copy>(
     tokenizer: &mut Tokenizer<'_, S, A>,
 ) -> Result<(), StreamError>
@@ -171,7 +171,7 @@ fn tell_end<S: TokenSink<Token<A>>, A: Allocator + Copy>(
     }
 }
 
-// Feeds the tokenizer all that the source gives, and tells the end.
+// Feeds the tokenizer all that the source gives, and sends the end.
 fn read_all<R: Source, S: TokenSink<Token<A>>, A: Allocator + Copy>(
     alloc: A,
     source: &mut R,
@@ -190,9 +190,9 @@ fn read_all<R: Source, S: TokenSink<Token<A>>, A: Allocator + Copy>(
     tell_end(tokenizer)
 }
 
-/// Reads a source to its end, 4,096 bytes at a time, from the start of a stream, and hands the sink back:
-/// it has finished after all that the source's text tells, or after an error it was told a beginning of
-/// what the text so far tells. No read is tried again after it failed.
+/// Reads a source to its end, 4,096 bytes at a time, from the start of a stream, and hands the sink back.
+/// The sink was sent all that the source's text tells, and finished. After an error it was sent a
+/// beginning of what the text so far tells. No read is tried again after it failed.
 pub fn read_source<R: Source, S: TokenSink<Token<A>>, A: Allocator + Copy>(
     alloc: A,
     source: &mut R,
@@ -202,7 +202,7 @@ pub fn read_source<R: Source, S: TokenSink<Token<A>>, A: Allocator + Copy>(
 ) -> (S, Result<(), StreamError>)
     requires { CanStart opts.initial_state }
 
-    // What an `Ok` says: the source is at its end, and the whole reading of its text was told.
+    // What an `Ok` says: the source is at its end, and the sink was sent the whole reading of its text.
     ensures finishes { OnOk result.1 (ReadsSource S.means (options_of opts) names.now (S.means.state sink)
         (R.remaining source.old) (R.remaining source.new) (S.means.state result.0)) }
     ensures items { OnOk result.1 (ReadsSourceItems S.means (options_of opts) names.now (S.means.state sink)

@@ -53,6 +53,7 @@ parsed_character (Err e) = None
 large : (number : ℕ) → 2 ^ 32 ≤ number → is_character number ≡ false
 large number high = grind (arith, nat_tests)
 
+-- digits that were parsed are the character that they say
 said-parsed : {E : Type 0} (digits : List ℕ) (r : Result ℕ E) → is_hexadecimal digits ≡ true
     → OkIff r (((0 < length digits) × AllDigits 16 digits) × (digits_value 16 digits < 2 ^ 32)) (digits_value 16 digits)
     → parsed_character r ≡ character_said digits
@@ -82,6 +83,7 @@ character_said-none digits wrong = rw wrong refl
 abbrev pub texts_of : Option (Bor (List ℕ) × Bor (List ℕ)) → Option (List ℕ × List ℕ)
 texts_of parts = option_map (λ p. (p.0.now, p.1.now)) parts
 
+-- a text that was split at a character is its two parts
 pub parts_round-split : (c : ℕ) (text : List ℕ) (r : Option (Bor (List ℕ) × Bor (List ℕ))) → c < 128 → SplitsAtFirstByte (FindsChar c) (Some c) text r
     → parts_round (λ b. b == c) text ≡ texts_of r
 unfolding parts_round

@@ -32,6 +32,7 @@ appended-three B X Y Z = append_assoc (B ++ X) Y Z ∙ append_assoc B X (Y ++ Z)
 appended-four : (B X Y Z W : List ℕ) → (((B ++ X) ++ Y) ++ Z) ++ W ≡ B ++ (X ++ (Y ++ (Z ++ W)))
 appended-four B X Y Z W = append_assoc ((B ++ X) ++ Y) Z W ∙ appended-three B X Y (Z ++ W)
 
+-- the bytes of an attribute are those that were handed in, escaped
 pub bytes-attribute : (before name value : List ℕ) → IsUtf8 name
     → ((((before ++ codes " ") ++ name) ++ codes "=\"") ++ bytes (escaped_text value)) ++ codes "\""
     ≡ before ++ bytes (attribute_text (record { name = chars name; value = value }))
@@ -73,6 +74,7 @@ HasBytes c = (reference : List ℕ) → reference_of c ≡ Some reference → re
 plain-bytes : (c : ℕ) → IsPlain c → HasBytes c
 plain-bytes c p reference is = absurd (true≢false (ap is_none (sym p.no_reference ∙ is)))
 
+-- the bytes of a character are those of what is written for it
 pub bytes-reference : (c : ℕ) → HasBytes c
 unfolding escaped reference_of lib.Utf8.encode
 bytes-reference c =

@@ -146,6 +146,7 @@ written-comment : (content : List ℕ) → written (Proper content Dashes) ≡ p
 unfolding written
 written-comment content = ap (λ l. codes "<!--" ++ l) (append_assoc content (codes "--") (codes ">"))
 
+-- a comment that can be written tells no error
 messages-comment : (exact : Bool) (input : Input) (content : List ℕ) → can_write (CommentPiece content) ≡ true
     → messages_of exact input (Proper content Dashes) ≡ spelled_messages exact input [] (spell_comment content)
 unfolding messages_of
@@ -159,6 +160,7 @@ messages-comment exact input content h =
     ∙ ap (λ cells. spelled_messages exact input [] (spell_silent (codes "<!--") ++ cells)) (append_assoc (spell_silent content) (spell_silent (codes "--")) (last (encode_utf8_all content)))
 
 module _ {X S H : Type 0} (means : Means X S H) (rules : Rules) where
+  -- a comment that is written tells itself
   pub comment-told : (K : Start) (s : S) (content : List ℕ) → IsOpen K → can_write (CommentPiece content) ≡ true
       → TellsByItself means rules K s (piece_text (CommentPiece content)) (spelled_messages rules.exact K.input [] (spell_comment content))
       (start_beyond K (piece_text (CommentPiece content)) (Between Data) K.last_start_tag)

@@ -37,6 +37,7 @@ module _ {X S H : Type 0} (means : Means X S H) (rules : Rules) where
   piece-told K s (EndTagPiece name) table here can keeps = end_tag-told means rules K s name table here can keeps
   piece-told K s (CommentPiece text) table here can keeps = comment-told means rules K s text here can
 
+  -- a page tells its pieces: the statement of `page`
   pub page-told : (K : Start) (s : S) (pieces : List Piece) → IsTable rules.names → IsOpen K → list_all can_write pieces ≡ true → KeepsOn means.reply pieces
       → TellsByItself means rules K s (page_text pieces) (page_messages rules.exact K.input pieces) (start_after_page K pieces)
   unfolding page_messages last_after_page

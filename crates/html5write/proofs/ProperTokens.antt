@@ -31,7 +31,7 @@ errors-where : (holds : Bool) (message : List ℕ) → AreErrors (where_true hol
 errors-where true message = refl
 errors-where false message = refl
 
--- characters at which only errors are told
+-- characters at which only errors are sent
 abbrev TellErrors : List Spelled → Type 0
 TellErrors [] = Unit {0}
 TellErrors (here ∷ more) = AreErrors here.told × TellErrors more
@@ -108,6 +108,7 @@ proper-three exact input one two three token f g h =
     ap (λ l. proper (spelled_messages exact input [] (one ++ l))) (sym (append_assoc two three (spell_end token)))
     ∙ proper-two exact input one (two ++ three) token f (tell-append two three g h)
 
+-- but for errors a text tells its characters
 proper-text : (exact : Bool) (input : Input) (text : List ℕ) → proper (text_messages exact input text) ≡ map (λ c. Text (encode_utf8 c)) text
 unfolding text_messages proper
 proper-text exact input [] = refl

@@ -1,4 +1,4 @@
--- The bytes of attributes that are told.
+-- The bytes of attributes that are sent.
 use Rattle.std.proofs.Common.{◌≡◌, ℕ, ◌+◌, ◌<◌, ◌≤◌, List, length, get_or, drop, map, refl, sym, ◌∙◌}
 use Rattle.std.specs.Prelude.{chars, encode_utf8_all}
 use Rattle.std.proofs.lemmas.List.{at_drop_more, at_drop_all}

@@ -24,6 +24,7 @@ module _ {X S H : Type 0} (means : Means X S H) (rules : Rules) where
   leads-first Z K s Y M later item =
       item.leads K s [] (after-nil means.step means.reply means.foreign rules K s) (ap (stepped means.step s) (told-nil means.step means.reply means.foreign rules K s))
 
+  -- two texts that tell their messages by themselves tell both, one after the other
   pub in_sequence : (K : Start) (s : S) (Y : List ℕ) (M : List Message) (between : Start) (Z : List ℕ) (N : List Message) (later : Start)
       → TellsByItself means rules K s Y M between
       → TellsByItself means rules between (stepped means.step s M) Z N later

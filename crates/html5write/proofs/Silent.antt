@@ -16,7 +16,7 @@ use Rattle.html5write.specs.Pieces.{NameAndValue, Piece, piece_text}
 use Rattle.html5write.specs.Pieces.Piece.{TextPiece, StartTagPiece, EndTagPiece, CommentPiece}
 use Rattle.html5write.specs.Told.{has_no_return, is_without_return, tokens_of, return_error, character_told, text_messages, spell_first, spell_escaped, spell_attribute, spell_end, piece_messages, page_messages, piece_tokens, page_tokens}
 
--- characters at which nothing is told
+-- characters at which nothing is sent
 abbrev TellNothing : List Spelled → Type 0
 TellNothing [] = Unit {0}
 TellNothing (here ∷ more) = (here.told ≡ []) × TellNothing more

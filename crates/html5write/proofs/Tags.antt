@@ -77,6 +77,7 @@ module _ {X S H : Type 0} (means : Means X S H) (rules : Rules) where
       (subst (λ r. TellsByItself means rules K s Y M (start_beyond K Y (open_after_reply (last_after K.last_start_tag (tag_told rules tag)) r) (last_after K.last_start_tag (tag_told rules tag)))) reply
       (tag-by_itself means rules K s Y tag table one)))
 
+  -- a start tag that is written tells itself
   pub start_tag-told : (K : Start) (s : S) (name : List ℕ) (attributes : List NameAndValue) → IsTable rules.names → IsOpen K → can_write (StartTagPiece name attributes) ≡ true
       → KeepsOnAfter means.reply (start_tag_told name attributes)
       → TellsByItself means rules K s (piece_text (StartTagPiece name attributes)) (spelled_messages rules.exact K.input [] (spell_start_tag rules.exact name attributes))
@@ -96,6 +97,7 @@ module _ {X S H : Type 0} (means : Means X S H) (rules : Rules) where
       tag-told K s Y (tag_of StartTag name attributes) (spell_start_tag rules.exact name attributes) (start_tag_told name attributes) table one
       (spells-start_tag rules name attributes p.0 q.0 q.1) (told-start_tag rules name attributes p.0 q.0 q.1) keeps
 
+  -- an end tag that is written tells itself
   pub end_tag-told : (K : Start) (s : S) (name : List ℕ) → IsTable rules.names → IsOpen K → can_write (EndTagPiece name) ≡ true
       → KeepsOnAfter means.reply (end_tag_told name)
       → TellsByItself means rules K s (piece_text (EndTagPiece name)) (spelled_messages rules.exact K.input [] (spell_end_tag name))

@@ -106,6 +106,7 @@ module _ {X S H : Type 0} (means : Means X S H) (rules : Rules) where
   unfolding normalised without_dropped_first with_line_feeds trace
   none-told K s starts = trace-by_itself means rules K s [] [] (Between Data) K.last_start_tag (rw starts refl)
 
+  -- a text that is written tells its characters
   pub text-told : (K : Start) (s : S) (text : List ℕ) → IsOpen K → has_no_null text ≡ true
       → TellsByItself means rules K s (escaped_text text) (text_messages rules.exact K.input text) (start_beyond K (escaped_text text) (Between Data) K.last_start_tag)
   unfolding text_messages

@@ -64,7 +64,7 @@ is_attribute_name (c ∷ name) = list_all is_attribute_character (c ∷ name)
 abbrev pub is_attribute : NameAndValue → Bool
 is_attribute a = is_attribute_name a.name && has_no_null a.value
 
--- names are compared as they are told, in UTF-8
+-- names are compared as they are sent, in UTF-8
 abbrev pub differs_from : NameAndValue → NameAndValue → Bool
 differs_from a other = not (bytes_eq (encode_utf8_all a.name) (encode_utf8_all other.name))
 

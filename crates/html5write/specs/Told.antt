@@ -58,7 +58,7 @@ start_tag_told name attributes = record {
 abbrev pub end_tag_told : List ℕ → TagOf
 end_tag_told name = record { kind = EndTag; name = encode_utf8_all name; self_closing = false; attributes = []; had_duplicate_attributes = false }
 
--- some characters, where something is told at the first
+-- some characters, where something is sent at the first
 abbrev pub spell_first : List Told → List ℕ → List Spelled
 spell_first told [] = []
 spell_first told (c ∷ run) = record { character = c; told = told } ∷ spell_silent run
@@ -71,7 +71,7 @@ abbrev pub spell_attribute : Bool → NameAndValue → List Spelled
 spell_attribute exact a =
     spell_silent (codes " ") ++ (spell_silent a.name ++ (spell_silent (codes "=\"") ++ (flat_map (spell_escaped exact) a.value ++ spell_silent (codes "\""))))
 
--- a `>` at which this is told
+-- a `>` at which this is sent
 abbrev pub spell_end : Told → List Spelled
 spell_end token = record { character = greater_than; told = token ∷ [] } ∷ []
 
@@ -117,7 +117,7 @@ start_after_page K pieces = record {
   input = input_after K.input (page_text pieces);
 }
 
--- the sink keeps on after a tag, whatever it was told before it
+-- the sink keeps on after a tag, whatever it was sent before it
 abbrev pub KeepsOnAfter : {S H : Type 0} → (S → Told → ℕ → Reply H) → TagOf → Type 0
 KeepsOnAfter {S = S} reply tag = (t : S) (line : ℕ) → reply t (Tag tag) line ≡ KeepOn
 

@@ -53,7 +53,7 @@ pub record WritesBoth (result : Result (Unit {0}) WriteError) (before after : Li
   -- and otherwise only where memory is
   pub memory : refusal_of first ≡ None → refusal_of second ≡ None → IsOkUnless result Memory
 
--- ---- what is told of a piece, in the very bytes that were handed in
+-- ---- what is sent of a piece, in the very bytes that were handed in
 
 abbrev pub attribute_said : Attribute → AttributeOf
 attribute_said a = attribute a.name.now a.value.now

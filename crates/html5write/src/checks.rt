@@ -126,7 +126,7 @@ fn is_comment_text(text: &str) -> bool
     has_comment_characters(text) && can_begin_comment(text) && has_lone_dashes(text)
 }
 
-// Whether two names are told as different ones.
+// Whether two names are sent as different ones.
 fn are_different(name: &str, other: &str) -> bool
     ensures { result ≡ not (bytes_eq (encode_utf8_all (chars name.now)) (encode_utf8_all (chars other.now))) }
 {

@@ -65,8 +65,8 @@ pub fn comment<S: TokenSink<Token<A>>, A: Allocator>()
         (start_beyond K (piece_text (CommentPiece text)) (Between Data) K.last_start_tag) }
 {}
 
-/// A page that is written piece by piece, wherever it is put in Data, tells its pieces, and is read to
-/// where nothing is open: what follows it is read as it would be without it.
+/// A page that is written piece by piece, wherever it is put in Data, tells its pieces. It is read to
+/// where nothing is open, so what follows it is read as it would be without it.
 pub fn page<S: TokenSink<Token<A>>, A: Allocator>()
     ensures { (rules : Rules) (K : Start) (s : S.State) (pieces : List pieces.Piece) → IsTable rules.names
         → IsOpen K → list_all can_write pieces ≡ true → KeepsOn {S = S.State} S.means.reply pieces
@@ -74,9 +74,9 @@ pub fn page<S: TokenSink<Token<A>>, A: Allocator>()
         (start_after_page K pieces) }
 {}
 
-/// A page that is written piece by piece and read by itself tells its pieces and the end, and but for
-/// errors exactly their tokens: a tag or a comment for each such piece, and each character of a text.
-/// Where errors are not exact, and no CR stands in its texts and values, there are no errors.
+/// A page that is written piece by piece and read by itself tells its pieces and the end. Except for
+/// errors these are exactly their tokens: a tag or a comment for each such piece, and each character of
+/// a text. Where errors are not exact, and no CR stands in its texts and values, there are no errors.
 pub fn whole_page<S: TokenSink<Token<A>>, A: Allocator>()
     ensures messages { (rules : Rules) (K : Start) (s : S.State) (pieces : List pieces.Piece) → IsTable rules.names
         → IsOpen K → list_all can_write pieces ≡ true → KeepsOn {S = S.State} S.means.reply pieces

@@ -1,3 +1,4 @@
+-- The text that waits in a queue: one text that is read up to an offset, what calls take of it and what they add.
 use Rattle.std.proofs.Common.{Bool, true, false, Option, ◌≡◌, ◌↔◌, ℕ, ◌+◌, ◌<◌, ◌≤◌, List, [], ◌∷◌, ◌++◌, length, take, drop, encode_utf8_all, refl, sym, ap, ◌∙◌, arith, length-append, length-drop}
 use Rattle.std.specs.List.{slice_get, slice_range}
 use Rattle.std.specs.Prelude.{IsNone, IfSome, if◌then◌else◌}

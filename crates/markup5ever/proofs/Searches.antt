@@ -52,6 +52,7 @@ module _ {Z : Type 0} (name : List ℕ) where
   comparisons_rise (x ∷ xs) ascending (suc i) zero d le within = absurd (omega (arith, le))
   comparisons_rise (x ∷ xs) ascending (suc i) (suc j) d le within = comparisons_rise xs ascending.1 i j d (omega (arith, le)) (omega (arith, within))
 
+  -- a binary search finds the name's place, or the gap for it
   pub searched : (items : List (String Z × ℕ × Option ℕ)) (r : Result ℕ ℕ) → IsAscending (references_of items) → IsSearchInRange r (length items) → IsBinarySearchResult (λ item. slice_cmp nat_cmp (string_bytes item.0) name) items r → record { found : IfOk r (IsAt (references_of items) name); absent : IfErr r (IsGapFor (references_of items) name) }
   searched items (Ok place) ascending within equal = record {
     found = record {
@@ -93,6 +94,7 @@ module _ {Z : Type 0} (items : List (String Z × ℕ × Option ℕ)) (entries : 
       let none : NamedReference = record { name = name; first = 0; second = None } in
       begins-found entries name _ (characters-at entries name place none (subst IsTable is table) at)
 
+  -- in ascending order a name begins so where the one at the gap does
   pub begins-after : references_of items ≡ entries → IsAscending (references_of items) → IsGapFor entries name place → begins_name entries name ≡ option_map_or (λ (item : String Z × ℕ × Option ℕ). starts_with nat_eq (string_bytes item.0) name) (slice_get items place) false
   begins-after is ascending gap =
       begins-absent entries name place (subst IsAscending is ascending) gap

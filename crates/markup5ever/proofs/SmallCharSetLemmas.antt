@@ -1,3 +1,4 @@
+-- Sets of characters as bits, and searches for a byte that is in a set.
 use Rattle.std.proofs.Common.{Bool, true, false, ◌||◌, set, ◌≡◌, ◌↔◌, ℕ, ◌+◌, ◌-◌, ◌<◌, ◌≤◌, ◌*◌, ◌/◌, ◌%◌, ◌^◌, ◌⊎◌, List, [], ◌∷◌, ◌++◌, length, get_or, take, drop, Contains, bit_and, bit_or, count_ones, encode_utf8, encode_utf8_all, w64, refl, sym, ap, ◌∙◌, inl, inr, arith, length-drop}
 use Rattle.std.specs.Int.{IsBitSet, bit_at, bit_not}
 use Rattle.std.specs.List.{slice_index}
@@ -90,6 +91,7 @@ StopsAt-boundary set text len utf8 stops =
       | inr all ↦ let same : len ≡ length text = omega (arith, stops.within, all) in rw same (IsCharBoundary-end text)
     ]
 
+-- where bytes outside a set stop, characters outside the set do
 pub BeginsOutside-bytes : (set : ℕ) (text : List ℕ) (len : ℕ) → IsUtf8 text → StopsAt set text len → BeginsOutside set text len
 BeginsOutside-bytes set text len utf8 stops =
     let Other : ℕ → Type 0 = λ b. ¬ IsMember set b in

@@ -24,6 +24,7 @@ absent_after : (x : NamedReference) (xs : List NamedReference) (name : List ℕ)
 unfolding characters_of_name
 absent_after x xs name = elim (bytes_eq x.name name) as (λ b. (if b then Some (characters x) else characters_of_name xs name) ≡ None → characters_of_name xs name ≡ None) [ true ↦ λ e. absurd cc | false ↦ λ e. e ]
 
+-- an entry that is put in its place adds its own characters, and changes no other answer
 characters-place : (table : List NamedReference) (e : NamedReference) (name : List ℕ) → characters_of_name table e.name ≡ None → characters_of_name (in_place table e) name ≡ option_or (characters_of_name table name) (characters_of_name (e ∷ []) name)
 unfolding in_place characters_of_name
 characters-place [] e name new = refl

@@ -1,3 +1,4 @@
+-- The queue of characters that wait, and what its calls do to it.
 use Rattle.std.specs.Prelude.{◌≡◌, ℕ, ◌+◌, ◌≤◌, List, ◌++◌, length, drop}
 use Rattle.std.specs.Str.{IsUtf8}
 

@@ -1,4 +1,4 @@
--- The standard's table of the numeric character references 0x80 to 0x9F.
+-- "Numeric character reference end state": the standard's table of the numbers 0x80 to 0x9F.
 use Rattle.std.specs.Prelude.{ℕ, List, [], ◌∷◌, Option, nat_eq}
 use Rattle.std.specs.Map.{lookup}
 

@@ -1,4 +1,4 @@
--- How a text is compared with a pattern, by their characters. A pattern is ASCII, so its bytes are its characters.
+-- How a text is compared with a pattern, character by character. A pattern is ASCII, so its bytes are its characters.
 use Rattle.std.specs.Prelude.{◌≢◌, ◌<◌, ℕ, List, length, map, nat_eq, slice_index, IsTrue}
 use Rattle.std.specs.Char.{to_ascii_lowercase}
 use Rattle.std.specs.List.{starts_with}

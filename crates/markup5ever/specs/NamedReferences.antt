@@ -1,4 +1,4 @@
--- The table of named character references. A name is its bytes, without the ampersand before it.
+-- "Named character references": the table of names. A name is its bytes, without the ampersand before it.
 use Rattle.std.specs.Prelude.{◌≡◌, ℕ, ◌-◌, Bool, false, not, ◌==◌, ◌&&◌, ◌||◌, List, [], ◌∷◌, ◌++◌, length, take, drop, map, nat_eq, codes, String, string_bytes, IsTrue, IsNone, All, Option, None, Some, if◌then◌else◌}
 use Rattle.std.specs.Char.{is_ascii_alphanumeric}
 use Rattle.std.specs.Cmp.Lexicographic.{slice_cmp}
@@ -15,15 +15,17 @@ pub record NamedReference : Type 0 where
   pub first : ℕ
   pub second : Option ℕ
 
+-- an entry, in the words of contracts
 abbrev pub reference_of : {Z : Type 0} → String Z × ℕ × Option ℕ → NamedReference
 reference_of entry = record { name = string_bytes entry.0; first = entry.1; second = entry.2 }
 
+-- the entries, in the words of contracts
 abbrev pub references_of : {Z : Type 0} → List (String Z × ℕ × Option ℕ) → List NamedReference
 references_of entries = map reference_of entries
 
 -- ---- what a table answers
 
--- whether some entry's name begins with the text
+-- "Named character reference state": whether some entry's name begins with the text
 unfoldable pub begins_name : List NamedReference → List ℕ → Bool
 begins_name [] text = false
 begins_name (entry ∷ entries) text = starts_with nat_eq entry.name text || begins_name entries text

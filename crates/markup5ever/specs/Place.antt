@@ -11,7 +11,7 @@ pub record IsAt (entries : List NamedReference) (name : List ℕ) (place : ℕ) 
   pub within : place < length entries
   pub named : HoldsAt (λ entry. entry.name ≡ name) entries place
 
--- the name would stand at the place: names before it come before the name, and those after it come after the name
+-- the name would stand at the place. Names before it come before the name, and those after it come after the name.
 pub record IsGapFor (entries : List NamedReference) (name : List ℕ) (place : ℕ) : Type 0 where
   pub within : place ≤ length entries
   pub before : AllByRecursion (λ entry. slice_cmp nat_cmp entry.name name ≡ Less) (take place entries)

@@ -1,3 +1,4 @@
+-- What is taken from the front of the queue: a member of a set, or a run that has none.
 use Rattle.std.specs.Prelude.{◌≡◌, ◌≢◌, ℕ, List, [], ◌∷◌, Option, None, Some}
 use Rattle.std.specs.Str.{chars}
 use Rattle.std.specs.String.{string_bytes}

@@ -1,3 +1,4 @@
+-- Sets of characters below 64, and texts that begin with characters outside one.
 use Rattle.std.specs.Prelude.{ℕ, ◌<◌, ◌≤◌, List, length, take, drop, slice_index, All}
 use Rattle.std.specs.Int.{IsBitSet}
 use Rattle.std.specs.Str.{IsUtf8, chars}

@@ -1,4 +1,4 @@
--- The sinks of the tests: what they reply to what they are told.
+-- The sinks of the tests: what they reply to what they are sent.
 use Rattle.std.specs.Prelude.{◌≡◌, ℕ, suc, Bool, true, false, List, [], ◌++◌, refl, ◌&&◌, ◌%◌, ◌==◌, if◌then◌else◌, codes, bytes_eq}
 use Rattle.std.proofs.Common.{ap}
 use Rattle.html5ever_interface.specs.Collected.{Collected, collected_step, collected_faulted, collected_finish}
@@ -14,7 +14,7 @@ abbrev pub is_start_tag : TagKind → Bool
 is_start_tag StartTag = true
 is_start_tag EndTag = false
 
--- whether a start tag of that name is told
+-- whether a start tag of that name is sent
 abbrev pub is_start_of : List ℕ → Told → Bool
 is_start_of name (Tag tag) = is_start_tag tag.kind && bytes_eq tag.name name
 is_start_of name other = false
@@ -38,15 +38,15 @@ steering_keeps_on c other line no_tag = refl
 
 pub record Alternated : Type 0 where
   pub collected : Collected
-  -- how many tags were told
+  -- how many tags were sent
   pub tags : ℕ
 
--- how many tags there are with what is told
+-- how many tags there are with what is sent
 abbrev pub tags_with : ℕ → Told → ℕ
 tags_with tags (Tag tag) = suc tags
 tags_with tags other = tags
 
--- what is replied to what is told, with which there are so many tags
+-- what is replied to what is sent, with which there are so many tags
 abbrev pub reply_at : ℕ → Told → Reply ℕ
 reply_at tags (Tag tag) = if tags % 3 == 0 then RunScript tags else KeepOn
 reply_at tags other = KeepOn
@@ -79,7 +79,7 @@ alternated_keeps_on s other line no_tag = refl
 
 -- ---- a sink that counts the tokens other than text
 
--- how many there are with what is told
+-- how many there are with what is sent
 abbrev pub counted_with : ℕ → Told → ℕ
 counted_with count (Text text) = count
 counted_with count other = suc count

@@ -1,4 +1,4 @@
--- What a page that is told messages reads.
+-- What a page reads that was sent messages.
 use Rattle.std.proofs.Common.{◌≡◌, ℕ, Bool, true, false, List, [], ◌∷◌, ◌++◌, refl, ap, sym, ◌∙◌, codes}
 use Rattle.std.proofs.lemmas.List.{append-nil, append_assoc}
 use Rattle.token_printer.specs.Page.{Page, text_opening, text_closing, added_by_text, added_by, open_after, page_step}
@@ -68,7 +68,7 @@ unfolding stepped joined closed_lines
 stepped-added p [] = ap (λ l. p.lines ++ l) (added-nil p.in_text)
 stepped-added p (m ∷ M) = stepped-added (page_step p m.token m.line) M ∙ step-added p m.token m.line (joined M)
 
--- a page with no open text that is told all of M, and whose text is closed then, has the lines of M
+-- a page with no open text that is sent all of M, and whose text is closed then, has the lines of M
 pub closed_lines-stepped : (p : Page) (M : List Message) → p.in_text ≡ false
     → closed_lines (stepped page_step p M) ≡ p.lines ++ printed M
 unfolding printed added

@@ -13,6 +13,7 @@ pub quoted_bytes-append : (a b : List ℕ) → quoted_bytes (a ++ b) ≡ quoted_
 unfolding quoted_bytes
 quoted_bytes-append a b = flat_map-append quoted_byte a b
 
+-- two adjacent texts are printed as one
 pub page_joins : (p : Page) (a b : List ℕ) (line : ℕ)
     → page_step (page_step p (Text a) line) (Text b) line ≡ page_step p (Text (a ++ b)) line
 unfolding page_step added_by added_by_text open_after

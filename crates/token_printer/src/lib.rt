@@ -1,4 +1,4 @@
-//! A sink that prints what a tokenizer of HTML tells it.
+//! A sink that prints what a tokenizer of HTML sends it.
 #![tactic(auto)]
 
 mod page;

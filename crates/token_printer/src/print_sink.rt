@@ -1,4 +1,4 @@
-//! A sink that prints what it is told.
+//! A sink that prints what it is sent.
 ghost use Rattle.std.specs.Prelude.{◌≡◌, ◌++◌, string_bytes, IfOk, OnOk, OnErr};
 ghost use Rattle.token_printer.specs.Page.{BeginsWith, blank_page, added_by};
 ghost use Rattle.html5sinks.specs.Pausing.{pausing_reply};
@@ -31,8 +31,8 @@ fn print_and_reply<A: Allocator + Copy>(
     Ok(reply)
 }
 
-/// Prints what it is told: a line for each token, where adjacent texts share one and an empty text
-/// has none, and a line for each pause. A token that could not be printed leaves no part of a line.
+/// Prints what it is sent: a line for each token, and a line for each pause. Adjacent texts share one
+/// line, and an empty text has none. A token that could not be printed leaves no part of a line.
 ///
 /// It replies to the start tag `plaintext` to read plain text, to the start tags of eight names to
 /// read raw text, such as `title`, `style` and `script`, to a start tag `meta` with an attribute

@@ -43,6 +43,7 @@ IsValidUpTo-before bytes later n valid never =
       ];
     }
 
+-- a fault in one of the pieces is a fault of all their bytes
 pub fault_within : {Z : Type 0} (text : String Z) (decoder : Decoding) (pieces : List (Bor (List ℕ))) (i : ℕ) (other : Bor (List ℕ)) (error : DecodeError)
     → i < length pieces → HasDecoded text decoder (bytes_of (take i pieces))
     → (error ≡ Memory) ⊎ IsFault decoder.taken (decoder.held ++ (get_or pieces i other).now) error
@@ -86,6 +87,7 @@ IsValidUpTo-cut held cut some =
       ];
     }
 
+-- a character that the end cuts off is a fault at its place
 pub fault_at_end : {Z : Type 0} (text : String Z) (decoder : Decoding) (bytes : List ℕ) (error : DecodeError) → HasDecoded text decoder bytes
     → ¬ (decoder.held ≡ []) → error ≡ NotUtf8 decoder.taken → IsFault 0 bytes error
 fault_at_end text decoder bytes error had some named =

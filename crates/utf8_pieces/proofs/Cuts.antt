@@ -121,6 +121,7 @@ two_bytes a b none range follows =
       | inr p ↦ absurd (not_spelt (a ∷ b ∷ []) none (spells_two a b range.0 p.1 second.0 second.1))
     ]
 
+-- three bytes that begin a character of four are a cut character
 three_bytes : (a b x : ℕ) → StartsWithNoChar (a ∷ b ∷ x ∷ []) → (0xC2 ≤ a) × (a ≤ 0xF4) → Follows a b → (0x80 ≤ x) × (x < 0xC0)
     → IsCutCharacter (a ∷ b ∷ x ∷ [])
 three_bytes a b x none range follows third =
@@ -135,6 +136,7 @@ three_bytes a b x none range follows third =
       ]
     ]
 
+-- bytes that are no character, and no fault yet, are a cut character
 pub IsCutCharacter-no_fault : (bytes : List ℕ) → 0 < length bytes → StartsWithNoChar bytes → utf8_error_len bytes ≡ None → IsCutCharacter bytes
 unfolding utf8_error_len
 IsCutCharacter-no_fault [] some none open_end = absurd (omega arith)
@@ -170,6 +172,7 @@ no_fault_three c k scalar low high some short =
       | inr p ↦ let two : k ≡ 2 = omega arith in rw two (grind (arith, nat_tests))
     ])
 
+-- a beginning of a character of four bytes is no fault
 no_fault_four : (c k : ℕ) → IsScalar c → 65536 ≤ c → 0 < k → k < length (encode_utf8 c) → utf8_error_len (take k (encode_utf8 c)) ≡ None
 unfolding encode_utf8 utf8_error_len
 no_fault_four c k scalar low some short =
@@ -186,6 +189,7 @@ no_fault_four c k scalar low some short =
       ]
     ])
 
+-- a beginning of a character is no fault
 no_fault : (c k : ℕ) → IsScalar c → 0 < k → k < length (encode_utf8 c) → utf8_error_len (take k (encode_utf8 c)) ≡ None
 no_fault c k scalar some short =
     elim (leb_tells 65536 c) [

@@ -63,6 +63,7 @@ take_past xs ys n m is =
     ap (λ k. take k (xs ++ ys)) is ∙ take-add (length xs) m (xs ++ ys)
     ∙ ap (λ t. t ++ take m (drop (length xs) (xs ++ ys))) (take_at xs ys (length xs) refl) ∙ ap (λ t. xs ++ take m t) (drop_at xs ys (length xs) refl)
 
+-- what is held and the bytes after it, up to four, are the first four of both
 pub joined_is : (held bytes h ys zeros : List ℕ) (len k : ℕ) → h ≡ held → ys ≡ take (len - length held) bytes → length held ≤ 3
     → len ≡ min 4 (length held + length bytes) → take len (put_mid (length held) k (h ++ zeros) ys) ≡ take 4 (held ++ bytes)
 joined_is held bytes h ys zeros len k h_is ys_is short len_is =
@@ -138,6 +139,7 @@ pub IsNeverUtf8-four : (all : List ℕ) → 4 ≤ length all → IsValidUpTo (ta
 IsNeverUtf8-four all long valid later text =
     no_text_by (all ++ later) text.0 (no_char_of_four all long valid later) (omega (arith, length-append all later)) text.1.0 text.1.1
 
+-- a fault in the first four bytes is one of all bytes
 pub IsValidUpTo-four : (all : List ℕ) → 4 ≤ length all → IsValidUpTo (take 4 all) 0 → IsValidUpTo all 0
 IsValidUpTo-four all long valid =
     record {
@@ -186,6 +188,7 @@ not_never first bytes n text parts never =
 
 -- ---- what a step gives
 
+-- the first characters and a text after them were decoded
 pub Decodes-ok : {Z : Type 0} (old new : Decoding) (first bytes : List ℕ) (n : ℕ) (text : String Z) → IsUtf8 first → IsTextThenCut bytes n
     → string_bytes text ≡ first ++ take n bytes → new.held ≡ drop n bytes → new.taken ≡ place_after old.taken (length first + n)
     → Decodes old new (first ++ bytes) (Ok text)
@@ -201,6 +204,7 @@ Decodes-ok old new first bytes n text utf8 parts is held taken =
       unchanged = tt;
     }
 
+-- a fault after the first characters was refused
 pub Decodes-refused : {Z : Type 0} (old new : Decoding) (first bytes : List ℕ) (n : ℕ) (error : DecodeError) → IsUtf8 first → IsValidUpTo bytes n
     → IsNeverUtf8 bytes → error ≡ NotUtf8 (place_after old.taken (length first + n)) → new ≡ old
     → Decodes {Z = Z} old new (first ++ bytes) (Err error)
@@ -214,6 +218,7 @@ Decodes-refused {Z} old new first bytes n error utf8 valid never named same =
       unchanged = same;
     }
 
+-- want of memory leaves all as it was
 pub Decodes-memory : {Z : Type 0} (old new : Decoding) (first bytes : List ℕ) (n : ℕ) (error : DecodeError) → IsUtf8 first → IsTextThenCut bytes n
     → error ≡ Memory → new ≡ old → Decodes {Z = Z} old new (first ++ bytes) (Err error)
 Decodes-memory {Z} old new first bytes n error utf8 parts memory same =

@@ -1,2 +1,2 @@
-//! A sink that keeps what it is told.
+//! A sink that keeps what it is sent.
 pub use html5ever_interface::collect::Collector;

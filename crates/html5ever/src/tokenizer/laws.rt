@@ -52,8 +52,8 @@ fn collect<A: Allocator + Copy>(
     }
 }
 
-/// Reads a whole text by a collector. Where the text is one tag, written out, with references in its
-/// values, the collector then holds the errors of the tag, each at its character, the tag, and the end.
+/// Reads a whole text by a collector. Take a text that is one tag, written out, with references in its
+/// values. The collector then holds the errors of the tag, each at its character, the tag, and the end.
 pub fn tag<A: Allocator + Copy>(
     alloc: A,
     opts: TokenizerOpts<A>,
@@ -99,10 +99,10 @@ pub fn reference<A: Allocator + Copy>(
 }
 
 /// Reads a whole text by a collector. Where the text is characters of Data or of plain text that are
-/// text, the collector then holds them as one text, NULs apart, and the end. Where it is raw text,
-/// written out, up to its end or to the end tag that ends it, the collector then holds what its items
-/// tell, adjacent texts joined, the end tag, and the end. `opts` choose the kind of raw text, and the
-/// name of the end tag.
+/// text, the collector then holds them as one text, with each NUL apart, and the end. The text may also
+/// be raw text, written out, with or without the end tag that ends it. Then the collector holds what
+/// its items tell, with adjacent texts joined, the end tag, and the end. `opts` choose the kind of raw
+/// text and the name of the end tag.
 pub fn raw<A: Allocator + Copy>(
     alloc: A,
     opts: TokenizerOpts<A>,
@@ -126,8 +126,8 @@ pub fn raw<A: Allocator + Copy>(
 }
 
 /// Reads a whole text by a collector. Where the text is one comment, written out, also a bogus one,
-/// the collector then holds its errors, each at its character, the comment, and the end; where it is a
-/// comment without its end, what its characters tell, and what the end tells.
+/// the collector then holds its errors, each at its character, the comment, and the end. Where the text
+/// is a comment without its end, it holds what its characters tell, and what the end tells.
 pub fn comment<A: Allocator + Copy>(
     alloc: A,
     opts: TokenizerOpts<A>,
@@ -161,8 +161,8 @@ pub fn comment<A: Allocator + Copy>(
     collect(alloc, opts, foreign, names, text)
 }
 
-/// Reads a whole text by a collector. Where the text is one processing instruction, written out, also
-/// one without its `>`, the collector then holds its errors, each at its character or at the end, the
+/// Reads a whole text by a collector. Take a text that is one processing instruction, written out, also
+/// one without its `>`. The collector then holds its errors, each at its character or at the end, the
 /// instruction, and the end.
 pub fn instruction<A: Allocator + Copy>(
     alloc: A,
@@ -185,8 +185,8 @@ pub fn instruction<A: Allocator + Copy>(
 }
 
 /// Reads a whole text by a collector. Where the text is one doctype, written out, the collector then
-/// holds its errors, each at its character, the doctype, and the end; where its `>` is missing, what
-/// its characters tell, and what the end tells.
+/// holds its errors, each at its character, the doctype, and the end. Where the `>` is missing, it holds
+/// what the doctype's characters tell, and what the end tells.
 pub fn doctype<A: Allocator + Copy>(
     alloc: A,
     opts: TokenizerOpts<A>,
@@ -250,8 +250,8 @@ pub fn items<A: Allocator + Copy>(
 }
 
 /// The law of cutting: runs that push the same text in all, however it is cut, take the same text.
-/// So, by the contract of `run_steps`, they leave lawful sinks in equal states, where they begin with
-/// equal options and equal states and both answer `Ok`.
+/// So, by the contract of `run_steps`, they leave lawful sinks in equal states. That holds where they
+/// begin with equal options and equal states, and both answer `Ok`.
 pub fn cutting<S: TokenSink<Token<A>>, A: Allocator>()
     ensures text { (rules : Rules) (K : Start) (s : S.State) (pieces : List (List ℕ)) →
         run_text S.means rules K s [] [] (map AtBack pieces) ≡ concat pieces }

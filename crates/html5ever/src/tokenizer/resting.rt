@@ -13,7 +13,7 @@ use std::marker::Model;
 /// lends the table to the tokenizer again.
 #[derive(Drop)]
 pub struct Resting<Sink, A: Allocator = Global> {
-    /// The sink that is told.
+    /// The sink that is sent the tokens.
     pub sink: Sink,
     alloc: A,
     exact_errors: bool,
@@ -56,7 +56,7 @@ impl<'t, Sink, A: Allocator> Tokenizer<'t, Sink, A> {
 }
 
 impl<Sink, A: Allocator> Resting<Sink, A> {
-    /// Goes on by a table. By the one that the tokenizer had before, it is as it was.
+    /// Goes on with a table. With the table that it had before, the tokenizer is as it was.
     pub fn resume(self, names: &NamedReferences<A>) -> Tokenizer<'_, Sink, A>
         ensures { result ≡ tokenizing self names.now }
     {
@@ -73,7 +73,7 @@ impl<Sink, A: Allocator> Resting<Sink, A> {
         }
     }
 
-    /// Whether the end of the input was told.
+    /// Whether the end of the input was sent.
     pub fn is_ended(&self) -> bool
         ensures { result ≡ self.now.ended }
     {

@@ -27,7 +27,7 @@ pub fn feed_until_done<S: TokenSink<Token<A>>, A: Allocator + Copy>(
 ) -> Result<(), TokenizerError>
     requires { tokenizer.old.ended ≡ false }
 
-    // What an `Ok` says: all that waited was taken, and exactly what it decides was told.
+    // What an `Ok` says: all that waited was taken, and exactly what it decides was sent.
     ensures reads { OnOk result (ReadsOn S.means tokenizer.old tokenizer.new queue.old.text) }
     ensures items { OnOk result (ReadsItems S.means tokenizer.old tokenizer.new queue.old.text) }
     ensures taken { OnOk result (queue.new.text ≡ []) }
@@ -127,9 +127,9 @@ fn take_steps<S: TokenSink<Token<A>>, A: Allocator + Copy>(
     tokenizer.end()
 }
 
-/// Runs a tokenizer from the start of a stream: each step hands in its text and feeds once; after
-/// the last one it feeds until nothing waits, and ends. Hands the sink back: it has finished after
-/// all that the text taken tells, or after a refusal it was told a beginning of that.
+/// Runs a tokenizer from the start of a stream. Each step hands in its text and feeds once. After the
+/// last one it feeds until nothing waits, and ends. Hands the sink back. The sink was sent all that
+/// the text taken tells, and finished. After a refusal it was sent a beginning of that.
 pub fn run_steps<S: TokenSink<Token<A>>, A: Allocator + Copy>(
     alloc: A,
     sink: S,

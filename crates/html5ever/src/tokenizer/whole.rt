@@ -73,8 +73,8 @@ fn hand_in_pieces<A: Allocator + Copy>(
     Ok(())
 }
 
-/// Reads a whole text from the start of a stream, and hands the sink back: it has finished after
-/// all that the text tells, or after a refusal it was told a beginning of that.
+/// Reads a whole text from the start of a stream, and hands the sink back. The sink was sent all that
+/// the text tells, and finished. After a refusal it was sent a beginning of that.
 pub fn read_whole<S: TokenSink<Token<A>>, A: Allocator + Copy>(
     alloc: A,
     sink: S,

@@ -35,7 +35,7 @@ pub trait TokenSink<T: Says> {
 
     type Handle: Drop;
 
-    // The abstract state of a sink, what it makes of what it is told, and how often it faulted.
+    // The abstract state of a sink, what it makes of what it is sent, and how often it faulted.
     ghost State: { Type 0 };
 
     ghost means: { Means Self State Self.Handle };

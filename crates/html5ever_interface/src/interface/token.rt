@@ -47,13 +47,13 @@ pub struct Doctype<A: Allocator = Global> {
     pub force_quirks: bool,
 }
 
-/// What a tokenizer tells its sink.
+/// What a tokenizer sends its sink.
 #[derive(Drop)]
 #[derive_where(Debug, PartialEq, Eq)]
 pub enum Token<A: Allocator = Global> {
     /// A DOCTYPE, at its `>` or at the end of input.
     DoctypeToken(Doctype<A>),
-    /// A tag, at its `>`. One that has none is not told.
+    /// A tag, at its `>`. One that has none is not sent.
     TagToken(Tag<A>),
     /// A comment's text, without `<!--` and `-->`, or that of a bogus comment.
     CommentToken(String<A>),

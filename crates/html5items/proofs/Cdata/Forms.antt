@@ -37,6 +37,7 @@ record Pieces (text : List ℕ) : Type 0 where
   all : list_all is_piece pieces ≡ true
   is_last : is_piece last ≡ true
 
+-- one character more in front of pieces belongs to the first piece
 pieces-front : (c : ℕ) (text : List ℕ) → (c == null) ≡ false → begins_with end (c ∷ text) ≡ false
     → (pieces : List (List ℕ)) (last : List ℕ) → pieces_text pieces last ≡ text → list_all is_piece pieces ≡ true → is_piece last ≡ true → Pieces (c ∷ text)
 unfolding pieces_text
@@ -75,6 +76,7 @@ pieces-of (c ∷ text) h =
     let p = both-false (begins_with end (c ∷ text)) (occurs end text) h in
     pieces-next c text p.0 (pieces-of text p.1) (c == null) refl
 
+-- a text without `]]>` is that of a section: the statement of `each_cdata`
 pub each-cdata : (has_opening is_ended : Bool) (text : List ℕ) → occurs (codes "]]>") text ≡ false → IsCdataText has_opening is_ended text
 unfolding written is_written
 each-cdata has_opening is_ended text h =

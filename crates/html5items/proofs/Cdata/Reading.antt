@@ -112,6 +112,7 @@ module _ {S H : Type 0} (step : S → Told → ℕ → S) (reply : S → Told �
   trace-start K s true text e = trace-opening K s text e
   trace-start K s false text e = refl
 
+  -- the trace of a section is what it spells, and what is open after it
   pub reads : (K : Start) (s : S) (X : List ℕ) (cdata : WrittenCdata) → IsCdata K (foreign s) X cdata
       → trace step reply foreign rules s (line_after K.input []) K.last_start_tag K.opened (normalised K.input X)
       ≡ record { messages = spelled_messages rules.exact K.input (opening_text cdata.has_opening) (spell_cdata cdata); opened = open_after_cdata cdata; last_start_tag = K.last_start_tag }

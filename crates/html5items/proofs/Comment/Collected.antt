@@ -51,6 +51,7 @@ module _ (exact : Bool) where
       (TellNoText-append (spell_silent opening) (cells ++ spell_end errors content) (TellNoText-silent opening)
       (TellNoText-append cells (spell_end errors content) h (TellNoText-end errors content g)))
 
+  -- the messages of a comment have no text, so a collector keeps them all
   keeps-comment : (input : Input) (comment : WrittenComment) → KeepsAll (messages_of exact input comment)
   unfolding messages_of
   keeps-comment input (Proper content ending) =
@@ -67,7 +68,7 @@ module _ (exact : Bool) where
       (λ c. collected-spelled_messages exact input (codes "<!") c (cells ++ spell_end [] content)
       (TellNoText-append cells (spell_end [] content) (TellNoText-bogus content) (TellNoText-end [] content tt)))
 
-  -- a collector that is told one comment holds its messages
+  -- a collector that is sent one comment holds its messages
   pub collected-comment : (input : Input) (comment : WrittenComment) → KeepsAll (comment_messages exact input comment)
   unfolding comment_messages
   collected-comment input comment =

@@ -106,6 +106,7 @@ pub record Ended (before : List ℕ) : Type 0 where
   pub parts : before ≡ content ++ before_greater_than ending
   pub is_end : can_end_with content ending ≡ true
 
+-- where a comment that goes on ends in the word of an end, it is a content and that end
 ended-by : (before word : List ℕ) (ending : Ending) → before_greater_than ending ≡ word → ((content : List ℕ) → is_content content ≡ true → can_end_with content ending ≡ true)
     → runs_on [] before ≡ true → ends_in before word ≡ true → Ended before
 ended-by before word ending e can h ends =
@@ -118,6 +119,7 @@ ended-by before word ending e can h ends =
       is_end = can content (content-of content (runs_on-beginning [] content word (subst (λ l. runs_on [] l ≡ true) parts h)));
     }
 
+-- where a `>` ends a comment, what stands before it is a content and an end
 pub ended : (before : List ℕ) → runs_on [] before ≡ true → ends_comment before ≡ true → Ended before
 unfolding ends_comment
 ended before h ends =

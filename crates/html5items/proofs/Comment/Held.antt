@@ -108,6 +108,7 @@ no_word foreign content before c rest h split =
       none foreign (not-true (foreign && begins_with cdata_keyword content) q.1),
     )
 
+-- a character that goes on with a keyword is held
 held-one : (rules : Rules) (foreign : Bool) (content held : List ℕ) (c : ℕ) (later : List ℕ) → can_open foreign ExclamationMark content ≡ true
     → content ≡ held ++ c ∷ later → begins_declaration foreign (held ++ c ∷ []) ≡ true → IsHeldBy rules InDeclaration foreign held c
 unfolding brought_at declaration_step declaration_answer_step begins_declaration
@@ -146,7 +147,7 @@ held_of-plain foreign content = held-plain foreign (held_of foreign content) (be
 pub held-parts : (foreign : Bool) (content : List ℕ) → held_of foreign content ++ after_held_of foreign content ≡ content
 held-parts foreign content = while-parts (begins_declaration foreign) [] content
 
--- ---- what is told where it is decided
+-- ---- what is sent where it is decided
 
 module _ {S H : Type 0} (step : S → Told → ℕ → S) (reply : S → Told → ℕ → Reply H) (foreign : S → Bool) (rules : Rules) where
   abbrev pub error_on : ℕ → List Message

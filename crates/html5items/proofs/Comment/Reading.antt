@@ -142,6 +142,7 @@ module _ {S H : Type 0} (step : S → Told → ℕ → S) (reply : S → Told �
       ∙ ap (λ N. record { messages = E (line_after K.input (codes "<!")) ++ N; opened = Between Data; last_start_tag = K.last_start_tag })
       (sym (spelled-held rules.exact K.input (codes "<!") held rest content parts plain.good))
 
+  -- a comment, written out, tells its messages
   reads : (K : Start) (s : S) (comment : WrittenComment) → is_written (foreign s) comment ≡ true → IsRead step reply foreign rules K s (written comment) (messages_of rules.exact K.input comment)
   unfolding is_written written messages_of
   reads K s (Proper content ending) h =

@@ -37,6 +37,7 @@ record Content (content : List ℕ) : Type 0 where
   no_dashes : occurs (codes "-->") content ≡ false
   no_bang : occurs (codes "--!>") content ≡ false
 
+-- what is asked of a content, as a record of its four parts
 content_parts : (content : List ℕ) → is_content content ≡ true → Content content
 unfolding is_content
 content_parts content h =
@@ -50,6 +51,7 @@ content_parts content h =
       no_bang = not-true (occurs (codes "--!>") content) r.1;
     }
 
+-- a `>` of the content ends no comment
 goes_on : (content before rest : List ℕ) → is_content content ≡ true → content ≡ before ++ greater_than ∷ rest → ends_comment before ≡ false
 unfolding ends_comment
 goes_on content before rest h split =
@@ -75,6 +77,7 @@ unfoldable pub runs_on : List ℕ → List ℕ → Bool
 runs_on before [] = true
 runs_on before (c ∷ text) = not ((c == greater_than) && ends_comment before) && runs_on (before ++ c ∷ []) text
 
+-- the rest of a content goes on with the comment
 runs_on-rest : (content before text : List ℕ) → is_content content ≡ true → content ≡ before ++ text → runs_on before text ≡ true
 unfolding runs_on
 runs_on-rest content before [] h split = refl
@@ -96,6 +99,7 @@ mark-errors : (exact : Bool) (before : List ℕ) (c : ℕ) → mark_error exact 
 unfolding mark_error ends_in_mark after_mark_error
 mark-errors exact before c = refl
 
+-- the state that the error of a NUL names is the one that the walk names
 null_state-is : (before : List ℕ) → comment_state state.Comment before ≡ null_state before
 unfolding comment_state null_state
 null_state-is before = tests (is_empty before) (is_lone_dash before) (ends_in before (codes "--!")) (ends_in before (codes "--")) (ends_in before (codes "-"))

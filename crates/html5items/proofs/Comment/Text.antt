@@ -58,6 +58,7 @@ same_test true b there back = sym (there refl)
 same_test false true there back = back refl
 same_test false false there back = refl
 
+-- a text is one dash where its bytes are
 lone_dash-bytes : (text : List ℕ) → is_lone_dash (bytes_of text) ≡ is_lone_dash text
 unfolding value_bytes shown encode
 lone_dash-bytes text = same_test (is_lone_dash (bytes_of text)) (is_lone_dash text) there back

@@ -121,6 +121,7 @@ module _ (exact : Bool) where
   keeps-after_name input before d (SystemKeyword keyword space identifier) =
       keeps-cells input before (spell_after_name exact d (SystemKeyword keyword space identifier)) (TellNoText-after_name d (SystemKeyword keyword space identifier))
 
+  -- the messages of a doctype have no text, so a collector keeps them all
   keeps-content : (input : Input) (word space : List ℕ) (content : Content) → KeepsAll (messages_of exact input word space content)
   unfolding messages_of
   keeps-content input word space NoName =
@@ -135,7 +136,7 @@ module _ (exact : Bool) where
       (keeps-cells input [] (spell_name exact word space first rest later) (TellNoText-name word space first rest later))
       (keeps-after_name input before d afterwards)
 
-  -- a collector that is told one doctype holds its messages
+  -- a collector that is sent one doctype holds its messages
   pub collected-doctype : (input : Input) (doctype : WrittenDoctype) → KeepsAll (doctype_messages exact input doctype)
   unfolding doctype_messages
   collected-doctype input doctype =

@@ -131,6 +131,7 @@ record Keyword (kind : DoctypeIdKind) (text : List ℕ) : Type 0 where
   all : list_all is_white_space space ≡ true
   next : next_is is_white_space rest ≡ false
 
+-- a text that begins with a keyword is the keyword and the rest
 keyword-parts : (kind : DoctypeIdKind) (text : List ℕ) → begins_with (keyword_of kind) (lower_case text) ≡ true → Keyword kind text
 keyword-parts kind text h =
     let n : ℕ = length (keyword_of kind) in
@@ -149,6 +150,7 @@ keyword-parts kind text h =
 no_end-keyword : (kind : DoctypeIdKind) (text : List ℕ) (k : Keyword kind text) → HasNoEnd text → HasNoEnd k.rest
 no_end-keyword kind text k h = no_end-after (k.keyword ++ k.space) k.rest text (append_assoc k.keyword k.space k.rest ∙ k.parts) h
 
+-- each rest after a name and white space has one of the forms
 covers-after_name : Covers is_after_name after_name_text
 covers-after_name text h next = by (begins_with (keyword_of Public) (lower_case text)) (begins_with (keyword_of System) (lower_case text)) refl refl
   where
@@ -214,6 +216,7 @@ covers-content (first ∷ text) h next = by s.rest refl
 
 -- ---- the whole doctype
 
+-- `<!`, `doctype` in any case, a text without `>`, and `>` are a doctype: the statement of `each_doctype`
 pub each-doctype : (word text : List ℕ) → bytes_eq (lower_case word) (codes "doctype") ≡ true → list_all in_skipped_rest text ≡ true → IsDoctypeText word text
 unfolding is_written written
 each-doctype word text is_word h =

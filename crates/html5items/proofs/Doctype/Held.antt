@@ -49,6 +49,7 @@ begun : (past : List ℕ) (c : ℕ) (rest word : List ℕ) → lower_case (past 
 begun past c rest word e =
     ap (begins_with (lower_case past)) (sym (parts_of past c rest word e)) ∙ begins-word (lower_case past) (to_ascii_lowercase c ∷ lower_case rest)
 
+-- the word `doctype` tells nothing, and leads into a doctype
 pub leads-doctype_word : (rules : Rules) (word : List ℕ) → bytes_eq (lower_case word) (codes "doctype") ≡ true
     → Leads rules (InDeclaration []) (spell_silent word) (InDoctype AfterWord empty_doctype)
 unfolding brought_at declaration_step begins_keyword
@@ -77,6 +78,7 @@ module _ (rules : Rules) (d : DoctypeOf) where
   abbrev undecided : List ℕ → Open
   undecided held = InDoctypeKeyword held d
 
+  -- a proper beginning of a keyword is held
   holds : (kind : DoctypeIdKind) (held : List ℕ) (c b : ℕ) (rest : List ℕ) → lower_case ((held ++ c ∷ []) ++ b ∷ rest) ≡ keyword_of kind → IsHeld rules undecided held c
   unfolding brought_at doctype_keyword_step begins_doctype_keyword
   holds Public held c b rest e foreign =
@@ -198,6 +200,7 @@ pub decides-held : (rest : List ℕ) → next_is (λ c. not (begins_doctype_keyw
 decides-held rest = decides-while begins_doctype_keyword no_greater_than [] rest
 
 module _ (rules : Rules) (d : DoctypeOf) where
+  -- a rest that begins as a keyword does is held as long as it does
   pub leads-held : (c : ℕ) (rest : List ℕ) → begins_no_keyword (c ∷ rest) ≡ true → begins_doctype_keyword (c ∷ []) ≡ true
       → Leads rules (InDoctype AfterName d) (spell_silent (held_of (c ∷ rest))) (InDoctypeKeyword (held_of (c ∷ rest)) d)
   unfolding Leads run_while brought_at doctype_keyword_step

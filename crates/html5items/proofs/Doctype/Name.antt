@@ -94,6 +94,7 @@ module _ (rules : Rules) where
   abbrev pub named : ℕ → List ℕ → DoctypeOf
   named first rest = named_doctype (flat_map name_bytes (first ∷ rest)) None None false
 
+  -- a doctype up to its name and the white space after it
   pub leads-name : (word space : List ℕ) (first : ℕ) (rest later : List ℕ)
       → bytes_eq (lower_case word) (codes "doctype") ≡ true → list_all is_white_space space ≡ true
       → list_all in_doctype_name (first ∷ rest) ≡ true → list_all is_white_space later ≡ true

@@ -88,12 +88,13 @@ module _ {S H : Type 0} (step : S → Told → ℕ → S) (reply : S → Told �
       ++ (on_line (line_after input (before ++ c ∷ [])) (error_in rules.exact state.AfterDoctypeName c ∷ [])
       ++ spelled_messages rules.exact input (before ++ held_of (c ∷ rest)) (spell_skipped rules.exact (with_quirks d) (after_held_of (c ∷ rest))))
 
-  -- what is told where it is decided
+  -- what is sent where it is decided
   held-error : (line c : ℕ) (rest : List ℕ) → begins_doctype_keyword (c ∷ []) ≡ true
       → first_error rules d step reply foreign line (held_of (c ∷ rest)) ≡ on_line line (error_in rules.exact state.AfterDoctypeName c ∷ [])
   unfolding run_while keyword_error
   held-error line c rest begins = rw begins refl
 
+  -- a rest that begins as a keyword does is held, and then skipped
   reads-held : (s : S) (c : ℕ) (rest : List ℕ) → begins_doctype_keyword (c ∷ []) ≡ true → is_after_name (NoKeyword (c ∷ rest)) ≡ true
       → trace step reply foreign rules s (line_after input before) last (InDoctype AfterName d) ((c ∷ rest) ++ greater_than ∷ [])
       ≡ record { messages = held_messages c rest; opened = Between Data; last_start_tag = last }
@@ -172,6 +173,7 @@ module _ {S H : Type 0} (step : S → Told → ℕ → S) (reply : S → Told �
   white-after [] afterwards h = refl
   white-after (b ∷ space) afterwards h = (and_parts (list_all is_white_space (b ∷ space)) (is_after_name afterwards) h).0
 
+  -- a doctype, written out, tells its messages
   reads-content : (K : Start) (s : S) (word space : List ℕ) (content : Content)
       → bytes_eq (lower_case word) (codes "doctype") ≡ true → list_all is_white_space space ≡ true → is_content content ≡ true
       → IsRead step reply foreign rules K s (opening word space ++ (content_text content ++ greater_than ∷ [])) (messages_of rules.exact K.input word space content)

@@ -39,6 +39,7 @@ module _ (exact : Bool) where
       → characters (spell_begun exact kind named space quotes run) ≡ quote_mark quotes ∷ run
   characters-begun kind named space quotes run = ap (λ l. quote_mark quotes ∷ l) (characters-spell (null_error exact (identifier_state quotes kind)) run)
 
+  -- the characters that are spelled of an identifier are its text
   characters-identifier : {B : Type 0} → (kind : DoctypeIdKind) (named : State) (d : DoctypeOf) (space : List ℕ) (spell_after : List ℕ → B → List Spelled) (text_after : B → List ℕ)
       → ((later : List ℕ) (afterwards : B) → characters (spell_after later afterwards) ≡ text_after afterwards ++ greater_than ∷ [])
       → (identifier : Identifier B)

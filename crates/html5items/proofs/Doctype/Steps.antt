@@ -159,6 +159,7 @@ module _ (exact : Bool) where
       (Goes-one exact (InDoctype (InIdentifier quotes kind) (whole kind d run)) (Between Data) greater_than
       (error_in exact (identifier_state quotes kind) greater_than ∷ Doctype (with_quirks (whole kind d run)) ∷ []) (step-cut quotes kind (whole kind d run)))
 
+  -- an identifier in its quotes, and what stands after it
   pub goes-closed : (opened : Open) (space : List ℕ) (named : State) (kind : DoctypeIdKind) (d : DoctypeOf) (quotes : Quotes) (run : List ℕ) (cells : List Spelled)
       → Wants opened space named kind d (quote_mark quotes) → list_all (in_identifier quotes) run ≡ true
       → Goes exact (InDoctype (AfterIdentifier kind) (whole kind d run)) cells (Between Data)

@@ -31,7 +31,7 @@ module _ (exact : Bool) where
   HasNoText-at_end true content = (refl, tt)
   HasNoText-at_end false content = (refl, (refl, (refl, tt)))
 
-  -- a collector that is told one instruction holds its messages
+  -- a collector that is sent one instruction holds its messages
   collected-instruction : (input : Input) (instruction : WrittenInstruction) → KeepsAll (instruction_messages exact input instruction)
   unfolding messages_of instruction_messages
   collected-instruction input instruction =

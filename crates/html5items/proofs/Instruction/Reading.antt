@@ -44,6 +44,7 @@ characters-instruction exact instruction =
 -- ---- the machine reads them
 
 module _ (exact : Bool) where
+  -- the content of an instruction, character by character
   goes-content : (before text : List ℕ) → list_all in_instruction text ≡ true
       → Goes exact (InInstruction (bytes_of before)) (spell (null_error exact state.ProcessingInstruction) text) (InInstruction (bytes_of (before ++ text)))
   unfolding Goes step_at instruction_step in_instruction
@@ -62,6 +63,7 @@ module _ (exact : Bool) where
   goes-end content true = Goes-one exact (InInstruction (bytes_of content)) (Between Data) greater_than (told_content content ∷ []) refl
   goes-end content false = refl
 
+  -- the walk reads an instruction as its spelled characters say
   goes-instruction : (instruction : WrittenInstruction) → is_written instruction ≡ true
       → Goes exact (Between Data) (spell_instruction exact instruction) (open_after_instruction instruction)
   unfolding is_written Goes step_at data_step less_than_step is_letter
@@ -91,6 +93,7 @@ tokens_at_end-instruction rules true content = refl
 tokens_at_end-instruction rules false content = refl
 
 module _ {S H : Type 0} (step : S → Told → ℕ → S) (reply : S → Told → ℕ → Reply H) (foreign : S → Bool) (rules : Rules) where
+  -- an instruction, written out, tells its messages
   pub reads : (K : Start) (s : S) (X : List ℕ) (instruction : WrittenInstruction) → IsInstruction K X instruction
       → trace step reply foreign rules s (line_after K.input []) K.last_start_tag K.opened (normalised K.input X)
       ≡ record { messages = messages_of rules.exact K.input instruction; opened = open_after_instruction instruction; last_start_tag = K.last_start_tag }

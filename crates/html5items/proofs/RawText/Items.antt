@@ -109,6 +109,7 @@ record IsMarkup (exact : Bool) (raw : Raw) (name : List ℕ) (c : ℕ) : Type 0 
   same : (c == line_feed) ≡ false
   anew : (standing : Standing) → continues name standing c ≡ false
 
+-- a character of raw text that is no text by itself is markup
 is-markup : (exact : Bool) (raw : Raw) (name : List ℕ) (c : ℕ) → is_raw_text raw c ≡ false → IsMarkup exact raw name c
 unfolding raw_step is_bad_character
 is-markup exact raw name c h = at (c == less_than) (is_rcdata raw && (c == ampersand)) refl refl h
@@ -148,6 +149,7 @@ record Afterwards (exact : Bool) (name : List ℕ) (raw : Raw) (item : RawItem) 
   fits_after : fits name standing text ≡ true
   letters_is : in_letters standing text ≡ ends_in_letters item (kind_of raw) text
 
+-- a `<`, or `</` and letters, before a text with which it can stand
 afterwards : (exact : Bool) (name : List ℕ) (raw : Raw) (item : RawItem) (text : List ℕ) → is_text_later item ≡ true → can_stand name raw item text ≡ true
     → Afterwards exact name raw item text
 unfolding Goes
@@ -195,7 +197,7 @@ module _ {X S H : Type 0} (means : Means X S H) (rules : Rules) where
     at_end = λ s line last. ap (λ (t : Trace). tokens_at_end rules t.opened) (trace-same means rules s line last a b c text f g e);
   }
 
-  -- where it tells the same, and leads to where the rest is told alike
+  -- where it tells the same, and leads to where the rest tells the same
   alike-cons : (a b next other : Open) (c : ℕ) (text : List ℕ) (told : List Told) → is_undecided_open a ≡ false → is_undecided_open b ≡ false
       → step_at rules.exact a c ≡ Tells told next → step_at rules.exact b c ≡ Tells told other → Alike means rules next other text → Alike means rules a b (c ∷ text)
   alike-cons a b next other c text told f g e d rest = record {
@@ -213,7 +215,7 @@ module _ {X S H : Type 0} (means : Means X S H) (rules : Rules) where
         ∙ sym (ap (λ (t : Trace). tokens_at_end rules t.opened) (trace-character s line last b other c text told g d));
   }
 
-  -- the text is told alike from there and between items
+  -- the text tells the same from there and between items
   abbrev IsAlike : List ℕ → Standing → List ℕ → Type 0
   IsAlike name standing text = carried_at standing ≡ [] → fits name standing text ≡ true → in_letters standing text ≡ false
       → Alike means rules (opened_at name standing) (Between (RawText (raw_at standing) name)) text
@@ -236,7 +238,7 @@ module _ {X S H : Type 0} (means : Means X S H) (rules : Rules) where
       (r.step ∙ ap (λ told. Tells (told ++ raw_character rules.exact raw c) (opened_at name r.next)) none)
       (step-text rules.exact raw name c no_less_than no_ampersand) rest
 
-  -- so it is told alike to its end
+  -- so it tells the same to its end
   alike-standing : (name : List ℕ) (standing : Standing) (text : List ℕ) → IsAlike name standing text
   unfolding trace
   alike-standing name standing [] none f letters = record {
@@ -252,7 +254,7 @@ module _ {X S H : Type 0} (means : Means X S H) (rules : Rules) where
 
   -- ---- items
 
-  -- the item tells what it spells, and the text F after it is told as if nothing were open
+  -- the item tells what it spells, and the text F after it tells the same as if nothing were open
   tells-goes : (Z : List ℕ) (K : Start) (s : S) (Y : List ℕ) (opened afterwards later : Open) (cells : List Spelled) (F : List ℕ)
       → K.opened ≡ opened → normalised K.input Y ≡ characters cells → normalised (input_after K.input Y) Z ≡ F → is_undecided_open afterwards ≡ false
       → Goes rules.exact opened cells afterwards → Alike means rules afterwards later F
@@ -261,6 +263,7 @@ module _ {X S H : Type 0} (means : Means X S H) (rules : Rules) where
       tells-alike means rules Z K s Y (spelled_messages rules.exact K.input [] cells) afterwards later F next alike
       (rw (line-after K Y, starts, text) (trace-goes means.step means.reply means.foreign rules K.input [] s K.last_start_tag opened afterwards cells F decided goes))
 
+  -- a mark or a switch tells what it spells
   goes-at_once : (name : List ℕ) (raw : Raw) (item : RawItem) → is_text_at_once item ≡ true → can_stand name raw item [] ≡ true
       → Goes rules.exact (Between (RawText raw name)) (spell_item rules.exact raw item) (Between (RawText (raw_after_item raw item) name))
   unfolding Goes
@@ -310,7 +313,7 @@ module _ {X S H : Type 0} (means : Means X S H) (rules : Rules) where
   on_line-append : (line : ℕ) (a b : List Told) → on_line line (a ++ b) ≡ on_line line a ++ on_line line b
   on_line-append line a b = map-append (λ t. record { token = t; line = line }) a b
 
-  -- what is carried to such a character is told before it
+  -- what is carried to such a character is sent before it
   trace-carried : (s : S) (line : ℕ) (last : List ℕ) (opened : Open) (raw : Raw) (name : List ℕ) (c : ℕ) (text : List ℕ) (before : List Told) → is_undecided_open opened ≡ false
       → IsMarkup rules.exact raw name c → line_past line c ≡ line → step_at rules.exact opened c ≡ raw_step rules.exact raw name before c
       → trace_of means rules s line last opened (c ∷ text)

@@ -95,6 +95,7 @@ module _ (exact : Bool) (name : List ℕ) where
   ReadsFrom standing raw before items later =
       can_follow name raw items later ≡ true → fits name standing (items_text raw items later) ≡ true → ReadsItems standing raw before items
 
+  -- the walk reads items of raw text as their spelled characters say
   reads_items : (standing : Standing) (items : List RawItem) (later : List ℕ) → ReadsFrom standing (raw_at standing) (carried_at standing) items later
   unfolding Goes items_text can_follow spell_items raw_after_items carried_after raw_at_end
   reads_items standing [] later can f = record { afterwards = standing; goes = refl; raw_is = refl; carried_is = refl; end_is = refl }
@@ -203,6 +204,7 @@ record IsEnded (name : List ℕ) (raw : Raw) (items : List RawItem) (first : ℕ
   name_is : bytes_eq (lower (first ∷ rest)) name ≡ true
   parts_follow : one_tag.can_follow InName parts ≡ true
 
+-- what is asked of raw text with an end tag, as a record of its parts
 is_ended : (name : List ℕ) (raw : Raw) (items : List RawItem) (first : ℕ) (rest : List ℕ) (parts : List Part)
     → is_raw name raw (record { items = items; end_tag = Some (end_tag_of first rest parts) }) ≡ true → IsEnded name raw items first rest parts
 unfolding is_raw one_tag.is_written
@@ -235,6 +237,7 @@ module _ (exact : Bool) (name : List ℕ) where
     kind : RawKind
     goes : Goes exact (Between (RawText raw name)) (front raw items first rest) (InRaw (InEndName kind (first ∷ rest)) name)
 
+  -- the walk reads raw text up to the end of its end tag's name
   reads_name : (raw : Raw) (items : List RawItem) (first : ℕ) (rest : List ℕ) (parts : List Part) → IsEnded name raw items first rest parts → ReadsName raw items first rest
   reads_name raw items first rest parts ended =
       let r : ReadsItems exact name (Free raw) raw [] items = reads_items exact name (Free raw) items (one_tag.written (end_tag_of first rest parts)) ended.follow refl in
@@ -285,6 +288,7 @@ module _ {Q S H : Type 0} (means : Means Q S H) (rules : Rules) where
       trace means.step means.reply means.foreign rules s (line_after K.input []) K.last_start_tag K.opened (normalised K.input X)
       ≡ record { messages = M; opened = open_after_reply last (last_reply means.step means.reply s M); last_start_tag = last }
 
+  -- raw text without an end tag tells its messages
   reads_open : (K : Start) (s : S) (X : List ℕ) (raw : Raw) (name : List ℕ) (items : List RawItem)
       → IsRawText K X raw name (record { items = items; end_tag = None }) → Reads K s X raw items None
   unfolding is_raw written trace
@@ -313,6 +317,7 @@ module _ {Q S H : Type 0} (means : Means Q S H) (rules : Rules) where
       ∙ characters-append (body rules tag) (end_cell rules tag ∷ [])
       ∙ characters-body means rules tag
 
+  -- the text of raw text with an end tag is what is spelled of it
   text-end_tag : (K : Start) (X : List ℕ) (raw : Raw) (name : List ℕ) (items : List RawItem) (first : ℕ) (rest : List ℕ) (parts : List Part)
       → IsRawText K X raw name (record { items = items; end_tag = Some (end_tag_of first rest parts) })
       → normalised K.input X ≡ characters (front rules.exact name raw items first rest) ++ (characters (spell_parts rules InName [] parts) ++ greater_than ∷ [])
@@ -344,6 +349,7 @@ module _ {Q S H : Type 0} (means : Means Q S H) (rules : Rules) where
         (trace means.step means.reply means.foreign rules (stepped means.step s (spelled_messages rules.exact K.input [] before)) (line_after K.input (characters before)) K.last_start_tag
         (InTag InName (with_name (begun EndTag) (first ∷ rest))) (characters (spell_parts rules InName [] parts) ++ greater_than ∷ []))
 
+  -- raw text with an end tag, up to the `>`
   reaches_end : (K : Start) (s : S) (X : List ℕ) (raw : Raw) (name : List ℕ) (items : List RawItem) (first : ℕ) (rest : List ℕ) (parts : List Part)
       → IsTable rules.names → IsRawText K X raw name (record { items = items; end_tag = Some (end_tag_of first rest parts) })
       → ReachesEnd K s X raw items first rest parts
@@ -380,6 +386,7 @@ module _ {Q S H : Type 0} (means : Means Q S H) (rules : Rules) where
             (λ c ends. step-end_name rules.exact name r.kind (first ∷ rest) c ends (name_ends name first rest c ended.name_is ends))));
       }
 
+  -- raw text with an end tag tells its messages
   reads_end_tag : (K : Start) (s : S) (X : List ℕ) (raw : Raw) (name : List ℕ) (items : List RawItem) (first : ℕ) (rest : List ℕ) (parts : List Part)
       → IsTable rules.names → ((t : S) (line : ℕ) → means.reply t (Tag (tag_told rules (end_tag_of first rest parts))) line ≡ KeepOn)
       → IsRawText K X raw name (record { items = items; end_tag = Some (end_tag_of first rest parts) })
@@ -448,7 +455,7 @@ module _ {Q S H : Type 0} (means : Means Q S H) (rules : Rules) where
       (reads_open K s X raw name written_as.items (subst (λ o. IsRawText K X raw name (record { items = written_as.items; end_tag = o })) e one)).trace_is
       ∙ ap (λ o. spelled_messages rules.exact K.input [] (spell_raw rules raw (record { items = written_as.items; end_tag = o }))) (sym e)
 
-  -- what is told of any raw text
+  -- what is sent of any raw text
 
   reads_ended : (K : Start) (s : S) (X : List ℕ) (raw : Raw) (name : List ℕ) (items : List RawItem) (kind : TagKind) (first : ℕ) (rest : List ℕ) (parts : List Part)
       → IsTable rules.names → ((t : S) (line : ℕ) → means.reply t (Tag (tag_told rules (record { kind = kind; first = first; rest = rest; parts = parts }))) line ≡ KeepOn)

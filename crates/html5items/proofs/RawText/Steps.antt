@@ -95,7 +95,7 @@ or_none : (a : Bool) → (a || false) ≡ true → a ≡ true
 or_none true h = refl
 or_none false h = h
 
--- a character that is not NUL is told as it is
+-- a character that is not NUL is sent as it is
 told-plain : (exact : Bool) (raw : Raw) (c : ℕ) → (c == null) ≡ false → raw_character exact raw c ≡ texts (c ∷ [])
 unfolding raw_character
 told-plain exact raw c h = rw h refl
@@ -163,6 +163,7 @@ module _ (exact : Bool) (name : List ℕ) where
   letters-anew (Within (InSwitch escape_kind.Escaped letters)) c T h = rw (or_false (is_letter c) (ends_name c) h).0 refl
   letters-anew (Within (InSwitch escape_kind.DoubleEscaped letters)) c T h = refl
 
+  -- a character that goes on with nothing that is open is read anew
   reads-anew_character : (standing : Standing) (c : ℕ) (text : List ℕ) → (c == less_than) ≡ false → (is_rcdata (raw_at standing) && (c == ampersand)) ≡ false
       → continues name standing c ≡ false → ReadsCharacter standing c text
   unfolding raw_step
@@ -196,6 +197,7 @@ module _ (exact : Bool) (name : List ℕ) where
 
   -- a character that continues what is open
 
+  -- a character after letters that may switch
   reads-in_switch : (kind : ScriptEscapeKind) (letters : List ℕ) (c : ℕ) (text : List ℕ) (b : Bool) → is_letter c ≡ b
       → not (begins_name_and_end (c ∷ text)) ≡ true → (is_letter c || ends_name c) ≡ true → ReadsCharacter (Within (InSwitch kind letters)) c text
   unfolding step_at raw_place_step switch_step after_run
@@ -211,6 +213,7 @@ module _ (exact : Bool) (name : List ℕ) where
       let ends : ends_name c ≡ true = sym (ap (λ b. b || ends_name c) other) ∙ h in
       absurd (false≢true (sym (ap not ends) ∙ sym (ap (λ b. not (next_is ends_name (if b then after_run is_letter text else c ∷ text))) other) ∙ f))
 
+  -- a character after a `<` that begins nothing else
   reads-after_less_than : (kind : RawKind) (c : ℕ) (text : List ℕ) → is_alone_before kind (c ∷ text) ≡ true
       → continues name (Within (AfterLessThan kind)) c ≡ true → ReadsCharacter (Within (AfterLessThan kind)) c text
   unfolding step_at raw_place_step raw_less_than_step raw_solidus_step begins_mark begins_switch raw_after dashes_after raw_character
@@ -251,6 +254,7 @@ module _ (exact : Bool) (name : List ℕ) where
         letters_is = λ T. refl;
       }
 
+  -- a character that goes on with what is open
   reads-on_character : (standing : Standing) (c : ℕ) (text : List ℕ) → fits name standing (c ∷ text) ≡ true
       → continues name standing c ≡ true → ReadsCharacter standing c text
   unfolding step_at raw_place_step mark_step raw_after raw_character
@@ -325,6 +329,7 @@ module _ (exact : Bool) (name : List ℕ) where
   unfolding ends_name in_tag_name
   end-no_letter c h = false_from_ne_true (is_letter c) (λ letter. false≢true (sym (not-true (ends_name c) (letter-in_tag_name c letter)) ∙ h))
 
+  -- letters that switch, and the character that ends them
   goes-switch_letters : (kind : ScriptEscapeKind) (before letters : List ℕ) (c : ℕ) → list_all is_letter letters ≡ true → ends_name c ≡ true
       → Goes exact (InRaw (InSwitch kind before) name) (spell_text (letters ++ c ∷ [])) (Between (RawText (raw_of (raw_kind.ScriptDataEscaped (switched kind (before ++ letters)))) name))
   unfolding Goes step_at raw_place_step switch_step
@@ -341,6 +346,7 @@ module _ (exact : Bool) (name : List ℕ) where
             (goes-switch_letters kind (before ++ d ∷ []) letters c p.1 ends),
       )
 
+  -- a switch, from its `<` on
   pub goes-switch : (kind : RawKind) (letters : List ℕ) (c : ℕ) → can_switch kind letters ≡ true → list_all is_letter letters ≡ true → ends_name c ≡ true
       → Goes exact (InRaw (AfterLessThan kind) name) (spell_after_less_than kind (Switch letters c)) (Between (RawText (raw_of (switched_kind kind letters)) name))
   unfolding Goes step_at raw_place_step raw_less_than_step raw_solidus_step begins_mark begins_switch
@@ -372,6 +378,7 @@ module _ (exact : Bool) (name : List ℕ) where
   letters-less_than : (standing : Standing) (X : List ℕ) → in_letters standing (less_than ∷ X) ≡ false
   letters-less_than standing X = letters-anew standing less_than X (less_than-anew standing)
 
+  -- the walk reads one item of raw text as its spelled characters say
   pub reads_item : (standing : Standing) (item : RawItem) (text : List ℕ) → can_stand name (raw_at standing) item text ≡ true
       → fits name standing (item_text (raw_at standing) item ++ text) ≡ true → ReadsItem standing item text
   unfolding Goes

@@ -101,6 +101,7 @@ held-begun names text plain begins =
       | false ↦ λ odd. absurd (false≢true (sym (none_begins names text plain odd) ∙ begins))
     ] refl
 
+-- what leaves a reference undecided is letters, digits, `#` and `;`
 pub held-undecided : (names : List NamedReference) (held : List ℕ) → All (λ entry. IsTrue (is_plain_name entry.name)) names
     → is_undecided names held ≡ true → list_all is_held_character held ≡ true
 unfolding is_undecided
@@ -173,6 +174,7 @@ with_value-push tag cs c =
     (append_assoc tag.last_value _ _ ∙ ap (λ l. tag.last_value ++ l) (sym (bytes-append cs (c ∷ []))))
 
 module _ (exact : Bool) where
+  -- a character that can be held of a reference is text where the reference stands, or part of the value
   step-held : (stand : Stand) (cs : List ℕ) (c : ℕ) → takes_reference stand ≡ true → is_held_character c ≡ true
       → step_at exact (opened_in stand cs) c ≡ Tells (text_in stand (c ∷ [])) (opened_in stand (cs ++ c ∷ []))
   unfolding step_at data_step raw_step raw_after raw_character tag_step quoted_step unquoted_step in_quoted unquoted_error
@@ -197,6 +199,7 @@ decided-in (InAttribute kind tag) cs = refl
 
 -- ---- what a reference takes
 
+-- the longest name that begins a text is not longer than the text
 longest-within : (names : List NamedReference) (text : List ℕ) → IfSome (longest_name names text) (λ entry. length entry.name ≤ length text)
 unfolding longest_name
 longest-within [] text = tt
@@ -311,6 +314,7 @@ module _ {X S H : Type 0} (means : Means X S H) (rules : Rules) where
   abbrev pub IsLine : ℕ → Type 0
   IsLine line = (c : ℕ) → (c == line_feed) ≡ false → line_past line c ≡ line
 
+  -- what is held of a reference tells nothing
   pub trace-run : (stand : Stand) (s : S) (line : ℕ) (last held F : List ℕ) → IsLine line → list_all is_held_character (run_while (is_undecided rules.names) held F) ≡ true
       → trace means.step means.reply means.foreign rules s line last (InReference stand held) F
       ≡ trace means.step means.reply means.foreign rules s line last (InReference stand (held ++ run_while (is_undecided rules.names) held F)) (after_while (is_undecided rules.names) held F)
@@ -503,6 +507,7 @@ module _ {X S H : Type 0} (means : Means X S H) (rules : Rules) where
       ap (λ f. list_all is_held_character (take f.taken F)) (ap (reference rules v run) d.is)
       ∙ ap (λ l. list_all is_held_character (take found.taken l)) (sym parts) ∙ taken-held v run d.c d.more all (ends_number run d.c) refl
 
+  -- an `&` and what it takes tell what the reference comes to, before the whole text after it
   pub reference-before_all : (Z : List ℕ) (K : Start) (s : S) (Y : List ℕ) (mode : Mode) (F : List ℕ) → IsTable rules.names → IsReferenceIn rules K Y Z mode F
       → TellsBefore means rules Z K s Y (on_line (line_after K.input (ampersand ∷ [])) (told_of (InText mode) (found_in rules false F))) (start_beyond K Y (Between mode) K.last_start_tag)
   reference-before_all Z K s Y mode F table one =
@@ -535,6 +540,7 @@ module _ {X S H : Type 0} (means : Means X S H) (rules : Rules) where
   none-after F [] e h = e
   none-after F (c ∷ more) e h = absurd (false≢true (ap (λ l. is_none (first_or l None)) (sym e) ∙ h))
 
+  -- an `&` and a text that leaves it undecided tell nothing
   pub trace-open_reference : (mode : Mode) (s : S) (line : ℕ) (last F : List ℕ) → has_references mode ≡ true → IsLine (line_past line ampersand)
       → All (λ entry. IsTrue (is_plain_name entry.name)) rules.names → is_none (deciding_in rules.names F) ≡ true
       → trace means.step means.reply means.foreign rules s line last (Between mode) (ampersand ∷ F) ≡ record { messages = []; opened = InReference (InText mode) F; last_start_tag = last }

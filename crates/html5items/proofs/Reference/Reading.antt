@@ -273,6 +273,7 @@ module _ {S H : Type 0} (step : S → Told → ℕ → S) (reply : S → Told �
     pub told : messages (reading step reply foreign rules K s X) ≡ on_line (line_after K.input (normalised K.input X)) tokens
     pub leaves : (after step reply foreign rules K s X).opened ≡ opened
 
+  -- a text tells the messages of its trace and of its end
   reads-trace : (K : Start) (s : S) (X : List ℕ) (t : Trace) (tokens : List Told) → trace step reply foreign rules s (line_after K.input []) K.last_start_tag K.opened (normalised K.input X) ≡ t
       → t.messages ++ on_line (line_after K.input (normalised K.input X)) (tokens_at_end rules t.opened) ≡ on_line (line_after K.input (normalised K.input X)) tokens
       → Reads K s X tokens t.opened
@@ -311,6 +312,7 @@ module _ {S H : Type 0} (step : S → Told → ℕ → S) (reply : S → Told �
       (trace-run mode K s X held (semicolon ∷ []) has starts text holds ∙ trace-ended mode s line K.last_start_tag held found decides ends is taken)
       (rw (last, told_at_end-references rules.exact mode has) (sym (map-append (λ (token : Told). record { token = token; line = line }) (tokens_in found) (End ∷ []))))
 
+  -- a reference, written out, tells its errors and its characters
   reads-reference : (K : Start) (s : S) (X : List ℕ) (written_as : WrittenReference) → IsTable rules.names → (one : IsReference rules.names K X written_as)
       → Reads K s X (reference_tokens rules.exact written_as) (open_after_reference one.mode written_as)
   unfolding written reference_tokens reference_errors reference_characters reference is_undecided ends_number unended_number Holds

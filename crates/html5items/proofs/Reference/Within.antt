@@ -99,6 +99,7 @@ module _ {X S H : Type 0} (means : Means X S H) (rules : Rules) where
       (number-found rules.exact x digits (Some semicolon) p.0 q.0 q.1) (number-taken x digits (Some semicolon))
       ∙ ap (λ n. record { messages = on_line n (tokens_in found); opened = Between one.mode; last_start_tag = K.last_start_tag }) (sym last))
 
+  -- a reference before a character that decides it tells what it comes to
   pub reference-before : (Z : List ℕ) (K : Start) (s : S) (Y : List ℕ) (written_as : WrittenReference) (c : ℕ) (more : List ℕ) → IsTable rules.names → (one : IsReference rules.names K Y written_as)
       → normalised (input_after K.input Y) Z ≡ c ∷ more → is_decided_by rules.names written_as c ≡ true
       → TellsBefore means rules Z K s Y (messages_within rules.exact K.input written_as) (start_beyond K Y (Between one.mode) K.last_start_tag)

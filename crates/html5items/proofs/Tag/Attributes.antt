@@ -73,6 +73,7 @@ Holds-none kind name = record { closed = refl; error = refl }
 abbrev pub with_attribute : TagKind → List ℕ → List AttributeOf → List ℕ → List ℕ → OpenTag
 with_attribute kind name before n v = record (tag_with kind name before) { last_name = n; last_value = v }
 
+-- the tag after one attribute more, which is dropped where its name is repeated
 closed-if : (kind : TagKind) (name : List ℕ) (before : List AttributeOf) (n v : List ℕ) (repeated : Bool)
     → (if repeated then record (tag_with kind name before) { had_duplicate_attributes = true }
     else record (tag_with kind name before) { attributes = kept before ++ attribute n v ∷ [] })
@@ -135,6 +136,7 @@ module _ (exact : Bool) where
       )
 
   module _ (kind : TagKind) (name : List ℕ) where
+    -- the walk reads the name of an attribute as its spelled characters say
     pub goes-name_of_attribute : (place : Place) (before : List AttributeOf) (tag : OpenTag) (first : ℕ) (rest : List ℕ)
         → Holds kind name before tag → is_attribute_name place first rest ≡ true
         → Goes exact (InTag place tag) (spell_name exact place before first rest) (InTag InAttributeName (with_attribute kind name before (name_shown first rest) []))
@@ -158,6 +160,7 @@ can_end-value (InSingleQuotes run) = refl
 can_end-value (Bare []) = refl
 can_end-value (Bare (c ∷ run)) = refl
 
+-- after each part a tag can end
 can_end-part : (place : Place) (part : Part) → can_end (place_after place part) ≡ true
 can_end-part InName (Blank c) = refl
 can_end-part BeforeAttribute (Blank c) = refl

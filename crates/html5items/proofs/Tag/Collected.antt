@@ -143,6 +143,7 @@ unfolding end_tag_errors
 HasNoText-end_tag tag self_closing =
     HasNoText-append (attributes_error tag) (self_closing_error tag self_closing) (HasNoText-where _ _) (HasNoText-where _ _)
 
+-- the characters of a tag tell no text, so a collector keeps all their messages
 TellNoText-tag : (rules : Rules) (tag : WrittenTag) → TellNoText (spelled rules tag)
 unfolding spelled
 TellNoText-tag rules tag =
@@ -159,7 +160,7 @@ TellNoText-tag rules tag =
 
 -- ---- a collector keeps it
 
--- a collector that is told one tag holds its messages
+-- a collector that is sent one tag holds its messages
 collected-tag : (rules : Rules) (input : Input) (c : Collected) (tag : WrittenTag)
     → stepped collected_step c (tag_messages rules input tag) ≡ record c { messages = c.messages ++ tag_messages rules input tag }
 unfolding tag_messages
@@ -171,7 +172,7 @@ collected-tag rules input c tag =
     (collected-on_line (record c { messages = c.messages ++ M }) (line_after input (written tag)) (End ∷ []) (refl, tt)
     ∙ rw (append_assoc c.messages M N) refl)
 
--- what a collector makes of what it is told
+-- what a collector makes of what it is sent
 abbrev collecting : (H : Type 0) → Means Collected Collected H
 collecting H = record {
   state = λ c. c;

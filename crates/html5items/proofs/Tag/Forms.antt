@@ -116,6 +116,7 @@ attribute-named place first text takes begins n = by n.more
         (parts-cons place (Attribute first n.rest space afterwards value) later (rw (named, h, g, f) refl) p)
     by (inr (Open o)) = parts-end place (first ∷ text) (CutWithin first n.rest n.later named o (ap (λ l. first ∷ l) n.parts))
 
+-- white space before what may follow an attribute's name
 assigned-space : (c : ℕ) (text : List ℕ) → is_white_space c ≡ true → Assigned text → Assigned (c ∷ text)
 assigned-space c text h (Given space afterwards value later g f e parts p) = Given (c ∷ space) afterwards value later (rw (h, g) refl) f e (ap (λ l. c ∷ l) parts) p
 assigned-space c text h (Open o) = Open (record {
@@ -176,6 +177,7 @@ between-stops AfterAttributeName h = absurd (false≢true h)
 between-stops BeforeValue h = absurd (false≢true h)
 between-stops (InValue kind) h = absurd (false≢true h)
 
+-- the empty text has a form for each place in a tag
 all-nil : All []
 unfolding can_follow place_after_parts
 all-nil = record {
@@ -291,6 +293,7 @@ bare-cons c text true w e f all = bare-ends (c ∷ text) (inl (closed-at (InValu
 bare-cons c text false true e f all = bare-ends (c ∷ text) (inl (parts-cons (InValue Unquoted) (Blank c) text f (all.at BeforeAttribute refl)))
 bare-cons c text false false e f all = bare-more c text (rw (f, e) refl) all.bare
 
+-- each text has a form for each place in a tag
 pub all-forms : (text : List ℕ) → All text
 all-forms [] = all-nil
 all-forms (c ∷ text) =

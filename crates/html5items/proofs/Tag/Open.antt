@@ -49,6 +49,7 @@ module _ {X S H : Type 0} (means : Means X S H) (rules : Rules) where
         ≡ record { messages = spelled_messages rules.exact input before cells; opened = later; last_start_tag = last }
     pub at_end : tokens_at_end rules later ≡ E
 
+  -- characters before a text that the end cuts off
   leaves-append : (a b : Open) (xs ys : List Spelled) (text : List ℕ) (E : List Told) → Passes means rules a xs b text → Leaves b text ys E → Leaves a (characters xs ++ text) (xs ++ ys) E
   leaves-append a b xs ys text E passes rest = record {
     later = rest.later;
@@ -119,6 +120,7 @@ module _ {X S H : Type 0} (means : Means X S H) (rules : Rules) where
       ap (λ l. l ++ end_error_in rules.exact (state_at (InValue kind)) ∷ End ∷ [])
       (tokens-late (InAttribute kind tag) found F ∙ append-nil (found.errors ++ []) ∙ append-nil found.errors)
 
+  -- in a value, an `&` that the text's end leaves undecided
   leaves-open : (kind : AttrValueKind) (tag : OpenTag) (F : List ℕ) → All (λ entry. IsTrue (is_plain_name entry.name)) rules.names → is_none (deciding_in rules.names F) ≡ true
       → Leaves (InTag (InValue kind) tag) (ampersand ∷ F) (spell_silent (ampersand ∷ F)) ((found_in rules true F).errors ++ end_error_in rules.exact (state_at (InValue kind)) ∷ End ∷ [])
   unfolding trace
@@ -156,6 +158,7 @@ module _ {X S H : Type 0} (means : Means X S H) (rules : Rules) where
   less-drop (suc k) [] = omega arith
   less-drop (suc k) (d ∷ text) = let less : length (drop k text) ≤ length text = less-drop k text in omega (arith, less)
 
+  -- in a value, an `&` that the text decides, where the rest is left open
   left-decided : (kind : AttrValueKind) (tag : OpenTag) (run : List ℕ) → All (λ entry. IsTrue (is_plain_name entry.name)) rules.names → is_none (deciding_in rules.names run) ≡ false
       → IsLeft kind (with_value tag (characters_in (found_in rules true run))) (drop (found_in rules true run).taken run)
       → Leaves (InTag (InValue kind) tag) (ampersand ∷ run)
@@ -181,6 +184,7 @@ module _ {X S H : Type 0} (means : Means X S H) (rules : Rules) where
   left-ampersand kind tag run plain true h further = leaves-open kind tag run plain h
   left-ampersand kind tag run plain false h further = left-decided kind tag run plain h (further _ (found_in rules true run).taken)
 
+  -- one character more of a value that the text ends
   left-cons : (kind : AttrValueKind) (tag : OpenTag) (c : ℕ) (run : List ℕ) → All (λ entry. IsTrue (is_plain_name entry.name)) rules.names → is_in_value kind c ≡ true → (a : Bool) → (c == ampersand) ≡ a
       → ((t : OpenTag) (k : ℕ) → IsLeft kind t (drop k run))
       → IsLeft kind tag (c ∷ run)
@@ -261,6 +265,7 @@ module _ {X S H : Type 0} (means : Means X S H) (rules : Rules) where
       (passes-goes means rules (InTag InAttributeName named) (InTag BeforeValue named) equals_cells _ refl (goes-equals rules.exact named a.space a.afterwards q.0 r.0))
       (leaves-value a.kind named a.run plain r.1)))
 
+  -- directly after a value without quotes no attribute begins
   needs-none : (place : Place) (first : ℕ) (name : List ℕ) → is_attribute_name place first name ≡ true → needs_stop place ≡ true → (⊥)
   needs-none (InValue Unquoted) first name h needs = false≢true h
   needs-none (InValue SingleQuoted) first name h needs = false≢true needs

@@ -50,6 +50,7 @@ pub record Stops (text : List ℕ) : Type 0 where
   pub parts : text ≡ c ∷ more
   pub stop : IsStop c
 
+-- parts after a value without quotes begin with a character that ends the value
 pub stops-after : (place : Place) (parts : List Part) (rest : List ℕ) → can_follow place parts ≡ true → (needs_stop (place_after_parts place parts) ≡ true → Stops rest) → needs_stop place ≡ true → Stops (flat_map part_text parts ++ rest)
 unfolding can_follow place_after_parts
 stops-after (InValue Unquoted) [] rest h last needs = last needs
@@ -78,6 +79,7 @@ module _ {X S H : Type 0} (means : Means X S H) (rules : Rules) where
       ap (λ l. apostrophe ∷ l) (characters-two (spell_run rules SingleQuoted zero run) (spell_silent (apostrophe ∷ [])) run (apostrophe ∷ []) (characters-run means rules SingleQuoted zero run) refl)
   characters-value (Bare run) = characters-run means rules Unquoted zero run
 
+  -- the characters that are spelled of a part are its text
   characters-part : (place : Place) (before : List AttributeOf) (part : Part) → characters (spell_part rules place before part) ≡ part_text part
   characters-part place before (Blank c) = refl
   characters-part place before Solidus = refl
@@ -111,6 +113,7 @@ module _ {X S H : Type 0} (means : Means X S H) (rules : Rules) where
   abbrev pub with_shown : OpenTag → Value → OpenTag
   with_shown tag value = record tag { last_value = tag.last_value ++ value_shown rules value }
 
+  -- the walk reads a value in quotes as its spelled characters say
   passes-quoted : (kind : AttrValueKind) (q : ℕ) (tag : OpenTag) (run rest : List ℕ) → All (λ entry. IsTrue (is_plain_name entry.name)) rules.names → IsStop q → list_all (is_in_value kind) run ≡ true
       → step_at rules.exact (InTag BeforeValue tag) q ≡ Tells [] (InTag (InValue kind) tag)
       → ((t : OpenTag) → step_at rules.exact (InTag (InValue kind) t) q ≡ Tells [] (InTag AfterQuotedValue t))
@@ -130,6 +133,7 @@ module _ {X S H : Type 0} (means : Means X S H) (rules : Rules) where
       let p = both-none (is_white_space c) (c == greater_than) (not-true (is_white_space c || (c == greater_than)) h) in
       rw (p.0, no_double, no_single, p.1) refl
 
+  -- the walk reads a value as its spelled characters say
   passes-value : (tag : OpenTag) (value : Value) (rest : List ℕ) → All (λ entry. IsTrue (is_plain_name entry.name)) rules.names → is_value value ≡ true → (needs_stop (place_after_value value) ≡ true → Stops rest)
       → Passes means rules (InTag BeforeValue tag) (spell_value rules value) (InTag (place_after_value value) (with_shown tag value)) rest
   unfolding step_at tag_step before_value_step quoted_step in_quoted is_white_space spell_run decoded Leads
@@ -158,6 +162,7 @@ module _ {X S H : Type 0} (means : Means X S H) (rules : Rules) where
       pub passes : Passes means rules (InTag place tag) cells (InTag later afterwards) rest
       pub holds : Holds kind name attributes afterwards
 
+    -- the walk reads a part as its spelled characters say, and puts its attribute to the tag
     passes-part : (place : Place) (before : List AttributeOf) (tag : OpenTag) (part : Part) (rest : List ℕ) → All (λ entry. IsTrue (is_plain_name entry.name)) rules.names → Holds kind name before tag → can_stand place part ≡ true
         → (needs_stop (place_after place part) ≡ true → Stops rest)
         → Led place tag (spell_part rules place before part) (place_after place part) (attributes_with rules before part) rest
@@ -188,6 +193,7 @@ module _ {X S H : Type 0} (means : Means X S H) (rules : Rules) where
           holds = Holds-attribute kind name before (name_shown first name_rest) (value_shown rules value) (name-some first name_rest);
         }
 
+    -- the same for parts, one after another
     pub passes-parts : (place : Place) (before : List AttributeOf) (tag : OpenTag) (parts : List Part) (rest : List ℕ) → All (λ entry. IsTrue (is_plain_name entry.name)) rules.names → Holds kind name before tag → can_follow place parts ≡ true → (needs_stop (place_after_parts place parts) ≡ true → Stops rest)
         → Led place tag (spell_parts rules place before parts) (place_after_parts place parts) (attributes_with_parts rules before parts) rest
     unfolding spell_parts place_after_parts attributes_with_parts can_follow Leads
@@ -268,7 +274,7 @@ module _ {X S H : Type 0} (means : Means X S H) (rules : Rules) where
         ends = ends-tag tag led.afterwards (can_end-parts InName tag.parts refl) led.holds;
       }
 
-  -- what is spelled is told, and its `>` tells the tag
+  -- what is spelled is sent, and its `>` tells the tag
   pub trace-tag : (input : Input) (before : List ℕ) (s : S) (last : List ℕ) (opened afterwards : Open) (cells : List Spelled) (errors : List Told) (tag : TagOf)
       → Passes means rules opened cells afterwards (greater_than ∷ [])
       → step_at rules.exact afterwards greater_than ≡ TellsTag errors tag

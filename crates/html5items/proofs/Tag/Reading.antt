@@ -19,6 +19,7 @@ use Rattle.html5items.proofs.Tag.Parts.{reads-one_tag}
 use Rattle.markup5ever.specs.NamedReferences.{IsTable}
 
 module _ {Q S H : Type 0} (means : Means Q S H) (rules : Rules) where
+  -- a tag to which the sink replies to keep on tells its messages
   reads-kept : (K : Start) (s : S) (X : List ℕ) (tag : WrittenTag)
       → ((t : S) (line : ℕ) → means.reply t (Tag (tag_told rules tag)) line ≡ KeepOn)
       → IsTable rules.names → IsTag K X tag

@@ -100,6 +100,7 @@ module _ (exact : Bool) where
   step-blank AfterQuotedValue tag c takes h = rw ((is_blank c h).no_end, h) refl
   step-blank AfterSolidus tag c takes h = rw ((is_blank c h).no_end, h) refl
 
+  -- a `/` where it can stand
   pub step-solidus : (place : Place) (tag : OpenTag) → takes_solidus place ≡ true
       → step_at exact (InTag place tag) solidus ≡ Tells (place_error exact place solidus) (InTag AfterSolidus tag)
   unfolding step_at tag_step tag_name_step part_step attribute_name_step after_attribute_name_step in_tag_name in_attribute_name is_white_space place_error
@@ -128,6 +129,7 @@ module _ (exact : Bool) where
   step-first AfterQuotedValue tag c takes begins = let f = is_first c begins in rw (f.no_end, f.no_white, f.no_solidus) refl
   step-first AfterSolidus tag c takes begins = let f = is_first c begins in rw (f.no_end, f.no_white, f.no_solidus) refl
 
+  -- the `>` where the tag can end
   pub step-end : (place : Place) (tag : OpenTag) → can_end place ≡ true
       → step_at exact (InTag place tag) greater_than
       ≡ TellsTag (end_error exact place ++ (duplicate_error tag ++ end_tag_errors (with_last_attribute tag) (is_after_solidus place))) (told_tag (with_last_attribute tag) (is_after_solidus place))

@@ -79,6 +79,7 @@ module _ (names : List NamedReference) (plain : All (λ entry. IsTrue (is_plain_
     next_c : first_or (after_c held F) None ≡ Some c
     next_d : first_or (after_d held F) None ≡ Some d
 
+  -- a text decides a reference, or ends before that
   ends : (held F : List ℕ) → Within held F ⊎ AtEnd held F
   unfolding run_while after_while
   ends held [] =

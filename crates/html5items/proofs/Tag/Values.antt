@@ -75,6 +75,7 @@ module _ {X S H : Type 0} (means : Means X S H) (rules : Rules) where
       rw (stepped-append means.step s M N)
       (ap (λ l. record { messages = l; opened = rest.opened; last_start_tag = rest.last_start_tag }) (sym (append_assoc M N rest.messages)))
 
+  -- what is spelled of two texts, one after the other
   pub passes-append : (a b c : Open) (xs ys : List Spelled) (rest : List ℕ) → Passes a xs b (characters ys ++ rest) → Passes b ys c rest → Passes a (xs ++ ys) c rest
   passes-append a b c xs ys rest f g = λ input before s last.
       let past : List ℕ = before ++ characters xs in
@@ -155,6 +156,7 @@ module _ {X S H : Type 0} (means : Means X S H) (rules : Rules) where
       ∙ line_after-lines_past input (before ++ ampersand ∷ []) run
       ∙ lines-same means rules (line_after input (before ++ ampersand ∷ [])) run (λ c h. is-line means rules input (before ++ ampersand ∷ []) c h) held
 
+  -- in a value, an `&` and what it takes
   passes-reference_at : (kind : AttrValueKind) (tag : OpenTag) (run : List ℕ) (e : ℕ) (rest : List ℕ) → All (λ entry. IsTrue (is_plain_name entry.name)) rules.names
       → (found : Found) (d : DecidedIn means rules (run ++ e ∷ rest)) → reference rules true (held_in rules.names (run ++ e ∷ rest)) (Some d.c) ≡ found
       → found.taken ≤ length run → list_all is_held_character (take found.taken run) ≡ true
@@ -197,6 +199,7 @@ module _ {X S H : Type 0} (means : Means X S H) (rules : Rules) where
       let found_is : reference rules true (held_in rules.names F) (Some d.c) ≡ found = sym (ap (reference rules true (held_in rules.names F)) d.is) ∙ same in
       (fewer, λ input before s last. passes-reference_at kind tag run e rest plain found d found_is fewer held_run input before s last)
 
+  -- the walk reads a run of a value as its spelled characters say
   passes-run : (n : ℕ) (kind : AttrValueKind) (tag : OpenTag) (run : List ℕ) (e : ℕ) (rest : List ℕ) → length run ≤ n → All (λ entry. IsTrue (is_plain_name entry.name)) rules.names → IsStop e → IsStop (quote_of kind)
       → list_all (is_in_value kind) run ≡ true
       → Passes (InTag (InValue kind) tag) (spell_run rules kind zero run) (InTag (InValue kind) (with_value tag (decoded rules kind zero run))) (e ∷ rest)
