@@ -5,9 +5,9 @@
 
 `rt ci` leaves the library of each crate in its out/, without the stamp by which rt knows what a library was made of.
 So `rt lib`, which bindings/check.sh calls after it, would prove all of them once more. This writes the stamps that are
-missing, by the toolchain's own function. Call it only directly after `rt ci` has passed, on the same files: no stamp is
-looked at by `rt ci` itself, which proves each crate from nothing. Where the toolchain has no such function it writes
-none; then all is proved again, in some half an hour.
+missing, by the toolchain's own function. Call it only directly after `rt ci` has passed, on the same files. `rt ci`
+itself looks at no stamp. Where the toolchain has no such function it writes none, and then all is proved again, in some
+half an hour.
 """
 
 import importlib.machinery
