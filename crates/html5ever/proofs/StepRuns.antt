@@ -61,7 +61,7 @@ module _ {X S H : Type 0} (means : Means X S H) (rules : Rules) where
   cutting-text K s pieces = run_text-pushes K s [] [] pieces
 
 module _ {X S H : Type 0} (means : Means X S H) where
-  -- the steps but for the rest were taken
+  -- all steps before the rest were taken
   pub record HasTaken (first now : Tokenizing X) (steps rest : List StepOf) (queue : List ℕ) : Type 0 where
     pub front : List ℕ
     pub reads : ReadsOn means first now front

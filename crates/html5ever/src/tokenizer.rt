@@ -113,8 +113,8 @@ impl<'t, Sink: TokenSink<Token<A>>, A: Allocator + Copy> Tokenizer<'t, Sink, A> 
     ) -> Result<TokenizerResult<Sink::Handle, String<A>>, TokenizerError>
         requires { self.old.ended ≡ false }
 
-        // What an `Ok` says: a beginning of the queue's text was taken, and exactly what it decides
-        // was sent; the rest waits, and the answer is the reply that pauses.
+        // What an `Ok` says: a beginning of the queue's text was taken, and the sink was sent exactly
+        // what that decides. The rest waits, and the answer is the reply that pauses.
         ensures reads { IfOk result (λ answer.
             Feeds Sink.means self.old self.new queue.old.text queue.new.text (reply_in string_bytes answer)) }
         ensures items { IsOk result → FeedsItems Sink.means self.old self.new queue.old.text }

@@ -120,7 +120,7 @@ impl<A: Allocator + Copy> Position<A> {
         self.input.line()
     }
 
-    /// Sends what the end of input tells, by what is open.
+    /// Sends what the end of input tells of what is open.
     pub fn tell_end_of_input<S: TokenSink<Token<A>>>(
         &mut self,
         alloc: A,

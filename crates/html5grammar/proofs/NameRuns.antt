@@ -36,7 +36,7 @@ no_number-front : (held : List ℕ) (c : ℕ) (text : List ℕ) → IsNoNumber (
 no_number-front [] c text other = other
 no_number-front (d ∷ held) c text other = other
 
--- the first character beside what is held
+-- the first character after what is held
 module _ (P : List ℕ → Type 0) (held : List ℕ) (c : ℕ) (text : List ℕ) where
   pushed : P (held ++ c ∷ text) → P ((held ++ c ∷ []) ++ text)
   pushed h = subst P (sym (append_assoc held (c ∷ []) text)) h

@@ -164,7 +164,7 @@ module _ {S H : Type 0} (step : S → Told → ℕ → S) (reply : S → Told �
   abbrev pub start_beyond : Start → S → List ℕ → Start
   start_beyond K s X = after step reply foreign rules K s X
 
-  -- the events of a reading are decided by characters, but for those of the end
+  -- characters decide the events of a reading, except for those of the end
 
   decided-end : (K : Start) (opened : Open) (Y : List ℕ)
       → take_while (λ (e : Event). is_character e.decided_by) (end_events step reply foreign rules K opened Y) ≡ []

@@ -67,7 +67,7 @@ late_event input before decided_by late =
 unfoldable pub late_events : Input → List ℕ → TextPlace → List Late → List Event
 late_events input before decided_by late = map (late_event input before decided_by) late
 
--- what is sent at a character besides a bad character, and how the text goes on after it
+-- what is sent at a character, besides the error of a bad one, and how the text goes on after it
 pub data Here (G : Type 0) : Type 0 where
   Tells : List Told → G → Here G
   -- a tag is sent last, and the sink's reply chooses
@@ -149,9 +149,9 @@ module _ {S H : Type 0} (step : S → Told → ℕ → S) (reply : S → Told �
       with_events (events_at K.input before c (tokens ++ Tag tag ∷ []))
       (rest (step t (Tag tag) line) name (begin (open_after_reply name (reply t (Tag tag) line))))
 
-  -- the events at the places of a text, with `before` in front of it, where the sink has the state s and the last start tag
-  -- had the name `last`. The sink is asked about foreign content in the state after all events before the `<!`, since nothing is
-  -- sent between that and the answer.
+  -- the events at the places of a text, with `before` in front of it. The sink has the state s, and the last start tag had the
+  -- name `last`. Nothing is sent between a `<!` and the sink's answer about foreign content, so the sink is asked in the state after
+  -- all events before the `<!`.
   unfoldable pub read_from : S → List ℕ → List ℕ → Slice → List ℕ → Read
   read_from s last before slice [] = record { events = []; opened = open_after slice.afterwards; last_start_tag = last }
   read_from s last before slice (c ∷ text) =

@@ -25,10 +25,10 @@ pub data Cell : Type 0 where
 pub data Afterwards : Type 0 where
   -- first something is sent at the next character, and this is open
   Leaves : List Told → Open → Afterwards
-  -- the next character decides what is sent before it, and then this is open; what the end decides is said in `EndOfInput`
+  -- the next character decides what is sent before it, and then this is open. `EndOfInput` says what the end decides.
   Settles : List Late → Open → Afterwards
-  -- after `<!` and what is held the next character begins no comment and no doctype: whether a CDATA section may begin there is
-  -- asked of the sink
+  -- after `<!` and what is held the next character begins no comment and no doctype. The sink is asked whether a CDATA section may
+  -- begin there.
   Asks : List ℕ → Afterwards
 
 -- characters of a text that are read as one, with what each of them tells

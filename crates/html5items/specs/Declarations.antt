@@ -62,7 +62,7 @@ bogus_declaration_messages exact input content =
 
 -- ---- a doctype
 
--- "DOCTYPE state" to "Bogus DOCTYPE state", at the end: the text Y is a doctype, written out, but for its `>`
+-- "DOCTYPE state" to "Bogus DOCTYPE state", at the end: the text Y is a doctype, written out, except for its `>`
 pub record IsOpenDoctype (K : Start) (Y : List ℕ) (doctype : WrittenDoctype) : Type 0 where
   pub starts : K.opened ≡ Between Data
   pub is_doctype : is_written doctype ≡ true

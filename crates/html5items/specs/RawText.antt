@@ -35,8 +35,8 @@ pub data RawItem : Type 0 where
   Letters : List ℕ → RawItem
   -- the `<!--` of script data
   Mark : RawItem
-  -- in escaped script data `<`, letters and a character that ends a name; in double-escaped script data `</`, letters, maybe
-  -- none, and such a character
+  -- in escaped script data `<`, letters and a character that ends a name. In double-escaped script data `</`, letters, maybe
+  -- none, and such a character.
   Switch : List ℕ → ℕ → RawItem
 
 -- raw text: its items, and the end tag that ends it, where there is one

@@ -20,7 +20,7 @@ unfoldable pub tokens_of : Here Open → List Told
 tokens_of (Tells told later) = told
 tokens_of (TellsTag told tag) = told
 
--- what is after a character: something is open; or a tag has ended, and this is open unless the sink's reply chooses
+-- what is after a character. Either something is open, or a tag has ended, and this is open unless the sink's reply chooses.
 pub data Next : Type 0 where
   Opens : Open → Next
   Closes : TagOf → Open → Next

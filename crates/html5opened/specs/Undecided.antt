@@ -22,8 +22,8 @@ is_keyword_open (InDeclaration held) = true
 is_keyword_open (InDoctypeKeyword held doctype) = true
 is_keyword_open other = false
 
--- "Markup declaration open state": whether the sink is asked at a character. It is where that belongs to the keyword of a CDATA
--- section.
+-- "Markup declaration open state": whether the sink is asked at a character. It is asked where the character belongs to the keyword
+-- of a CDATA section.
 abbrev pub asks : Open → ℕ → Bool
 asks (InDeclaration held) c = begins_cdata (held ++ c ∷ [])
 asks other c = false

@@ -191,7 +191,7 @@ fn count_of<A: Allocator>(attrs: &[Attribute<A>], attribute: &Attribute<A>) -> u
     attrs.iter().filter(|other| **other == *attribute).count()
 }
 
-/// To be equal but for the order of attributes and the flags is an equivalence of tags.
+/// To be equal, except for the order of attributes and the flags, is an equivalence of tags.
 pub fn equivalence_of_tags()
     ensures reflexive { (tag : TagOf) → IsEquivalent tag tag }
     ensures symmetric { (tag other : TagOf) → IsEquivalent tag other → IsEquivalent other tag }

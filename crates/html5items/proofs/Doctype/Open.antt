@@ -320,7 +320,7 @@ module _ {X S H : Type 0} (means : Means X S H) (rules : Rules) where
     is : trace means.step means.reply means.foreign rules s (line_after input before) last opened text ≡ record { messages = M; opened = later; last_start_tag = last }
     at_end : tokens_at_end rules later ≡ E
 
-  -- the walk reads such a text as its spelled characters say, but for the last
+  -- the walk reads such a text as its spelled characters say, except for the last
   reads-cut : (input : Input) (before : List ℕ) (s : S) (last : List ℕ) (opened : Open) (text : List ℕ) (cells : List Spelled) (E : List Told)
       → characters cells ≡ text ++ greater_than ∷ []
       → (cut : Cut rules.exact opened cells E)
