@@ -1,4 +1,4 @@
-//! What a caller of the tokenizer writes, as README.md shows it.
+//! What a caller of the tokenizer writes, as crates/html5ever/CALLING.md shows it.
 #![tactic(auto)]
 
 use html5ever::TokenizerError;

@@ -1,4 +1,4 @@
-//! What README.md shows of the library.
+//! What crates/html5ever/CALLING.md shows of the library.
 use html5examples::{few_names, read_with_script, tokens_of, tokens_of_text};
 use std::alloc::Global;
 use std::process::Abort;
