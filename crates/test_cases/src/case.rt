@@ -3,7 +3,7 @@ use crate::check::failure_of;
 use std::alloc::{AllocError, Global};
 use test_lines::{Case, CaseError, push_line, push_meant, push_word};
 
-/// A worked case: the words of the command line and an input, and what is told.
+/// A worked case: the words of the command line and an input, and what is sent.
 #[derive(Drop)]
 pub struct WorkedCase {
     pub name: String,

@@ -71,7 +71,7 @@ fn is_told(alloc: Global, case: &WorkedCase, way: Way) -> Result<bool, AllocErro
     )
 }
 
-// Whether of an input that may go on, cut in pieces of so many characters, is told what must be.
+// Whether an input that may go on, cut in pieces of so many characters, tells what it must.
 fn is_told_so_far(
     alloc: Global,
     case: &WorkedCase,

@@ -1,4 +1,4 @@
-//! A case by library calls, cut in two at each place and into characters, told to the printing sink and
+//! A case by library calls, cut in two at each place and into characters, sent to the printing sink and
 //! to a collector.
 ghost use Rattle.std.specs.Prelude.{IsSome};
 ghost use Rattle.html5feed.specs.Starting.{CanStart};
@@ -35,7 +35,7 @@ fn lines_of(alloc: Global, case: &WorkedCase, pauses: bool) -> Result<String, Ca
     Ok(lines)
 }
 
-// What the printing sink must be told.
+// What the printing sink must be sent.
 fn due_to_printer(alloc: Global, case: &WorkedCase) -> Result<Due, CaseError> {
     Ok(Due {
         lines: lines_of(alloc, case, true)?,
@@ -43,8 +43,8 @@ fn due_to_printer(alloc: Global, case: &WorkedCase) -> Result<Due, CaseError> {
     })
 }
 
-// What a collector must be told. Where the printing sink's replies choose how the input is read, that is
-// what another collector was told of the whole.
+// What a collector must be sent. Where the printing sink's replies choose how the input is read, that is
+// what another collector was sent of the whole.
 fn due_to_collector(alloc: Global, case: &WorkedCase, whole: &Collector) -> Result<Due, CaseError> {
     if case.steered {
         return Ok(Due {
@@ -58,7 +58,7 @@ fn due_to_collector(alloc: Global, case: &WorkedCase, whole: &Collector) -> Resu
     })
 }
 
-// Whether the printing sink is told of the case, cut so, what it must be.
+// Whether the printing sink is sent what it must be of the case, cut so.
 fn is_printed(
     alloc: Global,
     case: &WorkedCase,
@@ -76,7 +76,7 @@ fn is_printed(
     Ok(is_told)
 }
 
-// Whether a collector is told of the case, cut so, what it must be, and what one was told of the whole.
+// Whether a collector is sent what it must be of the case, cut so, and what one was sent of the whole.
 fn is_collected(
     alloc: Global,
     case: &WorkedCase,
@@ -95,7 +95,7 @@ fn is_collected(
     Ok(is_told && sink.is_finished() && sink.entries() == whole.entries())
 }
 
-// What a collector is told of the whole.
+// What a collector is sent of the whole.
 fn collected(
     alloc: Global,
     case: &WorkedCase,
@@ -113,7 +113,7 @@ fn collected(
     }
 }
 
-// Who is not told of the case, cut so, what it must be, if one is.
+// Which sink is not sent what it must be of the case, cut so, if one is not.
 fn failing_sink(
     alloc: Global,
     case: &WorkedCase,

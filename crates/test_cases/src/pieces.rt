@@ -1,4 +1,4 @@
-//! The pieces of an input, fed one after another to a tokenizer, and what must be told after each.
+//! The pieces of an input, fed one after another to a tokenizer, and what must be sent after each.
 ghost use Rattle.html5feed.specs.Starting.{CanStart};
 
 use crate::so_far::SoFar;
@@ -58,7 +58,7 @@ pub fn pieces_of(alloc: Global, text: &str, cutting: Cutting) -> Result<Vec<Stri
     }
 }
 
-/// What must be told in all: after the end, or after an input that may go on.
+/// What must be sent in all: after the end, or after an input that may go on.
 #[derive(Drop)]
 pub struct Due {
     /// The lines. Where the input may go on, a text at their end is open.
@@ -98,7 +98,7 @@ fn feed_piece<S: TokenSink<Token> + SoFar>(
     answered(feed_until_done(tokenizer, queue))
 }
 
-// Feeds the pieces. Answers whether after each a beginning of what is due was told.
+// Feeds the pieces. Answers whether after each a beginning of what is due was sent.
 fn feed_all<S: TokenSink<Token> + SoFar>(
     alloc: Global,
     tokenizer: &mut Tokenizer<'_, S>,
@@ -116,7 +116,7 @@ fn feed_all<S: TokenSink<Token> + SoFar>(
     Ok(true)
 }
 
-// Tells a tokenizer the end of the input.
+// Sends a tokenizer the end of the input.
 fn end<S: TokenSink<Token> + SoFar>(tokenizer: &mut Tokenizer<'_, S>) -> Result<(), CaseError> {
     if tokenizer.is_ended() {
         return Err(CaseError::BadLine);
@@ -124,7 +124,7 @@ fn end<S: TokenSink<Token> + SoFar>(tokenizer: &mut Tokenizer<'_, S>) -> Result<
     answered(tokenizer.end())
 }
 
-// Whether all that is due was told, and no more.
+// Whether all that is due was sent, and no more.
 fn is_told<S: TokenSink<Token> + SoFar>(
     alloc: Global,
     tokenizer: &Tokenizer<'_, S>,
@@ -135,7 +135,7 @@ fn is_told<S: TokenSink<Token> + SoFar>(
     Ok(so_far == due.lines && is_clean == due.clean.unwrap_or(false))
 }
 
-/// Feeds a new tokenizer the pieces one after another, and ends it. Answers whether its sink was told
+/// Feeds a new tokenizer the pieces one after another, and ends it. Answers whether its sink was sent
 /// after each piece a beginning of what is due, and all of it in the end; and the sink.
 pub fn feed_pieces<S: TokenSink<Token> + SoFar>(
     alloc: Global,

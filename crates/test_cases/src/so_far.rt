@@ -1,4 +1,4 @@
-//! Sinks that show, line by line, what they were told so far.
+//! Sinks that show, line by line, what they were sent so far.
 use html5ever_interface::collect::Collector;
 use html5ever_interface::interface::token::Token;
 use std::alloc::Global;
@@ -6,7 +6,7 @@ use test_lines::CaseError;
 use test_sinks::lines::push_lines;
 use token_printer::print_sink::PrintSink;
 
-/// A sink that shows what it was told so far.
+/// A sink that shows what it was sent so far.
 pub trait SoFar: Drop {
     /// The lines so far. A text at their end is open: its line has no closing quote yet.
     fn so_far(&self, alloc: Global) -> Result<String, CaseError>;

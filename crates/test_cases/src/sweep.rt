@@ -18,7 +18,7 @@ use test_lines::{CaseError, cases_of, push_line};
 // The characters of the texts after a beginning, of which each has at most two.
 const BEHIND: &str = "a-!</>=&;\" \0";
 
-/// What the runs told: a line for each text of which they told different things.
+/// What the runs told: a line for each text for which they differ.
 #[derive(Drop)]
 pub struct Swept {
     pub lines: String,
@@ -58,7 +58,7 @@ fn steps_of(alloc: Global, text: &str) -> Result<Vec<Step>, AllocError> {
     Ok(steps)
 }
 
-// What a collector is told by the steps, if all of them succeed.
+// What a collector is sent by the steps, if all of them succeed.
 fn run(
     alloc: Global,
     settings: &Settings,
@@ -172,7 +172,7 @@ impl Swept {
         Ok(())
     }
 
-    // Reads the beginnings of a case, where a collector can be told it.
+    // Reads the beginnings of a case, where a collector can be sent it.
     fn try_case(&mut self, alloc: Global, case: &WorkedCase) -> Result<(), CaseError> {
         if case.status != 0 || case.steered {
             return Ok(());

@@ -122,7 +122,7 @@ fn push_expected(rt: &impl Abort, expected: &mut Vec<u8>, in_text: bool, index: 
     false
 }
 
-// Tells a sink on a heap that refuses one request all tokens. Answers whether it was refused.
+// Sends a sink on a heap that refuses one request all tokens. Answers whether it was refused.
 fn tells_all_but_refused(rt: &impl Abort, alloc: Global, admitted: u64) -> bool {
     let heap = Refusing::new(alloc, admitted);
     let mut sink: EventSink<&Refusing<Global>> = EventSink::new(&heap, EventOptions::default());

@@ -32,7 +32,7 @@ fn take_pieces(
     }
 }
 
-// Tells all tokens so many times, and takes some pieces after each token.
+// Sends all tokens so many times, and takes some pieces after each token.
 fn told_and_taken(
     rt: &impl Abort,
     alloc: Global,

@@ -18,8 +18,8 @@ const TOKENS: [(&str, &str); 10] = [
     ("end", ""),
 ];
 
-// Tells a sink on a heap that may refuse a request tokens, and a second sink on an ample heap those
-// that the first one took: they stay alike. Answers how many were refused, or `None` where the tokens
+// Sends tokens to a sink on a heap that may refuse a request, and those that it took to a second sink on
+// an ample heap. The two stay alike. Answers how many were refused, or `None` where the tokens
 // themselves could not be made.
 fn refusals<A: Allocator + Copy>(rt: &impl Abort, heap: A, ample: A) -> Option<u64> {
     let tokens = tokens_of(heap, &TOKENS).ok()?;

@@ -1,4 +1,4 @@
-//! Tokens, and a sink told of one.
+//! Tokens, and a sink that is sent one.
 use html5ever_interface::interface::sink::TokenSink;
 use html5ever_interface::interface::token::{Doctype, Tag, TagKind, Token, TokenSinkResult};
 use markup5ever::interface::{Attribute, LocalName, Namespace, Prefix, QualName};

@@ -53,7 +53,7 @@ pub fn cases_of<C: Case>(alloc: Global, text: &str) -> Result<Vec<C>, CaseError>
     Ok(cases)
 }
 
-// Runs a case, and tells where it fails.
+// Runs a case, and says where it fails.
 fn check_case<C: Case>(alloc: Global, case: &C, told: &mut Told) -> Result<(), CaseError> {
     if let Some(failure) = case.failure(alloc)? {
         told.lines.push_str("failed: ")?;

@@ -4,7 +4,7 @@ use crate::{CaseError, number_of};
 use std::alloc::{AllocError, Allocator, Global};
 use test_alloc::Refusing;
 
-/// What a play came to: the step at which it stopped, if it did, and the lines that were told.
+/// What a play came to: the step at which it stopped, if it did, and the lines that were sent.
 #[derive(Drop)]
 pub struct Played {
     pub stop: Option<(usize, Stop)>,
@@ -97,7 +97,7 @@ fn is_cut_text(lines: &str, others: &str) -> bool {
 }
 
 // Whether the lines are the first ones of others: each is ended by LF. Of a text in the last of them
-// the end may be missing, since a text grows while it is told.
+// the end may be missing, since a text grows while it is sent.
 fn is_beginning(lines: &str, others: &str) -> bool {
     if others.starts_with(lines) {
         return true;

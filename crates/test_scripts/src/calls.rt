@@ -1,5 +1,5 @@
 //! Calls of a tokenizer, which answer by words. Each tests at run time what the call requires, and none
-//! says what was told: the proof of a play holds nothing of the grammar.
+//! says what was sent: the proof of a play holds nothing of the grammar.
 ghost use Rattle.std.specs.Prelude.{◌≡◌, false, IfOk};
 ghost use Rattle.html5feed.specs.Starting.{CanStart};
 
@@ -134,7 +134,7 @@ pub fn feed_parts<S: TokenSink<Token<A>> + Drop, A: Allocator + Copy>(
     Ok(word_of_result(&feed_pieces(tokenizer, queue, pieces)))
 }
 
-/// Tells a tokenizer the end of the input.
+/// Sends a tokenizer the end of the input.
 pub fn end<S: TokenSink<Token<A>> + Drop, A: Allocator + Copy>(
     tokenizer: &mut Tokenizer<'_, S, A>,
 ) -> Result<&'static str, Stop> {
@@ -144,7 +144,7 @@ pub fn end<S: TokenSink<Token<A>> + Drop, A: Allocator + Copy>(
     Ok(word_of_result(&tokenizer.end()))
 }
 
-// Tells a tokenizer the end of the input, and takes its sink, with nothing said of it.
+// Sends a tokenizer the end of the input, and takes its sink, with nothing said of it.
 fn finished<S: TokenSink<Token<A>> + Drop, A: Allocator + Copy>(
     tokenizer: Tokenizer<'_, S, A>,
 ) -> (S, Result<(), TokenizerError>)
@@ -153,7 +153,7 @@ fn finished<S: TokenSink<Token<A>> + Drop, A: Allocator + Copy>(
     tokenizer.finish()
 }
 
-/// Tells a tokenizer the end of the input. Answers, too, what its sink then shows.
+/// Sends a tokenizer the end of the input. Answers, too, what its sink then shows.
 pub fn finish<S: TokenSink<Token<A>> + Shown, A: Allocator + Copy>(
     ample: Global,
     tokenizer: Tokenizer<'_, S, A>,

@@ -73,7 +73,7 @@ pub enum Step {
     Front(String),
     /// The rest is plain text.
     Plain,
-    /// A fresh sink is told the rest.
+    /// A fresh sink is sent the rest.
     Fresh,
     /// A call, and its answer.
     Call(Call, String),
@@ -267,7 +267,7 @@ impl Script {
         self.defined.push(repeated).map_err(|_| CaseError::Memory)
     }
 
-    // Reads many lines that are told: how many, and the line.
+    // Reads many lines that are sent: how many, and the line.
     fn read_told_many(&mut self, alloc: Global, written: &str) -> Result<(), CaseError> {
         let added = many(alloc, written, "\n")?;
         match self.steps.last_mut() {
@@ -276,7 +276,7 @@ impl Script {
         }
     }
 
-    // Reads a line that is told: of the step before it.
+    // Reads a line that is sent: of the step before it.
     fn read_told(&mut self, line: &str) -> Result<(), CaseError> {
         match self.steps.last_mut() {
             Some(Step::Told(lines)) => push_line(lines, line),

@@ -1,4 +1,4 @@
-//! A sink that counts what it is told.
+//! A sink that counts what it is sent.
 ghost use Rattle.std.specs.Prelude.{◌≡◌, IfSome};
 ghost use Rattle.html5ever_interface.specs.Token.{told_by};
 ghost use Rattle.test_sinks.specs.Sinks.{counted_with};
@@ -18,7 +18,7 @@ fn counted_with<A: Allocator>(count: u64, token: &Token<A>) -> Option<u64>
     }
 }
 
-/// Counts the tokens other than text that it is told. It faults at one that it can't count.
+/// Counts the tokens other than text that it is sent. It faults at one that it can't count.
 #[derive(Drop)]
 pub struct Counting {
     pub count: u64,

@@ -1,5 +1,5 @@
 //! Sinks for tests and scripts: one that faults, one that replies, one to which content is now and then
-//! foreign, one that counts; and what they were told, as lines.
+//! foreign, one that counts; and what they were sent, as lines.
 #![tactic(auto)]
 
 pub mod alternating;

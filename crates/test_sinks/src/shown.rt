@@ -1,4 +1,4 @@
-//! What sinks show of what they were told, and the numbers of their handles.
+//! What sinks show of what they were sent, and the numbers of their handles.
 use crate::alternating::Alternating;
 use crate::counting::Counting;
 use crate::faulty::FaultySink;
@@ -9,7 +9,7 @@ use std::alloc::{AllocError, Allocator, Global};
 use std::str::from_utf8;
 use token_printer::print_sink::PrintSink;
 
-/// A sink that shows, line by line, what it was told.
+/// A sink that shows, line by line, what it was sent.
 pub trait Shown: Drop {
     /// Appends a line for each entry, and a last line `finished` after the end.
     fn show(&self, alloc: Global, out: &mut String) -> Result<(), AllocError>;
