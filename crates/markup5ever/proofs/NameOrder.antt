@@ -1,5 +1,5 @@
 -- The order of names, and names that begin with a text.
-use Rattle.std.proofs.Common.{◌≡◌, ℕ, ◌<◌, ◌≤◌, ◌⊎◌, inl, inr, true, false, List, [], ◌∷◌, length, refl, sym, ap, ◌∙◌, arith}
+use Rattle.std.proofs.Common.{◌≡◌, ℕ, zero, suc, ◌<◌, ◌≤◌, min, ◌⊎◌, inl, inr, true, false, List, [], ◌∷◌, length, drop, get_or, refl, sym, ap, ◌∙◌, arith}
 use Rattle.std.specs.Bool.{nat_eq}
 use Rattle.std.specs.Cmp.Lexicographic.{slice_cmp}
 use Rattle.std.specs.List.{starts_with}
@@ -9,7 +9,9 @@ use Rattle.std.specs.declared.cmp.Ordering.{Ordering}
 use Rattle.std.specs.declared.cmp.Ordering.TheVariants.{Less, Equal, Greater}
 use Rattle.std.proofs.lemmas.Bool.{and_parts, and_from, eqb-true, eq-eqb}
 use Rattle.std.proofs.lemmas.Bool.Decides.{nat_tests}
-use Rattle.std.proofs.lemmas.Cmp.{nat_list_cmp_total, ranked, tied_itself}
+use Rattle.std.specs.Cmp.{nat_cmp_is}
+use Rattle.std.proofs.lemmas.Cmp.{nat_cmp_total, nat_list_cmp_total, ranked, tied_itself}
+use Rattle.std.proofs.lemmas.Map.Lookups.{exact_unsigned}
 use Rattle.std.proofs.lemmas.List.{take_all}
 use Rattle.std.proofs.lemmas.Slice.Eq.{bytes_eq-Decides}
 use Rattle.std.proofs.lemmas.Map.Text.{is_eq-slice_cmp}
@@ -93,3 +95,42 @@ begins-between (x ∷ a) (y ∷ b) (z ∷ t) above less begins =
 
 pub begins-itself : (a : List ℕ) → starts_with nat_eq a a ≡ true
 begins-itself a = rw (take_all (length a) a (omega arith)) (bytes_eq-itself a)
+
+-- ---- two names, byte after byte
+
+-- a byte that is the same in both decides nothing
+pub cmp-past_same : (a b : List ℕ) (i : ℕ) → i < length a → i < length b → get_or a i 0 ≡ get_or b i 0
+    → slice_cmp nat_cmp (drop i a) (drop i b) ≡ slice_cmp nat_cmp (drop (suc i) a) (drop (suc i) b)
+cmp-past_same [] b i in_a in_b same = absurd (omega (arith, in_a))
+cmp-past_same (x ∷ a) [] i in_a in_b same = absurd (omega (arith, in_b))
+cmp-past_same (x ∷ a) (y ∷ b) zero in_a in_b same = rw (same, tied_itself nat_cmp_total y) refl
+cmp-past_same (x ∷ a) (y ∷ b) (suc i) in_a in_b same = cmp-past_same a b i (omega (arith, in_a)) (omega (arith, in_b)) same
+
+other_decides : (x y : ℕ) (o rest : Ordering) → nat_cmp x y ≡ o → ¬ (x ≡ y) → ordering_then o rest ≡ o
+other_decides x y Less rest is other = refl
+other_decides x y Equal rest is other = absurd (other (exact_unsigned x y is))
+other_decides x y Greater rest is other = refl
+
+-- the first that differs decides
+pub cmp-differs : (a b : List ℕ) (i : ℕ) → i < length a → i < length b → ¬ (get_or a i 0 ≡ get_or b i 0)
+    → slice_cmp nat_cmp (drop i a) (drop i b) ≡ nat_cmp (get_or a i 0) (get_or b i 0)
+cmp-differs [] b i in_a in_b other = absurd (omega (arith, in_a))
+cmp-differs (x ∷ a) [] i in_a in_b other = absurd (omega (arith, in_b))
+cmp-differs (x ∷ a) (y ∷ b) zero in_a in_b other = other_decides x y (nat_cmp x y) (slice_cmp nat_cmp a b) refl other
+cmp-differs (x ∷ a) (y ∷ b) (suc i) in_a in_b other = cmp-differs a b i (omega (arith, in_a)) (omega (arith, in_b)) other
+
+-- and where one ends, the lengths do
+pub cmp-past_end : (a b : List ℕ) (i : ℕ) → i ≤ length a → i ≤ length b → min (length a) (length b) ≤ i
+    → slice_cmp nat_cmp (drop i a) (drop i b) ≡ nat_cmp (length a) (length b)
+cmp-past_end [] [] zero in_a in_b ended = refl
+cmp-past_end [] (y ∷ b) zero in_a in_b ended = nat_cmp_is 0 (length (y ∷ b)) Less (omega arith)
+cmp-past_end (x ∷ a) [] zero in_a in_b ended = nat_cmp_is (length (x ∷ a)) 0 Greater (omega arith)
+cmp-past_end (x ∷ a) (y ∷ b) zero in_a in_b ended = absurd (omega (arith, ended))
+cmp-past_end [] b (suc i) in_a in_b ended = absurd (omega (arith, in_a))
+cmp-past_end (x ∷ a) [] (suc i) in_a in_b ended = absurd (omega (arith, in_b))
+cmp-past_end (x ∷ a) (y ∷ b) (suc i) in_a in_b ended =
+    cmp-past_end a b i (omega (arith, in_a)) (omega (arith, in_b)) (omega (arith, ended))
+    ∙ same_past (length a) (length b)
+  where
+    same_past : (m n : ℕ) → nat_cmp m n ≡ nat_cmp (suc m) (suc n)
+    same_past m n = grind (arith, nat_tests)

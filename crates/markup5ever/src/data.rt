@@ -154,10 +154,24 @@ impl<A: Allocator> NamedReferences<A> {
 }
 
 // How the entry stands to the name, in the order of names.
+#[inline(always)]
 fn order_of<A: Allocator>(entry: &Entry<A>, name: &str) -> Ordering
     ensures { result ≡ slice_cmp nat_cmp (string_bytes entry.now.0) name.now }
 {
-    entry.0.as_str().cmp(name)
+    order_of_bytes(entry.0.as_bytes(), name.as_bytes())
+}
+
+// The order of two names. Most differ early, so it looks at one byte after another.
+#[inline(always)]
+fn order_of_bytes(name: &[u8], other: &[u8]) -> Ordering
+    ensures { result ≡ slice_cmp nat_cmp name.now other.now }
+{
+    for at in 0..name.len().min(other.len()) {
+        if name[at] != other[at] {
+            return name[at].cmp(&other[at]);
+        }
+    }
+    name.len().cmp(&other.len())
 }
 
 // Whether these are letters and digits, with at most one semicolon, at the end.
