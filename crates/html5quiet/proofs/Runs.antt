@@ -63,7 +63,8 @@ open-after (InDoctype place doctype) run within = within
 open-after (InDoctypeKeyword held doctype) run within = within
 open-after (InReference stand held) run within = within
 
-reads-ordinary : (opened : Open) (others run : List ℕ) → other_run_ends opened ≡ Some others → is_clean opened ≡ false
+-- a text of characters that end no run
+pub reads-ordinary : (opened : Open) (others run : List ℕ) → other_run_ends opened ≡ Some others → is_clean opened ≡ false
     → All (λ c. ¬ Contains (run_ends others) c) run → ReadsQuietly opened run (opened_after_run opened run)
 unfolding ReadsQuietly
 reads-ordinary opened others [] has within all = sym (opened_after_run-nil opened)
