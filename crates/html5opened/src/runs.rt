@@ -6,9 +6,11 @@ ghost use Rattle.std.specs.Str.{chars};
 ghost use Rattle.html5grammar.specs.Cdata.{open_cdata};
 ghost use Rattle.html5grammar.specs.Characters.{name_bytes};
 ghost use Rattle.html5grammar.specs.Start.{is_clean, held_len};
-ghost use Rattle.html5grammar.specs.Start.{raw_of};
+ghost use Rattle.html5grammar.specs.Start.{begun, raw_of};
 ghost use Rattle.html5grammar.specs.Start.Mode.{RawText};
-ghost use Rattle.html5grammar.specs.Start.Open.{Between, InComment};
+ghost use Rattle.html5grammar.specs.Start.Open.{Between, InComment, InTag};
+ghost use Rattle.html5grammar.specs.Start.Place.{InName, InAttributeName};
+ghost use Rattle.html5ever_interface.specs.declared.interface.token.TagKind.TheVariants.{StartTag};
 ghost use Rattle.html5opened.specs.CurrentTag.{opened_of, last_name_of};
 ghost use Rattle.html5opened.specs.Runs.{IsRunAt, other_value_ends, other_run_ends, run_ends, stays_in_names, opened_after_run};
 ghost use Rattle.std.specs.List.{list_all};
@@ -20,6 +22,24 @@ use crate::opened::Opened;
 use html5ever_interface::states::{AttrValueKind, RawKind, State};
 use markup5ever::small_char_set::SmallCharSet;
 use std::alloc::{AllocError, Allocator};
+
+/// The characters that end a run in a tag's name.
+#[inline(always)]
+pub fn tag_name_ends() -> SmallCharSet
+    ensures { IfSome (other_run_ends (InTag InName (begun StartTag))) (λ others.
+        (c : ℕ) → IsMember result c ↔ Contains (run_ends others) c) }
+{
+    SmallCharSet::of(b"\0\r\n\t\x0C />")
+}
+
+/// The characters that end a run in an attribute's name.
+#[inline(always)]
+pub fn attribute_name_ends() -> SmallCharSet
+    ensures { IfSome (other_run_ends (InTag InAttributeName (begun StartTag))) (λ others.
+        (c : ℕ) → IsMember result c ↔ Contains (run_ends others) c) }
+{
+    SmallCharSet::of(b"\0\r\n\t\x0C />=\"'<")
+}
 
 // The characters that end a run in a value.
 #[inline(always)]
@@ -82,8 +102,8 @@ pub fn run_ends<A: Allocator>(at: &Opened<A>) -> Option<SmallCharSet>
     match at.state {
         State::Data => Some(SmallCharSet::of(b"\0\r<&")),
         State::Plaintext => Some(SmallCharSet::of(b"\0\r")),
-        State::TagName => Some(SmallCharSet::of(b"\0\r\n\t\x0C />")),
-        State::AttributeName => Some(SmallCharSet::of(b"\0\r\n\t\x0C />=\"'<")),
+        State::TagName => Some(tag_name_ends()),
+        State::AttributeName => Some(attribute_name_ends()),
         State::AttributeValue(kind) => Some(value_ends(kind)),
         State::RawData(kind) => Some(raw_ends(kind)),
         State::BogusComment => Some(SmallCharSet::of(b"\0\r\n>")),

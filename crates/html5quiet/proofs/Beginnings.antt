@@ -1,5 +1,5 @@
 -- Texts that are read quietly, one after another.
-use Rattle.std.proofs.Common.{◌≡◌, ℕ, ◌<◌, ◌+◌, ◌≤◌, true, List, [], ◌∷◌, ◌++◌, refl, sym, ap, ◌∙◌, subst, arith, length, take, drop, get_or}
+use Rattle.std.proofs.Common.{◌≡◌, ◌≢◌, ℕ, ◌<◌, ◌+◌, ◌-◌, ◌≤◌, true, List, [], ◌∷◌, ◌++◌, refl, sym, ap, ◌∙◌, subst, arith, length, length-drop, take, drop, get_or}
 use Rattle.std.specs.Prelude.{encode_utf8}
 use Rattle.std.specs.Str.{IsUtf8, chars}
 use Rattle.std.specs.Char.{is_ascii}
@@ -10,7 +10,7 @@ use Rattle.std.proofs.lemmas.List.{append-nil, take_at, drop_at, take-append-dro
 use Rattle.std.proofs.Math.Seq.{take-append-add, drop-append-add}
 use lib.Utf8.{scalar, scalars}
 use Rattle.html5grammar.specs.Start.{Open}
-use Rattle.html5quiet.specs.Quiet.{BeginsWith, IsQuiet, ReadsQuietly}
+use Rattle.html5quiet.specs.Quiet.{BeginsWith, IsQuiet, ReadsFront, ReadsQuietly}
 
 -- nothing was read
 pub reads-nothing : (opened later : Open) → opened ≡ later → ReadsQuietly opened (chars []) later
@@ -77,3 +77,35 @@ pub chars-two : (text : List ℕ) (m n : ℕ) → IsUtf8 text → m ≤ length t
 chars-two text m n utf8 within rest_utf8 =
     ap chars (take-two text m n within)
     ∙ chars-append (take m text) (take n (drop m text)) (IsUtf8-take text m utf8 (IsCharBoundary-from_drop text m within rest_utf8))
+
+-- nothing of a text was read
+pub front-nothing : (text : List ℕ) (opened later : Open) → IsUtf8 text → opened ≡ later → ReadsFront text 0 opened later
+front-nothing text opened later utf8 same = record { within = omega arith; rest_utf8 = utf8; quiet = reads-nothing opened later same }
+
+-- a text begins with a character that tells nothing
+pub front-one : (text : List ℕ) (c : ℕ) (opened later : Open) → BeginsWith text c → IsQuiet opened later c → ReadsFront text 1 opened later
+front-one text c opened later begins quiet = record { within = begins.within; rest_utf8 = begins.rest_utf8; quiet = rw begins.first (reads-one opened later c quiet) }
+
+-- the front of a text, and then that of the rest
+pub front-append : (text : List ℕ) (m n : ℕ) (opened middle later : Open) → IsUtf8 text → ReadsFront text m opened middle → ReadsFront (drop m text) n middle later
+    → ReadsFront text (m + n) opened later
+front-append text m n opened middle later utf8 first second = record {
+  within = omega (arith, first.within, second.within, length-drop m text);
+  rest_utf8 = subst IsUtf8 (sym (drop-two text m n first.within)) second.rest_utf8;
+  quiet =
+      rw (chars-two text m n utf8 first.within first.rest_utf8)
+      (reads-append opened middle later (chars (take m text)) (chars (take n (drop m text))) first.quiet second.quiet);
+}
+
+-- where a front is empty nothing has changed
+pub front-same : (text : List ℕ) (opened later : Open) → ReadsFront text 0 opened later → opened ≡ later
+front-same text opened later reads = nothing-read opened later reads.quiet
+
+-- the characters of a front that is not empty begin with the first
+pub front-begins : (text : List ℕ) (len c : ℕ) → IsUtf8 text → BeginsWith text c → len ≢ 0 → chars (take len text) ≡ c ∷ chars (take (len - 1) (drop 1 text))
+front-begins text len c utf8 begins some =
+    let more : ℕ = len - 1 in
+    let all : len ≡ 1 + more = omega (arith, some) in
+    ap (λ k. chars (take k text)) all
+    ∙ chars-two text 1 more utf8 begins.within begins.rest_utf8
+    ∙ ap (λ front. front ++ chars (take more (drop 1 text))) begins.first

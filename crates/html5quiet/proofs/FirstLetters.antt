@@ -69,12 +69,3 @@ quiet-attribute tag c letter once = record {
   no_line_feed = letter-no_line_feed c letter;
   no_carriage_return = letter-no_carriage_return c letter;
 }
-
--- the same of a call that may be refused
-pub quiet-begun : {Z E : Type 0} (r : Result Bool E) (at later : Opened Z) (c : ℕ) → at.state ≡ state.BeforeAttributeName → is_letter c ≡ true
-    → IfOk r (λ begins. begins ≡ not (has_last (open_tag at.tag) && repeats_attribute (open_tag at.tag)))
-    → IfOk r (λ begins. begins ≡ true → opened_of later ≡ InTag InAttributeName (with_last_name (with_last_attribute (open_tag at.tag)) (c ∷ [])))
-    → IfOk r (λ begins. begins ≡ true → IsQuiet (opened_of at) (opened_of later) c)
-quiet-begun (Ok begins) at later c is letter once begun = λ yes.
-    rw (ap (λ s. open_of s at) is, begun yes) (quiet-attribute (open_tag at.tag) c letter (not-true _ (sym once ∙ yes)))
-quiet-begun (Err e) at later c is letter once begun = tt

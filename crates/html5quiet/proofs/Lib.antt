@@ -1,4 +1,6 @@
 pub mod FirstLetters
+pub mod Values
+pub mod WholeNames
 pub mod InComments
 pub mod Runs
 pub mod Beginnings

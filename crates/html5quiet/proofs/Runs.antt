@@ -63,8 +63,8 @@ open-after (InDoctype place doctype) run within = within
 open-after (InDoctypeKeyword held doctype) run within = within
 open-after (InReference stand held) run within = within
 
--- a run within an item tells nothing, and is put to it
-reads-ordinary : (opened : Open) (others run : List ℕ) → other_run_ends opened ≡ Some others → is_clean opened ≡ false
+-- a text of characters that end no run
+pub reads-ordinary : (opened : Open) (others run : List ℕ) → other_run_ends opened ≡ Some others → is_clean opened ≡ false
     → All (λ c. ¬ Contains (run_ends others) c) run → ReadsQuietly opened run (opened_after_run opened run)
 unfolding ReadsQuietly
 reads-ordinary opened others [] has within all = sym (opened_after_run-nil opened)
@@ -97,7 +97,6 @@ positive : (n : ℕ) → n ≢ 0 → 0 < n
 positive zero some = absurd (some refl)
 positive (suc n) some = omega arith
 
--- characters outside the set of what ends a run are a run
 pub run-begins : (opened : Open) (set : ℕ) (text : List ℕ) (len : ℕ) → is_some (other_run_ends opened) ≡ true
     → IfSome (other_run_ends opened) (λ others. (c : ℕ) → IsMember set c ↔ Contains (run_ends others) c)
     → IsUtf8 text → BeginsOutside set text len → len ≢ 0 → IsRunAt opened (chars (take len text))

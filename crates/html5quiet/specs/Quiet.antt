@@ -1,10 +1,14 @@
 -- Characters that tell nothing, where errors are not exact. Vocabulary of proofs.
-use Rattle.std.specs.Prelude.{◌≡◌, ◌≢◌, ◌≤◌, ℕ, false, List, [], ◌∷◌, ◌++◌, length, take, drop}
+use Rattle.std.specs.Prelude.{◌≡◌, ◌≢◌, ◌≤◌, ℕ, true, false, List, [], ◌∷◌, ◌++◌, length, take, drop}
 use Rattle.std.specs.Str.{IsUtf8, chars}
-use Rattle.html5grammar.specs.Characters.{null, line_feed, carriage_return, greater_than}
+use Rattle.html5ever_interface.specs.declared.interface.token.TagKind.{TagKind}
+use Rattle.html5ever_interface.specs.declared.interface.token.TagKind.TheVariants.{StartTag, EndTag}
+use Rattle.html5grammar.specs.Characters.{null, line_feed, carriage_return, quotation_mark, equals_sign, greater_than, is_letter}
 use Rattle.html5grammar.specs.Machine.{step_at}
 use Rattle.html5grammar.specs.Reading.Here.{Tells}
 use Rattle.html5grammar.specs.Start.{Open, is_undecided_open}
+use Rattle.html5grammar.specs.Start.Open.{LessThan, LessThanSolidus}
+use Rattle.markup5ever.specs.SmallCharSet.{BeginsOutside}
 
 -- c belongs to no line break and tells nothing where `opened` is. After it `later` is open.
 pub record IsQuiet (opened later : Open) (c : ℕ) : Type 0 where
@@ -25,6 +29,12 @@ unfoldable pub ReadsQuietly : Open → List ℕ → Open → Type 0
 ReadsQuietly opened [] later = opened ≡ later
 ReadsQuietly opened (c ∷ text) later = (next : Open) × (IsQuiet opened next c × ReadsQuietly next text later)
 
+-- so many bytes at the front of a text are read so
+pub record ReadsFront (text : List ℕ) (bytes : ℕ) (opened later : Open) : Type 0 where
+  pub within : bytes ≤ length text
+  pub rest_utf8 : IsUtf8 (drop bytes text)
+  pub quiet : ReadsQuietly opened (chars (take bytes text)) later
+
 -- a beginning of the text was read so, and the next character needed memory that was refused
 pub record StopsQuietly (opened : Open) (text : List ℕ) : Type 0 where
   pub front : List ℕ
@@ -39,3 +49,21 @@ pub record BeginsWith (text : List ℕ) (c : ℕ) : Type 0 where
   pub within : 1 ≤ length text
   pub rest_utf8 : IsUtf8 (drop 1 text)
   pub first : chars (take 1 text) ≡ c ∷ []
+
+-- a text begins with `="`
+pub record BeginsValue (text : List ℕ) : Type 0 where
+  pub equals : BeginsWith text equals_sign
+  pub quotes : BeginsWith (drop 1 text) quotation_mark
+
+-- what is open before the name of a tag
+abbrev pub opening_of : TagKind → Open
+opening_of StartTag = LessThan
+opening_of EndTag = LessThanSolidus
+
+-- so many bytes at the front of a text are a name: the first character is a letter, and none is in the set of those that end it
+pub record IsNameIn (ends : ℕ) (text : List ℕ) (len : ℕ) : Type 0 where
+  pub outside : BeginsOutside ends text len
+  pub first : ℕ
+  pub rest : List ℕ
+  pub parts : chars (take len text) ≡ first ∷ rest
+  pub letter : is_letter first ≡ true

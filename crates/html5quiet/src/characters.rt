@@ -1,21 +1,30 @@
 //! One character that tells nothing.
 #![tactic(auto, unfolding(html5grammar::specs::Machine::step_at, html5grammar::specs::Machine::data_step, html5grammar::specs::Machine::less_than_step, html5grammar::specs::Machine::solidus_step, html5grammar::specs::Machine::tag_step, html5grammar::specs::Machine::tag_name_step, html5grammar::specs::Machine::part_step, html5grammar::specs::Machine::attribute_name_step, html5grammar::specs::Machine::after_attribute_name_step, html5grammar::specs::Machine::before_value_step, html5grammar::specs::Machine::quoted_step, html5grammar::specs::Machine::unquoted_step, html5grammar::specs::Tag::in_tag_name, html5grammar::specs::Tag::in_attribute_name, html5grammar::specs::Tag::in_quoted, html5grammar::specs::Tag::in_unquoted, html5grammar::specs::Tag::place_error, html5grammar::specs::Characters::is_white_space, html5grammar::specs::Characters::is_letter))]
 
-ghost use Rattle.std.specs.Prelude.{◌≡◌, ◌≤◌, ◌&&◌, ◌∷◌, [], not, true, false, IfOk, OnOk};
-ghost use Rattle.html5grammar.specs.Start.{begun, held_len};
-ghost use Rattle.html5grammar.specs.Start.Open.{InTag};
-ghost use Rattle.html5grammar.specs.Start.Place.{InName, InAttributeName};
-ghost use Rattle.html5grammar.specs.Tag.{has_last, repeats_attribute, with_name, with_last_attribute, with_last_name};
-ghost use Rattle.html5opened.specs.CurrentTag.{open_tag, opened_of, last_name_of};
-ghost use Rattle.html5quiet.specs.Quiet.{IsOrdinary, IsQuiet};
+ghost use Rattle.std.specs.Prelude.{◌≡◌, ◌≤◌, true, false, IfOk, IfSome};
+ghost use Rattle.html5grammar.specs.Start.{held_len};
+ghost use Rattle.html5opened.specs.CurrentTag.{opened_of, last_name_of};
+ghost use Rattle.html5quiet.specs.Quiet.{BeginsValue, BeginsWith, IsOrdinary, IsQuiet, ReadsFront};
 
-use html5ever_interface::interface::token::TagKind;
 use html5ever_interface::states::{AttrValueKind, State};
-use html5opened::characters::is_letter;
 use html5opened::comments::ends_in_mark;
-use html5opened::current_tag::{CurrentTag, push_name, push_value};
+use html5opened::current_tag::push_value;
 use html5opened::opened::Opened;
 use std::alloc::{AllocError, Allocator};
+
+/// The character with which a text begins, where it is ASCII.
+#[inline(always)]
+pub fn first_ascii(text: &str) -> Option<char>
+    ensures { IfSome result (λ c. BeginsWith text.now c) }
+{
+    let Some(first) = text.as_bytes().first() else {
+        return None;
+    };
+    if !first.is_ascii() {
+        return None;
+    }
+    Some(char::from(*first))
+}
 
 /// Reads a character that only leads from one place of a tag to the next. Answers whether it is one;
 /// else nothing changes.
@@ -52,69 +61,32 @@ pub fn read_sign<A: Allocator>(at: &mut Opened<A>, c: char) -> bool
     true
 }
 
-// Begins a tag with the first letter of its name.
-fn begin_tag<A: Allocator + Copy>(
-    at: &mut Opened<A>,
-    alloc: A,
-    kind: TagKind,
-    c: char,
-) -> Result<(), AllocError>
-    ensures begun { OnOk result (opened_of at.new ≡ InTag InName (with_name (begun kind) (c ∷ []))) }
-    ensures last { last_name_of at.new ≡ last_name_of at.old }
-    ensures held { held_len (opened_of at.new) ≤ held_len (opened_of at.old) }
-{
-    at.state = State::TagName;
-    at.tag = CurrentTag::new(alloc, kind);
-    push_name(&mut at.tag.name, c)?;
-    Ok(())
-}
-
-// Begins an attribute with the first letter of its name. Where the one before it repeats a name,
-// nothing changes.
-fn begin_attribute<A: Allocator + Copy>(
-    at: &mut Opened<A>,
-    alloc: A,
-    c: char,
-) -> Result<bool, AllocError>
-    ensures begins { IfOk result (λ begins. begins
-        ≡ not (has_last (open_tag at.old.tag) && repeats_attribute (open_tag at.old.tag))) }
-    ensures begun { IfOk result (λ begins. begins ≡ true → opened_of at.new
-        ≡ InTag InAttributeName (with_last_name (with_last_attribute (open_tag at.old.tag)) (c ∷ []))) }
-    ensures unchanged { IfOk result (λ begins. begins ≡ false → at.new ≡ at.old) }
-    ensures last { last_name_of at.new ≡ last_name_of at.old }
-    ensures held { held_len (opened_of at.new) ≤ held_len (opened_of at.old) }
-{
-    if !at.tag.keep_attribute(alloc)? {
-        return Ok(false);
-    }
-    at.state = State::AttributeName;
-    push_name(&mut at.tag.attr_name, c)?;
-    Ok(true)
-}
-
-/// Reads the first letter of a name, where it tells nothing. Answers whether it is one; else nothing
-/// changes.
+// Whether a text begins with `="`.
 #[inline(always)]
-pub fn read_first_letter<A: Allocator + Copy>(
-    at: &mut Opened<A>,
-    alloc: A,
-    c: char,
-) -> Result<bool, AllocError>
-    ensures quiet { IfOk result (λ read. read ≡ true → IsQuiet (opened_of at.old) (opened_of at.new) c) }
-    ensures unchanged { IfOk result (λ read. read ≡ false → at.new ≡ at.old) }
+fn begins_value(text: &str) -> bool
+    ensures { result ≡ true → BeginsValue text.now }
+{
+    let Some('=') = first_ascii(text) else {
+        return false;
+    };
+    matches!(first_ascii(&text[1..]), Some('"'))
+}
+
+/// Reads `="` after an attribute's name, which opens a value. Answers how many bytes it takes.
+#[inline(always)]
+pub fn open_value<A: Allocator>(at: &mut Opened<A>, text: &str) -> usize
+    ensures reads { ReadsFront text.now result (opened_of at.old) (opened_of at.new) }
     ensures last { last_name_of at.new ≡ last_name_of at.old }
     ensures held { held_len (opened_of at.new) ≤ held_len (opened_of at.old) }
 {
-    if !is_letter(c) {
-        return Ok(false);
+    let State::AttributeName = at.state else {
+        return 0;
+    };
+    if !begins_value(text) {
+        return 0;
     }
-    match at.state {
-        State::TagOpen => begin_tag(at, alloc, TagKind::StartTag, c)?,
-        State::EndTagOpen => begin_tag(at, alloc, TagKind::EndTag, c)?,
-        State::BeforeAttributeName => return begin_attribute(at, alloc, c),
-        _ => return Ok(false),
-    }
-    Ok(true)
+    at.state = State::AttributeValue(AttrValueKind::DoubleQuoted);
+    2
 }
 
 // Whether a character is no `>`, no NUL and no part of a line break.

@@ -2,5 +2,6 @@
 //! once.
 #![tactic(auto)]
 
-pub mod characters;
+mod characters;
+mod names;
 pub mod texts;

@@ -3,9 +3,10 @@ ghost use Rattle.std.specs.Prelude.{◌≡◌, ◌≤◌, true, false, IfOk, IfE
 ghost use Rattle.std.specs.Str.{IsUtf8, chars};
 ghost use Rattle.html5grammar.specs.Start.{is_clean, held_len};
 ghost use Rattle.html5opened.specs.CurrentTag.{opened_of, last_name_of};
-ghost use Rattle.html5quiet.specs.Quiet.{BeginsWith, IsQuiet, ReadsQuietly, StopsQuietly};
+ghost use Rattle.html5quiet.specs.Quiet.{ReadsFront, ReadsQuietly, StopsQuietly};
 
-use crate::characters::{read_first_letter, read_in_comment, read_sign};
+use crate::characters::{first_ascii, open_value, read_in_comment, read_sign};
+use crate::names::read_name;
 use html5ever_interface::states::State;
 use html5opened::opened::Opened;
 use html5opened::runs::{push_run, run_ends};
@@ -38,10 +39,7 @@ fn reads_open_runs<A: Allocator>(at: &Opened<A>) -> bool
 // it takes.
 #[inline(always)]
 fn read_run<A: Allocator>(at: &mut Opened<A>, text: &str) -> Result<usize, AllocError>
-    ensures within { IfOk result (λ bytes. bytes ≤ length text.now) }
-    ensures rest_utf8 { IfOk result (λ bytes. IsUtf8 (drop bytes text.now)) }
-    ensures quiet { IfOk result (λ bytes.
-        ReadsQuietly (opened_of at.old) (chars (take bytes text.now)) (opened_of at.new)) }
+    ensures reads { IfOk result (λ bytes. ReadsFront text.now bytes (opened_of at.old) (opened_of at.new)) }
     ensures last { last_name_of at.new ≡ last_name_of at.old }
     ensures held { held_len (opened_of at.new) ≤ held_len (opened_of at.old) }
 {
@@ -59,79 +57,129 @@ fn read_run<A: Allocator>(at: &mut Opened<A>, text: &str) -> Result<usize, Alloc
     Ok(bytes)
 }
 
-// The character with which a text begins, where it is ASCII.
+// Reads the sign with which a text begins, where it does with one. Answers how many bytes it takes.
 #[inline(always)]
-fn first_ascii(text: &str) -> Option<char>
-    ensures { IfSome result (λ c. BeginsWith text.now c) }
-{
-    let Some(first) = text.as_bytes().first() else {
-        return None;
-    };
-    if !first.is_ascii() {
-        return None;
-    }
-    Some(char::from(*first))
-}
-
-// Reads a character, where it tells nothing. Answers whether it did; else nothing changes.
-#[inline(always)]
-fn read_character<A: Allocator + Copy>(
-    at: &mut Opened<A>,
-    alloc: A,
-    c: char,
-) -> Result<bool, AllocError>
-    ensures quiet { IfOk result (λ read. read ≡ true → IsQuiet (opened_of at.old) (opened_of at.new) c) }
-    ensures unchanged { IfOk result (λ read. read ≡ false → at.new ≡ at.old) }
+fn read_first_sign<A: Allocator>(at: &mut Opened<A>, text: &str) -> usize
+    ensures reads { ReadsFront text.now result (opened_of at.old) (opened_of at.new) }
     ensures last { last_name_of at.new ≡ last_name_of at.old }
     ensures held { held_len (opened_of at.new) ≤ held_len (opened_of at.old) }
 {
-    if read_sign(at, c) || read_in_comment(at, c)? {
-        return Ok(true);
+    let Some(c) = first_ascii(text) else {
+        return 0;
+    };
+    if !read_sign(at, c) {
+        return 0;
     }
-    read_first_letter(at, alloc, c)
+    1
 }
 
-// Reads the character with which a text begins, where it tells nothing. Answers how many bytes it
-// takes.
+// Reads the sign with which a text begins, as a space or `<`, and the name after it. Answers how many
+// bytes they take.
 #[inline(always)]
-fn read_first<A: Allocator + Copy>(
+fn read_sign_and_name<A: Allocator + Copy>(
     at: &mut Opened<A>,
     alloc: A,
     text: &str,
 ) -> Result<usize, AllocError>
-    ensures within { IfOk result (λ bytes. bytes ≤ length text.now) }
-    ensures rest_utf8 { IfOk result (λ bytes. IsUtf8 (drop bytes text.now)) }
-    ensures quiet { IfOk result (λ bytes.
-        ReadsQuietly (opened_of at.old) (chars (take bytes text.now)) (opened_of at.new)) }
+    ensures reads { IfOk result (λ bytes. ReadsFront text.now bytes (opened_of at.old) (opened_of at.new)) }
+    ensures last { last_name_of at.new ≡ last_name_of at.old }
+    ensures held { held_len (opened_of at.new) ≤ held_len (opened_of at.old) }
+{
+    let sign = read_first_sign(at, text);
+    let name = read_name(at, alloc, &text[sign..])?;
+    Ok(sign + name)
+}
+
+// Reads a run, and a sign after it. Answers how many bytes they take.
+#[inline(always)]
+fn read_run_and_sign<A: Allocator>(at: &mut Opened<A>, text: &str) -> Result<usize, AllocError>
+    ensures reads { IfOk result (λ bytes. ReadsFront text.now bytes (opened_of at.old) (opened_of at.new)) }
+    ensures last { last_name_of at.new ≡ last_name_of at.old }
+    ensures held { held_len (opened_of at.new) ≤ held_len (opened_of at.old) }
+{
+    let run = read_run(at, text)?;
+    let sign = read_first_sign(at, &text[run..]);
+    Ok(run + sign)
+}
+
+// Reads `="` after an attribute's name, and the value up to its quote, or to what is no plain part of
+// it. Answers how many bytes they take.
+#[inline(always)]
+fn read_value<A: Allocator>(at: &mut Opened<A>, text: &str) -> Result<usize, AllocError>
+    ensures reads { IfOk result (λ bytes. ReadsFront text.now bytes (opened_of at.old) (opened_of at.new)) }
+    ensures last { last_name_of at.new ≡ last_name_of at.old }
+    ensures held { held_len (opened_of at.new) ≤ held_len (opened_of at.old) }
+{
+    let opening = open_value(at, text);
+    if opening == 0 {
+        return Ok(0);
+    }
+    let value = read_run_and_sign(at, &text[opening..])?;
+    Ok(opening + value)
+}
+
+// Reads the character of a comment with which a text begins, where it tells nothing. Answers how many
+// bytes it takes.
+#[inline(always)]
+fn read_comment_character<A: Allocator>(at: &mut Opened<A>, text: &str) -> Result<usize, AllocError>
+    ensures reads { IfOk result (λ bytes. ReadsFront text.now bytes (opened_of at.old) (opened_of at.new)) }
     ensures last { last_name_of at.new ≡ last_name_of at.old }
     ensures held { held_len (opened_of at.new) ≤ held_len (opened_of at.old) }
 {
     let Some(c) = first_ascii(text) else {
         return Ok(0);
     };
-    if !read_character(at, alloc, c)? {
+    if !read_in_comment(at, c)? {
         return Ok(0);
     }
     Ok(1)
 }
 
-// Reads what a text begins with, where that tells nothing: a run, or a character. Answers how many
-// bytes it takes.
+// Reads the run with which a text begins, or else a character of a comment. Answers how many bytes it
+// takes.
+#[inline(always)]
+fn read_run_or_character<A: Allocator>(at: &mut Opened<A>, text: &str) -> Result<usize, AllocError>
+    ensures reads { IfOk result (λ bytes. ReadsFront text.now bytes (opened_of at.old) (opened_of at.new)) }
+    ensures last { last_name_of at.new ≡ last_name_of at.old }
+    ensures held { held_len (opened_of at.new) ≤ held_len (opened_of at.old) }
+{
+    match read_run(at, text)? {
+        0 => read_comment_character(at, text),
+        bytes => Ok(bytes),
+    }
+}
+
+// Reads what a text begins with, where that tells nothing and is no value. Answers how many bytes it
+// takes.
+#[inline(always)]
+fn read_but_value<A: Allocator + Copy>(
+    at: &mut Opened<A>,
+    alloc: A,
+    text: &str,
+) -> Result<usize, AllocError>
+    ensures reads { IfOk result (λ bytes. ReadsFront text.now bytes (opened_of at.old) (opened_of at.new)) }
+    ensures last { last_name_of at.new ≡ last_name_of at.old }
+    ensures held { held_len (opened_of at.new) ≤ held_len (opened_of at.old) }
+{
+    match read_sign_and_name(at, alloc, text)? {
+        0 => read_run_or_character(at, text),
+        bytes => Ok(bytes),
+    }
+}
+
+// Reads what a text begins with, where that tells nothing. Answers how many bytes it takes.
 #[inline(always)]
 fn read_next<A: Allocator + Copy>(
     at: &mut Opened<A>,
     alloc: A,
     text: &str,
 ) -> Result<usize, AllocError>
-    ensures within { IfOk result (λ bytes. bytes ≤ length text.now) }
-    ensures rest_utf8 { IfOk result (λ bytes. IsUtf8 (drop bytes text.now)) }
-    ensures quiet { IfOk result (λ bytes.
-        ReadsQuietly (opened_of at.old) (chars (take bytes text.now)) (opened_of at.new)) }
+    ensures reads { IfOk result (λ bytes. ReadsFront text.now bytes (opened_of at.old) (opened_of at.new)) }
     ensures last { last_name_of at.new ≡ last_name_of at.old }
     ensures held { held_len (opened_of at.new) ≤ held_len (opened_of at.old) }
 {
-    match read_run(at, text)? {
-        0 => read_first(at, alloc, text),
+    match read_value(at, text)? {
+        0 => read_but_value(at, alloc, text),
         bytes => Ok(bytes),
     }
 }

@@ -1,17 +1,14 @@
-use Rattle.std.proofs.Common.{◌≡◌, ◌≤◌, ◌-◌, length, take, drop}
-use Rattle.std.specs.Str.{IsUtf8, chars}
+use Rattle.std.proofs.Common.{◌≡◌, ◌≤◌, ◌-◌, length}
 use Rattle.html5grammar.specs.Start.{held_len}
 use Rattle.html5opened.specs.CurrentTag.{opened_of, last_name_of}
-use Rattle.html5quiet.specs.Quiet.{ReadsQuietly}
+use Rattle.html5quiet.specs.Quiet.{ReadsFront}
 use Rattle.html5quiet.proofs.texts.read_quietly.Given as goal
 
 abbrev pub invariant-loop-read : goal.invariant-loop-read
 invariant-loop-read g l =
-    (l.read ≤ length l.text)
-    × (IsUtf8 (drop l.read l.text)
-    × (ReadsQuietly (opened_of l.initial.at) (chars (take l.read l.text)) (opened_of l.at)
+    ReadsFront l.text l.read (opened_of l.initial.at) (opened_of l.at)
     × ((last_name_of l.at ≡ last_name_of l.initial.at)
-    × (held_len (opened_of l.at) ≤ held_len (opened_of l.initial.at)))))
+    × (held_len (opened_of l.at) ≤ held_len (opened_of l.initial.at)))
 
 abbrev pub decreases-loop-read : goal.decreases-loop-read
 decreases-loop-read g l = length l.text - l.read

@@ -2,7 +2,7 @@ use Rattle.std.proofs.Common.{sym, subst, ◌∙◌, length}
 use Rattle.std.proofs.lemmas.Bool.{ltb-true}
 use Rattle.html5quiet.specs.Quiet.{BeginsWith}
 use Rattle.html5quiet.proofs.Beginnings.{ascii-begins}
-use Rattle.html5quiet.proofs.texts.first_ascii.Goals as goal
+use Rattle.html5quiet.proofs.characters.first_ascii.Goals as goal
 
 pub returns : goal.returns
 returns c =
