@@ -1,7 +1,7 @@
 -- The first letter of a name, where it tells nothing.
-use Rattle.std.proofs.Common.{◌≡◌, ◌≢◌, ℕ, Bool, true, false, [], ◌∷◌, Result, Ok, Err, refl, sym, ap, ◌∙◌}
-use Rattle.std.specs.Prelude.{◌&&◌, not, IfOk}
-use Rattle.std.proofs.lemmas.Bool.{false≢true, eq-eqb, not-true}
+use Rattle.std.proofs.Common.{◌≡◌, ◌≢◌, ℕ, true, false, [], ◌∷◌, refl, sym, ◌∙◌}
+use Rattle.std.specs.Prelude.{◌&&◌}
+use Rattle.std.proofs.lemmas.Bool.{false≢true, eq-eqb}
 use Rattle.html5ever_interface.specs.declared.interface.token.TagKind.TheVariants.{StartTag, EndTag}
 use Rattle.html5grammar.specs.Characters.{null, tab, line_feed, form_feed, carriage_return, space, quotation_mark, apostrophe, solidus, less_than, equals_sign, greater_than, is_letter, is_white_space}
 use Rattle.html5grammar.specs.Machine.{step_at, less_than_step, solidus_step, tag_name_step, tag_step, part_step}
@@ -10,9 +10,6 @@ use Rattle.html5grammar.specs.Start.Open.{LessThan, LessThanSolidus, InTag}
 use Rattle.html5grammar.specs.Start.Place.{InName, BeforeAttribute, InAttributeName}
 use Rattle.html5grammar.specs.Tag.{has_last, repeats_attribute, with_name, with_last_attribute, with_last_name, place_error, first_error, duplicate_error, is_odd_at_name, is_odd_in_name}
 use Rattle.html5grammar.proofs.Letters.{is_not, letter-in_tag_name, letter-no_null}
-use Rattle.html5opened.specs.CurrentTag.{open_tag, open_of, opened_of}
-use Rattle.html5opened.specs.declared.opened.Opened.{Opened}
-use Rattle.html5ever_interface.specs.declared.states.State.TheVariants as state
 use Rattle.html5quiet.specs.Quiet.{IsQuiet}
 
 letter-is_not : (c d : ℕ) → is_letter d ≡ false → is_letter c ≡ true → c ≢ d

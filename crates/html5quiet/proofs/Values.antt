@@ -1,10 +1,10 @@
 -- The opening of a value in double quotes.
-use Rattle.std.proofs.Common.{◌≡◌, ◌≢◌, ℕ, List, refl}
+use Rattle.std.proofs.Common.{ℕ, List, refl}
 use Rattle.std.specs.Str.{IsUtf8}
 use Rattle.html5ever_interface.specs.declared.states.AttrValueKind.TheVariants.{DoubleQuoted}
 use Rattle.html5grammar.specs.Characters.{equals_sign, quotation_mark, is_white_space}
 use Rattle.html5grammar.specs.Machine.{step_at, tag_step, attribute_name_step, before_value_step}
-use Rattle.html5grammar.specs.Start.{Open, OpenTag}
+use Rattle.html5grammar.specs.Start.{OpenTag}
 use Rattle.html5grammar.specs.Start.Open.{InTag}
 use Rattle.html5grammar.specs.Start.Place.{InAttributeName, BeforeValue, InValue}
 use Rattle.html5grammar.specs.Tag.{in_attribute_name}

@@ -1,4 +1,4 @@
-use Rattle.std.proofs.Common.{◌∙◌, refl, sym, arith, take, drop}
+use Rattle.std.proofs.Common.{◌∙◌, refl, arith, take, drop}
 use Rattle.std.specs.Str.{chars}
 use Rattle.std.proofs.lemmas.Str.{IsCharBoundary-from_drop}
 use Rattle.html5opened.specs.CurrentTag.{opened_of}
