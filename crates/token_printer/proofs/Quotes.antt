@@ -8,13 +8,6 @@ use Rattle.token_printer.specs.PageLaws.{quoted_bytes-append}
 use Rattle.token_printer.specs.Printed.{needs_escape, IsPlainWithin, escape, quoted_byte, quoted_bytes}
 use Rattle.token_printer.proofs.Beginnings.{BeginsWith-equal, BeginsWith-append, BeginsWith-trans, BeginsWith-less}
 
--- a text of one byte
-pub quoted_bytes-one : (text : List ℕ) → length text ≡ 1 → quoted_bytes text ≡ quoted_byte (slice_index text 0)
-unfolding quoted_bytes
-quoted_bytes-one [] one = absurd (omega (arith, one))
-quoted_bytes-one (byte ∷ []) one = append-nil (quoted_byte byte)
-quoted_bytes-one (byte ∷ next ∷ bytes) one = absurd (omega (arith, one))
-
 quoted_bytes-more : (text : List ℕ) (i : ℕ) → i < length text
     → quoted_bytes (take (i + 1) text) ≡ quoted_bytes (take i text) ++ quoted_byte (get_or text i 0)
 unfolding quoted_bytes
@@ -22,6 +15,19 @@ quoted_bytes-more text i h =
     ap quoted_bytes (take_more text i 0 h)
     ∙ quoted_bytes-append (take i text) (get_or text i 0 ∷ [])
     ∙ ap (λ l. quoted_bytes (take i text) ++ l) (append-nil (quoted_byte (get_or text i 0)))
+
+-- a page that has the bytes before an index, and then one more
+pub quoted_bytes-next : (old page next text : List ℕ) (i : ℕ) → page ≡ old ++ quoted_bytes (take i text) → i < length text
+    → next ≡ page ++ quoted_byte (get_or text i 0) → next ≡ old ++ quoted_bytes (take (i + 1) text)
+quoted_bytes-next old page next text i before within printed =
+    printed
+    ∙ ap (λ l. l ++ quoted_byte (get_or text i 0)) before
+    ∙ append_assoc old (quoted_bytes (take i text)) (quoted_byte (get_or text i 0))
+    ∙ ap (λ l. old ++ l) (sym (quoted_bytes-more text i within))
+
+pub quoted_bytes-none : (old : List ℕ) → old ≡ old ++ quoted_bytes []
+unfolding quoted_bytes
+quoted_bytes-none old = sym (append-nil old)
 
 -- what is not yet printed of the bytes before an index
 abbrev pub run : List ℕ → ℕ → ℕ → List ℕ

@@ -56,6 +56,14 @@ printed_attribute attribute = codes " " ++ quoted attribute.name.local ++ codes 
 unfoldable pub printed_attributes : List AttributeOf → List ℕ
 printed_attributes attributes = flat_map printed_attribute attributes
 
+-- the same where it closes the quote before it, and leaves its own last quote open
+unfoldable pub open_attribute : AttributeOf → List ℕ
+open_attribute attribute =
+    codes "\" \"" ++ quoted_bytes attribute.name.local ++ codes "\"=\"" ++ quoted_bytes attribute.value
+
+unfoldable pub open_attributes : List AttributeOf → List ℕ
+open_attributes attributes = flat_map open_attribute attributes
+
 -- what stands in a doctype's line for a part that it may lack
 abbrev pub printed_option : Option (List ℕ) → List ℕ
 printed_option None = codes " -"

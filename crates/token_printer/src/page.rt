@@ -1,16 +1,15 @@
 //! What each token adds to a page.
-ghost use Rattle.std.specs.Prelude.{◌≡◌, ◌++◌, string_bytes, OnOk, OnErr, decimal};
+ghost use Rattle.std.specs.Prelude.{◌≡◌, [], ◌++◌, string_bytes, OnOk, OnErr, decimal, codes};
 ghost use Rattle.token_printer.specs.Page.{BeginsWith, text_closing, added_by_text, added_by, open_after};
-ghost use Rattle.token_printer.specs.Printed.{numbered_text, line_with_number, line_with_text, tag_line, pause_line, doctype_line};
+ghost use Rattle.token_printer.specs.Printed.{quoted_bytes, kind_word, line_with_number, line_with_text, tag_line, pause_line, doctype_line};
 ghost use Rattle.html5sinks.specs.Pausing.{pausing_reply};
 ghost use Rattle.html5ever_interface.specs.Token.{told_by, tag_of, doctype_of, reply_of};
 
 use crate::printed::{
-    kind_word, push_attributes, push_mark, push_option, push_pause, push_quoted, push_quoted_bytes,
-    push_tag_marks,
+    push_attributes, push_mark, push_option, push_pause, push_quoted_bytes, push_tag_end,
 };
-use html5ever_interface::interface::token::{Doctype, Tag, Token, TokenSinkResult};
-use itoa::Buffer;
+use html5ever_interface::interface::token::{Doctype, Tag, TagKind, Token, TokenSinkResult};
+use itoa::{Buffer, write_digits};
 use std::alloc::{AllocError, Allocator};
 
 // Appends a text of a token. An empty one opens no line.
@@ -33,81 +32,144 @@ fn push_text<A: Allocator>(
     push_quoted_bytes(page, text)
 }
 
-// Closes an open text, and begins a line.
-fn push_line_start<A: Allocator + Copy>(
+// Closes an open text, and begins a line with its word. `closing_word` is the word after the end of a text.
+#[inline(always)]
+fn push_word<A: Allocator>(
     page: &mut Vec<u8, A>,
     in_text: bool,
     word: &str,
-    line: u64,
+    closing_word: &str,
 ) -> Result<(), AllocError>
-    ensures ok { OnOk result
-        (page.new.items ≡ page.old.items ++ (text_closing in_text ++ (word.now ++ decimal line))) }
+    requires { closing_word.now ≡ codes "\"\n" ++ word.now }
+    ensures ok { OnOk result (page.new.items ≡ page.old.items ++ (text_closing in_text ++ word.now)) }
     ensures err { OnErr result (BeginsWith page.new.items page.old.items) }
 {
     if in_text {
-        page.extend_from_slice(b"\"\n")?;
+        return page.extend_from_slice(closing_word.as_bytes());
     }
-    page.extend_from_slice(word.as_bytes())?;
+    page.extend_from_slice(word.as_bytes())
+}
+
+// Begins the line of a tag.
+#[inline(always)]
+fn push_kind<A: Allocator>(
+    page: &mut Vec<u8, A>,
+    in_text: bool,
+    kind: TagKind,
+) -> Result<(), AllocError>
+    ensures ok { OnOk result (page.new.items ≡ page.old.items ++ (text_closing in_text ++ kind_word kind)) }
+    ensures err { OnErr result (BeginsWith page.new.items page.old.items) }
+{
+    match kind {
+        TagKind::StartTag => push_word(page, in_text, "start ", "\"\nstart "),
+        TagKind::EndTag => push_word(page, in_text, "end ", "\"\nend "),
+    }
+}
+
+// Appends the number of a line.
+fn push_number<A: Allocator>(page: &mut Vec<u8, A>, line: u64) -> Result<(), AllocError>
+    ensures ok { OnOk result (page.new.items ≡ page.old.items ++ decimal line) }
+    ensures err { OnErr result (BeginsWith page.new.items page.old.items) }
+{
     let mut number = Buffer::new();
     page.extend_from_slice(number.format(line).as_bytes())
 }
 
+// The most digits that the number of a line has.
+const MOST_DIGITS: usize = 20;
+
+// Appends the number of a line, and the end of that line.
+fn push_number_and_end<A: Allocator>(page: &mut Vec<u8, A>, line: u64) -> Result<(), AllocError>
+    ensures ok { OnOk result (page.new.items ≡ page.old.items ++ (decimal line ++ codes "\n")) }
+    ensures err { OnErr result (BeginsWith page.new.items page.old.items) }
+{
+    let mut bytes = *b"                    \n";
+    let start = write_digits(line, &mut bytes, MOST_DIGITS);
+    page.extend_from_slice(&bytes[start..])
+}
+
+// Appends the number of a line, and opens a quote.
+fn push_number_and_quote<A: Allocator>(page: &mut Vec<u8, A>, line: u64) -> Result<(), AllocError>
+    ensures ok { OnOk result (page.new.items ≡ page.old.items ++ (decimal line ++ codes " \"")) }
+    ensures err { OnErr result (BeginsWith page.new.items page.old.items) }
+{
+    let mut bytes = *b"                     \"";
+    let start = write_digits(line, &mut bytes, MOST_DIGITS);
+    page.extend_from_slice(&bytes[start..])
+}
+
+// Appends the number of a line and a text, whose quote stays open.
+#[inline(always)]
+fn push_open_text<A: Allocator>(
+    page: &mut Vec<u8, A>,
+    line: u64,
+    text: &[u8],
+) -> Result<(), AllocError>
+    ensures ok { OnOk result
+        (page.new.items ≡ page.old.items ++ (decimal line ++ (codes " \"" ++ quoted_bytes text.now))) }
+    ensures err { OnErr result (BeginsWith page.new.items page.old.items) }
+{
+    push_number_and_quote(page, line)?;
+    push_quoted_bytes(page, text)
+}
+
+// Appends the number of a line, a text in quotes and the end of that line.
+fn push_text_and_end<A: Allocator>(
+    page: &mut Vec<u8, A>,
+    line: u64,
+    text: &[u8],
+) -> Result<(), AllocError>
+    ensures ok { OnOk result
+        (page.new.items ≡ page.old.items ++ (decimal line ++ (codes " \"" ++ quoted_bytes text.now) ++ codes "\"\n")) }
+    ensures err { OnErr result (BeginsWith page.new.items page.old.items) }
+{
+    push_open_text(page, line, text)?;
+    page.extend_from_slice(b"\"\n")
+}
+
 // Appends a line with nothing after its number.
+#[inline(always)]
 #[tactic(auto, unfolding(crate::specs::Printed::line_with_number))]
-fn push_line_with_number<A: Allocator + Copy>(
+fn push_line_with_number<A: Allocator>(
     page: &mut Vec<u8, A>,
     in_text: bool,
     word: &str,
+    closing_word: &str,
     line: u64,
 ) -> Result<(), AllocError>
+    requires { closing_word.now ≡ codes "\"\n" ++ word.now }
     ensures ok { OnOk result
         (page.new.items ≡ page.old.items
         ++ (text_closing in_text ++ line_with_number word.now line)) }
     ensures err { OnErr result (BeginsWith page.new.items page.old.items) }
 {
-    push_line_start(page, in_text, word, line)?;
-    page.extend_from_slice(b"\n")
-}
-
-// Closes an open text, and begins a line that has a text.
-#[tactic(auto, unfolding(crate::specs::Printed::numbered_text))]
-fn push_numbered_text<A: Allocator + Copy>(
-    page: &mut Vec<u8, A>,
-    in_text: bool,
-    word: &str,
-    line: u64,
-    text: &[u8],
-) -> Result<(), AllocError>
-    ensures ok { OnOk result
-        (page.new.items ≡ page.old.items
-        ++ (text_closing in_text ++ numbered_text word.now line text.now)) }
-    ensures err { OnErr result (BeginsWith page.new.items page.old.items) }
-{
-    push_line_start(page, in_text, word, line)?;
-    page.extend_from_slice(b" ")?;
-    push_quoted(page, text)
+    push_word(page, in_text, word, closing_word)?;
+    push_number_and_end(page, line)
 }
 
 // Appends a line that has a text and no more.
+#[inline(always)]
 #[tactic(auto, unfolding(crate::specs::Printed::line_with_text))]
-fn push_line_with_text<A: Allocator + Copy>(
+fn push_line_with_text<A: Allocator>(
     page: &mut Vec<u8, A>,
     in_text: bool,
     word: &str,
+    closing_word: &str,
     line: u64,
     text: &[u8],
 ) -> Result<(), AllocError>
+    requires { closing_word.now ≡ codes "\"\n" ++ word.now }
     ensures ok { OnOk result
         (page.new.items ≡ page.old.items
         ++ (text_closing in_text ++ line_with_text word.now line text.now)) }
     ensures err { OnErr result (BeginsWith page.new.items page.old.items) }
 {
-    push_numbered_text(page, in_text, word, line, text)?;
-    page.extend_from_slice(b"\n")
+    push_word(page, in_text, word, closing_word)?;
+    push_text_and_end(page, line, text)
 }
 
 // Appends the line of a tag.
-fn push_tag<A: Allocator + Copy>(
+fn push_tag<A: Allocator>(
     page: &mut Vec<u8, A>,
     in_text: bool,
     tag: &Tag<A>,
@@ -117,16 +179,10 @@ fn push_tag<A: Allocator + Copy>(
         (page.new.items ≡ page.old.items ++ (text_closing in_text ++ tag_line (tag_of tag.now) line)) }
     ensures err { OnErr result (BeginsWith page.new.items page.old.items) }
 {
-    push_numbered_text(
-        page,
-        in_text,
-        kind_word(tag.kind),
-        line,
-        tag.name.0.as_bytes(),
-    )?;
+    push_kind(page, in_text, tag.kind)?;
+    push_open_text(page, line, tag.name.0.as_bytes())?;
     push_attributes(page, &tag.attrs)?;
-    push_tag_marks(page, tag)?;
-    page.extend_from_slice(b"\n")
+    push_tag_end(page, tag)
 }
 
 // Appends the line of a tag, and the pause line.
@@ -159,7 +215,8 @@ fn push_doctype<A: Allocator + Copy>(
         ++ (text_closing in_text ++ doctype_line (doctype_of doctype.now) line)) }
     ensures err { OnErr result (BeginsWith page.new.items page.old.items) }
 {
-    push_line_start(page, in_text, "doctype ", line)?;
+    push_word(page, in_text, "doctype ", "\"\ndoctype ")?;
+    push_number(page, line)?;
     push_option(page, &doctype.name)?;
     push_option(page, &doctype.public_id)?;
     push_option(page, &doctype.system_id)?;
@@ -186,16 +243,33 @@ pub fn push_token<A: Allocator + Copy>(
         Token::DoctypeToken(doctype) => push_doctype(page, in_text, doctype, line),
         Token::TagToken(tag) => push_tag_and_pause(page, in_text, tag, line, reply),
         Token::CommentToken(text) => {
-            push_line_with_text(page, in_text, "comment ", line, text.as_bytes())
+            let closing_word = "\"\ncomment ";
+            push_line_with_text(
+                page,
+                in_text,
+                "comment ",
+                closing_word,
+                line,
+                text.as_bytes(),
+            )
         }
         Token::ProcessingInstructionToken(content) => {
-            push_line_with_text(page, in_text, "pi ", line, content.as_bytes())
+            push_line_with_text(page, in_text, "pi ", "\"\npi ", line, content.as_bytes())
         }
         Token::CharacterTokens(text) => push_text(page, in_text, text.as_bytes()),
-        Token::NullCharacterToken => push_line_with_number(page, in_text, "null ", line),
-        Token::EOFToken => push_line_with_number(page, in_text, "eof ", line),
+        Token::NullCharacterToken => {
+            push_line_with_number(page, in_text, "null ", "\"\nnull ", line)
+        }
+        Token::EOFToken => push_line_with_number(page, in_text, "eof ", "\"\neof ", line),
         Token::ParseError(message) => {
-            push_line_with_text(page, in_text, "error ", line, message.as_bytes())
+            push_line_with_text(
+                page,
+                in_text,
+                "error ",
+                "\"\nerror ",
+                line,
+                message.as_bytes(),
+            )
         }
     }
 }

@@ -1,13 +1,13 @@
 //! The parts of printed lines: texts in quotes, marks, attributes, pause lines.
-ghost use Rattle.std.specs.Prelude.{◌≡◌, ◌+◌, ◌<◌, ◌≤◌, ◌++◌, true, false, length, slice_index, map, option_map, string_bytes, OnOk, OnErr};
+ghost use Rattle.std.specs.Prelude.{◌≡◌, ◌+◌, ◌<◌, ◌≤◌, ◌++◌, true, false, length, slice_index, map, option_map, string_bytes, OnOk, OnErr, codes};
 ghost use Rattle.std.specs.Fmt.{digits, digit_glyph};
 ghost use Rattle.token_printer.specs.Page.{BeginsWith};
-ghost use Rattle.token_printer.specs.Printed.{needs_escape, IsPlainWithin, escape, quoted_byte, quoted_bytes, quoted, kind_word, mark_where, printed_attribute, printed_attributes, printed_option, tag_marks, pause_line};
+ghost use Rattle.token_printer.specs.Printed.{needs_escape, IsPlainWithin, escape, quoted_byte, quoted_bytes, quoted, mark_where, open_attribute, open_attributes, printed_option, tag_marks, pause_line};
 ghost use Rattle.html5ever_interface.specs.Token.{tag_of, reply_of};
 ghost use Rattle.html5ever_interface.specs.Token.Reply.{SwitchEncoding};
 ghost use Rattle.markup5ever.specs.Names.{attribute_of};
 
-use html5ever_interface::interface::token::{Tag, TagKind, TokenSinkResult};
+use html5ever_interface::interface::token::{Tag, TokenSinkResult};
 use markup5ever::interface::Attribute;
 use std::alloc::{AllocError, Allocator};
 
@@ -49,6 +49,15 @@ fn needs_escape(byte: u8) -> bool
     ensures { result ≡ needs_escape byte }
 {
     (byte < 0x20) | (byte == b'"') | (byte == b'\\') | (byte == 0x7F)
+}
+
+// The same, of a byte that is looked at alone. Most are letters, which one test tells.
+#[inline(always)]
+#[tactic(auto, unfolding(crate::specs::Printed::needs_escape))]
+fn is_escaped(byte: u8) -> bool
+    ensures { result ≡ needs_escape byte }
+{
+    !matches!(byte, b'a'..=b'z') && needs_escape(byte)
 }
 
 // Whether one of so many bytes from this place on needs an escape. It looks at each of them, so that the compiler makes
@@ -126,7 +135,7 @@ fn run_end(bytes: &[u8], from: usize) -> usize
         return bytes.len();
     }
     for at in near..bytes.len() {
-        if needs_escape(bytes[at]) {
+        if is_escaped(bytes[at]) {
             return at;
         }
     }
@@ -134,7 +143,7 @@ fn run_end(bytes: &[u8], from: usize) -> usize
 }
 
 // Appends what stands in quotes for a byte that may not stand there as it is.
-#[tactic(auto, unfolding(crate::specs::Printed::escape))]
+#[tactic(auto, using(std::proofs::lemmas::Fmt::hex_one_digit), unfolding(crate::specs::Printed::escape))]
 fn push_escape<A: Allocator>(page: &mut Vec<u8, A>, byte: u8) -> Result<(), AllocError>
     ensures ok { OnOk result (page.new.items ≡ page.old.items ++ escape byte) }
     ensures err { OnErr result (BeginsWith page.new.items page.old.items) }
@@ -143,6 +152,7 @@ fn push_escape<A: Allocator>(page: &mut Vec<u8, A>, byte: u8) -> Result<(), Allo
         b'\\' => page.extend_from_slice(b"\\\\"),
         b'"' => page.extend_from_slice(b"\\\""),
         b'\n' => page.extend_from_slice(b"\\n"),
+        _ if byte < 16 => { page.extend_from_slice(&[b'\\', b'u', b'{', hex_digit(byte), b'}']) }
         _ => {
             page.extend_from_slice(b"\\u{")?;
             push_hex(page, byte)?;
@@ -158,7 +168,7 @@ fn push_quoted_byte<A: Allocator>(page: &mut Vec<u8, A>, byte: u8) -> Result<(),
     ensures ok { OnOk result (page.new.items ≡ page.old.items ++ quoted_byte byte) }
     ensures err { OnErr result (BeginsWith page.new.items page.old.items) }
 {
-    if needs_escape(byte) {
+    if is_escaped(byte) {
         return push_escape(page, byte);
     }
     page.push(byte)?;
@@ -181,14 +191,26 @@ fn push_quoted_runs<A: Allocator>(page: &mut Vec<u8, A>, text: &[u8]) -> Result<
     page.extend_from_slice(&text[start..])
 }
 
+// Appends what stands for a short text in quotes, byte after byte.
+#[inline(always)]
+fn push_quoted_short<A: Allocator>(page: &mut Vec<u8, A>, text: &[u8]) -> Result<(), AllocError>
+    ensures ok { OnOk result (page.new.items ≡ page.old.items ++ quoted_bytes text.now) }
+    ensures err { OnErr result (BeginsWith page.new.items page.old.items) }
+{
+    for &byte in text {
+        push_quoted_byte(page, byte)?;
+    }
+    Ok(())
+}
+
 /// Appends what stands for a text in quotes, straight to the page.
 #[inline(always)]
 pub fn push_quoted_bytes<A: Allocator>(page: &mut Vec<u8, A>, text: &[u8]) -> Result<(), AllocError>
     ensures ok { OnOk result (page.new.items ≡ page.old.items ++ quoted_bytes text.now) }
     ensures err { OnErr result (BeginsWith page.new.items page.old.items) }
 {
-    if text.len() == 1 {
-        return push_quoted_byte(page, text[0]);
+    if text.len() < HALF {
+        return push_quoted_short(page, text);
     }
     push_quoted_runs(page, text)
 }
@@ -219,36 +241,29 @@ pub fn push_mark<A: Allocator>(
     Ok(())
 }
 
-pub fn kind_word(kind: TagKind) -> &'static str
-    ensures { result.now ≡ kind_word kind }
-{
-    match kind {
-        TagKind::StartTag => "start ",
-        TagKind::EndTag => "end ",
-    }
-}
-
-#[tactic(auto, unfolding(crate::specs::Printed::printed_attribute))]
+// Closes the quote that is open, and appends an attribute but for its last quote.
+#[tactic(auto, unfolding(crate::specs::Printed::open_attribute))]
 fn push_attribute<A: Allocator>(
     page: &mut Vec<u8, A>,
     attribute: &Attribute<A>,
 ) -> Result<(), AllocError>
     ensures ok { OnOk result
-        (page.new.items ≡ page.old.items ++ printed_attribute (attribute_of attribute.now)) }
+        (page.new.items ≡ page.old.items ++ open_attribute (attribute_of attribute.now)) }
     ensures err { OnErr result (BeginsWith page.new.items page.old.items) }
 {
-    page.extend_from_slice(b" ")?;
-    push_quoted(page, attribute.name.local.0.as_bytes())?;
-    page.extend_from_slice(b"=")?;
-    push_quoted(page, attribute.value.as_bytes())
+    page.extend_from_slice(b"\" \"")?;
+    push_quoted_bytes(page, attribute.name.local.0.as_bytes())?;
+    page.extend_from_slice(b"\"=\"")?;
+    push_quoted_bytes(page, attribute.value.as_bytes())
 }
 
+/// Appends attributes where a quote is open. After them one is open, too.
 pub fn push_attributes<A: Allocator>(
     page: &mut Vec<u8, A>,
     attributes: &[Attribute<A>],
 ) -> Result<(), AllocError>
     ensures ok { OnOk result
-        (page.new.items ≡ page.old.items ++ printed_attributes (map attribute_of attributes.now)) }
+        (page.new.items ≡ page.old.items ++ open_attributes (map attribute_of attributes.now)) }
     ensures err { OnErr result (BeginsWith page.new.items page.old.items) }
 {
     for attribute in attributes {
@@ -257,13 +272,32 @@ pub fn push_attributes<A: Allocator>(
     Ok(())
 }
 
-/// Appends the marks of a tag that are set.
-pub fn push_tag_marks<A: Allocator>(page: &mut Vec<u8, A>, tag: &Tag<A>) -> Result<(), AllocError>
-    ensures ok { OnOk result (page.new.items ≡ page.old.items ++ tag_marks (tag_of tag.now)) }
+// Closes a quote, and appends the marks of a tag and the end of its line.
+#[inline(never)]
+#[tactic(auto, unfolding(crate::specs::Printed::tag_marks, crate::specs::Printed::mark_where))]
+fn push_marked_end<A: Allocator>(page: &mut Vec<u8, A>, tag: &Tag<A>) -> Result<(), AllocError>
+    ensures ok { OnOk result
+        (page.new.items ≡ page.old.items ++ (codes "\"" ++ tag_marks (tag_of tag.now) ++ codes "\n")) }
     ensures err { OnErr result (BeginsWith page.new.items page.old.items) }
 {
+    page.extend_from_slice(b"\"")?;
     push_mark(page, tag.self_closing, " self-closing")?;
-    push_mark(page, tag.had_duplicate_attributes, " duplicates")
+    push_mark(page, tag.had_duplicate_attributes, " duplicates")?;
+    page.extend_from_slice(b"\n")
+}
+
+/// Closes a quote, and appends what follows the attributes in the line of a tag. Few tags have marks.
+#[inline(always)]
+#[tactic(auto, unfolding(crate::specs::Printed::tag_marks, crate::specs::Printed::mark_where))]
+pub fn push_tag_end<A: Allocator>(page: &mut Vec<u8, A>, tag: &Tag<A>) -> Result<(), AllocError>
+    ensures ok { OnOk result
+        (page.new.items ≡ page.old.items ++ (codes "\"" ++ tag_marks (tag_of tag.now) ++ codes "\n")) }
+    ensures err { OnErr result (BeginsWith page.new.items page.old.items) }
+{
+    if tag.self_closing || tag.had_duplicate_attributes {
+        return push_marked_end(page, tag);
+    }
+    page.extend_from_slice(b"\"\n")
 }
 
 // Appends the line of a pause at which the encoding is switched.

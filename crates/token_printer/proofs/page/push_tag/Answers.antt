@@ -1,20 +1,19 @@
-use Rattle.std.proofs.Common.{◌≡◌, ◌++◌, map, string_bytes}
+use Rattle.std.proofs.Common.{◌≡◌, ◌++◌, decimal, codes, map, string_bytes}
 use Rattle.markup5ever.specs.Names.{attribute_of}
 use Rattle.token_printer.specs.Page.{text_closing}
-use Rattle.token_printer.specs.Printed.{kind_word, numbered_text, printed_attributes, tag_marks, tag_line}
+use Rattle.token_printer.specs.Printed.{kind_word, quoted, quoted_bytes, numbered_text, open_attributes, tag_marks, tag_line}
 use Rattle.html5ever_interface.specs.Token.{tag_of}
-use Rattle.token_printer.proofs.Pieces.{pieces-five}
+use Rattle.token_printer.proofs.Attributes.{open_attributes-closed}
+use Rattle.token_printer.proofs.Pieces.{pieces-tag}
 use Rattle.token_printer.proofs.page.push_tag.Goals as goal
 
 pub returns-clause-ok : goal.returns-clause-ok
-unfolding tag_line
+unfolding tag_line numbered_text quoted
 returns-clause-ok g c =
-    let old = c.args.page.now.items in
     let tag = c.args.tag.now in
-    let closing = text_closing c.args.in_text in
-    let name = numbered_text (kind_word tag.kind) c.args.line (string_bytes tag.name.0) in
-    let attributes = printed_attributes (map attribute_of tag.attrs.items) in
-    let named : c.push_numbered_text.new.page.items ≡ old ++ (closing ++ name) = cc c.in_ok-push_numbered_text.ensures.ok in
-    let listed : c.push_attributes.new.page.items ≡ c.push_numbered_text.new.page.items ++ attributes = cc c.in_ok-push_attributes.ensures.ok in
-    pieces-five c.extend_from_slice.result old _ _ _ _ closing name attributes (tag_marks (tag_of tag)) _
-    named listed c.in_ok-push_tag_marks.ensures.ok c.extend_from_slice.ensures.items
+    let name = quoted_bytes (string_bytes tag.name.0) in
+    let attributes = map attribute_of tag.attrs.items in
+    let named : c.push_open_text.new.page.items ≡ c.push_kind.new.page.items ++ (decimal c.args.line ++ (codes " \"" ++ name)) = cc c.in_ok-push_open_text.ensures.ok in
+    let listed : c.push_attributes.new.page.items ≡ c.push_open_text.new.page.items ++ open_attributes attributes = cc c.in_ok-push_attributes.ensures.ok in
+    pieces-tag c.push_tag_end.result c.args.page.now.items _ _ _ _ (text_closing c.args.in_text) (kind_word tag.kind) (decimal c.args.line) name (open_attributes attributes) _ (tag_marks (tag_of tag))
+    (open_attributes-closed attributes) c.in_ok-push_kind.ensures.ok named listed c.push_tag_end.ensures.ok

@@ -1,11 +1,11 @@
 use Rattle.std.proofs.Common.{arith}
 use Rattle.std.proofs.lemmas.Result.{err_from_is_err_and}
-use Rattle.token_printer.proofs.Attributes.{printed_attributes-none, printed_attributes-more}
+use Rattle.token_printer.proofs.Attributes.{open_attributes-none, open_attributes-more}
 use Rattle.token_printer.proofs.Beginnings.{BeginsWith-less}
 use Rattle.token_printer.proofs.printed.push_attributes.Goals as goal
 
 pub loop-attribute-init : goal.loop-attribute-init
-loop-attribute-init g c = printed_attributes-none c.args.page.now.items
+loop-attribute-init g c = open_attributes-none c.args.page.now.items
 
 pub returns-in_err-push_attribute-clause-err : goal.returns-in_err-push_attribute-clause-err
 returns-in_err-push_attribute-clause-err g c =
@@ -14,4 +14,4 @@ returns-in_err-push_attribute-clause-err g c =
 
 pub loop-attribute-preserved : goal.loop-attribute-preserved
 loop-attribute-preserved g c =
-    printed_attributes-more _ _ _ _ _ _ c.loop-attribute.invariant c.attribute-item.is (omega arith) c.in_ok-push_attribute.ensures.ok
+    open_attributes-more _ _ _ _ _ _ c.loop-attribute.invariant c.attribute-item.is (omega arith) c.in_ok-push_attribute.ensures.ok
