@@ -12,10 +12,10 @@ use html5opened::opened::Opened;
 use html5opened::runs::{push_run, run_ends};
 use std::alloc::{AllocError, Allocator};
 
-/// Memory was refused at a character of a text.
+/// Memory was refused within a text.
 #[derive(Clone, Copy, Debug, PartialEq, Eq)]
 pub struct Refused {
-    /// How many bytes of the text stand up to the end of that character.
+    /// How many bytes of the text stand before what needed it, with the first character of that.
     pub bytes: usize,
 }
 
