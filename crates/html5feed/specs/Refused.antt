@@ -1,16 +1,30 @@
 -- What a refused feed leaves: which beginning of the queue's text is gone, and how much of what it tells was told.
-use Rattle.std.specs.Prelude.{◌≡◌, ◌≤◌, ◌⊎◌, ℕ, false, List, ◌++◌, length}
+use Rattle.std.specs.Prelude.{◌≡◌, ◌≤◌, ◌⊎◌, ℕ, Bool, true, false, List, ◌++◌, length, All}
 use Rattle.html5ever_interface.specs.Sink.{Means}
 use Rattle.html5grammar.specs.Reading.{state_after, start_after}
-use Rattle.html5grammar.specs.Start.{Start, Rules}
+use Rattle.html5ever_interface.specs.declared.states.AttrValueKind.TheVariants.{Unquoted}
+use Rattle.html5grammar.specs.Characters.{is_bad_character}
+use Rattle.html5grammar.specs.Start.{Open, Start, Rules}
+use Rattle.html5grammar.specs.Start.Open.{InTag}
+use Rattle.html5grammar.specs.Start.Place.{InValue}
 use Rattle.html5feed.specs.Feed.{told_beyond}
 use Rattle.html5opened.specs.Runs.{IsRunAt}
 use Rattle.html5states.specs.Telling.{Stops}
 use Rattle.html5opened.specs.declared.error.TokenizerError.{TokenizerError}
 
--- a run that is read at once: errors are not exact, and no first character may be dropped
+-- a value without quotes: where errors are exact, odd characters are errors in it
+abbrev pub is_unquoted : Open → Bool
+is_unquoted (InTag (InValue Unquoted) tag) = true
+is_unquoted other = false
+
+-- a run with no error in it where errors are exact: it stands in no value without quotes, and no character is bad
+pub record IsGoodRun (opened : Open) (run : List ℕ) : Type 0 where
+  pub quoted : is_unquoted opened ≡ false
+  pub good : All (λ c. is_bad_character c ≡ false) run
+
+-- a run that is read at once. No first character may be dropped. Where errors are exact the run has none.
 pub record IsRun (rules : Rules) (K : Start) (run : List ℕ) : Type 0 where
-  pub not_exact : rules.exact ≡ false
+  pub good : (rules.exact ≡ false) ⊎ IsGoodRun K.opened run
   pub past_line_break : K.input.after_carriage_return ≡ false
   pub past_stream_start : K.input.drops_byte_order_mark ≡ false
   pub is_run : IsRunAt K.opened run
