@@ -1,4 +1,6 @@
 pub mod RunInput
+pub mod ExactSteps
+pub mod GoodFronts
 pub mod RunLemmas
 pub mod Pauses
 pub mod QueueReading

@@ -2,10 +2,11 @@
 -- it, it tells nothing.
 use Rattle.html5grammar.specs.Reading.Here.{Tells}
 use Rattle.html5grammar.specs.Machine.{step_at}
-use Rattle.std.proofs.Common.{◌≡◌, ◌≢◌, ℕ, ◌<◌, ◌^◌, false, cond, List, [], ◌∷◌, ◌++◌, inr, refl, ap, sym, ◌∙◌, arith, Some, true, take, drop, subst, ◌↔◌}
-use Rattle.std.specs.Prelude.{map, ◌==◌, All, Contains, encode_utf8, encode_utf8_all, is_some, IfSome}
+use Rattle.std.proofs.Common.{◌≡◌, ◌≢◌, ℕ, ◌<◌, ◌^◌, Bool, false, inl, cond, List, [], ◌∷◌, ◌++◌, inr, refl, ap, sym, ◌∙◌, arith, Some, true, take, drop, subst, ◌↔◌}
+use Rattle.std.specs.Prelude.{map, ◌==◌, ◌&&◌, ◌⊎◌, All, Contains, encode_utf8, encode_utf8_all, is_some, IfSome}
 use Rattle.std.specs.Str.{IsUtf8, chars}
 use Rattle.std.proofs.lemmas.Bool.{ne_eqb}
+use Rattle.std.proofs.Math.Bool.{and-false}
 use Rattle.markup5ever.specs.SmallCharSet.{IsMember, BeginsOutside}
 use Rattle.std.proofs.lemmas.List.{append_assoc, append-nil}
 use Rattle.std.proofs.lemmas.List.Elements.{All-head, All-tail, All-weaker}
@@ -14,21 +15,26 @@ use Rattle.html5ever_interface.specs.Sink.{Means, Message, stepped, on_line}
 use Rattle.html5ever_interface.specs.Token.{Told, is_tag}
 use Rattle.html5ever_interface.specs.Token.Reply.{KeepOn}
 use Rattle.html5ever_interface.specs.Token.Told.{Text}
-use Rattle.html5grammar.specs.Characters.{line_feed, carriage_return}
+use Rattle.html5ever_interface.specs.declared.states.AttrValueKind.{AttrValueKind}
+use Rattle.html5ever_interface.specs.declared.states.AttrValueKind.TheVariants.{Unquoted, SingleQuoted, DoubleQuoted}
+use Rattle.html5grammar.specs.Characters.{line_feed, carriage_return, is_bad_character}
 use Rattle.html5grammar.specs.NormalisedText.{normalised, line_after, input_after}
 use Rattle.html5grammar.specs.Reading.{messages_so_far, start_after}
-use Rattle.html5grammar.specs.Start.{Input, Start, Open, Mode, Rules, is_clean}
+use Rattle.html5grammar.specs.Reference.{with_value}
+use Rattle.html5grammar.specs.Start.{Input, Start, Open, OpenTag, Mode, Rules, is_clean}
+use Rattle.html5grammar.specs.Start.Place.{InName, BeforeAttribute, InAttributeName, AfterAttributeName, BeforeValue, InValue, AfterQuotedValue, AfterSolidus}
 use Rattle.html5grammar.specs.Start.Open.{Between, LessThan, LessThanSolidus, InTag, InRaw, InDeclaration, InComment, InBogusComment, InInstruction, InDoctype, InDoctypeKeyword, InCdata, InReference}
 use Rattle.html5grammar.proofs.InputLemmas.{line_past, lines_past, line_after-none}
 use Rattle.html5grammar.proofs.NoTags.{NoTags}
 use Rattle.html5grammar.proofs.ReadingLemmas.{clean-mode, told-trace, after-opened, after-last}
 use Rattle.html5grammar.proofs.Traces.{Trace, trace, trace_here, with_messages, brought-tells, trace_brought}
 use Rattle.html5opened.specs.Runs.{IsRunAt, other_run_ends, run_ends, run_tokens, opened_after_run}
-use Rattle.html5opened.proofs.RunSteps.{step-run, opened_after_run-nil, opened_after_run-cons, other_run_ends-after, no_line_feed, no_carriage_return}
+use Rattle.html5feed.proofs.ExactSteps.{step-run}
+use Rattle.html5opened.proofs.RunSteps.{opened_after_run-nil, opened_after_run-cons, other_run_ends-after, no_line_feed, no_carriage_return}
 use Rattle.html5quiet.proofs.Runs as quiet
 use Rattle.html5quiet.proofs.Runs.{run-decided, run_tokens-open, open-after, some_of}
 use Rattle.html5feed.specs.Feed.{first_pause}
-use Rattle.html5feed.specs.Refused.{IsRun}
+use Rattle.html5feed.specs.Refused.{IsGoodRun, IsRun, is_unquoted}
 use Rattle.html5feed.proofs.RunInput.{normalised-run, input_after-run, line-run}
 use Rattle.html5feed.proofs.Pauses.{NoTagMessages, first_pause-no_tags, no_tag_messages}
 use Rattle.html5states.specs.Telling.{IsToldAs}
@@ -81,13 +87,13 @@ input_after-within rules K run r within h =
     input_after-ordinary K.input run r.past_line_break r.past_stream_start (within-ordinary K.opened run r.is_run within) h
 
 -- the beginning of a text that is outside the set is a run, where the set has what ends one
-pub run-begins : (rules : Rules) (K : Start) (set : ℕ) (text : List ℕ) (len : ℕ) → rules.exact ≡ false
+pub run-begins : (rules : Rules) (K : Start) (set : ℕ) (text : List ℕ) (len : ℕ) → (rules.exact ≡ false) ⊎ IsGoodRun K.opened (chars (take len text))
     → (K.input.after_carriage_return ≡ false) × (K.input.drops_byte_order_mark ≡ false)
     → is_some (other_run_ends K.opened) ≡ true
     → IfSome (other_run_ends K.opened) (λ others. (c : ℕ) → IsMember set c ↔ Contains (run_ends others) c)
     → IsUtf8 text → BeginsOutside set text len → len ≢ 0 → IsRun rules K (chars (take len text))
-run-begins rules K set text len not_exact past has ends utf8 begins some = record {
-  not_exact = not_exact;
+run-begins rules K set text len good past has ends utf8 begins some = record {
+  good = good;
   past_line_break = past.0;
   past_stream_start = past.1;
   is_run = quiet.run-begins K.opened set text len has ends utf8 begins some;
@@ -192,21 +198,65 @@ trace_is : {M : List Message} {o p : Open} {last : List ℕ} → o ≡ p
     → ◌≡◌ {A = Trace} (record { messages = M; opened = o; last_start_tag = last }) (record { messages = M; opened = p; last_start_tag = last })
 trace_is e = rw e refl
 
+-- ---- no character of a run is an error
+
+unquoted_value-after : (kind : AttrValueKind) (before after : OpenTag) → is_unquoted (InTag (InValue kind) after) ≡ is_unquoted (InTag (InValue kind) before)
+unquoted_value-after Unquoted before after = refl
+unquoted_value-after SingleQuoted before after = refl
+unquoted_value-after DoubleQuoted before after = refl
+
+quoted-of : (exact : Bool) (opened : Open) (run : List ℕ) → (exact ≡ false) ⊎ IsGoodRun opened run → (exact ≡ false) ⊎ (is_unquoted opened ≡ false)
+quoted-of exact opened run (inl loose) = inl loose
+quoted-of exact opened run (inr good) = inr good.quoted
+
+no_error : (exact : Bool) (opened : Open) (c : ℕ) (run : List ℕ) → (exact ≡ false) ⊎ IsGoodRun opened (c ∷ run) → (exact && is_bad_character c) ≡ false
+no_error exact opened c run (inl loose) = rw loose refl
+no_error exact opened c run (inr good) = rw (All-head (λ d. is_bad_character d ≡ false) c run good.good) (and-false exact)
+
+-- after a character of a run the same place is open
+unquoted-after : (opened : Open) (c : ℕ) → is_unquoted (opened_after_run opened (c ∷ [])) ≡ is_unquoted opened
+unquoted-after (Between mode) c = refl
+unquoted-after LessThan c = refl
+unquoted-after LessThanSolidus c = refl
+unquoted-after (InTag InName tag) c = refl
+unquoted-after (InTag BeforeAttribute tag) c = refl
+unquoted-after (InTag InAttributeName tag) c = refl
+unquoted-after (InTag AfterAttributeName tag) c = refl
+unquoted-after (InTag BeforeValue tag) c = refl
+unquoted-after (InTag (InValue kind) tag) c = unquoted_value-after kind tag (with_value tag (c ∷ []))
+unquoted-after (InTag AfterQuotedValue tag) c = refl
+unquoted-after (InTag AfterSolidus tag) c = refl
+unquoted-after (InRaw place name) c = refl
+unquoted-after (InDeclaration held) c = refl
+unquoted-after (InComment text) c = refl
+unquoted-after (InBogusComment text) c = refl
+unquoted-after (InInstruction content) c = refl
+unquoted-after (InDoctype place doctype) c = refl
+unquoted-after (InDoctypeKeyword held doctype) c = refl
+unquoted-after (InCdata text) c = refl
+unquoted-after (InReference stand held) c = refl
+
+good-tail : (exact : Bool) (opened : Open) (c : ℕ) (run : List ℕ) → (exact ≡ false) ⊎ IsGoodRun opened (c ∷ run)
+    → (exact ≡ false) ⊎ IsGoodRun (opened_after_run opened (c ∷ [])) run
+good-tail exact opened c run (inl loose) = inl loose
+good-tail exact opened c run (inr good) =
+    inr (record { quoted = unquoted-after opened c ∙ good.quoted; good = All-tail (λ d. is_bad_character d ≡ false) c run good.good })
+
 module _ {X S H : Type 0} (means : Means X S H) where
   -- the trace of a run is what the run tells, and what is open after it
-  trace-run : (rules : Rules) → rules.exact ≡ false → (s : S) (line : ℕ) (last : List ℕ) (opened : Open) (others run : List ℕ) → other_run_ends opened ≡ Some others
-      → All (λ c. ¬ Contains (run_ends others) c) run
+  trace-run : (rules : Rules) (s : S) (line : ℕ) (last : List ℕ) (opened : Open) (others run : List ℕ) → (rules.exact ≡ false) ⊎ IsGoodRun opened run
+      → other_run_ends opened ≡ Some others → All (λ c. ¬ Contains (run_ends others) c) run
       → trace means.step means.reply means.foreign rules s line last opened run
       ≡ record { messages = run_messages opened line run; opened = opened_after_run opened run; last_start_tag = last }
   unfolding trace trace_brought trace_here stepped run_messages
-  trace-run rules not_exact s line last opened others [] has all = rw (opened_after_run-nil opened) refl
-  trace-run rules not_exact s line last opened others (c ∷ run) has all =
+  trace-run rules s line last opened others [] good has all = rw (opened_after_run-nil opened) refl
+  trace-run rules s line last opened others (c ∷ run) good has all =
       let out : ¬ Contains (run_ends others) c = All-head (λ d. ¬ Contains (run_ends others) d) c run all in
       let M : List Message = on_line (line_past line c) (run_tokens opened (c ∷ [])) in
       let later : Open = opened_after_run opened (c ∷ []) in
-      let here : step_at rules.exact opened c ≡ Tells (run_tokens opened (c ∷ [])) later = ap (λ b. step_at b opened c) not_exact ∙ step-run opened others c has out in
-      rw (brought-tells rules (means.foreign s) opened c (Tells (run_tokens opened (c ∷ [])) later) (run-decided opened others has) here, not_exact)
-      (ap (with_messages M) (trace-run rules not_exact (stepped means.step s M) (line_past line c) last later others run (other_run_ends-after opened others c has out ∙ has) (All-tail (λ d. ¬ Contains (run_ends others) d) c run all))
+      let here : step_at rules.exact opened c ≡ Tells (run_tokens opened (c ∷ [])) later = step-run rules.exact opened others c (quoted-of rules.exact opened (c ∷ run) good) has out in
+      rw (brought-tells rules (means.foreign s) opened c (Tells (run_tokens opened (c ∷ [])) later) (run-decided opened others has) here, no_error rules.exact opened c run good)
+      (ap (with_messages M) (trace-run rules (stepped means.step s M) (line_past line c) last later others run (good-tail rules.exact opened c run good) (other_run_ends-after opened others c has out ∙ has) (All-tail (λ d. ¬ Contains (run_ends others) d) c run all))
       ∙ trace_is (sym (opened_after_run-cons opened c run)))
 
   run-trace : (rules : Rules) (K : Start) (s : S) (run : List ℕ) → IsRun rules K run → K.input.line < 2 ^ 64
@@ -214,7 +264,7 @@ module _ {X S H : Type 0} (means : Means X S H) where
       ≡ record { messages = run_messages K.opened K.input.line run; opened = opened_after_run K.opened run; last_start_tag = K.last_start_tag }
   run-trace rules K s run r h =
       rw (line_after-none K.input h, normalised-run K.input run r.past_line_break r.past_stream_start (no_returns K.opened run r.is_run))
-      (trace-run rules r.not_exact s K.input.line K.last_start_tag K.opened r.is_run.others run r.is_run.has_runs r.is_run.ordinary)
+      (trace-run rules s K.input.line K.last_start_tag K.opened r.is_run.others run r.good r.is_run.has_runs r.is_run.ordinary)
 
   pub told-run : (rules : Rules) (K : Start) (s : S) (run : List ℕ) → IsRun rules K run → K.input.line < 2 ^ 64
       → messages_so_far means rules K s run ≡ run_messages K.opened K.input.line run

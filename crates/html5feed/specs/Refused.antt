@@ -1,16 +1,22 @@
 -- What a refused feed leaves: which beginning of the queue's text is gone, and how much of what it tells was sent.
-use Rattle.std.specs.Prelude.{◌≡◌, ◌≤◌, ◌⊎◌, ℕ, false, List, ◌++◌, length}
+use Rattle.std.specs.Prelude.{◌≡◌, ◌≤◌, ◌⊎◌, ℕ, false, List, ◌++◌, length, All}
 use Rattle.html5ever_interface.specs.Sink.{Means}
 use Rattle.html5grammar.specs.Reading.{state_after, start_after}
-use Rattle.html5grammar.specs.Start.{Start, Rules}
+use Rattle.html5grammar.specs.Characters.{is_bad_character}
+use Rattle.html5grammar.specs.Start.{Open, Start, Rules}
 use Rattle.html5feed.specs.Feed.{told_beyond}
-use Rattle.html5opened.specs.Runs.{IsRunAt}
+use Rattle.html5opened.specs.Runs.{IsRunAt, is_unquoted}
 use Rattle.html5states.specs.Telling.{Stops}
 use Rattle.html5opened.specs.declared.error.TokenizerError.{TokenizerError}
 
--- a run that is read at once. Errors are not exact, and no first character may be dropped.
+-- a run with no error in it where errors are exact: it stands in no value without quotes, and none of its characters is bad
+pub record IsGoodRun (opened : Open) (run : List ℕ) : Type 0 where
+  pub quoted : is_unquoted opened ≡ false
+  pub good : All (λ c. is_bad_character c ≡ false) run
+
+-- a run that is read at once. No first character may be dropped, and where errors are exact there is none in the run.
 pub record IsRun (rules : Rules) (K : Start) (run : List ℕ) : Type 0 where
-  pub not_exact : rules.exact ≡ false
+  pub good : (rules.exact ≡ false) ⊎ IsGoodRun K.opened run
   pub past_line_break : K.input.after_carriage_return ≡ false
   pub past_stream_start : K.input.drops_byte_order_mark ≡ false
   pub is_run : IsRunAt K.opened run

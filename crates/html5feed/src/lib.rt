@@ -2,6 +2,7 @@
 #![tactic(auto)]
 
 mod character;
+mod good_runs;
 mod input;
 pub mod position;
 pub mod reading;

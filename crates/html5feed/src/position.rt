@@ -24,6 +24,7 @@ ghost use Rattle.html5feed.specs.Quiet.{IsQuietText, StopsAtCharacter};
 ghost use Rattle.html5feed.specs.Starting.{CanStart};
 ghost use Rattle.html5feed.specs.Undecided.{rules_with};
 
+use crate::good_runs::{good_run_len, is_unquoted};
 use crate::input::Input;
 use crate::rules::Rules;
 use crate::undecided::decide_keyword;
@@ -228,8 +229,9 @@ impl<A: Allocator + Copy> Position<A> {
         self.held.clear();
     }
 
-    /// How many bytes of a text can be read at once from here. They are those of a run. There are none
-    /// where errors are exact, or where a first character may be dropped.
+    /// How many bytes of a text can be read at once from here. They are those of a run. There are none where a
+    /// first character may be dropped. Where errors are exact, the run ends before a bad character and before one
+    /// that is not of ASCII, and there is none in a value without quotes.
     #[inline(always)]
     pub fn run_len(&self, rules: &Rules<'_, A>, text: &str) -> usize
         ensures within { result ≤ length text.now }
@@ -240,13 +242,19 @@ impl<A: Allocator + Copy> Position<A> {
             → self.now.input.drops_byte_order_mark ≡ false → IfSome (other_run_ends self.now.opened) (λ others.
             (c : ℕ) (rest : List ℕ) → chars text.now ≡ c ∷ rest → ¬ Contains (run_ends others) c → result ≢ 0) }
     {
-        if rules.exact_errors || self.in_reference || !self.input.is_past_start() {
+        if self.in_reference || !self.input.is_past_start() {
             return 0;
         }
-        match run_ends(&self.opened) {
-            Some(ends) => ends.nonmember_prefix_len(text),
-            None => 0,
+        let Some(ends) = run_ends(&self.opened) else {
+            return 0;
+        };
+        if !rules.exact_errors {
+            return ends.nonmember_prefix_len(text);
         }
+        if is_unquoted(&self.opened) {
+            return 0;
+        }
+        good_run_len(ends, text)
     }
 
     /// Sends a run of text as one token, on the line that is reached after it.

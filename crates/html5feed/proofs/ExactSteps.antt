@@ -1,0 +1,104 @@
+-- A run is read as its characters are, one by one.
+use Rattle.std.proofs.Common.{inl, inr, ◌≡◌, ◌≢◌, ℕ, false, List, [], ◌∷◌, ◌++◌, refl, ap, sym, ◌∙◌, None, Some, lit<, length, get_or, ◌<◌, arith, subst}
+use Rattle.std.specs.Prelude.{Bool, true, ◌⊎◌, All, Contains, flat_map, encode_utf8, encode_utf8_all, codes, ◌==◌}
+use Rattle.std.proofs.lemmas.Bool.{ne_eqb, false≢true}
+use Rattle.std.proofs.Math.Bool.{and-false}
+use Rattle.std.proofs.lemmas.List.Elements.{All-head, All-tail}
+use Rattle.html5ever_interface.specs.declared.states.AttrValueKind.TheVariants.{Unquoted, SingleQuoted, DoubleQuoted}
+use Rattle.html5grammar.specs.Characters.{null, tab, line_feed, form_feed, carriage_return, space, quotation_mark, ampersand, apostrophe, hyphen, solidus, less_than, equals_sign, greater_than, value_bytes, shown, is_white_space}
+use Rattle.html5grammar.specs.Reading.Here.{Tells}
+use Rattle.html5grammar.specs.Start.{Open, is_clean}
+use Rattle.html5grammar.specs.Start.Dashes.{NoDash, OneDash, TwoDashes}
+use Rattle.html5grammar.specs.Start.Raw.{Rcdata, Rawtext, ScriptData, Escaped, DoubleEscaped}
+use Rattle.html5grammar.specs.Start.Mode.{Data, Plain, RawText, Cdata}
+use Rattle.html5grammar.specs.Start.Place.{InName, BeforeAttribute, InAttributeName, AfterAttributeName, BeforeValue, InValue, AfterQuotedValue, AfterSolidus}
+use Rattle.html5grammar.specs.Start.Open.{Between, LessThan, LessThanSolidus, InTag, InRaw, InDeclaration, InComment, InBogusComment, InInstruction, InDoctype, InDoctypeKeyword, InCdata, InReference}
+use Rattle.html5grammar.specs.Tag.{in_tag_name, in_attribute_name, in_quoted, in_unquoted, unquoted_error, is_odd_in_name}
+use Rattle.std.proofs.lemmas.List.{append-nil, append_assoc}
+use Rattle.html5grammar.specs.Comment.{ends_in, comment_errors, mark_error}
+use Rattle.html5opened.proofs.CommentEnds.{comment_ends, ends_in_dash-none, ends_in_mark-none}
+use Rattle.html5grammar.specs.RawText.{raw_character, raw_after, dashes_after}
+use Rattle.html5grammar.specs.Text.{plain_text}
+use Rattle.html5grammar.specs.Machine.{step_at, tag_step, data_step, raw_step, comment_step, bogus_comment_step, instruction_step, cdata_step, tag_name_step, attribute_name_step, quoted_step, unquoted_step}
+use Rattle.html5grammar.proofs.Slices.{with_name-nil, with_last_name-nil, with_value-nil, with_name-cons, with_last_name-cons, with_value-cons, bytes-cons}
+use Rattle.html5feed.specs.Refused.{is_unquoted}
+use Rattle.html5opened.specs.Runs.{other_run_ends, run_ends, opened_after_run, run_tokens}
+
+none≢some : {X : Type 0} {x : X} → None ≡ Some x → ⊥
+none≢some e = cc
+
+no : (others : List ℕ) (c : ℕ) → ¬ Contains (run_ends others) c → (k e : ℕ) → k < length (run_ends others) → get_or (run_ends others) k c ≡ e → (c == e) ≡ false
+no others c out k e within is = ne_eqb c e (λ same. out (k, within, is ∙ sym same))
+
+known : (a b : List ℕ) (c : ℕ) → Some a ≡ Some b → ¬ Contains (run_ends b) c → ¬ Contains (run_ends a) c
+known a b c e out = let same : b ≡ a = cc in subst (λ l. ¬ Contains (run_ends l) c) same out
+
+-- a character that ends no run tells itself alone, or is put to the open name or value
+pub step-run : (exact : Bool) (opened : Open) (others : List ℕ) (c : ℕ) → (exact ≡ false) ⊎ (is_unquoted opened ≡ false) → other_run_ends opened ≡ Some others
+    → ¬ Contains (run_ends others) c → step_at exact opened c ≡ Tells (run_tokens opened (c ∷ [])) (opened_after_run opened (c ∷ []))
+unfolding step_at tag_step data_step plain_text raw_step raw_character raw_after dashes_after comment_step comment_errors mark_error bogus_comment_step instruction_step cdata_step tag_name_step attribute_name_step quoted_step unquoted_step in_tag_name in_attribute_name in_quoted in_unquoted unquoted_error is_odd_in_name is_white_space
+step-run exact (Between Data) others c how has other =
+    let out : ¬ Contains (run_ends (less_than ∷ ampersand ∷ [])) c = known (less_than ∷ ampersand ∷ []) others c has other in
+    rw (no (less_than ∷ ampersand ∷ []) c out 2 less_than (lit< tt) refl, no (less_than ∷ ampersand ∷ []) c out 3 ampersand (lit< tt) refl, no (less_than ∷ ampersand ∷ []) c out 0 null (lit< tt) refl) refl
+step-run exact (Between Cdata) others c how has other = absurd (none≢some has)
+step-run exact (Between Plain) others c how has other = rw (no others c other 0 null (omega arith) refl) refl
+step-run exact (Between (RawText Rcdata name)) others c how has other =
+    let out : ¬ Contains (run_ends (less_than ∷ ampersand ∷ [])) c = known (less_than ∷ ampersand ∷ []) others c has other in
+    rw (no (less_than ∷ ampersand ∷ []) c out 2 less_than (lit< tt) refl, no (less_than ∷ ampersand ∷ []) c out 3 ampersand (lit< tt) refl, no (less_than ∷ ampersand ∷ []) c out 0 null (lit< tt) refl) refl
+step-run exact (Between (RawText Rawtext name)) others c how has other =
+    let out : ¬ Contains (run_ends (less_than ∷ [])) c = known (less_than ∷ []) others c has other in
+    rw (no (less_than ∷ []) c out 2 less_than (lit< tt) refl, no (less_than ∷ []) c out 0 null (lit< tt) refl) refl
+step-run exact (Between (RawText ScriptData name)) others c how has other =
+    let out : ¬ Contains (run_ends (less_than ∷ [])) c = known (less_than ∷ []) others c has other in
+    rw (no (less_than ∷ []) c out 2 less_than (lit< tt) refl, no (less_than ∷ []) c out 0 null (lit< tt) refl) refl
+step-run exact (Between (RawText (Escaped NoDash) name)) others c how has other =
+    let out : ¬ Contains (run_ends (hyphen ∷ less_than ∷ [])) c = known (hyphen ∷ less_than ∷ []) others c has other in
+    rw (no (hyphen ∷ less_than ∷ []) c out 3 less_than (lit< tt) refl, no (hyphen ∷ less_than ∷ []) c out 0 null (lit< tt) refl, and-false (c == greater_than), no (hyphen ∷ less_than ∷ []) c out 2 hyphen (lit< tt) refl) refl
+step-run exact (Between (RawText (DoubleEscaped NoDash) name)) others c how has other =
+    let out : ¬ Contains (run_ends (hyphen ∷ less_than ∷ [])) c = known (hyphen ∷ less_than ∷ []) others c has other in
+    rw (no (hyphen ∷ less_than ∷ []) c out 3 less_than (lit< tt) refl, no (hyphen ∷ less_than ∷ []) c out 0 null (lit< tt) refl, and-false (c == greater_than), no (hyphen ∷ less_than ∷ []) c out 2 hyphen (lit< tt) refl) refl
+step-run exact (Between (RawText (Escaped OneDash) name)) others c how has other = absurd (none≢some has)
+step-run exact (Between (RawText (Escaped TwoDashes) name)) others c how has other = absurd (none≢some has)
+step-run exact (Between (RawText (DoubleEscaped OneDash) name)) others c how has other = absurd (none≢some has)
+step-run exact (Between (RawText (DoubleEscaped TwoDashes) name)) others c how has other = absurd (none≢some has)
+step-run exact LessThan others c how has other = absurd (none≢some has)
+step-run exact LessThanSolidus others c how has other = absurd (none≢some has)
+step-run exact (InTag InName tag) others c how has other =
+    let out : ¬ Contains (run_ends (line_feed ∷ tab ∷ form_feed ∷ space ∷ solidus ∷ greater_than ∷ [])) c = known (line_feed ∷ tab ∷ form_feed ∷ space ∷ solidus ∷ greater_than ∷ []) others c has other in
+    rw (no (line_feed ∷ tab ∷ form_feed ∷ space ∷ solidus ∷ greater_than ∷ []) c out 3 tab (lit< tt) refl, no (line_feed ∷ tab ∷ form_feed ∷ space ∷ solidus ∷ greater_than ∷ []) c out 2 line_feed (lit< tt) refl, no (line_feed ∷ tab ∷ form_feed ∷ space ∷ solidus ∷ greater_than ∷ []) c out 4 form_feed (lit< tt) refl, no (line_feed ∷ tab ∷ form_feed ∷ space ∷ solidus ∷ greater_than ∷ []) c out 5 space (lit< tt) refl, no (line_feed ∷ tab ∷ form_feed ∷ space ∷ solidus ∷ greater_than ∷ []) c out 6 solidus (lit< tt) refl, no (line_feed ∷ tab ∷ form_feed ∷ space ∷ solidus ∷ greater_than ∷ []) c out 7 greater_than (lit< tt) refl, no (line_feed ∷ tab ∷ form_feed ∷ space ∷ solidus ∷ greater_than ∷ []) c out 0 null (lit< tt) refl) refl
+step-run exact (InTag BeforeAttribute tag) others c how has other = absurd (none≢some has)
+step-run exact (InTag InAttributeName tag) others c how has other =
+    let out : ¬ Contains (run_ends (line_feed ∷ tab ∷ form_feed ∷ space ∷ solidus ∷ greater_than ∷ equals_sign ∷ quotation_mark ∷ apostrophe ∷ less_than ∷ [])) c = known (line_feed ∷ tab ∷ form_feed ∷ space ∷ solidus ∷ greater_than ∷ equals_sign ∷ quotation_mark ∷ apostrophe ∷ less_than ∷ []) others c has other in
+    rw (no (line_feed ∷ tab ∷ form_feed ∷ space ∷ solidus ∷ greater_than ∷ equals_sign ∷ quotation_mark ∷ apostrophe ∷ less_than ∷ []) c out 3 tab (lit< tt) refl, no (line_feed ∷ tab ∷ form_feed ∷ space ∷ solidus ∷ greater_than ∷ equals_sign ∷ quotation_mark ∷ apostrophe ∷ less_than ∷ []) c out 2 line_feed (lit< tt) refl, no (line_feed ∷ tab ∷ form_feed ∷ space ∷ solidus ∷ greater_than ∷ equals_sign ∷ quotation_mark ∷ apostrophe ∷ less_than ∷ []) c out 4 form_feed (lit< tt) refl, no (line_feed ∷ tab ∷ form_feed ∷ space ∷ solidus ∷ greater_than ∷ equals_sign ∷ quotation_mark ∷ apostrophe ∷ less_than ∷ []) c out 5 space (lit< tt) refl, no (line_feed ∷ tab ∷ form_feed ∷ space ∷ solidus ∷ greater_than ∷ equals_sign ∷ quotation_mark ∷ apostrophe ∷ less_than ∷ []) c out 6 solidus (lit< tt) refl, no (line_feed ∷ tab ∷ form_feed ∷ space ∷ solidus ∷ greater_than ∷ equals_sign ∷ quotation_mark ∷ apostrophe ∷ less_than ∷ []) c out 7 greater_than (lit< tt) refl, no (line_feed ∷ tab ∷ form_feed ∷ space ∷ solidus ∷ greater_than ∷ equals_sign ∷ quotation_mark ∷ apostrophe ∷ less_than ∷ []) c out 8 equals_sign (lit< tt) refl, no (line_feed ∷ tab ∷ form_feed ∷ space ∷ solidus ∷ greater_than ∷ equals_sign ∷ quotation_mark ∷ apostrophe ∷ less_than ∷ []) c out 0 null (lit< tt) refl, no (line_feed ∷ tab ∷ form_feed ∷ space ∷ solidus ∷ greater_than ∷ equals_sign ∷ quotation_mark ∷ apostrophe ∷ less_than ∷ []) c out 9 quotation_mark (lit< tt) refl, no (line_feed ∷ tab ∷ form_feed ∷ space ∷ solidus ∷ greater_than ∷ equals_sign ∷ quotation_mark ∷ apostrophe ∷ less_than ∷ []) c out 10 apostrophe (lit< tt) refl, no (line_feed ∷ tab ∷ form_feed ∷ space ∷ solidus ∷ greater_than ∷ equals_sign ∷ quotation_mark ∷ apostrophe ∷ less_than ∷ []) c out 11 less_than (lit< tt) refl) refl
+step-run exact (InTag AfterAttributeName tag) others c how has other = absurd (none≢some has)
+step-run exact (InTag BeforeValue tag) others c how has other = absurd (none≢some has)
+step-run exact (InTag (InValue DoubleQuoted) tag) others c how has other =
+    let out : ¬ Contains (run_ends (line_feed ∷ quotation_mark ∷ ampersand ∷ [])) c = known (line_feed ∷ quotation_mark ∷ ampersand ∷ []) others c has other in
+    rw (no (line_feed ∷ quotation_mark ∷ ampersand ∷ []) c out 3 quotation_mark (lit< tt) refl, no (line_feed ∷ quotation_mark ∷ ampersand ∷ []) c out 4 ampersand (lit< tt) refl, no (line_feed ∷ quotation_mark ∷ ampersand ∷ []) c out 0 null (lit< tt) refl) refl
+step-run exact (InTag (InValue SingleQuoted) tag) others c how has other =
+    let out : ¬ Contains (run_ends (line_feed ∷ apostrophe ∷ ampersand ∷ [])) c = known (line_feed ∷ apostrophe ∷ ampersand ∷ []) others c has other in
+    rw (no (line_feed ∷ apostrophe ∷ ampersand ∷ []) c out 3 apostrophe (lit< tt) refl, no (line_feed ∷ apostrophe ∷ ampersand ∷ []) c out 4 ampersand (lit< tt) refl, no (line_feed ∷ apostrophe ∷ ampersand ∷ []) c out 0 null (lit< tt) refl) refl
+step-run exact (InTag (InValue Unquoted) tag) others c how has other =
+    let out : ¬ Contains (run_ends (line_feed ∷ tab ∷ form_feed ∷ space ∷ ampersand ∷ greater_than ∷ [])) c = known (line_feed ∷ tab ∷ form_feed ∷ space ∷ ampersand ∷ greater_than ∷ []) others c has other in
+    let loose : exact ≡ false = elim how [ inl loose ↦ loose | inr quoted ↦ absurd (false≢true (sym quoted)) ] in
+    rw (loose, no (line_feed ∷ tab ∷ form_feed ∷ space ∷ ampersand ∷ greater_than ∷ []) c out 3 tab (lit< tt) refl, no (line_feed ∷ tab ∷ form_feed ∷ space ∷ ampersand ∷ greater_than ∷ []) c out 2 line_feed (lit< tt) refl, no (line_feed ∷ tab ∷ form_feed ∷ space ∷ ampersand ∷ greater_than ∷ []) c out 4 form_feed (lit< tt) refl, no (line_feed ∷ tab ∷ form_feed ∷ space ∷ ampersand ∷ greater_than ∷ []) c out 5 space (lit< tt) refl, no (line_feed ∷ tab ∷ form_feed ∷ space ∷ ampersand ∷ greater_than ∷ []) c out 7 greater_than (lit< tt) refl, no (line_feed ∷ tab ∷ form_feed ∷ space ∷ ampersand ∷ greater_than ∷ []) c out 6 ampersand (lit< tt) refl, no (line_feed ∷ tab ∷ form_feed ∷ space ∷ ampersand ∷ greater_than ∷ []) c out 0 null (lit< tt) refl) refl
+step-run exact (InTag AfterQuotedValue tag) others c how has other = absurd (none≢some has)
+step-run exact (InTag AfterSolidus tag) others c how has other = absurd (none≢some has)
+step-run exact (InRaw place name) others c how has other = absurd (none≢some has)
+step-run exact (InDeclaration held) others c how has other = absurd (none≢some has)
+step-run exact (InComment text) others c how has other =
+    let ends : (others ≡ line_feed ∷ hyphen ∷ greater_than ∷ []) × (ends_in text (codes "-") ≡ false) = comment_ends text others has in
+    let out : ¬ Contains (run_ends (line_feed ∷ hyphen ∷ greater_than ∷ [])) c = subst (λ l. ¬ Contains (run_ends l) c) ends.0 other in
+    rw (no (line_feed ∷ hyphen ∷ greater_than ∷ []) c out 4 greater_than (lit< tt) refl, no (line_feed ∷ hyphen ∷ greater_than ∷ []) c out 0 null (lit< tt) refl, ends_in_mark-none text ends.1, append-nil (value_bytes c)) refl
+step-run exact (InBogusComment text) others c how has other =
+    let out : ¬ Contains (run_ends (line_feed ∷ greater_than ∷ [])) c = known (line_feed ∷ greater_than ∷ []) others c has other in
+    rw (no (line_feed ∷ greater_than ∷ []) c out 3 greater_than (lit< tt) refl, no (line_feed ∷ greater_than ∷ []) c out 0 null (lit< tt) refl, append-nil (value_bytes c)) refl
+step-run exact (InInstruction content) others c how has other =
+    let out : ¬ Contains (run_ends (line_feed ∷ greater_than ∷ [])) c = known (line_feed ∷ greater_than ∷ []) others c has other in
+    rw (no (line_feed ∷ greater_than ∷ []) c out 3 greater_than (lit< tt) refl, no (line_feed ∷ greater_than ∷ []) c out 0 null (lit< tt) refl, append-nil (value_bytes c)) refl
+step-run exact (InDoctype place doctype) others c how has other = absurd (none≢some has)
+step-run exact (InDoctypeKeyword held doctype) others c how has other = absurd (none≢some has)
+step-run exact (InCdata text) others c how has other =
+    let out : ¬ Contains (run_ends (line_feed ∷ greater_than ∷ [])) c = known (line_feed ∷ greater_than ∷ []) others c has other in
+    rw (no (line_feed ∷ greater_than ∷ []) c out 3 greater_than (lit< tt) refl, no (line_feed ∷ greater_than ∷ []) c out 0 null (lit< tt) refl) refl
+step-run exact (InReference stand held) others c how has other = absurd (none≢some has)
