@@ -1,5 +1,4 @@
 pub mod RunInput
-pub mod ExactSteps
 pub mod GoodFronts
 pub mod RunLemmas
 pub mod Pauses

@@ -28,13 +28,12 @@ use Rattle.html5grammar.proofs.InputLemmas.{line_past, lines_past, line_after-no
 use Rattle.html5grammar.proofs.NoTags.{NoTags}
 use Rattle.html5grammar.proofs.ReadingLemmas.{clean-mode, told-trace, after-opened, after-last}
 use Rattle.html5grammar.proofs.Traces.{Trace, trace, trace_here, with_messages, brought-tells, trace_brought}
-use Rattle.html5opened.specs.Runs.{IsRunAt, other_run_ends, run_ends, run_tokens, opened_after_run}
-use Rattle.html5feed.proofs.ExactSteps.{step-run}
-use Rattle.html5opened.proofs.RunSteps.{opened_after_run-nil, opened_after_run-cons, other_run_ends-after, no_line_feed, no_carriage_return}
+use Rattle.html5opened.specs.Runs.{IsRunAt, is_unquoted, other_run_ends, run_ends, run_tokens, opened_after_run}
+use Rattle.html5opened.proofs.RunSteps.{step-run, opened_after_run-nil, opened_after_run-cons, other_run_ends-after, no_line_feed, no_carriage_return}
 use Rattle.html5quiet.proofs.Runs as quiet
 use Rattle.html5quiet.proofs.Runs.{run-decided, run_tokens-open, open-after, some_of}
 use Rattle.html5feed.specs.Feed.{first_pause}
-use Rattle.html5feed.specs.Refused.{IsGoodRun, IsRun, is_unquoted}
+use Rattle.html5feed.specs.Refused.{IsGoodRun, IsRun}
 use Rattle.html5feed.proofs.RunInput.{normalised-run, input_after-run, line-run}
 use Rattle.html5feed.proofs.Pauses.{NoTagMessages, first_pause-no_tags, no_tag_messages}
 use Rattle.html5states.specs.Telling.{IsToldAs}

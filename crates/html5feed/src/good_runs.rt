@@ -2,8 +2,8 @@
 ghost use Rattle.std.specs.Prelude.{◌≡◌, ◌<◌, false, true, All, length, take};
 ghost use Rattle.std.specs.Str.{chars};
 ghost use Rattle.html5grammar.specs.Characters.{is_bad_character};
-ghost use Rattle.html5feed.specs.Refused.{is_unquoted};
 ghost use Rattle.html5opened.specs.CurrentTag.{opened_of};
+ghost use Rattle.html5opened.specs.Runs.{is_unquoted};
 ghost use Rattle.markup5ever.specs.SmallCharSet.{BeginsOutside, IsMember};
 
 use html5ever_interface::states::{AttrValueKind, State};

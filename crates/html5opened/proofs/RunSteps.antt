@@ -1,6 +1,6 @@
 -- A run is read as its characters are, one by one.
-use Rattle.std.proofs.Common.{◌≡◌, ◌≢◌, ℕ, false, List, [], ◌∷◌, ◌++◌, refl, ap, sym, ◌∙◌, None, Some, lit<, length, get_or, ◌<◌, arith, subst}
-use Rattle.std.specs.Prelude.{All, Contains, flat_map, encode_utf8, encode_utf8_all, codes, ◌==◌}
+use Rattle.std.proofs.Common.{inl, inr, ◌≡◌, ◌≢◌, ℕ, false, List, [], ◌∷◌, ◌++◌, refl, ap, sym, ◌∙◌, None, Some, lit<, length, get_or, ◌<◌, arith, subst}
+use Rattle.std.specs.Prelude.{Bool, true, ◌⊎◌, All, Contains, flat_map, encode_utf8, encode_utf8_all, codes, ◌==◌}
 use Rattle.std.proofs.lemmas.Bool.{ne_eqb, false≢true}
 use Rattle.std.proofs.Math.Bool.{and-false}
 use Rattle.std.proofs.lemmas.List.Elements.{All-head, All-tail}
@@ -21,7 +21,7 @@ use Rattle.html5grammar.specs.RawText.{raw_character, raw_after, dashes_after}
 use Rattle.html5grammar.specs.Text.{plain_text}
 use Rattle.html5grammar.specs.Machine.{step_at, tag_step, data_step, raw_step, comment_step, bogus_comment_step, instruction_step, cdata_step, tag_name_step, attribute_name_step, quoted_step, unquoted_step}
 use Rattle.html5grammar.proofs.Slices.{with_name-nil, with_last_name-nil, with_value-nil, with_name-cons, with_last_name-cons, with_value-cons, bytes-cons}
-use Rattle.html5opened.specs.Runs.{other_run_ends, run_ends, opened_after_run, run_tokens}
+use Rattle.html5opened.specs.Runs.{is_unquoted, other_run_ends, run_ends, opened_after_run, run_tokens}
 
 none≢some : {X : Type 0} {x : X} → None ≡ Some x → ⊥
 none≢some e = cc
@@ -156,70 +156,71 @@ no_line_feed opened others c within has out =
     λ same. ordinary (2, omega arith, sym same)
 
 -- a character that ends no run tells itself alone, or is put to the open name or value
-pub step-run : (opened : Open) (others : List ℕ) (c : ℕ) → other_run_ends opened ≡ Some others → ¬ Contains (run_ends others) c
-    → step_at false opened c ≡ Tells (run_tokens opened (c ∷ [])) (opened_after_run opened (c ∷ []))
+pub step-run : (exact : Bool) (opened : Open) (others : List ℕ) (c : ℕ) → (exact ≡ false) ⊎ (is_unquoted opened ≡ false) → other_run_ends opened ≡ Some others
+    → ¬ Contains (run_ends others) c → step_at exact opened c ≡ Tells (run_tokens opened (c ∷ [])) (opened_after_run opened (c ∷ []))
 unfolding step_at tag_step data_step plain_text raw_step raw_character raw_after dashes_after comment_step comment_errors mark_error bogus_comment_step instruction_step cdata_step tag_name_step attribute_name_step quoted_step unquoted_step in_tag_name in_attribute_name in_quoted in_unquoted unquoted_error is_odd_in_name is_white_space
-step-run (Between Data) others c has other =
+step-run exact (Between Data) others c how has other =
     let out : ¬ Contains (run_ends (less_than ∷ ampersand ∷ [])) c = known (less_than ∷ ampersand ∷ []) others c has other in
     rw (no (less_than ∷ ampersand ∷ []) c out 2 less_than (lit< tt) refl, no (less_than ∷ ampersand ∷ []) c out 3 ampersand (lit< tt) refl, no (less_than ∷ ampersand ∷ []) c out 0 null (lit< tt) refl) refl
-step-run (Between Cdata) others c has other = absurd (none≢some has)
-step-run (Between Plain) others c has other = rw (no others c other 0 null (omega arith) refl) refl
-step-run (Between (RawText Rcdata name)) others c has other =
+step-run exact (Between Cdata) others c how has other = absurd (none≢some has)
+step-run exact (Between Plain) others c how has other = rw (no others c other 0 null (omega arith) refl) refl
+step-run exact (Between (RawText Rcdata name)) others c how has other =
     let out : ¬ Contains (run_ends (less_than ∷ ampersand ∷ [])) c = known (less_than ∷ ampersand ∷ []) others c has other in
     rw (no (less_than ∷ ampersand ∷ []) c out 2 less_than (lit< tt) refl, no (less_than ∷ ampersand ∷ []) c out 3 ampersand (lit< tt) refl, no (less_than ∷ ampersand ∷ []) c out 0 null (lit< tt) refl) refl
-step-run (Between (RawText Rawtext name)) others c has other =
+step-run exact (Between (RawText Rawtext name)) others c how has other =
     let out : ¬ Contains (run_ends (less_than ∷ [])) c = known (less_than ∷ []) others c has other in
     rw (no (less_than ∷ []) c out 2 less_than (lit< tt) refl, no (less_than ∷ []) c out 0 null (lit< tt) refl) refl
-step-run (Between (RawText ScriptData name)) others c has other =
+step-run exact (Between (RawText ScriptData name)) others c how has other =
     let out : ¬ Contains (run_ends (less_than ∷ [])) c = known (less_than ∷ []) others c has other in
     rw (no (less_than ∷ []) c out 2 less_than (lit< tt) refl, no (less_than ∷ []) c out 0 null (lit< tt) refl) refl
-step-run (Between (RawText (Escaped NoDash) name)) others c has other =
+step-run exact (Between (RawText (Escaped NoDash) name)) others c how has other =
     let out : ¬ Contains (run_ends (hyphen ∷ less_than ∷ [])) c = known (hyphen ∷ less_than ∷ []) others c has other in
     rw (no (hyphen ∷ less_than ∷ []) c out 3 less_than (lit< tt) refl, no (hyphen ∷ less_than ∷ []) c out 0 null (lit< tt) refl, and-false (c == greater_than), no (hyphen ∷ less_than ∷ []) c out 2 hyphen (lit< tt) refl) refl
-step-run (Between (RawText (DoubleEscaped NoDash) name)) others c has other =
+step-run exact (Between (RawText (DoubleEscaped NoDash) name)) others c how has other =
     let out : ¬ Contains (run_ends (hyphen ∷ less_than ∷ [])) c = known (hyphen ∷ less_than ∷ []) others c has other in
     rw (no (hyphen ∷ less_than ∷ []) c out 3 less_than (lit< tt) refl, no (hyphen ∷ less_than ∷ []) c out 0 null (lit< tt) refl, and-false (c == greater_than), no (hyphen ∷ less_than ∷ []) c out 2 hyphen (lit< tt) refl) refl
-step-run (Between (RawText (Escaped OneDash) name)) others c has other = absurd (none≢some has)
-step-run (Between (RawText (Escaped TwoDashes) name)) others c has other = absurd (none≢some has)
-step-run (Between (RawText (DoubleEscaped OneDash) name)) others c has other = absurd (none≢some has)
-step-run (Between (RawText (DoubleEscaped TwoDashes) name)) others c has other = absurd (none≢some has)
-step-run LessThan others c has other = absurd (none≢some has)
-step-run LessThanSolidus others c has other = absurd (none≢some has)
-step-run (InTag InName tag) others c has other =
+step-run exact (Between (RawText (Escaped OneDash) name)) others c how has other = absurd (none≢some has)
+step-run exact (Between (RawText (Escaped TwoDashes) name)) others c how has other = absurd (none≢some has)
+step-run exact (Between (RawText (DoubleEscaped OneDash) name)) others c how has other = absurd (none≢some has)
+step-run exact (Between (RawText (DoubleEscaped TwoDashes) name)) others c how has other = absurd (none≢some has)
+step-run exact LessThan others c how has other = absurd (none≢some has)
+step-run exact LessThanSolidus others c how has other = absurd (none≢some has)
+step-run exact (InTag InName tag) others c how has other =
     let out : ¬ Contains (run_ends (line_feed ∷ tab ∷ form_feed ∷ space ∷ solidus ∷ greater_than ∷ [])) c = known (line_feed ∷ tab ∷ form_feed ∷ space ∷ solidus ∷ greater_than ∷ []) others c has other in
     rw (no (line_feed ∷ tab ∷ form_feed ∷ space ∷ solidus ∷ greater_than ∷ []) c out 3 tab (lit< tt) refl, no (line_feed ∷ tab ∷ form_feed ∷ space ∷ solidus ∷ greater_than ∷ []) c out 2 line_feed (lit< tt) refl, no (line_feed ∷ tab ∷ form_feed ∷ space ∷ solidus ∷ greater_than ∷ []) c out 4 form_feed (lit< tt) refl, no (line_feed ∷ tab ∷ form_feed ∷ space ∷ solidus ∷ greater_than ∷ []) c out 5 space (lit< tt) refl, no (line_feed ∷ tab ∷ form_feed ∷ space ∷ solidus ∷ greater_than ∷ []) c out 6 solidus (lit< tt) refl, no (line_feed ∷ tab ∷ form_feed ∷ space ∷ solidus ∷ greater_than ∷ []) c out 7 greater_than (lit< tt) refl, no (line_feed ∷ tab ∷ form_feed ∷ space ∷ solidus ∷ greater_than ∷ []) c out 0 null (lit< tt) refl) refl
-step-run (InTag BeforeAttribute tag) others c has other = absurd (none≢some has)
-step-run (InTag InAttributeName tag) others c has other =
+step-run exact (InTag BeforeAttribute tag) others c how has other = absurd (none≢some has)
+step-run exact (InTag InAttributeName tag) others c how has other =
     let out : ¬ Contains (run_ends (line_feed ∷ tab ∷ form_feed ∷ space ∷ solidus ∷ greater_than ∷ equals_sign ∷ quotation_mark ∷ apostrophe ∷ less_than ∷ [])) c = known (line_feed ∷ tab ∷ form_feed ∷ space ∷ solidus ∷ greater_than ∷ equals_sign ∷ quotation_mark ∷ apostrophe ∷ less_than ∷ []) others c has other in
     rw (no (line_feed ∷ tab ∷ form_feed ∷ space ∷ solidus ∷ greater_than ∷ equals_sign ∷ quotation_mark ∷ apostrophe ∷ less_than ∷ []) c out 3 tab (lit< tt) refl, no (line_feed ∷ tab ∷ form_feed ∷ space ∷ solidus ∷ greater_than ∷ equals_sign ∷ quotation_mark ∷ apostrophe ∷ less_than ∷ []) c out 2 line_feed (lit< tt) refl, no (line_feed ∷ tab ∷ form_feed ∷ space ∷ solidus ∷ greater_than ∷ equals_sign ∷ quotation_mark ∷ apostrophe ∷ less_than ∷ []) c out 4 form_feed (lit< tt) refl, no (line_feed ∷ tab ∷ form_feed ∷ space ∷ solidus ∷ greater_than ∷ equals_sign ∷ quotation_mark ∷ apostrophe ∷ less_than ∷ []) c out 5 space (lit< tt) refl, no (line_feed ∷ tab ∷ form_feed ∷ space ∷ solidus ∷ greater_than ∷ equals_sign ∷ quotation_mark ∷ apostrophe ∷ less_than ∷ []) c out 6 solidus (lit< tt) refl, no (line_feed ∷ tab ∷ form_feed ∷ space ∷ solidus ∷ greater_than ∷ equals_sign ∷ quotation_mark ∷ apostrophe ∷ less_than ∷ []) c out 7 greater_than (lit< tt) refl, no (line_feed ∷ tab ∷ form_feed ∷ space ∷ solidus ∷ greater_than ∷ equals_sign ∷ quotation_mark ∷ apostrophe ∷ less_than ∷ []) c out 8 equals_sign (lit< tt) refl, no (line_feed ∷ tab ∷ form_feed ∷ space ∷ solidus ∷ greater_than ∷ equals_sign ∷ quotation_mark ∷ apostrophe ∷ less_than ∷ []) c out 0 null (lit< tt) refl, no (line_feed ∷ tab ∷ form_feed ∷ space ∷ solidus ∷ greater_than ∷ equals_sign ∷ quotation_mark ∷ apostrophe ∷ less_than ∷ []) c out 9 quotation_mark (lit< tt) refl, no (line_feed ∷ tab ∷ form_feed ∷ space ∷ solidus ∷ greater_than ∷ equals_sign ∷ quotation_mark ∷ apostrophe ∷ less_than ∷ []) c out 10 apostrophe (lit< tt) refl, no (line_feed ∷ tab ∷ form_feed ∷ space ∷ solidus ∷ greater_than ∷ equals_sign ∷ quotation_mark ∷ apostrophe ∷ less_than ∷ []) c out 11 less_than (lit< tt) refl) refl
-step-run (InTag AfterAttributeName tag) others c has other = absurd (none≢some has)
-step-run (InTag BeforeValue tag) others c has other = absurd (none≢some has)
-step-run (InTag (InValue DoubleQuoted) tag) others c has other =
+step-run exact (InTag AfterAttributeName tag) others c how has other = absurd (none≢some has)
+step-run exact (InTag BeforeValue tag) others c how has other = absurd (none≢some has)
+step-run exact (InTag (InValue DoubleQuoted) tag) others c how has other =
     let out : ¬ Contains (run_ends (line_feed ∷ quotation_mark ∷ ampersand ∷ [])) c = known (line_feed ∷ quotation_mark ∷ ampersand ∷ []) others c has other in
     rw (no (line_feed ∷ quotation_mark ∷ ampersand ∷ []) c out 3 quotation_mark (lit< tt) refl, no (line_feed ∷ quotation_mark ∷ ampersand ∷ []) c out 4 ampersand (lit< tt) refl, no (line_feed ∷ quotation_mark ∷ ampersand ∷ []) c out 0 null (lit< tt) refl) refl
-step-run (InTag (InValue SingleQuoted) tag) others c has other =
+step-run exact (InTag (InValue SingleQuoted) tag) others c how has other =
     let out : ¬ Contains (run_ends (line_feed ∷ apostrophe ∷ ampersand ∷ [])) c = known (line_feed ∷ apostrophe ∷ ampersand ∷ []) others c has other in
     rw (no (line_feed ∷ apostrophe ∷ ampersand ∷ []) c out 3 apostrophe (lit< tt) refl, no (line_feed ∷ apostrophe ∷ ampersand ∷ []) c out 4 ampersand (lit< tt) refl, no (line_feed ∷ apostrophe ∷ ampersand ∷ []) c out 0 null (lit< tt) refl) refl
-step-run (InTag (InValue Unquoted) tag) others c has other =
+step-run exact (InTag (InValue Unquoted) tag) others c how has other =
     let out : ¬ Contains (run_ends (line_feed ∷ tab ∷ form_feed ∷ space ∷ ampersand ∷ greater_than ∷ [])) c = known (line_feed ∷ tab ∷ form_feed ∷ space ∷ ampersand ∷ greater_than ∷ []) others c has other in
-    rw (no (line_feed ∷ tab ∷ form_feed ∷ space ∷ ampersand ∷ greater_than ∷ []) c out 3 tab (lit< tt) refl, no (line_feed ∷ tab ∷ form_feed ∷ space ∷ ampersand ∷ greater_than ∷ []) c out 2 line_feed (lit< tt) refl, no (line_feed ∷ tab ∷ form_feed ∷ space ∷ ampersand ∷ greater_than ∷ []) c out 4 form_feed (lit< tt) refl, no (line_feed ∷ tab ∷ form_feed ∷ space ∷ ampersand ∷ greater_than ∷ []) c out 5 space (lit< tt) refl, no (line_feed ∷ tab ∷ form_feed ∷ space ∷ ampersand ∷ greater_than ∷ []) c out 7 greater_than (lit< tt) refl, no (line_feed ∷ tab ∷ form_feed ∷ space ∷ ampersand ∷ greater_than ∷ []) c out 6 ampersand (lit< tt) refl, no (line_feed ∷ tab ∷ form_feed ∷ space ∷ ampersand ∷ greater_than ∷ []) c out 0 null (lit< tt) refl) refl
-step-run (InTag AfterQuotedValue tag) others c has other = absurd (none≢some has)
-step-run (InTag AfterSolidus tag) others c has other = absurd (none≢some has)
-step-run (InRaw place name) others c has other = absurd (none≢some has)
-step-run (InDeclaration held) others c has other = absurd (none≢some has)
-step-run (InComment text) others c has other =
+    let loose : exact ≡ false = elim how [ inl loose ↦ loose | inr quoted ↦ absurd (false≢true (sym quoted)) ] in
+    rw (loose, no (line_feed ∷ tab ∷ form_feed ∷ space ∷ ampersand ∷ greater_than ∷ []) c out 3 tab (lit< tt) refl, no (line_feed ∷ tab ∷ form_feed ∷ space ∷ ampersand ∷ greater_than ∷ []) c out 2 line_feed (lit< tt) refl, no (line_feed ∷ tab ∷ form_feed ∷ space ∷ ampersand ∷ greater_than ∷ []) c out 4 form_feed (lit< tt) refl, no (line_feed ∷ tab ∷ form_feed ∷ space ∷ ampersand ∷ greater_than ∷ []) c out 5 space (lit< tt) refl, no (line_feed ∷ tab ∷ form_feed ∷ space ∷ ampersand ∷ greater_than ∷ []) c out 7 greater_than (lit< tt) refl, no (line_feed ∷ tab ∷ form_feed ∷ space ∷ ampersand ∷ greater_than ∷ []) c out 6 ampersand (lit< tt) refl, no (line_feed ∷ tab ∷ form_feed ∷ space ∷ ampersand ∷ greater_than ∷ []) c out 0 null (lit< tt) refl) refl
+step-run exact (InTag AfterQuotedValue tag) others c how has other = absurd (none≢some has)
+step-run exact (InTag AfterSolidus tag) others c how has other = absurd (none≢some has)
+step-run exact (InRaw place name) others c how has other = absurd (none≢some has)
+step-run exact (InDeclaration held) others c how has other = absurd (none≢some has)
+step-run exact (InComment text) others c how has other =
     let ends : (others ≡ line_feed ∷ hyphen ∷ greater_than ∷ []) × (ends_in text (codes "-") ≡ false) = comment_ends text others has in
     let out : ¬ Contains (run_ends (line_feed ∷ hyphen ∷ greater_than ∷ [])) c = subst (λ l. ¬ Contains (run_ends l) c) ends.0 other in
     rw (no (line_feed ∷ hyphen ∷ greater_than ∷ []) c out 4 greater_than (lit< tt) refl, no (line_feed ∷ hyphen ∷ greater_than ∷ []) c out 0 null (lit< tt) refl, ends_in_mark-none text ends.1, append-nil (value_bytes c)) refl
-step-run (InBogusComment text) others c has other =
+step-run exact (InBogusComment text) others c how has other =
     let out : ¬ Contains (run_ends (line_feed ∷ greater_than ∷ [])) c = known (line_feed ∷ greater_than ∷ []) others c has other in
     rw (no (line_feed ∷ greater_than ∷ []) c out 3 greater_than (lit< tt) refl, no (line_feed ∷ greater_than ∷ []) c out 0 null (lit< tt) refl, append-nil (value_bytes c)) refl
-step-run (InInstruction content) others c has other =
+step-run exact (InInstruction content) others c how has other =
     let out : ¬ Contains (run_ends (line_feed ∷ greater_than ∷ [])) c = known (line_feed ∷ greater_than ∷ []) others c has other in
     rw (no (line_feed ∷ greater_than ∷ []) c out 3 greater_than (lit< tt) refl, no (line_feed ∷ greater_than ∷ []) c out 0 null (lit< tt) refl, append-nil (value_bytes c)) refl
-step-run (InDoctype place doctype) others c has other = absurd (none≢some has)
-step-run (InDoctypeKeyword held doctype) others c has other = absurd (none≢some has)
-step-run (InCdata text) others c has other =
+step-run exact (InDoctype place doctype) others c how has other = absurd (none≢some has)
+step-run exact (InDoctypeKeyword held doctype) others c how has other = absurd (none≢some has)
+step-run exact (InCdata text) others c how has other =
     let out : ¬ Contains (run_ends (line_feed ∷ greater_than ∷ [])) c = known (line_feed ∷ greater_than ∷ []) others c has other in
     rw (no (line_feed ∷ greater_than ∷ []) c out 3 greater_than (lit< tt) refl, no (line_feed ∷ greater_than ∷ []) c out 0 null (lit< tt) refl) refl
-step-run (InReference stand held) others c has other = absurd (none≢some has)
+step-run exact (InReference stand held) others c how has other = absurd (none≢some has)

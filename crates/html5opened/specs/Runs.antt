@@ -1,5 +1,5 @@
 -- Runs: characters that are read at once. Each of them tells itself alone, or is put to the open name or value.
-use Rattle.std.specs.Prelude.{◌≡◌, ◌≢◌, ℕ, Bool, not, ◌==◌, ◌&&◌, ◌||◌, nat_lt, List, [], ◌∷◌, ◌++◌, All, Contains, Option, None, Some, codes, flat_map, map, encode_utf8, if◌then◌else◌}
+use Rattle.std.specs.Prelude.{◌≡◌, ◌≢◌, ℕ, Bool, true, false, not, ◌==◌, ◌&&◌, ◌||◌, nat_lt, List, [], ◌∷◌, ◌++◌, All, Contains, Option, None, Some, codes, flat_map, map, encode_utf8, if◌then◌else◌}
 use Rattle.html5ever_interface.specs.Token.{Told}
 use Rattle.html5ever_interface.specs.Token.Told.{Text}
 use Rattle.html5ever_interface.specs.declared.states.AttrValueKind.{AttrValueKind}
@@ -52,6 +52,11 @@ pub record IsRunAt (opened : Open) (run : List ℕ) : Type 0 where
   pub ordinary : All (λ c. ¬ Contains (run_ends others) c) run
 
 -- "Tag name state" and "Attribute name state": whether a byte of a run stands in a name as it is. It is no capital letter and not
+-- "Attribute value (unquoted) state": where errors are exact, odd characters are errors in such a value
+abbrev pub is_unquoted : Open → Bool
+is_unquoted (InTag (InValue Unquoted) tag) = true
+is_unquoted other = false
+
 -- NUL.
 abbrev pub stays_in_names : ℕ → Bool
 stays_in_names byte = not (byte == null) && (nat_lt byte 65 || not (nat_lt byte 91))

@@ -1,5 +1,5 @@
 -- A run of a name or a value tells nothing.
-use Rattle.std.proofs.Common.{◌≡◌, ◌≢◌, ℕ, ◌<◌, zero, suc, true, false, List, [], ◌∷◌, Option, Some, None, refl, sym, ap, ◌∙◌, subst, arith, length, take}
+use Rattle.std.proofs.Common.{inl, ◌≡◌, ◌≢◌, ℕ, ◌<◌, zero, suc, true, false, List, [], ◌∷◌, Option, Some, None, refl, sym, ap, ◌∙◌, subst, arith, length, take}
 use Rattle.std.specs.Prelude.{All, Contains, is_some, IfSome, ◌↔◌}
 use Rattle.std.specs.Str.{IsUtf8, chars}
 use Rattle.std.proofs.lemmas.Bool.{false≢true}
@@ -75,7 +75,7 @@ reads-ordinary opened others (c ∷ run) has within all =
       (
         record {
           decided = run-decided opened others has;
-          steps = step-run opened others c has out ∙ ap (λ (told : List Told). Tells told next) (run_tokens-open opened (c ∷ []) within);
+          steps = step-run false opened others c (inl refl) has out ∙ ap (λ (told : List Told). Tells told next) (run_tokens-open opened (c ∷ []) within);
           no_line_feed = no_line_feed opened others c within has out;
           no_carriage_return = no_carriage_return others c out;
         },
