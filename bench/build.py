@@ -61,7 +61,7 @@ def lay_out(folder):
     (folder / ".cargo").mkdir()
     for name in ["lib.rs", "main.rs"]:
         shutil.copy(SOURCES / name, folder / "src" / name)
-    for name in ["pages.rs", "count.rs"]:
+    for name in ["pages.rs", "clean.rs", "count.rs"]:
         shutil.copy(SOURCES / name, folder / "src" / "bin" / name)
     (folder / "Cargo.toml").write_text(MANIFEST)
     (folder / ".cargo" / "config.toml").write_text(CONFIG)
