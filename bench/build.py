@@ -59,8 +59,9 @@ def lay_out(folder):
     """The files of a crate that has the sources of beside/ as its programs."""
     (folder / "src" / "bin").mkdir(parents=True)
     (folder / ".cargo").mkdir()
-    shutil.copy(SOURCES / "main.rs", folder / "src" / "main.rs")
-    for name in ["pages.rs", "count.rs"]:
+    for name in ["lib.rs", "main.rs"]:
+        shutil.copy(SOURCES / name, folder / "src" / name)
+    for name in ["pages.rs", "clean.rs", "count.rs"]:
         shutil.copy(SOURCES / name, folder / "src" / "bin" / name)
     (folder / "Cargo.toml").write_text(MANIFEST)
     (folder / ".cargo" / "config.toml").write_text(CONFIG)

@@ -1,5 +1,5 @@
 #!/usr/bin/env python3
-"""Times html5links and html5text beside a program of the same work over html5ever, and prints a table.
+"""Times html5links, html5text and html5clean beside programs of the same work over html5ever, and prints a table.
 
     python3 bench/programs.py [--quick] [--real]
 
@@ -20,7 +20,8 @@ import corpora
 import measure
 
 CRATES = pathlib.Path(__file__).resolve().parent.parent / "crates"
-PROGRAMS = {"html5links": "links", "html5text": "text"}
+# What does the same work over html5ever: a program of beside/ and its words.
+PROGRAMS = {"html5links": ["pages", "links"], "html5text": ["pages", "text"], "html5clean": ["clean"]}
 
 
 def peak_memory(program, corpus):
@@ -52,11 +53,12 @@ def difference(name, turns):
 
 
 def print_program(name, corpus, beside, runs):
-    """Prints the row of a program and a corpus."""
+    """Prints the row of a program and a corpus; `beside` is where the programs over html5ever are."""
     program = CRATES / name / "out" / name
     turns = [(program, [], corpus)]
     if beside:
-        turns.append((beside, [PROGRAMS[name]], corpus))
+        other, *words = PROGRAMS[name]
+        turns.append((beside / other, words, corpus))
     size = corpus.stat().st_size / corpora.MB
     ours, *theirs = measure.best_times(turns, runs)
     peak = peak_memory(program, corpus) / corpora.MB
@@ -67,7 +69,7 @@ def print_program(name, corpus, beside, runs):
 
 
 def built_beside(folder):
-    """The program over html5ever, or none where it can't be built."""
+    """Where the programs over html5ever are, or none where they can't be built."""
     folder.mkdir()
     try:
         programs, words = build.build(folder)
@@ -75,7 +77,7 @@ def built_beside(folder):
         print(f"html5ever is left out: {error}", file=sys.stderr)
         return None
     print(f"Beside {words}.\n")
-    return programs / "pages"
+    return programs
 
 
 def texts(chosen):

@@ -4,8 +4,8 @@
 //!
 //! It reads its input whole, keeps what it prints in memory and writes it once, as html5tok does.
 
+use beside::reply;
 use html5ever::tendril::{fmt::UTF8, ByteTendril, ReadExt, StrTendril};
-use html5ever::tokenizer::states::RawKind;
 use html5ever::tokenizer::{
     states, BufferQueue, Doctype, Tag, TagKind, Token, TokenSink, TokenSinkResult, Tokenizer,
     TokenizerOpts, TokenizerResult,
@@ -158,19 +158,11 @@ impl Page {
 
     /// Replies to a tag that was printed, and prints its pause.
     fn reply(&mut self, tag: &Tag) -> TokenSinkResult<()> {
-        match (tag.kind, &*tag.name) {
-            (TagKind::StartTag, "plaintext") => TokenSinkResult::Plaintext,
-            (TagKind::StartTag, "title" | "textarea") => TokenSinkResult::RawData(RawKind::Rcdata),
-            (TagKind::StartTag, "style" | "xmp" | "iframe" | "noembed" | "noframes") => {
-                TokenSinkResult::RawData(RawKind::Rawtext)
-            }
-            (TagKind::StartTag, "script") => TokenSinkResult::RawData(RawKind::ScriptData),
-            (TagKind::EndTag, "script") => {
-                self.push("pause script\n");
-                TokenSinkResult::Script(())
-            }
-            _ => TokenSinkResult::Continue,
+        if tag.kind == TagKind::EndTag && &*tag.name == "script" {
+            self.push("pause script\n");
+            return TokenSinkResult::Script(());
         }
+        reply(tag)
     }
 }
 

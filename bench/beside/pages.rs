@@ -4,16 +4,10 @@
 //!
 //! It reads its input as it arrives and hands on what it prints in pieces, as those programs do.
 
-use html5ever::tendril::StrTendril;
-use html5ever::tokenizer::states::RawKind;
-use html5ever::tokenizer::{
-    BufferQueue, Tag, TagKind, Token, TokenSink, TokenSinkResult, Tokenizer, TokenizerOpts,
-    TokenizerResult,
-};
-use std::io::{self, BufWriter, Read, Stdout, Write};
+use beside::{read_input, reply, PIECE};
+use html5ever::tokenizer::{Tag, TagKind, Token, TokenSink, TokenSinkResult};
+use std::io::{self, BufWriter, Stdout, Write};
 use std::process::ExitCode;
-
-const PIECE: usize = 1 << 16;
 
 /// What is taken from a page.
 enum Taking {
@@ -65,7 +59,9 @@ impl Page {
         let starts = tag.kind == TagKind::StartTag;
         self.within = starts && matches!(&*tag.name, "script" | "style");
         match link_of(tag) {
-            Some(link) if starts && matches!(self.taking, Taking::Links) => self.print_link(link, line),
+            Some(link) if starts && matches!(self.taking, Taking::Links) => {
+                self.print_link(link, line)
+            }
             _ => Ok(()),
         }
     }
@@ -75,19 +71,6 @@ impl Page {
             return Ok(());
         }
         self.output.write_all(text.as_bytes())
-    }
-}
-
-/// What the standard's elements ask for.
-fn reply(tag: &Tag) -> TokenSinkResult<()> {
-    match (tag.kind, &*tag.name) {
-        (TagKind::StartTag, "plaintext") => TokenSinkResult::Plaintext,
-        (TagKind::StartTag, "title" | "textarea") => TokenSinkResult::RawData(RawKind::Rcdata),
-        (TagKind::StartTag, "style" | "xmp" | "iframe" | "noembed" | "noframes") => {
-            TokenSinkResult::RawData(RawKind::Rawtext)
-        }
-        (TagKind::StartTag, "script") => TokenSinkResult::RawData(RawKind::ScriptData),
-        _ => TokenSinkResult::Continue,
     }
 }
 
@@ -108,45 +91,10 @@ impl TokenSink for Page {
     }
 }
 
-/// How many bytes at the front are whole characters, or none where they are no UTF-8.
-fn decoded_len(bytes: &[u8]) -> Option<usize> {
-    match std::str::from_utf8(bytes) {
-        Ok(_) => Some(bytes.len()),
-        Err(error) if error.error_len().is_none() => Some(error.valid_up_to()),
-        Err(_) => None,
-    }
-}
-
-/// Feeds what standard input brings; answers whether it was text.
-fn feed_input(tokenizer: &mut Tokenizer<Page>) -> io::Result<bool> {
-    let mut input = io::stdin().lock();
-    let mut queue = BufferQueue::new();
-    let mut buffer = vec![0; PIECE];
-    let mut held = 0;
-    loop {
-        let count = input.read(&mut buffer[held..])?;
-        let filled = held + count;
-        let Some(decoded) = decoded_len(&buffer[..filled]) else {
-            return Ok(false);
-        };
-        if count == 0 {
-            return Ok(decoded == filled);
-        }
-        let text = std::str::from_utf8(&buffer[..decoded]).unwrap_or_default();
-        queue.push_back(StrTendril::from_slice(text));
-        while let TokenizerResult::Script(()) = tokenizer.feed(&mut queue) {}
-        buffer.copy_within(decoded..filled, 0);
-        held = filled - decoded;
-    }
-}
-
 fn run(taking: Taking) -> io::Result<bool> {
-    let mut tokenizer = Tokenizer::new(Page::new(taking), TokenizerOpts::default());
-    if !feed_input(&mut tokenizer)? {
+    let Some(mut page) = read_input(Page::new(taking))? else {
         return Ok(false);
-    }
-    tokenizer.end();
-    let page = &mut tokenizer.sink;
+    };
     page.output.flush()?;
     Ok(!page.failed)
 }
