@@ -123,6 +123,7 @@ fn has_plain_end(bytes: &[u8], from: usize) -> bool
 }
 
 // The place of the first byte from this one on that needs an escape, or the end.
+#[inline(always)]
 fn run_end(bytes: &[u8], from: usize) -> usize
     requires { from ≤ length bytes.now }
     ensures low { from ≤ result }
@@ -181,14 +182,15 @@ fn push_quoted_runs<A: Allocator>(page: &mut Vec<u8, A>, text: &[u8]) -> Result<
     ensures err { OnErr result (BeginsWith page.new.items page.old.items) }
 {
     let mut start = 0;
-    let mut end = run_end(text, 0);
-    while end < text.len() {
+    loop {
+        let end = run_end(text, start);
         page.extend_from_slice(&text[start..end])?;
+        if end == text.len() {
+            return Ok(());
+        }
         push_escape(page, text[end])?;
         start = end + 1;
-        end = run_end(text, start);
     }
-    page.extend_from_slice(&text[start..])
 }
 
 // Appends what stands for a short text in quotes, byte after byte.
