@@ -1,6 +1,6 @@
 //! The parts of printed lines: texts in quotes, marks, attributes, pause lines.
 ghost use Rattle.std.specs.Prelude.{◌≡◌, ◌+◌, ◌<◌, ◌≤◌, ◌++◌, true, false, length, slice_index, map, option_map, string_bytes, OnOk, OnErr, codes};
-ghost use Rattle.std.specs.Fmt.{digits, digit_glyph};
+ghost use Rattle.std.specs.Fmt.{digit_glyph};
 ghost use Rattle.token_printer.specs.Page.{BeginsWith};
 ghost use Rattle.token_printer.specs.Printed.{needs_escape, IsPlainWithin, escape, quoted_byte, quoted_bytes, quoted, mark_where, open_attribute, open_attributes, printed_option, tag_marks, pause_line};
 ghost use Rattle.html5ever_interface.specs.Token.{tag_of, reply_of};
@@ -21,21 +21,6 @@ fn hex_digit(value: u8) -> u8
     } else {
         b'a' + (value - 10)
     }
-}
-
-// Appends a byte in hexadecimal, without leading zeros.
-#[tactic(auto, using(std::proofs::lemmas::Fmt::hex_one_digit))]
-fn push_hex<A: Allocator>(page: &mut Vec<u8, A>, byte: u8) -> Result<(), AllocError>
-    ensures ok { OnOk result (page.new.items ≡ page.old.items ++ digits 16 false byte) }
-    ensures err { OnErr result (BeginsWith page.new.items page.old.items) }
-{
-    if byte < 16 {
-        page.push(hex_digit(byte))?;
-        return Ok(());
-    }
-    page.push(hex_digit(byte / 16))?;
-    page.push(hex_digit(byte % 16))?;
-    Ok(())
 }
 
 // How many bytes are looked at in one step, where a run is long, and at its end.
@@ -144,7 +129,7 @@ fn run_end(bytes: &[u8], from: usize) -> usize
 }
 
 // Appends what stands in quotes for a byte that may not stand there as it is.
-#[tactic(auto, using(std::proofs::lemmas::Fmt::hex_one_digit), unfolding(crate::specs::Printed::escape))]
+#[tactic(auto, using(std::proofs::lemmas::Fmt::hex_one_digit, std::proofs::lemmas::Fmt::hex_two_digits), unfolding(crate::specs::Printed::escape))]
 fn push_escape<A: Allocator>(page: &mut Vec<u8, A>, byte: u8) -> Result<(), AllocError>
     ensures ok { OnOk result (page.new.items ≡ page.old.items ++ escape byte) }
     ensures err { OnErr result (BeginsWith page.new.items page.old.items) }
@@ -153,11 +138,10 @@ fn push_escape<A: Allocator>(page: &mut Vec<u8, A>, byte: u8) -> Result<(), Allo
         b'\\' => page.extend_from_slice(b"\\\\"),
         b'"' => page.extend_from_slice(b"\\\""),
         b'\n' => page.extend_from_slice(b"\\n"),
-        _ if byte < 16 => { page.extend_from_slice(&[b'\\', b'u', b'{', hex_digit(byte), b'}']) }
+        _ if byte < 16 => page.extend_from_slice(&[b'\\', b'u', b'{', hex_digit(byte), b'}']),
         _ => {
-            page.extend_from_slice(b"\\u{")?;
-            push_hex(page, byte)?;
-            page.extend_from_slice(b"}")
+            let (high, low) = (hex_digit(byte / 16), hex_digit(byte % 16));
+            page.extend_from_slice(&[b'\\', b'u', b'{', high, low, b'}'])
         }
     }
 }
