@@ -3,10 +3,8 @@ use Rattle.std.proofs.Common.{◌≡◌, ℕ, zero, suc, Bool, ◌||◌, ◌+◌
 use Rattle.std.specs.List.{slice_index}
 use Rattle.std.proofs.lemmas.Bool.{cases_eq, cases_lt}
 use Rattle.std.proofs.lemmas.List.{append-nil, append_assoc, take_more, drop-append-le, drop-take, length-take-le, drop_all}
-use Rattle.token_printer.specs.Page.{BeginsWith}
 use Rattle.token_printer.specs.PageLaws.{quoted_bytes-append}
 use Rattle.token_printer.specs.Printed.{needs_escape, IsPlainWithin, escape, quoted_byte, quoted_bytes}
-use Rattle.token_printer.proofs.Beginnings.{BeginsWith-equal, BeginsWith-append, BeginsWith-trans, BeginsWith-less}
 
 quoted_bytes-more : (text : List ℕ) (i : ℕ) → i < length text
     → quoted_bytes (take (i + 1) text) ≡ quoted_bytes (take i text) ++ quoted_byte (get_or text i 0)
@@ -29,9 +27,12 @@ pub quoted_bytes-none : (old : List ℕ) → old ≡ old ++ quoted_bytes []
 unfolding quoted_bytes
 quoted_bytes-none old = sym (append-nil old)
 
--- what is not yet printed of the bytes before an index
-abbrev pub run : List ℕ → ℕ → ℕ → List ℕ
+-- the bytes from one place up to another
+abbrev run : List ℕ → ℕ → ℕ → List ℕ
 run text start end = drop start (take end text)
+
+run-none : (text : List ℕ) (start : ℕ) → start ≤ length text → run text start start ≡ []
+run-none text start high = drop_all start (take start text) (omega (arith, length-take-le start text high))
 
 run-more : (text : List ℕ) (start end : ℕ) → start ≤ end → end < length text
     → run text start (end + 1) ≡ run text start end ++ get_or text end 0 ∷ []
@@ -44,74 +45,54 @@ run-slice text start end low =
     let ends : start + (end - start) ≡ end = omega arith in
     sym (drop-take start (end - start) text) ∙ ap (λ e. drop start (take e text)) ends
 
-run-self : (text : List ℕ) (end : ℕ) → end < length text → run text (end + 1) (end + 1) ≡ []
-run-self text end high = drop_all (end + 1) (take (end + 1) text) (omega (arith, length-take-le (end + 1) text (omega arith)))
-
--- a page that was `old`, and has the bytes of the text before `end` but for the run that begins at `start`
-pub record HasQuoted (old page text : List ℕ) (start end : ℕ) : Type 0 where
-  pub in_range : start ≤ end
-  pub begins : BeginsWith page old
-  pub printed : page ++ run text start end ≡ old ++ quoted_bytes (take end text)
-
-pub HasQuoted-none : (old text : List ℕ) → HasQuoted old old text 0 0
-unfolding quoted_bytes
-HasQuoted-none old text = record { in_range = omega arith; begins = BeginsWith-equal old old refl; printed = refl }
-
--- a byte that stands as it is stays in the run
-pub HasQuoted-plain : (old page text : List ℕ) (start end : ℕ) → HasQuoted old page text start end → end < length text
-    → needs_escape (get_or text end 0) ≡ false → HasQuoted old page text start (end + 1)
+quoted_byte-plain : (byte : ℕ) → needs_escape byte ≡ false → quoted_byte byte ≡ byte ∷ []
 unfolding quoted_byte
-HasQuoted-plain old page text start end before high plain = record {
-  in_range = omega arith;
-  begins = before.begins;
-  printed = rw (run-more text start end before.in_range high, quoted_bytes-more text end high, plain)
-      (sym (append_assoc page (run text start end) (get_or text end 0 ∷ []))
-      ∙ ap (λ l. l ++ get_or text end 0 ∷ []) before.printed
-      ∙ append_assoc old (quoted_bytes (take end text)) (get_or text end 0 ∷ []));
-}
+quoted_byte-plain byte plain = rw plain refl
 
--- the page begins as it was, also where more is printed
-pub HasQuoted-begins : (old page text ran more : List ℕ) (start end : ℕ) → HasQuoted old page text start end
-    → ran ≡ page ++ take (end - start) (drop start text) → BeginsWith more ran → BeginsWith more old
-HasQuoted-begins old page text ran more start end before run_printed begins =
-    BeginsWith-trans more page old (BeginsWith-less more ran page (take (end - start) (drop start text)) run_printed begins) before.begins
-
--- another byte ends the run
-pub HasQuoted-escape : (old page text ran next : List ℕ) (start end : ℕ) → HasQuoted old page text start end → end < length text
-    → needs_escape (get_or text end 0) ≡ true → ran ≡ page ++ take (end - start) (drop start text)
-    → next ≡ ran ++ escape (get_or text end 0) → HasQuoted old next text (end + 1) (end + 1)
+quoted_byte-escape : (byte : ℕ) → needs_escape byte ≡ true → escape byte ≡ quoted_byte byte
 unfolding quoted_byte
-HasQuoted-escape old page text ran next start end before high special run_printed escape_printed =
-    let printed_before : ran ≡ old ++ quoted_bytes (take end text) =
-    run_printed ∙ ap (λ l. page ++ l) (run-slice text start end before.in_range) ∙ before.printed in
-    let escaped : escape (get_or text end 0) ≡ quoted_byte (get_or text end 0) = rw special refl in
-    record {
-      in_range = omega arith;
-      begins = HasQuoted-begins old page text ran next start end before run_printed
-          (BeginsWith-append next ran (escape (get_or text end 0)) escape_printed);
-      printed = ap (λ l. next ++ l) (run-self text end high)
-          ∙ append-nil next
-          ∙ escape_printed
-          ∙ ap (λ l. l ++ escape (get_or text end 0)) printed_before
-          ∙ append_assoc old (quoted_bytes (take end text)) (escape (get_or text end 0))
-          ∙ ap (λ l. old ++ l) (ap (λ l. quoted_bytes (take end text) ++ l) escaped ∙ sym (quoted_bytes-more text end high));
-    }
+quoted_byte-escape byte special = rw special refl
 
--- bytes that stand as they are stay in the run
-HasQuoted-plain_more : (old page text : List ℕ) (start end count : ℕ) → HasQuoted old page text start end → end + count ≤ length text
-    → IsPlainWithin text end (end + count) → HasQuoted old page text start (end + count)
-HasQuoted-plain_more old page text start end zero before high plain =
-    let same : end + zero ≡ end = omega arith in rw same before
-HasQuoted-plain_more old page text start end (suc count) before high plain =
-    let shorter = HasQuoted-plain_more old page text start end count before (omega (arith, high)) (λ k low less. plain k low (omega (arith, less))) in
-    let same : end + suc count ≡ (end + count) + 1 = omega arith in
-    rw same (HasQuoted-plain old page text start (end + count) shorter (omega (arith, high)) (plain (end + count) (omega arith) (omega arith)))
+-- bytes that stand as they are
+quoted_bytes-plain : (text : List ℕ) (start count : ℕ) → start + count ≤ length text → IsPlainWithin text start (start + count)
+    → quoted_bytes (take (start + count) text) ≡ quoted_bytes (take start text) ++ run text start (start + count)
+quoted_bytes-plain text start zero high plain =
+    let same : start + zero ≡ start = omega arith in
+    rw same
+    (sym (append-nil (quoted_bytes (take start text)))
+    ∙ ap (λ l. quoted_bytes (take start text) ++ l) (sym (run-none text start (omega (arith, high)))))
+quoted_bytes-plain text start (suc count) high plain =
+    let end : ℕ = start + count in
+    let byte : ℕ = get_or text end 0 in
+    let within : end < length text = omega (arith, high) in
+    let same : start + suc count ≡ end + 1 = omega arith in
+    rw same
+    (quoted_bytes-more text end within
+    ∙ ap (λ l. quoted_bytes (take end text) ++ l) (quoted_byte-plain byte (plain end (omega arith) (omega arith)))
+    ∙ ap (λ l. l ++ byte ∷ []) (quoted_bytes-plain text start count (omega (arith, high)) (λ k low less. plain k low (omega (arith, less))))
+    ∙ append_assoc (quoted_bytes (take start text)) (run text start end) (byte ∷ [])
+    ∙ ap (λ l. quoted_bytes (take start text) ++ l) (sym (run-more text start end (omega arith) within)))
 
-pub HasQuoted-run : (old page text : List ℕ) (start end next : ℕ) → HasQuoted old page text start end → end ≤ next → next ≤ length text
-    → IsPlainWithin text end next → HasQuoted old page text start next
-HasQuoted-run old page text start end next before low high plain =
-    let same : end + (next - end) ≡ next = omega (arith, low) in
-    rw same at (HasQuoted-plain_more old page text start end (next - end) before (omega (arith, same, high)) (λ k low less. plain k low (omega (arith, less, same))))
+-- a page that has the bytes before an index, and then a run of those
+pub quoted_bytes-run : (old page next text : List ℕ) (start end : ℕ) → page ≡ old ++ quoted_bytes (take start text)
+    → start ≤ end → end ≤ length text → IsPlainWithin text start end
+    → next ≡ page ++ take (end - start) (drop start text) → next ≡ old ++ quoted_bytes (take end text)
+quoted_bytes-run old page next text start end before low high plain printed =
+    let same : start + (end - start) ≡ end = omega (arith, low) in
+    let whole : quoted_bytes (take end text) ≡ quoted_bytes (take start text) ++ run text start end =
+    rw same at (quoted_bytes-plain text start (end - start) (omega (arith, same, high)) (λ k low less. plain k low (omega (arith, less, same)))) in
+    printed
+    ∙ ap (λ l. page ++ l) (run-slice text start end low)
+    ∙ ap (λ l. l ++ run text start end) before
+    ∙ append_assoc old (quoted_bytes (take start text)) (run text start end)
+    ∙ ap (λ l. old ++ l) (sym whole)
+
+-- and then what stands for another byte
+pub quoted_bytes-escape : (old page next text : List ℕ) (i : ℕ) → page ≡ old ++ quoted_bytes (take i text) → i < length text
+    → needs_escape (get_or text i 0) ≡ true → next ≡ page ++ escape (get_or text i 0) → next ≡ old ++ quoted_bytes (take (i + 1) text)
+quoted_bytes-escape old page next text i before within special printed =
+    quoted_bytes-next old page next text i before within
+    (printed ∙ ap (λ l. page ++ l) (quoted_byte-escape (get_or text i 0) special))
 
 -- ---- bytes looked at one after another
 

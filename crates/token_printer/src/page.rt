@@ -120,7 +120,8 @@ fn push_text_and_end<A: Allocator>(
     text: &[u8],
 ) -> Result<(), AllocError>
     ensures ok { OnOk result
-        (page.new.items ≡ page.old.items ++ (decimal line ++ (codes " \"" ++ quoted_bytes text.now) ++ codes "\"\n")) }
+        (page.new.items ≡ page.old.items
+        ++ (decimal line ++ (codes " \"" ++ quoted_bytes text.now) ++ codes "\"\n")) }
     ensures err { OnErr result (BeginsWith page.new.items page.old.items) }
 {
     push_open_text(page, line, text)?;

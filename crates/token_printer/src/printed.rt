@@ -1,6 +1,6 @@
 //! The parts of printed lines: texts in quotes, marks, attributes, pause lines.
 ghost use Rattle.std.specs.Prelude.{◌≡◌, ◌+◌, ◌<◌, ◌≤◌, ◌++◌, true, false, length, slice_index, map, option_map, string_bytes, OnOk, OnErr, codes};
-ghost use Rattle.std.specs.Fmt.{digits, digit_glyph};
+ghost use Rattle.std.specs.Fmt.{digit_glyph};
 ghost use Rattle.token_printer.specs.Page.{BeginsWith};
 ghost use Rattle.token_printer.specs.Printed.{needs_escape, IsPlainWithin, escape, quoted_byte, quoted_bytes, quoted, mark_where, open_attribute, open_attributes, printed_option, tag_marks, pause_line};
 ghost use Rattle.html5ever_interface.specs.Token.{tag_of, reply_of};
@@ -21,21 +21,6 @@ fn hex_digit(value: u8) -> u8
     } else {
         b'a' + (value - 10)
     }
-}
-
-// Appends a byte in hexadecimal, without leading zeros.
-#[tactic(auto, using(std::proofs::lemmas::Fmt::hex_one_digit))]
-fn push_hex<A: Allocator>(page: &mut Vec<u8, A>, byte: u8) -> Result<(), AllocError>
-    ensures ok { OnOk result (page.new.items ≡ page.old.items ++ digits 16 false byte) }
-    ensures err { OnErr result (BeginsWith page.new.items page.old.items) }
-{
-    if byte < 16 {
-        page.push(hex_digit(byte))?;
-        return Ok(());
-    }
-    page.push(hex_digit(byte / 16))?;
-    page.push(hex_digit(byte % 16))?;
-    Ok(())
 }
 
 // How many bytes are looked at in one step, where a run is long, and at its end.
@@ -123,6 +108,7 @@ fn has_plain_end(bytes: &[u8], from: usize) -> bool
 }
 
 // The place of the first byte from this one on that needs an escape, or the end.
+#[inline(always)]
 fn run_end(bytes: &[u8], from: usize) -> usize
     requires { from ≤ length bytes.now }
     ensures low { from ≤ result }
@@ -143,7 +129,7 @@ fn run_end(bytes: &[u8], from: usize) -> usize
 }
 
 // Appends what stands in quotes for a byte that may not stand there as it is.
-#[tactic(auto, using(std::proofs::lemmas::Fmt::hex_one_digit), unfolding(crate::specs::Printed::escape))]
+#[tactic(auto, using(std::proofs::lemmas::Fmt::hex_one_digit, std::proofs::lemmas::Fmt::hex_two_digits), unfolding(crate::specs::Printed::escape))]
 fn push_escape<A: Allocator>(page: &mut Vec<u8, A>, byte: u8) -> Result<(), AllocError>
     ensures ok { OnOk result (page.new.items ≡ page.old.items ++ escape byte) }
     ensures err { OnErr result (BeginsWith page.new.items page.old.items) }
@@ -152,11 +138,10 @@ fn push_escape<A: Allocator>(page: &mut Vec<u8, A>, byte: u8) -> Result<(), Allo
         b'\\' => page.extend_from_slice(b"\\\\"),
         b'"' => page.extend_from_slice(b"\\\""),
         b'\n' => page.extend_from_slice(b"\\n"),
-        _ if byte < 16 => { page.extend_from_slice(&[b'\\', b'u', b'{', hex_digit(byte), b'}']) }
+        _ if byte < 16 => page.extend_from_slice(&[b'\\', b'u', b'{', hex_digit(byte), b'}']),
         _ => {
-            page.extend_from_slice(b"\\u{")?;
-            push_hex(page, byte)?;
-            page.extend_from_slice(b"}")
+            let (high, low) = (hex_digit(byte / 16), hex_digit(byte % 16));
+            page.extend_from_slice(&[b'\\', b'u', b'{', high, low, b'}'])
         }
     }
 }
@@ -181,14 +166,15 @@ fn push_quoted_runs<A: Allocator>(page: &mut Vec<u8, A>, text: &[u8]) -> Result<
     ensures err { OnErr result (BeginsWith page.new.items page.old.items) }
 {
     let mut start = 0;
-    let mut end = run_end(text, 0);
-    while end < text.len() {
+    loop {
+        let end = run_end(text, start);
         page.extend_from_slice(&text[start..end])?;
+        if end == text.len() {
+            return Ok(());
+        }
         push_escape(page, text[end])?;
         start = end + 1;
-        end = run_end(text, start);
     }
-    page.extend_from_slice(&text[start..])
 }
 
 // Appends what stands for a short text in quotes, byte after byte.

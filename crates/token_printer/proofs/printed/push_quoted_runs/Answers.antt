@@ -1,29 +1,38 @@
-use Rattle.std.proofs.Common.{◌+◌, arith}
+use Rattle.std.proofs.Common.{◌++◌, ap, ◌∙◌, arith}
+use Rattle.std.proofs.lemmas.List.{take_all}
 use Rattle.std.proofs.lemmas.Result.{err_from_is_err_and}
-use Rattle.token_printer.proofs.Quotes.{HasQuoted-none, HasQuoted-run, HasQuoted-begins, HasQuoted-escape}
+use Rattle.token_printer.specs.Printed.{quoted_bytes}
+use Rattle.token_printer.proofs.Beginnings.{BeginsWith-append, BeginsWith-less}
+use Rattle.token_printer.proofs.Quotes.{quoted_bytes-none, quoted_bytes-run, quoted_bytes-escape}
 use Rattle.token_printer.proofs.printed.push_quoted_runs.Goals as goal
+
+pub loop-page-init : goal.loop-page-init
+loop-page-init g c = (omega arith, quoted_bytes-none c.args.page.now.items)
+
+pub returns-in_err-extend_from_slice-clause-err : goal.returns-in_err-extend_from_slice-clause-err
+returns-in_err-extend_from_slice-clause-err g c =
+    let failed = err_from_is_err_and c.from_residual.result c.from_residual.ensures.1 in
+    rw failed.1 (BeginsWith-append _ _ _ (c.in_err-extend_from_slice.ensures.items ∙ c.loop-page.invariant.1))
+
+pub returns-then-end-text-clause-ok : goal.returns-then-end-text-clause-ok
+returns-then-end-text-clause-ok g c =
+    let text = c.args.text.now in
+    let end = c.run_end-end.result in
+    quoted_bytes-run c.args.page.now.items _ _ text c.loop-page.start end c.loop-page.invariant.1
+    c.run_end-end.ensures.low c.run_end-end.ensures.high c.run_end-end.ensures.plain c.in_ok-extend_from_slice.ensures.items
+    ∙ ap (λ l. c.args.page.now.items ++ quoted_bytes l) (take_all end text (omega arith))
 
 pub returns-in_err-push_escape-clause-err : goal.returns-in_err-push_escape-clause-err
 returns-in_err-push_escape-clause-err g c =
     let failed = err_from_is_err_and c.from_residual-in_err-push_escape.result c.from_residual-in_err-push_escape.ensures.1 in
-    rw failed.1
-    (HasQuoted-begins _ _ _ _ _ _ _ c.loop-end.invariant.2 c.in_ok-extend_from_slice.ensures.items c.in_err-push_escape.ensures.err)
+    let ran = quoted_bytes-run c.args.page.now.items _ _ c.args.text.now c.loop-page.start c.run_end-end.result c.loop-page.invariant.1
+    c.run_end-end.ensures.low c.run_end-end.ensures.high c.run_end-end.ensures.plain c.in_ok-extend_from_slice.ensures.items in
+    rw failed.1 (BeginsWith-less _ _ _ _ ran c.in_err-push_escape.ensures.err)
 
-pub loop-end-init : goal.loop-end-init
-loop-end-init g c =
-    let text = c.args.text.now in (
-      c.run_end-end.ensures.high,
-      c.run_end-end.ensures.stops,
-      HasQuoted-run _ _ text 0 0 _ (HasQuoted-none c.args.page.now.items text) c.run_end-end.ensures.low c.run_end-end.ensures.high c.run_end-end.ensures.plain,
-    )
-
-pub loop-end-preserved : goal.loop-end-preserved
-loop-end-preserved g c =
+pub loop-page-preserved : goal.loop-page-preserved
+loop-page-preserved g c =
     let text = c.args.text.now in
-    let start = c.loop-end.end + 1 in
-    let escaped = HasQuoted-escape _ _ _ _ _ _ _ c.loop-end.invariant.2 (omega arith) (c.loop-end.invariant.1 (omega arith))
-    c.in_ok-extend_from_slice.ensures.items c.in_ok-push_escape.ensures.ok in (
-      c.run_end-end-in-loop-end.ensures.high,
-      c.run_end-end-in-loop-end.ensures.stops,
-      HasQuoted-run _ _ text start start _ escaped c.run_end-end-in-loop-end.ensures.low c.run_end-end-in-loop-end.ensures.high c.run_end-end-in-loop-end.ensures.plain,
-    )
+    let end = c.run_end-end.result in
+    let ran = quoted_bytes-run c.args.page.now.items _ _ text c.loop-page.start end c.loop-page.invariant.1
+    c.run_end-end.ensures.low c.run_end-end.ensures.high c.run_end-end.ensures.plain c.in_ok-extend_from_slice.ensures.items in
+    (omega arith, quoted_bytes-escape c.args.page.now.items _ _ text end ran (omega arith) (c.run_end-end.ensures.stops (omega arith)) c.in_ok-push_escape.ensures.ok)

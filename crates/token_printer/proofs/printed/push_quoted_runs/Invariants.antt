@@ -1,13 +1,9 @@
-use Rattle.std.proofs.Common.{◌≡◌, ◌-◌, ◌<◌, ◌≤◌, true, length, slice_index}
-use Rattle.token_printer.specs.Printed.{needs_escape}
-use Rattle.token_printer.proofs.Quotes.{HasQuoted}
+use Rattle.std.proofs.Common.{◌≡◌, ◌-◌, ◌≤◌, ◌++◌, length, take}
+use Rattle.token_printer.specs.Printed.{quoted_bytes}
 use Rattle.token_printer.proofs.printed.push_quoted_runs.Given as goal
 
-abbrev pub invariant-loop-end : goal.invariant-loop-end
-invariant-loop-end g l =
-    (l.end ≤ length l.text)
-    × (l.end < length l.text → needs_escape (slice_index l.text l.end) ≡ true)
-    × HasQuoted l.fn.page.items l.page.items l.text l.start l.end
+abbrev pub invariant-loop-page : goal.invariant-loop-page
+invariant-loop-page g l = (l.start ≤ length l.text) × (l.page.items ≡ l.fn.page.items ++ quoted_bytes (take l.start l.text))
 
-abbrev pub decreases-loop-end : goal.decreases-loop-end
-decreases-loop-end g l = length l.text - l.end
+abbrev pub decreases-loop-page : goal.decreases-loop-page
+decreases-loop-page g l = length l.text - l.start
