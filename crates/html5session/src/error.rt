@@ -16,7 +16,7 @@ pub enum SessionError {
     /// The end is told while text waits after a pause.
     #[error("text waits to be fed")]
     Waiting,
-    /// The end was told, or an earlier call failed.
+    /// The end was told, or an earlier call failed, or the count of taken bytes was lost.
     #[error("the session is over")]
     Over,
 }
