@@ -11,7 +11,7 @@ use Rattle.html5events.specs.declared.event_sink.Replies.{Replies}
 use Rattle.html5ever.specs.Tokenizer.{StandsAt, rules_of}
 use Rattle.html5grammar.specs.Start.{start_of}
 use Rattle.html5names.specs.Standard.{standard_list}
-use Rattle.html5session.specs.Session.{SessionOf, tokenizer_of, is_over, after_session_takes, FeedsPiece, LosesPiece, RefusesBytes, EndsSession, LosesEnd}
+use Rattle.html5session.specs.Session.{SessionOf, tokenizer_of, is_over, after_session_takes, StaysOver, FeedsPiece, LosesPiece, RefusesBytes, MiscountsPiece, EndsSession, LosesEnd, MiscountsEnd}
 use Rattle.html5session.specs.declared.error.SessionError.{SessionError}
 use Rattle.html5session.specs.declared.error.SessionError.TheVariants.{Memory, NotUtf8, Cut, Waiting, Over}
 use Rattle.html5session.specs.declared.fed.Fed.{Fed}
@@ -87,7 +87,7 @@ pub record FeedSays (old new : SessionOf) (bytes : List ℕ) (status : ℕ) : Ty
   pub encoding : status ≡ 2 → FeedsPiece old new bytes Encoding
   pub no_memory : status ≡ 3 → (new ≡ old) ⊎ LosesPiece old new bytes
   pub not_utf8 : status ≡ 4 → (place : ℕ) × RefusesBytes old new bytes place
-  pub over : status ≡ 7 → is_over new ≡ true
+  pub over : status ≡ 7 → StaysOver old new ⊎ MiscountsPiece old new bytes
   -- where nothing more is read, nothing changes
   pub unchanged : is_over old ≡ true → (status ≡ 7) × (new ≡ old)
   pub only : status ≢ 5 × status ≢ 6 × status ≢ 8 × status ≢ 9
@@ -104,7 +104,7 @@ pub record EndSays (old new : SessionOf) (status : ℕ) : Type 0 where
   pub no_memory : status ≡ 3 → LosesEnd old new
   pub cut : status ≡ 5 → (new ≡ old) × (old.decoder.held ≢ [])
   pub waiting : status ≡ 6 → (new ≡ old) × (old.text ≢ [])
-  pub over : status ≡ 7 → is_over new ≡ true
+  pub over : status ≡ 7 → StaysOver old new ⊎ MiscountsEnd old new
   -- where nothing more is read, nothing changes
   pub unchanged : is_over old ≡ true → (status ≡ 7) × (new ≡ old)
   pub only : (status ≡ 0) ⊎ (status ≡ 3) ⊎ (status ≡ 5) ⊎ (status ≡ 6) ⊎ (status ≡ 7)

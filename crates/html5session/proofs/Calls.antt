@@ -11,7 +11,7 @@ use Rattle.html5opened.specs.declared.error.TokenizerError.{TokenizerError}
 use Rattle.html5events.specs.Events.{Events, Recorded, recorded_means}
 use Rattle.html5ever.specs.Resting.{RestingOf, tokenizing}
 use Rattle.html5ever.specs.Tokenizer.{Tokenizing, Feeds, StopsFeeding, Finishes, StopsEnding}
-use Rattle.html5session.specs.Session.{SessionOf, tokenizer_of, recorded_by, is_over, KeepsTaken, Completes, TakesPiece, RefusesBytes, FeedsText, fed_by, StopsText, FeedsPiece, LosesPiece, FeedRefused, TextRefused, EndsText, TextEndRefused, EndRefused}
+use Rattle.html5session.specs.Session.{SessionOf, tokenizer_of, recorded_by, is_over, taken_count, KeepsTaken, LosesCount, Completes, TakesPiece, RefusesBytes, FeedsText, fed_by, StopsText, MiscountsText, FeedsPiece, LosesPiece, FeedRefused, TextRefused, EndsText, StopsTextEnd, MiscountsTextEnd, TextEndRefused, EndRefused}
 use Rattle.html5session.specs.declared.error.SessionError.{SessionError}
 use Rattle.html5session.specs.declared.error.SessionError.TheVariants.{Memory, NotUtf8, Cut, Waiting, Over}
 use Rattle.html5session.specs.declared.fed.Fed.{Fed}
@@ -45,6 +45,20 @@ keeps_taken old was new is count begins ends before after below written =
     let keeps : KeepsTaken was is = record { count = omega arith; written = written } in
     subst (λ (w : Events). KeepsTaken w new) begins (subst (λ (w : Events). KeepsTaken was w) ends keeps)
 
+-- a count that is another, or was at its limit
+pub loses_count : (old was new is : Events) (count : ℕ) → was ≡ old → is ≡ new → count ≡ taken_count was
+    → (taken_count is ≢ count) ⊎ (count ≡ 2 ^ 64 - 1) → LosesCount old new
+loses_count old was new is count begins ends before lost =
+    let loses : LosesCount was is = subst (λ (n : ℕ). (taken_count is ≢ n) ⊎ (n ≡ 2 ^ 64 - 1)) before lost in
+    subst (λ (w : Events). LosesCount w new) begins (subst (λ (w : Events). LosesCount was w) ends loses)
+
+-- what was fed between `resume` and `rest`
+feeds_between : (s t u v : Tokenizing Events) (text left : List ℕ) (reply : Reply (Unit {0})) → t ≡ s → v ≡ u
+    → Feeds recorded_means t u text left reply → Feeds recorded_means s v text left reply
+feeds_between s t u v text left reply begins ends feeds =
+    subst (λ (w : Tokenizing Events). Feeds recorded_means w v text left reply) begins
+    (subst (λ (w : Tokenizing Events). Feeds recorded_means t w text left reply) (sym ends) feeds)
+
 -- a feed of the tokenizer is a feed of the session
 pub feeds_text : (r out : RestingOf Events) (names : List NamedReference) (t u : Tokenizing Events) (text left : List ℕ) (fed : Fed) (reply : Reply (Unit {0}))
     → t ≡ tokenizing r names → u.rules ≡ t.rules → tokenizing out u.rules.names ≡ u
@@ -55,8 +69,7 @@ feeds_text r out names t u text left fed reply begins rules rested feeds pause a
     let ends = rests r out names t u begins rules rested in
     record {
       reply = reply;
-      feeds = subst (λ (w : Tokenizing Events). Feeds recorded_means w (tokenizing out names) text left reply) begins
-          (subst (λ (w : Tokenizing Events). Feeds recorded_means t w text left reply) (sym ends) feeds);
+      feeds = feeds_between (tokenizing r names) t u (tokenizing out names) text left reply begins ends feeds;
       pause = pause;
       all = all;
       shorter = shorter;
@@ -66,6 +79,16 @@ feeds_text r out names t u text left fed reply begins rules rested feeds pause a
       going_on = ap (λ (w : Tokenizing Events). w.ended) ends ∙ going_on;
     }
 
+pub miscounts_text : (r out : RestingOf Events) (names : List NamedReference) (t u : Tokenizing Events) (text left : List ℕ) (reply : Reply (Unit {0}))
+    → t ≡ tokenizing r names → u.rules ≡ t.rules → tokenizing out u.rules.names ≡ u
+    → Feeds recorded_means t u text left reply → LosesCount r.sink out.sink
+    → MiscountsText (tokenizing r names) (tokenizing out names) text left
+miscounts_text r out names t u text left reply begins rules rested feeds count = record {
+  reply = reply;
+  feeds = feeds_between (tokenizing r names) t u (tokenizing out names) text left reply begins (rests r out names t u begins rules rested) feeds;
+  count = count;
+}
+
 pub stops_text : (t s : Tokenizing Events) (text left : List ℕ) (error : TokenizerError) (v told : Recorded) → t ≡ s → v ≡ told
     → StopsFeeding recorded_means error t text left v → StopsText s text left told
 stops_text t s text left error v told begins same stops = (
@@ -74,15 +97,21 @@ stops_text t s text left error v told begins same stops = (
       (subst (λ (w : Recorded). StopsFeeding recorded_means error t text left w) same stops),
 )
 
+-- what was told between `resume` and `rest`
+finishes_between : (t s : Tokenizing Events) (v told : Recorded) → t ≡ s → v ≡ told → Finishes recorded_means t v → Finishes recorded_means s told
+finishes_between t s v told begins same finishes =
+    subst (λ (w : Tokenizing Events). Finishes recorded_means w told) begins (subst (λ (w : Recorded). Finishes recorded_means t w) same finishes)
+
 pub ends_text : (t s : Tokenizing Events) (v : Recorded) (new : Events) → t ≡ s → v ≡ new.recorded
     → Finishes recorded_means t v → KeepsTaken s.sink new → EndsText s new
-ends_text t s v new begins same finishes taken = record {
-  finishes = subst (λ (w : Tokenizing Events). Finishes recorded_means w new.recorded) begins (subst (λ (w : Recorded). Finishes recorded_means t w) same finishes);
-  taken = taken;
-}
+ends_text t s v new begins same finishes taken = record { finishes = finishes_between t s v new.recorded begins same finishes; taken = taken }
+
+pub miscounts_text_end : (t s : Tokenizing Events) (v : Recorded) (new : Events) → t ≡ s → v ≡ new.recorded
+    → Finishes recorded_means t v → LosesCount s.sink new → MiscountsTextEnd s new
+miscounts_text_end t s v new begins same finishes count = record { finishes = finishes_between t s v new.recorded begins same finishes; count = count }
 
 pub stops_end : (t s : Tokenizing Events) (error : TokenizerError) (v told : Recorded) → t ≡ s → v ≡ told
-    → StopsEnding recorded_means error t v → TextEndRefused s told Memory
+    → StopsEnding recorded_means error t v → StopsTextEnd s told
 stops_end t s error v told begins same stops = (
   error,
   subst (λ (w : Tokenizing Events). StopsEnding recorded_means error w told) begins
@@ -125,10 +154,10 @@ refuses_bytes s t d bytes place error same unchanged is (inr fault) never = reco
 
 -- ---- whole calls
 
-pub text_refused : (result : Result Fed SessionError) (s t : SessionOf) (left : List ℕ) (told : Recorded) → s ≡ t
-    → IfErr result (λ error. TextRefused (tokenizer_of s) s.text left told error) → IfErr result (λ error. TextRefused (tokenizer_of t) t.text left told error)
-text_refused result s t left told same refused =
-    subst (λ (w : SessionOf). IfErr result (λ error. TextRefused (tokenizer_of w) w.text left told error)) same refused
+pub text_refused : (result : Result Fed SessionError) (s t : SessionOf) (new : Tokenizing Events) (left : List ℕ) → s ≡ t
+    → IfErr result (λ error. TextRefused (tokenizer_of s) new s.text left error) → IfErr result (λ error. TextRefused (tokenizer_of t) new t.text left error)
+text_refused result s t new left same refused =
+    subst (λ (w : SessionOf). IfErr result (λ error. TextRefused (tokenizer_of w) new w.text left error)) same refused
 
 -- what a piece left, and what was then read: the decoder and all else but the tokenizer and the text are as the piece left them
 kept_piece : (s mid t : SessionOf) (bytes : List ℕ) (lost : Bool) → TakesPiece s mid bytes
@@ -162,7 +191,7 @@ feeds_piece (Ok fed) s mid t bytes going takes kept feeds = record {
 -- a piece that was decoded, and whose feed was refused, was refused by the session
 pub feed_refused : (result : Result Fed SessionError) (s mid t : SessionOf) (bytes : List ℕ) → TakesPiece s mid bytes
     → t ≡ record mid { resting = t.resting; text = t.text; lost = is_err result }
-    → IfErr result (λ error. TextRefused (tokenizer_of mid) mid.text t.text (recorded_by t) error)
+    → IfErr result (λ error. TextRefused (tokenizer_of mid) (tokenizer_of t) mid.text t.text error)
     → IfErr result (λ error. FeedRefused s t bytes error)
 feed_refused (Ok fed) s mid t bytes takes kept refused = tt
 feed_refused (Err Memory) s mid t bytes takes kept refused = inr (record {
@@ -174,19 +203,35 @@ feed_refused (Err Memory) s mid t bytes takes kept refused = inr (record {
 feed_refused (Err (NotUtf8 place)) s mid t bytes takes kept refused = absurd refused
 feed_refused (Err Cut) s mid t bytes takes kept refused = absurd refused
 feed_refused (Err Waiting) s mid t bytes takes kept refused = absurd refused
-feed_refused (Err Over) s mid t bytes takes kept refused = ap (λ (w : SessionOf). w.lost || (t.resting.failed || t.resting.ended)) kept
+feed_refused (Err Over) s mid t bytes takes kept refused = inr (record {
+  text = takes.text;
+  completes = completes_piece s mid t bytes true takes kept;
+  reads = subst (λ (w : SessionOf). MiscountsText (tokenizer_of w) (tokenizer_of t) w.text t.text) takes.taken refused;
+  kept = kept_piece s mid t bytes true takes kept;
+  over = ap (λ (w : SessionOf). w.lost || (t.resting.failed || t.resting.ended)) kept;
+})
+
+-- all else but the tokenizer is as it was
+kept_end : (s t : SessionOf) (out : RestingOf Events) (lost is_lost : Bool) → s ≡ t → lost ≡ is_lost
+    → record s { resting = out; lost = lost } ≡ record t { resting = out; lost = is_lost }
+kept_end s t out lost is_lost same is =
+    ap (λ (w : SessionOf). record w { resting = out; lost = lost }) same ∙ ap (λ (l : Bool). record t { resting = out; lost = l }) is
 
 -- an end that the tokenizer refused was refused by the session
 pub end_refused : (result : Result (Unit {0}) SessionError) (s t : SessionOf) (out : RestingOf Events) (lost : Bool) → s ≡ t → lost ≡ is_err result
-    → IfErr result (λ error. TextEndRefused (tokenizer_of s) out.sink.recorded error)
+    → IfErr result (λ error. TextEndRefused (tokenizer_of s) out.sink error)
     → IfErr result (λ error. EndRefused t (record s { resting = out; lost = lost }) error)
 end_refused (Ok done) s t out lost same is refused = tt
 end_refused (Err Memory) s t out lost same is refused = record {
   error = refused.0;
   stops = subst (λ (w : SessionOf). StopsEnding recorded_means refused.0 (tokenizer_of w) out.sink.recorded) same refused.1;
-  kept = ap (λ (w : SessionOf). record w { resting = out; lost = lost }) same ∙ ap (λ (l : Bool). record t { resting = out; lost = l }) is;
+  kept = kept_end s t out lost true same is;
 }
 end_refused (Err (NotUtf8 place)) s t out lost same is refused = absurd refused
 end_refused (Err Cut) s t out lost same is refused = absurd refused
 end_refused (Err Waiting) s t out lost same is refused = absurd refused
-end_refused (Err Over) s t out lost same is refused = ap (λ (l : Bool). l || (out.failed || out.ended)) is
+end_refused (Err Over) s t out lost same is refused = inr (record {
+  ends = subst (λ (w : SessionOf). MiscountsTextEnd (tokenizer_of w) out.sink) same refused;
+  kept = kept_end s t out lost true same is;
+  over = ap (λ (l : Bool). l || (out.failed || out.ended)) is;
+})

@@ -1,5 +1,5 @@
 -- What a session is, and what each call makes of it.
-use Rattle.std.specs.Prelude.{◌≡◌, ◌≢◌, ◌⊎◌, ◌||◌, ◌<◌, ℕ, Bool, true, false, List, [], ◌++◌, length, Option, Some}
+use Rattle.std.specs.Prelude.{◌≡◌, ◌≢◌, ◌⊎◌, ◌||◌, ◌<◌, ◌-◌, ◌^◌, ℕ, min, Bool, true, false, List, [], ◌++◌, length, Option, Some}
 use Rattle.std.specs.Str.{IsUtf8, chars}
 use Rattle.utf8_pieces.specs.Pieces.{Decoding, IsCutCharacter, IsFault, IsNeverUtf8, place_after}
 use Rattle.utf8_pieces.specs.declared.error.DecodeError.TheVariants as decoder
@@ -42,16 +42,29 @@ recorded_by s = s.resting.sink.recorded
 abbrev pub is_over : SessionOf → Bool
 is_over s = s.lost || (s.resting.failed || s.resting.ended)
 
+-- a session that was over before a call is as it was
+pub record StaysOver (old new : SessionOf) : Type 0 where
+  pub over : is_over old ≡ true
+  pub unchanged : new ≡ old
+
 -- ---- records
 
 -- so many bytes of the records that wait were taken, and all else is as it was
 abbrev pub after_session_takes : SessionOf → ℕ → SessionOf
 after_session_takes s count = record s { resting = record s.resting { sink = after_taking s.resting.sink count } }
 
+-- how many bytes were taken, as a sink counts them: no further than 2 ^ 64 - 1
+abbrev pub taken_count : Events → ℕ
+taken_count e = min (length e.taken) (2 ^ 64 - 1)
+
 -- as many bytes are taken as were before, and what waits is the rest of all that was written
 pub record KeepsTaken (old new : Events) : Type 0 where
   pub count : length new.taken ≡ length old.taken
   pub written : new.taken ++ new.waiting ≡ new.recorded.bytes
+
+-- the count of taken bytes is another than before, or it was at its limit: so it is not known whether as many are taken
+abbrev pub LosesCount : Events → Events → Type 0
+LosesCount old new = (taken_count new ≢ taken_count old) ⊎ (taken_count old ≡ 2 ^ 64 - 1)
 
 -- ---- pieces
 
@@ -98,6 +111,12 @@ pub record FeedsText (old new : Tokenizing Events) (text left : List ℕ) (fed :
 abbrev pub StopsText : Tokenizing Events → List ℕ → List ℕ → Recorded → Type 0
 StopsText old text left told = (error : TokenizerError) × StopsFeeding recorded_means error old text left told
 
+-- the text was read as a feed reads it, but the count of taken bytes is lost
+pub record MiscountsText (old new : Tokenizing Events) (text left : List ℕ) : Type 0 where
+  pub reply : Reply (Unit {0})
+  pub feeds : Feeds recorded_means old new text left reply
+  pub count : LosesCount old.sink new.sink
+
 -- ---- what the calls do
 
 -- a piece was fed: of what waited and the text that the piece completes a beginning was read, and the rest waits
@@ -115,21 +134,29 @@ pub record LosesPiece (old new : SessionOf) (bytes : List ℕ) : Type 0 where
   pub stops : (recorded_by new ≡ recorded_by old) ⊎ StopsText (tokenizer_of old) (old.text ++ chars text) new.text (recorded_by new)
   pub kept : new ≡ record old { resting = new.resting; decoder = new.decoder; text = new.text; lost = true }
 
--- what each error of a feed leaves
+-- a piece was read, but the count of taken bytes is lost, and so the session is over
+pub record MiscountsPiece (old new : SessionOf) (bytes : List ℕ) : Type 0 where
+  pub text : List ℕ
+  pub completes : Completes old.decoder new.decoder bytes text
+  pub reads : MiscountsText (tokenizer_of old) (tokenizer_of new) (old.text ++ chars text) new.text
+  pub kept : new ≡ record old { resting = new.resting; decoder = new.decoder; text = new.text; lost = true }
+  pub over : is_over new ≡ true
+
+-- when each error of a feed comes, and what it leaves
 abbrev pub FeedRefused : SessionOf → SessionOf → List ℕ → SessionError → Type 0
 FeedRefused old new bytes Memory = (new ≡ old) ⊎ LosesPiece old new bytes
 FeedRefused old new bytes (NotUtf8 place) = RefusesBytes old new bytes place
 FeedRefused old new bytes Cut = ⊥
 FeedRefused old new bytes Waiting = ⊥
-FeedRefused old new bytes Over = is_over new ≡ true
+FeedRefused old new bytes Over = StaysOver old new ⊎ MiscountsPiece old new bytes
 
 -- what each error leaves of a feed of what waits
-abbrev pub TextRefused : Tokenizing Events → List ℕ → List ℕ → Recorded → SessionError → Type 0
-TextRefused old text left told Memory = StopsText old text left told
-TextRefused old text left told (NotUtf8 place) = ⊥
-TextRefused old text left told Cut = ⊥
-TextRefused old text left told Waiting = ⊥
-TextRefused old text left told Over = Unit {0}
+abbrev pub TextRefused : Tokenizing Events → Tokenizing Events → List ℕ → List ℕ → SessionError → Type 0
+TextRefused old new text left Memory = StopsText old text left new.sink.recorded
+TextRefused old new text left (NotUtf8 place) = ⊥
+TextRefused old new text left Cut = ⊥
+TextRefused old new text left Waiting = ⊥
+TextRefused old new text left Over = MiscountsText old new text left
 
 -- from wherever the tokenizer stood, the whole reading was sent
 pub record EndsText (old : Tokenizing Events) (new : Events) : Type 0 where
@@ -150,18 +177,33 @@ pub record LosesEnd (old new : SessionOf) : Type 0 where
   pub stops : StopsEnding recorded_means error (tokenizer_of old) (recorded_by new)
   pub kept : new ≡ record old { resting = new.resting; lost = true }
 
--- what each error of telling the end to a tokenizer leaves
-abbrev pub TextEndRefused : Tokenizing Events → Recorded → SessionError → Type 0
-TextEndRefused old told Memory = (error : TokenizerError) × StopsEnding recorded_means error old told
-TextEndRefused old told (NotUtf8 place) = ⊥
-TextEndRefused old told Cut = ⊥
-TextEndRefused old told Waiting = ⊥
-TextEndRefused old told Over = Unit {0}
+-- the end failed within what it would have told
+abbrev pub StopsTextEnd : Tokenizing Events → Recorded → Type 0
+StopsTextEnd old told = (error : TokenizerError) × StopsEnding recorded_means error old told
 
--- what each error of an end leaves
+-- the whole reading was told, but the count of taken bytes is lost
+pub record MiscountsTextEnd (old : Tokenizing Events) (new : Events) : Type 0 where
+  pub finishes : Finishes recorded_means old new.recorded
+  pub count : LosesCount old.sink new
+
+-- the end was told, but the count of taken bytes is lost, and so the session is over
+pub record MiscountsEnd (old new : SessionOf) : Type 0 where
+  pub ends : MiscountsTextEnd (tokenizer_of old) new.resting.sink
+  pub kept : new ≡ record old { resting = new.resting; lost = true }
+  pub over : is_over new ≡ true
+
+-- what each error of telling the end to a tokenizer leaves
+abbrev pub TextEndRefused : Tokenizing Events → Events → SessionError → Type 0
+TextEndRefused old new Memory = StopsTextEnd old new.recorded
+TextEndRefused old new (NotUtf8 place) = ⊥
+TextEndRefused old new Cut = ⊥
+TextEndRefused old new Waiting = ⊥
+TextEndRefused old new Over = MiscountsTextEnd old new
+
+-- when each error of an end comes, and what it leaves
 abbrev pub EndRefused : SessionOf → SessionOf → SessionError → Type 0
 EndRefused old new Memory = LosesEnd old new
 EndRefused old new (NotUtf8 place) = ⊥
 EndRefused old new Cut = (new ≡ old) × (old.decoder.held ≢ [])
 EndRefused old new Waiting = (new ≡ old) × (old.text ≢ [])
-EndRefused old new Over = is_over new ≡ true
+EndRefused old new Over = StaysOver old new ⊎ MiscountsEnd old new

@@ -7,7 +7,7 @@ ghost use Rattle.html5ever_interface.specs.Options.{options_of};
 ghost use Rattle.html5events.specs.Events.{recorded_means, none_recorded, no_events};
 ghost use Rattle.html5feed.specs.Starting.{CanStart};
 ghost use Rattle.html5grammar.specs.Start.{start_of};
-ghost use Rattle.html5session.specs.Session.{is_over, tokenizer_of, recorded_by, after_session_takes, FeedsText, TextRefused, EndsText, TextEndRefused};
+ghost use Rattle.html5session.specs.Session.{is_over, tokenizer_of, recorded_by, taken_count, after_session_takes, FeedsText, TextRefused, EndsText, TextEndRefused};
 ghost use Rattle.html5session.specs.Session.{TakesPiece, FeedsPiece, FeedRefused, EndsSession, EndRefused};
 
 use crate::error::SessionError;
@@ -34,8 +34,9 @@ fn error_of(error: TokenizerError) -> SessionError
 // Whether as many bytes were taken of the sink as are counted. A tokenizer takes none of its sink, but
 // that is said nowhere, so it is tested.
 fn keeps_taken<A: Allocator>(sink: &EventSink<A>, count: u64) -> bool
-    ensures count { result ≡ true → min (length sink.now.taken) (2 ^ 64 - 1) ≡ count }
+    ensures count { result ≡ true → taken_count sink.now ≡ count }
     ensures below { result ≡ true → count < 2 ^ 64 - 1 }
+    ensures lost { result ≡ false → (taken_count sink.now ≢ count) ⊎ (count ≡ 2 ^ 64 - 1) }
     ensures written { sink.now.taken ++ sink.now.waiting ≡ sink.now.recorded.bytes }
 {
     let same = sink.taken_len() == count;
@@ -53,7 +54,7 @@ fn feed_text<A: Allocator + Copy>(
     ensures feeds { IfOk result.1 (λ fed. FeedsText (tokenizing resting names.now)
         (tokenizing result.0 names.now) queue.old.text queue.new.text fed) }
     ensures refused { IfErr result.1 (λ error. TextRefused (tokenizing resting names.now)
-        queue.old.text queue.new.text result.0.sink.recorded error) }
+        (tokenizing result.0 names.now) queue.old.text queue.new.text error) }
 {
     let count = resting.sink.taken_len();
     let mut tokenizer = resting.resume(names);
@@ -77,7 +78,7 @@ fn end_text<A: Allocator + Copy>(
     ensures ends { OnOk result.1 (EndsText (tokenizing resting names.now) result.0.sink) }
     ensures ended { OnOk result.1 (result.0.ended ≡ true) }
     ensures refused { IfErr result.1 (λ error. TextEndRefused (tokenizing resting names.now)
-        result.0.sink.recorded error) }
+        result.0.sink error) }
 {
     let count = resting.sink.taken_len();
     let mut tokenizer = resting.resume(names);
@@ -208,8 +209,8 @@ impl<A: Allocator + Copy> Session<A> {
         requires { is_over self ≡ false }
         ensures feeds { IfOk result.1 (λ fed. FeedsText (tokenizer_of self) (tokenizer_of result.0)
             self.text result.0.text fed) }
-        ensures refused { IfErr result.1 (λ error. TextRefused (tokenizer_of self) self.text
-            result.0.text (recorded_by result.0) error) }
+        ensures refused { IfErr result.1 (λ error. TextRefused (tokenizer_of self) (tokenizer_of result.0)
+            self.text result.0.text error) }
         ensures kept { result.0 ≡ record self { resting = result.0.resting; text = result.0.text; lost = is_err result.1 } }
     {
         let Session {
