@@ -28,7 +28,7 @@ other-name : (name raw : List ℕ) (same : Bool) → bytes_eq name raw ≡ same 
 other-name name raw true is allowed not_raw = absurd (false≢true (sym not_raw ∙ ap is_allowed (sym (bytes_eq-same name raw is)) ∙ allowed))
 other-name name raw false is allowed not_raw = refl
 
-no-raw : (name raw : List ℕ) → is_allowed name ≡ true → is_allowed raw ≡ false → bytes_eq name raw ≡ false
+pub no-raw : (name raw : List ℕ) → is_allowed name ≡ true → is_allowed raw ≡ false → bytes_eq name raw ≡ false
 no-raw name raw allowed not_raw = other-name name raw (bytes_eq name raw) refl allowed not_raw
 
 pub allowed-keeps_on : (name : List ℕ) → is_allowed name ≡ true → standard_reply_to_start name ≡ KeepOn

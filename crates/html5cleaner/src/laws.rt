@@ -1,11 +1,12 @@
 //! How a cleaned page is read.
 ghost use Rattle.std.specs.Prelude.{◌≡◌, ℕ, List, [], ◌∷◌, ◌++◌, true};
 ghost use Rattle.std.specs.List.{list_all};
+ghost use Rattle.html5ever_interface.specs.Sink.{Message};
 ghost use Rattle.html5ever_interface.specs.Token.{Told};
 ghost use Rattle.html5ever_interface.specs.Token.Told.{End};
 ghost use Rattle.html5grammar.specs.Reading.{all_messages};
 ghost use Rattle.html5grammar.specs.Start.{Start, Rules};
-ghost use Rattle.markup5ever.specs.NamedReferences.{IsTable};
+ghost use Rattle.markup5ever.specs.NamedReferences.{IsTable, NamedReference};
 ghost use Rattle.html5write.specs.Pieces.{Piece, page_text};
 ghost use Rattle.html5items.specs.Anywhere.{TellsByItself};
 ghost use Rattle.html5write.specs.Told.{IsOpen, page_messages, page_tokens, proper, start_after_page};
@@ -13,6 +14,8 @@ ghost use Rattle.html5cleaner.specs.Addresses.{is_safe_address};
 ghost use Rattle.html5cleaner.specs.Allowed.{is_clean};
 ghost use Rattle.html5cleaner.specs.Browsers.{RunsNothing, scheme_of};
 ghost use Rattle.html5cleaner.specs.Clean.{Cleaned, at_start, clean_step};
+ghost use Rattle.html5cleaner.specs.Cleaning as cleaning;
+ghost use Rattle.html5cleaner.specs.Cleaning.{kept_of_page, page_bytes, printed_of};
 ghost use Rattle.html5cleaner.specs.Reading.{FollowsStandard, is_allowed_token};
 
 use html5ever_interface::interface::sink::TokenSink;
@@ -51,6 +54,19 @@ pub fn kept_pieces_are_clean()
     ensures starts { list_all is_clean at_start.pieces ≡ true }
     ensures stay { (s : Cleaned) (run : List ℕ) (told : Told) (line : ℕ) → list_all is_clean s.pieces ≡ true
         → list_all is_clean (clean_step s run told line).pieces ≡ true }
+{}
+
+/// Cleaning twice changes nothing, whatever the table of each reading. A page of clean pieces is kept as it
+/// is, to the byte; so is what was kept of a text, and what was printed of a page or of a beginning of it.
+pub fn cleaning_twice()
+    ensures pieces { (names : List NamedReference) (pieces : List Piece) → IsTable names
+        → list_all is_clean pieces ≡ true
+        → page_text (kept_of_page names (page_bytes pieces)) ≡ page_text pieces }
+    ensures text { (names others : List NamedReference) (text : List ℕ) → IsTable others
+        → page_bytes (kept_of_page others (page_bytes (kept_of_page names text)))
+        ≡ page_bytes (kept_of_page names text) }
+    ensures printed { (names : List NamedReference) (before : List ℕ) (M : List Message) → IsTable names
+        → printed_of before (cleaning.page_messages names before (printed_of [] M)) ≡ printed_of before M }
 {}
 
 /// In an address that is kept a browser finds no scheme, or `http`, `https` or `mailto`: it passes over
