@@ -1,7 +1,7 @@
 -- What is kept is clean.
-use Rattle.std.proofs.Common.{◌≡◌, ℕ, Bool, true, false, List, [], ◌∷◌, ◌++◌, filter, map, chars, refl, ◌∙◌}
-use Rattle.std.specs.Prelude.{◌==◌, encode_utf8_all, if◌then◌else◌}
-use Rattle.std.specs.List.{list_all}
+use Rattle.std.proofs.Common.{◌≡◌, ℕ, Bool, true, false, List, [], ◌∷◌, ◌++◌, filter, map, chars, refl, ap, ◌∙◌}
+use Rattle.std.specs.Prelude.{◌==◌, ◌||◌, ◌&&◌, codes, encode_utf8_all, if◌then◌else◌}
+use Rattle.std.specs.List.{list_all, list_any}
 use Rattle.std.proofs.lemmas.List.Folds.{list_all-append}
 use Rattle.html5ever_interface.specs.Token.{Told, TagOf}
 use Rattle.html5ever_interface.specs.Token.Told.{Text, Null, Error, Tag, Comment, Instruction, Doctype, End}
@@ -9,70 +9,112 @@ use Rattle.html5ever_interface.specs.declared.interface.token.TagKind.{TagKind}
 use Rattle.html5ever_interface.specs.declared.interface.token.TagKind.TheVariants.{StartTag, EndTag}
 use Rattle.html5write.specs.Pieces.{NameAndValue, Piece, can_write}
 use Rattle.html5write.specs.Pieces.Piece.{TextPiece}
-use Rattle.html5cleaner.specs.Allowed.{is_kept_attribute, is_allowed_piece, is_clean}
-use Rattle.html5cleaner.specs.Clean.{attribute_chars, allows_by_kind, where_writable, kept, kept_attributes, kept_of_parts, kept_of_run, kept_of_tag, kept_of_token, kept_where, piece_by_kind}
+use Rattle.html5policy.specs.Policy.{PolicyOf, is_kept, is_noopener, is_rel_of_link}
+use Rattle.html5cleaner.specs.Allowed.{is_kept_attribute, is_written_attribute, is_allowed_piece, is_clean}
+use Rattle.html5cleaner.specs.Clean.{adds_noopener, attribute_chars, allows_by_kind, is_href, noopener_attribute, where_writable, kept, kept_attributes, kept_of_parts, kept_of_run, kept_of_tag, kept_of_token, kept_where, piece_by_kind}
+use Rattle.html5cleaner.proofs.Replies.{and-left}
 
-filtered-more : {X : Type 0} (p : X → Bool) (x : X) (xs : List X) (passes : Bool) → p x ≡ passes → list_all p (filter p xs) ≡ true → list_all p (filter p (x ∷ xs)) ≡ true
-filtered-more p x xs true is later = rw (is, is, later) refl
-filtered-more p x xs false is later = rw is later
+filtered-more : {X : Type 0} (p q : X → Bool) (x : X) (xs : List X) (passes : Bool) → p x ≡ passes → (p x ≡ true → q x ≡ true) → list_all q (filter p xs) ≡ true
+    → list_all q (filter p (x ∷ xs)) ≡ true
+filtered-more p q x xs true is weaker later = rw (is, weaker is, later) refl
+filtered-more p q x xs false is weaker later = rw is later
 
-all-filtered : {X : Type 0} (p : X → Bool) (xs : List X) → list_all p (filter p xs) ≡ true
-all-filtered p [] = refl
-all-filtered p (x ∷ xs) = filtered-more p x xs (p x) refl (all-filtered p xs)
+-- what passes a test passes a weaker one
+all-filtered : {X : Type 0} (p q : X → Bool) (xs : List X) → ((x : X) → p x ≡ true → q x ≡ true) → list_all q (filter p xs) ≡ true
+all-filtered p q [] weaker = refl
+all-filtered p q (x ∷ xs) weaker = filtered-more p q x xs (p x) refl (weaker x) (all-filtered p q xs weaker)
 
--- a piece that is allowed, where it can be written
-clean-where : (piece : Piece) (can : Bool) → can_write piece ≡ can → is_allowed_piece piece ≡ true → list_all is_clean (if can then piece ∷ [] else []) ≡ true
-clean-where piece true is allowed = rw (allowed, is) refl
-clean-where piece false is allowed = refl
+all-more : {X : Type 0} (p : X → Bool) (xs : List X) (x : X) → list_all p xs ≡ true → p x ≡ true → list_all p (xs ++ x ∷ []) ≡ true
+all-more p xs x before here = list_all-append p xs (x ∷ []) ∙ rw (before, here) refl
 
-clean-writable : (piece : Piece) → is_allowed_piece piece ≡ true → list_all is_clean (where_writable piece) ≡ true
-clean-writable piece allowed = clean-where piece (can_write piece) refl allowed
+or-left : (a b : Bool) → a ≡ true → (a || b) ≡ true
+or-left a b is = ap (λ x. x || b) is
 
-clean-run : (run : List ℕ) → list_all is_clean (kept_of_run run) ≡ true
+or-right : (a b : Bool) → b ≡ true → (a || b) ≡ true
+or-right true b is = refl
+or-right false b is = is
+
+-- a piece that can be written, where it is allowed
+clean-where : (policy : PolicyOf) (piece : Piece) (can : Bool) → can_write piece ≡ can → is_allowed_piece policy piece ≡ true → list_all (is_clean policy) (if can then piece ∷ [] else []) ≡ true
+clean-where policy piece true is allowed = rw (allowed, is) refl
+clean-where policy piece false is allowed = refl
+
+clean-writable : (policy : PolicyOf) (piece : Piece) → is_allowed_piece policy piece ≡ true → list_all (is_clean policy) (where_writable piece) ≡ true
+clean-writable policy piece allowed = clean-where policy piece (can_write piece) refl allowed
+
+clean-run : (policy : PolicyOf) (run : List ℕ) → list_all (is_clean policy) (kept_of_run run) ≡ true
 unfolding kept_of_run is_allowed_piece
-clean-run [] = refl
-clean-run (byte ∷ run) = clean-writable (TextPiece (chars (byte ∷ run))) refl
+clean-run policy [] = refl
+clean-run policy (byte ∷ run) = clean-writable policy (TextPiece (chars (byte ∷ run))) refl
 
--- a tag with attributes that are kept
-allowed-piece : (kind : TagKind) (name : List ℕ) (attributes : List NameAndValue) → allows_by_kind kind (encode_utf8_all name) ≡ true → list_all (is_kept_attribute name) attributes ≡ true
-    → is_allowed_piece (piece_by_kind kind name attributes) ≡ true
+-- ---- attributes
+
+noopener-written : (policy : PolicyOf) (element : List ℕ) → is_rel_of_link policy (encode_utf8_all element) (codes "rel") ≡ true → is_written_attribute policy element noopener_attribute ≡ true
+unfolding lib.Utf8.encode
+noopener-written policy element link =
+    or-right (is_kept policy (encode_utf8_all element) (codes "rel") (codes "noopener")) (is_noopener policy (encode_utf8_all element) (codes "rel") (codes "noopener"))
+    (ap (λ b. b && true) link)
+
+written-where : (policy : PolicyOf) (element : List ℕ) (attributes : List NameAndValue) (adds : Bool) → adds_noopener policy element attributes ≡ adds
+    → list_all (is_written_attribute policy element) attributes ≡ true
+    → list_all (is_written_attribute policy element) (if adds then attributes ++ noopener_attribute ∷ [] else attributes) ≡ true
+written-where policy element attributes true is all =
+    all-more (is_written_attribute policy element) attributes noopener_attribute all
+    (noopener-written policy element (and-left (is_rel_of_link policy (encode_utf8_all element) (codes "rel")) (list_any is_href attributes) is))
+written-where policy element attributes false is all = all
+
+written-kept : (policy : PolicyOf) (element : List ℕ) (attributes : List NameAndValue) → list_all (is_written_attribute policy element) (kept_attributes policy element attributes) ≡ true
+unfolding kept_attributes
+written-kept policy element attributes =
+    let kept = filter (is_kept_attribute policy element) attributes in
+    written-where policy element kept (adds_noopener policy element kept) refl
+    (all-filtered (is_kept_attribute policy element) (is_written_attribute policy element) attributes
+    (λ a is. or-left (is_kept_attribute policy element a) (is_noopener policy (encode_utf8_all element) (encode_utf8_all a.name) (encode_utf8_all a.value)) is))
+
+-- ---- tags
+
+allowed-piece : (policy : PolicyOf) (kind : TagKind) (name : List ℕ) (attributes : List NameAndValue) → allows_by_kind policy kind (encode_utf8_all name) ≡ true
+    → list_all (is_written_attribute policy name) attributes ≡ true → is_allowed_piece policy (piece_by_kind kind name attributes) ≡ true
 unfolding is_allowed_piece
-allowed-piece StartTag name attributes allowed all = rw (allowed, all) refl
-allowed-piece EndTag name attributes allowed all = allowed
+allowed-piece policy StartTag name attributes allowed all = rw (allowed, all) refl
+allowed-piece policy EndTag name attributes allowed all = allowed
 
-clean-tag_where : (kind : TagKind) (name : List ℕ) (attributes : List NameAndValue) (allows : Bool) → allows_by_kind kind (encode_utf8_all name) ≡ allows
-    → list_all (is_kept_attribute name) attributes ≡ true
-    → list_all is_clean (if allows then where_writable (piece_by_kind kind name attributes) else []) ≡ true
-clean-tag_where kind name attributes true is all = clean-writable (piece_by_kind kind name attributes) (allowed-piece kind name attributes is all)
-clean-tag_where kind name attributes false is all = refl
+clean-tag_where : (policy : PolicyOf) (kind : TagKind) (name : List ℕ) (attributes : List NameAndValue) (allows : Bool) → allows_by_kind policy kind (encode_utf8_all name) ≡ allows
+    → list_all (is_written_attribute policy name) attributes ≡ true
+    → list_all (is_clean policy) (if allows then where_writable (piece_by_kind kind name attributes) else []) ≡ true
+clean-tag_where policy kind name attributes true is all = clean-writable policy (piece_by_kind kind name attributes) (allowed-piece policy kind name attributes is all)
+clean-tag_where policy kind name attributes false is all = refl
 
-clean-parts : (kind : TagKind) (name : List ℕ) (attributes : List NameAndValue) → list_all (is_kept_attribute name) attributes ≡ true → list_all is_clean (kept_of_parts kind name attributes) ≡ true
+clean-parts : (policy : PolicyOf) (kind : TagKind) (name : List ℕ) (attributes : List NameAndValue) → list_all (is_written_attribute policy name) attributes ≡ true
+    → list_all (is_clean policy) (kept_of_parts policy kind name attributes) ≡ true
 unfolding kept_of_parts
-clean-parts kind name attributes all = clean-tag_where kind name attributes (allows_by_kind kind (encode_utf8_all name)) refl all
+clean-parts policy kind name attributes all = clean-tag_where policy kind name attributes (allows_by_kind policy kind (encode_utf8_all name)) refl all
 
-clean-tag : (tag : TagOf) → list_all is_clean (kept_of_tag tag) ≡ true
+clean-tag : (policy : PolicyOf) (tag : TagOf) → list_all (is_clean policy) (kept_of_tag policy tag) ≡ true
 unfolding kept_of_tag
-clean-tag tag =
-    clean-parts tag.kind (chars tag.name) (kept_attributes (chars tag.name) (map attribute_chars tag.attributes))
-    (all-filtered (is_kept_attribute (chars tag.name)) (map attribute_chars tag.attributes))
+clean-tag policy tag =
+    clean-parts policy tag.kind (chars tag.name) (kept_attributes policy (chars tag.name) (map attribute_chars tag.attributes))
+    (written-kept policy (chars tag.name) (map attribute_chars tag.attributes))
 
-clean-token : (told : Told) → list_all is_clean (kept_of_token told) ≡ true
-clean-token (Tag tag) = clean-tag tag
-clean-token (Text text) = refl
-clean-token Null = refl
-clean-token (Error message) = refl
-clean-token (Comment text) = refl
-clean-token (Instruction text) = refl
-clean-token (Doctype doctype) = refl
-clean-token End = refl
+clean-token : (policy : PolicyOf) (told : Told) → list_all (is_clean policy) (kept_of_token policy told) ≡ true
+clean-token policy (Tag tag) = clean-tag policy tag
+clean-token policy (Text text) = refl
+clean-token policy Null = refl
+clean-token policy (Error message) = refl
+clean-token policy (Comment text) = refl
+clean-token policy (Instruction text) = refl
+clean-token policy (Doctype doctype) = refl
+clean-token policy End = refl
 
-clean-kept : (run : List ℕ) (told : Told) → list_all is_clean (kept run told) ≡ true
-clean-kept run told = list_all-append is_clean (kept_of_run run) (kept_of_token told) ∙ rw (clean-run run, clean-token told) refl
+clean-kept : (policy : PolicyOf) (run : List ℕ) (told : Told) → list_all (is_clean policy) (kept policy run told) ≡ true
+clean-kept policy run told = list_all-append (is_clean policy) (kept_of_run run) (kept_of_token policy told) ∙ rw (clean-run policy run, clean-token policy told) refl
 
-clean-where_shown : (shown : Bool) (run : List ℕ) (told : Told) → list_all is_clean (if shown then kept run told else []) ≡ true
-clean-where_shown true run told = clean-kept run told
-clean-where_shown false run told = refl
+clean-where_shown : (policy : PolicyOf) (shown : Bool) (run : List ℕ) (told : Told) → list_all (is_clean policy) (if shown then kept policy run told else []) ≡ true
+clean-where_shown policy true run told = clean-kept policy run told
+clean-where_shown policy false run told = refl
 
 -- pieces that were clean are clean with what is kept after them
-pub clean-more : (pieces : List Piece) (depth : ℕ) (run : List ℕ) (told : Told) → list_all is_clean pieces ≡ true → list_all is_clean (pieces ++ kept_where depth run told) ≡ true
-clean-more pieces depth run told before = list_all-append is_clean pieces (kept_where depth run told) ∙ rw (before, clean-where_shown (depth == 0) run told) refl
+pub clean-more : (policy : PolicyOf) (pieces : List Piece) (depth : ℕ) (run : List ℕ) (told : Told) → list_all (is_clean policy) pieces ≡ true
+    → list_all (is_clean policy) (pieces ++ kept_where policy depth run told) ≡ true
+clean-more policy pieces depth run told before =
+    list_all-append (is_clean policy) pieces (kept_where policy depth run told) ∙ rw (before, clean-where_shown policy (depth == 0) run told) refl

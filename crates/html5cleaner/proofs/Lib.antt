@@ -1,4 +1,5 @@
 pub mod CleanPieces
+pub mod Links
 pub mod Replies
 pub mod Tokens
 pub mod SchemeBytes

@@ -1,5 +1,5 @@
 -- What is printed of a page is what is kept of it.
-use Rattle.std.proofs.Common.{◌≡◌, ℕ, true, Option, List, [], ◌∷◌, ◌++◌, refl, ap, sym, ◌∙◌, append_assoc, encode_utf8_all}
+use Rattle.std.proofs.Common.{◌≡◌, ℕ, true, Option, List, [], ◌∷◌, ◌++◌, refl, ap, sym, ◌∙◌, subst, append_assoc, encode_utf8_all}
 use Rattle.std.proofs.lemmas.List.{append-nil}
 use Rattle.std.proofs.lemmas.List.Concat.{flat_map-append}
 use Rattle.std.proofs.lemmas.Str.{encodes-append}
@@ -12,14 +12,15 @@ use Rattle.markup5ever.specs.NamedReferences.{NamedReference}
 use Rattle.html5cleaner.proofs.SameReadings.{page-same}
 use Rattle.html5write.specs.Pieces.{Piece, page_text, piece_text}
 use Rattle.std.specs.List.{list_all}
+use Rattle.html5policy.specs.Policy.{PolicyOf}
 use Rattle.html5cleaner.specs.Allowed.{is_clean}
 use Rattle.html5cleaner.proofs.CleanPieces.{clean-more}
 use Rattle.html5cleaner.specs.Clean.{Cleaned, at_start, clean_step, kept_where}
-use Rattle.html5cleaner.specs.Cleaning.{Cleaning, cleaning_step, page_bytes, page_messages, page_start, printed_of}
+use Rattle.html5cleaner.specs.Cleaning.{Cleaning, Standing, cleaning_step, page_bytes, page_messages, page_start, printed_of}
 
 -- where these pieces were kept, and printed after other bytes
 abbrev pub printed_after : List ℕ → Cleaned → Cleaning
-printed_after before c = record { printed = before ++ page_bytes c.pieces; hidden = c.hidden }
+printed_after before c = record { policy = c.policy; printed = before ++ page_bytes c.pieces; hidden = c.hidden }
 
 page_bytes-append : (first second : List Piece) → page_bytes (first ++ second) ≡ page_bytes first ++ page_bytes second
 page_bytes-append first second = ap encode_utf8_all (flat_map-append piece_text first second) ∙ encodes-append (page_text first) (page_text second)
@@ -30,7 +31,7 @@ printed-step before c run told line =
     let more = kept_where c.hidden.depth run told in
     let printed : (before ++ page_bytes c.pieces) ++ page_bytes more ≡ before ++ page_bytes (c.pieces ++ more) =
     append_assoc before (page_bytes c.pieces) (page_bytes more) ∙ ap (λ l. before ++ l) (sym (page_bytes-append c.pieces more)) in
-    ap (λ l. record { printed = l; hidden = (clean_step c run told line).hidden }) printed
+    ap (λ l. record { policy = c.policy; printed = l; hidden = (clean_step c run told line).hidden }) printed
 
 -- the same for a handler to which text may wait
 joined_after : List ℕ → Joined Cleaned → Joined Cleaning
@@ -56,50 +57,88 @@ printed-stepped before s r (m ∷ M) same =
     printed-stepped before (runs_step cleaning_step s m.token m.line) (runs_step clean_step r m.token m.line) M
     (ap (λ j. joined_step cleaning_step j m.token m.line) same ∙ joined-step before r.joined m.token m.line)
 
-pub printed-handed : (before : List ℕ) (M : List Message) → runs_handed cleaning_step (page_start before) M ≡ printed_after before (runs_handed clean_step at_start M)
+pub printed-handed : (s : Standing) (M : List Message) → runs_handed cleaning_step (page_start s) M ≡ printed_after s.printed (runs_handed clean_step (at_start s.policy) M)
 unfolding runs_handed joined_after
-printed-handed before M =
-    ap (λ j. j.handler) (printed-stepped before (runs_start (page_start before)) (runs_start at_start) M
-    (ap (λ l. joined_of (record { printed = l; hidden = at_start.hidden }) []) (sym (append-nil before))))
+printed-handed s M =
+    ap (λ j. j.handler) (printed-stepped s.printed (runs_start (page_start s)) (runs_start (at_start s.policy)) M
+    (ap (λ l. joined_of (record { policy = s.policy; printed = l; hidden = (at_start s.policy).hidden }) []) (sym (append-nil s.printed))))
 
--- what is kept stays clean
-clean-joined : (j : Joined Cleaned) (told : Told) (line : ℕ) → list_all is_clean j.handler.pieces ≡ true → list_all is_clean (joined_step clean_step j told line).handler.pieces ≡ true
+-- ---- the policy stays
+
+policy-joined : (j : Joined Cleaned) (told : Told) (line : ℕ) → (joined_step clean_step j told line).handler.policy ≡ j.handler.policy
+policy-joined j (Text text) line = refl
+policy-joined j (Error message) line = refl
+policy-joined j Null line = refl
+policy-joined j (Tag tag) line = refl
+policy-joined j (Comment text) line = refl
+policy-joined j (Instruction content) line = refl
+policy-joined j (Doctype doctype) line = refl
+policy-joined j End line = refl
+
+policy-stepped : (r : Running Cleaned) (M : List Message) → (stepped (runs_step clean_step) r M).joined.handler.policy ≡ r.joined.handler.policy
+unfolding stepped
+policy-stepped r [] = refl
+policy-stepped r (m ∷ M) = policy-stepped (runs_step clean_step r m.token m.line) M ∙ policy-joined r.joined m.token m.line
+
+policy-handed : (policy : PolicyOf) (M : List Message) → (runs_handed clean_step (at_start policy) M).policy ≡ policy
+unfolding runs_handed
+policy-handed policy M = policy-stepped (runs_start (at_start policy)) M
+
+-- ---- what is kept stays clean
+
+clean-joined : (j : Joined Cleaned) (told : Told) (line : ℕ) → list_all (is_clean j.handler.policy) j.handler.pieces ≡ true
+    → list_all (is_clean (joined_step clean_step j told line).handler.policy) (joined_step clean_step j told line).handler.pieces ≡ true
 clean-joined j (Text text) line clean = clean
-clean-joined j (Error message) line clean = clean-more j.handler.pieces j.handler.hidden.depth [] (Error message) clean
-clean-joined j Null line clean = clean-more j.handler.pieces j.handler.hidden.depth j.run Null clean
-clean-joined j (Tag tag) line clean = clean-more j.handler.pieces j.handler.hidden.depth j.run (Tag tag) clean
-clean-joined j (Comment text) line clean = clean-more j.handler.pieces j.handler.hidden.depth j.run (Comment text) clean
-clean-joined j (Instruction content) line clean = clean-more j.handler.pieces j.handler.hidden.depth j.run (Instruction content) clean
-clean-joined j (Doctype doctype) line clean = clean-more j.handler.pieces j.handler.hidden.depth j.run (Doctype doctype) clean
-clean-joined j End line clean = clean-more j.handler.pieces j.handler.hidden.depth j.run End clean
+clean-joined j (Error message) line clean = clean-more j.handler.policy j.handler.pieces j.handler.hidden.depth [] (Error message) clean
+clean-joined j Null line clean = clean-more j.handler.policy j.handler.pieces j.handler.hidden.depth j.run Null clean
+clean-joined j (Tag tag) line clean = clean-more j.handler.policy j.handler.pieces j.handler.hidden.depth j.run (Tag tag) clean
+clean-joined j (Comment text) line clean = clean-more j.handler.policy j.handler.pieces j.handler.hidden.depth j.run (Comment text) clean
+clean-joined j (Instruction content) line clean = clean-more j.handler.policy j.handler.pieces j.handler.hidden.depth j.run (Instruction content) clean
+clean-joined j (Doctype doctype) line clean = clean-more j.handler.policy j.handler.pieces j.handler.hidden.depth j.run (Doctype doctype) clean
+clean-joined j End line clean = clean-more j.handler.policy j.handler.pieces j.handler.hidden.depth j.run End clean
 
-clean-stepped : (r : Running Cleaned) (M : List Message) → list_all is_clean r.joined.handler.pieces ≡ true
-    → list_all is_clean (stepped (runs_step clean_step) r M).joined.handler.pieces ≡ true
+clean-stepped : (r : Running Cleaned) (M : List Message) → list_all (is_clean r.joined.handler.policy) r.joined.handler.pieces ≡ true
+    → list_all (is_clean (stepped (runs_step clean_step) r M).joined.handler.policy) (stepped (runs_step clean_step) r M).joined.handler.pieces ≡ true
 unfolding stepped
 clean-stepped r [] clean = clean
 clean-stepped r (m ∷ M) clean = clean-stepped (runs_step clean_step r m.token m.line) M (clean-joined r.joined m.token m.line clean)
 
-pub clean-handed : (M : List Message) → list_all is_clean (runs_handed clean_step at_start M).pieces ≡ true
+clean-by_its_policy : (policy : PolicyOf) (M : List Message)
+    → list_all (is_clean (runs_handed clean_step (at_start policy) M).policy) (runs_handed clean_step (at_start policy) M).pieces ≡ true
 unfolding runs_handed
-clean-handed M = clean-stepped (runs_start at_start) M refl
+clean-by_its_policy policy M = clean-stepped (runs_start (at_start policy)) M refl
+
+pub clean-handed : (policy : PolicyOf) (M : List Message) → list_all (is_clean policy) (runs_handed clean_step (at_start policy) M).pieces ≡ true
+clean-handed policy M =
+    subst (λ (p : PolicyOf). list_all (is_clean p) (runs_handed clean_step (at_start policy) M).pieces ≡ true) (policy-handed policy M) (clean-by_its_policy policy M)
+
+-- ---- pages
+
+abbrev standing : Cleaning → Standing
+standing c = record { policy = c.policy; printed = c.printed }
+
+standing-handed : (s : Standing) (M : List Message) → standing (runs_handed cleaning_step (page_start s) M) ≡ printed_of s M
+standing-handed s M =
+    ap standing (printed-handed s M)
+    ∙ ap (λ (p : PolicyOf). record { policy = p; printed = s.printed ++ page_bytes (runs_handed clean_step (at_start s.policy) M).pieces }) (policy-handed s.policy M)
 
 -- a page that was read is printed as it is kept
-pub reads_printed : (names : List NamedReference) (unread left : Option (List ℕ)) (before : List ℕ) (after : Cleaning)
+pub reads_printed : (names : List NamedReference) (unread left : Option (List ℕ)) (before : Standing) (after : Cleaning)
     → ReadsPage (runs_after cleaning_step names) unread left (page_start before) after
-    → ReadsPage (λ s bytes. printed_of s (page_messages names s bytes)) unread left before after.printed
+    → ReadsPage (λ s bytes. printed_of s (page_messages names s bytes)) unread left before (standing after)
 reads_printed names unread left before after read = record {
   bytes = read.bytes;
   consumed = read.consumed;
   at_end = read.at_end;
   utf8 = read.utf8;
-  told = ap (λ s. s.printed) (read.told
-      ∙ ap (runs_handed cleaning_step (page_start before)) (page-same cleaning_step clean_step names (page_start before) at_start read.bytes)
-      ∙ printed-handed before (page_messages names before read.bytes));
+  told = ap standing (read.told
+      ∙ ap (runs_handed cleaning_step (page_start before)) (page-same cleaning_step clean_step names (page_start before) (at_start before.policy) read.bytes))
+      ∙ standing-handed before (page_messages names before read.bytes);
 }
 
-pub stops_printed : (names : List NamedReference) (unread left : Option (List ℕ)) (before : List ℕ) (after : Cleaning)
+pub stops_printed : (names : List NamedReference) (unread left : Option (List ℕ)) (before : Standing) (after : Cleaning)
     → StopsPage (runs_page cleaning_step names) (runs_handed cleaning_step) unread left (page_start before) after
-    → StopsPage (page_messages names) printed_of unread left before after.printed
+    → StopsPage (page_messages names) printed_of unread left before (standing after)
 stops_printed names unread left before after read = record {
   text = read.text;
   rest = read.rest;
@@ -107,6 +146,6 @@ stops_printed names unread left before after read = record {
   utf8 = read.utf8;
   told = read.told;
   untold = read.untold;
-  parts = page-same clean_step cleaning_step names at_start (page_start before) read.text ∙ read.parts;
-  state = ap (λ s. s.printed) (read.state ∙ printed-handed before read.told);
+  parts = page-same clean_step cleaning_step names (at_start before.policy) (page_start before) read.text ∙ read.parts;
+  state = ap standing read.state ∙ standing-handed before read.told;
 }

@@ -1,9 +1,12 @@
 -- Bytes of addresses by their tests.
-use Rattle.std.proofs.Common.{◌≡◌, ℕ, Bool, true, false, arith}
-use Rattle.std.specs.Prelude.{◌||◌, ◌==◌, nat_lt}
+use Rattle.std.proofs.Common.{◌≡◌, ℕ, Bool, true, false, List, [], ◌∷◌, refl, arith}
+use Rattle.std.specs.Prelude.{◌||◌, ◌&&◌, ◌==◌, nat_lt, not}
 use Rattle.std.proofs.lemmas.Bool.Decides.{nat_tests}
-use Rattle.std.specs.Char.{to_ascii_lowercase}
+use Rattle.std.specs.Char.{is_ascii_lowercase, to_ascii_lowercase}
+use Rattle.std.specs.List.{list_all}
+use Rattle.html5policy.specs.Names.{is_scheme_byte as is_small_byte}
 use Rattle.html5cleaner.specs.Browsers.{is_no_break, is_scheme_byte}
+use Rattle.html5cleaner.proofs.Replies.{and-left, and-right}
 
 -- a byte after which no scheme can end
 abbrev pub is_stop : ℕ → Bool
@@ -35,3 +38,26 @@ lower-no_colon byte letter same other = grind (arith, nat_tests)
 
 pub lower-same : (byte letter : ℕ) → (to_ascii_lowercase byte == letter) ≡ true → to_ascii_lowercase byte ≡ letter
 lower-same byte letter same = grind (arith, nat_tests)
+
+-- ---- no colon stands in a scheme
+
+small-no_colon : (byte : ℕ) → is_ascii_lowercase byte ≡ true → not (byte == 58) ≡ true
+small-no_colon byte small = grind (arith, nat_tests)
+
+byte-no_colon : (byte : ℕ) → is_small_byte byte ≡ true → not (byte == 58) ≡ true
+byte-no_colon byte small = grind (arith, nat_tests)
+
+bytes-no_colon : (word : List ℕ) → list_all is_small_byte word ≡ true → list_all (λ letter. not (letter == 58)) word ≡ true
+bytes-no_colon [] small = refl
+bytes-no_colon (byte ∷ word) small =
+    rw (
+      byte-no_colon byte (and-left (is_small_byte byte) (list_all is_small_byte word) small),
+      bytes-no_colon word (and-right (is_small_byte byte) (list_all is_small_byte word) small),
+    ) refl
+
+pub scheme-no_colon : (letter : ℕ) (word : List ℕ) → (is_ascii_lowercase letter && list_all is_small_byte word) ≡ true → list_all (λ c. not (c == 58)) (letter ∷ word) ≡ true
+scheme-no_colon letter word scheme =
+    rw (
+      small-no_colon letter (and-left (is_ascii_lowercase letter) (list_all is_small_byte word) scheme),
+      bytes-no_colon word (and-right (is_ascii_lowercase letter) (list_all is_small_byte word) scheme),
+    ) refl

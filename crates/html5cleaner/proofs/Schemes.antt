@@ -2,13 +2,19 @@
 use Rattle.std.proofs.Common.{◌≡◌, ℕ, Bool, true, false, List, [], ◌∷◌, ◌++◌, Option, Some, None, refl, sym, ap, ◌∙◌}
 use Rattle.std.specs.Prelude.{◌||◌, ◌&&◌, ◌==◌, not, nat_lt, codes, option_map, if◌then◌else◌}
 use Rattle.std.specs.List.{list_all}
+use Rattle.std.specs.Str.{bytes_eq}
 use Rattle.std.specs.Char.{to_ascii_lowercase, is_ascii_alphabetic}
 use Rattle.std.proofs.lemmas.Bool.{false≢true}
-use Rattle.html5cleaner.specs.Addresses.{has_scheme, is_relative, is_safe_address}
+use Rattle.html5policy.specs.Addresses.{has_scheme, has_scheme_of, is_relative, is_safe_address}
+use Rattle.html5policy.specs.Names.{is_one_of, is_scheme, runs_address}
+use Rattle.html5policy.specs.Policy.{PolicyOf}
+use Rattle.html5policy.specs.Rules.{IsSound, may_keep_scheme}
+use Rattle.html5policy.proofs.Soundness.{listed-runs_nothing}
+use Rattle.markup5ever.proofs.NameOrder.{bytes_eq-itself}
 use Rattle.html5cleaner.specs.Browsers.{is_no_break, is_scheme_byte, scheme_from, scheme_of, scheme_where, without_breaks, without_front, RunsNothing}
-use Rattle.html5cleaner.specs.Browsers.RunsNothing.{Relative, Http, Https, Mailto}
+use Rattle.html5cleaner.specs.Browsers.RunsNothing.{Relative, Listed}
 use Rattle.html5cleaner.proofs.Replies.{and-left, and-right}
-use Rattle.html5cleaner.proofs.SchemeBytes.{is_stop, passed-no_colon, passed-no_scheme, passed-no_stop, break-no_stop, stop-no_scheme, other-no_break, lower-colon, lower-no_colon, lower-same}
+use Rattle.html5cleaner.proofs.SchemeBytes.{is_stop, passed-no_colon, passed-no_scheme, passed-no_stop, break-no_stop, stop-no_scheme, other-no_break, lower-colon, lower-no_colon, lower-same, scheme-no_colon}
 
 -- ---- relative addresses
 
@@ -187,29 +193,57 @@ has-found : (letter : ℕ) (word address : List ℕ) → no_colon (letter ∷ wo
 has-found letter word address letters has =
     finds-where (letter ∷ word) (without_breaks (without_front address)) (found (without_front address) (letter ∷ word) letters (front letter address (word ++ 58 ∷ []) has))
 
-runs-http : {scheme : Option (List ℕ)} → Finds (codes "http") scheme → RunsNothing scheme
-runs-http (Nothing none) = Relative none
-runs-http (Word found) = Http found
+-- ---- the schemes of a policy
 
-runs-https : {scheme : Option (List ℕ)} → Finds (codes "https") scheme → RunsNothing scheme
-runs-https (Nothing none) = Relative none
-runs-https (Word found) = Https found
+scheme-found : (word address : List ℕ) → is_scheme word ≡ true → has_scheme address (word ++ 58 ∷ []) ≡ true → Finds word (scheme_of address)
+unfolding is_scheme
+scheme-found [] address scheme has = absurd (false≢true scheme)
+scheme-found (letter ∷ word) address scheme has = has-found letter word address (scheme-no_colon letter word scheme) has
 
-runs-mailto : {scheme : Option (List ℕ)} → Finds (codes "mailto") scheme → RunsNothing scheme
-runs-mailto (Nothing none) = Relative none
-runs-mailto (Word found) = Mailto found
+listed : {schemes : List (List ℕ)} {scheme : Option (List ℕ)} (word : List ℕ) → is_one_of schemes word ≡ true → Finds word scheme → RunsNothing schemes scheme
+listed word one (Nothing none) = Relative none
+listed word one (Word found) = Listed word one found
 
-safe-cases : (address : List ℕ) (relative http https mailto : Bool) → is_relative address ≡ relative → has_scheme address (codes "http:") ≡ http
-    → has_scheme address (codes "https:") ≡ https → has_scheme address (codes "mailto:") ≡ mailto
-    → (relative || http || https || mailto) ≡ true → RunsNothing (scheme_of address)
-safe-cases address true http https mailto r h s m safe =
-    Relative (none-where (without_breaks (without_front address)) (no-scheme (without_breaks (without_front address)) (relative-breaks (without_front address) (relative-front address r))))
-safe-cases address false true https mailto r h s m safe = runs-http (has-found 0x68 (codes "ttp") address refl h)
-safe-cases address false false true mailto r h s m safe = runs-https (has-found 0x68 (codes "ttps") address refl s)
-safe-cases address false false false true r h s m safe = runs-mailto (has-found 0x6D (codes "ailto") address refl m)
-safe-cases address false false false false r h s m safe = absurd (false≢true safe)
+one-here : (word : List ℕ) (words : List (List ℕ)) → is_one_of (word ∷ words) word ≡ true
+unfolding is_one_of
+one-here word words = ap (λ b. b || is_one_of words word) (bytes_eq-itself word)
 
-pub safe-runs_nothing : (address : List ℕ) → is_safe_address address ≡ true → RunsNothing (scheme_of address)
+one-later : (word other : List ℕ) (words : List (List ℕ)) → is_one_of words word ≡ true → is_one_of (other ∷ words) word ≡ true
+unfolding is_one_of
+one-later word other words one = elim (bytes_eq other word) as (λ b. (b || is_one_of words word) ≡ true) [ true ↦ refl | false ↦ one ]
+
+some-where : (schemes : List (List ℕ)) (word : List ℕ) (words : List (List ℕ)) (address : List ℕ) (has : Bool) → has_scheme address (word ++ 58 ∷ []) ≡ has
+    → is_one_of schemes word ≡ true → is_scheme word ≡ true → (has || has_scheme_of words address) ≡ true
+    → (has_scheme_of words address ≡ true → RunsNothing schemes (scheme_of address)) → RunsNothing schemes (scheme_of address)
+some-where schemes word words address true is one scheme safe later = listed word one (scheme-found word address scheme is)
+some-where schemes word words address false is one scheme safe later = later safe
+
+-- an address of one of some of them
+some-listed : (schemes words : List (List ℕ)) (address : List ℕ) → ((word : List ℕ) → is_one_of words word ≡ true → is_one_of schemes word ≡ true)
+    → list_all may_keep_scheme words ≡ true → has_scheme_of words address ≡ true → RunsNothing schemes (scheme_of address)
+unfolding has_scheme_of
+some-listed schemes [] address among sound has = absurd (false≢true has)
+some-listed schemes (word ∷ words) address among sound has =
+    some-where schemes word words address (has_scheme address (word ++ 58 ∷ [])) refl (among word (one-here word words))
+    (and-left (is_scheme word) (not (runs_address word)) (and-left (may_keep_scheme word) (list_all may_keep_scheme words) sound)) has
+    (some-listed schemes words address (λ other one. among other (one-later other word words one)) (and-right (may_keep_scheme word) (list_all may_keep_scheme words) sound))
+
+safe-cases : (schemes : List (List ℕ)) (address : List ℕ) (relative : Bool) → is_relative address ≡ relative → list_all may_keep_scheme schemes ≡ true
+    → (relative || has_scheme_of schemes address) ≡ true → RunsNothing schemes (scheme_of address)
+safe-cases schemes address true is sound safe =
+    Relative (none-where (without_breaks (without_front address)) (no-scheme (without_breaks (without_front address)) (relative-breaks (without_front address) (relative-front address is))))
+safe-cases schemes address false is sound safe = some-listed schemes schemes address (λ word one. one) sound safe
+
+pub safe-runs_nothing : (policy : PolicyOf) (address : List ℕ) → IsSound policy → is_safe_address policy.schemes address ≡ true → RunsNothing policy.schemes (scheme_of address)
 unfolding is_safe_address
-safe-runs_nothing address safe =
-    safe-cases address (is_relative address) (has_scheme address (codes "http:")) (has_scheme address (codes "https:")) (has_scheme address (codes "mailto:")) refl refl refl refl safe
+safe-runs_nothing policy address sound safe = safe-cases policy.schemes address (is_relative address) refl sound.schemes safe
+
+runs-where : (policy : PolicyOf) (found : Option (List ℕ)) (scheme : List ℕ) → IsSound policy → RunsNothing policy.schemes found → found ≡ Some scheme → runs_address scheme ≡ false
+runs-where policy found scheme sound (Relative none) is = absurd cc
+runs-where policy found scheme sound (Listed word one found_is) is =
+    let same : scheme ≡ word = cc in
+    ap runs_address same ∙ listed-runs_nothing policy word sound one
+
+pub safe-scheme : (policy : PolicyOf) (address scheme : List ℕ) → IsSound policy → is_safe_address policy.schemes address ≡ true → scheme_of address ≡ Some scheme
+    → runs_address scheme ≡ false
+safe-scheme policy address scheme sound safe is = runs-where policy (scheme_of address) scheme sound (safe-runs_nothing policy address sound safe) is

@@ -8,45 +8,48 @@ use Rattle.markup5ever.specs.Names.{AttributeOf}
 use Rattle.html5write.specs.Pieces.{NameAndValue, Piece, can_write}
 use Rattle.html5write.specs.Pieces.Piece.{TextPiece, StartTagPiece, EndTagPiece, CommentPiece}
 use Rattle.html5write.specs.Told.{attribute_told, page_tokens, piece_tokens}
-use Rattle.html5cleaner.specs.Policy.{is_allowed, is_kept}
-use Rattle.html5cleaner.specs.Allowed.{is_allowed_piece, is_clean, is_kept_attribute}
-use Rattle.html5cleaner.specs.Reading.{has_kept_attributes, is_allowed_token}
+use Rattle.html5policy.specs.Policy.{PolicyOf, is_allowed, is_written}
+use Rattle.html5cleaner.specs.Allowed.{is_allowed_piece, is_clean, is_written_attribute}
+use Rattle.html5cleaner.specs.Reading.{has_written_attributes, is_allowed_token}
 use Rattle.html5cleaner.proofs.Replies.{and-left, and-right}
 
-allowed-text : (text : List ℕ) → list_all is_allowed_token (map (λ c. Text (encode_utf8 c)) text) ≡ true
-unfolding is_allowed_token
-allowed-text [] = refl
-allowed-text (c ∷ text) = allowed-text text
+module _ (policy : PolicyOf) where
+  allowed-text : (text : List ℕ) → list_all (is_allowed_token policy) (map (λ c. Text (encode_utf8 c)) text) ≡ true
+  unfolding is_allowed_token
+  allowed-text [] = refl
+  allowed-text (c ∷ text) = allowed-text text
 
-kept-told : (name : List ℕ) (attributes : List NameAndValue) → has_kept_attributes (encode_utf8_all name) (map attribute_told attributes) ≡ list_all (is_kept_attribute name) attributes
-kept-told name attributes = list_all-map (λ (a : AttributeOf). is_kept (encode_utf8_all name) a.name.local a.value) attribute_told attributes
+  written-told : (name : List ℕ) (attributes : List NameAndValue)
+      → has_written_attributes policy (encode_utf8_all name) (map attribute_told attributes) ≡ list_all (is_written_attribute policy name) attributes
+  written-told name attributes = list_all-map (λ (a : AttributeOf). is_written policy (encode_utf8_all name) a.name.local a.value) attribute_told attributes
 
-allowed-piece_tokens : (piece : Piece) → is_allowed_piece piece ≡ true → list_all is_allowed_token (piece_tokens piece) ≡ true
-unfolding is_allowed_token is_allowed_piece
-allowed-piece_tokens (TextPiece text) allowed = allowed-text text
-allowed-piece_tokens (StartTagPiece name attributes) allowed = ap (λ b. (is_allowed (encode_utf8_all name) && b) && true) (kept-told name attributes) ∙ ap (λ b. b && true) allowed
-allowed-piece_tokens (EndTagPiece name) allowed = ap (λ b. b && true) allowed
-allowed-piece_tokens (CommentPiece text) allowed = allowed
+  allowed-piece_tokens : (piece : Piece) → is_allowed_piece policy piece ≡ true → list_all (is_allowed_token policy) (piece_tokens piece) ≡ true
+  unfolding is_allowed_token is_allowed_piece
+  allowed-piece_tokens (TextPiece text) allowed = allowed-text text
+  allowed-piece_tokens (StartTagPiece name attributes) allowed =
+      ap (λ b. (is_allowed policy (encode_utf8_all name) && b) && true) (written-told name attributes) ∙ ap (λ b. b && true) allowed
+  allowed-piece_tokens (EndTagPiece name) allowed = ap (λ b. b && true) allowed
+  allowed-piece_tokens (CommentPiece text) allowed = allowed
 
-pub allowed-page_tokens : (pieces : List Piece) → list_all is_clean pieces ≡ true → list_all is_allowed_token (page_tokens pieces) ≡ true
-allowed-page_tokens [] clean = refl
-allowed-page_tokens (piece ∷ pieces) clean =
-    list_all-append is_allowed_token (piece_tokens piece) (page_tokens pieces)
-    ∙ rw (
-      allowed-piece_tokens piece (and-left (is_allowed_piece piece) (can_write piece) (and-left (is_clean piece) (list_all is_clean pieces) clean)),
-      allowed-page_tokens pieces (and-right (is_clean piece) (list_all is_clean pieces) clean),
-    ) refl
+  pub allowed-page_tokens : (pieces : List Piece) → list_all (is_clean policy) pieces ≡ true → list_all (is_allowed_token policy) (page_tokens pieces) ≡ true
+  allowed-page_tokens [] clean = refl
+  allowed-page_tokens (piece ∷ pieces) clean =
+      list_all-append (is_allowed_token policy) (piece_tokens piece) (page_tokens pieces)
+      ∙ rw (
+        allowed-piece_tokens piece (and-left (is_allowed_piece policy piece) (can_write piece) (and-left (is_clean policy piece) (list_all (is_clean policy) pieces) clean)),
+        allowed-page_tokens pieces (and-right (is_clean policy piece) (list_all (is_clean policy) pieces) clean),
+      ) refl
 
--- with the end after them
-pub allowed-whole : (pieces : List Piece) → list_all is_clean pieces ≡ true → list_all is_allowed_token (page_tokens pieces ++ End ∷ []) ≡ true
-unfolding is_allowed_token
-allowed-whole pieces clean = list_all-append is_allowed_token (page_tokens pieces) (End ∷ []) ∙ rw (allowed-page_tokens pieces clean) refl
+  -- with the end after them
+  pub allowed-whole : (pieces : List Piece) → list_all (is_clean policy) pieces ≡ true → list_all (is_allowed_token policy) (page_tokens pieces ++ End ∷ []) ≡ true
+  unfolding is_allowed_token
+  allowed-whole pieces clean = list_all-append (is_allowed_token policy) (page_tokens pieces) (End ∷ []) ∙ rw (allowed-page_tokens pieces clean) refl
 
--- what can be written of it is all of it
-pub can-clean : (pieces : List Piece) → list_all is_clean pieces ≡ true → list_all can_write pieces ≡ true
-can-clean [] clean = refl
-can-clean (piece ∷ pieces) clean =
-    rw (
-      and-right (is_allowed_piece piece) (can_write piece) (and-left (is_clean piece) (list_all is_clean pieces) clean),
-      can-clean pieces (and-right (is_clean piece) (list_all is_clean pieces) clean),
-    ) refl
+  -- what can be written of it is all of it
+  pub can-clean : (pieces : List Piece) → list_all (is_clean policy) pieces ≡ true → list_all can_write pieces ≡ true
+  can-clean [] clean = refl
+  can-clean (piece ∷ pieces) clean =
+      rw (
+        and-right (is_allowed_piece policy piece) (can_write piece) (and-left (is_clean policy piece) (list_all (is_clean policy) pieces) clean),
+        can-clean pieces (and-right (is_clean policy piece) (list_all (is_clean policy) pieces) clean),
+      ) refl

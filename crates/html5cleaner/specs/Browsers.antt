@@ -1,6 +1,7 @@
 -- The scheme that a browser finds in an address, by its bytes.
-use Rattle.std.specs.Prelude.{◌≡◌, ℕ, Bool, not, List, [], ◌∷◌, ◌||◌, ◌==◌, filter, Option, None, Some, option_map, nat_lt, codes, if◌then◌else◌}
+use Rattle.std.specs.Prelude.{◌≡◌, ℕ, Bool, not, List, [], ◌∷◌, ◌||◌, ◌==◌, filter, Option, None, Some, option_map, nat_lt, true, if◌then◌else◌}
 use Rattle.std.specs.Char.{to_ascii_lowercase, is_ascii_alphabetic, is_ascii_alphanumeric}
+use Rattle.html5policy.specs.Names.{is_one_of}
 
 -- "remove any leading C0 control or space"
 unfoldable pub without_front : List ℕ → List ℕ
@@ -35,9 +36,7 @@ scheme_where (byte ∷ address) = if is_ascii_alphabetic byte then scheme_from (
 abbrev pub scheme_of : List ℕ → Option (List ℕ)
 scheme_of address = scheme_where (without_breaks (without_front address))
 
--- an address of no scheme, or of one of these three
-pub data RunsNothing (scheme : Option (List ℕ)) : Type 0 where
-  Relative : scheme ≡ None → RunsNothing scheme
-  Http : scheme ≡ Some (codes "http") → RunsNothing scheme
-  Https : scheme ≡ Some (codes "https") → RunsNothing scheme
-  Mailto : scheme ≡ Some (codes "mailto") → RunsNothing scheme
+-- an address of no scheme, or of one of these
+pub data RunsNothing (schemes : List (List ℕ)) (scheme : Option (List ℕ)) : Type 0 where
+  Relative : scheme ≡ None → RunsNothing schemes scheme
+  Listed : (word : List ℕ) → is_one_of schemes word ≡ true → scheme ≡ Some word → RunsNothing schemes scheme

@@ -1,14 +1,16 @@
 -- A page that is cleaned: what is kept of each run of text and of the token after it.
-use Rattle.std.specs.Prelude.{ℕ, ◌+◌, ◌-◌, Bool, false, not, List, [], ◌∷◌, ◌++◌, ◌&&◌, ◌==◌, filter, map, chars, string_bytes, encode_utf8_all, if◌then◌else◌}
+use Rattle.std.specs.Prelude.{ℕ, ◌+◌, ◌-◌, Bool, false, not, List, [], ◌∷◌, ◌++◌, ◌&&◌, ◌==◌, filter, map, chars, codes, string_bytes, encode_utf8_all, if◌then◌else◌}
+use Rattle.std.specs.List.{list_any}
 use Rattle.std.specs.Str.{bytes_eq}
 use Rattle.html5ever_interface.specs.Token.{Told, TagOf}
 use Rattle.html5ever_interface.specs.Token.Told.{Tag}
 use Rattle.html5ever_interface.specs.declared.interface.token.TagKind.{TagKind}
 use Rattle.html5ever_interface.specs.declared.interface.token.TagKind.TheVariants.{StartTag, EndTag}
 use Rattle.markup5ever.specs.Names.{AttributeOf}
+use Rattle.html5policy.specs.Policy.{PolicyOf, hides, is_allowed, is_rel_of_link}
 use Rattle.html5write.specs.Pieces.{NameAndValue, Piece, can_write}
 use Rattle.html5write.specs.Pieces.Piece.{TextPiece, StartTagPiece, EndTagPiece}
-use Rattle.html5cleaner.specs.Policy.{is_allowed, is_void, is_foreign, is_hider}
+use Rattle.html5cleaner.specs.Elements.{is_void, is_foreign}
 use Rattle.html5cleaner.specs.Allowed.{is_kept_attribute}
 use Rattle.html5cleaner.specs.declared.hidden.Hidden.{Hidden as RustHidden}
 
@@ -23,12 +25,12 @@ abbrev pub hidden_of : {Z : Type 0} → RustHidden Z → Hidden
 hidden_of hidden = record { name = string_bytes hidden.name; depth = hidden.depth }
 
 -- whether a tag is the start tag of an element that is dropped with what stands in it; `<svg/>` has nothing in it
-abbrev pub opens_by_kind : TagKind → List ℕ → Bool → Bool
-opens_by_kind StartTag name self_closing = is_hider name && not (self_closing && is_foreign name)
-opens_by_kind EndTag name self_closing = false
+abbrev pub opens_by_kind : PolicyOf → TagKind → List ℕ → Bool → Bool
+opens_by_kind policy StartTag name self_closing = hides policy name && not (self_closing && is_foreign name)
+opens_by_kind policy EndTag name self_closing = false
 
-abbrev pub opens : TagOf → Bool
-opens tag = opens_by_kind tag.kind tag.name tag.self_closing
+abbrev pub opens : PolicyOf → TagOf → Bool
+opens policy tag = opens_by_kind policy tag.kind tag.name tag.self_closing
 
 abbrev pub count_of : Bool → ℕ
 count_of opening = if opening then 1 else 0
@@ -38,15 +40,15 @@ abbrev pub depth_by_kind : TagKind → Bool → ℕ → ℕ
 depth_by_kind StartTag opening depth = depth + count_of opening
 depth_by_kind EndTag opening depth = depth - 1
 
-abbrev pub depth_after_tag : Hidden → TagOf → ℕ
-depth_after_tag hidden tag =
-    if hidden.depth == 0 then count_of (opens tag)
-    else if bytes_eq tag.name hidden.name then depth_by_kind tag.kind (opens tag) hidden.depth
+abbrev pub depth_after_tag : PolicyOf → Hidden → TagOf → ℕ
+depth_after_tag policy hidden tag =
+    if hidden.depth == 0 then count_of (opens policy tag)
+    else if bytes_eq tag.name hidden.name then depth_by_kind tag.kind (opens policy tag) hidden.depth
     else hidden.depth
 
-abbrev pub depth_after : Hidden → Told → ℕ
-depth_after hidden (Tag tag) = depth_after_tag hidden tag
-depth_after hidden other = hidden.depth
+abbrev pub depth_after : PolicyOf → Hidden → Told → ℕ
+depth_after policy hidden (Tag tag) = depth_after_tag policy hidden tag
+depth_after policy hidden other = hidden.depth
 
 abbrev pub name_after_tag : Hidden → List ℕ → List ℕ
 name_after_tag hidden name = if hidden.depth == 0 then name else hidden.name
@@ -55,42 +57,59 @@ abbrev pub name_after : Hidden → Told → List ℕ
 name_after hidden (Tag tag) = name_after_tag hidden tag.name
 name_after hidden other = hidden.name
 
-abbrev pub hidden_after : Hidden → Told → Hidden
-hidden_after hidden told = record { name = name_after hidden told; depth = depth_after hidden told }
+abbrev pub hidden_after : PolicyOf → Hidden → Told → Hidden
+hidden_after policy hidden told = record { name = name_after hidden told; depth = depth_after policy hidden told }
 
 -- ---- what is kept
 
 abbrev pub attribute_chars : AttributeOf → NameAndValue
 attribute_chars a = record { name = chars a.name.local; value = chars a.value }
 
--- the attributes of an element of this name that are kept
-abbrev pub kept_attributes : List ℕ → List NameAndValue → List NameAndValue
-kept_attributes element attributes = filter (is_kept_attribute element) attributes
+-- `rel="noopener"`
+abbrev pub noopener_attribute : NameAndValue
+noopener_attribute = record { name = codes "rel"; value = codes "noopener" }
+
+abbrev pub is_href : NameAndValue → Bool
+is_href a = bytes_eq (encode_utf8_all a.name) (codes "href")
+
+-- whether an element of this name with these attributes is a link into which the policy writes `rel="noopener"`
+abbrev pub adds_noopener : PolicyOf → List ℕ → List NameAndValue → Bool
+adds_noopener policy element attributes = is_rel_of_link policy (encode_utf8_all element) (codes "rel") && list_any is_href attributes
+
+abbrev pub with_noopener : PolicyOf → List ℕ → List NameAndValue → List NameAndValue
+with_noopener policy element attributes =
+    if adds_noopener policy element attributes then attributes ++ noopener_attribute ∷ [] else attributes
+
+-- the attributes of an element of this name that are kept, and what the policy writes after them
+unfoldable pub kept_attributes : PolicyOf → List ℕ → List NameAndValue → List NameAndValue
+kept_attributes policy element attributes = with_noopener policy element (filter (is_kept_attribute policy element) attributes)
 
 abbrev pub piece_by_kind : TagKind → List ℕ → List NameAndValue → Piece
 piece_by_kind StartTag name attributes = StartTagPiece name attributes
 piece_by_kind EndTag name attributes = EndTagPiece name
 
 -- whether a tag of this kind and name is kept: an allowed element, and no end tag of an element that has none
-abbrev pub allows_by_kind : TagKind → List ℕ → Bool
-allows_by_kind StartTag name = is_allowed name
-allows_by_kind EndTag name = is_allowed name && not (is_void name)
+abbrev pub allows_by_kind : PolicyOf → TagKind → List ℕ → Bool
+allows_by_kind policy StartTag name = is_allowed policy name
+allows_by_kind policy EndTag name = is_allowed policy name && not (is_void name)
 
 -- a piece, where it can be written
 abbrev pub where_writable : Piece → List Piece
 where_writable piece = if can_write piece then piece ∷ [] else []
 
 -- what is kept of a tag with these attributes
-unfoldable pub kept_of_parts : TagKind → List ℕ → List NameAndValue → List Piece
-kept_of_parts kind name attributes = if allows_by_kind kind (encode_utf8_all name) then where_writable (piece_by_kind kind name attributes) else []
+unfoldable pub kept_of_parts : PolicyOf → TagKind → List ℕ → List NameAndValue → List Piece
+kept_of_parts policy kind name attributes =
+    if allows_by_kind policy kind (encode_utf8_all name) then where_writable (piece_by_kind kind name attributes) else []
 
 -- a tag of an allowed element, without the attributes that are not kept
-unfoldable pub kept_of_tag : TagOf → List Piece
-kept_of_tag tag = kept_of_parts tag.kind (chars tag.name) (kept_attributes (chars tag.name) (map attribute_chars tag.attributes))
+unfoldable pub kept_of_tag : PolicyOf → TagOf → List Piece
+kept_of_tag policy tag =
+    kept_of_parts policy tag.kind (chars tag.name) (kept_attributes policy (chars tag.name) (map attribute_chars tag.attributes))
 
-abbrev pub kept_of_token : Told → List Piece
-kept_of_token (Tag tag) = kept_of_tag tag
-kept_of_token other = []
+abbrev pub kept_of_token : PolicyOf → Told → List Piece
+kept_of_token policy (Tag tag) = kept_of_tag policy tag
+kept_of_token policy other = []
 
 -- a run, where there is one
 unfoldable pub kept_of_run : List ℕ → List Piece
@@ -98,26 +117,28 @@ kept_of_run [] = []
 kept_of_run (byte ∷ run) = where_writable (TextPiece (chars (byte ∷ run)))
 
 -- what is kept of a run of text and the token after it, where nothing is hidden
-abbrev pub kept : List ℕ → Told → List Piece
-kept run told = kept_of_run run ++ kept_of_token told
+abbrev pub kept : PolicyOf → List ℕ → Told → List Piece
+kept policy run told = kept_of_run run ++ kept_of_token policy told
 
-abbrev pub kept_where : ℕ → List ℕ → Told → List Piece
-kept_where depth run told = if depth == 0 then kept run told else []
+abbrev pub kept_where : PolicyOf → ℕ → List ℕ → Told → List Piece
+kept_where policy depth run told = if depth == 0 then kept policy run told else []
 
 -- ---- the page
 
--- the pieces that were kept, and what is hidden
+-- the policy, the pieces that were kept, and what is hidden
 pub record Cleaned : Type 0 where
+  pub policy : PolicyOf
   pub pieces : List Piece
   pub hidden : Hidden
 
 -- where a page begins
-abbrev pub at_start : Cleaned
-at_start = record { pieces = []; hidden = record { name = []; depth = 0 } }
+abbrev pub at_start : PolicyOf → Cleaned
+at_start policy = record { policy = policy; pieces = []; hidden = record { name = []; depth = 0 } }
 
 -- a run of text and the token after it
 abbrev pub clean_step : Cleaned → List ℕ → Told → ℕ → Cleaned
 clean_step s run told line = record {
-  pieces = s.pieces ++ kept_where s.hidden.depth run told;
-  hidden = hidden_after s.hidden told;
+  policy = s.policy;
+  pieces = s.pieces ++ kept_where s.policy s.hidden.depth run told;
+  hidden = hidden_after s.policy s.hidden told;
 }

@@ -4,47 +4,62 @@ use Rattle.devices.specs.Printing.{Printing}
 use Rattle.html5ever_interface.specs.Sink.{Message}
 use Rattle.html5ever_interface.specs.Token.{Told}
 use Rattle.html5stream.specs.Pages.{runs_after, runs_handed, runs_page}
+use Rattle.html5policy.specs.Policy.{PolicyOf}
 use Rattle.html5write.specs.Pieces.{Piece, page_text}
 use Rattle.html5cleaner.specs.Clean.{Hidden, at_start, clean_step, hidden_after, kept_where}
 use Rattle.markup5ever.specs.NamedReferences.{NamedReference}
 
--- what was printed, and what is hidden
+-- the policy, what was printed, and what is hidden
 pub record Cleaning : Type 0 where
+  pub policy : PolicyOf
   pub printed : List ℕ
   pub hidden : Hidden
 
--- the printer, and what is hidden
+-- the policy, the printer, and what is hidden
 pub record Printed (W : Type 0) : Type 0 where
+  pub policy : PolicyOf
   pub printer : Printing W
   pub hidden : Hidden
 
+-- the policy and what was printed: all that stays from one page to the next
+pub record Standing : Type 0 where
+  pub policy : PolicyOf
+  pub printed : List ℕ
+
 -- where a page begins
-abbrev pub page_start : List ℕ → Cleaning
-page_start printed = record { printed = printed; hidden = record { name = []; depth = 0 } }
+abbrev pub page_start : Standing → Cleaning
+page_start s = record { policy = s.policy; printed = s.printed; hidden = record { name = []; depth = 0 } }
 
 -- where a printer of cleaned pages stands
 abbrev pub cleaning_of : {W : Type 0} → Printed W → Cleaning
-cleaning_of p = record { printed = p.printer.printed; hidden = p.hidden }
+cleaning_of p = record { policy = p.policy; printed = p.printer.printed; hidden = p.hidden }
+
+abbrev pub standing_of : {W : Type 0} → Printed W → Standing
+standing_of p = record { policy = p.policy; printed = p.printer.printed }
 
 -- the bytes of pieces
 abbrev pub page_bytes : List Piece → List ℕ
 page_bytes pieces = encode_utf8_all (page_text pieces)
 
--- the pieces that are kept of a page whose bytes are given
-abbrev pub kept_of_page : List NamedReference → List ℕ → List Piece
-kept_of_page names bytes = (runs_after clean_step names at_start bytes).pieces
+-- the pieces that a policy keeps of a page whose bytes are given
+abbrev pub kept_of_page : PolicyOf → List NamedReference → List ℕ → List Piece
+kept_of_page policy names bytes = (runs_after clean_step names (at_start policy) bytes).pieces
 
 -- a run of text and the token after it: what is kept of them is printed
 abbrev pub cleaning_step : Cleaning → List ℕ → Told → ℕ → Cleaning
 cleaning_step s run told line = record {
-  printed = s.printed ++ page_bytes (kept_where s.hidden.depth run told);
-  hidden = hidden_after s.hidden told;
+  policy = s.policy;
+  printed = s.printed ++ page_bytes (kept_where s.policy s.hidden.depth run told);
+  hidden = hidden_after s.policy s.hidden told;
 }
 
 -- the messages of a page, which don't depend on what was printed before it
-abbrev pub page_messages : List NamedReference → List ℕ → List ℕ → List Message
-page_messages names before bytes = runs_page clean_step names at_start bytes
+abbrev pub page_messages : List NamedReference → Standing → List ℕ → List Message
+page_messages names s bytes = runs_page clean_step names (at_start s.policy) bytes
 
 -- what was printed after some messages of a page: what was printed before, and the text of the pieces that are kept of them
-abbrev pub printed_of : List ℕ → List Message → List ℕ
-printed_of before messages = before ++ page_bytes (runs_handed clean_step at_start messages).pieces
+abbrev pub printed_of : Standing → List Message → Standing
+printed_of s messages = record {
+  policy = s.policy;
+  printed = s.printed ++ page_bytes (runs_handed clean_step (at_start s.policy) messages).pieces;
+}

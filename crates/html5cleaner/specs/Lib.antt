@@ -1,5 +1,4 @@
-pub mod Policy
-pub mod Addresses
+pub mod Elements
 pub mod Allowed
 pub mod Clean
 pub mod Kept

@@ -2,21 +2,23 @@
 ghost use Rattle.std.specs.Prelude.{◌≡◌, ◌++◌, [], OnOk, OnErr, string_bytes};
 ghost use Rattle.html5ever_interface.specs.Token.{told_by};
 ghost use Rattle.html5cleaner.specs.Clean.{kept_where, hidden_of, hidden_after};
-ghost use Rattle.html5cleaner.specs.Cleaning.{page_bytes, page_start, cleaning_of};
+ghost use Rattle.html5cleaner.specs.Cleaning.{page_bytes, page_start, cleaning_of, standing_of};
 
 use crate::cleaner::keep_where;
 use crate::hidden::Hidden;
 use devices::{Printer, Target};
 use html5ever_interface::interface::token::{SinkFault, Token};
+use html5policy::Policy;
 use html5sinks::text_runs::TokenHandler;
 use html5write::Writer;
 use std::alloc::{Allocator, Global};
 use std::marker::Model;
 
-/// Prints what is kept of the runs of text and the tags that it takes.
+/// Prints what a policy keeps of the runs of text and the tags that it takes.
 #[derive(Drop)]
 pub struct CleanPrinter<W, A: Allocator = Global> {
     alloc: A,
+    policy: Policy<A>,
     printer: Printer<W, A>,
     hidden: Hidden<A>,
 }
@@ -27,23 +29,24 @@ impl<W, A: Allocator> Model for CleanPrinter<W, A> {
 
     ghost Value = { Printed W };
 
-    ghost view = { λ c. record { printer = c.printer; hidden = hidden_of c.hidden } };
+    ghost view = { λ c. record { policy = c.policy; printer = c.printer; hidden = hidden_of c.hidden } };
 }
 
 // Prints what is kept of a run of text and the token after it, all of it or nothing.
 fn print_kept<W: Target, A: Allocator + Copy>(
     alloc: A,
+    policy: &Policy<A>,
     depth: u64,
     printer: &mut Printer<W, A>,
     run: &str,
     token: &Token<A>,
 ) -> Result<(), SinkFault>
     ensures ok { OnOk result (printer.new.printed ≡ printer.old.printed
-        ++ page_bytes (kept_where depth run.now (told_by token.now))) }
+        ++ page_bytes (kept_where policy.now depth run.now (told_by token.now))) }
     ensures err { OnErr result (printer.new.printed ≡ printer.old.printed) }
 {
     let mut page = Writer::new(alloc);
-    let Ok(()) = keep_where(alloc, depth, &mut page, run, token) else {
+    let Ok(()) = keep_where(alloc, policy, depth, &mut page, run, token) else {
         return Err(SinkFault);
     };
     match printer.print(page.as_str().as_bytes()) {
@@ -54,12 +57,13 @@ fn print_kept<W: Target, A: Allocator + Copy>(
 
 impl<W: Target, A: Allocator + Copy> CleanPrinter<W, A> {
     /// Prints to this printer, at the start of a page.
-    pub fn new(alloc: A, printer: Printer<W, A>) -> CleanPrinter<W, A>
-        ensures start { cleaning_of result ≡ page_start printer.printed }
+    pub fn new(alloc: A, printer: Printer<W, A>, policy: Policy<A>) -> CleanPrinter<W, A>
+        ensures start { cleaning_of result ≡ page_start (record { policy = policy; printed = printer.printed }) }
         ensures printer { result.printer ≡ printer }
     {
         CleanPrinter {
             alloc,
+            policy,
             printer,
             hidden: Hidden::none(alloc),
         }
@@ -67,10 +71,10 @@ impl<W: Target, A: Allocator + Copy> CleanPrinter<W, A> {
 
     /// Prints to the same printer, at the start of a page.
     pub fn at_start(self) -> CleanPrinter<W, A>
-        ensures start { cleaning_of result ≡ page_start self.printer.printed }
+        ensures start { cleaning_of result ≡ page_start (standing_of self) }
         ensures printer { result.printer ≡ self.printer }
     {
-        CleanPrinter::new(self.alloc, self.printer)
+        CleanPrinter::new(self.alloc, self.printer, self.policy)
     }
 
     /// The printer, with what was printed.
@@ -96,11 +100,12 @@ impl<W: Target, A: Allocator + Copy> TokenHandler<Token<A>> for CleanPrinter<W, 
         token: Token<A>,
         _line_number: u64,
     ) -> Result<(), SinkFault> {
-        let Some(depth) = self.hidden.depth_after(&token) else {
+        let Some(depth) = self.hidden.depth_after(&self.policy, &token) else {
             return Err(SinkFault);
         };
         print_kept(
             self.alloc,
+            &self.policy,
             self.hidden.depth,
             &mut self.printer,
             run,

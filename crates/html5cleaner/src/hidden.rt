@@ -3,8 +3,9 @@ ghost use Rattle.std.specs.Prelude.{◌≡◌, [], IfSome, string_bytes};
 ghost use Rattle.html5ever_interface.specs.Token.{tag_of, told_by};
 ghost use Rattle.html5cleaner.specs.Clean.{depth_after, depth_after_tag, hidden_of, name_after, name_after_tag, opens};
 
-use crate::policy::{is_foreign, is_hider};
+use crate::elements::is_foreign;
 use html5ever_interface::interface::token::{Tag, TagKind, Token};
+use html5policy::Policy;
 use std::alloc::Allocator;
 
 /// How many elements of one name are open and hide what stands in them. Where none is, the name says
@@ -16,12 +17,12 @@ pub struct Hidden<A: Allocator> {
 }
 
 // Whether a tag is the start tag of an element that is dropped with what stands in it.
-fn opens<A: Allocator>(tag: &Tag<A>) -> bool
-    ensures { result ≡ opens (tag_of tag.now) }
+fn opens<A: Allocator>(policy: &Policy<A>, tag: &Tag<A>) -> bool
+    ensures { result ≡ opens policy.now (tag_of tag.now) }
 {
     match tag.kind {
         TagKind::StartTag => {
-            is_hider(&tag.name.0) && !(tag.self_closing && is_foreign(&tag.name.0))
+            policy.hides(&tag.name.0) && !(tag.self_closing && is_foreign(&tag.name.0))
         }
         TagKind::EndTag => false,
     }
@@ -40,27 +41,27 @@ impl<A: Allocator> Hidden<A> {
     }
 
     // How many are open after a tag.
-    fn depth_after_tag(&self, tag: &Tag<A>) -> Option<u64>
-        ensures { IfSome result (λ depth. depth ≡ depth_after_tag (hidden_of self.now) (tag_of tag.now)) }
+    fn depth_after_tag(&self, policy: &Policy<A>, tag: &Tag<A>) -> Option<u64>
+        ensures { IfSome result (λ depth. depth ≡ depth_after_tag policy.now (hidden_of self.now) (tag_of tag.now)) }
     {
         if self.depth == 0 {
-            return Some(u64::from(opens(tag)));
+            return Some(u64::from(opens(policy, tag)));
         }
         if tag.name.0.as_str() != self.name.as_str() {
             return Some(self.depth);
         }
         match tag.kind {
-            TagKind::StartTag => self.depth.checked_add(u64::from(opens(tag))),
+            TagKind::StartTag => self.depth.checked_add(u64::from(opens(policy, tag))),
             TagKind::EndTag => Some(self.depth - 1),
         }
     }
 
     /// How many are open after a token, where 64 bits have room for it.
-    pub fn depth_after(&self, token: &Token<A>) -> Option<u64>
-        ensures { IfSome result (λ depth. depth ≡ depth_after (hidden_of self.now) (told_by token.now)) }
+    pub fn depth_after(&self, policy: &Policy<A>, token: &Token<A>) -> Option<u64>
+        ensures { IfSome result (λ depth. depth ≡ depth_after policy.now (hidden_of self.now) (told_by token.now)) }
     {
         match token {
-            Token::TagToken(tag) => self.depth_after_tag(tag),
+            Token::TagToken(tag) => self.depth_after_tag(policy, tag),
             _ => Some(self.depth),
         }
     }

@@ -5,8 +5,9 @@ ghost use Rattle.html5write.specs.Writing.{attribute_of, piece_of};
 ghost use Rattle.html5cleaner.specs.Clean.{allows_by_kind, kept_of_parts, kept_of_run};
 ghost use Rattle.html5cleaner.specs.Kept.{piece_where};
 
-use crate::policy::{is_allowed, is_void};
+use crate::elements::is_void;
 use html5ever_interface::interface::token::TagKind;
+use html5policy::Policy;
 use html5write::laws::refusals;
 use html5write::{Attribute, Piece, WriteError, Writer, refusal_of};
 use std::alloc::Allocator;
@@ -20,12 +21,12 @@ fn can_write(piece: &Piece<'_>) -> bool
 }
 
 // Whether a tag of this kind and name is kept, by the characters of the name.
-fn is_kept_tag(kind: TagKind, name: &str) -> bool
-    ensures { result ≡ allows_by_kind kind (encode_utf8_all (chars name.now)) }
+fn is_kept_tag<A: Allocator>(policy: &Policy<A>, kind: TagKind, name: &str) -> bool
+    ensures { result ≡ allows_by_kind policy.now kind (encode_utf8_all (chars name.now)) }
 {
     match kind {
-        TagKind::StartTag => is_allowed(name),
-        TagKind::EndTag => is_allowed(name) && !is_void(name),
+        TagKind::StartTag => policy.is_allowed(name),
+        TagKind::EndTag => policy.is_allowed(name) && !is_void(name),
     }
 }
 
@@ -43,14 +44,15 @@ pub fn kept_run(run: &str) -> Option<Piece<'_>>
 
 /// What is kept of a tag, where these of its attributes are kept.
 #[tactic(auto, unfolding(crate::specs::Clean::kept_of_parts))]
-pub fn kept_tag<'t>(
+pub fn kept_tag<'t, A: Allocator>(
+    policy: &Policy<A>,
     kind: TagKind,
     name: &'t str,
     attributes: &'t [Attribute<'t>],
 ) -> Option<Piece<'t>>
-    ensures { piece_where result ≡ kept_of_parts kind (chars name.now) (map attribute_of attributes.now) }
+    ensures { piece_where result ≡ kept_of_parts policy.now kind (chars name.now) (map attribute_of attributes.now) }
 {
-    if !is_kept_tag(kind, name) {
+    if !is_kept_tag(policy, kind, name) {
         return None;
     }
     let piece = match kind {

@@ -1,5 +1,5 @@
 //! How a cleaned page is read.
-ghost use Rattle.std.specs.Prelude.{◌≡◌, ℕ, List, [], ◌∷◌, ◌++◌, true};
+ghost use Rattle.std.specs.Prelude.{◌≡◌, ℕ, List, [], ◌∷◌, ◌++◌, Some, false, true};
 ghost use Rattle.std.specs.List.{list_all};
 ghost use Rattle.html5ever_interface.specs.Sink.{Message};
 ghost use Rattle.html5ever_interface.specs.Token.{Told};
@@ -10,12 +10,15 @@ ghost use Rattle.markup5ever.specs.NamedReferences.{IsTable, NamedReference};
 ghost use Rattle.html5write.specs.Pieces.{Piece, page_text};
 ghost use Rattle.html5items.specs.Anywhere.{TellsByItself};
 ghost use Rattle.html5write.specs.Told.{IsOpen, page_messages, page_tokens, proper, start_after_page};
-ghost use Rattle.html5cleaner.specs.Addresses.{is_safe_address};
+ghost use Rattle.html5policy.specs.Addresses.{is_safe_address};
+ghost use Rattle.html5policy.specs.Names.{runs_address};
+ghost use Rattle.html5policy.specs.Policy.{PolicyOf};
+ghost use Rattle.html5policy.specs.Rules.{IsSound};
 ghost use Rattle.html5cleaner.specs.Allowed.{is_clean};
 ghost use Rattle.html5cleaner.specs.Browsers.{RunsNothing, scheme_of};
 ghost use Rattle.html5cleaner.specs.Clean.{Cleaned, at_start, clean_step};
 ghost use Rattle.html5cleaner.specs.Cleaning as cleaning;
-ghost use Rattle.html5cleaner.specs.Cleaning.{kept_of_page, page_bytes, printed_of};
+ghost use Rattle.html5cleaner.specs.Cleaning.{Standing, kept_of_page, page_bytes, printed_of};
 ghost use Rattle.html5cleaner.specs.Reading.{FollowsStandard, is_allowed_token};
 
 use html5ever_interface::interface::sink::TokenSink;
@@ -24,16 +27,16 @@ use html5sinks::text_runs::{TextRuns, TokenHandler};
 use html5write::laws::{page, whole_page};
 use std::alloc::Allocator;
 
-/// A page of clean pieces, read by any sink that follows the standard and with any table, is read but
+/// By each policy a page of clean pieces, read by any sink that follows the standard and with any table, is read but
 /// for errors as exactly these pieces and the end. Each of their tokens is allowed: text, or a tag of an
 /// allowed element, with attributes that are kept and addresses that are safe.
 pub fn cleaned_page<S: TokenSink<Token<A>>, A: Allocator>()
-    ensures tokens { (rules : Rules) (K : Start) (s : S.State) (pieces : List Piece) → IsTable rules.names
-        → IsOpen K → list_all is_clean pieces ≡ true → FollowsStandard {S = S.State} S.means.reply
+    ensures tokens { (policy : PolicyOf) (rules : Rules) (K : Start) (s : S.State) (pieces : List Piece) → IsSound policy
+        → IsTable rules.names → IsOpen K → list_all (is_clean policy) pieces ≡ true → FollowsStandard {S = S.State} S.means.reply
         → proper (all_messages S.means rules K s (page_text pieces)) ≡ page_tokens pieces ++ End ∷ [] }
-    ensures allowed { (rules : Rules) (K : Start) (s : S.State) (pieces : List Piece) → IsTable rules.names
-        → IsOpen K → list_all is_clean pieces ≡ true → FollowsStandard {S = S.State} S.means.reply
-        → list_all is_allowed_token (proper (all_messages S.means rules K s (page_text pieces))) ≡ true }
+    ensures allowed { (policy : PolicyOf) (rules : Rules) (K : Start) (s : S.State) (pieces : List Piece) → IsSound policy
+        → IsTable rules.names → IsOpen K → list_all (is_clean policy) pieces ≡ true → FollowsStandard {S = S.State} S.means.reply
+        → list_all (is_allowed_token policy) (proper (all_messages S.means rules K s (page_text pieces))) ≡ true }
 {
     whole_page::<S, A>();
 }
@@ -41,8 +44,8 @@ pub fn cleaned_page<S: TokenSink<Token<A>>, A: Allocator>()
 /// Wherever it is put in a page, in Data and with no CR directly before it, such a page tells its pieces,
 /// and is read to where nothing is open: what follows it is read as it would be without it.
 pub fn cleaned_part<S: TokenSink<Token<A>>, A: Allocator>()
-    ensures { (rules : Rules) (K : Start) (s : S.State) (pieces : List Piece) → IsTable rules.names
-        → IsOpen K → list_all is_clean pieces ≡ true → FollowsStandard {S = S.State} S.means.reply
+    ensures { (policy : PolicyOf) (rules : Rules) (K : Start) (s : S.State) (pieces : List Piece) → IsSound policy
+        → IsTable rules.names → IsOpen K → list_all (is_clean policy) pieces ≡ true → FollowsStandard {S = S.State} S.means.reply
         → TellsByItself S.means rules K s (page_text pieces) (page_messages rules.exact K.input pieces)
         (start_after_page K pieces) }
 {
@@ -51,28 +54,30 @@ pub fn cleaned_part<S: TokenSink<Token<A>>, A: Allocator>()
 
 /// The pieces that were kept are clean, after each run of text and token.
 pub fn kept_pieces_are_clean()
-    ensures starts { list_all is_clean at_start.pieces ≡ true }
-    ensures stay { (s : Cleaned) (run : List ℕ) (told : Told) (line : ℕ) → list_all is_clean s.pieces ≡ true
-        → list_all is_clean (clean_step s run told line).pieces ≡ true }
+    ensures starts { (policy : PolicyOf) → list_all (is_clean policy) (at_start policy).pieces ≡ true }
+    ensures stay { (s : Cleaned) (run : List ℕ) (told : Told) (line : ℕ) → list_all (is_clean s.policy) s.pieces ≡ true
+        → list_all (is_clean s.policy) (clean_step s run told line).pieces ≡ true }
 {}
 
-/// Cleaning twice changes nothing, whatever the table of each reading. A page of clean pieces is kept as it
-/// is, to the byte; so is what was kept of a text, and what was printed of a page or of a beginning of it.
+/// Cleaning twice by a policy changes nothing, whatever the table of each reading: what was kept of a text
+/// is kept again to the byte, and so is what was printed of a page or of a beginning of it.
 pub fn cleaning_twice()
-    ensures pieces { (names : List NamedReference) (pieces : List Piece) → IsTable names
-        → list_all is_clean pieces ≡ true
-        → page_text (kept_of_page names (page_bytes pieces)) ≡ page_text pieces }
-    ensures text { (names others : List NamedReference) (text : List ℕ) → IsTable others
-        → page_bytes (kept_of_page others (page_bytes (kept_of_page names text)))
-        ≡ page_bytes (kept_of_page names text) }
-    ensures printed { (names : List NamedReference) (before : List ℕ) (M : List Message) → IsTable names
-        → printed_of before (cleaning.page_messages names before (printed_of [] M)) ≡ printed_of before M }
+    ensures text { (policy : PolicyOf) (names others : List NamedReference) (text : List ℕ) → IsSound policy
+        → IsTable others → page_bytes (kept_of_page policy others (page_bytes (kept_of_page policy names text)))
+        ≡ page_bytes (kept_of_page policy names text) }
+    ensures printed { (s : Standing) (names : List NamedReference) (M : List Message) → IsSound s.policy
+        → IsTable names → printed_of s (cleaning.page_messages names s
+        (printed_of (record { policy = s.policy; printed = [] }) M).printed) ≡ printed_of s M }
 {}
 
-/// In an address that is kept a browser finds no scheme, or `http`, `https` or `mailto`: it passes over
-/// white space and controls in front, and over tabs and line breaks anywhere.
+/// In an address that is kept a browser finds no scheme, or one of the policy's: it passes over white
+/// space and controls in front, and over tabs and line breaks anywhere. None of these runs the address.
 pub fn safe_addresses()
-    ensures { (address : List ℕ) → is_safe_address address ≡ true → RunsNothing (scheme_of address) }
+    ensures scheme { (policy : PolicyOf) (address : List ℕ) → IsSound policy
+        → is_safe_address policy.schemes address ≡ true → RunsNothing policy.schemes (scheme_of address) }
+    ensures runs_nothing { (policy : PolicyOf) (address scheme : List ℕ) → IsSound policy
+        → is_safe_address policy.schemes address ≡ true → scheme_of address ≡ Some scheme
+        → runs_address scheme ≡ false }
 {}
 
 /// A sink of runs of text keeps on where the standard does, whatever its handler: so a reading by any

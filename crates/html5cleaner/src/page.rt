@@ -8,41 +8,44 @@ ghost use Rattle.html5cleaner.specs.Clean.{at_start, clean_step};
 
 use crate::cleaner::Cleaner;
 use devices::{ReadSource, Source};
+use html5policy::Policy;
 use html5stream::{StreamError, read_tokens};
 use html5write::Writer;
 use markup5ever::data::NamedReferences;
 use std::alloc::Allocator;
 
-/// Reads a page as it arrives, and keeps of it what is allowed: of the whole page, or after an error of a
+/// Reads a page as it arrives, and keeps of it what a policy allows: of the whole page, or after an error of a
 /// beginning of it. `Cleaner::into_page` gives what was kept.
-pub fn clean_page<R: Source, A: Allocator + Copy>(
+pub fn clean_page<'p, R: Source, A: Allocator + Copy>(
     alloc: A,
     source: &mut R,
     names: &NamedReferences<A>,
-) -> (Cleaner<A>, Result<(), StreamError>)
+    policy: &'p Policy<A>,
+) -> (Cleaner<'p, A>, Result<(), StreamError>)
     ensures finishes { OnOk result.1 (ReadsPage (runs_after clean_step names.now)
-        (R.remaining source.old) (R.remaining source.new) at_start result.0) }
+        (R.remaining source.old) (R.remaining source.new) (at_start policy.now) result.0) }
     ensures beginning { OnErr result.1 (StopsPage (runs_page clean_step names.now) (runs_handed clean_step)
-        (R.remaining source.old) (R.remaining source.new) at_start result.0) }
+        (R.remaining source.old) (R.remaining source.new) (at_start policy.now) result.0) }
     ensures not_utf8 { (place : ℕ) → result.1 ≡ Err (StreamError.NotUtf8 place)
         → GivesNoText place (R.remaining source.old) (R.remaining source.new) }
     ensures read { R.failures source.new ≡ R.failures source.old + failed_reads result.1 }
 {
-    read_tokens(alloc, source, Cleaner::new(alloc), names)
+    read_tokens(alloc, source, Cleaner::new(alloc, policy), names)
 }
 
-/// What is kept of a text.
+/// What a policy keeps of a text.
 pub fn clean_text<A: Allocator + Copy>(
     alloc: A,
     text: &str,
     names: &NamedReferences<A>,
+    policy: &Policy<A>,
 ) -> Result<Writer<A>, StreamError>
     ensures kept { IfOk result (λ page. page
-        ≡ (runs_after clean_step names.now at_start text.now).pieces) }
-    ensures clean { IfOk result (λ page. list_all is_clean page ≡ true) }
+        ≡ (runs_after clean_step names.now (at_start policy.now) text.now).pieces) }
+    ensures clean { IfOk result (λ page. list_all (is_clean policy.now) page ≡ true) }
 {
     let mut source = ReadSource::new(text.as_bytes());
-    let (cleaner, read) = clean_page(alloc, &mut source, names);
+    let (cleaner, read) = clean_page(alloc, &mut source, names, policy);
     match read {
         Ok(()) => Ok(cleaner.into_page()),
         Err(error) => Err(error),

@@ -4,21 +4,24 @@ ghost use Rattle.html5stream.specs.Pages.{ReadsPage, StopsPage, runs_page, runs_
 ghost use Rattle.html5stream.specs.Streams.{GivesNoText, failed_reads};
 ghost use Rattle.html5ever_interface.specs.Sink.{Message};
 ghost use Rattle.std.specs.List.{list_all};
+ghost use Rattle.html5policy.specs.Policy.{PolicyOf};
 ghost use Rattle.html5cleaner.specs.Allowed.{is_clean};
 ghost use Rattle.html5cleaner.specs.Clean.{at_start, clean_step};
-ghost use Rattle.html5cleaner.specs.Cleaning.{page_start, cleaning_of, cleaning_step, page_messages, printed_of};
+ghost use Rattle.html5cleaner.specs.Cleaning.{page_start, cleaning_of, cleaning_step, page_messages, printed_of, standing_of};
 
 use crate::clean_printer::CleanPrinter;
 use devices::{Printer, Source, Target};
+use html5policy::{Policy, PolicyError};
 use html5programs::Filter;
 use html5stream::{StreamError, read_tokens};
 use markup5ever::data::NamedReferences;
-use std::alloc::{Allocator, Global};
+use std::alloc::{AllocError, Allocator, Global};
 
 /// The pieces that are kept of any messages, as those of a page or of a beginning of it, are clean: so
 /// `laws::cleaned_page` says how what is printed of a page is read.
 pub fn prints_clean_pieces()
-    ensures { (M : List Message) → list_all is_clean (runs_handed clean_step at_start M).pieces ≡ true }
+    ensures { (policy : PolicyOf) (M : List Message)
+        → list_all (is_clean policy) (runs_handed clean_step (at_start policy) M).pieces ≡ true }
 {}
 
 // Reads a page, and prints what is kept of it, in the words of the handler.
@@ -30,10 +33,10 @@ fn read_printed<R: Source, W: Target, A: Allocator + Copy>(
 ) -> (CleanPrinter<W, A>, Result<(), StreamError>)
     ensures finishes { OnOk result.1 (ReadsPage (runs_after cleaning_step names.now)
         (R.remaining source.old) (R.remaining source.new)
-        (page_start cleaner.printer.printed) (cleaning_of result.0)) }
+        (page_start (standing_of cleaner)) (cleaning_of result.0)) }
     ensures beginning { OnErr result.1 (StopsPage (runs_page cleaning_step names.now) (runs_handed cleaning_step)
         (R.remaining source.old) (R.remaining source.new)
-        (page_start cleaner.printer.printed) (cleaning_of result.0)) }
+        (page_start (standing_of cleaner)) (cleaning_of result.0)) }
     ensures not_utf8 { (place : ℕ) → result.1 ≡ Err (StreamError.NotUtf8 place)
         → GivesNoText place (R.remaining source.old) (R.remaining source.new) }
     ensures read { R.failures source.new ≡ R.failures source.old + failed_reads result.1 }
@@ -49,9 +52,9 @@ pub fn print_cleaned<R: Source, W: Target, A: Allocator + Copy>(
     names: &NamedReferences<A>,
 ) -> (CleanPrinter<W, A>, Result<(), StreamError>)
     ensures finishes { OnOk result.1 (ReadsPage (λ s bytes. printed_of s (page_messages names.now s bytes))
-        (R.remaining source.old) (R.remaining source.new) cleaner.printer.printed result.0.printer.printed) }
+        (R.remaining source.old) (R.remaining source.new) (standing_of cleaner) (standing_of result.0)) }
     ensures beginning { OnErr result.1 (StopsPage (page_messages names.now) printed_of
-        (R.remaining source.old) (R.remaining source.new) cleaner.printer.printed result.0.printer.printed) }
+        (R.remaining source.old) (R.remaining source.new) (standing_of cleaner) (standing_of result.0)) }
     ensures not_utf8 { (place : ℕ) → result.1 ≡ Err (StreamError.NotUtf8 place)
         → GivesNoText place (R.remaining source.old) (R.remaining source.new) }
     ensures read { R.failures source.new ≡ R.failures source.old + failed_reads result.1 }
@@ -64,14 +67,13 @@ pub fn print_cleaned<R: Source, W: Target, A: Allocator + Copy>(
 }
 
 impl<W: Target + Drop> Filter<W> for CleanPrinter<W> {
-    ghost use Rattle.std.specs.Prelude.{ℕ, List};
-    ghost use Rattle.html5cleaner.specs.Cleaning.{page_messages, printed_of};
+    ghost use Rattle.html5cleaner.specs.Cleaning.{Standing, page_messages, printed_of, standing_of};
 
-    ghost State = { List ℕ };
+    ghost State = { Standing };
 
-    ghost state = { λ c. c.printer.printed };
+    ghost state = { standing_of };
 
-    ghost printed = { λ s. s };
+    ghost printed = { λ s. s.printed };
 
     ghost begun = { λ s. s };
 
@@ -79,10 +81,22 @@ impl<W: Target + Drop> Filter<W> for CleanPrinter<W> {
 
     ghost handed = { printed_of };
 
-    fn new(alloc: Global, printer: Printer<W>) -> CleanPrinter<W>
+    type Settings = Policy;
+
+    type Fault = PolicyError;
+
+    fn default_settings(alloc: Global) -> Result<Policy, AllocError> {
+        Policy::standard(alloc)
+    }
+
+    fn settings_of(alloc: Global, text: &str) -> Result<Policy, PolicyError> {
+        Policy::parse(alloc, text)
+    }
+
+    fn new(alloc: Global, printer: Printer<W>, policy: Policy) -> CleanPrinter<W>
         ensures { result.printer.printed ≡ printer.printed }
     {
-        CleanPrinter::new(alloc, printer)
+        CleanPrinter::new(alloc, printer, policy)
     }
 
     fn read_page<R: Source>(

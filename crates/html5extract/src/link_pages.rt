@@ -9,7 +9,7 @@ use devices::{Printer, Source, Target};
 use html5programs::Filter;
 use html5stream::{StreamError, read_tags};
 use markup5ever::data::NamedReferences;
-use std::alloc::{Allocator, Global};
+use std::alloc::{AllocError, Allocator, Global};
 
 /// Reads a page, and prints its links as it arrives, in the order in which they stand there.
 pub fn read_links<R: Source, W: Target, A: Allocator + Copy>(
@@ -48,7 +48,19 @@ impl<W: Target + Drop> Filter<W> for Links<W> {
 
     ghost handed = { tags_handed links_step };
 
-    fn new(alloc: Global, printer: Printer<W>) -> Links<W>
+    type Settings = ();
+
+    type Fault = AllocError;
+
+    fn default_settings(_alloc: Global) -> Result<(), AllocError> {
+        Ok(())
+    }
+
+    fn settings_of(_alloc: Global, _text: &str) -> Result<(), AllocError> {
+        Ok(())
+    }
+
+    fn new(alloc: Global, printer: Printer<W>, _settings: ()) -> Links<W>
         ensures { result.printer.printed ≡ printer.printed }
     {
         Links { alloc, printer }

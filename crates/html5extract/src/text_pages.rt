@@ -9,7 +9,7 @@ use devices::{Printer, Source, Target};
 use html5programs::Filter;
 use html5stream::{StreamError, read_tokens};
 use markup5ever::data::NamedReferences;
-use std::alloc::{Allocator, Global};
+use std::alloc::{AllocError, Allocator, Global};
 
 /// Reads a page, and prints its text as it arrives, without scripts and styles.
 pub fn read_text<R: Source, W: Target, A: Allocator + Copy>(
@@ -47,7 +47,19 @@ impl<W: Target + Drop> Filter<W> for PageText<W> {
 
     ghost handed = { runs_handed text_step };
 
-    fn new(alloc: Global, printer: Printer<W>) -> PageText<W>
+    type Settings = ();
+
+    type Fault = AllocError;
+
+    fn default_settings(_alloc: Global) -> Result<(), AllocError> {
+        Ok(())
+    }
+
+    fn settings_of(_alloc: Global, _text: &str) -> Result<(), AllocError> {
+        Ok(())
+    }
+
+    fn new(alloc: Global, printer: Printer<W>, _settings: ()) -> PageText<W>
         ensures { result.printer.printed ≡ printer.printed }
     {
         PageText::new(printer)

@@ -18,6 +18,7 @@ fn main(rt: HostRuntime) -> ExitCode {
     let program = Program {
         name: "html5links",
         help: HELP,
+        settings: None,
     };
     ExitCode::from(run::<Links<_>, _, _, _, _>(&rt, program, rt.stdin(), rt.stdout(), rt.stderr()))
 }

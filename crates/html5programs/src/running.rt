@@ -7,7 +7,9 @@ use crate::words::{Words, words_of};
 use devices::{Printer, ReadSource, Source, Target, WriteTarget, given_words, write_all};
 use html5stream::StreamError;
 use markup5ever::data::NamedReferences;
-use std::alloc::Global;
+use std::alloc::{AllocError, Global};
+use std::fmt::Display;
+use std::fs;
 use std::fs::{File, Files};
 use std::io::{Read, Write};
 use std::rt::Env;
@@ -36,8 +38,19 @@ pub trait Filter<W: Target + Drop>: Drop {
 
     ghost handed: { State → List Message → State };
 
+    /// What a filter goes by, and why a text of settings says none.
+    type Settings: Drop;
+
+    type Fault: Display + Drop;
+
+    /// The settings where no file of them is given.
+    fn default_settings(alloc: Global) -> Result<Self::Settings, AllocError>;
+
+    /// The settings that a text says.
+    fn settings_of(alloc: Global, text: &str) -> Result<Self::Settings, Self::Fault>;
+
     /// A filter that has read nothing, and prints to this printer.
-    fn new(alloc: Global, printer: Printer<W>) -> Self
+    fn new(alloc: Global, printer: Printer<W>, settings: Self::Settings) -> Self
         ensures { printed (state result) ≡ printer.printed };
 
     /// Reads a page, and prints what it makes of it as it arrives: of the whole page, or after an error
@@ -59,11 +72,12 @@ pub trait Filter<W: Target + Drop>: Drop {
         ensures { result.printed ≡ printed (state self) };
 }
 
-/// The name of a program, and how it is used.
+/// The name of a program, how it is used, and its option for a file of settings, where it has one.
 #[derive(Clone, Copy, Debug, PartialEq, Eq)]
 pub struct Program<'p> {
     pub name: &'p str,
     pub help: &'p str,
+    pub settings: Option<&'p str>,
 }
 
 /// The status of a program that did all that it was asked for.
@@ -72,7 +86,7 @@ const DONE: u8 = 0;
 /// The status of a program that could not read an input or write what it printed.
 const FAILED: u8 = 1;
 
-/// The status of a program whose words are wrong, or their table.
+/// The status of a program whose words are wrong, or a table or settings that they name.
 const WRONG: u8 = 2;
 
 // Why a file was not read to its end.
@@ -157,12 +171,17 @@ fn filter_files<
 >(
     rt: &R,
     names: &NamedReferences,
+    settings: F::Settings,
     files: &[&str],
     stdin: &mut I,
     stdout: O,
     messages: &mut Messages<'_, E>,
 ) -> u8 {
-    let filter = F::new(rt.alloc(), Printer::new(rt.alloc(), Output::new(stdout)));
+    let filter = F::new(
+        rt.alloc(),
+        Printer::new(rt.alloc(), Output::new(stdout)),
+        settings,
+    );
     let (filter, outcome) = read_files(rt, filter, names, stdin, files, messages);
     let (target, written) = filter.into_printer().finish();
     if target.inner().is_closed() {
@@ -203,6 +222,33 @@ fn messages_of<'p, E: Write>(
     Messages::new(alloc, program.name, WriteTarget::new(stderr))
 }
 
+// The settings of a file, or else those of a filter where none is given. Where there are none, it says
+// why.
+fn read_settings<F: Filter<W>, W: Target + Drop, R: Files + Alloc<A = Global>, E: Target>(
+    rt: &R,
+    path: Option<&str>,
+    messages: &mut Messages<'_, E>,
+) -> Option<F::Settings> {
+    let Some(path) = path else {
+        let Ok(settings) = F::default_settings(rt.alloc()) else {
+            messages.say("settings", "out of memory");
+            return None;
+        };
+        return Some(settings);
+    };
+    let Ok(text) = fs::read_to_string(rt, path) else {
+        messages.say(path, "can't be read");
+        return None;
+    };
+    match F::settings_of(rt.alloc(), &text) {
+        Ok(settings) => Some(settings),
+        Err(fault) => {
+            messages.say(path, fault);
+            None
+        }
+    }
+}
+
 // Reads the files that the words ask for, or else standard input.
 fn filter_asked<
     F: Filter<Output<O>>,
@@ -218,11 +264,14 @@ fn filter_asked<
             return WRONG;
         }
     };
+    let Some(settings) = read_settings::<F, Output<O>, R, E>(rt, asked.settings, messages) else {
+        return WRONG;
+    };
     let stdin = &mut ReadSource::new(stdin);
     if asked.files.is_empty() {
-        return filter_files::<F, R, _, O, _>(rt, &names, &["-"], stdin, stdout, messages);
+        return filter_files::<F, R, _, O, _>(rt, &names, settings, &["-"], stdin, stdout, messages);
     }
-    filter_files::<F, R, _, O, _>(rt, &names, &asked.files, stdin, stdout, messages)
+    filter_files::<F, R, _, O, _>(rt, &names, settings, &asked.files, stdin, stdout, messages)
 }
 
 /// Runs a program by these words, as `run` does by those that the process was given.
@@ -234,7 +283,7 @@ pub fn run_by_words<
     E: Write + Drop,
 >(rt: &R, program: Program, words: &[String], stdin: I, stdout: O, stderr: E) -> u8 {
     let messages = &mut messages_of(rt.alloc(), program, stderr);
-    let Ok(asked) = words_of(rt.alloc(), words) else {
+    let Ok(asked) = words_of(rt.alloc(), words, program.settings) else {
         messages.say("words", "out of memory");
         return FAILED;
     };

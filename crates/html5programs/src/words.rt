@@ -7,6 +7,8 @@ pub struct Words<'w, A: Allocator = Global> {
     pub help: bool,
     /// The file of the table of names, where one is given.
     pub names: Option<&'w str>,
+    /// The file of the program's settings, where one is given.
+    pub settings: Option<&'w str>,
     /// The files to read, in order. `-` is standard input.
     pub files: Vec<&'w str, A>,
     /// The first word that is unknown, or that another must follow.
@@ -19,6 +21,7 @@ impl<'w, A: Allocator + Copy> Words<'w, A> {
         Words {
             help: false,
             names: None,
+            settings: None,
             files: Vec::new(alloc),
             wrong: None,
         }
@@ -35,22 +38,40 @@ impl<'w, A: Allocator + Copy> Words<'w, A> {
         }
         Ok(())
     }
+
+    // Takes an option and the path after it.
+    fn take_path(&mut self, option: &str, path: &'w str) {
+        if option == "--names" {
+            self.names = Some(path);
+        } else {
+            self.settings = Some(path);
+        }
+    }
 }
 
-/// What the words ask for that stand after the program's name.
+// Whether a word is an option with a path after it, where this one is for settings.
+fn takes_path(word: &str, settings: Option<&str>) -> bool {
+    match settings {
+        Some(option) => word == option || word == "--names",
+        None => word == "--names",
+    }
+}
+
+/// What the words ask for that stand after the program's name, where this option is for settings.
 pub fn words_of<'w, A: Allocator + Copy>(
     alloc: A,
     words: &'w [String<A>],
+    settings: Option<&str>,
 ) -> Result<Words<'w, A>, AllocError> {
     let mut asked = Words::none(alloc);
     let mut words = words.iter();
     while let Some(word) = words.next() {
-        if word.as_str() != "--names" {
+        if !takes_path(word.as_str(), settings) {
             asked.take(word.as_str())?;
             continue;
         }
         match words.next() {
-            Some(path) => asked.names = Some(path.as_str()),
+            Some(path) => asked.take_path(word.as_str(), path.as_str()),
             None => asked.wrong = Some(word.as_str()),
         }
     }

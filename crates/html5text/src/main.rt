@@ -16,6 +16,7 @@ fn main(rt: HostRuntime) -> ExitCode {
     let program = Program {
         name: "html5text",
         help: HELP,
+        settings: None,
     };
     ExitCode::from(run::<PageText<_>, _, _, _, _>(
         &rt,

@@ -45,8 +45,8 @@ fn has_attribute_characters(text: &str) -> bool
     text.chars().all(is_attribute_character)
 }
 
-// Whether a text can be the name of a tag.
-fn is_tag_name(name: &str) -> bool
+/// Whether a text can be the name of a tag: another would not be read as itself.
+pub fn is_tag_name(name: &str) -> bool
     ensures { result ≡ is_tag_name (chars name.now) }
 {
     let mut characters = name.chars();
@@ -56,8 +56,8 @@ fn is_tag_name(name: &str) -> bool
     }
 }
 
-// Whether a text can be the name of an attribute.
-fn is_attribute_name(name: &str) -> bool
+/// Whether a text can be the name of an attribute: another would not be read as itself.
+pub fn is_attribute_name(name: &str) -> bool
     ensures { result ≡ is_attribute_name (chars name.now) }
 {
     let mut characters = name.chars();

@@ -10,7 +10,7 @@ mod trail;
 mod utf8;
 mod writer;
 
-pub use crate::checks::refusal_of;
+pub use crate::checks::{is_attribute_name, is_tag_name, refusal_of};
 pub use crate::error::WriteError;
 pub use crate::piece::{Attribute, Piece};
 pub use crate::writer::Writer;

@@ -1,5 +1,5 @@
-//! Which addresses are kept, and which attributes.
-use html5cleaner::{is_kept, is_safe_address};
+//! Which addresses the standard policy keeps, and which attributes.
+use html5policy::Policy;
 
 const SAFE: [&str; 12] = [
     "",
@@ -33,27 +33,47 @@ const UNSAFE: [&str; 12] = [
 
 #[test]
 fn keeps_safe_addresses(rt: HostRuntime) {
+    let policy = Policy::standard(rt.alloc()).expect(&rt, "memory");
     for address in SAFE {
-        assert!(rt; is_safe_address(address.as_bytes()), "{address}");
+        assert!(rt; policy.is_kept("a", "href", address), "{address}");
     }
     for address in UNSAFE {
-        assert!(rt; !is_safe_address(address.as_bytes()), "{address}");
+        assert!(rt; !policy.is_kept("a", "href", address), "{address}");
     }
 }
 
+const KEPT: [(&str, &str, &str); 6] = [
+    ("a", "href", "x"),
+    ("img", "src", "x"),
+    ("img", "alt", "javascript:x"),
+    ("td", "title", "javascript:x"),
+    ("q", "cite", "http:x"),
+    ("ol", "start", "3"),
+];
+
+const DROPPED: [(&str, &str, &str); 7] = [
+    ("p", "href", "x"),
+    ("a", "src", "x"),
+    ("img", "src", "javascript:x"),
+    ("q", "cite", "ftp:x"),
+    ("ul", "start", "3"),
+    ("p", "onclick", "x"),
+    ("p", "style", "x"),
+];
+
 #[test]
 fn keeps_attributes_by_element(rt: HostRuntime) {
-    assert!(rt; is_kept("a", "href", "x"));
-    assert!(rt; !is_kept("p", "href", "x"));
-    assert!(rt; !is_kept("a", "src", "x"));
-    assert!(rt; is_kept("img", "src", "x"));
-    assert!(rt; !is_kept("img", "src", "javascript:x"));
-    assert!(rt; is_kept("img", "alt", "javascript:x"));
-    assert!(rt; is_kept("td", "title", "javascript:x"));
-    assert!(rt; is_kept("q", "cite", "http:x"));
-    assert!(rt; !is_kept("q", "cite", "ftp:x"));
-    assert!(rt; is_kept("ol", "start", "3"));
-    assert!(rt; !is_kept("ul", "start", "3"));
-    assert!(rt; !is_kept("p", "onclick", "x"));
-    assert!(rt; !is_kept("p", "style", "x"));
+    let policy = Policy::standard(rt.alloc()).expect(&rt, "memory");
+    for (element, attribute, value) in KEPT {
+        assert!(rt;
+            policy.is_kept(element, attribute, value),
+            "{element} {attribute} {value}"
+        );
+    }
+    for (element, attribute, value) in DROPPED {
+        assert!(rt;
+            !policy.is_kept(element, attribute, value),
+            "{element} {attribute} {value}"
+        );
+    }
 }

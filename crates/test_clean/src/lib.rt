@@ -7,3 +7,5 @@ mod addresses;
 mod memory;
 #[cfg(test)]
 mod pages;
+#[cfg(test)]
+mod policies;

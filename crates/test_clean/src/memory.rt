@@ -1,5 +1,6 @@
 //! A growth is refused, and no other.
 use html5cleaner::clean_page;
+use html5policy::Policy;
 use markup5ever::data::NamedReferences;
 use std::alloc::Global;
 use test_alloc::Refusing;
@@ -19,8 +20,11 @@ fn a_refused_growth_leaves_a_beginning(rt: HostRuntime) {
         let Ok(names) = NamedReferences::check(&heap, Vec::new(&heap)) else {
             continue;
         };
+        let Ok(policy) = Policy::standard(&heap) else {
+            continue;
+        };
         let source = &mut PieceSource::new(PAGE.as_bytes(), 16);
-        let (cleaner, read) = clean_page(&heap, source, &names);
+        let (cleaner, read) = clean_page(&heap, source, &names, &policy);
         let page = cleaner.into_page();
         assert!(rt;
             WANTED.starts_with(page.as_str()),

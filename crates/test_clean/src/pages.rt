@@ -1,5 +1,6 @@
 //! What is kept of pages, however they are cut.
 use html5cleaner::{clean_page, clean_text};
+use html5policy::Policy;
 use html5stream::StreamError;
 use markup5ever::data::NamedReferences;
 use test_devices::PieceSource;
@@ -27,10 +28,11 @@ const CASES: [(&str, &str); 16] = [
 #[test]
 fn keeps_what_is_allowed(rt: HostRuntime) {
     let names = NamedReferences::check(rt.alloc(), Vec::new(rt.alloc())).expect(&rt, "a table");
+    let policy = Policy::standard(rt.alloc()).expect(&rt, "memory");
     for (page, wanted) in CASES {
         for size in [1, 3, 4096] {
             let source = &mut PieceSource::new(page.as_bytes(), size);
-            let (cleaner, read) = clean_page(rt.alloc(), source, &names);
+            let (cleaner, read) = clean_page(rt.alloc(), source, &names, &policy);
             let kept = cleaner.into_page();
             assert_eq!(rt; read, Ok(()), "{page}");
             assert!(rt; kept.as_str() == wanted, "{page}");
@@ -41,8 +43,9 @@ fn keeps_what_is_allowed(rt: HostRuntime) {
 #[test]
 fn keeps_a_beginning_of_a_page_that_is_no_text(rt: HostRuntime) {
     let names = NamedReferences::check(rt.alloc(), Vec::new(rt.alloc())).expect(&rt, "a table");
+    let policy = Policy::standard(rt.alloc()).expect(&rt, "memory");
     let source = &mut PieceSource::new(b"<p>a</p>b\xc3", 4);
-    let (cleaner, read) = clean_page(rt.alloc(), source, &names);
+    let (cleaner, read) = clean_page(rt.alloc(), source, &names, &policy);
     assert_eq!(rt; read, Err(StreamError::NotUtf8 { valid_up_to: 9 }));
     assert!(rt; cleaner.into_page().as_str() == "<p>a</p>");
 }
@@ -50,8 +53,51 @@ fn keeps_a_beginning_of_a_page_that_is_no_text(rt: HostRuntime) {
 #[test]
 fn cleans_a_text(rt: HostRuntime) {
     let names = NamedReferences::check(rt.alloc(), Vec::new(rt.alloc())).expect(&rt, "a table");
+    let policy = Policy::standard(rt.alloc()).expect(&rt, "memory");
     for (text, wanted) in CASES {
-        let page = clean_text(rt.alloc(), text, &names).expect(&rt, "memory");
+        let page = clean_text(rt.alloc(), text, &names, &policy).expect(&rt, "memory");
+        assert!(rt; page.as_str() == wanted, "{text}");
+    }
+}
+
+// Policies, pages, and what is kept of them.
+const BY_POLICY: [(&str, &str, &str); 8] = [
+    ("", "a<p>b</p><script>c</script>", "ab"),
+    (
+        "allow p class\nallow form",
+        "<form><p class=a id=b>c</form>",
+        "<form><p class=\"a\">c</form>",
+    ),
+    ("allow p\nhide form", "a<form><p>b</form><p>c", "a<p>c"),
+    (
+        "allow a href title rel\nnoopener",
+        "<a href=x rel=opener title=y>a</a><a rel=z>b</a>",
+        "<a href=\"x\" title=\"y\" rel=\"noopener\">a</a><a>b</a>",
+    ),
+    (
+        "allow a href\nallow area href\nnoopener",
+        "<a href=x:y>a</a><area href=b>",
+        "<a>a</a><area href=\"b\">",
+    ),
+    (
+        "allow a href\nschemes tel",
+        "<a href=TEL:1>a</a><a href=http:x>b</a>",
+        "<a href=\"TEL:1\">a</a><a>b</a>",
+    ),
+    ("allow input", "<input></input>a", "<input>a"),
+    (
+        "everywhere title\nallow b",
+        "<b title=a dir=b>c",
+        "<b title=\"a\">c",
+    ),
+];
+
+#[test]
+fn keeps_what_a_policy_allows(rt: HostRuntime) {
+    let names = NamedReferences::check(rt.alloc(), Vec::new(rt.alloc())).expect(&rt, "a table");
+    for (rules, text, wanted) in BY_POLICY {
+        let policy = Policy::parse(rt.alloc(), rules).expect(&rt, "a policy");
+        let page = clean_text(rt.alloc(), text, &names, &policy).expect(&rt, "memory");
         assert!(rt; page.as_str() == wanted, "{text}");
     }
 }

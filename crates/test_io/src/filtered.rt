@@ -34,7 +34,9 @@ pub fn filtered<F: Filter<WriteTarget<Vec<u8>>>>(
 ) -> Result<(Vec<u8>, Result<(), StreamError>), TableError> {
     let names = names_of(alloc, profile())?;
     let printer = Printer::new(alloc, WriteTarget::new(Vec::new(alloc)));
-    let (filter, read) = read_pages(alloc, F::new(alloc, printer), &names, pages, size);
+    let settings = F::default_settings(alloc)?;
+    let filter = F::new(alloc, printer, settings);
+    let (filter, read) = read_pages(alloc, filter, &names, pages, size);
     let (target, _) = filter.into_printer().finish();
     Ok((target.into_inner().into_inner(), read))
 }

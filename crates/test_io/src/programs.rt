@@ -13,6 +13,14 @@ use std::test::Fail;
 const PROGRAM: Program = Program {
     name: "prog",
     help: "how it is used\n",
+    settings: None,
+};
+
+// The same with an option for settings.
+const CLEANING: Program = Program {
+    name: "prog",
+    help: "how it is used\n",
+    settings: Some("--policy"),
 };
 
 // A reader that gives a byte a read. The first `reads` calls go well, and each later one fails.
@@ -110,7 +118,7 @@ fn run_on<R: Files + Alloc<A = Global>, I: Read + Drop>(
             run_by_words::<PageText<_>, _, _, _, _>(rt, PROGRAM, words, stdin, stdout, errors)
         }
         Taken::Clean => {
-            run_by_words::<CleanPrinter<_>, _, _, _, _>(rt, PROGRAM, words, stdin, stdout, errors)
+            run_by_words::<CleanPrinter<_>, _, _, _, _>(rt, CLEANING, words, stdin, stdout, errors)
         }
     };
     (status, said)
@@ -232,9 +240,10 @@ fn says_that_a_write_failed_unless_nobody_reads(rt: HostRuntime) {
     }
 }
 
-// Runs the program that prints links, by these words and on this page.
+// Runs the program by these words, on the page of it.
 fn check_words(
     rt: &(impl Abort + Files + Alloc<A = Global>),
+    page: Page,
     words: &[&str],
     status: u8,
     printed: &str,
@@ -245,7 +254,7 @@ fn check_words(
         given.push(String::from_str(rt.alloc(), word)?)?;
     }
     let mut stdout = writer(rt.alloc(), usize::MAX, Refusal::Error);
-    let (ended, said) = run_on(rt, Taken::Links, &given, LINKS.bytes, &mut stdout);
+    let (ended, said) = run_on(rt, page.taken, &given, page.bytes, &mut stdout);
     assert_eq!(rt; ended, status, "{words:?}");
     assert_eq!(rt; stdout.taken.as_slice(), printed.as_bytes(), "{words:?}");
     assert_eq!(rt; said.as_slice(), message.as_bytes(), "{words:?}");
@@ -258,19 +267,35 @@ fn goes_by_its_words(rt: HostRuntime) -> Result<(), Fail> {
     let unknown = "prog: --wrong: unknown word, or a word is missing after it; try --help\n";
     let missing = "prog: --names: unknown word, or a word is missing after it; try --help\n";
     let no_file = "prog: no-such-file: can't be opened\n";
-    check_words(&rt, &[], 0, all, "")?;
-    check_words(&rt, &["-"], 0, all, "")?;
-    check_words(&rt, &["--help"], 0, PROGRAM.help, "")?;
-    check_words(&rt, &["-", "--wrong"], 2, "", unknown)?;
-    check_words(&rt, &["--names"], 2, "", missing)?;
+    check_words(&rt, LINKS, &[], 0, all, "")?;
+    check_words(&rt, LINKS, &["-"], 0, all, "")?;
+    check_words(&rt, LINKS, &["--help"], 0, PROGRAM.help, "")?;
+    check_words(&rt, LINKS, &["-", "--wrong"], 2, "", unknown)?;
+    check_words(&rt, LINKS, &["--names"], 2, "", missing)?;
     check_words(
         &rt,
+        LINKS,
         &["--names", "no-such-file"],
         2,
         "",
         "prog: names: the file can't be read\n",
     )?;
-    check_words(&rt, &["-", "no-such-file"], 1, all, no_file)?;
-    check_words(&rt, &["no-such-file", "-"], 1, all, no_file)?;
+    check_words(&rt, LINKS, &["-", "no-such-file"], 1, all, no_file)?;
+    check_words(&rt, LINKS, &["no-such-file", "-"], 1, all, no_file)?;
+    Ok(())
+}
+
+#[test]
+fn goes_by_a_policy(rt: HostRuntime) -> Result<(), Fail> {
+    let option = "prog: --policy: unknown word, or a word is missing after it; try --help\n";
+    let unreadable = "prog: no-such-file: can't be read\n";
+    // The first line of this file is no rule.
+    let fault = "prog: /proc/self/status: line 1: an unknown rule\n";
+    check_words(&rt, LINKS, &["--policy", "/dev/null"], 2, "", option)?;
+    check_words(&rt, CLEAN, &["--policy"], 2, "", option)?;
+    check_words(&rt, CLEAN, &["--policy", "no-such-file"], 2, "", unreadable)?;
+    check_words(&rt, CLEAN, &["--policy", "/proc/self/status"], 2, "", fault)?;
+    // An empty policy keeps the text.
+    check_words(&rt, CLEAN, &["--policy", "/dev/null"], 0, "ac", "")?;
     Ok(())
 }

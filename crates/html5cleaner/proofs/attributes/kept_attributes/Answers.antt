@@ -1,37 +1,25 @@
-use Rattle.std.proofs.Common.{◌≡◌, ℕ, ◌+◌, ◌<◌, List, [], ◌∷◌, ◌++◌, length, chars, map, drop, get_or, ap, sym, ◌∙◌, append_assoc}
-use Rattle.std.proofs.lemmas.List.{at_drop_more, at_drop_all, append-nil}
-use Rattle.std.proofs.lemmas.List.Elements.{filter-append}
+use Rattle.std.proofs.Common.{map, sym, ap, ◌∙◌, rules}
+use Rattle.std.proofs.lemmas.List.{map_push}
+use Rattle.std.specs.Str.{chars}
 use Rattle.markup5ever.specs.Names.{attribute_of}
-use Rattle.markup5ever.specs.declared.interface.Attribute.{Attribute}
 use Rattle.html5write.specs.Writing as writing
-use Rattle.html5cleaner.specs.Allowed.{is_kept_attribute}
-use Rattle.html5cleaner.specs.Clean.{attribute_chars, kept_attributes}
+use Rattle.html5cleaner.specs.Clean.{adds_noopener, attribute_chars}
+use Rattle.html5cleaner.proofs.Links.{kept-link, kept-plain}
 use Rattle.html5cleaner.proofs.attributes.kept_attributes.Goals as goal
 
-kept-next : {Z : Type 0} (element : List ℕ) (i : ℕ) (attributes : List (Attribute Z)) (item : Attribute Z) → i < length attributes → item ≡ get_or attributes i item
-    → kept_attributes element (map attribute_chars (map attribute_of (drop i attributes)))
-    ≡ kept_attributes element (attribute_chars (attribute_of item) ∷ []) ++ kept_attributes element (map attribute_chars (map attribute_of (drop (i + 1) attributes)))
-kept-next element i attributes item within is =
-    let later = map attribute_chars (map attribute_of (drop (i + 1) attributes)) in
-    at_drop_more (λ l. kept_attributes element (map attribute_chars (map attribute_of l))) attributes i item within
-    ∙ filter-append (is_kept_attribute element) (attribute_chars (attribute_of (get_or attributes i item)) ∷ []) later
-    ∙ ap (λ a. kept_attributes element (attribute_chars (attribute_of a) ∷ []) ++ kept_attributes element later) (sym is)
-
-pub loop-attribute-preserved : goal.loop-attribute-preserved
-loop-attribute-preserved g c =
-    let element = chars c.args.element.now in
-    let i = c.loop-attribute.attribute-index in
-    let before = map writing.attribute_of c.loop-attribute.kept.items in
-    let later = kept_attributes element (map attribute_chars (map attribute_of (drop (i + 1) c.args.attributes.now))) in
-    ap (λ l. l ++ later) c.in_ok-push_kept.ensures
-    ∙ append_assoc before _ later
-    ∙ ap (λ l. before ++ l) (sym (kept-next element i c.args.attributes.now c.attribute-item.result c.loop-attribute-test.true c.attribute-item.is))
-    ∙ c.loop-attribute.invariant
+pub returns-then-not-adds_noopener : goal.returns-then-not-adds_noopener
+returns-then-not-adds_noopener g c =
+    kept-plain c.args.policy.now (chars c.args.element.now) (map attribute_chars (map attribute_of c.args.attributes.now)) (map writing.attribute_of c.in_ok-kept.kept.items)
+    c.adds_noopener.result c.in_ok-kept.ensures
+    (c.adds_noopener.ensures ∙ ap (λ l. adds_noopener c.args.policy.now (chars c.args.element.now) (map writing.attribute_of l)) c.deref.ensures.value)
+    (search rules)
 
 pub returns : goal.returns
+unfolding chars
 returns g c =
-    let element = chars c.args.element.now in
-    let before = map writing.attribute_of c.loop-attribute.kept.items in
-    sym (append-nil before)
-    ∙ ap (λ l. before ++ l) (sym (at_drop_all (λ l. kept_attributes element (map attribute_chars (map attribute_of l))) c.args.attributes.now c.loop-attribute.attribute-index c.loop-attribute-test.false))
-    ∙ c.loop-attribute.invariant
+    ap (map writing.attribute_of) c.in_ok-push.ensures.items
+    ∙ map_push writing.attribute_of c.in_ok-kept.kept.items _
+    ∙ kept-link c.args.policy.now (chars c.args.element.now) (map attribute_chars (map attribute_of c.args.attributes.now)) (map writing.attribute_of c.in_ok-kept.kept.items)
+    c.adds_noopener.result c.in_ok-kept.ensures
+    (c.adds_noopener.ensures ∙ ap (λ l. adds_noopener c.args.policy.now (chars c.args.element.now) (map writing.attribute_of l)) c.deref.ensures.value)
+    (search rules)

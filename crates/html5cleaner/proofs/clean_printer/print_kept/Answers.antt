@@ -7,7 +7,7 @@ use Rattle.html5cleaner.proofs.clean_printer.print_kept.Goals as goal
 
 pub returns-in-Ok-print-clause-ok : goal.returns-in-Ok-print-clause-ok
 returns-in-Ok-print-clause-ok g c =
-    let keeps = kept_where c.args.depth c.args.run.now (told_by c.args.token.now) in
+    let keeps = kept_where c.args.policy.now c.args.depth c.args.run.now (told_by c.args.token.now) in
     let encoded = sym (encodes-chars c.as_str.result.now c.as_str.utf8) ∙ ap encode_utf8_all c.as_str.ensures.page in
     let written = ap page_bytes (c.in-Ok.ensures.written ∙ ap (λ pieces. pieces ++ keeps) c.new-page.ensures) in
     c.in-Ok-print.ensures.ok ∙ ap (λ bytes. c.args.printer.now.printed ++ bytes) (c.as_bytes.ensures.value ∙ encoded ∙ written)

@@ -3,5 +3,5 @@ use Rattle.html5cleaner.proofs.Tokens.{can-clean}
 use Rattle.html5cleaner.proofs.laws.cleaned_part.Goals as goal
 
 pub returns : goal.returns
-returns g c = λ rules K s pieces table here clean follows.
-    c.page.ensures rules K s pieces table here (can-clean pieces clean) (keeps_on-page (g.S.TokenSink.means).reply follows pieces clean)
+returns g c = λ policy rules K s pieces sound table here clean follows.
+    c.page.ensures rules K s pieces table here (can-clean policy pieces clean) (keeps_on-page policy sound (g.S.TokenSink.means).reply follows pieces clean)

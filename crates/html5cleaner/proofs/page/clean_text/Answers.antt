@@ -8,6 +8,6 @@ pub returns-in-Ok-clause-kept : goal.returns-in-Ok-clause-kept
 returns-in-Ok-clause-kept g c =
     c.into_page.ensures.page
     ∙ ap (λ (cleaned : Cleaned). cleaned.pieces)
-    (read-whole (runs_after clean_step c.args.names.now) c.args.text.now _ _ at_start _
+    (read-whole (runs_after clean_step c.args.names.now) c.args.text.now _ _ (at_start c.args.policy.now) _
     (rw c.new-source.ensures.inner (ap Some c.as_bytes.ensures.value))
     (rw c.in-Ok.is at c.clean_page-cleaner.ensures.finishes))

@@ -7,5 +7,5 @@ use Rattle.html5cleaner.proofs.cleaner.CleanerTokenHandlerToken.take_token.Goals
 
 pub invariant_of-self : goal.invariant_of-self
 invariant_of-self g c =
-    ap (list_all is_clean) c.in-Ok.ensures.written
-    ∙ clean-more c.self.inside.page c.self.inside.hidden.depth c.args.run.now (told_by c.args.token) c.self.invariant
+    ap (list_all (is_clean c.self.inside.policy.now)) c.in-Ok.ensures.written
+    ∙ clean-more c.self.inside.policy.now c.self.inside.page c.self.inside.hidden.depth c.args.run.now (told_by c.args.token) c.self.invariant

@@ -1,7 +1,0 @@
-use Rattle.std.proofs.Common.{◌≡◌, drop}
-use Rattle.html5cleaner.specs.Addresses.{is_relative}
-use Rattle.html5cleaner.proofs.addresses.is_relative.Given as goal
-
--- what stands before this byte decides nothing
-abbrev pub invariant-loop-byte : goal.invariant-loop-byte
-invariant-loop-byte l = is_relative l.address ≡ is_relative (drop l.byte-index l.address)

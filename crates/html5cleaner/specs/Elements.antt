@@ -1,0 +1,15 @@
+-- Elements of which no policy decides, by the bytes of their names.
+use Rattle.std.specs.Prelude.{ℕ, Bool, List, ◌||◌, codes}
+use Rattle.std.specs.Str.{bytes_eq}
+
+-- elements that have no end tag
+unfoldable pub is_void : List ℕ → Bool
+is_void name =
+    bytes_eq name (codes "area") || bytes_eq name (codes "base") || bytes_eq name (codes "br") || bytes_eq name (codes "col")
+    || bytes_eq name (codes "embed") || bytes_eq name (codes "hr") || bytes_eq name (codes "img") || bytes_eq name (codes "input")
+    || bytes_eq name (codes "link") || bytes_eq name (codes "meta") || bytes_eq name (codes "source") || bytes_eq name (codes "track")
+    || bytes_eq name (codes "wbr")
+
+-- elements of other namespaces, which a `/` before the `>` ends
+unfoldable pub is_foreign : List ℕ → Bool
+is_foreign name = bytes_eq name (codes "svg") || bytes_eq name (codes "math")

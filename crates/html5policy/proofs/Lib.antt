@@ -1,0 +1,5 @@
+pub mod Searches
+pub mod Soundness
+pub mod Splits
+pub mod Lines
+pub mod Colons

@@ -1,0 +1,164 @@
+-- A rule with which nothing is wrong keeps a policy sound.
+use Rattle.std.proofs.Common.{◌≡◌, ℕ, Bool, true, false, List, [], ◌∷◌, ◌++◌, chars, Option, None, Some, refl, sym, ap, ◌∙◌}
+use Rattle.std.specs.Prelude.{◌||◌, ◌&&◌, not, if◌then◌else◌}
+use Rattle.std.specs.List.{list_all, list_any}
+use Rattle.std.specs.Str.{bytes_eq}
+use Rattle.std.proofs.lemmas.Bool.{false≢true}
+use Rattle.std.proofs.lemmas.List.Folds.{list_all-append, list_any-append}
+use Rattle.html5write.specs.Pieces.{is_tag_name, is_attribute_name}
+use Rattle.markup5ever.proofs.NameOrder.{bytes_eq-itself, bytes_eq-same}
+use Rattle.html5policy.specs.Names.{always_hides, is_never_kept, is_one_of, is_scheme, runs_address}
+use Rattle.html5policy.specs.Policy.{OwnAttribute, PolicyOf, is_allowed}
+use Rattle.html5policy.specs.Rules.{IsSound, RuleOf, attribute_fault, element_fault, fault_of, hidden_fault, may_hide, may_keep, may_keep_attribute, may_keep_own, may_keep_scheme, scheme_fault, with_rule}
+use Rattle.html5policy.specs.Rules.RuleOf.{Element, Attribute, Everywhere, Scheme, Hidden, Noopener}
+use Rattle.html5policy.specs.declared.error.RuleError.{RuleError}
+use Rattle.html5policy.specs.declared.error.RuleError.TheVariants.{AllowedAndHidden, AttributeName, ElementName, HidesContent, NeverKept, RunsAddress, SchemeName}
+use Rattle.html5policy.proofs.Searches.{and-left, and-right, holds-one_of}
+
+-- ---- no fault
+
+element-passes : (name hides hidden : Bool) → (if not name then Some ElementName else if hides then Some HidesContent else if hidden then Some AllowedAndHidden else None) ≡ None
+    → (name && (not hides && not hidden)) ≡ true
+element-passes true false false e = refl
+element-passes true false true e = absurd cc
+element-passes true true hidden e = absurd cc
+element-passes false hides hidden e = absurd cc
+
+two-pass : (first second : RuleError) (name other : Bool) → (if not name then Some first else if other then Some second else None) ≡ None → (name && not other) ≡ true
+two-pass first second true false e = refl
+two-pass first second true true e = absurd cc
+two-pass first second false other e = absurd cc
+
+element-may : (hidden : List (List ℕ)) (name : List ℕ) → element_fault hidden name ≡ None → may_keep hidden name ≡ true
+element-may hidden name none = element-passes (is_tag_name (chars name)) (always_hides name) (is_one_of hidden name) none
+
+attribute-may : (name : List ℕ) → attribute_fault name ≡ None → may_keep_attribute name ≡ true
+attribute-may name none = two-pass AttributeName NeverKept (is_attribute_name (chars name)) (is_never_kept name) none
+
+scheme-may : (scheme : List ℕ) → scheme_fault scheme ≡ None → may_keep_scheme scheme ≡ true
+scheme-may scheme none = two-pass SchemeName RunsAddress (is_scheme scheme) (runs_address scheme) none
+
+hidden-may : (elements : List (List ℕ)) (name : List ℕ) → hidden_fault elements name ≡ None → (may_hide name && not (is_one_of elements name)) ≡ true
+hidden-may elements name none = two-pass ElementName AllowedAndHidden (is_tag_name (chars name)) (is_one_of elements name) none
+
+-- ---- one more
+
+all-more : {X : Type 0} (p : X → Bool) (xs : List X) (x : X) → list_all p xs ≡ true → p x ≡ true → list_all p (xs ++ x ∷ []) ≡ true
+all-more p xs x before here = list_all-append p xs (x ∷ []) ∙ rw (before, here) refl
+
+not-true : (b : Bool) → not b ≡ true → b ≡ false
+not-true true e = absurd (false≢true e)
+not-true false e = refl
+
+-- two names are the same in either order
+other-same : (a b : List ℕ) (same : Bool) → bytes_eq b a ≡ same → bytes_eq a b ≡ false → same ≡ false
+other-same a b true is differs = absurd (false≢true (sym differs ∙ ap (bytes_eq a) (bytes_eq-same b a is) ∙ bytes_eq-itself a))
+other-same a b false is differs = refl
+
+or-false-left : (a b : Bool) → (a || b) ≡ false → a ≡ false
+or-false-left true b none = none
+or-false-left false b none = refl
+
+or-false-right : (a b : Bool) → (a || b) ≡ false → b ≡ false
+or-false-right true b none = absurd (false≢true (sym none))
+or-false-right false b none = none
+
+-- one more hidden name, which is another
+one_of-more : (hidden : List (List ℕ)) (name element : List ℕ) → bytes_eq element name ≡ false → is_one_of (hidden ++ name ∷ []) element ≡ is_one_of hidden element
+unfolding is_one_of
+one_of-more hidden name element differs =
+    list_any-append (λ other. bytes_eq other element) hidden (name ∷ [])
+    ∙ ap (λ b. is_one_of hidden element || (b || false)) (other-same element name (bytes_eq name element) refl differs)
+    ∙ or-nothing (is_one_of hidden element)
+  where
+    or-nothing : (b : Bool) → (b || false) ≡ b
+    or-nothing true = refl
+    or-nothing false = refl
+
+hidden-more : (hidden : List (List ℕ)) (name : List ℕ) (elements : List (List ℕ)) → list_all (may_keep hidden) elements ≡ true → list_any (λ other. bytes_eq other name) elements ≡ false
+    → list_all (may_keep (hidden ++ name ∷ [])) elements ≡ true
+hidden-more hidden name [] all none = refl
+hidden-more hidden name (element ∷ elements) all none =
+    let here : is_one_of (hidden ++ name ∷ []) element ≡ is_one_of hidden element =
+    one_of-more hidden name element (or-false-left (bytes_eq element name) (list_any (λ other. bytes_eq other name) elements) none) in
+    let later = hidden-more hidden name elements (and-right (may_keep hidden element) (list_all (may_keep hidden) elements) all)
+    (or-false-right (bytes_eq element name) (list_any (λ other. bytes_eq other name) elements) none) in
+    ap (λ b. (is_tag_name (chars element) && (not (always_hides element) && not b)) && list_all (may_keep (hidden ++ name ∷ [])) elements) here
+    ∙ ap (λ b. may_keep hidden element && b) later
+    ∙ ap (λ b. b && true) (and-left (may_keep hidden element) (list_all (may_keep hidden) elements) all)
+
+one_of-any : (names : List (List ℕ)) (name : List ℕ) → is_one_of names name ≡ false → list_any (λ other. bytes_eq other name) names ≡ false
+unfolding is_one_of
+one_of-any names name none = none
+
+-- ---- a policy with a rule more
+
+pub sound-with_rule : (policy : PolicyOf) (rule : RuleOf) → IsSound policy → fault_of policy rule ≡ None → IsSound (with_rule policy rule)
+unfolding fault_of with_rule
+sound-with_rule policy (Element name) sound none = record {
+  elements = all-more (may_keep policy.hidden) policy.elements name sound.elements (element-may policy.hidden name none);
+  own = sound.own;
+  everywhere = sound.everywhere;
+  schemes = sound.schemes;
+  hidden = sound.hidden;
+}
+sound-with_rule policy (Attribute element name) sound none = record {
+  elements = sound.elements;
+  own = all-more may_keep_own policy.own (record { element = element; attribute = name }) sound.own (attribute-may name none);
+  everywhere = sound.everywhere;
+  schemes = sound.schemes;
+  hidden = sound.hidden;
+}
+sound-with_rule policy (Everywhere name) sound none = record {
+  elements = sound.elements;
+  own = sound.own;
+  everywhere = all-more may_keep_attribute policy.everywhere name sound.everywhere (attribute-may name none);
+  schemes = sound.schemes;
+  hidden = sound.hidden;
+}
+sound-with_rule policy (Scheme scheme) sound none = record {
+  elements = sound.elements;
+  own = sound.own;
+  everywhere = sound.everywhere;
+  schemes = all-more may_keep_scheme policy.schemes scheme sound.schemes (scheme-may scheme none);
+  hidden = sound.hidden;
+}
+sound-with_rule policy (Hidden name) sound none =
+    let may = hidden-may policy.elements name none in
+    record {
+      elements = hidden-more policy.hidden name policy.elements sound.elements
+          (one_of-any policy.elements name (not-true (is_one_of policy.elements name) (and-right (may_hide name) (not (is_one_of policy.elements name)) may)));
+      own = sound.own;
+      everywhere = sound.everywhere;
+      schemes = sound.schemes;
+      hidden = all-more may_hide policy.hidden name sound.hidden (and-left (may_hide name) (not (is_one_of policy.elements name)) may);
+    }
+sound-with_rule policy Noopener sound none = record {
+  elements = sound.elements;
+  own = sound.own;
+  everywhere = sound.everywhere;
+  schemes = sound.schemes;
+  hidden = sound.hidden;
+}
+
+pub sound-nothing : IsSound (record { elements = []; own = []; everywhere = []; schemes = []; hidden = []; noopener = false })
+sound-nothing = record { elements = refl; own = refl; everywhere = refl; schemes = refl; hidden = refl }
+
+-- ---- what follows
+
+pub allowed-may_keep : (policy : PolicyOf) (name : List ℕ) → IsSound policy → is_allowed policy name ≡ true → may_keep policy.hidden name ≡ true
+unfolding is_allowed
+allowed-may_keep policy name sound allowed = holds-one_of (may_keep policy.hidden) policy.elements name sound.elements allowed
+
+-- an allowed element doesn't hide what stands in it
+pub allowed-shows : (policy : PolicyOf) (name : List ℕ) → IsSound policy → is_allowed policy name ≡ true → always_hides name ≡ false
+allowed-shows policy name sound allowed =
+    not-true (always_hides name) (and-left (not (always_hides name)) (not (is_one_of policy.hidden name))
+    (and-right (is_tag_name (chars name)) (not (always_hides name) && not (is_one_of policy.hidden name)) (allowed-may_keep policy name sound allowed)))
+
+pub listed-scheme : (policy : PolicyOf) (scheme : List ℕ) → IsSound policy → is_one_of policy.schemes scheme ≡ true → may_keep_scheme scheme ≡ true
+listed-scheme policy scheme sound listed = holds-one_of may_keep_scheme policy.schemes scheme sound.schemes listed
+
+pub listed-runs_nothing : (policy : PolicyOf) (scheme : List ℕ) → IsSound policy → is_one_of policy.schemes scheme ≡ true → runs_address scheme ≡ false
+listed-runs_nothing policy scheme sound listed =
+    not-true (runs_address scheme) (and-right (is_scheme scheme) (not (runs_address scheme)) (listed-scheme policy scheme sound listed))

@@ -1,0 +1,60 @@
+-- Names, as the bytes of their UTF-8, of which no policy decides.
+use Rattle.std.specs.Prelude.{ℕ, Bool, false, List, [], ◌∷◌, ◌||◌, ◌&&◌, ◌==◌, codes, nat_eq}
+use Rattle.std.specs.Char.{is_ascii_lowercase, is_ascii_digit}
+use Rattle.std.specs.List.{list_all, list_any, starts_with}
+use Rattle.std.specs.Str.{bytes_eq}
+
+-- whether a name is one of these
+unfoldable pub is_one_of : List (List ℕ) → List ℕ → Bool
+is_one_of names name = list_any (λ other. bytes_eq other name) names
+
+-- ---- elements
+
+-- elements that are dropped with what stands in them, by each policy
+unfoldable pub always_hides : List ℕ → Bool
+always_hides name =
+    bytes_eq name (codes "iframe") || bytes_eq name (codes "math") || bytes_eq name (codes "noembed") || bytes_eq name (codes "noframes")
+    || bytes_eq name (codes "noscript") || bytes_eq name (codes "plaintext") || bytes_eq name (codes "script") || bytes_eq name (codes "style")
+    || bytes_eq name (codes "svg") || bytes_eq name (codes "template") || bytes_eq name (codes "textarea") || bytes_eq name (codes "title")
+    || bytes_eq name (codes "xmp")
+
+-- ---- attributes
+
+-- an attribute that no policy keeps: it runs scripts, or what it holds is no single address
+unfoldable pub is_never_kept : List ℕ → Bool
+is_never_kept name =
+    starts_with nat_eq name (codes "on") || bytes_eq name (codes "imagesrcset") || bytes_eq name (codes "ping")
+    || bytes_eq name (codes "srcdoc") || bytes_eq name (codes "srcset") || bytes_eq name (codes "style")
+
+-- attributes of the standard that hold an address
+unfoldable pub is_address_now : List ℕ → Bool
+is_address_now name =
+    bytes_eq name (codes "action") || bytes_eq name (codes "cite") || bytes_eq name (codes "data") || bytes_eq name (codes "formaction")
+    || bytes_eq name (codes "href") || bytes_eq name (codes "itemid") || bytes_eq name (codes "poster") || bytes_eq name (codes "src")
+    || bytes_eq name (codes "xlink:href")
+
+-- and older ones
+unfoldable pub is_address_of_old : List ℕ → Bool
+is_address_of_old name =
+    bytes_eq name (codes "background") || bytes_eq name (codes "classid") || bytes_eq name (codes "codebase") || bytes_eq name (codes "dynsrc")
+    || bytes_eq name (codes "icon") || bytes_eq name (codes "longdesc") || bytes_eq name (codes "lowsrc") || bytes_eq name (codes "manifest")
+    || bytes_eq name (codes "profile") || bytes_eq name (codes "usemap")
+
+-- whether the value of an attribute of this name is an address
+unfoldable pub is_address : List ℕ → Bool
+is_address name = is_address_now name || is_address_of_old name
+
+-- ---- schemes
+
+-- "ASCII alphanumeric, U+002B (+), U+002D (-), or U+002E (.)", in lower case
+abbrev pub is_scheme_byte : ℕ → Bool
+is_scheme_byte byte = is_ascii_lowercase byte || is_ascii_digit byte || (byte == 0x2B) || (byte == 0x2D) || (byte == 0x2E)
+
+-- a small letter, and what can follow it
+unfoldable pub is_scheme : List ℕ → Bool
+is_scheme [] = false
+is_scheme (letter ∷ scheme) = is_ascii_lowercase letter && list_all is_scheme_byte scheme
+
+-- schemes whose addresses run what stands in them
+unfoldable pub runs_address : List ℕ → Bool
+runs_address scheme = bytes_eq scheme (codes "javascript") || bytes_eq scheme (codes "vbscript") || bytes_eq scheme (codes "data")

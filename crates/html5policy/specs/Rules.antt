@@ -1,0 +1,104 @@
+-- Rules, of which a policy is made: what each says, and which no policy takes.
+use Rattle.std.specs.Prelude.{◌≡◌, ℕ, Bool, true, List, [], ◌∷◌, ◌++◌, Option, None, Some, Result, Ok, Err, not, ◌&&◌, chars, if◌then◌else◌}
+use Rattle.std.specs.List.{list_all}
+use Rattle.html5write.specs.Pieces.{is_tag_name, is_attribute_name}
+use Rattle.html5policy.specs.Names.{always_hides, is_never_kept, is_one_of, is_scheme, runs_address}
+use Rattle.html5policy.specs.Policy.{OwnAttribute, PolicyOf, is_allowed}
+use Rattle.html5policy.specs.declared.error.RuleError.{RuleError}
+use Rattle.html5policy.specs.declared.error.RuleError.TheVariants.{AllowedAndHidden, AttributeName, ElementName, HidesContent, NeverKept, RunsAddress, SchemeName}
+
+pub data RuleOf : Type 0 where
+  -- an element is kept
+  Element : List ℕ → RuleOf
+  -- an attribute is kept in an element: its element, and its name
+  Attribute : List ℕ → List ℕ → RuleOf
+  -- an attribute is kept in each element
+  Everywhere : List ℕ → RuleOf
+  -- addresses of a scheme are kept
+  Scheme : List ℕ → RuleOf
+  -- an element is dropped with what stands in it
+  Hidden : List ℕ → RuleOf
+  -- links get `rel="noopener"`
+  Noopener : RuleOf
+
+-- ---- what is wrong with a rule
+
+abbrev pub attribute_fault : List ℕ → Option RuleError
+attribute_fault name =
+    if not (is_attribute_name (chars name)) then Some AttributeName
+    else if is_never_kept name then Some NeverKept
+    else None
+
+-- an element that is kept, where these are hidden
+abbrev pub element_fault : List (List ℕ) → List ℕ → Option RuleError
+element_fault hidden name =
+    if not (is_tag_name (chars name)) then Some ElementName
+    else if always_hides name then Some HidesContent
+    else if is_one_of hidden name then Some AllowedAndHidden
+    else None
+
+abbrev pub scheme_fault : List ℕ → Option RuleError
+scheme_fault scheme = if not (is_scheme scheme) then Some SchemeName else if runs_address scheme then Some RunsAddress else None
+
+-- an element that is hidden, where these are kept
+abbrev pub hidden_fault : List (List ℕ) → List ℕ → Option RuleError
+hidden_fault elements name =
+    if not (is_tag_name (chars name)) then Some ElementName
+    else if is_one_of elements name then Some AllowedAndHidden
+    else None
+
+-- by the rules that a policy has
+unfoldable pub fault_of : PolicyOf → RuleOf → Option RuleError
+fault_of policy (Element name) = element_fault policy.hidden name
+fault_of policy (Attribute element name) = attribute_fault name
+fault_of policy (Everywhere name) = attribute_fault name
+fault_of policy (Scheme scheme) = scheme_fault scheme
+fault_of policy (Hidden name) = hidden_fault policy.elements name
+fault_of policy Noopener = None
+
+-- ---- a policy with one rule more
+
+unfoldable pub with_rule : PolicyOf → RuleOf → PolicyOf
+with_rule policy (Element name) = record policy { elements = policy.elements ++ name ∷ [] }
+with_rule policy (Attribute element name) = record policy { own = policy.own ++ record { element = element; attribute = name } ∷ [] }
+with_rule policy (Everywhere name) = record policy { everywhere = policy.everywhere ++ name ∷ [] }
+with_rule policy (Scheme scheme) = record policy { schemes = policy.schemes ++ scheme ∷ [] }
+with_rule policy (Hidden name) = record policy { hidden = policy.hidden ++ name ∷ [] }
+with_rule policy Noopener = record policy { noopener = true }
+
+abbrev pub added_unless : PolicyOf → RuleOf → Option RuleError → Result PolicyOf RuleError
+added_unless policy rule None = Ok (with_rule policy rule)
+added_unless policy rule (Some fault) = Err fault
+
+-- the policy with this rule, or what is wrong with the rule
+unfoldable pub rule_added : PolicyOf → RuleOf → Result PolicyOf RuleError
+rule_added policy rule = added_unless policy rule (fault_of policy rule)
+
+-- ---- what holds of each policy
+
+-- an element that may be kept, where these are hidden
+abbrev pub may_keep : List (List ℕ) → List ℕ → Bool
+may_keep hidden name = is_tag_name (chars name) && (not (always_hides name) && not (is_one_of hidden name))
+
+-- an attribute that may be kept
+abbrev pub may_keep_attribute : List ℕ → Bool
+may_keep_attribute name = is_attribute_name (chars name) && not (is_never_kept name)
+
+abbrev pub may_keep_own : OwnAttribute → Bool
+may_keep_own own = may_keep_attribute own.attribute
+
+-- a scheme whose addresses may be kept
+abbrev pub may_keep_scheme : List ℕ → Bool
+may_keep_scheme scheme = is_scheme scheme && not (runs_address scheme)
+
+-- an element that may be hidden
+abbrev pub may_hide : List ℕ → Bool
+may_hide name = is_tag_name (chars name)
+
+-- each name may be where it is
+pub record IsSound (policy : PolicyOf) : Type 0 where
+  pub elements : list_all (may_keep policy.hidden) policy.elements ≡ true
+  pub own : list_all may_keep_own policy.own ≡ true
+  pub everywhere : list_all may_keep_attribute policy.everywhere ≡ true
+  pub schemes : list_all may_keep_scheme policy.schemes ≡ true
+  pub hidden : list_all may_hide policy.hidden ≡ true

@@ -1,0 +1,130 @@
+//! Names of which no policy decides.
+ghost use Rattle.std.specs.Prelude.{◌≡◌, map, string_bytes};
+ghost use Rattle.std.specs.List.{list_all};
+ghost use Rattle.html5policy.specs.Names.{always_hides, is_address, is_address_now, is_address_of_old, is_never_kept, is_one_of, is_scheme, is_scheme_byte, runs_address};
+
+use std::alloc::Allocator;
+
+/// Whether a name is one of these.
+#[tactic(auto, unfolding(crate::specs::Names::is_one_of))]
+pub fn is_one_of<A: Allocator>(names: &[String<A>], name: &str) -> bool
+    ensures { result ≡ is_one_of (map string_bytes names.now) name.now }
+{
+    for other in names {
+        if other.as_str() == name {
+            return true;
+        }
+    }
+    false
+}
+
+/// Whether an element of this name is dropped with what stands in it, by each policy.
+#[tactic(auto, unfolding(crate::specs::Names::always_hides))]
+pub fn always_hides(name: &str) -> bool
+    ensures { result ≡ always_hides name.now }
+{
+    matches!(
+        name,
+        "iframe"
+            | "math"
+            | "noembed"
+            | "noframes"
+            | "noscript"
+            | "plaintext"
+            | "script"
+            | "style"
+            | "svg"
+            | "template"
+            | "textarea"
+            | "title"
+            | "xmp"
+    )
+}
+
+/// Whether no policy keeps an attribute of this name: it runs scripts, or holds no single address.
+#[tactic(auto, unfolding(crate::specs::Names::is_never_kept))]
+pub fn is_never_kept(name: &str) -> bool
+    ensures { result ≡ is_never_kept name.now }
+{
+    name.starts_with("on") || matches!(name, "imagesrcset" | "ping" | "srcdoc" | "srcset" | "style")
+}
+
+// Attributes of the standard that hold an address.
+#[tactic(auto, unfolding(crate::specs::Names::is_address_now))]
+fn is_address_now(name: &str) -> bool
+    ensures { result ≡ is_address_now name.now }
+{
+    matches!(
+        name,
+        "action"
+            | "cite"
+            | "data"
+            | "formaction"
+            | "href"
+            | "itemid"
+            | "poster"
+            | "src"
+            | "xlink:href"
+    )
+}
+
+// And older ones.
+#[tactic(auto, unfolding(crate::specs::Names::is_address_of_old))]
+fn is_address_of_old(name: &str) -> bool
+    ensures { result ≡ is_address_of_old name.now }
+{
+    matches!(
+        name,
+        "background"
+            | "classid"
+            | "codebase"
+            | "dynsrc"
+            | "icon"
+            | "longdesc"
+            | "lowsrc"
+            | "manifest"
+            | "profile"
+            | "usemap"
+    )
+}
+
+/// Whether the value of an attribute of this name is an address.
+#[tactic(auto, unfolding(crate::specs::Names::is_address))]
+pub fn is_address(name: &str) -> bool
+    ensures { result ≡ is_address name.now }
+{
+    is_address_now(name) || is_address_of_old(name)
+}
+
+// Whether a byte can stand in a scheme.
+fn is_scheme_byte(byte: u8) -> bool
+    ensures { result ≡ is_scheme_byte byte }
+{
+    byte.is_ascii_lowercase() || byte.is_ascii_digit() || matches!(byte, b'+' | b'-' | b'.')
+}
+
+// Whether each byte can.
+fn has_scheme_bytes(bytes: &[u8]) -> bool
+    ensures { result ≡ list_all is_scheme_byte bytes.now }
+{
+    bytes.iter().all(|byte| is_scheme_byte(*byte))
+}
+
+/// Whether a text is a scheme, in small letters and without its colon.
+#[tactic(auto, unfolding(crate::specs::Names::is_scheme))]
+pub fn is_scheme(scheme: &str) -> bool
+    ensures { result ≡ is_scheme scheme.now }
+{
+    match scheme.as_bytes().split_first() {
+        Some((letter, others)) => letter.is_ascii_lowercase() && has_scheme_bytes(others),
+        None => false,
+    }
+}
+
+/// Whether an address of this scheme runs what stands in it.
+#[tactic(auto, unfolding(crate::specs::Names::runs_address))]
+pub fn runs_address(scheme: &str) -> bool
+    ensures { result ≡ runs_address scheme.now }
+{
+    matches!(scheme, "javascript" | "vbscript" | "data")
+}

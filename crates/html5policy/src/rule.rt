@@ -1,0 +1,18 @@
+//! Rules, of which a policy is made.
+
+/// A rule of a policy.
+#[derive(Clone, Copy, Debug, PartialEq, Eq)]
+pub enum Rule<'t> {
+    /// Elements of this name are kept.
+    Element(&'t str),
+    /// An attribute is kept in elements of that name, where these are kept.
+    Attribute { element: &'t str, name: &'t str },
+    /// An attribute of this name is kept in each element.
+    Everywhere(&'t str),
+    /// Addresses of this scheme are kept.
+    Scheme(&'t str),
+    /// Elements of this name are dropped with what stands in them.
+    Hidden(&'t str),
+    /// An `a` with an `href` gets `rel="noopener"`.
+    Noopener,
+}

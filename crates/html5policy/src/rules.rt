@@ -1,0 +1,105 @@
+//! The rules of a policy, as they are stored.
+ghost use Rattle.std.specs.Prelude.{◌≡◌, ◌++◌, ◌∷◌, [], OnOk, OnErr, map, string_bytes};
+ghost use Rattle.html5policy.specs.Policy.{is_own, nothing_kept};
+ghost use Rattle.html5policy.specs.Rules.{with_rule};
+ghost use Rattle.html5policy.specs.Code.{own_of, policy_of, rule_of};
+
+use crate::rule::Rule;
+use std::alloc::{AllocError, Allocator};
+
+/// An attribute that is kept in elements of that name.
+#[derive(Drop)]
+pub struct OwnAttribute<A: Allocator> {
+    pub element: String<A>,
+    pub attribute: String<A>,
+}
+
+/// The rules of a policy, each kind in the order in which they were given.
+#[derive(Drop)]
+pub struct Rules<A: Allocator> {
+    pub elements: Vec<String<A>, A>,
+    pub own: Vec<OwnAttribute<A>, A>,
+    pub everywhere: Vec<String<A>, A>,
+    pub schemes: Vec<String<A>, A>,
+    pub hidden: Vec<String<A>, A>,
+    pub noopener: bool,
+}
+
+// Appends a name.
+fn push_name<A: Allocator + Copy>(
+    alloc: A,
+    names: &mut Vec<String<A>, A>,
+    name: &str,
+) -> Result<(), AllocError>
+    ensures ok { OnOk result (map string_bytes names.new.items ≡ map string_bytes names.old.items ++ name.now ∷ []) }
+    ensures err { OnErr result (names.new.items ≡ names.old.items) }
+{
+    let name = String::from_str(alloc, name)?;
+    names.push(name)?;
+    Ok(())
+}
+
+// Appends an attribute of an element.
+fn push_own<A: Allocator + Copy>(
+    alloc: A,
+    own: &mut Vec<OwnAttribute<A>, A>,
+    element: &str,
+    attribute: &str,
+) -> Result<(), AllocError>
+    ensures ok { OnOk result (map own_of own.new.items
+        ≡ map own_of own.old.items ++ record { element = element.now; attribute = attribute.now } ∷ []) }
+    ensures err { OnErr result (own.new.items ≡ own.old.items) }
+{
+    let element = String::from_str(alloc, element)?;
+    let attribute = String::from_str(alloc, attribute)?;
+    own.push(OwnAttribute { element, attribute })?;
+    Ok(())
+}
+
+/// Whether an attribute of this name is among those of an element of that name.
+#[tactic(auto, unfolding(crate::specs::Policy::is_own))]
+pub fn is_own<A: Allocator>(attributes: &[OwnAttribute<A>], element: &str, attribute: &str) -> bool
+    ensures { result ≡ is_own (map own_of attributes.now) element.now attribute.now }
+{
+    for own in attributes {
+        if own.attribute.as_str() == attribute && own.element.as_str() == element {
+            return true;
+        }
+    }
+    false
+}
+
+impl<A: Allocator + Copy> Rules<A> {
+    /// No rule.
+    pub fn none(alloc: A) -> Rules<A>
+        ensures { policy_of result ≡ nothing_kept }
+    {
+        Rules {
+            elements: Vec::new(alloc),
+            own: Vec::new(alloc),
+            everywhere: Vec::new(alloc),
+            schemes: Vec::new(alloc),
+            hidden: Vec::new(alloc),
+            noopener: false,
+        }
+    }
+
+    /// Appends a rule.
+    #[tactic(auto, unfolding(crate::specs::Rules::with_rule))]
+    pub fn push(&mut self, alloc: A, rule: Rule<'_>) -> Result<(), AllocError>
+        ensures ok { OnOk result (policy_of self.new ≡ with_rule (policy_of self.old) (rule_of rule.entry)) }
+        ensures err { OnErr result (policy_of self.new ≡ policy_of self.old) }
+    {
+        match rule {
+            Rule::Element(name) => push_name(alloc, &mut self.elements, name),
+            Rule::Attribute { element, name } => push_own(alloc, &mut self.own, element, name),
+            Rule::Everywhere(name) => push_name(alloc, &mut self.everywhere, name),
+            Rule::Scheme(scheme) => push_name(alloc, &mut self.schemes, scheme),
+            Rule::Hidden(name) => push_name(alloc, &mut self.hidden, name),
+            Rule::Noopener => {
+                self.noopener = true;
+                Ok(())
+            }
+        }
+    }
+}

@@ -1,0 +1,277 @@
+//! The text form of a policy: each rule, and each fault with its line.
+use html5policy::{Policy, PolicyError, RuleError};
+use std::alloc::Global;
+use std::process::Abort;
+use test_alloc::Refusing;
+
+// What a text keeps that it didn't without this rule.
+#[derive(Clone, Copy)]
+struct Rule {
+    text: &'static str,
+    // Elements that are kept, and others.
+    allowed: &'static [&'static str],
+    not_allowed: &'static [&'static str],
+    // Elements that hide what stands in them, and others.
+    hides: &'static [&'static str],
+    shows: &'static [&'static str],
+    // An element, an attribute and its value, which are kept, and others.
+    kept: &'static [(&'static str, &'static str, &'static str)],
+    dropped: &'static [(&'static str, &'static str, &'static str)],
+}
+
+const RULES: [Rule; 12] = [
+    Rule {
+        text: "",
+        allowed: &[],
+        not_allowed: &["p", "a"],
+        hides: &["script", "svg", "title"],
+        shows: &["p", "form"],
+        kept: &[],
+        dropped: &[("a", "href", "x"), ("p", "title", "x")],
+    },
+    Rule {
+        text: "allow p",
+        allowed: &["p"],
+        not_allowed: &["P", "pre", ""],
+        hides: &[],
+        shows: &["p"],
+        kept: &[],
+        dropped: &[("p", "title", "x")],
+    },
+    Rule {
+        text: "allow p title lang",
+        allowed: &["p"],
+        not_allowed: &["title", "lang"],
+        hides: &["title"],
+        shows: &[],
+        kept: &[("p", "title", "x"), ("p", "lang", "javascript:x")],
+        dropped: &[("p", "dir", "x"), ("div", "title", "x")],
+    },
+    Rule {
+        text: "allow p title\nallow p lang\n",
+        allowed: &["p"],
+        not_allowed: &[],
+        hides: &[],
+        shows: &[],
+        kept: &[("p", "title", "x"), ("p", "lang", "x")],
+        dropped: &[],
+    },
+    Rule {
+        text: "everywhere title lang",
+        allowed: &[],
+        not_allowed: &["p"],
+        hides: &[],
+        shows: &[],
+        kept: &[("p", "title", "x"), ("any", "lang", "x")],
+        dropped: &[("p", "dir", "x")],
+    },
+    Rule {
+        text: "everywhere href cite xlink:href\nschemes http ftp",
+        allowed: &[],
+        not_allowed: &[],
+        hides: &[],
+        shows: &[],
+        kept: &[
+            ("a", "href", "HTTP:x"),
+            ("a", "href", " f\nt\tp:x"),
+            ("a", "href", "x/y:z"),
+            ("a", "cite", "ftp:x"),
+            ("a", "xlink:href", ""),
+        ],
+        dropped: &[
+            ("a", "href", "https:x"),
+            ("a", "href", "ftpx:y"),
+            ("a", "cite", "javascript:x"),
+            ("a", "xlink:href", "data:x"),
+        ],
+    },
+    Rule {
+        text: "hide form select",
+        allowed: &[],
+        not_allowed: &["form"],
+        hides: &["form", "select", "script"],
+        shows: &["option"],
+        kept: &[],
+        dropped: &[],
+    },
+    Rule {
+        text: "allow a href rel\nnoopener",
+        allowed: &["a"],
+        not_allowed: &[],
+        hides: &[],
+        shows: &[],
+        kept: &[("a", "href", "x")],
+        dropped: &[("a", "rel", "opener"), ("a", "rel", "noopener")],
+    },
+    Rule {
+        text: "allow a rel\neverywhere rel",
+        allowed: &["a"],
+        not_allowed: &[],
+        hides: &[],
+        shows: &[],
+        kept: &[("a", "rel", "opener"), ("p", "rel", "x")],
+        dropped: &[],
+    },
+    Rule {
+        text: "# allow p\n\n  \n#\nallow q",
+        allowed: &["q"],
+        not_allowed: &["p"],
+        hides: &[],
+        shows: &[],
+        kept: &[],
+        dropped: &[],
+    },
+    Rule {
+        text: "  allow   x-y  é:title  ",
+        allowed: &["x-y"],
+        not_allowed: &["", " "],
+        hides: &[],
+        shows: &[],
+        kept: &[("x-y", "é:title", "x")],
+        dropped: &[],
+    },
+    Rule {
+        text: "everywhere action background cite data formaction href longdesc manifest poster src usemap",
+        allowed: &[],
+        not_allowed: &[],
+        hides: &[],
+        shows: &[],
+        kept: &[("a", "action", "x"), ("a", "data", "x")],
+        dropped: &[
+            ("a", "action", "x:y"),
+            ("a", "background", "x:y"),
+            ("a", "cite", "x:y"),
+            ("a", "data", "x:y"),
+            ("a", "formaction", "x:y"),
+            ("a", "href", "x:y"),
+            ("a", "longdesc", "x:y"),
+            ("a", "manifest", "x:y"),
+            ("a", "poster", "x:y"),
+            ("a", "src", "x:y"),
+            ("a", "usemap", "x:y"),
+        ],
+    },
+];
+
+// Tries the attributes of a rule.
+fn check_attributes(rt: &impl Abort, policy: &Policy, rule: Rule) {
+    for (element, attribute, value) in rule.kept {
+        assert!(rt;
+            policy.is_kept(element, attribute, value),
+            "{element} {attribute} {value}"
+        );
+    }
+    for (element, attribute, value) in rule.dropped {
+        assert!(rt;
+            !policy.is_kept(element, attribute, value),
+            "{element} {attribute} {value}"
+        );
+    }
+}
+
+// Tries the elements of a rule.
+fn check_elements(rt: &impl Abort, policy: &Policy, rule: Rule) {
+    for name in rule.allowed {
+        assert!(rt; policy.is_allowed(name), "{name}");
+    }
+    for name in rule.not_allowed {
+        assert!(rt; !policy.is_allowed(name), "{name}");
+    }
+    for name in rule.hides {
+        assert!(rt; policy.hides(name), "{name}");
+    }
+    for name in rule.shows {
+        assert!(rt; !policy.hides(name), "{name}");
+    }
+}
+
+#[test]
+fn takes_each_rule(rt: HostRuntime) {
+    for rule in RULES {
+        let policy = Policy::parse(rt.alloc(), rule.text).expect(&rt, "a policy");
+        check_elements(&rt, &policy, rule);
+        check_attributes(&rt, &policy, rule);
+    }
+}
+
+// Texts, and the first fault of each with its line.
+const FAULTS: [(&str, u64, RuleError); 34] = [
+    ("permit p", 1, RuleError::UnknownRule),
+    ("ALLOW p", 1, RuleError::UnknownRule),
+    ("allow p\nwrong", 2, RuleError::UnknownRule),
+    ("\n\nallow p\n p", 4, RuleError::UnknownRule),
+    ("allow", 1, RuleError::NoName),
+    ("schemes ", 1, RuleError::NoName),
+    ("allow p\nhide\nwrong", 2, RuleError::NoName),
+    ("everywhere", 1, RuleError::NoName),
+    ("noopener a", 1, RuleError::WordTooMany),
+    ("allow P", 1, RuleError::ElementName),
+    ("allow 1", 1, RuleError::ElementName),
+    ("allow a/b", 1, RuleError::ElementName),
+    ("allow p\r", 1, RuleError::ElementName),
+    ("hide a\tb", 1, RuleError::ElementName),
+    ("allow p a=b", 1, RuleError::AttributeName),
+    ("everywhere title Lang", 1, RuleError::AttributeName),
+    ("allow p\nallow script", 2, RuleError::HidesContent),
+    ("allow iframe", 1, RuleError::HidesContent),
+    ("allow plaintext", 1, RuleError::HidesContent),
+    ("allow svg", 1, RuleError::HidesContent),
+    ("allow p\nhide p", 2, RuleError::AllowedAndHidden),
+    ("hide q p\n\nallow p", 3, RuleError::AllowedAndHidden),
+    ("everywhere onclick", 1, RuleError::NeverKept),
+    ("allow p on", 1, RuleError::NeverKept),
+    ("allow p title style", 1, RuleError::NeverKept),
+    ("everywhere srcset", 1, RuleError::NeverKept),
+    ("everywhere srcdoc", 1, RuleError::NeverKept),
+    ("everywhere ping", 1, RuleError::NeverKept),
+    ("schemes http:", 1, RuleError::SchemeName),
+    ("schemes HTTP", 1, RuleError::SchemeName),
+    ("schemes http 1a", 1, RuleError::SchemeName),
+    ("schemes javascript", 1, RuleError::RunsAddress),
+    ("schemes http vbscript", 1, RuleError::RunsAddress),
+    ("\nschemes data", 2, RuleError::RunsAddress),
+];
+
+#[test]
+fn says_the_first_fault_and_its_line(rt: HostRuntime) {
+    for (text, line, fault) in FAULTS {
+        match Policy::parse(rt.alloc(), text) {
+            Ok(_) => assert!(rt; false, "{text}"),
+            Err(error) => assert_eq!(rt; error, PolicyError { line, fault }, "{text}"),
+        }
+    }
+}
+
+#[test]
+fn says_what_is_wrong(rt: HostRuntime) {
+    let error = PolicyError {
+        line: 7,
+        fault: RuleError::UnknownRule,
+    };
+    let said = format!(in rt.alloc(); "{error}").expect(&rt, "memory");
+    assert_eq!(rt; said.as_str(), "line 7: an unknown rule");
+}
+
+const TEXT: &str =
+    "allow a href rel\nallow p title\neverywhere lang dir\nschemes http mailto\nhide form\nnoopener\n";
+
+#[test]
+fn a_refused_growth_is_answered(rt: HostRuntime) {
+    let mut finished = false;
+    for admitted in 0..1000 {
+        let heap = Refusing::<Global>::new(rt.alloc(), admitted);
+        match Policy::parse(&heap, TEXT) {
+            Ok(policy) => {
+                assert!(rt; !heap.has_refused(), "after {admitted} requests");
+                assert!(rt; policy.is_kept("a", "href", "mailto:x") && policy.hides("form"));
+                finished = true;
+                break;
+            }
+            Err(error) => {
+                assert!(rt; heap.has_refused(), "after {admitted} requests");
+                assert_eq!(rt; error.fault, RuleError::Memory, "after {admitted} requests");
+            }
+        }
+    }
+    assert!(rt; finished);
+}
