@@ -15,7 +15,7 @@ standard input is read.
                    everywhere ATTRIBUTE..        attributes of each element
                    schemes SCHEME..              schemes of addresses
                    hide ELEMENT..                elements dropped with what stands in them
-                   noopener                      each link gets rel="noopener"
+                   noopener                      each link gets rel=noopener
                  empty lines, and lines that begin with #, say nothing
   --names FILE   the table of named character references, in place of the standard's
   --help         this text

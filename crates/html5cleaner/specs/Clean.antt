@@ -10,7 +10,7 @@ use Rattle.markup5ever.specs.Names.{AttributeOf}
 use Rattle.html5policy.specs.Policy.{PolicyOf, hides, is_allowed, is_rel_of_link}
 use Rattle.html5write.specs.Pieces.{NameAndValue, Piece, can_write}
 use Rattle.html5write.specs.Pieces.Piece.{TextPiece, StartTagPiece, EndTagPiece}
-use Rattle.html5cleaner.specs.Elements.{is_void, is_foreign}
+use Rattle.html5cleaner.specs.Elements.{is_empty_element, is_void}
 use Rattle.html5cleaner.specs.Allowed.{is_kept_attribute}
 use Rattle.html5cleaner.specs.declared.hidden.Hidden.{Hidden as RustHidden}
 
@@ -24,9 +24,9 @@ pub record Hidden : Type 0 where
 abbrev pub hidden_of : {Z : Type 0} → RustHidden Z → Hidden
 hidden_of hidden = record { name = string_bytes hidden.name; depth = hidden.depth }
 
--- whether a tag is the start tag of an element that is dropped with what stands in it; `<svg/>` has nothing in it
+-- whether a tag is the start tag of an element that is dropped with what stands in it; `<svg/>` and `<br>` have nothing in them
 abbrev pub opens_by_kind : PolicyOf → TagKind → List ℕ → Bool → Bool
-opens_by_kind policy StartTag name self_closing = hides policy name && not (self_closing && is_foreign name)
+opens_by_kind policy StartTag name self_closing = hides policy name && not (is_empty_element name self_closing)
 opens_by_kind policy EndTag name self_closing = false
 
 abbrev pub opens : PolicyOf → TagOf → Bool

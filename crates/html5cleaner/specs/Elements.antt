@@ -1,5 +1,5 @@
 -- Elements of which no policy decides, by the bytes of their names.
-use Rattle.std.specs.Prelude.{ℕ, Bool, List, ◌||◌, codes}
+use Rattle.std.specs.Prelude.{ℕ, Bool, List, ◌||◌, ◌&&◌, codes}
 use Rattle.std.specs.Str.{bytes_eq}
 
 -- elements that have no end tag
@@ -13,3 +13,7 @@ is_void name =
 -- elements of other namespaces, which a `/` before the `>` ends
 unfoldable pub is_foreign : List ℕ → Bool
 is_foreign name = bytes_eq name (codes "svg") || bytes_eq name (codes "math")
+
+-- whether nothing stands in an element of this name, whose start tag may end in `/`
+abbrev pub is_empty_element : List ℕ → Bool → Bool
+is_empty_element name self_closing = is_void name || (self_closing && is_foreign name)

@@ -3,7 +3,7 @@ ghost use Rattle.std.specs.Prelude.{◌≡◌, [], IfSome, string_bytes};
 ghost use Rattle.html5ever_interface.specs.Token.{tag_of, told_by};
 ghost use Rattle.html5cleaner.specs.Clean.{depth_after, depth_after_tag, hidden_of, name_after, name_after_tag, opens};
 
-use crate::elements::is_foreign;
+use crate::elements::is_empty_element;
 use html5ever_interface::interface::token::{Tag, TagKind, Token};
 use html5policy::Policy;
 use std::alloc::Allocator;
@@ -22,7 +22,7 @@ fn opens<A: Allocator>(policy: &Policy<A>, tag: &Tag<A>) -> bool
 {
     match tag.kind {
         TagKind::StartTag => {
-            policy.hides(&tag.name.0) && !(tag.self_closing && is_foreign(&tag.name.0))
+            policy.hides(&tag.name.0) && !is_empty_element(&tag.name.0, tag.self_closing)
         }
         TagKind::EndTag => false,
     }
