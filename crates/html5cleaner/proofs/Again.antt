@@ -27,6 +27,7 @@ use Rattle.html5write.specs.Pieces.Piece.{TextPiece, StartTagPiece, EndTagPiece,
 use Rattle.html5write.specs.Told.{attribute_told, end_tag_told, page_tokens, piece_tokens, proper, proper_token, start_tag_told}
 use Rattle.html5cleaner.specs.Allowed.{is_kept_attribute}
 use Rattle.html5cleaner.specs.Clean.{Cleaned, adds_noopener, allows_by_kind, attribute_chars, clean_step, count_of, depth_by_kind, is_href, kept, kept_attributes, kept_of_parts, kept_of_run, kept_of_tag, kept_of_token, kept_where, noopener_attribute, opens, piece_by_kind, where_writable, with_noopener}
+use Rattle.html5cleaner.specs.Elements.{is_empty_element}
 use Rattle.html5cleaner.proofs.Encoded.{chars-encoded}
 use lib.Utf8.{encode}
 use Rattle.html5cleaner.proofs.Replies.{and-left, and-right}
@@ -135,7 +136,7 @@ steady-kind policy sound StartTag name attributes same allowed can = (
   (λ i. kept_of_parts policy StartTag (chars-encoded name i) (kept_attributes policy (chars-encoded name i) (chars-all_told attributes i)))
       ∙ ap (kept_of_parts policy StartTag name) same
       ∙ kept-parts policy StartTag name attributes allowed can,
-  ap (λ hidden. hidden && true) (allowed-shown policy (encode_utf8_all name) sound allowed),
+  ap (λ hidden. hidden && not (is_empty_element (encode_utf8_all name) false)) (allowed-shown policy (encode_utf8_all name) sound allowed),
 )
 steady-kind policy sound EndTag name attributes same allowed can =
     (λ i. kept_of_parts policy EndTag (chars-encoded name i) (kept_attributes policy (chars-encoded name i) []))
