@@ -7,3 +7,6 @@ pub mod Schemes
 pub mod SameReadings
 pub mod Printing
 pub mod WholeTexts
+pub mod Encoded
+pub mod Again
+pub mod PagesAgain

@@ -3,7 +3,7 @@ use Rattle.std.specs.Prelude.{ℕ, List, [], ◌++◌, encode_utf8_all}
 use Rattle.devices.specs.Printing.{Printing}
 use Rattle.html5ever_interface.specs.Sink.{Message}
 use Rattle.html5ever_interface.specs.Token.{Told}
-use Rattle.html5stream.specs.Pages.{runs_handed, runs_page}
+use Rattle.html5stream.specs.Pages.{runs_after, runs_handed, runs_page}
 use Rattle.html5policy.specs.Policy.{PolicyOf}
 use Rattle.html5write.specs.Pieces.{Piece, page_text}
 use Rattle.html5cleaner.specs.Clean.{Hidden, at_start, clean_step, hidden_after, kept_where}
@@ -40,6 +40,10 @@ standing_of p = record { policy = p.policy; printed = p.printer.printed }
 -- the bytes of pieces
 abbrev pub page_bytes : List Piece → List ℕ
 page_bytes pieces = encode_utf8_all (page_text pieces)
+
+-- the pieces that a policy keeps of a page whose bytes are given
+abbrev pub kept_of_page : PolicyOf → List NamedReference → List ℕ → List Piece
+kept_of_page policy names bytes = (runs_after clean_step names (at_start policy) bytes).pieces
 
 -- a run of text and the token after it: what is kept of them is printed
 abbrev pub cleaning_step : Cleaning → List ℕ → Told → ℕ → Cleaning

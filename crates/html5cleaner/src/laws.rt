@@ -1,11 +1,12 @@
 //! How a cleaned page is read.
 ghost use Rattle.std.specs.Prelude.{◌≡◌, ℕ, List, [], ◌∷◌, ◌++◌, Some, false, true};
 ghost use Rattle.std.specs.List.{list_all};
+ghost use Rattle.html5ever_interface.specs.Sink.{Message};
 ghost use Rattle.html5ever_interface.specs.Token.{Told};
 ghost use Rattle.html5ever_interface.specs.Token.Told.{End};
 ghost use Rattle.html5grammar.specs.Reading.{all_messages};
 ghost use Rattle.html5grammar.specs.Start.{Start, Rules};
-ghost use Rattle.markup5ever.specs.NamedReferences.{IsTable};
+ghost use Rattle.markup5ever.specs.NamedReferences.{IsTable, NamedReference};
 ghost use Rattle.html5write.specs.Pieces.{Piece, page_text};
 ghost use Rattle.html5items.specs.Anywhere.{TellsByItself};
 ghost use Rattle.html5write.specs.Told.{IsOpen, page_messages, page_tokens, proper, start_after_page};
@@ -16,6 +17,8 @@ ghost use Rattle.html5policy.specs.Rules.{IsSound};
 ghost use Rattle.html5cleaner.specs.Allowed.{is_clean};
 ghost use Rattle.html5cleaner.specs.Browsers.{RunsNothing, scheme_of};
 ghost use Rattle.html5cleaner.specs.Clean.{Cleaned, at_start, clean_step};
+ghost use Rattle.html5cleaner.specs.Cleaning as cleaning;
+ghost use Rattle.html5cleaner.specs.Cleaning.{Standing, kept_of_page, page_bytes, printed_of};
 ghost use Rattle.html5cleaner.specs.Reading.{FollowsStandard, is_allowed_token};
 
 use html5ever_interface::interface::sink::TokenSink;
@@ -54,6 +57,17 @@ pub fn kept_pieces_are_clean()
     ensures starts { (policy : PolicyOf) → list_all (is_clean policy) (at_start policy).pieces ≡ true }
     ensures stay { (s : Cleaned) (run : List ℕ) (told : Told) (line : ℕ) → list_all (is_clean s.policy) s.pieces ≡ true
         → list_all (is_clean s.policy) (clean_step s run told line).pieces ≡ true }
+{}
+
+/// Cleaning twice by a policy changes nothing, whatever the table of each reading: what was kept of a text
+/// is kept again to the byte, and so is what was printed of a page or of a beginning of it.
+pub fn cleaning_twice()
+    ensures text { (policy : PolicyOf) (names others : List NamedReference) (text : List ℕ) → IsSound policy
+        → IsTable others → page_bytes (kept_of_page policy others (page_bytes (kept_of_page policy names text)))
+        ≡ page_bytes (kept_of_page policy names text) }
+    ensures printed { (s : Standing) (names : List NamedReference) (M : List Message) → IsSound s.policy
+        → IsTable names → printed_of s (cleaning.page_messages names s
+        (printed_of (record { policy = s.policy; printed = [] }) M).printed) ≡ printed_of s M }
 {}
 
 /// In an address that is kept a browser finds no scheme, or one of the policy's: it passes over white

@@ -51,19 +51,6 @@ fn keeps_a_beginning_of_a_page_that_is_no_text(rt: HostRuntime) {
 }
 
 #[test]
-fn a_clean_page_stays_as_it_is(rt: HostRuntime) {
-    let names = NamedReferences::check(rt.alloc(), Vec::new(rt.alloc())).expect(&rt, "a table");
-    let policy = Policy::standard(rt.alloc()).expect(&rt, "memory");
-    for (page, wanted) in CASES {
-        let source = &mut PieceSource::new(wanted.as_bytes(), 4096);
-        let (cleaner, read) = clean_page(rt.alloc(), source, &names, &policy);
-        let kept = cleaner.into_page();
-        assert_eq!(rt; read, Ok(()), "{page}");
-        assert!(rt; kept.as_str() == wanted, "{page}");
-    }
-}
-
-#[test]
 fn cleans_a_text(rt: HostRuntime) {
     let names = NamedReferences::check(rt.alloc(), Vec::new(rt.alloc())).expect(&rt, "a table");
     let policy = Policy::standard(rt.alloc()).expect(&rt, "memory");

@@ -1,0 +1,62 @@
+-- A page of pieces that were kept is kept as it is.
+use Rattle.std.proofs.Common.{◌≡◌, true, false, List, [], ◌∷◌, ◌++◌, refl, ap, ◌∙◌}
+use Rattle.std.specs.Prelude.{encode_utf8_all}
+use Rattle.std.specs.List.{list_all}
+use Rattle.std.proofs.lemmas.List.{append-nil}
+use Rattle.html5ever_interface.specs.Options.{default_options}
+use Rattle.html5ever_interface.specs.Sink.{Message}
+use Rattle.html5ever_interface.specs.Token.Told.{End}
+use Rattle.html5grammar.specs.NormalisedText.{normalised, line_after}
+use Rattle.html5grammar.specs.Reading.{all_messages}
+use Rattle.html5grammar.specs.Start.{Start, Rules, start_of}
+use Rattle.html5policy.specs.Policy.{PolicyOf}
+use Rattle.html5policy.specs.Rules.{IsSound}
+use Rattle.html5sinks.specs.Runs.{Joined, Running}
+use Rattle.html5stream.specs.Pages.{runs_handed, runs_means, runs_page, runs_start}
+use Rattle.markup5ever.specs.NamedReferences.{NamedReference, IsTable}
+use Rattle.html5write.specs.Pieces.{Piece, page_text}
+use Rattle.html5write.specs.Told.{page_tokens, proper}
+use Rattle.html5write.proofs.Pages.{page-reading}
+use Rattle.html5write.proofs.ProperTokens.{proper-whole}
+use Rattle.html5cleaner.specs.Allowed.{is_clean}
+use Rattle.html5cleaner.specs.Clean.{Cleaned, at_start, clean_step}
+use Rattle.html5cleaner.proofs.Again.{AreSteady, after-messages, after_tokens, after_tokens-append, kept-with_run, stands-page, steady-pieces}
+use Rattle.html5cleaner.proofs.Encoded.{chars-encoded}
+use Rattle.html5cleaner.proofs.Printing.{clean-handed}
+use Rattle.html5cleaner.proofs.Replies.{keeps_on-page}
+use Rattle.html5cleaner.proofs.Tokens.{can-clean}
+
+-- a page of clean pieces is read, but for errors, as these
+proper-page : (policy : PolicyOf) (names : List NamedReference) (pieces : List Piece) → IsSound policy → IsTable names → list_all (is_clean policy) pieces ≡ true
+    → proper (runs_page clean_step names (at_start policy) (encode_utf8_all (page_text pieces))) ≡ page_tokens pieces ++ End ∷ []
+unfolding runs_page
+proper-page policy names pieces sound table clean =
+    let rules : Rules = record { exact = false; names = names } in
+    let K : Start = start_of default_options in
+    let means = runs_means {X = Running Cleaned} (λ t. t) clean_step in
+    ap (λ text. proper (all_messages means rules K (runs_start (at_start policy)) text)) (chars-encoded (page_text pieces))
+    ∙ ap proper
+    (page-reading means rules K (runs_start (at_start policy)) pieces table (record { starts = refl; no_break = refl }) (can-clean policy pieces clean)
+    (keeps_on-page policy sound means.reply (λ s tag line keeps. keeps) pieces clean))
+    ∙ proper-whole rules.exact K.input pieces (line_after K.input (normalised K.input (page_text pieces)))
+
+kept-again : (policy : PolicyOf) (names : List NamedReference) (pieces : List Piece) → IsSound policy → IsTable names → list_all (is_clean policy) pieces ≡ true → AreSteady policy pieces
+    → page_text (runs_handed clean_step (at_start policy) (runs_page clean_step names (at_start policy) (encode_utf8_all (page_text pieces)))).pieces ≡ page_text pieces
+unfolding runs_handed after_tokens
+kept-again policy names pieces sound table clean steady =
+    let M : List Message = runs_page clean_step names (at_start policy) (encode_utf8_all (page_text pieces)) in
+    let start : Joined Cleaned = (runs_start (at_start policy)).joined in
+    let before : Joined Cleaned = after_tokens start (page_tokens pieces) in
+    let stands = stands-page policy [] start (record { keeps = refl; text = []; waits = refl; whole = refl; shown = refl; written = refl }) pieces steady in
+    ap (λ j. page_text j.handler.pieces)
+    (after-messages (runs_start (at_start policy)) M ∙ ap (after_tokens start) (proper-page policy names pieces sound table clean) ∙ after_tokens-append start (page_tokens pieces) (End ∷ []))
+    ∙ kept-with_run policy (page_text pieces) before stands End [] refl
+    ∙ append-nil (page_text pieces)
+
+-- what was kept of any messages
+pub kept-twice : (policy : PolicyOf) (names : List NamedReference) (M : List Message) → IsSound policy → IsTable names
+    → page_text (runs_handed clean_step (at_start policy) (runs_page clean_step names (at_start policy) (encode_utf8_all (page_text (runs_handed clean_step (at_start policy) M).pieces)))).pieces
+    ≡ page_text (runs_handed clean_step (at_start policy) M).pieces
+unfolding runs_handed
+kept-twice policy names M sound table =
+    kept-again policy names (runs_handed clean_step (at_start policy) M).pieces sound table (clean-handed policy M) (steady-pieces policy sound (runs_start (at_start policy)) M refl refl)

@@ -1,0 +1,4 @@
+pub mod Steps
+pub mod WrittenPages
+pub mod PlainPieces
+pub mod Replies

@@ -1,0 +1,5 @@
+pub mod Rewriter
+pub mod Plain
+pub mod Rewriting
+pub mod Writing
+pub mod Edits

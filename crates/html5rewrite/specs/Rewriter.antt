@@ -1,0 +1,58 @@
+-- What a rewriter makes of tags, and what a rewriting handler does by that.
+use Rattle.std.specs.Prelude.{ℕ, Bool, true, false, not, List, ◌&&◌, ◌||◌, codes, if◌then◌else◌}
+use Rattle.std.specs.Option.{is_none}
+use Rattle.std.specs.Str.{bytes_eq}
+use Rattle.html5ever_interface.specs.Token.{TagOf}
+use Rattle.html5ever_interface.specs.declared.interface.token.TagKind.{TagKind}
+use Rattle.html5ever_interface.specs.declared.interface.token.TagKind.TheVariants.{StartTag, EndTag}
+use Rattle.html5sinks.specs.Replies.{raw_text_in}
+use Rattle.html5rewrite.specs.declared.rewriter.Keep.{Keep}
+use Rattle.html5rewrite.specs.declared.rewriter.Keep.TheVariants as keep
+
+-- what is kept of a tag, and the tag that is written where it is kept
+pub record Rewriter : Type 0 where
+  pub keeps : TagOf → Keep
+  pub rewritten : TagOf → TagOf
+
+-- whether what stands after a start tag of this name is read as markup
+abbrev pub reads_markup_after : List ℕ → Bool
+reads_markup_after name = is_none (raw_text_in name) && not (bytes_eq name (codes "plaintext"))
+
+abbrev pub reads_markup_by_kind : TagKind → List ℕ → Bool
+reads_markup_by_kind StartTag name = reads_markup_after name
+reads_markup_by_kind EndTag name = true
+
+-- an element whose text is not read as markup is dropped with it, whatever the rewriter says: its text could not be written as text
+abbrev pub keep_of : Rewriter → TagOf → Keep
+keep_of rewriter tag = if reads_markup_by_kind tag.kind tag.name then rewriter.keeps tag else keep.Nothing
+
+-- ---- content
+
+-- elements that have no end tag
+unfoldable pub is_void : List ℕ → Bool
+is_void name =
+    bytes_eq name (codes "area") || bytes_eq name (codes "base") || bytes_eq name (codes "br") || bytes_eq name (codes "col")
+    || bytes_eq name (codes "embed") || bytes_eq name (codes "hr") || bytes_eq name (codes "img") || bytes_eq name (codes "input")
+    || bytes_eq name (codes "link") || bytes_eq name (codes "meta") || bytes_eq name (codes "param") || bytes_eq name (codes "source")
+    || bytes_eq name (codes "track") || bytes_eq name (codes "wbr")
+
+-- elements of other namespaces, which a `/` before the `>` ends
+unfoldable pub is_foreign : List ℕ → Bool
+is_foreign name = bytes_eq name (codes "svg") || bytes_eq name (codes "math")
+
+-- whether a tag begins an element in which something can stand
+abbrev pub has_content_by_kind : TagKind → List ℕ → Bool → Bool
+has_content_by_kind StartTag name self_closing = not (is_void name) && not (self_closing && is_foreign name)
+has_content_by_kind EndTag name self_closing = false
+
+abbrev pub has_content : TagOf → Bool
+has_content tag = has_content_by_kind tag.kind tag.name tag.self_closing
+
+abbrev pub drops_content : Keep → Bool
+drops_content keep.Tag = false
+drops_content keep.ContentOnly = false
+drops_content keep.Nothing = true
+
+-- whether a tag begins an element that is dropped with what stands in it
+abbrev pub opens : Rewriter → TagOf → Bool
+opens rewriter tag = drops_content (keep_of rewriter tag) && has_content tag

@@ -1,0 +1,80 @@
+//! Pages that are rewritten.
+ghost use Rattle.std.specs.Prelude.{◌≡◌, ℕ, ◌+◌, [], Err, IfOk, OnOk, OnErr, string_bytes};
+ghost use Rattle.html5stream.specs.Pages.{ReadsPage, StopsPage, runs_page, runs_handed, runs_after};
+ghost use Rattle.html5stream.specs.Streams.{GivesNoText, failed_reads};
+ghost use Rattle.html5rewrite.specs.Writing.{page_bytes, page_messages, pieces_of, start_of_writing, writing_of, writing_step, written_of};
+
+use crate::output::Output;
+use crate::rewriter::TagRewriter;
+use crate::rewriting::Rewriting;
+use devices::{ReadSource, Source};
+use html5ever_interface::interface::token::Tag;
+use html5stream::{StreamError, read_tokens};
+use markup5ever::data::NamedReferences;
+use std::alloc::Allocator;
+
+// Reads a page, and writes it as the rewriter says, in the words of the handler.
+fn read_rewritten<R: Source, H: TagRewriter<Tag<A>>, O: Output, A: Allocator + Copy>(
+    alloc: A,
+    source: &mut R,
+    rewriter: H,
+    output: O,
+    names: &NamedReferences<A>,
+) -> (Rewriting<H, O, A>, Result<(), StreamError>)
+    ensures finishes { OnOk result.1 (ReadsPage (runs_after writing_step names.now)
+        (R.remaining source.old) (R.remaining source.new)
+        (start_of_writing (H.means rewriter) (O.bytes output)) (writing_of H.means O.bytes result.0)) }
+    ensures beginning { OnErr result.1 (StopsPage (runs_page writing_step names.now) (runs_handed writing_step)
+        (R.remaining source.old) (R.remaining source.new)
+        (start_of_writing (H.means rewriter) (O.bytes output)) (writing_of H.means O.bytes result.0)) }
+    ensures not_utf8 { (place : ℕ) → result.1 ≡ Err (StreamError.NotUtf8 place)
+        → GivesNoText place (R.remaining source.old) (R.remaining source.new) }
+    ensures read { R.failures source.new ≡ R.failures source.old + failed_reads result.1 }
+{
+    let handler = Rewriting::new(alloc, rewriter, output);
+    read_tokens(alloc, source, handler, names)
+}
+
+/// Reads a page as it arrives, and writes it as the rewriter says, after what was written before: the
+/// whole page, or after an error a beginning of it.
+pub fn rewrite_page<R: Source, H: TagRewriter<Tag<A>>, O: Output, A: Allocator + Copy>(
+    alloc: A,
+    source: &mut R,
+    rewriter: H,
+    output: O,
+    names: &NamedReferences<A>,
+) -> (O, Result<(), StreamError>)
+    ensures finishes { OnOk result.1 (ReadsPage (λ before bytes. written_of (H.means rewriter) before
+        (page_messages (H.means rewriter) names.now before bytes))
+        (R.remaining source.old) (R.remaining source.new) (O.bytes output) (O.bytes result.0)) }
+    ensures beginning { OnErr result.1 (StopsPage (page_messages (H.means rewriter) names.now)
+        (written_of (H.means rewriter))
+        (R.remaining source.old) (R.remaining source.new) (O.bytes output) (O.bytes result.0)) }
+    ensures not_utf8 { (place : ℕ) → result.1 ≡ Err (StreamError.NotUtf8 place)
+        → GivesNoText place (R.remaining source.old) (R.remaining source.new) }
+    ensures read { R.failures source.new ≡ R.failures source.old + failed_reads result.1 }
+{
+    let (handler, read) = read_rewritten(alloc, source, rewriter, output, names);
+    match read {
+        Ok(()) => (handler.into_output(), Ok(())),
+        Err(error) => (handler.into_output(), Err(error)),
+    }
+}
+
+/// A text, rewritten.
+pub fn rewrite_text<H: TagRewriter<Tag<A>>, A: Allocator + Copy>(
+    alloc: A,
+    text: &str,
+    rewriter: H,
+    names: &NamedReferences<A>,
+) -> Result<String<A>, StreamError>
+    ensures { IfOk result (λ page. string_bytes page ≡ page_bytes (pieces_of (H.means rewriter)
+        (page_messages (H.means rewriter) names.now [] text.now))) }
+{
+    let mut source = ReadSource::new(text.as_bytes());
+    let (page, read) = rewrite_page(alloc, &mut source, rewriter, String::new(alloc), names);
+    match read {
+        Ok(()) => Ok(page),
+        Err(error) => Err(error),
+    }
+}

@@ -1,0 +1,113 @@
+//! What a rewriter says of tags.
+ghost use Rattle.std.specs.Prelude.{◌≡◌};
+ghost use Rattle.html5ever_interface.specs.Token.{tag_of};
+ghost use Rattle.html5rewrite.specs.Rewriter.{has_content, is_foreign, is_void, keep_of, reads_markup_after, reads_markup_by_kind};
+
+use html5ever_interface::interface::token::{Tag, TagKind};
+use html5sinks::replies::raw_text_in;
+use html5sinks::tags::SaysTag;
+use std::alloc::{AllocError, Allocator};
+
+/// What becomes of a tag.
+#[derive(Clone, Copy, Debug, PartialEq, Eq)]
+pub enum Keep {
+    /// It is written as the rewriter leaves it, and what stands in its element is kept.
+    Tag,
+    /// It is dropped, and what stands in its element is kept.
+    ContentOnly,
+    /// It is dropped with what stands in its element, up to its end tag. An end tag, and a tag of an
+    /// element that has no content, as `<br>`, is dropped alone.
+    Nothing,
+}
+
+/// Says of tags what becomes of them: `impl<A: Allocator> TagRewriter<Tag<A>> for MyRewriter`. What it
+/// says goes by the tag and by the rewriter alone. Of tags in a dropped element nothing is asked.
+pub trait TagRewriter<T: SaysTag>: Drop {
+    ghost use Rattle.std.specs.Prelude.{◌≡◌, OnOk};
+    ghost use Rattle.html5rewrite.specs.Rewriter.{Rewriter};
+
+    // What is kept of each tag, and the tag that is written where it is kept.
+    ghost means: { Self → Rewriter };
+
+    /// What becomes of a tag. It is asked of each start tag and of each end tag by itself: what it
+    /// answers to `<b>` it mostly answers to `</b>` too.
+    fn keep(&self, tag: &T) -> Keep
+        ensures { result ≡ (means self.now).keeps (T.tag tag.now) };
+
+    /// Changes a tag that is kept to the one that is written. Where it finds no memory for that, the
+    /// tokenizer stops.
+    fn rewrite(&self, tag: &mut T) -> Result<(), AllocError>
+        ensures { OnOk result (T.tag tag.new ≡ (means self.now).rewritten (T.tag tag.old)) };
+}
+
+/// Whether what stands after a start tag of this name is read as markup.
+pub fn reads_markup_after(name: &str) -> bool
+    ensures { result ≡ reads_markup_after name.now }
+{
+    raw_text_in(name).is_none() && name != "plaintext"
+}
+
+// Whether what stands after a tag is read as markup.
+fn reads_markup<A: Allocator>(tag: &Tag<A>) -> bool
+    ensures { result ≡ reads_markup_by_kind (tag_of tag.now).kind (tag_of tag.now).name }
+{
+    match tag.kind {
+        TagKind::StartTag => reads_markup_after(&tag.name.0),
+        TagKind::EndTag => true,
+    }
+}
+
+/// What becomes of a tag, where an element whose text is not read as markup is dropped with it.
+pub fn keep_of<H: TagRewriter<Tag<A>>, A: Allocator>(rewriter: &H, tag: &Tag<A>) -> Keep
+    ensures { result ≡ keep_of (H.means rewriter.now) (tag_of tag.now) }
+{
+    if reads_markup(tag) {
+        rewriter.keep(tag)
+    } else {
+        Keep::Nothing
+    }
+}
+
+// Whether an element has no end tag.
+#[tactic(auto, unfolding(crate::specs::Rewriter::is_void))]
+fn is_void(name: &str) -> bool
+    ensures { result ≡ is_void name.now }
+{
+    matches!(
+        name,
+        "area"
+            | "base"
+            | "br"
+            | "col"
+            | "embed"
+            | "hr"
+            | "img"
+            | "input"
+            | "link"
+            | "meta"
+            | "param"
+            | "source"
+            | "track"
+            | "wbr"
+    )
+}
+
+// Whether a `/` before the `>` ends an element of this name.
+#[tactic(auto, unfolding(crate::specs::Rewriter::is_foreign))]
+fn is_foreign(name: &str) -> bool
+    ensures { result ≡ is_foreign name.now }
+{
+    matches!(name, "svg" | "math")
+}
+
+/// Whether a tag begins an element in which something can stand.
+pub fn has_content<A: Allocator>(tag: &Tag<A>) -> bool
+    ensures { result ≡ has_content (tag_of tag.now) }
+{
+    match tag.kind {
+        TagKind::StartTag => {
+            !is_void(&tag.name.0) && !(tag.self_closing && is_foreign(&tag.name.0))
+        }
+        TagKind::EndTag => false,
+    }
+}
