@@ -7,7 +7,7 @@ use html5ever_interface::interface::token::Tag;
 use html5rewrite::{Keep, TagRewriter, drop_attribute, set_attribute, value_of};
 use std::alloc::{AllocError, Allocator, Global};
 
-/// Puts a base in front of the links within a site, and drops `target`, `font` and navigation.
+/// Puts a base in front of the links within a site, and drops `target`, fonts, images and navigation.
 #[derive(Clone, Copy)]
 pub struct AbsoluteLinks<'t, A: Allocator = Global> {
     pub alloc: A,
