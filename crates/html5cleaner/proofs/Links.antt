@@ -1,6 +1,6 @@
 -- What a policy writes into links.
 use Rattle.std.proofs.Common.{◌≡◌, ℕ, Bool, true, false, List, [], ◌∷◌, ◌++◌, filter, sym, ap, ◌∙◌}
-use Rattle.std.specs.Prelude.{◌&&◌, codes, encode_utf8_all, if◌then◌else◌}
+use Rattle.std.specs.Prelude.{◌&&◌, codes, if◌then◌else◌}
 use Rattle.std.specs.List.{list_any}
 use Rattle.html5policy.specs.Policy.{PolicyOf, is_rel_of_link}
 use Rattle.html5write.specs.Pieces.{NameAndValue}

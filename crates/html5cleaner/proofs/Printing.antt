@@ -28,7 +28,7 @@ page_bytes-append first second = ap encode_utf8_all (flat_map-append piece_text 
 printed-step : (before : List ℕ) (c : Cleaned) (run : List ℕ) (told : Told) (line : ℕ)
     → cleaning_step (printed_after before c) run told line ≡ printed_after before (clean_step c run told line)
 printed-step before c run told line =
-    let more = kept_where c.hidden.depth run told in
+    let more = kept_where c.policy c.hidden.depth run told in
     let printed : (before ++ page_bytes c.pieces) ++ page_bytes more ≡ before ++ page_bytes (c.pieces ++ more) =
     append_assoc before (page_bytes c.pieces) (page_bytes more) ∙ ap (λ l. before ++ l) (sym (page_bytes-append c.pieces more)) in
     ap (λ l. record { policy = c.policy; printed = l; hidden = (clean_step c run told line).hidden }) printed

@@ -1,5 +1,5 @@
 -- A rule with which nothing is wrong keeps a policy sound.
-use Rattle.std.proofs.Common.{◌≡◌, ℕ, Bool, true, false, List, [], ◌∷◌, ◌++◌, chars, Option, None, Some, refl, sym, ap, ◌∙◌}
+use Rattle.std.proofs.Common.{◌≡◌, ℕ, Bool, true, false, List, [], ◌∷◌, ◌++◌, chars, None, Some, refl, sym, ap, ◌∙◌}
 use Rattle.std.specs.Prelude.{◌||◌, ◌&&◌, not, if◌then◌else◌}
 use Rattle.std.specs.List.{list_all, list_any}
 use Rattle.std.specs.Str.{bytes_eq}
@@ -8,7 +8,7 @@ use Rattle.std.proofs.lemmas.List.Folds.{list_all-append, list_any-append}
 use Rattle.html5write.specs.Pieces.{is_tag_name, is_attribute_name}
 use Rattle.markup5ever.proofs.NameOrder.{bytes_eq-itself, bytes_eq-same}
 use Rattle.html5policy.specs.Names.{always_hides, is_never_kept, is_one_of, is_scheme, runs_address}
-use Rattle.html5policy.specs.Policy.{OwnAttribute, PolicyOf, is_allowed}
+use Rattle.html5policy.specs.Policy.{PolicyOf, is_allowed}
 use Rattle.html5policy.specs.Rules.{IsSound, RuleOf, attribute_fault, element_fault, fault_of, hidden_fault, may_hide, may_keep, may_keep_attribute, may_keep_own, may_keep_scheme, scheme_fault, with_rule}
 use Rattle.html5policy.specs.Rules.RuleOf.{Element, Attribute, Everywhere, Scheme, Hidden, Noopener}
 use Rattle.html5policy.specs.declared.error.RuleError.{RuleError}

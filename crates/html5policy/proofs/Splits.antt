@@ -1,5 +1,5 @@
 -- The parts of a text round a byte, one after the other.
-use Rattle.std.proofs.Common.{◌≡◌, ℕ, ◌+◌, ◌<◌, Bool, true, false, List, [], ◌∷◌, length, Bor, Option, None, Some, refl, sym, ap, ◌∙◌, lit<, arith}
+use Rattle.std.proofs.Common.{◌≡◌, ℕ, ◌+◌, ◌<◌, Bool, true, false, List, [], ◌∷◌, length, Bor, Option, None, Some, refl, ap, ◌∙◌, lit<, arith}
 use Rattle.std.specs.Prelude.{◌==◌, filter, if◌then◌else◌}
 use Rattle.std.specs.List.{position_or_len, slice_split}
 use Rattle.std.specs.Str.Pattern.{FindsChar, SplitsAtFirstByte}
@@ -7,7 +7,7 @@ use Rattle.std.proofs.lemmas.Bool.{eqb-true}
 use Rattle.std.proofs.lemmas.List.{length-drop}
 use Rattle.std.proofs.lemmas.List.Splits.{slice_split_first, slice_split_none}
 use Rattle.std.proofs.lemmas.List.Sums.{fails_before_first}
-use Rattle.html5policy.specs.Text.{is_line_feed, is_space, is_word, lines, words}
+use Rattle.html5policy.specs.Text.{is_space, is_word, lines, words}
 
 abbrev pub SplitsAt : ℕ → List ℕ → Option (Bor (List ℕ) × Bor (List ℕ)) → Type 0
 SplitsAt c text r = SplitsAtFirstByte (FindsChar c) (Some c) text r

@@ -1,5 +1,5 @@
 -- Policies and rules as code has them.
-use Rattle.std.specs.Prelude.{ℕ, List, map, string_bytes}
+use Rattle.std.specs.Prelude.{map, string_bytes}
 use Rattle.html5policy.specs.Policy.{OwnAttribute, PolicyOf}
 use Rattle.html5policy.specs.Rules.{RuleOf}
 use Rattle.html5policy.specs.Rules.RuleOf.{Element as ElementRule, Attribute as AttributeRule, Everywhere as EverywhereRule, Scheme as SchemeRule, Hidden as HiddenRule, Noopener as NoopenerRule}

@@ -3,7 +3,7 @@ use Rattle.std.specs.Prelude.{◌≡◌, ℕ, Bool, true, List, [], ◌∷◌, �
 use Rattle.std.specs.List.{list_all}
 use Rattle.html5write.specs.Pieces.{is_tag_name, is_attribute_name}
 use Rattle.html5policy.specs.Names.{always_hides, is_never_kept, is_one_of, is_scheme, runs_address}
-use Rattle.html5policy.specs.Policy.{OwnAttribute, PolicyOf, is_allowed}
+use Rattle.html5policy.specs.Policy.{OwnAttribute, PolicyOf}
 use Rattle.html5policy.specs.declared.error.RuleError.{RuleError}
 use Rattle.html5policy.specs.declared.error.RuleError.TheVariants.{AllowedAndHidden, AttributeName, ElementName, HidesContent, NeverKept, RunsAddress, SchemeName}
 

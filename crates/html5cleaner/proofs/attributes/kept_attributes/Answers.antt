@@ -1,4 +1,4 @@
-use Rattle.std.proofs.Common.{map, sym, ap, ◌∙◌, rules}
+use Rattle.std.proofs.Common.{map, ap, ◌∙◌, rules}
 use Rattle.std.proofs.lemmas.List.{map_push}
 use Rattle.std.specs.Str.{chars}
 use Rattle.markup5ever.specs.Names.{attribute_of}

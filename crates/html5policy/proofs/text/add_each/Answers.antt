@@ -1,7 +1,6 @@
 use Rattle.std.proofs.Common.{map, sym, ap, ◌∙◌, rules}
 use Rattle.std.proofs.lemmas.Result.{err_from_is_err_and}
 use Rattle.html5policy.specs.Adding.{naming}
-use Rattle.html5policy.specs.Code.{rule_of}
 use Rattle.html5policy.specs.Rules.{rule_added}
 use Rattle.html5policy.specs.Text.{rules_added, words}
 use Rattle.html5policy.proofs.Lines.{fault-of_rule, rules-fault, rules-none, rules-ok}
