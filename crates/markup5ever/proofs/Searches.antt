@@ -1,12 +1,13 @@
 -- What a binary search by name finds.
-use Rattle.std.proofs.Common.{◌≡◌, ℕ, ◌<◌, ◌≤◌, List, [], ◌∷◌, ◌++◌, length, map, take, drop, zero, suc, get_or, Option, None, Some, true, false, Result, Ok, Err, IfOk, IfErr, IsTrue, String, string_bytes, refl, sym, ap, subst, ◌∙◌, arith}
+use Rattle.std.proofs.Common.{◌≡◌, ℕ, ◌+◌, ◌<◌, ◌≤◌, List, [], ◌∷◌, ◌++◌, length, map, take, drop, zero, suc, get_or, Option, None, Some, true, false, Result, Ok, Err, IfOk, IfErr, IsTrue, String, string_bytes, refl, sym, ap, subst, ◌∙◌, arith}
 use Rattle.std.specs.Cmp.Lexicographic.{slice_cmp}
 use Rattle.std.specs.Bool.{nat_eq}
 use Rattle.std.specs.List.{AllByRecursion, insert, slice_get, starts_with}
 use Rattle.std.specs.List.Sorted.{IsSearchInRange, IsBinarySearchResult, IsNonDecreasingBy}
 use Rattle.std.specs.Option.{option_map_or}
 use Rattle.std.specs.Ordering.{nat_cmp, ordering_index}
-use Rattle.std.specs.declared.cmp.Ordering.TheVariants.{Less, Greater}
+use Rattle.std.specs.declared.cmp.Ordering.{Ordering}
+use Rattle.std.specs.declared.cmp.Ordering.TheVariants.{Less, Equal, Greater}
 use Rattle.std.proofs.lemmas.Option.{slice_get-get_or}
 use Rattle.std.proofs.lemmas.List.{drop-map, get_or-map, length-map, map-append, take-map}
 use Rattle.markup5ever.specs.NamedReferences.{NamedReference, begins_name, characters_of_name, reference_of, references_of, comes_before, IsAscending, IsTable}
@@ -40,6 +41,16 @@ module _ {X : Type 0} {Y : Type 0} (f : X → Y) where
   holds_at P (x ∷ xs) zero within here e = here x
   holds_at P (x ∷ xs) (suc i) within here e = holds_at P xs i (omega (arith, within)) here e
 
+lowest : (o : Ordering) → ordering_index o ≤ 0 → o ≡ Less
+lowest Less low = refl
+lowest Equal low = absurd (omega (arith, low))
+lowest Greater low = absurd (omega (arith, low))
+
+highest : (o : Ordering) → 2 ≤ ordering_index o → o ≡ Greater
+highest Less high = absurd (omega (arith, high))
+highest Equal high = absurd (omega (arith, high))
+highest Greater high = refl
+
 module _ {Z : Type 0} (name : List ℕ) where
   -- along ascending names the comparisons with another rise
   comparisons_rise : (items : List (String Z × ℕ × Option ℕ)) → IsAscending (references_of items) → IsNonDecreasingBy (λ item. ordering_index (slice_cmp nat_cmp (string_bytes item.0) name)) items
@@ -71,6 +82,18 @@ module _ {Z : Type 0} (name : List ℕ) where
           afterwards = all_from reference_of (λ entry. slice_cmp nat_cmp entry.name name ≡ Greater) items gap (λ k d low less. parts.1 k d low less);
         };
       }
+
+  -- where the entry before a place comes before the name, all before the place do
+  pub all_before : (items : List (String Z × ℕ × Option ℕ)) (last : ℕ) → IsAscending (references_of items) → last < length items → ((d : String Z × ℕ × Option ℕ) → slice_cmp nat_cmp (string_bytes (get_or items last d).0) name ≡ Less) → AllByRecursion (λ entry. slice_cmp nat_cmp entry.name name ≡ Less) (take (last + 1) (references_of items))
+  all_before items last ascending within less =
+      all_below reference_of (λ entry. slice_cmp nat_cmp entry.name name ≡ Less) items (last + 1) (omega (arith, within)) (λ k d below.
+      lowest _ (omega (arith, comparisons_rise items ascending k last d (omega (arith, below)) within, ap ordering_index (less d))))
+
+  -- where the entry at a place comes after the name, it and all after it do
+  pub all_after : (items : List (String Z × ℕ × Option ℕ)) (place : ℕ) → IsAscending (references_of items) → ((d : String Z × ℕ × Option ℕ) → slice_cmp nat_cmp (string_bytes (get_or items place d).0) name ≡ Greater) → AllByRecursion (λ entry. slice_cmp nat_cmp entry.name name ≡ Greater) (drop place (references_of items))
+  all_after items place ascending greater =
+      all_from reference_of (λ entry. slice_cmp nat_cmp entry.name name ≡ Greater) items place (λ k d low within.
+      highest _ (omega (arith, comparisons_rise items ascending place k d low within, ap ordering_index (greater d))))
 
 -- one more item, and its reference
 pub references-insert : {Z : Type 0} (items : List (String Z × ℕ × Option ℕ)) (gap : ℕ) (item : String Z × ℕ × Option ℕ) → references_of (insert items gap item) ≡ insert (references_of items) gap (reference_of item)

@@ -1,9 +1,10 @@
 //! What character references stand for.
-ghost use Rattle.std.specs.Prelude.{◌≡◌, ℕ, ◌+◌, List, ◌++◌, ◌⊎◌, length, slice_get, IsTrue, IfOk, IfErr, IfSome, IsSomeAnd, OnOk, None, Some, string_bytes};
+ghost use Rattle.std.specs.Prelude.{◌≡◌, ℕ, ◌+◌, ◌≤◌, List, ◌++◌, ◌⊎◌, length, take, slice_get, true, IsTrue, IfOk, IfErr, IfSome, IsSomeAnd, OnOk, None, Some, string_bytes};
 ghost use Rattle.std.specs.Cmp.Lexicographic.{slice_cmp};
 ghost use Rattle.std.specs.Char.{is_ascii_alphanumeric};
-ghost use Rattle.std.specs.List.{list_all};
+ghost use Rattle.std.specs.List.{AllByRecursion, list_all};
 ghost use Rattle.std.specs.Ordering.{nat_cmp};
+ghost use Rattle.std.specs.declared.cmp.Ordering.TheVariants.{Less};
 ghost use Rattle.markup5ever.specs.C1.{character_of_c1};
 ghost use Rattle.markup5ever.specs.NamedReferences.{NamedReference, IsTable, begins_name, characters_of_name, is_plain_name, without_semicolon, has_zero, reference_of, references_of, fault_after, first_fault, in_place, table_of};
 ghost use Rattle.markup5ever.specs.Place.{IsAt, IsGapFor};
@@ -47,6 +48,8 @@ impl From<AllocError> for TableError {
 pub struct NamedReferences<A: Allocator = Global> {
     // In the order of their names.
     entries: Vec<Entry<A>, A>,
+    // The keys of these names, by which a search guesses a place. What is found does not depend on them.
+    keys: Vec<u64, A>,
 }
 
 impl<A: Allocator> Model for NamedReferences<A> {
@@ -60,7 +63,7 @@ impl<A: Allocator> Model for NamedReferences<A> {
     ghost invariant = { λ t. IsTable (references_of t.entries.items) × IsAscending (references_of t.entries.items) };
 }
 
-impl<A: Allocator> NamedReferences<A> {
+impl<A: Allocator + Copy> NamedReferences<A> {
     /// The table of these entries, which may come in any order. All of its memory is taken at once, and
     /// entries that come in the order of their names, by bytes, are taken in without moving others.
     pub fn check(alloc: A, entries: Vec<Entry<A>, A>) -> Result<NamedReferences<A>, TableError>
@@ -78,13 +81,16 @@ impl<A: Allocator> NamedReferences<A> {
     {
         let mut table = NamedReferences {
             entries: Vec::with_capacity(alloc, entries.len())?,
+            keys: Vec::with_capacity(alloc, entries.len())?,
         };
         for entry in entries {
             table.add(entry)?;
         }
         Ok(table)
     }
+}
 
+impl<A: Allocator> NamedReferences<A> {
     // Takes in the entry that comes after those of the table.
     fn add(&mut self, entry: Entry<A>) -> Result<(), TableError>
         ensures faultless { OnOk result (fault_after self.old (reference_of entry) ≡ None) }
@@ -102,6 +108,9 @@ impl<A: Allocator> NamedReferences<A> {
         let Err(gap) = self.search(&entry.0) else {
             return Err(TableError::RepeatedName(place));
         };
+        if insert_key(&mut self.keys, gap, &entry.0).is_err() {
+            return Err(TableError::Memory);
+        }
         if self.entries.insert(gap, entry).is_err() {
             return Err(TableError::Memory);
         }
@@ -149,8 +158,84 @@ impl<A: Allocator> NamedReferences<A> {
         ensures found { IfOk result (IsAt self.now name.now) }
         ensures absent { IfErr result (IsGapFor self.now name.now) }
     {
-        self.entries.binary_search_by(|entry| order_of(entry, name))
+        match self.found_at(self.guess(name), name) {
+            Some(found) => found,
+            None => self.entries.binary_search_by(|entry| order_of(entry, name)),
+        }
     }
+
+    // The place where the name stands or would stand, by the keys. Names that begin with the same bytes have the same
+    // key, so it may be another.
+    #[inline(always)]
+    fn guess(&self, name: &str) -> usize {
+        match self.keys.binary_search(&key_of(name.as_bytes())) {
+            Ok(place) => place,
+            Err(place) => place,
+        }
+    }
+
+    // What a search finds if it ends at this place. `None` where the name belongs elsewhere.
+    #[inline(always)]
+    fn found_at(&self, place: usize, name: &str) -> Option<Result<usize, usize>>
+        ensures found { IfSome result (λ found. IfOk found (IsAt self.now name.now)) }
+        ensures absent { IfSome result (λ found. IfErr found (IsGapFor self.now name.now)) }
+    {
+        if !self.is_past(place, name) {
+            return None;
+        }
+        let Some(entry) = self.entries.get(place) else {
+            return Some(Err(place));
+        };
+        match order_of(entry, name) {
+            Ordering::Less => None,
+            Ordering::Equal => Some(Ok(place)),
+            Ordering::Greater => Some(Err(place)),
+        }
+    }
+
+    // Whether the entry before this place comes before the name, so that all before the place do.
+    #[inline(always)]
+    fn is_past(&self, place: usize, name: &str) -> bool
+        ensures within { result ≡ true → place ≤ length self.now }
+        ensures before { result ≡ true
+            → AllByRecursion (λ entry. slice_cmp nat_cmp entry.name name.now ≡ Less) (take place self.now) }
+    {
+        let Some(last) = place.checked_sub(1) else {
+            return true;
+        };
+        match self.entries.get(last) {
+            Some(entry) => order_of(entry, name).is_lt(),
+            None => false,
+        }
+    }
+}
+
+// How many bytes of a name its key has.
+const KEY_LEN: usize = 8;
+
+// The first bytes of a name as a number, so that most names are in the order of their keys.
+#[inline(always)]
+fn key_of(name: &[u8]) -> u64 {
+    let mut key = 0;
+    for at in 0..KEY_LEN {
+        key = key << 8;
+        if at < name.len() {
+            key |= u64::from(name[at]);
+        }
+    }
+    key
+}
+
+// Takes in the key of a name that is to stand at this place.
+fn insert_key<A: Allocator>(
+    keys: &mut Vec<u64, A>,
+    place: usize,
+    name: &str,
+) -> Result<(), AllocError> {
+    if place <= keys.len() {
+        keys.insert(place, key_of(name.as_bytes()))?;
+    }
+    Ok(())
 }
 
 // How the entry stands to the name, in the order of names.

@@ -40,7 +40,7 @@ invariant_of-self-2 g c =
     let e = reference_of c.args.entry in
     let old : references_of items ≡ c.args.self.now = c.self.view_is in
     let gap : IsGapFor (references_of items) e.name c.in-Err.gap = rw (old, ← c.deref-2.ensures) c.in-Err.ensures.absent in
-    let new : c.insert.new.self.items ≡ insert items c.in-Err.gap c.args.entry = grown _ _ _ _ c.if-is_err.ensures.negation c.insert.ensures.items in
+    let new : c.insert.new.self.items ≡ insert items c.in-Err.gap c.args.entry = grown _ _ _ _ c.if-is_err-2.ensures.negation c.insert.ensures.items in
     let references : references_of c.insert.new.self.items ≡ insert (references_of items) c.in-Err.gap e = ap references_of new ∙ references-insert items c.in-Err.gap c.args.entry in
     let ascending = IsAscending-insert (references_of items) e c.in-Err.gap c.self.invariant.1 gap in
     let plain : is_plain_name e.name ≡ true = ap is_plain_name (sym c.deref.ensures) ∙ sym c.is_plain_name.ensures ∙ c.if-not-is_plain_name.false in
@@ -56,5 +56,5 @@ returns-clause-ok g c =
     let items = c.self.inside.entries.items in
     let e = reference_of c.args.entry in
     let gap : IsGapFor c.args.self.now e.name c.in-Err.gap = rw c.deref-2.ensures at c.in-Err.ensures.absent in
-    let new : c.insert.new.self.items ≡ insert items c.in-Err.gap c.args.entry = grown _ _ _ _ c.if-is_err.ensures.negation c.insert.ensures.items in
+    let new : c.insert.new.self.items ≡ insert items c.in-Err.gap c.args.entry = grown _ _ _ _ c.if-is_err-2.ensures.negation c.insert.ensures.items in
     ap references_of new ∙ references-insert items c.in-Err.gap c.args.entry ∙ ap (λ es. insert es c.in-Err.gap e) c.self.view_is ∙ sym (in_place-at c.args.self.now e c.in-Err.gap gap)
