@@ -1,5 +1,6 @@
 pub mod BufferQueueLemmas
 pub mod CaseLemmas
+pub mod LaneLemmas
 pub mod NameOrder
 pub mod NamedReferencesLemmas
 pub mod Searches

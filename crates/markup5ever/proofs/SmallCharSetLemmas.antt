@@ -1,14 +1,18 @@
 -- Sets of characters as bits, and searches for a byte that is in a set.
-use Rattle.std.proofs.Common.{Bool, true, false, ◌||◌, set, ◌≡◌, ◌↔◌, ℕ, ◌+◌, ◌-◌, ◌<◌, ◌≤◌, ◌*◌, ◌/◌, ◌%◌, ◌^◌, ◌⊎◌, List, [], ◌∷◌, ◌++◌, length, get_or, take, drop, Contains, bit_and, bit_or, count_ones, encode_utf8, encode_utf8_all, w64, refl, sym, ap, ◌∙◌, inl, inr, arith, length-drop}
-use Rattle.std.specs.Int.{IsBitSet, bit_at, bit_not}
+use Rattle.std.proofs.Common.{set, ◌≡◌, ◌≢◌, ◌↔◌, ℕ, zero, suc, ◌+◌, ◌-◌, ◌<◌, ◌≤◌, ◌*◌, ◌/◌, ◌%◌, ◌^◌, List, [], ◌∷◌, ◌++◌, length, get_or, take, drop, Contains, bit_and, bit_or, encode_utf8, encode_utf8_all, w64, refl, sym, ap, subst, ◌∙◌, inl, inr, arith, length-drop, pow-suc, pow-add, zero-mul, one-mul}
+use Rattle.std.specs.Int.{IsBitSet, bit_at}
 use Rattle.std.specs.List.{slice_index}
 use Rattle.std.specs.Str.{IsUtf8, IsCharBoundary, chars}
-use Rattle.std.proofs.lemmas.Bool.{cases_eq, cases_lt}
-use Rattle.std.proofs.lemmas.Nat.{pow_pos, pow_below, mod_below, div-add-mod', one_shl, and-not, and_comm, ones-le, ones_cat, zero_from_ones}
-use Rattle.std.proofs.lemmas.Nat.Bits.{and_pow, bit_at-lt, bit_at-zero, bit_at_set_same, bit_at_set_other, bit_at_clear_other}
-use Rattle.std.proofs.lemmas.List.{drop_all, drop_at, get_or-drop, get_or-take, length-take-le, take_at, take_more_set}
+use Rattle.std.proofs.lemmas.Bool.{cases_eq, cases_lt, cond-true, cond-false, lt-ltb, le-ltb}
+use Rattle.std.proofs.Math.Nat.{div-div-eq-div-mul}
+use Rattle.std.proofs.lemmas.Nat.{pow_pos, div-add-mod', and_le_r}
+use Rattle.std.proofs.lemmas.Nat.Bits.{and_pow, bit_at-lt, bit_at_set_same, bit_at_set_other, bit_at_above, bit_at_cat_low}
+use Rattle.std.proofs.lemmas.List.{drop_all, drop_at, get_or-drop, get_or-take, length-take-le, take_at}
 use Rattle.std.proofs.lemmas.List.Elements.{All-nil, All-cons, All-head, All-take, All-drop, All-from_get_or, Contains-append_left, Contains-push, Contains-push_cases}
 use Rattle.std.proofs.lemmas.Str.{chars-nil, char_from_byte, encode_ascii, encodes-chars, IsCharBoundary-before_ascii, IsCharBoundary-end, IsUtf8-drop, IsUtf8-take}
+use Rattle.std.proofs.lemmas.Simd.{get_or-chunk}
+use lib.Lanes.{chunk}
+use Rattle.markup5ever.specs.Lanes.{bit_of}
 use Rattle.markup5ever.specs.SmallCharSet.{IsMember, IsOutside, NoneWithin, BeginsOutside}
 
 -- a bit that is set is 1, and a bit that is 1 is set
@@ -53,16 +57,47 @@ IsMember-push set m xs within same c = (
   ],
 )
 
--- where the number loses bit m, the set loses m alone
-pub member_without : (set m c : ℕ) → m < 64 → IsMember set c → (c ≡ m) ⊎ IsMember (bit_and set (bit_not w64 (1 * 2 ^ m % 2 ^ 64))) c
-member_without set m c within member =
-    elim (cases_eq c m) [
-      | inl same ↦ inl same
-      | inr other ↦ inr (member.0, IsBitSet-from_bit _ c (bit_at_clear_other w64 set m within c member.0 other ∙ bit_at-set set c member.1))
+-- ---- the bit of a character among the eight of its eighth
+
+pow_eighths : (a : ℕ) → 256 ^ a ≡ 2 ^ (8 * a)
+pow_eighths zero = refl
+pow_eighths (suc a) = pow-suc 256 a ∙ ap (λ m. m * 256) (pow_eighths a) ∙ sym (pow-add 2 (8 * a) 8) ∙ ap (λ m. 2 ^ m) (omega arith)
+
+bit_at-eighth : (n a j : ℕ) → j < 8 → bit_at (n / 256 ^ a % 256) j ≡ bit_at n (8 * a + j)
+bit_at-eighth n a j less =
+    let q = n / 256 ^ a in
+    let power : 256 ^ a * 2 ^ j ≡ 2 ^ (8 * a + j) = ap (λ m. m * 2 ^ j) (pow_eighths a) ∙ sym (pow-add 2 (8 * a) j) in
+    sym (bit_at_cat_low (q / 256) 8 (q % 256) j less) ∙ ap (λ m. bit_at m j) (div-add-mod' q 256)
+    ∙ ap (λ m. m % 2) (div-div-eq-div-mul n (256 ^ a) (2 ^ j) ∙ ap (λ m. n / m) power)
+
+eighth_has_bit : (n x : ℕ) → x < 256 → bit_and (n / 256 ^ (x / 8 % 16) % 256) (bit_of x) ≡ bit_at n x * bit_of x
+eighth_has_bit n x less =
+    let eighth = n / 256 ^ (x / 8 % 16) % 256 in
+    elim (cases_lt x 128) [
+      | inl low ↦
+          let bit : bit_of x ≡ 2 ^ (x % 8) = cond-true _ _ _ (lt-ltb x 128 low) in
+          let same : bit_at eighth (x % 8) ≡ bit_at n x = bit_at-eighth n (x / 8 % 16) (x % 8) (omega arith) ∙ ap (bit_at n) (omega (arith, low)) in
+          rw (bit, and_pow eighth (x % 8), same) refl
+      | inr high ↦
+          let bit : bit_of x ≡ 0 = cond-false _ _ _ (le-ltb x 128 high) in
+          rw bit (omega (arith, and_le_r eighth 0))
     ]
 
-pub no_member : (c : ℕ) → ¬ IsMember 0 c
-no_member c member = omega (arith, bit_at-set 0 c member.1, bit_at-zero c)
+-- the eighth of a set and the bit have a bit in common just where the byte is in the set
+pub eighth_tells : (n x : ℕ) → n < 2 ^ 64 → x < 256 → (bit_and (n / 256 ^ (x / 8 % 16) % 256) (bit_of x) ≢ 0) ↔ IsMember n x
+eighth_tells n x fits less =
+    let both = eighth_has_bit n x less in (
+      λ some. elim (cases_eq (bit_at n x) 0) [
+        | inl none ↦ absurd (some (both ∙ ap (λ b. b * bit_of x) none ∙ zero-mul (bit_of x)))
+        | inr one ↦ elim (cases_lt x 64) [
+          | inl low ↦ (low, IsBitSet-from_bit n x (omega (arith, one, bit_at-lt n x)))
+          | inr high ↦ absurd (one (bit_at_above n 64 x fits high))
+        ]
+      ],
+      λ member none.
+          let bit : bit_of x ≡ 2 ^ (x % 8) = cond-true _ _ _ (lt-ltb x 128 (omega (arith, member.0))) in
+          omega (arith, pow_pos (x % 8), sym none ∙ both ∙ ap (λ b. b * bit_of x) (bit_at-set n x member.1) ∙ one-mul (bit_of x) ∙ bit),
+    )
 
 -- ---- the bytes of a text and its characters
 
@@ -118,79 +153,18 @@ member_past set text len utf8 stops c rest e =
       | inr all ↦ absurd (omega (arith, ap length (sym e ∙ ap chars (drop_all len text all) ∙ chars-nil)))
     ]
 
--- ---- bytes looked at one after another
+-- ---- a block of bytes and the lanes that are not zero where its bytes are in the set
 
-pub NoneWithin-more : (set : ℕ) (bytes : List ℕ) (from at : ℕ) → NoneWithin set bytes from at → ¬ IsMember set (slice_index bytes at) → NoneWithin set bytes from (at + 1)
-NoneWithin-more set bytes from at none other k low high =
-    elim (cases_eq k at) [
-      | inl same ↦ rw same other
-      | inr earlier ↦ none k low (omega (arith, high, earlier))
-    ]
+abbrev pub MarksBlock : ℕ → List ℕ → ℕ → List ℕ → Type 0
+MarksBlock set bytes at marks = (k : ℕ) → k < 16 → (slice_index marks k ≢ 0) ↔ IsMember set (slice_index (chunk at 16 bytes) k)
 
-pub NoneWithin-join : (set : ℕ) (bytes : List ℕ) (from at to : ℕ) → NoneWithin set bytes from at → NoneWithin set bytes at to → NoneWithin set bytes from to
-NoneWithin-join set bytes from at to none later k low high =
-    elim (cases_lt k at) [
-      | inl less ↦ none k low less
-      | inr more ↦ later k more high
-    ]
+marks_at : (set : ℕ) (bytes : List ℕ) (at : ℕ) (marks : List ℕ) → MarksBlock set bytes at marks → (k : ℕ) → k < 16 → (slice_index marks k ≢ 0) ↔ IsMember set (slice_index bytes (at + k))
+marks_at set bytes at marks marked k less = subst (λ x. (slice_index marks k ≢ 0) ↔ IsMember set x) (get_or-chunk at 16 bytes k 0 less) (marked k less)
 
--- a block with none of the few has none of the set
-pub NoneWithin-block : (set : ℕ) (few bytes : List ℕ) (at size : ℕ) → ((c : ℕ) → IsMember set c → Contains few c) → ((k : ℕ) → k < size → ¬ Contains few (slice_index bytes (at + k))) → NoneWithin set bytes at (at + size)
-NoneWithin-block set few bytes at size all none k low high member =
+pub NoneWithin-unmarked : (set : ℕ) (bytes : List ℕ) (at : ℕ) (marks : List ℕ) (step : ℕ) → step ≤ 16 → MarksBlock set bytes at marks → ((k : ℕ) → k < step → slice_index marks k ≡ 0) → NoneWithin set bytes at (at + step)
+NoneWithin-unmarked set bytes at marks step within marked none k low high member =
     let place : at + (k - at) ≡ k = omega (arith, low) in
-    none (k - at) (omega (arith, low, high)) (rw place (all (slice_index bytes k) member))
+    (marks_at set bytes at marks marked (k - at) (omega (arith, low, high, within))).1 (rw place member) (none (k - at) (omega (arith, low, high)))
 
--- ---- the few that have each member among them
-
-pub few_more : (members rest m k : ℕ) (few : List ℕ) → k < length few → m < 64 → ((c : ℕ) → IsMember members c → Contains (take k few) c ⊎ IsMember rest c) → (c : ℕ) → IsMember members c → Contains (take (k + 1) (set few k m)) c ⊎ IsMember (bit_and rest (bit_not w64 (1 * 2 ^ m % 2 ^ 64))) c
-few_more members rest m k few within small found c member =
-    rw (take_more_set few k m within) (elim (found c member) [
-      | inl old ↦ inl (Contains-append_left (take k few) (m ∷ []) c old)
-      | inr left ↦ elim (member_without rest m c small left) [
-        | inl same ↦ inl (rw same (Contains-push (take k few) m))
-        | inr other ↦ inr other
-      ]
-    ])
-
-no_ones : count_ones 0 ≡ 0
-no_ones = omega (arith, ones-le 0 0 (omega arith))
-
-one_one : count_ones 1 ≡ 1
-one_one =
-    elim (cases_eq (count_ones 1) 0) [
-      | inl none ↦ absurd (omega (arith, zero_from_ones 1 none))
-      | inr some ↦ omega (arith, ones-le 1 1 (omega arith))
-    ]
-
--- a number without one of its bits has one bit fewer
-pub ones-without : (n k : ℕ) → k < 64 → n < 2 ^ 64 → bit_at n k ≡ 1 → count_ones (bit_and n (bit_not w64 (1 * 2 ^ k % 2 ^ 64))) + 1 ≡ count_ones n
-ones-without n k within fits is_set =
-    let q = n / 2 ^ k in
-    let lo = n % 2 ^ k in
-    let hi = q / 2 in
-    let small : lo < 2 ^ k = mod_below n (2 ^ k) (pow_pos k) in
-    let parts : q * 2 ^ k + lo ≡ n = div-add-mod' n (2 ^ k) in
-    let odd : hi * 2 + 1 ≡ q = omega (arith, div-add-mod' q 2, is_set) in
-    let bit : 1 * 2 ^ k % 2 ^ 64 ≡ 2 ^ k = one_shl k 64 within in
-    let rest = bit_and n (bit_not w64 (1 * 2 ^ k % 2 ^ 64)) in
-    let flipped : rest ≡ bit_and (2 ^ 64 - 1 - 2 ^ k) n = ap (λ b. bit_and n (2 ^ 64 - 1 - b)) bit ∙ and_comm n (2 ^ 64 - 1 - 2 ^ k) in
-    let one : bit_and (2 ^ k) n ≡ 2 ^ k = and_comm (2 ^ k) n ∙ and_pow n k ∙ ap (λ b. b * 2 ^ k) is_set ∙ omega arith in
-    let both : rest + 2 ^ k ≡ n = ap (λ b. b + 2 ^ k) flipped ∙ ap (λ b. bit_and (2 ^ 64 - 1 - 2 ^ k) n + b) (sym one) ∙ and-not 64 (2 ^ k) n (pow_below k 64 within) fits in
-    let whole : (hi * 2 + 1) * 2 ^ k + lo ≡ n = ap (λ x. x * 2 ^ k + lo) odd ∙ parts in
-    let left : rest ≡ (hi * 2 + 0) * 2 ^ k + lo = omega (arith, both, whole) in
-    let ones_left : count_ones rest ≡ count_ones hi + count_ones lo = ap count_ones left ∙ ones_cat k (hi * 2 + 0) lo small ∙ ap (λ x. x + count_ones lo) (ones_cat 1 hi 0 (omega arith)) ∙ omega (arith, no_ones) in
-    let ones_whole : count_ones n ≡ count_ones hi + 1 + count_ones lo = ap count_ones (sym whole) ∙ ones_cat k (hi * 2 + 1) lo small ∙ ap (λ x. x + count_ones lo) (ones_cat 1 hi 1 (omega arith)) ∙ omega (arith, one_one) in
-    omega (arith, ones_left, ones_whole)
-
-or_split : (a b : Bool) → a || b ≡ false → (a ≡ false) × (b ≡ false)
-or_split true b e = absurd cc
-or_split false b e = (refl, e)
-
--- one byte more that is not among the few
-pub none_more : (few bytes : List ℕ) (from at : ℕ) (found next : Bool) → (found ≡ false → (k : ℕ) → k < at → ¬ Contains few (slice_index bytes (from + k))) → (next ≡ false → ¬ Contains few (slice_index bytes (from + at))) → found || next ≡ false → (k : ℕ) → k < at + 1 → ¬ Contains few (slice_index bytes (from + k))
-none_more few bytes from at found next before last none k less =
-    let split = or_split found next none in
-    elim (cases_eq k at) [
-      | inl same ↦ rw same (last split.1)
-      | inr earlier ↦ before split.0 k (omega (arith, less, earlier))
-    ]
+pub member_marked : (set : ℕ) (bytes : List ℕ) (at : ℕ) (marks : List ℕ) (step : ℕ) → MarksBlock set bytes at marks → (step < 16 → slice_index marks step ≢ 0) → step < 16 → IsMember set (slice_index bytes (at + step))
+member_marked set bytes at marks step marked some less = (marks_at set bytes at marks marked step less).0 (some less)

@@ -2,6 +2,7 @@ pub mod BufferQueue
 pub mod Case
 pub mod SetResult
 pub mod SmallCharSet
+pub mod Lanes
 pub mod Names
 pub mod NamedReferences
 pub mod C1

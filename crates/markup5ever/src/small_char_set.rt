@@ -1,12 +1,18 @@
 //! Sets of characters below 64.
-ghost use Rattle.std.specs.Prelude.{◌≡◌, ℕ, ◌+◌, ◌<◌, ◌≤◌, ◌↔◌, List, ◌∷◌, length, drop, false, slice_index, IfSome, IsTrue, All, Contains, IsNone, count_ones};
+ghost use Rattle.std.specs.Prelude.{◌≡◌, ◌≢◌, ℕ, ◌+◌, ◌/◌, ◌%◌, ◌^◌, ◌<◌, ◌≤◌, ◌==◌, ◌↔◌, if◌then◌else◌, List, ◌∷◌, length, drop, slice_index, IsTrue, All, Contains};
+ghost use Rattle.std.specs.Int.{w64, trailing_zeros};
 ghost use Rattle.std.specs.Str.{chars};
+ghost use Rattle.markup5ever.specs.Lanes.{HasLanes, bit_of};
 ghost use Rattle.markup5ever.specs.SmallCharSet.{IsMember, NoneWithin, BeginsOutside};
 
 use std::marker::Model;
+use std::simd::prelude::*;
 
-// How many bytes are looked at in one step, where a run is long.
+// How many bytes are looked at in one step.
 const BLOCK: usize = 16;
+
+// The bits of a byte, lowest first. What stands after them is never looked up.
+const BITS: [u8; 16] = [1, 2, 4, 8, 16, 32, 64, 128, 0, 0, 0, 0, 0, 0, 0, 0];
 
 /// A set of characters below 64, as one number of 64 bits.
 #[derive(Clone, Copy, Debug, PartialEq, Eq)]
@@ -54,22 +60,32 @@ impl SmallCharSet {
         self.first_member(text.as_bytes())
     }
 
-    // The place of the first byte that is in the set, or the end. Most runs are short, so the first bytes are looked at
-    // one by one.
+    // The place of the first byte that is in the set, or the end.
     fn first_member(&self, bytes: &[u8]) -> usize
         ensures within { result ≤ length bytes.now }
         ensures outside { NoneWithin self.now bytes.now 0 result }
         ensures stops { result < length bytes.now → IsMember self.now (slice_index bytes.now result) }
     {
-        if bytes.len() < BLOCK {
-            return self.first_member_within(bytes, 0, bytes.len());
+        let mut at = 0;
+        while BLOCK <= bytes.len() - at {
+            let step = self.first_in_block(bytes, at);
+            at += step;
+            if step < BLOCK {
+                return at;
+            }
         }
-        let near = self.first_member_within(bytes, 0, BLOCK);
-        if near < BLOCK {
-            return near;
-        }
-        let far = self.past_blocks(bytes, BLOCK);
-        self.first_member_within(bytes, far, bytes.len())
+        self.first_member_within(bytes, at, bytes.len())
+    }
+
+    // How many of the 16 bytes from this place on come before the first that is in the set.
+    #[inline(always)]
+    fn first_in_block(&self, bytes: &[u8], at: usize) -> usize
+        requires { at + BLOCK ≤ length bytes.now }
+        ensures within { result ≤ BLOCK }
+        ensures outside { NoneWithin self.now bytes.now at (at + result) }
+        ensures stops { result < BLOCK → IsMember self.now (slice_index bytes.now (at + result)) }
+    {
+        first_marked(marks(self.bits, u8x16::from_slice(&bytes[at..])))
     }
 
     // The place of the first byte of these that is in the set, or `to`.
@@ -88,68 +104,61 @@ impl SmallCharSet {
         }
         to
     }
-
-    // Goes on over blocks without a byte of the set, where it has few members.
-    fn past_blocks(&self, bytes: &[u8], from: usize) -> usize
-        requires { from ≤ length bytes.now }
-        ensures low { from ≤ result }
-        ensures high { result ≤ length bytes.now }
-        ensures outside { NoneWithin self.now bytes.now from result }
-    {
-        let Some(few) = self.few_members() else {
-            return from;
-        };
-        let mut at = from;
-        while BLOCK <= bytes.len() - at {
-            if has_any(&few, bytes, at) {
-                return at;
-            }
-            at += BLOCK;
-        }
-        at
-    }
-
-    // Bytes that have each member of the set among them; `None` where it has more than eight.
-    fn few_members(&self) -> Option<[u8; 8]>
-        ensures some { IfSome result (λ few. (c : ℕ) → IsMember self.now c → Contains few c) }
-        ensures none { IsNone result → 8 < count_ones self.now }
-    {
-        let mut few = [0; 8];
-        let mut rest = self.bits;
-        for k in 0..8 {
-            if rest == 0 {
-                return Some(few);
-            }
-            let least = rest.trailing_zeros();
-            rest &= !(1u64 << least);
-            few[k] = least as u8;
-        }
-        if rest == 0 { Some(few) } else { None }
-    }
 }
 
-// Whether one of the 16 bytes from this place on is among the few. It looks at each of them, so that the compiler makes
-// it one step over all.
+// A lane for each byte, which is not zero just where the byte is in the set of these bits. Two tables are looked up, each
+// for all bytes at once: by the higher bits of a byte eight bits of the set, and by its lowest three the one of them that
+// stands for it.
 #[inline(always)]
-fn has_any(few: &[u8; 8], bytes: &[u8], from: usize) -> bool
-    requires { from + BLOCK ≤ length bytes.now }
-    ensures { result ≡ false →
-        (k : ℕ) → k < BLOCK → ¬ Contains few.now (slice_index bytes.now (from + k)) }
+fn marks(bits: u64, block: u8x16) -> u8x16
+    ensures { (k : ℕ) → k < BLOCK
+        → (slice_index result k ≢ 0 ↔ IsMember bits (slice_index block k)) }
 {
-    let mut found = false;
-    for k in 0..BLOCK {
-        found |= is_among(few, bytes[from + k]);
-    }
-    found
+    eighth_of_each(bits, block) & bit_of_each(block)
 }
 
+// The eight bits of the set among which that of each byte is. A byte of 128 or more has none there, and gets some eight.
 #[inline(always)]
-fn is_among(few: &[u8; 8], byte: u8) -> bool
-    ensures { result ≡ false → ¬ Contains few.now byte }
+fn eighth_of_each(bits: u64, block: u8x16) -> u8x16
+    ensures { HasLanes result (λ k. bits / 256 ^ (slice_index block k / 8 % 16) % 256) }
 {
-    let mut found = false;
-    for one in few {
-        found |= byte == *one;
+    eighths(bits).swizzle_dyn((block >> u8x16::splat(3)) & u8x16::splat(15))
+}
+
+// The bits of the set, eight in a lane, and then zeros, for no byte from 64 on is in a set.
+#[inline(always)]
+fn eighths(bits: u64) -> u8x16
+    ensures { HasLanes result (λ k. bits / 256 ^ k % 256) }
+{
+    u64x2::from_array([bits, 0]).to_le_bytes()
+}
+
+// The bit of each byte among the eight. The index keeps the byte's top bit: where that is set, the lane is zero.
+#[inline(always)]
+fn bit_of_each(block: u8x16) -> u8x16
+    ensures { HasLanes result (λ k. bit_of (slice_index block k)) }
+{
+    u8x16::from_array(BITS).swizzle_dyn(block & u8x16::splat(0x87))
+}
+
+// How many lanes come before the first that is not zero.
+#[inline(always)]
+fn first_marked(marks: u8x16) -> usize
+    ensures within { result ≤ BLOCK }
+    ensures unmarked { (k : ℕ) → k < result → slice_index marks k ≡ 0 }
+    ensures marked { result < BLOCK → slice_index marks result ≢ 0 }
+{
+    lowest_bit(marks.simd_ne(u8x16::splat(0)).to_bitmask())
+}
+
+// The place of the lowest bit that is set, or 16.
+#[inline(always)]
+fn lowest_bit(mask: u64) -> usize
+    ensures { result ≡ (if mask == 0 then BLOCK else trailing_zeros w64 mask) }
+{
+    if mask == 0 {
+        BLOCK
+    } else {
+        mask.trailing_zeros() as usize
     }
-    found
 }

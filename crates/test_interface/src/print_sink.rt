@@ -1,7 +1,7 @@
-use crate::made::{says_foreign, tokens_of, told};
+use crate::made::{says_foreign, text_of, tokens_of, told};
 use html5ever_interface::interface::sink::TokenSink;
 use html5ever_interface::interface::token::Token;
-use std::alloc::{Allocator, Global};
+use std::alloc::{AllocError, Allocator, Global};
 use std::process::Abort;
 use test_alloc::Refusing;
 use token_printer::print_sink::PrintSink;
@@ -70,4 +70,49 @@ fn a_refused_growth_leaves_no_part_of_a_line(rt: HostRuntime) {
         }
     }
     assert!(rt; refused > 5);
+}
+
+// Appends what stands in quotes for a character.
+fn push_escaped(alloc: Global, page: &mut String, c: char) -> Result<(), AllocError> {
+    match c {
+        '\\' => page.push_str("\\\\"),
+        '"' => page.push_str("\\\""),
+        '\n' => page.push_str("\\n"),
+        '\0'..='\x1f' | '\x7f' => {
+            let code = c as u32;
+            let digits = format!(in alloc; "{code:x}")?;
+            page.push_str("\\u{")?;
+            page.push_str(&digits)?;
+            page.push('}')
+        }
+        _ => page.push(c),
+    }
+}
+
+// Each character up to 255, at each place of the first blocks of a text, with others before and after it.
+#[test]
+fn a_character_is_escaped_at_each_place(rt: HostRuntime) {
+    for (other, after) in [
+        ("a", "a tail of more than one block"),
+        ("\u{80}é", "!\"#[\\]~"),
+    ] {
+        let mut before = String::new(rt.alloc());
+        for _ in 0..40u8 {
+            for code in 0..=255u8 {
+                let c = char::from(code);
+                let mut text = before.clone().expect(&rt, "memory");
+                text.push(c).expect(&rt, "memory");
+                text.push_str(after).expect(&rt, "memory");
+                let mut page = String::from_str(rt.alloc(), "text \"").expect(&rt, "memory");
+                for it in text.chars() {
+                    push_escaped(rt.alloc(), &mut page, it).expect(&rt, "memory");
+                }
+                let mut sink = PrintSink::new(rt.alloc(), false);
+                let token = text_of(rt.alloc(), &text).expect(&rt, "memory");
+                assert!(rt; told(&mut sink, token, 1));
+                assert_eq!(rt; sink.page(), page.as_bytes());
+            }
+            before.push_str(other).expect(&rt, "memory");
+        }
+    }
 }

@@ -1,8 +1,11 @@
 -- A text in quotes, printed by runs of bytes that stand as they are.
-use Rattle.std.proofs.Common.{◌≡◌, ℕ, zero, suc, Bool, ◌||◌, ◌+◌, ◌-◌, ◌<◌, ◌≤◌, true, false, List, [], ◌∷◌, ◌++◌, length, take, drop, get_or, refl, ap, sym, ◌∙◌, inl, inr, arith}
-use Rattle.std.specs.List.{slice_index}
-use Rattle.std.proofs.lemmas.Bool.{cases_eq, cases_lt}
-use Rattle.std.proofs.lemmas.List.{append-nil, append_assoc, take_more, drop-append-le, drop-take, length-take-le, drop_all}
+use Rattle.std.proofs.Common.{◌≡◌, ℕ, zero, suc, Bool, not, cond, eqb, ltb, ◌||◌, ◌+◌, ◌-◌, ◌%◌, ◌^◌, ◌<◌, ◌≤◌, true, false, bit_or, w8, Fits, List, map, replicate, [], ◌∷◌, ◌++◌, length, take, drop, get_or, refl, ap, sym, ◌∙◌, inl, inr, arith}
+use Rattle.std.specs.List.{slice_index, prefix_len}
+use lib.Count.{count_trailing_zeros}
+use lib.Lanes.{chunk, zip2, mask_l, top}
+use Rattle.std.proofs.lemmas.Simd.{map-map, length-chunk, zip2_splat, zip2_of_maps, mask_l-mod, first_set_mask_l, run_in_chunk_le, run_in_chunk_fails, run_in_chunk_stops}
+use Rattle.std.proofs.lemmas.Bool.{agree_below_at, cases_eq}
+use Rattle.std.proofs.lemmas.List.{append-nil, append_assoc, take_more, drop-append-le, drop-take, length-take-le, drop_all, length-map}
 use Rattle.token_printer.specs.PageLaws.{quoted_bytes-append}
 use Rattle.token_printer.specs.Printed.{needs_escape, IsPlainWithin, escape, quoted_byte, quoted_bytes}
 
@@ -96,18 +99,11 @@ quoted_bytes-escape old page next text i before within special printed =
 
 -- ---- bytes looked at one after another
 
-pub IsPlainWithin-more : (bytes : List ℕ) (from at : ℕ) → IsPlainWithin bytes from at → needs_escape (slice_index bytes at) ≡ false → IsPlainWithin bytes from (at + 1)
+IsPlainWithin-more : (bytes : List ℕ) (from at : ℕ) → IsPlainWithin bytes from at → needs_escape (slice_index bytes at) ≡ false → IsPlainWithin bytes from (at + 1)
 IsPlainWithin-more bytes from at plain last k low high =
     elim (cases_eq k at) [
       | inl same ↦ rw same last
       | inr earlier ↦ plain k low (omega (arith, high, earlier))
-    ]
-
-pub IsPlainWithin-join : (bytes : List ℕ) (from at to : ℕ) → IsPlainWithin bytes from at → IsPlainWithin bytes at to → IsPlainWithin bytes from to
-IsPlainWithin-join bytes from at to plain later k low high =
-    elim (cases_lt k at) [
-      | inl less ↦ plain k low less
-      | inr more ↦ later k more high
     ]
 
 or_split : (a b : Bool) → a || b ≡ false → (a ≡ false) × (b ≡ false)
@@ -120,3 +116,55 @@ none_more bytes from at found next before last none =
     let split = or_split found next none in
     let same : from + (at + 1) ≡ (from + at) + 1 = omega arith in
     rw same (IsPlainWithin-more bytes from (from + at) (before split.0) (sym last ∙ split.1))
+
+-- ---- a block of bytes looked at at once
+
+-- as the code has it: the lanes that are set where a byte needs an escape, and the place of the first, from their mask
+abbrev below : ℕ → ℕ → ℕ
+below a b = cond (ltb a b) 255 0
+
+abbrev equals : ℕ → ℕ → ℕ
+equals a b = cond (eqb a b) 255 0
+
+abbrev lane_of : ℕ → ℕ
+lane_of x = bit_or (bit_or (below x 0x20) (equals x 0x7F)) (bit_or (equals x 0x22) (equals x 0x5C))
+
+abbrev each : (ℕ → ℕ → ℕ) → List ℕ → ℕ → List ℕ
+each test v byte = zip2 test v (replicate 16 byte)
+
+abbrev pub lanes_of : List ℕ → List ℕ
+lanes_of v = zip2 bit_or (zip2 bit_or (each below v 0x20) (each equals v 0x7F)) (zip2 bit_or (each equals v 0x22) (each equals v 0x5C))
+
+lanes_are : (v : List ℕ) → length v ≡ 16 → lanes_of v ≡ map lane_of v
+lanes_are v long =
+    let splat : (byte : ℕ) → each equals v byte ≡ map (λ x. equals x byte) v = λ byte. zip2_splat equals v 16 byte long in
+    let controls = zip2_of_maps bit_or (λ x. below x 0x20) (λ x. equals x 0x7F) v (zip2_splat below v 16 0x20 long) (splat 0x7F) in
+    let marks = zip2_of_maps bit_or (λ x. equals x 0x22) (λ x. equals x 0x5C) v (splat 0x22) (splat 0x5C) in
+    zip2_of_maps bit_or (λ x. bit_or (below x 0x20) (equals x 0x7F)) (λ x. bit_or (equals x 0x22) (equals x 0x5C)) v controls marks
+
+abbrev pub lowest : ℕ → ℕ
+lowest mask = cond (eqb mask 0) 16 (count_trailing_zeros 64 mask)
+
+abbrev stops : ℕ → Bool
+stops x = top 7 (lane_of x)
+
+stops_tells : (x : ℕ) → x < 256 → stops x ≡ needs_escape x
+unfolding needs_escape
+stops_tells x less = agree_below_at stops needs_escape 256 x refl less
+
+pub record StopsWithin (bytes : List ℕ) (at step : ℕ) : Type 0 where
+  pub within : step ≤ 16
+  pub plain : IsPlainWithin bytes at (at + step)
+  pub stops : step < 16 → needs_escape (slice_index bytes (at + step)) ≡ true
+
+pub StopsWithin-lowest : (bytes : List ℕ) (at step : ℕ) → at + 16 ≤ length bytes → ((k : ℕ) → Fits w8 (get_or bytes k 0)) → step ≡ lowest (mask_l (map (top 7) (lanes_of (chunk at 16 bytes))) % 2 ^ 64) → StopsWithin bytes at step
+StopsWithin-lowest bytes at step room fits found =
+    let v = chunk at 16 bytes in
+    let long = length-chunk at 16 bytes room in
+    let mask : mask_l (map (top 7) (lanes_of v)) % 2 ^ 64 ≡ mask_l (map stops v) = ap (λ l. mask_l l % 2 ^ 64) (ap (map (top 7)) (lanes_are v long) ∙ map-map (top 7) lane_of v) ∙ mask_l-mod (map stops v) 64 (omega (arith, length-map v stops, long)) in
+    let counted : step ≡ prefix_len (λ x. not (stops x)) v = found ∙ ap lowest mask ∙ first_set_mask_l stops v 16 long (omega arith) in
+    record {
+      within = run_in_chunk_le stops bytes at 16 step 0 room counted;
+      plain = λ k low less. sym (stops_tells (get_or bytes k 0) (fits k).fits) ∙ run_in_chunk_fails stops bytes at 16 step 0 room counted k low less;
+      stops = λ less. sym (stops_tells (get_or bytes (at + step) 0) (fits (at + step)).fits) ∙ run_in_chunk_stops stops bytes at 16 step 0 room counted less;
+    }

@@ -1,6 +1,7 @@
 //! The parts of printed lines: texts in quotes, marks, attributes, pause lines.
-ghost use Rattle.std.specs.Prelude.{◌≡◌, ◌+◌, ◌<◌, ◌≤◌, ◌++◌, true, false, length, slice_index, map, option_map, string_bytes, OnOk, OnErr, codes};
+ghost use Rattle.std.specs.Prelude.{◌≡◌, ◌+◌, ◌<◌, ◌≤◌, ◌==◌, ◌++◌, if◌then◌else◌, true, false, length, slice_index, map, option_map, string_bytes, OnOk, OnErr, codes};
 ghost use Rattle.std.specs.Fmt.{digit_glyph};
+ghost use Rattle.std.specs.Int.{w64, trailing_zeros};
 ghost use Rattle.token_printer.specs.Page.{BeginsWith};
 ghost use Rattle.token_printer.specs.Printed.{needs_escape, IsPlainWithin, escape, quoted_byte, quoted_bytes, quoted, mark_where, open_attribute, open_attributes, printed_option, tag_marks, pause_line};
 ghost use Rattle.html5ever_interface.specs.Token.{tag_of, reply_of};
@@ -10,6 +11,7 @@ ghost use Rattle.markup5ever.specs.Names.{attribute_of};
 use html5ever_interface::interface::token::{Tag, TokenSinkResult};
 use markup5ever::interface::Attribute;
 use std::alloc::{AllocError, Allocator};
+use std::simd::prelude::*;
 
 // The lower-case hexadecimal digit of a number below 16.
 fn hex_digit(value: u8) -> u8
@@ -23,7 +25,7 @@ fn hex_digit(value: u8) -> u8
     }
 }
 
-// How many bytes are looked at in one step, where a run is long, and at its end.
+// How many bytes are looked at in one step, where so many are left, and at a text's end.
 const BLOCK: usize = 16;
 
 const HALF: usize = 8;
@@ -45,36 +47,44 @@ fn is_escaped(byte: u8) -> bool
     !matches!(byte, b'a'..=b'z') && needs_escape(byte)
 }
 
-// Whether one of so many bytes from this place on needs an escape. It looks at each of them, so that the compiler makes
-// it one step over all, where it knows how many they are.
+// The place of the lowest bit that is set, or 16.
 #[inline(always)]
-fn has_end(bytes: &[u8], from: usize, count: usize) -> bool
-    requires { from + count ≤ length bytes.now }
-    ensures { result ≡ false → IsPlainWithin bytes.now from (from + count) }
+fn lowest_bit(mask: u64) -> usize
+    ensures { result ≡ (if mask == 0 then BLOCK else trailing_zeros w64 mask) }
+{
+    if mask == 0 {
+        BLOCK
+    } else {
+        mask.trailing_zeros() as usize
+    }
+}
+
+// How many of the 16 bytes from this place on come before the first that needs an escape. All are looked at at once.
+#[inline(always)]
+fn first_in_block(bytes: &[u8], at: usize) -> usize
+    requires { at + BLOCK ≤ length bytes.now }
+    ensures within { result ≤ BLOCK }
+    ensures plain { IsPlainWithin bytes.now at (at + result) }
+    ensures stops { result < BLOCK → needs_escape (slice_index bytes.now (at + result)) ≡ true }
+{
+    let block = u8x16::from_slice(&bytes[at..]);
+    let controls = block.simd_lt(u8x16::splat(0x20)) | block.simd_eq(u8x16::splat(0x7F));
+    let marks = block.simd_eq(u8x16::splat(b'"')) | block.simd_eq(u8x16::splat(b'\\'));
+    lowest_bit((controls | marks).to_bitmask())
+}
+
+// Whether one of the next half of a block needs an escape. It looks at each byte, so that the compiler makes it one step
+// over all.
+#[inline(always)]
+fn has_end(bytes: &[u8], from: usize) -> bool
+    requires { from + HALF ≤ length bytes.now }
+    ensures { result ≡ false → IsPlainWithin bytes.now from (from + HALF) }
 {
     let mut found = false;
-    for k in 0..count {
+    for k in 0..HALF {
         found |= needs_escape(bytes[from + k]);
     }
     found
-}
-
-// Goes on over blocks in which no byte needs an escape.
-#[inline(always)]
-fn past_blocks(bytes: &[u8], from: usize) -> usize
-    requires { from ≤ length bytes.now }
-    ensures low { from ≤ result }
-    ensures high { result ≤ length bytes.now }
-    ensures plain { IsPlainWithin bytes.now from result }
-{
-    let mut at = from;
-    while BLOCK <= bytes.len() - at {
-        if has_end(bytes, at, BLOCK) {
-            return at;
-        }
-        at += BLOCK;
-    }
-    at
 }
 
 // Whether none of the next half of a block needs an escape, or fewer bytes are left.
@@ -87,7 +97,7 @@ fn has_plain_half(bytes: &[u8], from: usize) -> bool
     if bytes.len() - from < HALF {
         return true;
     }
-    !has_end(bytes, from, HALF)
+    !has_end(bytes, from)
 }
 
 // Whether it is seen in two steps that none of the bytes that are left needs an escape: the next half of a block, and
@@ -104,7 +114,27 @@ fn has_plain_end(bytes: &[u8], from: usize) -> bool
     if !has_plain_half(bytes, from) {
         return false;
     }
-    !has_end(bytes, len - HALF, HALF)
+    !has_end(bytes, len - HALF)
+}
+
+// The place of the first of the last bytes, from this one on, that needs an escape, or the end.
+#[inline(always)]
+fn last_run_end(bytes: &[u8], from: usize) -> usize
+    requires { from ≤ length bytes.now }
+    ensures low { from ≤ result }
+    ensures high { result ≤ length bytes.now }
+    ensures plain { IsPlainWithin bytes.now from result }
+    ensures stops { result < length bytes.now → needs_escape (slice_index bytes.now result) ≡ true }
+{
+    if has_plain_end(bytes, from) {
+        return bytes.len();
+    }
+    for at in from..bytes.len() {
+        if is_escaped(bytes[at]) {
+            return at;
+        }
+    }
+    bytes.len()
 }
 
 // The place of the first byte from this one on that needs an escape, or the end.
@@ -116,16 +146,15 @@ fn run_end(bytes: &[u8], from: usize) -> usize
     ensures plain { IsPlainWithin bytes.now from result }
     ensures stops { result < length bytes.now → needs_escape (slice_index bytes.now result) ≡ true }
 {
-    let near = past_blocks(bytes, from);
-    if has_plain_end(bytes, near) {
-        return bytes.len();
-    }
-    for at in near..bytes.len() {
-        if is_escaped(bytes[at]) {
+    let mut at = from;
+    while BLOCK <= bytes.len() - at {
+        let step = first_in_block(bytes, at);
+        at += step;
+        if step < BLOCK {
             return at;
         }
     }
-    bytes.len()
+    last_run_end(bytes, at)
 }
 
 // Appends what stands in quotes for a byte that may not stand there as it is.
