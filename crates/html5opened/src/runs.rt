@@ -1,7 +1,7 @@
 //! Runs: characters that are read at once. Here stands, for each state that reads runs, which
 //! characters end one, and where a run within a tag goes. A run between tags is sent as one text, and
 //! goes on over line feeds.
-ghost use Rattle.std.specs.Prelude.{◌≡◌, ℕ, [], false, ◌↔◌, ◌++◌, Contains, OnOk, IfSome, is_some, string_bytes, flat_map};
+ghost use Rattle.std.specs.Prelude.{◌≡◌, ℕ, [], false, ◌↔◌, ◌++◌, Contains, IfOk, OnOk, IfSome, is_some, string_bytes, flat_map};
 ghost use Rattle.std.specs.Str.{chars};
 ghost use Rattle.html5grammar.specs.Cdata.{open_cdata};
 ghost use Rattle.html5grammar.specs.Characters.{name_bytes};
@@ -122,30 +122,49 @@ fn stays_in_names(byte: u8) -> bool
     byte != 0 && (byte < b'A' || byte > b'Z')
 }
 
-// Whether each byte of a run stands in a name as it is. It looks at all of them, so that the compiler
-// makes it one step over many.
+// Whether each byte of a run stands in a name as it is.
+#[inline(always)]
 fn is_plain_name(run: &[u8]) -> bool
     ensures { result ≡ list_all stays_in_names run.now }
 {
-    let mut is_plain = true;
-    for byte in run {
-        is_plain &= stays_in_names(*byte);
+    run.iter().all(|byte| stays_in_names(*byte))
+}
+
+// Appends a run to a name, its letters in lower case, character by character.
+#[inline(never)]
+fn push_letters<A: Allocator>(name: &mut String<A>, run: &str) -> Result<(), AllocError>
+    ensures { OnOk result (string_bytes name.new
+        ≡ string_bytes name.old ++ flat_map name_bytes (chars run.now)) }
+{
+    for c in run.chars() {
+        push_name(name, c)?;
     }
-    is_plain
+    Ok(())
+}
+
+/// The name that a run spells, its letters in lower case.
+#[inline(always)]
+pub fn name_of<A: Allocator + Copy>(alloc: A, run: &str) -> Result<String<A>, AllocError>
+    ensures { IfOk result (λ name. string_bytes name ≡ flat_map name_bytes (chars run.now)) }
+{
+    if is_plain_name(run.as_bytes()) {
+        return String::from_str(alloc, run);
+    }
+    let mut name = String::new(alloc);
+    push_letters(&mut name, run)?;
+    Ok(name)
 }
 
 /// Appends a run to a name, its letters in lower case.
+#[inline(always)]
 pub fn push_names<A: Allocator>(name: &mut String<A>, run: &str) -> Result<(), AllocError>
     ensures { OnOk result (string_bytes name.new
         ≡ string_bytes name.old ++ flat_map name_bytes (chars run.now)) }
 {
-    if is_plain_name(run.as_bytes()) {
-        name.push_str(run)?;
-        return Ok(());
+    if !is_plain_name(run.as_bytes()) {
+        return push_letters(name, run);
     }
-    for c in run.chars() {
-        push_name(name, c)?;
-    }
+    name.push_str(run)?;
     Ok(())
 }
 

@@ -16,7 +16,7 @@ use html5ever_interface::states::State;
 use html5opened::characters::is_letter;
 use html5opened::current_tag::CurrentTag;
 use html5opened::opened::Opened;
-use html5opened::runs::{attribute_name_ends, push_names, tag_name_ends};
+use html5opened::runs::{attribute_name_ends, name_of, tag_name_ends};
 use markup5ever::small_char_set::SmallCharSet;
 use std::alloc::{AllocError, Allocator};
 
@@ -48,7 +48,8 @@ fn begin_tag<A: Allocator + Copy>(
 {
     at.state = State::TagName;
     at.tag = CurrentTag::new(alloc, kind);
-    push_names(&mut at.tag.name, name)
+    at.tag.name = name_of(alloc, name)?;
+    Ok(())
 }
 
 // Begins an attribute with its name. Where the one before it repeats a name, nothing changes.
@@ -69,7 +70,7 @@ fn begin_attribute<A: Allocator + Copy>(
         return Ok(false);
     }
     at.state = State::AttributeName;
-    push_names(&mut at.tag.attr_name, name)?;
+    at.tag.attr_name = name_of(alloc, name)?;
     Ok(true)
 }
 
