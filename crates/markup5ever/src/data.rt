@@ -203,10 +203,10 @@ impl<A: Allocator> NamedReferences<A> {
         let Some(last) = place.checked_sub(1) else {
             return true;
         };
-        match self.entries.get(last) {
-            Some(entry) => order_of(entry, name).is_lt(),
-            None => false,
-        }
+        let Some(entry) = self.entries.get(last) else {
+            return false;
+        };
+        order_of(entry, name).is_lt()
     }
 }
 

@@ -7,8 +7,8 @@ use Rattle.markup5ever.proofs.NameOrder.{less_from_test}
 use Rattle.markup5ever.proofs.Searches.{all_before}
 use Rattle.markup5ever.proofs.data.NamedReferences.is_past.Goals as goal
 
-pub returns-in-Some-get-clause-before : goal.returns-in-Some-get-clause-before
-returns-in-Some-get-clause-before g c = λ yes.
+pub returns-clause-before : goal.returns-clause-before
+returns-clause-before g c = λ yes.
     let items = c.self.inside.entries.items in
     let entry = c.in-Some-get.entry.now in
     let there = rw c.deref.ensures.value at c.in-Some-get.ensures.lookup in
