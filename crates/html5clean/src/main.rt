@@ -16,6 +16,7 @@ standard input is read.
                    schemes SCHEME..              schemes of addresses
                    hide ELEMENT..                elements dropped with what stands in them
                    noopener                      each link gets rel=noopener
+                   balance                       end tags close what is open, and no more
                  empty lines, and lines that begin with #, say nothing
   --names FILE   the table of named character references, in place of the standard's
   --help         this text

@@ -1,3 +1,7 @@
+pub mod NameLemmas
+pub mod CountLemmas
+pub mod Balancing
+pub mod CleanBalanced
 pub mod CleanPieces
 pub mod Links
 pub mod Replies
@@ -5,8 +9,15 @@ pub mod Tokens
 pub mod SchemeBytes
 pub mod Schemes
 pub mod SameReadings
+pub mod Ends
 pub mod Printing
 pub mod WholeTexts
 pub mod Encoded
+pub mod WrittenRuns
+pub mod EndTags
+pub mod KeepsLemmas
+pub mod NestedPages
+pub mod OtherPieces
+pub mod Steady
 pub mod Again
 pub mod PagesAgain

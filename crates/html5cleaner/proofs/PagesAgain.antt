@@ -1,5 +1,5 @@
 -- A page of pieces that were kept is kept as it is.
-use Rattle.std.proofs.Common.{◌≡◌, true, false, List, [], ◌∷◌, ◌++◌, refl, ap, ◌∙◌}
+use Rattle.std.proofs.Common.{◌≡◌, ℕ, true, false, List, [], ◌∷◌, ◌++◌, refl, ap, ◌∙◌}
 use Rattle.std.specs.Prelude.{encode_utf8_all}
 use Rattle.std.specs.List.{list_all}
 use Rattle.std.proofs.lemmas.List.{append-nil}
@@ -19,8 +19,13 @@ use Rattle.html5write.specs.Told.{page_tokens, proper}
 use Rattle.html5write.proofs.Pages.{page-reading}
 use Rattle.html5write.proofs.ProperTokens.{proper-whole}
 use Rattle.html5cleaner.specs.Allowed.{is_clean}
+use Rattle.html5cleaner.specs.Balance.{end_tags}
 use Rattle.html5cleaner.specs.Clean.{Cleaned, at_start, clean_step}
-use Rattle.html5cleaner.proofs.Again.{AreSteady, after-messages, after_tokens, after_tokens-append, kept-with_run, stands-page, steady-pieces}
+use Rattle.html5cleaner.proofs.Steady.{AreSteady, steady-handed}
+use Rattle.html5cleaner.proofs.Again.{after-messages, after_tokens, after_tokens-append, kept-with_run, stands-page}
+use Rattle.html5cleaner.proofs.Balancing.{AllGo}
+use Rattle.html5cleaner.proofs.NestedPages.{goes-handed}
+use Rattle.html5cleaner.proofs.WrittenRuns.{written-at_end}
 use Rattle.html5cleaner.proofs.Encoded.{chars-encoded}
 use Rattle.html5cleaner.proofs.Printing.{clean-handed}
 use Rattle.html5cleaner.proofs.Replies.{keeps_on-page}
@@ -40,23 +45,33 @@ proper-page policy names pieces sound table clean =
     (keeps_on-page policy sound means.reply (λ s tag line keeps. keeps) pieces clean))
     ∙ proper-whole rules.exact K.input pieces (line_after K.input (normalised K.input (page_text pieces)))
 
-kept-again : (policy : PolicyOf) (names : List NamedReference) (pieces : List Piece) → IsSound policy → IsTable names → list_all (is_clean policy) pieces ≡ true → AreSteady policy pieces
-    → page_text (runs_handed clean_step (at_start policy) (runs_page clean_step names (at_start policy) (encode_utf8_all (page_text pieces)))).pieces ≡ page_text pieces
+kept-again : (policy : PolicyOf) (names : List NamedReference) (pieces : List Piece) (opened : List (List ℕ)) → IsSound policy → IsTable names
+    → list_all (is_clean policy) pieces ≡ true → AreSteady policy pieces → AllGo policy.balance [] pieces opened
+    → page_text (runs_handed clean_step (at_start policy) (runs_page clean_step names (at_start policy) (encode_utf8_all (page_text pieces)))).pieces
+    ≡ page_text pieces ++ page_text (end_tags opened)
 unfolding runs_handed after_tokens
-kept-again policy names pieces sound table clean steady =
+kept-again policy names pieces opened sound table clean steady go =
     let M : List Message = runs_page clean_step names (at_start policy) (encode_utf8_all (page_text pieces)) in
     let start : Joined Cleaned = (runs_start (at_start policy)).joined in
     let before : Joined Cleaned = after_tokens start (page_tokens pieces) in
-    let stands = stands-page policy [] start (record { keeps = refl; text = []; waits = refl; whole = refl; shown = refl; written = refl }) pieces steady in
+    let stands = stands-page policy [] opened [] start (record { keeps = refl; text = []; waits = refl; whole = refl; shown = refl; stays = refl; written = refl }) pieces steady go in
     ap (λ j. page_text j.handler.pieces)
     (after-messages (runs_start (at_start policy)) M ∙ ap (after_tokens start) (proper-page policy names pieces sound table clean) ∙ after_tokens-append start (page_tokens pieces) (End ∷ []))
-    ∙ kept-with_run policy (page_text pieces) before stands End [] refl
-    ∙ append-nil (page_text pieces)
+    ∙ kept-with_run policy opened (page_text pieces) before stands End (page_text (end_tags opened)) (ap page_text (written-at_end policy.balance opened pieces go))
 
--- what was kept of any messages
+-- what was written of any messages, and then the end tags of what is open after them
 pub kept-twice : (policy : PolicyOf) (names : List NamedReference) (M : List Message) → IsSound policy → IsTable names
     → page_text (runs_handed clean_step (at_start policy) (runs_page clean_step names (at_start policy) (encode_utf8_all (page_text (runs_handed clean_step (at_start policy) M).pieces)))).pieces
-    ≡ page_text (runs_handed clean_step (at_start policy) M).pieces
-unfolding runs_handed
+    ≡ page_text (runs_handed clean_step (at_start policy) M).pieces ++ page_text (end_tags (runs_handed clean_step (at_start policy) M).opened)
 kept-twice policy names M sound table =
-    kept-again policy names (runs_handed clean_step (at_start policy) M).pieces sound table (clean-handed policy M) (steady-pieces policy sound (runs_start (at_start policy)) M refl refl)
+    let c : Cleaned = runs_handed clean_step (at_start policy) M in
+    kept-again policy names c.pieces c.opened sound table (clean-handed policy M) (steady-handed policy sound M) (goes-handed policy M)
+
+-- where nothing is open after them, they are kept again as they are
+pub kept-whole : (policy : PolicyOf) (names : List NamedReference) (M : List Message) → IsSound policy → IsTable names → (runs_handed clean_step (at_start policy) M).opened ≡ []
+    → page_text (runs_handed clean_step (at_start policy) (runs_page clean_step names (at_start policy) (encode_utf8_all (page_text (runs_handed clean_step (at_start policy) M).pieces)))).pieces
+    ≡ page_text (runs_handed clean_step (at_start policy) M).pieces
+kept-whole policy names M sound table none =
+    kept-twice policy names M sound table
+    ∙ ap (λ (o : List (List ℕ)). page_text (runs_handed clean_step (at_start policy) M).pieces ++ page_text (end_tags o)) none
+    ∙ append-nil (page_text (runs_handed clean_step (at_start policy) M).pieces)

@@ -14,13 +14,14 @@ use Rattle.html5write.specs.Pieces.{Piece, page_text, piece_text}
 use Rattle.std.specs.List.{list_all}
 use Rattle.html5policy.specs.Policy.{PolicyOf}
 use Rattle.html5cleaner.specs.Allowed.{is_clean}
-use Rattle.html5cleaner.proofs.CleanPieces.{clean-more}
+use Rattle.html5cleaner.specs.Balance.{AreClean, end_tags, is_end, written_by}
+use Rattle.html5cleaner.proofs.CleanPieces.{are_clean-step}
 use Rattle.html5cleaner.specs.Clean.{Cleaned, at_start, clean_step, kept_where}
 use Rattle.html5cleaner.specs.Cleaning.{Cleaning, Standing, cleaning_step, page_bytes, page_messages, page_start, printed_of}
 
 -- where these pieces were kept, and printed after other bytes
 abbrev pub printed_after : List ℕ → Cleaned → Cleaning
-printed_after before c = record { policy = c.policy; printed = before ++ page_bytes c.pieces; hidden = c.hidden }
+printed_after before c = record { policy = c.policy; printed = before ++ page_bytes c.pieces; hidden = c.hidden; opened = c.opened }
 
 page_bytes-append : (first second : List Piece) → page_bytes (first ++ second) ≡ page_bytes first ++ page_bytes second
 page_bytes-append first second = ap encode_utf8_all (flat_map-append piece_text first second) ∙ encodes-append (page_text first) (page_text second)
@@ -28,10 +29,10 @@ page_bytes-append first second = ap encode_utf8_all (flat_map-append piece_text 
 printed-step : (before : List ℕ) (c : Cleaned) (run : List ℕ) (told : Told) (line : ℕ)
     → cleaning_step (printed_after before c) run told line ≡ printed_after before (clean_step c run told line)
 printed-step before c run told line =
-    let more = kept_where c.policy c.hidden.depth run told in
+    let more = written_by c.policy.balance (is_end told) c.opened (kept_where c.policy c.hidden.depth run told) in
     let printed : (before ++ page_bytes c.pieces) ++ page_bytes more ≡ before ++ page_bytes (c.pieces ++ more) =
     append_assoc before (page_bytes c.pieces) (page_bytes more) ∙ ap (λ l. before ++ l) (sym (page_bytes-append c.pieces more)) in
-    ap (λ l. record { policy = c.policy; printed = l; hidden = (clean_step c run told line).hidden }) printed
+    ap (λ l. record { policy = c.policy; printed = l; hidden = (clean_step c run told line).hidden; opened = (clean_step c run told line).opened }) printed
 
 -- the same for a handler to which text may wait
 joined_after : List ℕ → Joined Cleaned → Joined Cleaning
@@ -61,11 +62,11 @@ pub printed-handed : (s : Standing) (M : List Message) → runs_handed cleaning_
 unfolding runs_handed joined_after
 printed-handed s M =
     ap (λ j. j.handler) (printed-stepped s.printed (runs_start (page_start s)) (runs_start (at_start s.policy)) M
-    (ap (λ l. joined_of (record { policy = s.policy; printed = l; hidden = (at_start s.policy).hidden }) []) (sym (append-nil s.printed))))
+    (ap (λ l. joined_of (record { policy = s.policy; printed = l; hidden = (at_start s.policy).hidden; opened = [] }) []) (sym (append-nil s.printed))))
 
 -- ---- the policy stays
 
-policy-joined : (j : Joined Cleaned) (told : Told) (line : ℕ) → (joined_step clean_step j told line).handler.policy ≡ j.handler.policy
+pub policy-joined : (j : Joined Cleaned) (told : Told) (line : ℕ) → (joined_step clean_step j told line).handler.policy ≡ j.handler.policy
 policy-joined j (Text text) line = refl
 policy-joined j (Error message) line = refl
 policy-joined j Null line = refl
@@ -80,37 +81,43 @@ unfolding stepped
 policy-stepped r [] = refl
 policy-stepped r (m ∷ M) = policy-stepped (runs_step clean_step r m.token m.line) M ∙ policy-joined r.joined m.token m.line
 
-policy-handed : (policy : PolicyOf) (M : List Message) → (runs_handed clean_step (at_start policy) M).policy ≡ policy
+pub policy-handed : (policy : PolicyOf) (M : List Message) → (runs_handed clean_step (at_start policy) M).policy ≡ policy
 unfolding runs_handed
 policy-handed policy M = policy-stepped (runs_start (at_start policy)) M
 
--- ---- what is kept stays clean
+-- ---- what is written stays clean
 
-clean-joined : (j : Joined Cleaned) (told : Told) (line : ℕ) → list_all (is_clean j.handler.policy) j.handler.pieces ≡ true
-    → list_all (is_clean (joined_step clean_step j told line).handler.policy) (joined_step clean_step j told line).handler.pieces ≡ true
+-- what a handler wrote is clean
+abbrev IsCleaned : Cleaned → Type 0
+IsCleaned c = AreClean c.policy c.pieces c.opened
+
+clean-joined : (j : Joined Cleaned) (told : Told) (line : ℕ) → IsCleaned j.handler → IsCleaned (joined_step clean_step j told line).handler
 clean-joined j (Text text) line clean = clean
-clean-joined j (Error message) line clean = clean-more j.handler.policy j.handler.pieces j.handler.hidden.depth [] (Error message) clean
-clean-joined j Null line clean = clean-more j.handler.policy j.handler.pieces j.handler.hidden.depth j.run Null clean
-clean-joined j (Tag tag) line clean = clean-more j.handler.policy j.handler.pieces j.handler.hidden.depth j.run (Tag tag) clean
-clean-joined j (Comment text) line clean = clean-more j.handler.policy j.handler.pieces j.handler.hidden.depth j.run (Comment text) clean
-clean-joined j (Instruction content) line clean = clean-more j.handler.policy j.handler.pieces j.handler.hidden.depth j.run (Instruction content) clean
-clean-joined j (Doctype doctype) line clean = clean-more j.handler.policy j.handler.pieces j.handler.hidden.depth j.run (Doctype doctype) clean
-clean-joined j End line clean = clean-more j.handler.policy j.handler.pieces j.handler.hidden.depth j.run End clean
+clean-joined j (Error message) line clean = are_clean-step j.handler [] (Error message) line clean
+clean-joined j Null line clean = are_clean-step j.handler j.run Null line clean
+clean-joined j (Tag tag) line clean = are_clean-step j.handler j.run (Tag tag) line clean
+clean-joined j (Comment text) line clean = are_clean-step j.handler j.run (Comment text) line clean
+clean-joined j (Instruction content) line clean = are_clean-step j.handler j.run (Instruction content) line clean
+clean-joined j (Doctype doctype) line clean = are_clean-step j.handler j.run (Doctype doctype) line clean
+clean-joined j End line clean = are_clean-step j.handler j.run End line clean
 
-clean-stepped : (r : Running Cleaned) (M : List Message) → list_all (is_clean r.joined.handler.policy) r.joined.handler.pieces ≡ true
-    → list_all (is_clean (stepped (runs_step clean_step) r M).joined.handler.policy) (stepped (runs_step clean_step) r M).joined.handler.pieces ≡ true
+clean-stepped : (r : Running Cleaned) (M : List Message) → IsCleaned r.joined.handler → IsCleaned (stepped (runs_step clean_step) r M).joined.handler
 unfolding stepped
 clean-stepped r [] clean = clean
 clean-stepped r (m ∷ M) clean = clean-stepped (runs_step clean_step r m.token m.line) M (clean-joined r.joined m.token m.line clean)
 
-clean-by_its_policy : (policy : PolicyOf) (M : List Message)
-    → list_all (is_clean (runs_handed clean_step (at_start policy) M).policy) (runs_handed clean_step (at_start policy) M).pieces ≡ true
+clean-by_its_policy : (policy : PolicyOf) (M : List Message) → IsCleaned (runs_handed clean_step (at_start policy) M)
 unfolding runs_handed
-clean-by_its_policy policy M = clean-stepped (runs_start (at_start policy)) M refl
+clean-by_its_policy policy M = clean-stepped (runs_start (at_start policy)) M (record { written = refl; closing = refl })
 
 pub clean-handed : (policy : PolicyOf) (M : List Message) → list_all (is_clean policy) (runs_handed clean_step (at_start policy) M).pieces ≡ true
 clean-handed policy M =
-    subst (λ (p : PolicyOf). list_all (is_clean p) (runs_handed clean_step (at_start policy) M).pieces ≡ true) (policy-handed policy M) (clean-by_its_policy policy M)
+    subst (λ (p : PolicyOf). list_all (is_clean p) (runs_handed clean_step (at_start policy) M).pieces ≡ true) (policy-handed policy M) (clean-by_its_policy policy M).written
+
+-- the end tags of the elements that are open are clean, too
+pub can-close-handed : (policy : PolicyOf) (M : List Message) → list_all (is_clean policy) (end_tags (runs_handed clean_step (at_start policy) M).opened) ≡ true
+can-close-handed policy M =
+    subst (λ (p : PolicyOf). list_all (is_clean p) (end_tags (runs_handed clean_step (at_start policy) M).opened) ≡ true) (policy-handed policy M) (clean-by_its_policy policy M).closing
 
 -- ---- pages
 

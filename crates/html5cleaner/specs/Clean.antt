@@ -1,4 +1,4 @@
--- A page that is cleaned: what is kept of each run of text and of the token after it.
+-- A page that is cleaned: what is kept of each run of text and of the token after it, and what is written of that.
 use Rattle.std.specs.Prelude.{ℕ, ◌+◌, ◌-◌, Bool, false, not, List, [], ◌∷◌, ◌++◌, ◌&&◌, ◌==◌, filter, map, chars, codes, string_bytes, encode_utf8_all, if◌then◌else◌}
 use Rattle.std.specs.List.{list_any}
 use Rattle.std.specs.Str.{bytes_eq}
@@ -12,6 +12,7 @@ use Rattle.html5write.specs.Pieces.{NameAndValue, Piece, can_write}
 use Rattle.html5write.specs.Pieces.Piece.{TextPiece, StartTagPiece, EndTagPiece}
 use Rattle.html5cleaner.specs.Elements.{is_empty_element, is_void}
 use Rattle.html5cleaner.specs.Allowed.{is_kept_attribute}
+use Rattle.html5cleaner.specs.Balance.{is_end, open_by, written_by}
 use Rattle.html5cleaner.specs.declared.hidden.Hidden.{Hidden as RustHidden}
 
 -- ---- what is hidden
@@ -125,20 +126,22 @@ kept_where policy depth run told = if depth == 0 then kept policy run told else 
 
 -- ---- the page
 
--- the policy, the pieces that were kept, and what is hidden
+-- the policy, the pieces that were written, what is hidden, and the elements that are open, by a policy that balances
 pub record Cleaned : Type 0 where
   pub policy : PolicyOf
   pub pieces : List Piece
   pub hidden : Hidden
+  pub opened : List (List ℕ)
 
 -- where a page begins
 abbrev pub at_start : PolicyOf → Cleaned
-at_start policy = record { policy = policy; pieces = []; hidden = record { name = []; depth = 0 } }
+at_start policy = record { policy = policy; pieces = []; hidden = record { name = []; depth = 0 }; opened = [] }
 
 -- a run of text and the token after it
 abbrev pub clean_step : Cleaned → List ℕ → Told → ℕ → Cleaned
 clean_step s run told line = record {
   policy = s.policy;
-  pieces = s.pieces ++ kept_where s.policy s.hidden.depth run told;
+  pieces = s.pieces ++ written_by s.policy.balance (is_end told) s.opened (kept_where s.policy s.hidden.depth run told);
   hidden = hidden_after s.policy s.hidden told;
+  opened = open_by s.policy.balance (is_end told) s.opened (kept_where s.policy s.hidden.depth run told);
 }

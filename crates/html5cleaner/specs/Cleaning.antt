@@ -6,20 +6,23 @@ use Rattle.html5ever_interface.specs.Token.{Told}
 use Rattle.html5stream.specs.Pages.{runs_after, runs_handed, runs_page}
 use Rattle.html5policy.specs.Policy.{PolicyOf}
 use Rattle.html5write.specs.Pieces.{Piece, page_text}
+use Rattle.html5cleaner.specs.Balance.{end_tags, is_end, open_by, written_by}
 use Rattle.html5cleaner.specs.Clean.{Hidden, at_start, clean_step, hidden_after, kept_where}
 use Rattle.markup5ever.specs.NamedReferences.{NamedReference}
 
--- the policy, what was printed, and what is hidden
+-- the policy, what was printed, what is hidden, and the elements that are open
 pub record Cleaning : Type 0 where
   pub policy : PolicyOf
   pub printed : List ℕ
   pub hidden : Hidden
+  pub opened : List (List ℕ)
 
--- the policy, the printer, and what is hidden
+-- the policy, the printer, what is hidden, and the elements that are open
 pub record Printed (W : Type 0) : Type 0 where
   pub policy : PolicyOf
   pub printer : Printing W
   pub hidden : Hidden
+  pub opened : List (List ℕ)
 
 -- the policy and what was printed: all that stays from one page to the next
 pub record Standing : Type 0 where
@@ -28,11 +31,11 @@ pub record Standing : Type 0 where
 
 -- where a page begins
 abbrev pub page_start : Standing → Cleaning
-page_start s = record { policy = s.policy; printed = s.printed; hidden = record { name = []; depth = 0 } }
+page_start s = record { policy = s.policy; printed = s.printed; hidden = record { name = []; depth = 0 }; opened = [] }
 
 -- where a printer of cleaned pages stands
 abbrev pub cleaning_of : {W : Type 0} → Printed W → Cleaning
-cleaning_of p = record { policy = p.policy; printed = p.printer.printed; hidden = p.hidden }
+cleaning_of p = record { policy = p.policy; printed = p.printer.printed; hidden = p.hidden; opened = p.opened }
 
 abbrev pub standing_of : {W : Type 0} → Printed W → Standing
 standing_of p = record { policy = p.policy; printed = p.printer.printed }
@@ -45,12 +48,13 @@ page_bytes pieces = encode_utf8_all (page_text pieces)
 abbrev pub kept_of_page : PolicyOf → List NamedReference → List ℕ → List Piece
 kept_of_page policy names bytes = (runs_after clean_step names (at_start policy) bytes).pieces
 
--- a run of text and the token after it: what is kept of them is printed
+-- a run of text and the token after it: what is written of them is printed
 abbrev pub cleaning_step : Cleaning → List ℕ → Told → ℕ → Cleaning
 cleaning_step s run told line = record {
   policy = s.policy;
-  printed = s.printed ++ page_bytes (kept_where s.policy s.hidden.depth run told);
+  printed = s.printed ++ page_bytes (written_by s.policy.balance (is_end told) s.opened (kept_where s.policy s.hidden.depth run told));
   hidden = hidden_after s.policy s.hidden told;
+  opened = open_by s.policy.balance (is_end told) s.opened (kept_where s.policy s.hidden.depth run told);
 }
 
 -- the messages of a page, which don't depend on what was printed before it
@@ -62,4 +66,11 @@ abbrev pub printed_of : Standing → List Message → Standing
 printed_of s messages = record {
   policy = s.policy;
   printed = s.printed ++ page_bytes (runs_handed clean_step (at_start s.policy) messages).pieces;
+}
+
+-- the same, and after it the end tags of the elements that are still open
+abbrev pub printed_and_closed : Standing → List Message → Standing
+printed_and_closed s messages = record {
+  policy = s.policy;
+  printed = (printed_of s messages).printed ++ page_bytes (end_tags (runs_handed clean_step (at_start s.policy) messages).opened);
 }

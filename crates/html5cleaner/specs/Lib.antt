@@ -1,5 +1,8 @@
 pub mod Elements
 pub mod Allowed
+pub mod Open
+pub mod Counts
+pub mod Balance
 pub mod Clean
 pub mod Kept
 pub mod Reading

@@ -1,11 +1,13 @@
 //! A handler that prints what is kept of a page, as it arrives.
 ghost use Rattle.std.specs.Prelude.{◌≡◌, ◌++◌, [], OnOk, OnErr, string_bytes};
 ghost use Rattle.html5ever_interface.specs.Token.{told_by};
+ghost use Rattle.html5cleaner.specs.Balance.{is_end, open_by, written_by};
 ghost use Rattle.html5cleaner.specs.Clean.{kept_where, hidden_of, hidden_after};
 ghost use Rattle.html5cleaner.specs.Cleaning.{page_bytes, page_start, cleaning_of, standing_of};
 
 use crate::cleaner::keep_where;
 use crate::hidden::Hidden;
+use crate::open_elements::OpenElements;
 use devices::{Printer, Target};
 use html5ever_interface::interface::token::{SinkFault, Token};
 use html5policy::Policy;
@@ -21,6 +23,7 @@ pub struct CleanPrinter<W, A: Allocator = Global> {
     policy: Policy<A>,
     printer: Printer<W, A>,
     hidden: Hidden<A>,
+    opened: OpenElements<A>,
 }
 
 impl<W, A: Allocator> Model for CleanPrinter<W, A> {
@@ -29,7 +32,7 @@ impl<W, A: Allocator> Model for CleanPrinter<W, A> {
 
     ghost Value = { Printed W };
 
-    ghost view = { λ c. record { policy = c.policy; printer = c.printer; hidden = hidden_of c.hidden } };
+    ghost view = { λ c. record { policy = c.policy; printer = c.printer; hidden = hidden_of c.hidden; opened = c.opened } };
 }
 
 // Prints what is kept of a run of text and the token after it, all of it or nothing.
@@ -37,21 +40,31 @@ fn print_kept<W: Target, A: Allocator + Copy>(
     alloc: A,
     policy: &Policy<A>,
     depth: u64,
+    opened: &mut OpenElements<A>,
     printer: &mut Printer<W, A>,
     run: &str,
     token: &Token<A>,
 ) -> Result<(), SinkFault>
-    ensures ok { OnOk result (printer.new.printed ≡ printer.old.printed
-        ++ page_bytes (kept_where policy.now depth run.now (told_by token.now))) }
-    ensures err { OnErr result (printer.new.printed ≡ printer.old.printed) }
+    ensures printed { OnOk result (printer.new.printed ≡ printer.old.printed ++ page_bytes
+        (written_by policy.now.balance (is_end (told_by token.now)) opened.old (kept_where policy.now depth run.now (told_by token.now)))) }
+    ensures opened { OnOk result (opened.new
+        ≡ open_by policy.now.balance (is_end (told_by token.now)) opened.old (kept_where policy.now depth run.now (told_by token.now))) }
+    ensures unprinted { OnErr result (printer.new.printed ≡ printer.old.printed) }
+    ensures unopened { OnErr result (opened.new ≡ opened.old) }
 {
     let mut page = Writer::new(alloc);
-    let Ok(()) = keep_where(alloc, policy, depth, &mut page, run, token) else {
+    let Ok(change) = keep_where(alloc, policy, depth, opened, &mut page, run, token) else {
         return Err(SinkFault);
     };
     match printer.print(page.as_str().as_bytes()) {
-        Ok(()) => Ok(()),
-        Err(_) => Err(SinkFault),
+        Ok(()) => {
+            opened.close(change.close);
+            Ok(())
+        }
+        Err(_) => {
+            opened.close(change.undo);
+            Err(SinkFault)
+        }
     }
 }
 
@@ -66,6 +79,7 @@ impl<W: Target, A: Allocator + Copy> CleanPrinter<W, A> {
             policy,
             printer,
             hidden: Hidden::none(alloc),
+            opened: OpenElements::none(alloc),
         }
     }
 
@@ -107,6 +121,7 @@ impl<W: Target, A: Allocator + Copy> TokenHandler<Token<A>> for CleanPrinter<W, 
             self.alloc,
             &self.policy,
             self.hidden.depth,
+            &mut self.opened,
             &mut self.printer,
             run,
             &token,

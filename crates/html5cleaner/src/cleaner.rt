@@ -1,15 +1,19 @@
 //! A handler that writes what is kept of a page.
-ghost use Rattle.std.specs.Prelude.{◌≡◌, ◌++◌, OnErr, OnOk, true};
+ghost use Rattle.std.specs.Prelude.{◌≡◌, ◌++◌, [], false, true};
 ghost use Rattle.std.specs.List.{list_all};
-ghost use Rattle.html5ever_interface.specs.Token.{told_by};
+ghost use Rattle.html5ever_interface.specs.Token.{tag_of, told_by};
 ghost use Rattle.html5policy.specs.Rules.{IsSound};
 ghost use Rattle.html5cleaner.specs.Allowed.{is_clean};
-ghost use Rattle.html5cleaner.specs.Clean.{at_start, kept, kept_where};
+ghost use Rattle.html5cleaner.specs.Balance.{is_end, open_by, written_by};
+ghost use Rattle.html5cleaner.specs.Clean.{at_start, kept_of_run, kept_of_tag, kept_where};
+ghost use Rattle.html5cleaner.specs.Kept.{Keeps};
 
 use crate::attributes::kept_attributes;
+use crate::balance::{Change, NO_CHANGE, write_balanced, write_closed, write_plain};
 use crate::hidden::Hidden;
-use crate::kept::{kept_run, kept_tag, write_kept};
-use html5ever_interface::interface::token::{SinkFault, Token};
+use crate::kept::kept_tag;
+use crate::open_elements::OpenElements;
+use html5ever_interface::interface::token::{SinkFault, Tag, Token};
 use html5policy::Policy;
 use html5sinks::text_runs::TokenHandler;
 use html5write::{WriteError, Writer};
@@ -17,26 +21,25 @@ use std::alloc::{Allocator, Global};
 use std::marker::Model;
 
 /// Writes what a policy keeps of the runs of text and the tags that it takes. Contracts see the policy,
-/// the pieces that were kept, and what is hidden.
+/// the pieces that were written, what is hidden, and the elements that are open.
 #[derive(Drop)]
 pub struct Cleaner<'p, A: Allocator = Global> {
     alloc: A,
     policy: &'p Policy<A>,
     page: Writer<A>,
     hidden: Hidden<A>,
+    opened: OpenElements<A>,
 }
 
 impl<'p, A: Allocator> Model for Cleaner<'p, A> {
-    ghost use Rattle.std.specs.Prelude.{◌≡◌, true};
-    ghost use Rattle.std.specs.List.{list_all};
-    ghost use Rattle.html5cleaner.specs.Allowed.{is_clean};
+    ghost use Rattle.html5cleaner.specs.Balance.{AreClean};
     ghost use Rattle.html5cleaner.specs.Clean.{Cleaned, hidden_of};
 
     ghost Value = { Cleaned };
 
-    ghost view = { λ c. record { policy = c.policy.now; pieces = c.page; hidden = hidden_of c.hidden } };
+    ghost view = { λ c. record { policy = c.policy.now; pieces = c.page; hidden = hidden_of c.hidden; opened = c.opened } };
 
-    ghost invariant = { λ c. list_all (is_clean c.policy.now) c.page ≡ true };
+    ghost invariant = { λ c. AreClean c.policy.now c.page c.opened };
 }
 
 impl<'p, A: Allocator + Copy> Cleaner<'p, A> {
@@ -49,6 +52,7 @@ impl<'p, A: Allocator + Copy> Cleaner<'p, A> {
             policy,
             page: Writer::new(alloc),
             hidden: Hidden::none(alloc),
+            opened: OpenElements::none(alloc),
         }
     }
 
@@ -63,41 +67,77 @@ impl<'p, A: Allocator + Copy> Cleaner<'p, A> {
     }
 }
 
-// Writes what is kept of a run of text and the token after it, all of it or nothing.
-fn keep<A: Allocator + Copy>(
-    alloc: A,
-    policy: &Policy<A>,
-    page: &mut Writer<A>,
-    run: &str,
-    token: &Token<A>,
-) -> Result<(), WriteError>
-    ensures written { OnOk result (page.new ≡ page.old ++ kept policy.now run.now (told_by token.now)) }
-    ensures unchanged { OnErr result (page.new ≡ page.old) }
+// Whether a token is the end of a page.
+fn is_end<A: Allocator>(token: &Token<A>) -> bool
+    ensures { result ≡ is_end (told_by token.now) }
 {
-    let Token::TagToken(tag) = token else {
-        return write_kept(page, kept_run(run), None);
-    };
-    let attributes = kept_attributes(alloc, policy, &tag.name.0, &tag.attrs)?;
-    let tag = kept_tag(policy, tag.kind, &tag.name.0, &attributes);
-    write_kept(page, kept_run(run), tag)
+    matches!(token, Token::EOFToken)
 }
 
-/// The same, where nothing is hidden.
+// Writes what is kept of a run of text and the tag after it, all of it or nothing.
+fn keep_tag<A: Allocator + Copy>(
+    alloc: A,
+    policy: &Policy<A>,
+    opened: &mut OpenElements<A>,
+    page: &mut Writer<A>,
+    run: &str,
+    tag: &Tag<A>,
+) -> Result<Change, WriteError>
+    ensures { Keeps result page.old page.new opened.old opened.new
+        (written_by policy.now.balance false opened.old (kept_of_run run.now ++ kept_of_tag policy.now (tag_of tag.now)))
+        (open_by policy.now.balance false opened.old (kept_of_run run.now ++ kept_of_tag policy.now (tag_of tag.now))) }
+{
+    let attributes = kept_attributes(alloc, policy, &tag.name.0, &tag.attrs)?;
+    let tag = kept_tag(policy, tag.kind, &tag.name.0, &attributes);
+    if policy.balances() {
+        return write_balanced(alloc, opened, page, run, tag);
+    }
+    write_plain(page, run, tag)
+}
+
+// Writes what is kept of a run of text at the end of a page, all of it or nothing.
+fn keep_end<A: Allocator + Copy>(
+    alloc: A,
+    policy: &Policy<A>,
+    opened: &OpenElements<A>,
+    page: &mut Writer<A>,
+    run: &str,
+) -> Result<Change, WriteError>
+    ensures { Keeps result page.old page.new opened.now opened.now
+        (written_by policy.now.balance true opened.now (kept_of_run run.now ++ []))
+        (open_by policy.now.balance true opened.now (kept_of_run run.now ++ [])) }
+{
+    let close = if policy.balances() { opened.len() } else { 0 };
+    write_closed(alloc, opened, page, run, close)?;
+    Ok(Change { undo: 0, close })
+}
+
+/// Writes what is kept of a run of text and the token after it, all of it or nothing, where so many
+/// elements hide what stands in them.
 pub fn keep_where<A: Allocator + Copy>(
     alloc: A,
     policy: &Policy<A>,
     depth: u64,
+    opened: &mut OpenElements<A>,
     page: &mut Writer<A>,
     run: &str,
     token: &Token<A>,
-) -> Result<(), WriteError>
-    ensures written { OnOk result (page.new ≡ page.old ++ kept_where policy.now depth run.now (told_by token.now)) }
-    ensures unchanged { OnErr result (page.new ≡ page.old) }
+) -> Result<Change, WriteError>
+    ensures { Keeps result page.old page.new opened.old opened.new
+        (written_by policy.now.balance (is_end (told_by token.now)) opened.old (kept_where policy.now depth run.now (told_by token.now)))
+        (open_by policy.now.balance (is_end (told_by token.now)) opened.old (kept_where policy.now depth run.now (told_by token.now))) }
 {
-    if depth != 0 {
-        return Ok(());
+    if is_end(token) {
+        let shown = if depth == 0 { run } else { "" };
+        return keep_end(alloc, policy, opened, page, shown);
     }
-    keep(alloc, policy, page, run, token)
+    if depth != 0 {
+        return Ok(NO_CHANGE);
+    }
+    match token {
+        Token::TagToken(tag) => keep_tag(alloc, policy, opened, page, run, tag),
+        _ => write_plain(page, run, None),
+    }
 }
 
 impl<'p, A: Allocator + Copy> TokenHandler<Token<A>> for Cleaner<'p, A> {
@@ -122,11 +162,13 @@ impl<'p, A: Allocator + Copy> TokenHandler<Token<A>> for Cleaner<'p, A> {
             self.alloc,
             self.policy,
             self.hidden.depth,
+            &mut self.opened,
             &mut self.page,
             run,
             &token,
         ) {
-            Ok(()) => {
+            Ok(change) => {
+                self.opened.close(change.close);
                 self.hidden.pass(token, depth);
                 Ok(())
             }

@@ -1,5 +1,5 @@
 //! How a cleaned page is read.
-ghost use Rattle.std.specs.Prelude.{◌≡◌, ℕ, List, [], ◌∷◌, ◌++◌, Some, false, true};
+ghost use Rattle.std.specs.Prelude.{◌≡◌, ℕ, List, [], ◌∷◌, ◌++◌, Some, false, filter, true};
 ghost use Rattle.std.specs.List.{list_all};
 ghost use Rattle.html5ever_interface.specs.Sink.{Message};
 ghost use Rattle.html5ever_interface.specs.Token.{Told};
@@ -15,10 +15,11 @@ ghost use Rattle.html5policy.specs.Names.{runs_address};
 ghost use Rattle.html5policy.specs.Policy.{PolicyOf};
 ghost use Rattle.html5policy.specs.Rules.{IsSound};
 ghost use Rattle.html5cleaner.specs.Allowed.{is_clean};
+ghost use Rattle.html5cleaner.specs.Balance.{AreClean, is_nested, is_no_end_tag, without_balance};
 ghost use Rattle.html5cleaner.specs.Browsers.{RunsNothing, scheme_of};
 ghost use Rattle.html5cleaner.specs.Clean.{Cleaned, at_start, clean_step};
 ghost use Rattle.html5cleaner.specs.Cleaning as cleaning;
-ghost use Rattle.html5cleaner.specs.Cleaning.{Standing, kept_of_page, page_bytes, printed_of};
+ghost use Rattle.html5cleaner.specs.Cleaning.{Standing, kept_of_page, page_bytes, printed_and_closed, printed_of};
 ghost use Rattle.html5cleaner.specs.Reading.{FollowsStandard, is_allowed_token};
 
 use html5ever_interface::interface::sink::TokenSink;
@@ -52,22 +53,39 @@ pub fn cleaned_part<S: TokenSink<Token<A>>, A: Allocator>()
     page::<S, A>();
 }
 
-/// The pieces that were kept are clean, after each run of text and token.
+/// The pieces that were written are clean, after each run of text and token, and so are the end tags of
+/// the elements that are open.
 pub fn kept_pieces_are_clean()
-    ensures starts { (policy : PolicyOf) → list_all (is_clean policy) (at_start policy).pieces ≡ true }
-    ensures stay { (s : Cleaned) (run : List ℕ) (told : Told) (line : ℕ) → list_all (is_clean s.policy) s.pieces ≡ true
-        → list_all (is_clean s.policy) (clean_step s run told line).pieces ≡ true }
+    ensures starts { (policy : PolicyOf) → AreClean policy (at_start policy).pieces (at_start policy).opened }
+    ensures stay { (s : Cleaned) (run : List ℕ) (told : Told) (line : ℕ) → AreClean s.policy s.pieces s.opened
+        → AreClean s.policy (clean_step s run told line).pieces (clean_step s run told line).opened }
+{}
+
+/// By a policy that balances, each end tag of a page closes the innermost open element, and at the end of
+/// the page none is open. It writes what the same policy without the rule writes, but for end tags.
+pub fn balanced_page()
+    ensures nested { (policy : PolicyOf) (names : List NamedReference) (text : List ℕ) → policy.balance ≡ true
+        → is_nested [] (kept_of_page policy names text) ≡ true }
+    ensures others { (policy : PolicyOf) (names : List NamedReference) (text : List ℕ) →
+        filter is_no_end_tag (kept_of_page policy names text)
+        ≡ filter is_no_end_tag (kept_of_page (without_balance policy) names text) }
 {}
 
 /// Cleaning twice by a policy changes nothing, whatever the table of each reading: what was kept of a text
-/// is kept again to the byte, and so is what was printed of a page or of a beginning of it.
+/// is kept again to the byte. Of what was printed of a page, or of a beginning of it, the same is printed
+/// again, and then the end tags of what is still open there: of a whole page, and by a policy that doesn't
+/// balance, that is nothing.
 pub fn cleaning_twice()
     ensures text { (policy : PolicyOf) (names others : List NamedReference) (text : List ℕ) → IsSound policy
         → IsTable others → page_bytes (kept_of_page policy others (page_bytes (kept_of_page policy names text)))
         ≡ page_bytes (kept_of_page policy names text) }
     ensures printed { (s : Standing) (names : List NamedReference) (M : List Message) → IsSound s.policy
         → IsTable names → printed_of s (cleaning.page_messages names s
-        (printed_of (record { policy = s.policy; printed = [] }) M).printed) ≡ printed_of s M }
+        (printed_of (record { policy = s.policy; printed = [] }) M).printed) ≡ printed_and_closed s M }
+    ensures whole { (s : Standing) (names : List NamedReference) (bytes : List ℕ) →
+        printed_and_closed s (cleaning.page_messages names s bytes) ≡ printed_of s (cleaning.page_messages names s bytes) }
+    ensures not_balanced { (s : Standing) (M : List Message) → s.policy.balance ≡ false
+        → printed_and_closed s M ≡ printed_of s M }
 {}
 
 /// In an address that is kept a browser finds no scheme, or one of the policy's: it passes over white

@@ -2,12 +2,16 @@
 #![tactic(auto)]
 
 mod attributes;
+mod balance;
 mod clean_printer;
 mod cleaner;
+mod counts;
 mod elements;
 mod hidden;
 mod kept;
 pub mod laws;
+mod names;
+mod open_elements;
 mod page;
 mod printed_page;
 

@@ -10,7 +10,7 @@ use Rattle.markup5ever.proofs.NameOrder.{bytes_eq-itself, bytes_eq-same}
 use Rattle.html5policy.specs.Names.{always_hides, is_never_kept, is_one_of, is_scheme, runs_address}
 use Rattle.html5policy.specs.Policy.{PolicyOf, is_allowed}
 use Rattle.html5policy.specs.Rules.{IsSound, RuleOf, attribute_fault, element_fault, fault_of, hidden_fault, may_hide, may_keep, may_keep_attribute, may_keep_own, may_keep_scheme, scheme_fault, with_rule}
-use Rattle.html5policy.specs.Rules.RuleOf.{Element, Attribute, Everywhere, Scheme, Hidden, Noopener}
+use Rattle.html5policy.specs.Rules.RuleOf.{Element, Attribute, Everywhere, Scheme, Hidden, Noopener, Balance}
 use Rattle.html5policy.specs.declared.error.RuleError.{RuleError}
 use Rattle.html5policy.specs.declared.error.RuleError.TheVariants.{AllowedAndHidden, AttributeName, ElementName, HidesContent, NeverKept, RunsAddress, SchemeName}
 use Rattle.html5policy.proofs.Searches.{and-left, and-right, holds-one_of}
@@ -140,8 +140,15 @@ sound-with_rule policy Noopener sound none = record {
   schemes = sound.schemes;
   hidden = sound.hidden;
 }
+sound-with_rule policy Balance sound none = record {
+  elements = sound.elements;
+  own = sound.own;
+  everywhere = sound.everywhere;
+  schemes = sound.schemes;
+  hidden = sound.hidden;
+}
 
-pub sound-nothing : IsSound (record { elements = []; own = []; everywhere = []; schemes = []; hidden = []; noopener = false })
+pub sound-nothing : IsSound (record { elements = []; own = []; everywhere = []; schemes = []; hidden = []; noopener = false; balance = false })
 sound-nothing = record { elements = refl; own = refl; everywhere = refl; schemes = refl; hidden = refl }
 
 -- ---- what follows

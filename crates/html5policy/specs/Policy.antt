@@ -22,10 +22,12 @@ pub record PolicyOf : Type 0 where
   pub hidden : List (List ℕ)
   -- whether links get `rel="noopener"`
   pub noopener : Bool
+  -- whether each end tag closes the innermost open element, and the end of a page those that are still open
+  pub balance : Bool
 
 -- a policy that keeps text alone
 abbrev pub nothing_kept : PolicyOf
-nothing_kept = record { elements = []; own = []; everywhere = []; schemes = []; hidden = []; noopener = false }
+nothing_kept = record { elements = []; own = []; everywhere = []; schemes = []; hidden = []; noopener = false; balance = false }
 
 -- ---- elements
 

@@ -20,6 +20,8 @@ pub data RuleOf : Type 0 where
   Hidden : List ℕ → RuleOf
   -- links get `rel="noopener"`
   Noopener : RuleOf
+  -- each end tag closes the innermost open element, and the end of a page those that are still open
+  Balance : RuleOf
 
 -- ---- what is wrong with a rule
 
@@ -55,6 +57,7 @@ fault_of policy (Everywhere name) = attribute_fault name
 fault_of policy (Scheme scheme) = scheme_fault scheme
 fault_of policy (Hidden name) = hidden_fault policy.elements name
 fault_of policy Noopener = None
+fault_of policy Balance = None
 
 -- ---- a policy with one rule more
 
@@ -65,6 +68,7 @@ with_rule policy (Everywhere name) = record policy { everywhere = policy.everywh
 with_rule policy (Scheme scheme) = record policy { schemes = policy.schemes ++ scheme ∷ [] }
 with_rule policy (Hidden name) = record policy { hidden = policy.hidden ++ name ∷ [] }
 with_rule policy Noopener = record policy { noopener = true }
+with_rule policy Balance = record policy { balance = true }
 
 abbrev pub added_unless : PolicyOf → RuleOf → Option RuleError → Result PolicyOf RuleError
 added_unless policy rule None = Ok (with_rule policy rule)

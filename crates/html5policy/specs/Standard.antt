@@ -36,4 +36,5 @@ standard_policy = record {
   schemes = codes "http" ∷ codes "https" ∷ codes "mailto" ∷ [];
   hidden = [];
   noopener = false;
+  balance = false;
 }

@@ -4,7 +4,7 @@ use Rattle.std.specs.List.{slice_split}
 use Rattle.std.specs.Str.{bytes_eq}
 use Rattle.html5policy.specs.Policy.{PolicyOf, nothing_kept}
 use Rattle.html5policy.specs.Rules.{RuleOf, rule_added}
-use Rattle.html5policy.specs.Rules.RuleOf.{Element, Attribute, Everywhere, Scheme, Hidden, Noopener}
+use Rattle.html5policy.specs.Rules.RuleOf.{Element, Attribute, Everywhere, Scheme, Hidden, Noopener, Balance}
 use Rattle.html5policy.specs.declared.error.RuleError.{RuleError}
 use Rattle.html5policy.specs.declared.error.RuleError.TheVariants.{NoName, UnknownRule, WordTooMany}
 use Rattle.html5policy.specs.declared.error.PolicyError.{PolicyError}
@@ -50,6 +50,11 @@ unfoldable pub noopener_said : List (List ℕ) → Result (List RuleOf) RuleErro
 noopener_said [] = Ok (Noopener ∷ [])
 noopener_said (name ∷ names) = Err WordTooMany
 
+-- `balance`
+unfoldable pub balance_said : List (List ℕ) → Result (List RuleOf) RuleError
+balance_said [] = Ok (Balance ∷ [])
+balance_said (name ∷ names) = Err WordTooMany
+
 -- what the words of a line say after the first
 unfoldable pub rules_by_word : List ℕ → List (List ℕ) → Result (List RuleOf) RuleError
 rules_by_word word names =
@@ -59,6 +64,7 @@ rules_by_word word names =
     else if bytes_eq word (codes "schemes") then each_said Scheme names
     else if bytes_eq word (codes "hide") then each_said Hidden names
     else if bytes_eq word (codes "noopener") then noopener_said names
+    else if bytes_eq word (codes "balance") then balance_said names
     else Err UnknownRule
 
 unfoldable pub rules_said : List (List ℕ) → Result (List RuleOf) RuleError

@@ -76,6 +76,6 @@ pub fn fault_of<A: Allocator>(rules: &Rules<A>, rule: Rule<'_>) -> Option<RuleEr
         Rule::Everywhere(name) => attribute_fault(name),
         Rule::Scheme(scheme) => scheme_fault(scheme),
         Rule::Hidden(name) => hidden_fault(&rules.elements, name),
-        Rule::Noopener => None,
+        Rule::Noopener | Rule::Balance => None,
     }
 }

@@ -88,6 +88,14 @@ impl<A: Allocator> Policy<A> {
         self.rules.noopener && element == "a" && attribute == "rel"
     }
 
+    /// Whether a page that it keeps is balanced: each end tag closes the innermost open element, and at
+    /// the end none is open.
+    pub fn balances(&self) -> bool
+        ensures { result ≡ self.now.balance }
+    {
+        self.rules.balance
+    }
+
     // Whether an attribute of this name is kept in elements of that name.
     fn is_named(&self, element: &str, attribute: &str) -> bool
         ensures { result ≡ is_named self.now element.now attribute.now }

@@ -15,4 +15,6 @@ pub enum Rule<'t> {
     Hidden(&'t str),
     /// An `a` with an `href` gets `rel="noopener"`.
     Noopener,
+    /// Each end tag closes the innermost open element, and at the end of a page none is open.
+    Balance,
 }

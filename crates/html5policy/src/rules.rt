@@ -23,6 +23,7 @@ pub struct Rules<A: Allocator> {
     pub schemes: Vec<String<A>, A>,
     pub hidden: Vec<String<A>, A>,
     pub noopener: bool,
+    pub balance: bool,
 }
 
 // Appends a name.
@@ -81,6 +82,7 @@ impl<A: Allocator + Copy> Rules<A> {
             schemes: Vec::new(alloc),
             hidden: Vec::new(alloc),
             noopener: false,
+            balance: false,
         }
     }
 
@@ -98,6 +100,10 @@ impl<A: Allocator + Copy> Rules<A> {
             Rule::Hidden(name) => push_name(alloc, &mut self.hidden, name),
             Rule::Noopener => {
                 self.noopener = true;
+                Ok(())
+            }
+            Rule::Balance => {
+                self.balance = true;
                 Ok(())
             }
         }

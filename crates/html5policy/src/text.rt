@@ -3,7 +3,7 @@ ghost use Rattle.std.specs.Prelude.{◌≡◌, ◌⊎◌, IfErr, IfOk, Ok, Err, 
 ghost use Rattle.html5policy.specs.Rules.{IsSound};
 ghost use Rattle.html5policy.specs.Code.{rule_of};
 ghost use Rattle.html5policy.specs.Adding.{Adds, AddsLine, naming};
-ghost use Rattle.html5policy.specs.Text.{allow_said, begins_remark, each_said, line_added, noopener_said, policy_said, rules_added, rules_by_word, said_added, words};
+ghost use Rattle.html5policy.specs.Text.{allow_said, balance_said, begins_remark, each_said, line_added, noopener_said, policy_said, rules_added, rules_by_word, said_added, words};
 ghost use Rattle.html5policy.specs.declared.error.RuleError.TheVariants.{Memory};
 
 use crate::error::{PolicyError, RuleError};
@@ -90,6 +90,17 @@ fn add_noopener<A: Allocator + Copy>(policy: &mut Policy<A>, names: &str) -> Res
     }
 }
 
+// Adds what is said of end tags.
+#[tactic(auto, unfolding(crate::specs::Text::balance_said, crate::specs::Text::rules_added))]
+fn add_balance<A: Allocator + Copy>(policy: &mut Policy<A>, names: &str) -> Result<(), RuleError>
+    ensures { Adds result (said_added policy.old (balance_said (words names.now))) policy.new }
+{
+    match next_word(names) {
+        Some(_) => Err(RuleError::WordTooMany),
+        None => policy.add(Rule::Balance),
+    }
+}
+
 // Whether a line with this first word says nothing.
 fn begins_remark(word: &str) -> bool
     ensures { result ≡ begins_remark word.now }
@@ -118,6 +129,7 @@ fn add_rules<A: Allocator + Copy>(
         "schemes" => add_some(policy, Naming::Schemes, names),
         "hide" => add_some(policy, Naming::Hidden, names),
         "noopener" => add_noopener(policy, names),
+        "balance" => add_balance(policy, names),
         _ => Err(RuleError::UnknownRule),
     }
 }
@@ -152,8 +164,8 @@ fn add_numbered<A: Allocator + Copy>(
 
 impl<A: Allocator + Copy> Policy<A> {
     /// The policy that a text says: a rule a line, its words separated by spaces. `allow ELEMENT
-    /// [ATTRIBUTE..]`, `everywhere ATTRIBUTE..`, `schemes SCHEME..`, `hide ELEMENT..` and `noopener`.
-    /// Empty lines, and lines that begin with `#`, say nothing.
+    /// [ATTRIBUTE..]`, `everywhere ATTRIBUTE..`, `schemes SCHEME..`, `hide ELEMENT..`, `noopener` and
+    /// `balance`. Empty lines, and lines that begin with `#`, say nothing.
     pub fn parse(alloc: A, text: &str) -> Result<Policy<A>, PolicyError>
         ensures said { IfOk result (λ policy. policy_said text.now ≡ Ok policy) }
         ensures fault { IfErr result (λ error. (error.fault ≡ Memory) ⊎ (policy_said text.now ≡ Err error)) }

@@ -23,6 +23,15 @@ page-more before bytes pieces piece page more can = record {
   can = list_all-append can_write pieces (piece ∷ []) ∙ rw (page.can, can) refl;
 }
 
+pub page-joined : (before more bytes : List ℕ) (pieces others : List Piece) → IsPage before pieces → IsPage more others → bytes ≡ before ++ more → IsPage bytes (pieces ++ others)
+page-joined before more bytes pieces others page other is = record {
+  text =
+      is
+      ∙ (λ i. page.text i ++ other.text i)
+      ∙ sym (ap encode_utf8_all (flat_map-append piece_text pieces others) ∙ encodes-append (page_text pieces) (page_text others));
+  can = list_all-append can_write pieces others ∙ rw (page.can, other.can) refl;
+}
+
 pub page-both : (before bytes : List ℕ) (pieces : List Piece) (first second : Piece) → IsPage before pieces
     → bytes ≡ before ++ (encode_utf8_all (piece_text first) ++ encode_utf8_all (piece_text second)) → can_write first ≡ true → can_write second ≡ true
     → IsPage bytes ((pieces ++ first ∷ []) ++ second ∷ [])

@@ -32,6 +32,20 @@ impl Trail {
         Trail {}
     }
 
+    // The trail `_before` with that of `_more` after it, which is not read.
+    fn joined(_before: &Trail, _more: &Trail) -> Trail
+        ensures { result.pieces ≡ _before.now.pieces ++ _more.now.pieces }
+    {
+        Trail {}
+    }
+
+    /// Adds the pieces of another trail, which is not read.
+    pub fn add_all(&mut self, other: &Trail)
+        ensures { self.new.pieces ≡ self.old.pieces ++ other.now.pieces }
+    {
+        *self = Trail::joined(self, other);
+    }
+
     /// Adds the piece, which is not read.
     pub fn add(&mut self, piece: &Piece<'_>)
         ensures { self.new.pieces ≡ self.old.pieces ++ piece_of piece.now ∷ [] }

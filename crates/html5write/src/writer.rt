@@ -101,6 +101,17 @@ impl<A: Allocator + Copy> Writer<A> {
         Ok(())
     }
 
+    /// Writes the pieces of another page after the others: all of them, or none where memory is refused.
+    pub fn append(&mut self, other: &Writer<A>) -> Result<(), WriteError>
+        ensures written { OnOk result (self.new ≡ self.old ++ other.now) }
+        ensures unchanged { OnErr result (self.new ≡ self.old) }
+        ensures memory { IsOkUnless result Memory }
+    {
+        self.page.push_str(other.page.as_str())?;
+        self.trail.add_all(&other.trail);
+        Ok(())
+    }
+
     /// Writes a text, as it is to be read.
     pub fn text(&mut self, text: &str) -> Result<(), WriteError>
         ensures { Writes result self.old self.new (TextPiece (chars text.now)) }

@@ -4,6 +4,8 @@
 #[cfg(test)]
 mod addresses;
 #[cfg(test)]
+mod balance;
+#[cfg(test)]
 mod memory;
 #[cfg(test)]
 mod pages;

@@ -194,8 +194,31 @@ fn takes_each_rule(rt: HostRuntime) {
     }
 }
 
+// Texts, and whether a policy that one says balances.
+const BALANCING: [(&str, bool); 6] = [
+    ("", false),
+    ("allow p\nnoopener", false),
+    ("# balance", false),
+    ("balance", true),
+    ("  balance  \nallow p\n", true),
+    ("balance\nbalance", true),
+];
+
+#[test]
+fn says_whether_it_balances(rt: HostRuntime) {
+    for (text, balances) in BALANCING {
+        let policy = Policy::parse(rt.alloc(), text).expect(&rt, "a policy");
+        assert_eq!(rt; policy.balances(), balances, "{text}");
+    }
+    assert!(rt;
+        !Policy::standard(rt.alloc())
+            .expect(&rt, "memory")
+            .balances()
+    );
+}
+
 // Texts, and the first fault of each with its line.
-const FAULTS: [(&str, u64, RuleError); 34] = [
+const FAULTS: [(&str, u64, RuleError); 37] = [
     ("permit p", 1, RuleError::UnknownRule),
     ("ALLOW p", 1, RuleError::UnknownRule),
     ("allow p\nwrong", 2, RuleError::UnknownRule),
@@ -205,6 +228,13 @@ const FAULTS: [(&str, u64, RuleError); 34] = [
     ("allow p\nhide\nwrong", 2, RuleError::NoName),
     ("everywhere", 1, RuleError::NoName),
     ("noopener a", 1, RuleError::WordTooMany),
+    ("balance x", 1, RuleError::WordTooMany),
+    (
+        "allow p\nnoopener\nbalance balance",
+        3,
+        RuleError::WordTooMany,
+    ),
+    ("Balance", 1, RuleError::UnknownRule),
     ("allow P", 1, RuleError::ElementName),
     ("allow 1", 1, RuleError::ElementName),
     ("allow a/b", 1, RuleError::ElementName),
@@ -253,7 +283,7 @@ fn says_what_is_wrong(rt: HostRuntime) {
 }
 
 const TEXT: &str =
-    "allow a href rel\nallow p title\neverywhere lang dir\nschemes http mailto\nhide form\nnoopener\n";
+    "allow a href rel\nallow p title\neverywhere lang dir\nschemes http mailto\nhide form\nnoopener\nbalance\n";
 
 #[test]
 fn a_refused_growth_is_answered(rt: HostRuntime) {
@@ -264,6 +294,7 @@ fn a_refused_growth_is_answered(rt: HostRuntime) {
             Ok(policy) => {
                 assert!(rt; !heap.has_refused(), "after {admitted} requests");
                 assert!(rt; policy.is_kept("a", "href", "mailto:x") && policy.hides("form"));
+                assert!(rt; policy.balances());
                 finished = true;
                 break;
             }

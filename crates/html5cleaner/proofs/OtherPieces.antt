@@ -1,0 +1,96 @@
+-- By the rule `balance` only end tags come and go.
+use Rattle.std.proofs.Common.{◌≡◌, ℕ, List, [], ◌∷◌, ◌++◌, filter, refl, ap, sym, ◌∙◌}
+use Rattle.std.proofs.lemmas.List.Elements.{filter-append}
+use Rattle.html5ever_interface.specs.Sink.{Message, stepped}
+use Rattle.html5ever_interface.specs.Token.{Told}
+use Rattle.html5ever_interface.specs.Token.Told.{Text, Null, Error, Tag, Comment, Instruction, Doctype, End}
+use Rattle.html5sinks.specs.Runs.{Joined, Running, joined_step, runs_step}
+use Rattle.html5stream.specs.Pages.{runs_handed, runs_page, runs_start}
+use Rattle.markup5ever.specs.NamedReferences.{NamedReference}
+use Rattle.html5policy.specs.Policy.{PolicyOf, hides, is_allowed, is_kept}
+use Rattle.html5write.specs.Pieces.{Piece}
+use Rattle.html5cleaner.specs.Balance.{is_end, is_no_end_tag, without_balance, written_by}
+use Rattle.html5cleaner.specs.Clean.{Cleaned, Hidden, at_start, clean_step, hidden_after, kept_attributes, kept_of_parts, kept_of_tag, kept_where}
+use Rattle.html5cleaner.proofs.Balancing.{written-others}
+use Rattle.html5cleaner.proofs.SameReadings.{page-same}
+
+-- what is kept does not depend on the rule, and what is hidden doesn't either
+same-kept : (policy : PolicyOf) (depth : ℕ) (run : List ℕ) (told : Told) → kept_where policy depth run told ≡ kept_where (without_balance policy) depth run told
+unfolding kept_of_tag kept_of_parts kept_attributes is_kept is_allowed
+same-kept policy depth run (Tag tag) = refl
+same-kept policy depth run other = refl
+
+same-hidden : (policy : PolicyOf) (hidden : Hidden) (told : Told) → hidden_after policy hidden told ≡ hidden_after (without_balance policy) hidden told
+unfolding hides
+same-hidden policy hidden (Tag tag) = refl
+same-hidden policy hidden other = refl
+
+-- where a handler stands, and one by the same policy without the rule
+record IsTwin (policy : PolicyOf) (c twin : Cleaned) : Type 0 where
+  keeps : c.policy ≡ policy
+  plain : twin.policy ≡ without_balance policy
+  hidden : c.hidden ≡ twin.hidden
+  others : filter is_no_end_tag c.pieces ≡ filter is_no_end_tag twin.pieces
+
+twin-step : (policy : PolicyOf) (c twin : Cleaned) (run : List ℕ) (told : Told) (line : ℕ) → IsTwin policy c twin → IsTwin policy (clean_step c run told line) (clean_step twin run told line)
+twin-step policy c twin run told line t =
+    let kept : List Piece = kept_where c.policy c.hidden.depth run told in
+    let other : List Piece = kept_where twin.policy twin.hidden.depth run told in
+    let same : kept ≡ other =
+    (λ i. kept_where (t.keeps i) (t.hidden i).depth run told) ∙ same-kept policy twin.hidden.depth run told ∙ ap (λ p. kept_where p twin.hidden.depth run told) (sym t.plain) in
+    record {
+      keeps = t.keeps;
+      plain = t.plain;
+      hidden = (λ i. hidden_after (t.keeps i) (t.hidden i) told) ∙ same-hidden policy twin.hidden told ∙ ap (λ p. hidden_after p twin.hidden told) (sym t.plain);
+      others =
+          filter-append is_no_end_tag c.pieces (written_by c.policy.balance (is_end told) c.opened kept)
+          ∙ (λ i. t.others i ++ written-others c.policy.balance (is_end told) c.opened kept i)
+          ∙ ap (λ l. filter is_no_end_tag twin.pieces ++ filter is_no_end_tag l) same
+          ∙ ap (λ l. filter is_no_end_tag twin.pieces ++ l) (sym (written-others twin.policy.balance (is_end told) twin.opened other))
+          ∙ sym (filter-append is_no_end_tag twin.pieces (written_by twin.policy.balance (is_end told) twin.opened other));
+    }
+
+-- the same of handlers to which one text waits
+record AreTwins (policy : PolicyOf) (j twin : Joined Cleaned) : Type 0 where
+  run : j.run ≡ twin.run
+  handler : IsTwin policy j.handler twin.handler
+
+twins-after : (policy : PolicyOf) (j twin : Joined Cleaned) (told : Told) (line : ℕ) → AreTwins policy j twin
+    → AreTwins policy (record { handler = clean_step j.handler j.run told line; run = [] }) (record { handler = clean_step twin.handler twin.run told line; run = [] })
+twins-after policy j twin told line t = record {
+  run = refl;
+  handler = rw (sym t.run) (twin-step policy j.handler twin.handler j.run told line t.handler);
+}
+
+twins-joined : (policy : PolicyOf) (j twin : Joined Cleaned) (told : Told) (line : ℕ) → AreTwins policy j twin → AreTwins policy (joined_step clean_step j told line) (joined_step clean_step twin told line)
+twins-joined policy j twin (Text text) line t = record { run = ap (λ l. l ++ text) t.run; handler = t.handler }
+twins-joined policy j twin (Error message) line t = record { run = t.run; handler = twin-step policy j.handler twin.handler [] (Error message) line t.handler }
+twins-joined policy j twin Null line t = twins-after policy j twin Null line t
+twins-joined policy j twin (Tag tag) line t = twins-after policy j twin (Tag tag) line t
+twins-joined policy j twin (Comment text) line t = twins-after policy j twin (Comment text) line t
+twins-joined policy j twin (Instruction content) line t = twins-after policy j twin (Instruction content) line t
+twins-joined policy j twin (Doctype doctype) line t = twins-after policy j twin (Doctype doctype) line t
+twins-joined policy j twin End line t = twins-after policy j twin End line t
+
+twins-stepped : (policy : PolicyOf) (r twin : Running Cleaned) (M : List Message) → AreTwins policy r.joined twin.joined
+    → AreTwins policy (stepped (runs_step clean_step) r M).joined (stepped (runs_step clean_step) twin M).joined
+unfolding stepped
+twins-stepped policy r twin [] t = t
+twins-stepped policy r twin (m ∷ M) t =
+    twins-stepped policy (runs_step clean_step r m.token m.line) (runs_step clean_step twin m.token m.line) M (twins-joined policy r.joined twin.joined m.token m.line t)
+
+twins-handed : (policy : PolicyOf) (M : List Message)
+    → filter is_no_end_tag (runs_handed clean_step (at_start policy) M).pieces ≡ filter is_no_end_tag (runs_handed clean_step (at_start (without_balance policy)) M).pieces
+unfolding runs_handed
+twins-handed policy M =
+    (twins-stepped policy (runs_start (at_start policy)) (runs_start (at_start (without_balance policy))) M
+    (record { run = refl; handler = record { keeps = refl; plain = refl; hidden = refl; others = refl } })).handler.others
+
+-- of a page whose bytes are given
+pub same-others : (policy : PolicyOf) (names : List NamedReference) (bytes : List ℕ)
+    → filter is_no_end_tag (runs_handed clean_step (at_start policy) (runs_page clean_step names (at_start policy) bytes)).pieces
+    ≡ filter is_no_end_tag (runs_handed clean_step (at_start (without_balance policy)) (runs_page clean_step names (at_start (without_balance policy)) bytes)).pieces
+same-others policy names bytes =
+    twins-handed policy (runs_page clean_step names (at_start policy) bytes)
+    ∙ ap (λ M. filter is_no_end_tag (runs_handed clean_step (at_start (without_balance policy)) M).pieces)
+    (page-same clean_step clean_step names (at_start policy) (at_start (without_balance policy)) bytes)

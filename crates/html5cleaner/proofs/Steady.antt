@@ -1,0 +1,279 @@
+-- What is written is steady: what is read of it is kept as it is.
+use Rattle.std.proofs.Common.{◌≡◌, ℕ, zero, suc, Bool, true, false, List, [], ◌∷◌, ◌++◌, filter, map, take, chars, refl, ap, sym, ◌∙◌, subst}
+use Rattle.std.specs.Prelude.{◌==◌, ◌&&◌, ◌||◌, not, codes, encode_utf8_all, if◌then◌else◌}
+use Rattle.std.specs.List.{list_all, list_any}
+use Rattle.std.proofs.lemmas.Bool.{false≢true}
+use Rattle.std.proofs.lemmas.List.{append-nil, take-map}
+use Rattle.std.proofs.lemmas.List.Elements.{filter-append}
+use Rattle.html5ever_interface.specs.Sink.{Message, stepped}
+use Rattle.html5ever_interface.specs.Token.{Told, TagOf}
+use Rattle.html5ever_interface.specs.Token.Told.{Text, Null, Error, Tag, Comment, Instruction, Doctype, End}
+use Rattle.html5ever_interface.specs.declared.interface.token.TagKind.{TagKind}
+use Rattle.html5ever_interface.specs.declared.interface.token.TagKind.TheVariants.{StartTag, EndTag}
+use Rattle.html5sinks.specs.Runs.{Joined, Running, joined_step, runs_step}
+use Rattle.html5policy.specs.Addresses.{is_safe_address}
+use Rattle.html5policy.specs.Names.{always_hides, is_address, is_one_of}
+use Rattle.html5policy.specs.Policy.{PolicyOf, hides, is_allowed, is_kept, is_named, is_rel_of_link}
+use Rattle.html5policy.specs.Rules.{IsSound}
+use Rattle.html5policy.proofs.Soundness.{allowed-may_keep, allowed-shows}
+use Rattle.html5write.specs.Pieces.{NameAndValue, Piece, can_write, has_no_null, is_tag_name}
+use Rattle.html5write.specs.Pieces.Piece.{TextPiece, StartTagPiece, EndTagPiece, CommentPiece}
+use Rattle.html5write.specs.Told.{attribute_told, end_tag_told, start_tag_told}
+use Rattle.html5cleaner.specs.Allowed.{is_allowed_piece, is_clean, is_kept_attribute}
+use Rattle.html5cleaner.specs.Balance.{all_balanced, all_open_after, balanced, end_tags, is_end, open_after, written_by}
+use Rattle.html5cleaner.specs.Open.{closed_by}
+use Rattle.html5stream.specs.Pages.{runs_handed, runs_start}
+use Rattle.html5cleaner.specs.Clean.{Cleaned, adds_noopener, at_start, allows_by_kind, attribute_chars, clean_step, is_href, kept, kept_attributes, kept_of_parts, kept_of_run, kept_of_tag, kept_of_token, kept_where, noopener_attribute, opens, piece_by_kind, where_writable, with_noopener}
+use Rattle.html5cleaner.specs.Elements.{is_empty_element}
+use Rattle.html5cleaner.proofs.Encoded.{chars-encoded}
+use lib.Utf8.{encode}
+use Rattle.html5cleaner.proofs.Replies.{and-left, and-right}
+use Rattle.html5cleaner.proofs.CleanBalanced.{CanClose, all_can-close, can-close-after, can-close-by}
+use Rattle.html5cleaner.proofs.CleanPieces.{clean-where_shown}
+use Rattle.html5cleaner.proofs.Printing.{policy-handed, policy-joined}
+
+-- ---- attributes that were kept
+
+filter-next : {X : Type 0} (p : X → Bool) (x : X) (xs : List X) (keeps : Bool) → p x ≡ keeps → filter p (filter p xs) ≡ filter p xs → filter p (filter p (x ∷ xs)) ≡ filter p (x ∷ xs)
+filter-next p x xs true is later = rw (is, is) (ap (λ l. x ∷ l) later)
+filter-next p x xs false is later = rw is later
+
+filter-again : {X : Type 0} (p : X → Bool) (xs : List X) → filter p (filter p xs) ≡ filter p xs
+filter-again p [] = refl
+filter-again p (x ∷ xs) = filter-next p x xs (p x) refl (filter-again p xs)
+
+rel-bytes : encode_utf8_all (codes "rel") ≡ codes "rel"
+unfolding encode
+rel-bytes = refl
+
+never-named : (named other : Bool) → (named && (not true && other)) ≡ false
+never-named true other = refl
+never-named false other = refl
+
+-- the `rel` of a link, for which the policy has a value of its own, is not kept
+rel-not_kept : (policy : PolicyOf) (element : List ℕ) → is_rel_of_link policy (encode_utf8_all element) (codes "rel") ≡ true → is_kept_attribute policy element noopener_attribute ≡ false
+unfolding is_kept
+rel-not_kept policy element is =
+    let named : Bool = is_named policy (encode_utf8_all element) (codes "rel") in
+    let other : Bool = not (is_address (codes "rel")) || is_safe_address policy.schemes (encode_utf8_all (codes "noopener")) in
+    ap (λ rel. is_kept policy (encode_utf8_all element) rel (encode_utf8_all (codes "noopener"))) rel-bytes
+    ∙ ap (λ (b : Bool). named && (not b && other)) is
+    ∙ never-named named other
+
+-- whether `rel` is written after them is the same the second time
+again-by_test : (policy : PolicyOf) (element : List ℕ) (attributes : List NameAndValue) (adds : Bool)
+    → adds_noopener policy element (filter (is_kept_attribute policy element) attributes) ≡ adds
+    → with_noopener policy element (filter (is_kept_attribute policy element)
+    (if adds then filter (is_kept_attribute policy element) attributes ++ noopener_attribute ∷ [] else filter (is_kept_attribute policy element) attributes))
+    ≡ (if adds then filter (is_kept_attribute policy element) attributes ++ noopener_attribute ∷ [] else filter (is_kept_attribute policy element) attributes)
+again-by_test policy element attributes false is =
+    let p = is_kept_attribute policy element in
+    ap (with_noopener policy element) (filter-again p attributes)
+    ∙ ap (λ (b : Bool). if b then filter p attributes ++ noopener_attribute ∷ [] else filter p attributes) is
+again-by_test policy element attributes true is =
+    let p = is_kept_attribute policy element in
+    let F : List NameAndValue = filter p attributes in
+    let rel = rel-not_kept policy element (and-left (is_rel_of_link policy (encode_utf8_all element) (codes "rel")) (list_any is_href F) is) in
+    ap (with_noopener policy element)
+    (filter-append p F (noopener_attribute ∷ [])
+    ∙ (λ i. filter-again p attributes i ++ (if rel i then noopener_attribute ∷ [] else []))
+    ∙ append-nil F)
+    ∙ ap (λ (b : Bool). if b then F ++ noopener_attribute ∷ [] else F) is
+
+attributes-again : (policy : PolicyOf) (element : List ℕ) (attributes : List NameAndValue)
+    → kept_attributes policy element (kept_attributes policy element attributes) ≡ kept_attributes policy element attributes
+unfolding kept_attributes
+attributes-again policy element attributes = again-by_test policy element attributes (adds_noopener policy element (filter (is_kept_attribute policy element) attributes)) refl
+
+-- ---- pieces that stay
+
+chars-told : (a : NameAndValue) → attribute_chars (attribute_told a) ≡ a
+chars-told a = λ i. record { name = chars-encoded a.name i; value = chars-encoded a.value i }
+
+chars-all_told : (attributes : List NameAndValue) → map attribute_chars (map attribute_told attributes) ≡ attributes
+chars-all_told [] = refl
+chars-all_told (a ∷ attributes) = λ i. chars-told a i ∷ chars-all_told attributes i
+
+-- what is read of the piece is kept as this piece, and hides nothing
+abbrev pub IsSteady : PolicyOf → Piece → Type 0
+IsSteady policy (TextPiece text) = has_no_null text ≡ true
+IsSteady policy (StartTagPiece name attributes) =
+    (kept_of_tag policy (start_tag_told name attributes) ≡ StartTagPiece name attributes ∷ []) × (opens policy (start_tag_told name attributes) ≡ false)
+IsSteady policy (EndTagPiece name) = kept_of_tag policy (end_tag_told name) ≡ EndTagPiece name ∷ []
+IsSteady policy (CommentPiece text) = ⊥
+
+abbrev pub AreSteady : PolicyOf → List Piece → Type 0
+AreSteady policy [] = Unit {0}
+AreSteady policy (piece ∷ pieces) = IsSteady policy piece × AreSteady policy pieces
+
+steady-append : (policy : PolicyOf) (xs ys : List Piece) → AreSteady policy xs → AreSteady policy ys → AreSteady policy (xs ++ ys)
+steady-append policy [] ys f g = g
+steady-append policy (x ∷ xs) ys f g = (f.0, steady-append policy xs ys f.1 g)
+
+-- an element that is kept does not hide what stands in it
+not-hidden : (always listed : Bool) → (not always && not listed) ≡ true → always ≡ false → (always || listed) ≡ false
+not-hidden always false both shows = rw shows refl
+not-hidden always true both shows = absurd (false≢true (sym (ap (λ b. not b && false) shows) ∙ both))
+
+allowed-shown : (policy : PolicyOf) (name : List ℕ) → IsSound policy → is_allowed policy name ≡ true → hides policy name ≡ false
+unfolding hides
+allowed-shown policy name sound allowed =
+    not-hidden (always_hides name) (is_one_of policy.hidden name)
+    (and-right (is_tag_name (chars name)) (not (always_hides name) && not (is_one_of policy.hidden name)) (allowed-may_keep policy name sound allowed))
+    (allowed-shows policy name sound allowed)
+
+kept-parts : (policy : PolicyOf) (kind : TagKind) (name : List ℕ) (attributes : List NameAndValue) → allows_by_kind policy kind (encode_utf8_all name) ≡ true
+    → can_write (piece_by_kind kind name attributes) ≡ true → kept_of_parts policy kind name attributes ≡ piece_by_kind kind name attributes ∷ []
+unfolding kept_of_parts
+kept-parts policy kind name attributes allowed can =
+    ap (λ allows. if allows then where_writable (piece_by_kind kind name attributes) else []) allowed
+    ∙ ap (λ writable. if writable then piece_by_kind kind name attributes ∷ [] else []) can
+
+steady-kind : (policy : PolicyOf) → IsSound policy → (kind : TagKind) (name : List ℕ) (attributes : List NameAndValue) → kept_attributes policy name attributes ≡ attributes
+    → allows_by_kind policy kind (encode_utf8_all name) ≡ true → can_write (piece_by_kind kind name attributes) ≡ true → IsSteady policy (piece_by_kind kind name attributes)
+unfolding kept_of_tag
+steady-kind policy sound StartTag name attributes same allowed can = (
+  (λ i. kept_of_parts policy StartTag (chars-encoded name i) (kept_attributes policy (chars-encoded name i) (chars-all_told attributes i)))
+      ∙ ap (kept_of_parts policy StartTag name) same
+      ∙ kept-parts policy StartTag name attributes allowed can,
+  ap (λ hidden. hidden && not (is_empty_element (encode_utf8_all name) false)) (allowed-shown policy (encode_utf8_all name) sound allowed),
+)
+steady-kind policy sound EndTag name attributes same allowed can =
+    (λ i. kept_of_parts policy EndTag (chars-encoded name i) (kept_attributes policy (chars-encoded name i) []))
+    ∙ kept-parts policy EndTag name (kept_attributes policy name []) allowed can
+
+steady-by_tests : (policy : PolicyOf) → IsSound policy → (kind : TagKind) (name : List ℕ) (attributes : List NameAndValue) (allows writable : Bool)
+    → kept_attributes policy name attributes ≡ attributes → allows_by_kind policy kind (encode_utf8_all name) ≡ allows → can_write (piece_by_kind kind name attributes) ≡ writable
+    → AreSteady policy (if allows then (if writable then piece_by_kind kind name attributes ∷ [] else []) else [])
+steady-by_tests policy sound kind name attributes true true same allowed can = (steady-kind policy sound kind name attributes same allowed can, tt)
+steady-by_tests policy sound kind name attributes true false same allowed can = tt
+steady-by_tests policy sound kind name attributes false writable same allowed can = tt
+
+steady-parts : (policy : PolicyOf) → IsSound policy → (kind : TagKind) (name : List ℕ) (attributes : List NameAndValue) → kept_attributes policy name attributes ≡ attributes
+    → AreSteady policy (kept_of_parts policy kind name attributes)
+unfolding kept_of_parts
+steady-parts policy sound kind name attributes same =
+    steady-by_tests policy sound kind name attributes (allows_by_kind policy kind (encode_utf8_all name)) (can_write (piece_by_kind kind name attributes)) same refl refl
+
+steady-tag : (policy : PolicyOf) → IsSound policy → (tag : TagOf) → AreSteady policy (kept_of_tag policy tag)
+unfolding kept_of_tag
+steady-tag policy sound tag =
+    steady-parts policy sound tag.kind (chars tag.name) (kept_attributes policy (chars tag.name) (map attribute_chars tag.attributes))
+    (attributes-again policy (chars tag.name) (map attribute_chars tag.attributes))
+
+steady-text : (policy : PolicyOf) (text : List ℕ) (writable : Bool) → has_no_null text ≡ writable → AreSteady policy (if writable then TextPiece text ∷ [] else [])
+steady-text policy text true is = (is, tt)
+steady-text policy text false is = tt
+
+steady-run : (policy : PolicyOf) (run : List ℕ) → AreSteady policy (kept_of_run run)
+unfolding kept_of_run
+steady-run policy [] = tt
+steady-run policy (byte ∷ run) = steady-text policy (chars (byte ∷ run)) (has_no_null (chars (byte ∷ run))) refl
+
+steady-token : (policy : PolicyOf) → IsSound policy → (told : Told) → AreSteady policy (kept_of_token policy told)
+steady-token policy sound (Tag tag) = steady-tag policy sound tag
+steady-token policy sound (Text text) = tt
+steady-token policy sound Null = tt
+steady-token policy sound (Error message) = tt
+steady-token policy sound (Comment text) = tt
+steady-token policy sound (Instruction content) = tt
+steady-token policy sound (Doctype doctype) = tt
+steady-token policy sound End = tt
+
+steady-shown : (policy : PolicyOf) → IsSound policy → (depth : ℕ) (run : List ℕ) (told : Told) → AreSteady policy (kept_where policy depth run told)
+steady-shown policy sound depth run told = by-test (depth == 0)
+  where
+    by-test : (shown : Bool) → AreSteady policy (if shown then kept policy run told else [])
+    by-test true = steady-append policy (kept_of_run run) (kept_of_token policy told) (steady-run policy run) (steady-token policy sound told)
+    by-test false = tt
+
+-- ---- end tags of open elements
+
+steady-end_tag : (policy : PolicyOf) → IsSound policy → (name : List ℕ) → is_clean policy (EndTagPiece name) ≡ true → IsSteady policy (EndTagPiece name)
+unfolding is_allowed_piece
+steady-end_tag policy sound name clean =
+    steady-kind policy sound EndTag name (kept_attributes policy name []) (attributes-again policy name [])
+    (and-left (is_allowed_piece policy (EndTagPiece name)) (can_write (EndTagPiece name)) clean)
+    (and-right (is_allowed_piece policy (EndTagPiece name)) (can_write (EndTagPiece name)) clean)
+
+steady-end_tags : (policy : PolicyOf) → IsSound policy → (names : List (List ℕ)) → CanClose policy names → AreSteady policy (end_tags names)
+steady-end_tags policy sound [] can = tt
+steady-end_tags policy sound (name ∷ names) can = (
+  steady-end_tag policy sound name (and-left (is_clean policy (EndTagPiece name)) (list_all (is_clean policy) (end_tags names)) can),
+  steady-end_tags policy sound names (and-right (is_clean policy (EndTagPiece name)) (list_all (is_clean policy) (end_tags names)) can),
+)
+
+steady-taken : (policy : PolicyOf) (count : ℕ) (pieces : List Piece) → AreSteady policy pieces → AreSteady policy (take count pieces)
+steady-taken policy zero pieces are = tt
+steady-taken policy (suc count) [] are = tt
+steady-taken policy (suc count) (piece ∷ pieces) are = (are.0, steady-taken policy count pieces are.1)
+
+steady-balanced : (policy : PolicyOf) → IsSound policy → (opened : List (List ℕ)) (piece : Piece) → CanClose policy opened → IsSteady policy piece → AreSteady policy (balanced opened piece)
+unfolding balanced
+steady-balanced policy sound opened (StartTagPiece name attributes) can steady = (steady, tt)
+steady-balanced policy sound opened (EndTagPiece name) can steady =
+    subst (λ pieces. AreSteady policy pieces) (take-map EndTagPiece (closed_by opened name) opened)
+    (steady-taken policy (closed_by opened name) (end_tags opened) (steady-end_tags policy sound opened can))
+steady-balanced policy sound opened (TextPiece text) can steady = (steady, tt)
+steady-balanced policy sound opened (CommentPiece text) can steady = absurd steady
+
+steady-all_balanced : (policy : PolicyOf) → IsSound policy → (opened : List (List ℕ)) (pieces : List Piece) → CanClose policy opened → list_all (is_clean policy) pieces ≡ true
+    → AreSteady policy pieces → AreSteady policy (all_balanced opened pieces)
+unfolding all_balanced
+steady-all_balanced policy sound opened [] can clean are = tt
+steady-all_balanced policy sound opened (piece ∷ pieces) can clean are =
+    steady-append policy (balanced opened piece) (all_balanced (open_after opened piece) pieces) (steady-balanced policy sound opened piece can are.0)
+    (steady-all_balanced policy sound (open_after opened piece) pieces
+    (can-close-after policy opened piece can (and-left (is_clean policy piece) (list_all (is_clean policy) pieces) clean))
+    (and-right (is_clean policy piece) (list_all (is_clean policy) pieces) clean) are.1)
+
+steady-written : (policy : PolicyOf) → IsSound policy → (balance ends : Bool) (opened : List (List ℕ)) (pieces : List Piece) → CanClose policy opened → list_all (is_clean policy) pieces ≡ true
+    → AreSteady policy pieces → AreSteady policy (written_by balance ends opened pieces)
+unfolding written_by
+steady-written policy sound true true opened pieces can clean are =
+    steady-append policy (all_balanced opened pieces) (end_tags (all_open_after opened pieces)) (steady-all_balanced policy sound opened pieces can clean are)
+    (steady-end_tags policy sound (all_open_after opened pieces) (all_can-close policy opened pieces can clean))
+steady-written policy sound true false opened pieces can clean are =
+    steady-append policy (all_balanced opened pieces) [] (steady-all_balanced policy sound opened pieces can clean are) tt
+steady-written policy sound false ends opened pieces can clean are = are
+
+-- ---- what a handler wrote
+
+-- it is steady, and the end tags of what is open are clean
+record IsSteadyPage (c : Cleaned) : Type 0 where
+  steady : AreSteady c.policy c.pieces
+  can : CanClose c.policy c.opened
+
+steady-step : (c : Cleaned) (run : List ℕ) (told : Told) (line : ℕ) → IsSound c.policy → IsSteadyPage c → IsSteadyPage (clean_step c run told line)
+steady-step c run told line sound s =
+    let kept : List Piece = kept_where c.policy c.hidden.depth run told in
+    let clean = clean-where_shown c.policy c.hidden.depth run told in
+    record {
+      steady = steady-append c.policy c.pieces (written_by c.policy.balance (is_end told) c.opened kept) s.steady
+          (steady-written c.policy sound c.policy.balance (is_end told) c.opened kept s.can clean (steady-shown c.policy sound c.hidden.depth run told));
+      can = can-close-by c.policy c.policy.balance (is_end told) c.opened kept s.can clean;
+    }
+
+steady-joined : (j : Joined Cleaned) (told : Told) (line : ℕ) → IsSound j.handler.policy → IsSteadyPage j.handler → IsSteadyPage (joined_step clean_step j told line).handler
+steady-joined j (Text text) line sound s = s
+steady-joined j (Error message) line sound s = steady-step j.handler [] (Error message) line sound s
+steady-joined j Null line sound s = steady-step j.handler j.run Null line sound s
+steady-joined j (Tag tag) line sound s = steady-step j.handler j.run (Tag tag) line sound s
+steady-joined j (Comment text) line sound s = steady-step j.handler j.run (Comment text) line sound s
+steady-joined j (Instruction content) line sound s = steady-step j.handler j.run (Instruction content) line sound s
+steady-joined j (Doctype doctype) line sound s = steady-step j.handler j.run (Doctype doctype) line sound s
+steady-joined j End line sound s = steady-step j.handler j.run End line sound s
+
+steady-stepped : (r : Running Cleaned) (M : List Message) → IsSound r.joined.handler.policy → IsSteadyPage r.joined.handler → IsSteadyPage (stepped (runs_step clean_step) r M).joined.handler
+unfolding stepped
+steady-stepped r [] sound s = s
+steady-stepped r (m ∷ M) sound s =
+    steady-stepped (runs_step clean_step r m.token m.line) M (subst (λ (p : PolicyOf). IsSound p) (sym (policy-joined r.joined m.token m.line)) sound)
+    (steady-joined r.joined m.token m.line sound s)
+
+-- the pieces that were written of messages
+pub steady-handed : (policy : PolicyOf) → IsSound policy → (M : List Message) → AreSteady policy (runs_handed clean_step (at_start policy) M).pieces
+unfolding runs_handed
+steady-handed policy sound M =
+    subst (λ (p : PolicyOf). AreSteady p (runs_handed clean_step (at_start policy) M).pieces) (policy-handed policy M)
+    (steady-stepped (runs_start (at_start policy)) M sound (record { steady = tt; can = refl })).steady
