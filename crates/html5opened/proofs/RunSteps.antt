@@ -1,6 +1,6 @@
 -- A run is read as its characters are, one by one.
 use Rattle.std.proofs.Common.{inl, inr, ◌≡◌, ◌≢◌, ℕ, false, List, [], ◌∷◌, ◌++◌, refl, ap, sym, ◌∙◌, None, Some, lit<, length, get_or, ◌<◌, arith, subst}
-use Rattle.std.specs.Prelude.{Bool, true, ◌⊎◌, All, Contains, flat_map, encode_utf8, encode_utf8_all, codes, ◌==◌}
+use Rattle.std.specs.Prelude.{Bool, ◌⊎◌, All, Contains, flat_map, encode_utf8, encode_utf8_all, codes, ◌==◌}
 use Rattle.std.proofs.lemmas.Bool.{ne_eqb, false≢true}
 use Rattle.std.proofs.Math.Bool.{and-false}
 use Rattle.std.proofs.lemmas.List.Elements.{All-head, All-tail}

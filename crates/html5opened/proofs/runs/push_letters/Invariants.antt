@@ -3,7 +3,7 @@ use Rattle.std.specs.Prelude.{flat_map}
 use Rattle.std.specs.Str.{IsUtf8, chars}
 use Rattle.std.specs.Str.Iter.{chars_rest}
 use Rattle.html5grammar.specs.Characters.{name_bytes}
-use Rattle.html5opened.proofs.runs.push_names.Given as goal
+use Rattle.html5opened.proofs.runs.push_letters.Given as goal
 
 -- the name and what the iterator has left are the name before and the run
 abbrev pub invariant-loop-c : goal.invariant-loop-c
