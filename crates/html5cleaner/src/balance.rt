@@ -157,7 +157,7 @@ pub fn write_balanced<A: Allocator + Copy>(
         (all_open_after opened.old (kept_of_run run.now ++ piece_where tag.entry)) }
 {
     match tag {
-        Some(tag) => write_piece(alloc, opened, page, run, tag),
         None => write_plain(page, run, None),
+        Some(tag) => write_piece(alloc, opened, page, run, tag),
     }
 }
