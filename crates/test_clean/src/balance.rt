@@ -1,11 +1,11 @@
 //! Pages that are cleaned by a policy that balances, however they are cut.
-use html5cleaner::{clean_page, clean_text};
+use crate::memory::leaves_a_beginning;
+use crate::pages::keeps_each;
+use html5cleaner::clean_text;
 use html5policy::Policy;
 use markup5ever::data::NamedReferences;
 use std::alloc::Global;
 use std::process::Abort;
-use test_alloc::Refusing;
-use test_devices::PieceSource;
 
 const BALANCED: &str = "allow b\nallow i\nallow p\nallow br\nallow q cite\nhide form\nbalance";
 
@@ -41,17 +41,8 @@ const CASES: [(&str, &str); 26] = [
 
 #[test]
 fn closes_what_is_open(rt: HostRuntime) {
-    let names = NamedReferences::check(rt.alloc(), Vec::new(rt.alloc())).expect(&rt, "a table");
     let policy = Policy::parse(rt.alloc(), BALANCED).expect(&rt, "a policy");
-    for (page, wanted) in CASES {
-        for size in [1, 3, 4096] {
-            let source = &mut PieceSource::new(page.as_bytes(), size);
-            let (cleaner, read) = clean_page(rt.alloc(), source, &names, &policy);
-            let kept = cleaner.into_page();
-            assert_eq!(rt; read, Ok(()), "{page}");
-            assert!(rt; kept.as_str() == wanted, "{page}");
-        }
-    }
+    keeps_each(&rt, rt.alloc(), &policy, &CASES);
 }
 
 #[test]
@@ -112,32 +103,5 @@ const WANTED: &str = "<p><q cite=\"a\">a text of some length<b><i>1</i></b></q>2
 
 #[test]
 fn a_refused_growth_leaves_a_beginning(rt: HostRuntime) {
-    let mut finished = false;
-    for admitted in 0..1000 {
-        let heap = Refusing::<Global>::new(rt.alloc(), admitted);
-        let Ok(names) = NamedReferences::check(&heap, Vec::new(&heap)) else {
-            continue;
-        };
-        let Ok(policy) = Policy::parse(&heap, BALANCED) else {
-            continue;
-        };
-        let source = &mut PieceSource::new(PAGE.as_bytes(), 16);
-        let (cleaner, read) = clean_page(&heap, source, &names, &policy);
-        let page = cleaner.into_page();
-        assert!(rt;
-            WANTED.starts_with(page.as_str()),
-            "after {admitted} requests"
-        );
-        assert_eq!(rt;
-            read.is_ok(),
-            !heap.has_refused(),
-            "after {admitted} requests"
-        );
-        if read.is_ok() {
-            assert!(rt; page.as_str() == WANTED);
-            finished = true;
-            break;
-        }
-    }
-    assert!(rt; finished);
+    leaves_a_beginning(&rt, rt.alloc(), Some(BALANCED), PAGE, WANTED);
 }

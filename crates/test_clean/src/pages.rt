@@ -3,6 +3,8 @@ use html5cleaner::{clean_page, clean_text};
 use html5policy::Policy;
 use html5stream::StreamError;
 use markup5ever::data::NamedReferences;
+use std::alloc::Global;
+use std::process::Abort;
 use test_devices::PieceSource;
 
 // Pages, and what is kept of them. References are numbers, since the table is empty.
@@ -25,19 +27,24 @@ const CASES: [(&str, &str); 16] = [
     ("a<p title='b", "a"),
 ];
 
-#[test]
-fn keeps_what_is_allowed(rt: HostRuntime) {
-    let names = NamedReferences::check(rt.alloc(), Vec::new(rt.alloc())).expect(&rt, "a table");
-    let policy = Policy::standard(rt.alloc()).expect(&rt, "memory");
-    for (page, wanted) in CASES {
+/// Cleans pages by a policy, each cut in several ways: what is kept of it is what is wanted.
+pub fn keeps_each(rt: &impl Abort, alloc: Global, policy: &Policy<Global>, cases: &[(&str, &str)]) {
+    let names = NamedReferences::check(alloc, Vec::new(alloc)).expect(rt, "a table");
+    for (page, wanted) in cases {
         for size in [1, 3, 4096] {
             let source = &mut PieceSource::new(page.as_bytes(), size);
-            let (cleaner, read) = clean_page(rt.alloc(), source, &names, &policy);
+            let (cleaner, read) = clean_page(alloc, source, &names, policy);
             let kept = cleaner.into_page();
             assert_eq!(rt; read, Ok(()), "{page}");
-            assert!(rt; kept.as_str() == wanted, "{page}");
+            assert!(rt; kept.as_str() == *wanted, "{page}");
         }
     }
+}
+
+#[test]
+fn keeps_what_is_allowed(rt: HostRuntime) {
+    let policy = Policy::standard(rt.alloc()).expect(&rt, "memory");
+    keeps_each(&rt, rt.alloc(), &policy, &CASES);
 }
 
 #[test]
