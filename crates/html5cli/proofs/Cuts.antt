@@ -1,5 +1,5 @@
 -- Cutting a text between characters.
-use Rattle.std.proofs.Common.{◌≡◌, ℕ, ◌+◌, ◌≤◌, List, ◌++◌, length, take, drop, encode_utf8, sym, ap, arith}
+use Rattle.std.proofs.Common.{◌≡◌, ℕ, ◌+◌, ◌-◌, ◌≤◌, List, ◌++◌, length, take, drop, encode_utf8, refl, sym, ap, ◌∙◌, arith}
 use Rattle.std.specs.Char.{len_utf8}
 use Rattle.std.specs.Str.{IsUtf8, IsCharBoundary}
 use Rattle.std.proofs.lemmas.List.{length-drop, drop-drop}
@@ -33,3 +33,20 @@ IsCut-further text rest start len cut e within utf8 = record {
 
 pub IsCut-boundary : (text : List ℕ) (at_byte : ℕ) → IsCut text at_byte → IsCharBoundary text at_byte
 IsCut-boundary text at_byte cut = IsCharBoundary-from_drop text at_byte cut.within cut.rest_utf8
+
+-- the bytes from a place on, up to a place between two characters
+pub record IsPiece (text : List ℕ) (start len : ℕ) (piece : List ℕ) : Type 0 where
+  pub cut : IsCut text (start + len)
+  pub is : piece ≡ take len (drop start text)
+
+-- a piece that was sliced off the text
+pub IsPiece-sliced : (text first second rest slice piece : List ℕ) (start len : ℕ) → IsCut text start
+    → first ≡ text → rest ≡ drop start first → len ≤ length rest → IsUtf8 (drop len rest)
+    → second ≡ text → slice ≡ take ((start + len) - start) (drop start second) → piece ≡ slice
+    → IsPiece text start len piece
+IsPiece-sliced text first second rest slice piece start len cut is_first is_rest within utf8 is_second sliced same =
+    let width : (start + len) - start ≡ len = omega arith in
+    record {
+      cut = IsCut-further text rest start len cut (is_rest ∙ ap (drop start) is_first) within utf8;
+      is = same ∙ sliced ∙ rw (is_second, width) refl;
+    }

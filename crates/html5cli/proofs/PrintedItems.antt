@@ -1,5 +1,5 @@
 -- A printed reading is the lines of what the items of the text tell.
-use Rattle.std.proofs.Common.{◌≡◌, ℕ, List, ◌++◌, refl, ap, subst}
+use Rattle.std.proofs.Common.{List, refl, subst}
 use Rattle.std.specs.Io.KnownBytes.{Appends}
 use Rattle.std.specs.Str.{chars}
 use Rattle.html5ever.specs.Tokenizer.{rules_of}

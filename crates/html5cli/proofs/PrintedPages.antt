@@ -1,5 +1,5 @@
 -- The page of a whole reading, and what is known of the bytes of a reader that was read to its end.
-use Rattle.std.proofs.Common.{◌≡◌, ℕ, Bool, List, [], ◌∷◌, ◌++◌, Option, None, Some, refl, ap, sym, ◌∙◌, subst}
+use Rattle.std.proofs.Common.{◌≡◌, ℕ, Bool, List, [], ◌∷◌, ◌++◌, Option, None, Some, refl, ap, sym, ◌∙◌}
 use Rattle.std.specs.Prelude.{IfSome, codes}
 use Rattle.std.specs.Io.KnownBytes.{Consumes, IsAtEnd, Keeps}
 use Rattle.std.specs.Str.{chars}
@@ -14,7 +14,7 @@ use Rattle.html5grammar.specs.EndOfInput.{late_at_end_of, open_at_end_of, told_a
 use Rattle.html5grammar.specs.ErrorText.{end_error_in}
 use Rattle.html5grammar.specs.NormalisedText.{normalised, line_after}
 use Rattle.html5grammar.specs.RawText.{texts}
-use Rattle.html5grammar.specs.Reading.{Event, end_events, late_events, read, reading, told, messages, after}
+use Rattle.html5grammar.specs.Reading.{Event, end_events, late_events, read, reading, told, messages}
 use Rattle.html5grammar.specs.Reading.TextPlace.{EndOfInput}
 use Rattle.html5grammar.specs.Start.{Start, Mode, Open, Rules, start_of}
 use Rattle.html5grammar.specs.Start.Mode.{Data, Plain, RawText, Cdata}
@@ -24,8 +24,8 @@ use Rattle.html5grammar.specs.Start.Place.{InValue}
 use Rattle.html5grammar.specs.Start.Stand.{InText, InAttribute}
 use Rattle.html5grammar.proofs.ReadingLemmas.{reading-events}
 use Rattle.html5grammar.proofs.Traces.{messages-append, messages-map}
-use Rattle.html5ever.specs.Tokenizer.{Tokenizing, StandsAt, rules_of}
-use Rattle.token_printer.specs.Page.{Page, Printer, page_step, page_reply, page_foreign, blank_page}
+use Rattle.html5ever.specs.Tokenizer.{rules_of}
+use Rattle.token_printer.specs.Page.{Page, page_step, page_reply, page_foreign, blank_page}
 use Rattle.token_printer.proofs.Pages.{lines-stepped}
 use Rattle.devices.specs.Device.{ConsumesBeginning}
 use Rattle.html5cli.specs.Printing.{printed_reading}
@@ -93,6 +93,25 @@ module _ (rules : Rules) (K : Start) (p : Page) (X : List ℕ) where
       ∙ map-append (λ (token : Told). record { token = token; line = line }) tokens (End ∷ []))
       ∙ sym (append_assoc (messages late-events) (on_line line tokens) end))
       ∙ sym (append_assoc front (messages late-events ++ on_line line tokens) end)
+
+-- a reading is what the text decides, and then what ends with the end
+pub record EndsLast (M front : List Message) : Type 0 where
+  pub late : List Message
+  pub line : ℕ
+  pub parts : M ≡ front ++ (late ++ record { token = End; line = line } ∷ [])
+
+pub end-is_last : (rules : Rules) (K : Start) (p : Page) (X : List ℕ)
+    → EndsLast (messages (reading page_step page_reply page_foreign rules K p X)) (messages (told page_step page_reply page_foreign rules K p X))
+unfolding EndsWithEnd front-messages
+end-is_last rules K p X =
+    let ends = told_at_end_of-ends rules (read page_step page_reply page_foreign rules K p X).opened in
+    let front : List Message = messages (told page_step page_reply page_foreign rules K p X) in
+    let late : List Message = messages (late-events rules K p X) ++ on_line (line_after K.input (normalised K.input X)) ends.0 in
+    record {
+      late = late;
+      line = line_after K.input (normalised K.input X);
+      parts = reading-ends rules K p X ends.0 ends.1 ∙ append_assoc front late (record { token = End; line = line_after K.input (normalised K.input X) } ∷ []);
+    }
 
 -- a page that a reading was printed to has its lines
 pub printed-page : (rules : Rules) (settings : SettingsOf) (names : List NamedReference) (p : Page) (bytes : List ℕ)

@@ -1,5 +1,5 @@
 -- The printed reading of bytes, and what printing it leaves at the reader and the writer.
-use Rattle.std.specs.Prelude.{◌≡◌, ◌++◌, ℕ, List, Option}
+use Rattle.std.specs.Prelude.{◌≡◌, [], ◌++◌, ℕ, List, Option}
 use Rattle.std.specs.Io.KnownBytes.{Appends, Consumes, IsAtEnd, Keeps}
 use Rattle.std.specs.Str.{IsUtf8, chars}
 use Rattle.devices.specs.Device.{AppendsBeginning}
@@ -7,10 +7,10 @@ use Rattle.token_printer.specs.Page.{Page, Printer, blank_page, page_step, page_
 use Rattle.token_printer.specs.Printed.{printed}
 use Rattle.html5ever_interface.specs.Sink.{Means, Message}
 use Rattle.html5grammar.specs.Reading.{all_messages}
-use Rattle.html5grammar.specs.Start.{start_of}
+use Rattle.html5grammar.specs.Start.{Start, start_of}
 use Rattle.html5items.specs.Items.{Items}
 use Rattle.html5cli.specs.Settings.{SettingsOf}
-use Rattle.html5ever.specs.Tokenizer.{rules_of}
+use Rattle.html5ever.specs.Tokenizer.{Tokenizing, StandsAt, ReadsOn, rules_of, state_at_end}
 use Rattle.markup5ever.specs.NamedReferences.{NamedReference}
 
 -- what a printing sink makes of what it is sent
@@ -24,6 +24,36 @@ printer_means = record {
   faulted = page_faulted;
   end_faulted = λ page. page;
 }
+
+-- a page where these bytes come before its lines
+abbrev pub after_bytes : List ℕ → Page → Page
+after_bytes bytes page = record page { lines = bytes ++ page.lines }
+
+-- a tokenizer where these bytes come before what its sink's page has
+abbrev pub after_written : List ℕ → Tokenizing Printer → Tokenizing Printer
+after_written bytes t = record t { sink = record t.sink { page = after_bytes bytes t.sink.page } }
+
+-- the page where the input ends here
+abbrev pub page_at_end : Tokenizing Printer → Page
+page_at_end t = state_at_end printer_means t.rules t.position t.sink.page []
+
+-- a front of the page was written, and the page has the rest
+pub record WritesFront (before after : Option (List ℕ)) (page left : Page) : Type 0 where
+  pub front : List ℕ
+  pub written : Appends before after front
+  pub parts : page ≡ after_bytes front left
+
+-- the tokenizer read on, and a front of what its page would have had was written
+pub record PrintsOn (before after : Option (List ℕ)) (old new : Tokenizing Printer) (more : List ℕ) : Type 0 where
+  pub front : List ℕ
+  pub written : Appends before after front
+  pub reads : ReadsOn printer_means old (after_written front new) more
+
+-- from wherever the tokenizer stood, a beginning of the page after the whole reading was written, and not all of it
+abbrev pub PrintsShort : Option (List ℕ) → Option (List ℕ) → Tokenizing Printer → List ℕ → Type 0
+PrintsShort before after old more =
+    (K : Start) (page : Page) (text : List ℕ) → StandsAt printer_means old K page text
+    → AppendsBeginning before after (state_at_end printer_means old.rules K page (text ++ more)).lines
 
 -- the printed lines of the reading of a text by a table, where the text's bytes are given. Neither the cut nor the table that the
 -- settings say is in it.

@@ -16,7 +16,7 @@ pub record SettingsOf : Type 0 where
   pub opts : OptionsOf
   -- the sink's answer about foreign content
   pub foreign : Bool
-  -- how many characters are fed at once, and 0 for all of them
+  -- how many characters are fed at once, and 0 for a number of the program's own
   pub cut : ℕ
   -- the entries of the table
   pub table : List NamedReference

@@ -1,12 +1,13 @@
 ghost use Rattle.std.specs.Prelude.{◌≡◌, ◌≢◌, ◌↔◌, ◌+◌, ◌<◌, ◌≤◌, ◌⊎◌, [], true, false, IfOk, IfErr, IsErr, OnOk, OnErr, length, take, drop, option_map, string_bytes};
-ghost use Rattle.std.specs.Io.KnownBytes.{Keeps};
+ghost use Rattle.std.specs.Io.KnownBytes.{Appends, Keeps};
 ghost use Rattle.std.specs.Str.{IsUtf8, chars};
-ghost use Rattle.devices.specs.Device.{IsRefusal, reported_failures};
+ghost use Rattle.devices.specs.Device.{AppendsBeginning, IsReadFault, IsRefusal, reported_failures};
 ghost use Rattle.html5ever_interface.specs.Options.{options_of};
 ghost use Rattle.html5cli.specs.Settings.{options_said, said_by};
-ghost use Rattle.html5cli.specs.Printing.{printer_means, printed_reading, traffic_of, PrintsReading, PrintsItems, PrintsBeginning, PrintsNothing};
+ghost use Rattle.html5cli.specs.Printing.{printer_means, printed_reading, page_at_end, traffic_of, PrintsReading, PrintsItems, PrintsBeginning, PrintsNothing, PrintsOn, PrintsShort, WritesFront};
 ghost use Rattle.html5feed.specs.Starting.{CanStart};
 ghost use Rattle.html5ever.specs.Tokenizer.{ReadsOn};
+ghost use Rattle.token_printer.specs.Page.{without_lines};
 
 use devices::{Fault, Source, Target, read_to_end, write_all};
 use html5ever::TokenizerError;
@@ -32,7 +33,7 @@ pub struct Settings<'w> {
     pub last: Option<&'w str>,
     /// The sink's answer about foreign content.
     pub foreign: bool,
-    /// How many characters are fed at once, and 0 for all of them.
+    /// How many characters are fed at once, and 0 for a number of the program's own.
     pub cut: usize,
     /// The list of the table's entries.
     pub table: &'w str,
@@ -138,30 +139,83 @@ fn prefix_len(text: &str, count: usize) -> usize
     place_after(text, len, left)
 }
 
-/// Feeds the text, cut into pieces of so many characters.
-pub fn feed_text<A: Allocator + Copy>(
+// How many bytes are fed at once where the settings give no number of characters. What is read doesn't depend on it.
+const PIECE: usize = 4096;
+
+// How many bytes the first piece of a text takes: of `cut` characters, or at 0 of bytes up to the end of a character.
+fn piece_len(text: &str, cut: usize) -> usize
+    requires { 0 < length text.now }
+    ensures within { result ≤ length text.now }
+    ensures boundary { IsUtf8 (take result text.now) × IsUtf8 (drop result text.now) }
+    ensures some { 0 < result }
+{
+    if cut == 0 {
+        return place_after(text, text.len().min(PIECE), 0);
+    }
+    prefix_len(text, cut)
+}
+
+// Writes the page, and clears it.
+fn write_page<W: Target, A: Allocator>(writer: &mut W, sink: &mut PrintSink<A>) -> Result<(), Fault>
+    ensures ok { OnOk result (Appends (W.contents writer.old) (W.contents writer.new) sink.old.page.lines) }
+    ensures err { OnErr result (AppendsBeginning (W.contents writer.old) (W.contents writer.new) sink.old.page.lines) }
+    ensures cleared { OnOk result (sink.new.page ≡ without_lines sink.old.page) }
+    ensures only_device { IfErr result (λ fault. fault ≡ Fault.Device) }
+    ensures failures { W.failures writer.new ≡ W.failures writer.old + reported_failures result }
+{
+    write_all(writer, sink.page())?;
+    sink.clear();
+    Ok(())
+}
+
+// How many bytes wait on a page before it is written.
+const PAGE: usize = 65_536;
+
+// Writes the page and clears it, where it is full.
+fn write_full_page<W: Target, A: Allocator>(
+    writer: &mut W,
+    sink: &mut PrintSink<A>,
+) -> Result<(), Fault>
+    ensures ok { OnOk result
+        (WritesFront (W.contents writer.old) (W.contents writer.new) sink.old.page sink.new.page) }
+    ensures err { OnErr result (AppendsBeginning (W.contents writer.old) (W.contents writer.new) sink.old.page.lines) }
+    ensures only_device { IfErr result (λ fault. fault ≡ Fault.Device) }
+    ensures failures { W.failures writer.new ≡ W.failures writer.old + reported_failures result }
+{
+    if sink.page().len() < PAGE {
+        return Ok(());
+    }
+    write_page(writer, sink)
+}
+
+/// Feeds the text, cut into pieces of so many characters, and 0 stands for a number of its own. After a piece the
+/// page is written if it is full. What is left on it at the end is the caller's to write.
+pub fn feed_text<W: Target, A: Allocator + Copy>(
     alloc: A,
     tokenizer: &mut Tokenizer<'_, PrintSink<A>, A>,
     text: String<A>,
     cut: usize,
+    writer: &mut W,
 ) -> Result<(), Fault>
     requires going_on { tokenizer.old.ended ≡ false }
     requires not_failed { tokenizer.old.failed ≡ false }
-    ensures reads { OnOk result (ReadsOn printer_means tokenizer.old tokenizer.new (chars (string_bytes text))) }
+    ensures prints { OnOk result (PrintsOn (W.contents writer.old) (W.contents writer.new)
+        tokenizer.old tokenizer.new (chars (string_bytes text))) }
     ensures rules { tokenizer.new.rules ≡ tokenizer.old.rules }
     ensures going_on { tokenizer.new.ended ≡ false }
     ensures not_failed { OnOk result (tokenizer.new.failed ≡ false) }
-    ensures err { IfErr result IsRefusal }
+    ensures beginning { OnErr result (PrintsShort (W.contents writer.old) (W.contents writer.new)
+        tokenizer.old (chars (string_bytes text))) }
+    ensures fault { IfErr result IsReadFault }
+    ensures failures { W.failures writer.new ≡ W.failures writer.old + reported_failures result }
 {
     let mut queue = BufferQueue::new(alloc);
-    if cut == 0 {
-        return feed_piece(tokenizer, &mut queue, text);
-    }
     let mut start = 0;
     while start < text.len() {
-        let end = start + prefix_len(&text[start..], cut);
+        let end = start + piece_len(&text[start..], cut);
         let piece = String::from_str(alloc, &text[start..end])?;
         feed_piece(tokenizer, &mut queue, piece)?;
+        write_full_page(writer, &mut tokenizer.sink)?;
         start = end;
     }
     Ok(())
@@ -193,26 +247,46 @@ pub fn options_of<A: Allocator>(
     })
 }
 
-// Prints the reading of a text to a page.
-fn print_text<A: Allocator + Copy>(
+// Sends the end of the input, and writes what the page has then.
+fn print_end<W: Target, A: Allocator + Copy>(
+    tokenizer: &mut Tokenizer<'_, PrintSink<A>, A>,
+    writer: &mut W,
+) -> Result<(), Fault>
+    requires going_on { tokenizer.old.ended ≡ false }
+    requires not_failed { tokenizer.old.failed ≡ false }
+    ensures ok { OnOk result (Appends (W.contents writer.old) (W.contents writer.new) (page_at_end tokenizer.old).lines) }
+    ensures err { OnErr result
+        (AppendsBeginning (W.contents writer.old) (W.contents writer.new) (page_at_end tokenizer.old).lines) }
+    ensures fault { IfErr result IsReadFault }
+    ensures failures { W.failures writer.new ≡ W.failures writer.old + reported_failures result }
+{
+    match tokenizer.end() {
+        Ok(()) => write_page(writer, &mut tokenizer.sink),
+        Err(error) => Err(fault_of(error)),
+    }
+}
+
+// Prints the reading of a text.
+fn print_text<W: Target, A: Allocator + Copy>(
     alloc: A,
     text: String<A>,
     settings: &Settings<'_>,
     names: &NamedReferences<A>,
-) -> Result<PrintSink<A>, Fault>
+    writer: &mut W,
+) -> Result<(), Fault>
     requires start { CanStart settings.now.initial_state }
-    ensures ok { IfOk result (λ sink. sink.page.lines ≡ printed_reading (said_by settings.now) names.now
-        (string_bytes text)) }
-    ensures err { IfErr result IsRefusal }
+    ensures ok { OnOk result (Appends (W.contents writer.old) (W.contents writer.new)
+        (printed_reading (said_by settings.now) names.now (string_bytes text))) }
+    ensures err { OnErr result (AppendsBeginning (W.contents writer.old) (W.contents writer.new)
+        (printed_reading (said_by settings.now) names.now (string_bytes text))) }
+    ensures fault { IfErr result IsReadFault }
+    ensures failures { W.failures writer.new ≡ W.failures writer.old + reported_failures result }
 {
     let sink = PrintSink::new(alloc, settings.foreign);
     let opts = options_of(alloc, settings)?;
     let mut tokenizer = Tokenizer::new(alloc, sink, opts, names);
-    feed_text(alloc, &mut tokenizer, text, settings.cut)?;
-    match tokenizer.end() {
-        Ok(()) => Ok(tokenizer.into_sink()),
-        Err(error) => Err(fault_of(error)),
-    }
+    feed_text(alloc, &mut tokenizer, text, settings.cut, writer)?;
+    print_end(&mut tokenizer, writer)
 }
 
 // The text of these bytes.
@@ -256,6 +330,5 @@ pub fn print_tokens<R: Source, W: Target, A: Allocator + Copy>(
     names.table_laws();
     let bytes = read_to_end(alloc, reader)?;
     let text = text_of(bytes)?;
-    let sink = print_text(alloc, text, settings, names)?;
-    write_all(writer, sink.page())
+    print_text(alloc, text, settings, names, writer)
 }

@@ -88,13 +88,16 @@ fn is_told_so_far(
     let sink = PrintSink::new(alloc, settings.foreign);
     let mut tokenizer = Tokenizer::new(alloc, sink, opts, &names);
     let text = String::from_str(alloc, &case.input)?;
-    if feed_text(alloc, &mut tokenizer, text, settings.cut).is_err() {
+    let mut writer = WriteTarget::new(Vec::new(alloc));
+    if feed_text(alloc, &mut tokenizer, text, settings.cut, &mut writer).is_err() {
         return Err(CaseError::Memory);
     }
     let output = case.output.as_bytes();
     let lines = output.strip_suffix(b"\n").unwrap_or(output);
-    let page = tokenizer.sink.page();
-    Ok(page.strip_suffix(b"\n").unwrap_or(page) == lines && tokenizer.nothing_pending() == clean)
+    let mut printed: Vec<u8> = writer.into_inner();
+    printed.extend_from_slice(tokenizer.sink.page())?;
+    let printed = printed.strip_suffix(b"\n").unwrap_or(&printed);
+    Ok(printed == lines && tokenizer.nothing_pending() == clean)
 }
 
 // Whether the case tells in that way what it must.

@@ -10,4 +10,6 @@ mod input;
 #[cfg(test)]
 mod memory;
 #[cfg(test)]
+mod pages;
+#[cfg(test)]
 mod running;

@@ -54,6 +54,11 @@ impl Ran {
             && output.as_bytes().starts_with(&self.output)
             && self.errors.as_slice() == b"out of memory\n".as_slice()
     }
+
+    /// Whether the run printed something.
+    pub fn has_printed(&self) -> bool {
+        !self.output.is_empty()
+    }
 }
 
 /// Runs the program, by as much of its contract as tests need: none. So the proof of a test holds

@@ -22,6 +22,10 @@ pub record Printer : Type 0 where
 abbrev pub blank_page : Bool → Page
 blank_page foreign = record { lines = []; in_text = false; foreign = foreign }
 
+-- a page whose lines were taken off
+abbrev pub without_lines : Page → Page
+without_lines page = record page { lines = [] }
+
 -- the answer about foreign content
 abbrev pub page_foreign : Page → Bool
 page_foreign page = page.foreign

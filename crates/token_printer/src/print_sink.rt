@@ -1,6 +1,6 @@
 //! A sink that prints what it is sent.
 ghost use Rattle.std.specs.Prelude.{◌≡◌, ◌++◌, string_bytes, IfOk, OnOk, OnErr};
-ghost use Rattle.token_printer.specs.Page.{BeginsWith, blank_page, added_by};
+ghost use Rattle.token_printer.specs.Page.{BeginsWith, blank_page, without_lines, added_by};
 ghost use Rattle.html5sinks.specs.Pausing.{pausing_reply};
 ghost use Rattle.html5ever_interface.specs.Token.{told_by, reply_of};
 
@@ -75,6 +75,14 @@ impl<A: Allocator> PrintSink<A> {
         ensures { result.now ≡ self.now.page.lines }
     {
         self.page.as_slice()
+    }
+
+    /// Takes the bytes printed so far off the page. What is printed from here on follows them.
+    pub fn clear(&mut self)
+        ensures page { self.new.page ≡ without_lines self.old.page }
+        ensures faults { self.new.faults ≡ self.old.faults }
+    {
+        self.page.clear();
     }
 }
 

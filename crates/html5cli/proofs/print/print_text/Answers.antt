@@ -1,24 +1,50 @@
-use Rattle.std.proofs.Common.{◌≡◌, [], ◌∙◌, ap, string_bytes, subst}
-use Rattle.std.specs.Str.{chars}
-use Rattle.html5ever_interface.specs.Sink.{stepped}
-use Rattle.html5ever.specs.Tokenizer.{StandsAt, rules_of}
-use Rattle.html5grammar.specs.Reading.{reading, messages}
-use Rattle.html5grammar.specs.Start.{Start, start_of}
-use Rattle.html5ever_interface.specs.Options.{OptionsOf, options_of}
-use Rattle.token_printer.specs.Page.{Page, Printer, page_step, page_reply, page_foreign}
-use Rattle.html5cli.specs.Settings.{options_said, said_by}
-use Rattle.html5cli.proofs.PrintedPages.{printed-page}
+use Rattle.std.proofs.Common.{◌≡◌, List, ℕ, [], ◌++◌, ◌∙◌, sym, string_bytes, subst}
+use Rattle.std.proofs.lemmas.List.{append-nil}
+use Rattle.std.proofs.lemmas.Result.{on_ok_weaker, on_err_weaker}
+use Rattle.std.specs.Io.KnownBytes.{Appends}
+use Rattle.devices.proofs.KnownBytes.{Appends-append}
+use Rattle.devices.specs.Device.{AppendsBeginning}
+use Rattle.html5ever_interface.specs.Options.{options_of}
+use Rattle.html5grammar.specs.Start.{start_of}
+use Rattle.html5cli.specs.Printing.{page_at_end, printed_reading}
+use Rattle.html5cli.specs.Settings.{said_by}
+use Rattle.html5cli.proofs.Feeding.{AppendsBeginning-nothing, AppendsBeginning-after, on_err-anyway, printed-whole, printed-parts, some-printed}
 use Rattle.html5cli.proofs.print.print_text.Goals as goal
 
-pub returns-in-Ok-clause-ok : goal.returns-in-Ok-clause-ok
-returns-in-Ok-clause-ok g c =
-    let same : options_of c.in_ok-opts.opts ≡ options_said c.args.settings.now = c.in_ok-opts.ensures in
-    let K : Start = start_of (options_of c.in_ok-opts.opts) in
-    let stands = c.in_ok-feed_text.ensures.reads K c.new-sink.result.page [] c.new-tokenizer.ensures.stands in
-    let settings = said_by c.args.settings.now in
-    let rules : c.feed_text.new.tokenizer.rules ≡ rules_of settings.opts c.args.names.now =
-    c.in_ok-feed_text.ensures.rules ∙ c.new-tokenizer.ensures.rules ∙ ap (λ (o : OptionsOf). rules_of o c.args.names.now) same in
-    ap (λ (s : Printer). s.page.lines) c.into_sink.ensures
-    ∙ ap (λ (p : Page). p.lines) (c.in-Ok.ensures.finishes K c.new-sink.result.page (chars (string_bytes c.args.text)) stands)
-    ∙ ap (λ (o : OptionsOf). (stepped page_step c.new-sink.result.page (messages (reading page_step page_reply page_foreign c.feed_text.new.tokenizer.rules (start_of o) c.new-sink.result.page (chars (string_bytes c.args.text))))).lines) same
-    ∙ printed-page c.feed_text.new.tokenizer.rules settings c.args.names.now c.new-sink.result.page (string_bytes c.args.text) rules c.new-sink.ensures.page
+pub returns-in_err-opts-clause-err : goal.returns-in_err-opts-clause-err
+returns-in_err-opts-clause-err g c =
+    on_err-anyway c.from_residual.result
+    (AppendsBeginning-nothing (g.W.Target.contents c.args.writer.now) _ (some-printed (said_by c.args.settings.now) c.args.names.now (string_bytes c.args.text)))
+
+pub returns-in_err-feed_text-clause-err : goal.returns-in_err-feed_text-clause-err
+returns-in_err-feed_text-clause-err g c =
+    let opts = options_of c.in_ok-opts.opts in
+    let short = c.in_err-feed_text.ensures.beginning (start_of opts) c.new-sink.result.page [] c.new-tokenizer.ensures.stands in
+    let whole = printed-whole (said_by c.args.settings.now) c.args.names.now c.new-tokenizer.result.rules opts c.new-sink.result.page (string_bytes c.args.text) c.in_ok-opts.ensures c.new-sink.ensures.page c.new-tokenizer.ensures.rules in
+    on_err-anyway c.from_residual-in_err-feed_text.result
+    (subst (λ (l : List ℕ). AppendsBeginning (g.W.Target.contents c.args.writer.now) (g.W.Target.contents c.feed_text.new.writer) l) whole short)
+
+pub returns-clause-ok : goal.returns-clause-ok
+returns-clause-ok g c =
+    let opts = options_of c.in_ok-opts.opts in
+    let prints = c.in_ok-feed_text.ensures.prints in
+    let lines = (page_at_end c.feed_text.new.tokenizer).lines in
+    let parts : prints.front ++ lines ≡ printed_reading (said_by c.args.settings.now) c.args.names.now (string_bytes c.args.text) =
+    printed-parts (said_by c.args.settings.now) c.args.names.now opts c.new-sink.result.page c.feed_text.new.tokenizer prints.front (string_bytes c.args.text) c.in_ok-opts.ensures c.new-sink.ensures.page (c.in_ok-feed_text.ensures.rules ∙ c.new-tokenizer.ensures.rules)
+    (prints.reads (start_of opts) c.new-sink.result.page [] c.new-tokenizer.ensures.stands) in
+    on_ok_weaker c.print_end.result
+    (λ last. subst (λ (l : List ℕ). Appends (g.W.Target.contents c.args.writer.now) (g.W.Target.contents c.print_end.new.writer) l) parts
+    (Appends-append _ _ _ prints.front lines prints.written last))
+    c.print_end.ensures.ok
+
+pub returns-clause-err : goal.returns-clause-err
+returns-clause-err g c =
+    let opts = options_of c.in_ok-opts.opts in
+    let prints = c.in_ok-feed_text.ensures.prints in
+    let lines = (page_at_end c.feed_text.new.tokenizer).lines in
+    let parts : prints.front ++ lines ≡ printed_reading (said_by c.args.settings.now) c.args.names.now (string_bytes c.args.text) =
+    printed-parts (said_by c.args.settings.now) c.args.names.now opts c.new-sink.result.page c.feed_text.new.tokenizer prints.front (string_bytes c.args.text) c.in_ok-opts.ensures c.new-sink.ensures.page (c.in_ok-feed_text.ensures.rules ∙ c.new-tokenizer.ensures.rules)
+    (prints.reads (start_of opts) c.new-sink.result.page [] c.new-tokenizer.ensures.stands) in
+    on_err_weaker c.print_end.result
+    (λ begun. AppendsBeginning-after _ _ _ _ prints.front lines [] (sym parts ∙ sym (append-nil (prints.front ++ lines))) prints.written begun)
+    c.print_end.ensures.err

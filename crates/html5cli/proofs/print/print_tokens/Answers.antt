@@ -1,11 +1,10 @@
-use Rattle.std.proofs.Common.{◌≡◌, ℕ, List, inr, ap, refl, subst, ◌∙◌, string_bytes}
+use Rattle.std.proofs.Common.{◌≡◌, ℕ, List, inr, refl, subst, string_bytes}
 use Rattle.std.specs.Io.KnownBytes.{Appends}
 use Rattle.std.specs.Str.{IsUtf8}
 use Rattle.std.proofs.lemmas.Result.{on_ok_weaker, on_err_weaker}
 use Rattle.std.proofs.lemmas.Str.{IsUtf8-string_bytes}
 use Rattle.devices.specs.Device.{AppendsBeginning}
 use Rattle.html5cli.specs.Printing.{printed_reading}
-use Rattle.html5cli.proofs.Feeding.{fault_is}
 use Rattle.html5cli.specs.Settings.{said_by}
 use Rattle.html5cli.proofs.PrintedPages.{Consumes-whole, Keeps-same}
 use Rattle.html5cli.proofs.PrintedItems.{prints-items}
@@ -23,28 +22,24 @@ returns-in_err-text-clause-not_utf8 g c = λ _. record {
 pub returns-clause-ok : goal.returns-clause-ok
 returns-clause-ok g c =
     let text : string_bytes c.in_ok-text.text ≡ c.in_ok-bytes.bytes.items = c.in_ok-text.ensures.ok in
-    let page : c.page.result.now ≡ printed_reading (said_by c.args.settings.now) c.args.names.now c.in_ok-bytes.bytes.items =
-    c.page.ensures ∙ c.in_ok-sink.ensures.ok ∙ ap (λ (l : List ℕ). printed_reading (said_by c.args.settings.now) c.args.names.now l) text in
-    on_ok_weaker c.write_all.result (λ written. record {
+    on_ok_weaker c.print_text.result (λ written. record {
       bytes = c.in_ok-bytes.bytes.items;
       consumed = Consumes-whole _ _ c.in_ok-bytes.bytes.items c.in_ok-bytes.ensures.ok c.in_ok-bytes.ensures.end c.in_ok-bytes.ensures.in_order;
       at_end = c.in_ok-bytes.ensures.end;
       utf8 = subst (λ (l : List ℕ). IsUtf8 l) text (IsUtf8-string_bytes c.in_ok-text.text);
-      printed = subst (λ (l : List ℕ). Appends (g.W.Target.contents c.args.writer.now) (g.W.Target.contents c.write_all.new.target) l) page written;
-    }) c.write_all.ensures.ok
+      printed = subst (λ (l : List ℕ). Appends (g.W.Target.contents c.args.writer.now) (g.W.Target.contents c.print_text.new.writer) (printed_reading (said_by c.args.settings.now) c.args.names.now l)) text written;
+    }) c.print_text.ensures.ok
 
 pub returns-clause-items : goal.returns-clause-items
-returns-clause-items g c = on_ok_weaker c.write_all.result (prints-items _ _ _ c.table_laws.ensures) (returns-clause-ok g c)
+returns-clause-items g c = on_ok_weaker c.print_text.result (prints-items _ _ _ c.table_laws.ensures) (returns-clause-ok g c)
 
 pub returns-clause-beginning : goal.returns-clause-beginning
 returns-clause-beginning g c =
     let text : string_bytes c.in_ok-text.text ≡ c.in_ok-bytes.bytes.items = c.in_ok-text.ensures.ok in
-    let page : c.page.result.now ≡ printed_reading (said_by c.args.settings.now) c.args.names.now c.in_ok-bytes.bytes.items =
-    c.page.ensures ∙ c.in_ok-sink.ensures.ok ∙ ap (λ (l : List ℕ). printed_reading (said_by c.args.settings.now) c.args.names.now l) text in
-    on_err_weaker c.write_all.result (λ written. inr (record {
+    on_err_weaker c.print_text.result (λ written. inr (record {
       bytes = c.in_ok-bytes.bytes.items;
       consumed = Consumes-whole _ _ c.in_ok-bytes.bytes.items c.in_ok-bytes.ensures.ok c.in_ok-bytes.ensures.end c.in_ok-bytes.ensures.in_order;
       at_end = c.in_ok-bytes.ensures.end;
       utf8 = subst (λ (l : List ℕ). IsUtf8 l) text (IsUtf8-string_bytes c.in_ok-text.text);
-      printed = subst (λ (l : List ℕ). AppendsBeginning (g.W.Target.contents c.args.writer.now) (g.W.Target.contents c.write_all.new.target) l) page written;
-    })) c.write_all.ensures.err
+      printed = subst (λ (l : List ℕ). AppendsBeginning (g.W.Target.contents c.args.writer.now) (g.W.Target.contents c.print_text.new.writer) (printed_reading (said_by c.args.settings.now) c.args.names.now l)) text written;
+    })) c.print_text.ensures.err

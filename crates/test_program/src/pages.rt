@@ -1,0 +1,97 @@
+//! What html5tok does with more output than a page holds.
+use crate::running::{PLAIN, run_from, run_over, status_of_run, words_of};
+use devices::{ReadSource, WriteTarget};
+use std::alloc::{AllocError, Global};
+use std::process::Abort;
+use std::test::Fail;
+use test_alloc::Refusing;
+use test_devices::{FailingTarget, Refusal};
+
+// So many copies of a text.
+fn repeated(alloc: Global, text: &str, count: usize) -> Result<String, AllocError> {
+    let mut all = String::new(alloc);
+    for _ in 0..count {
+        all.push_str(text)?;
+    }
+    Ok(all)
+}
+
+// Line feeds, of which the lines fill two pages and more.
+fn long_input(alloc: Global) -> Result<String, AllocError> {
+    repeated(alloc, "\n", 80_000)
+}
+
+// What is printed for them as plain text.
+fn long_lines(alloc: Global) -> Result<String, AllocError> {
+    let escapes = repeated(alloc, "\\n", 80_000)?;
+    format!(in alloc; "text \"{escapes}\"\neof 80001\n")
+}
+
+#[test]
+fn prints_more_than_a_page(rt: HostRuntime) -> Result<(), Fail> {
+    let input = long_input(rt.alloc())?;
+    let ran = run_over(rt.alloc(), &PLAIN, input.as_bytes())?;
+    assert!(rt; ran.is(0, &long_lines(rt.alloc())?, ""));
+    Ok(())
+}
+
+// Prints on a target that fails after so many writes of a byte each.
+fn check_writes(
+    rt: &impl Abort,
+    alloc: Global,
+    writes: usize,
+    refusal: Refusal,
+) -> Result<(), AllocError> {
+    let input = long_input(alloc)?;
+    let mut reader = ReadSource::new(input.as_bytes());
+    let mut writer = FailingTarget::new(alloc, writes, refusal);
+    let mut errors = WriteTarget::new(Vec::new(alloc));
+    let words = words_of(alloc, &PLAIN)?;
+    let status = status_of_run(alloc, words, &mut reader, &mut writer, &mut errors);
+    let lines = long_lines(alloc)?;
+    assert_eq!(rt; status, 6, "after {writes} writes");
+    assert_eq!(rt; writer.taken().len(), writes);
+    assert!(rt;
+        lines.as_bytes().starts_with(writer.taken()),
+        "after {writes} writes"
+    );
+    let told: Vec<u8> = errors.into_inner();
+    assert_eq!(rt; told.as_slice(), b"read or write failed\n".as_slice());
+    Ok(())
+}
+
+#[test]
+fn tells_that_a_later_page_was_not_written(rt: HostRuntime) -> Result<(), Fail> {
+    for refusal in [Refusal::Error, Refusal::Nothing] {
+        for writes in [0, 65_000, 100_000, 160_000] {
+            check_writes(&rt, rt.alloc(), writes, refusal)?;
+        }
+    }
+    Ok(())
+}
+
+#[test]
+fn tells_that_memory_ran_out_after_a_page(rt: HostRuntime) -> Result<(), Fail> {
+    let alloc = rt.alloc();
+    let input = long_input(alloc)?;
+    let lines = long_lines(alloc)?;
+    let mut late = 0u64;
+    for admitted in 0..1000u64 {
+        let heap = Refusing::new(alloc, admitted);
+        let Ok(words) = words_of(&heap, &PLAIN) else {
+            continue;
+        };
+        let mut reader = ReadSource::new(input.as_bytes());
+        let ran = run_from(alloc, &heap, words, &mut reader);
+        if !heap.has_refused() {
+            assert!(rt; ran.is(0, &lines, ""));
+            break;
+        }
+        assert!(rt; ran.wants_memory(&lines), "after {admitted}");
+        if ran.has_printed() {
+            late = late.wrapping_add(1);
+        }
+    }
+    assert!(rt; late > 10);
+    Ok(())
+}
