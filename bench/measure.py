@@ -4,9 +4,11 @@ import collections
 import filecmp
 import os
 import pathlib
-import shutil
 import subprocess
 import sys
+
+
+PART = 65_536  # bytes of output that are read at once
 
 
 def check_status(process, status):
@@ -40,19 +42,20 @@ def high_water(process):
 
 
 def print_to(program, words, corpus, target):
-    """Keeps what a program prints; answers its peak of memory, which it has reached when it begins to print.
+    """Keeps what a program prints; answers its peak of memory, which is read after each part of that.
 
-    What wait4 tells of that would count this script's own memory. The pipe is small, so that the program still waits
-    to print more when its peak is read.
+    What wait4 tells of the peak would count this script's own memory. The pipe is small, so that the program is still
+    at its last lines when the peak is read last.
     """
     with open(corpus, "rb") as source, open(target, "wb") as output:
         process = subprocess.Popen(
             [program, *words], stdin=source, stdout=subprocess.PIPE, bufsize=0, pipesize=4096
         )
         with process.stdout:
-            output.write(process.stdout.read(1))
-            peak = high_water(process)
-            shutil.copyfileobj(process.stdout, output)
+            peak = 0
+            while part := process.stdout.read(PART):
+                output.write(part)
+                peak = max(peak, high_water(process))
         _, status, _ = os.wait4(process.pid, 0)
     check_status(process, status)
     return peak

@@ -2,7 +2,7 @@
 //!
 //!     beside [--state data|plaintext] [--exact] [--cut N]
 //!
-//! It reads its input whole, keeps what it prints in memory and writes it once, as html5tok does.
+//! It reads its input whole, and writes what it prints a page at a time, as html5tok does.
 
 use beside::reply;
 use html5ever::tendril::{fmt::UTF8, ByteTendril, ReadExt, StrTendril};
@@ -13,10 +13,15 @@ use html5ever::tokenizer::{
 use std::io::{self, Write};
 use std::process::ExitCode;
 
-/// The lines printed so far. A text at their end is open: other texts may join it.
+/// How many bytes of lines wait before they are written.
+const PAGE: usize = 65_536;
+
+/// The lines that were printed and not written yet. A text at their end is open: other texts may join it.
 #[derive(Default)]
 struct Page {
     lines: Vec<u8>,
+    // Whether lines could not be written.
+    has_failed: bool,
     in_text: bool,
     // Whether a duplicate attribute was told since the last tag: this version marks no tag.
     has_duplicates: bool,
@@ -46,6 +51,11 @@ fn plain_len(text: &[u8]) -> usize {
 }
 
 impl Page {
+    fn write(&mut self) {
+        self.has_failed |= io::stdout().lock().write_all(&self.lines).is_err();
+        self.lines.clear();
+    }
+
     fn push(&mut self, text: &str) {
         self.lines.extend_from_slice(text.as_bytes());
     }
@@ -170,6 +180,9 @@ impl TokenSink for Page {
     type Handle = ();
 
     fn process_token(&mut self, token: Token, line: u64) -> TokenSinkResult<()> {
+        if self.lines.len() >= PAGE {
+            self.write();
+        }
         match token {
             Token::CharacterTokens(text) => self.push_text(&text),
             Token::TagToken(tag) => {
@@ -241,14 +254,17 @@ fn feed_pieces(tokenizer: &mut Tokenizer<Page>, text: &str, cut: usize) {
     }
 }
 
-fn print(text: StrTendril, settings: Settings) -> Vec<u8> {
+/// Prints what is told of a text, and answers whether all of it could be written.
+fn print(text: StrTendril, settings: Settings) -> bool {
     let mut tokenizer = Tokenizer::new(Page::default(), settings.opts);
     match settings.cut {
         Some(cut) => feed_pieces(&mut tokenizer, &text, cut),
         None => feed(&mut tokenizer, &mut BufferQueue::new(), text),
     }
     tokenizer.end();
-    tokenizer.sink.lines
+    let mut page = tokenizer.sink;
+    page.write();
+    !page.has_failed
 }
 
 fn main() -> ExitCode {
@@ -264,8 +280,9 @@ fn main() -> ExitCode {
         eprintln!("input is not UTF-8");
         return ExitCode::from(3);
     };
-    match io::stdout().lock().write_all(&print(text, settings)) {
-        Ok(()) => ExitCode::SUCCESS,
-        Err(_) => ExitCode::from(6),
+    if print(text, settings) {
+        ExitCode::SUCCESS
+    } else {
+        ExitCode::from(6)
     }
 }
