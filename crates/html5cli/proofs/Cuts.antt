@@ -40,13 +40,13 @@ pub record IsPiece (text : List ℕ) (start len : ℕ) (piece : List ℕ) : Type
   pub is : piece ≡ take len (drop start text)
 
 -- a piece that was sliced off the text
-pub IsPiece-sliced : (text first second rest slice piece : List ℕ) (start len : ℕ) → IsCut text start
-    → first ≡ text → rest ≡ drop start first → len ≤ length rest → IsUtf8 (drop len rest)
-    → second ≡ text → slice ≡ take ((start + len) - start) (drop start second) → piece ≡ slice
+pub IsPiece-sliced : (text rest slice piece : List ℕ) (start len : ℕ) → IsCut text start
+    → rest ≡ drop start text → len ≤ length rest → IsUtf8 (drop len rest)
+    → slice ≡ take ((start + len) - start) (drop start text) → piece ≡ slice
     → IsPiece text start len piece
-IsPiece-sliced text first second rest slice piece start len cut is_first is_rest within utf8 is_second sliced same =
+IsPiece-sliced text rest slice piece start len cut is_rest within utf8 sliced same =
     let width : (start + len) - start ≡ len = omega arith in
     record {
-      cut = IsCut-further text rest start len cut (is_rest ∙ ap (drop start) is_first) within utf8;
-      is = same ∙ sliced ∙ rw (is_second, width) refl;
+      cut = IsCut-further text rest start len cut is_rest within utf8;
+      is = same ∙ sliced ∙ rw width refl;
     }

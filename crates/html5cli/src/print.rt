@@ -17,6 +17,7 @@ use html5ever_interface::options::TokenizerOpts;
 use html5ever_interface::states::State;
 use markup5ever::buffer_queue::BufferQueue;
 use markup5ever::data::NamedReferences;
+use simdutf8::basic::from_utf8;
 use std::alloc::{AllocError, Allocator};
 use token_printer::print_sink::PrintSink;
 
@@ -193,19 +194,19 @@ fn write_full_page<W: Target, A: Allocator>(
 pub fn feed_text<W: Target, A: Allocator + Copy>(
     alloc: A,
     tokenizer: &mut Tokenizer<'_, PrintSink<A>, A>,
-    text: String<A>,
+    text: &str,
     cut: usize,
     writer: &mut W,
 ) -> Result<(), Fault>
     requires going_on { tokenizer.old.ended ≡ false }
     requires not_failed { tokenizer.old.failed ≡ false }
     ensures prints { OnOk result (PrintsOn (W.contents writer.old) (W.contents writer.new)
-        tokenizer.old tokenizer.new (chars (string_bytes text))) }
+        tokenizer.old tokenizer.new (chars text.now)) }
     ensures rules { tokenizer.new.rules ≡ tokenizer.old.rules }
     ensures going_on { tokenizer.new.ended ≡ false }
     ensures not_failed { OnOk result (tokenizer.new.failed ≡ false) }
     ensures beginning { OnErr result (PrintsShort (W.contents writer.old) (W.contents writer.new)
-        tokenizer.old (chars (string_bytes text))) }
+        tokenizer.old (chars text.now)) }
     ensures fault { IfErr result IsReadFault }
     ensures failures { W.failures writer.new ≡ W.failures writer.old + reported_failures result }
 {
@@ -269,16 +270,16 @@ fn print_end<W: Target, A: Allocator + Copy>(
 // Prints the reading of a text.
 fn print_text<W: Target, A: Allocator + Copy>(
     alloc: A,
-    text: String<A>,
+    text: &str,
     settings: &Settings<'_>,
     names: &NamedReferences<A>,
     writer: &mut W,
 ) -> Result<(), Fault>
     requires start { CanStart settings.now.initial_state }
     ensures ok { OnOk result (Appends (W.contents writer.old) (W.contents writer.new)
-        (printed_reading (said_by settings.now) names.now (string_bytes text))) }
+        (printed_reading (said_by settings.now) names.now text.now)) }
     ensures err { OnErr result (AppendsBeginning (W.contents writer.old) (W.contents writer.new)
-        (printed_reading (said_by settings.now) names.now (string_bytes text))) }
+        (printed_reading (said_by settings.now) names.now text.now)) }
     ensures fault { IfErr result IsReadFault }
     ensures failures { W.failures writer.new ≡ W.failures writer.old + reported_failures result }
 {
@@ -289,13 +290,13 @@ fn print_text<W: Target, A: Allocator + Copy>(
     print_end(&mut tokenizer, writer)
 }
 
-// The text of these bytes.
-fn text_of<A: Allocator>(bytes: Vec<u8, A>) -> Result<String<A>, Fault>
-    ensures ok { IfOk result (λ text. string_bytes text ≡ bytes.items) }
+// The text that these bytes are.
+fn text_of(bytes: &[u8]) -> Result<&str, Fault>
+    ensures ok { IfOk result (λ text. (text.now ≡ bytes.now) × IsUtf8 bytes.now) }
     ensures fault { IfErr result (λ fault. fault ≡ Fault.NotUtf8) }
-    ensures not_utf8 { IsErr result ↔ ¬ IsUtf8 bytes.items }
+    ensures not_utf8 { IsErr result ↔ ¬ IsUtf8 bytes.now }
 {
-    match String::from_utf8(bytes) {
+    match from_utf8(bytes) {
         Ok(text) => Ok(text),
         Err(_) => Err(Fault::NotUtf8),
     }
@@ -329,6 +330,6 @@ pub fn print_tokens<R: Source, W: Target, A: Allocator + Copy>(
 {
     names.table_laws();
     let bytes = read_to_end(alloc, reader)?;
-    let text = text_of(bytes)?;
+    let text = text_of(&bytes)?;
     print_text(alloc, text, settings, names, writer)
 }

@@ -1,5 +1,5 @@
 -- The front of a text that is ASCII, and in which no byte is bad or in a set.
-use Rattle.std.proofs.Common.{inl, inr, ◌≡◌, ℕ, ◌<◌, ◌+◌, ◌≤◌, false, List, arith, sym, subst, length, take, get_or}
+use Rattle.std.proofs.Common.{inl, inr, ◌≡◌, ℕ, ◌<◌, ◌+◌, ◌≤◌, false, List, arith, subst, length, take}
 use Rattle.std.specs.Prelude.{All, slice_index}
 use Rattle.std.specs.Str.{IsAscii, IsCharBoundary, IsUtf8, chars}
 use Rattle.std.proofs.lemmas.Bool.{cases_lt}

@@ -3,6 +3,7 @@ pub mod GoodFronts
 pub mod RunLemmas
 pub mod Pauses
 pub mod QueueReading
+pub mod HeldTexts
 pub mod QuietReading
 pub mod CharacterReading
 pub mod UndecidedReading

@@ -2,36 +2,53 @@
 use Rattle.std.proofs.Common.{◌≡◌, ◌≢◌, ◌⊎◌, inl, inr, ℕ, ◌<◌, ◌+◌, ◌^◌, zero, suc, false, List, [], ◌∷◌, ◌++◌, Ok, Err, refl, ap, sym, ◌∙◌, subst, arith, length, length-append, take}
 use Rattle.std.specs.Prelude.{All, encode_utf8_all}
 use Rattle.std.specs.Str.{chars}
+use Rattle.std.proofs.Math.Bool.{and-false}
 use Rattle.std.proofs.lemmas.Bool.{ne_eqb}
 use Rattle.std.proofs.lemmas.List.{append-nil, append_assoc}
 use Rattle.std.proofs.lemmas.List.Elements.{All-nil, All-cons}
 use Rattle.std.proofs.lemmas.Str.{chars-nil}
 use Rattle.html5ever_interface.specs.Sink.{Means, stepped}
 use Rattle.html5grammar.specs.Characters.{line_feed}
-use Rattle.html5grammar.specs.Machine.{step_at}
+use Rattle.html5grammar.specs.Machine.{step_at, brought_at, reference_step}
 use Rattle.html5grammar.specs.NormalisedText.{normalised, line_after}
 use Rattle.html5grammar.specs.Reading.{messages_so_far, start_after}
 use Rattle.html5grammar.specs.Reading.Here.{Tells}
-use Rattle.html5grammar.specs.Start.{Open, Rules, Start}
+use Rattle.html5grammar.specs.Start.{Open, Rules, Stand, Start}
+use Rattle.html5grammar.specs.Start.Open.{InReference}
+use Rattle.html5grammar.proofs.GoodCharacters.{good_between}
 use Rattle.html5grammar.proofs.InputLemmas.{line_past, line_after-none}
 use Rattle.html5grammar.proofs.ReadingLemmas.{told-trace, after-opened, after-last, told-nil, after-nil}
 use Rattle.html5grammar.proofs.Traces.{Trace, trace, trace_brought, trace_here, with_messages, brought-tells}
+use Rattle.html5opened.specs.CharRef.{HoldsEach}
 use Rattle.html5opened.specs.declared.error.TokenizerError.TheVariants.{Memory}
 use Rattle.html5quiet.specs.Quiet.{IsQuiet, ReadsQuietly}
 use Rattle.html5feed.specs.Feed.{feed, first_pause}
-use Rattle.html5feed.specs.Quiet.{IsQuietText, StopsAtCharacter, TakesQuietly}
+use Rattle.html5feed.specs.Quiet.{IsQuietText, StopsAtCharacter, TakesQuietly, TellsNothing}
 use Rattle.html5feed.specs.Refused.{RefusedAfter}
 use Rattle.html5feed.proofs.QueueReading.{HasRead, HasRead-more, HasRead-stops, HasRead-leaves}
 use Rattle.html5states.specs.Telling.{Stops}
 use Rattle.html5states.proofs.Tellings.{Memory-at_once}
 use Rattle.html5feed.proofs.RunLemmas.{IsOrdinary, normalised-ordinary, input_after-ordinary}
 use Rattle.markup5ever.specs.BufferQueue.{TextQueue, Takes}
+use Rattle.markup5ever.specs.NamedReferences.{NamedReference}
 
 all_ordinary : (opened : Open) (text : List ℕ) (later : Open) → ReadsQuietly opened text later → All IsOrdinary text
 unfolding ReadsQuietly
 all_ordinary opened [] later reads = All-nil IsOrdinary
 all_ordinary opened (c ∷ text) later reads =
     All-cons IsOrdinary c text (record { no_line_feed = reads.1.0.no_line_feed; no_carriage_return = reads.1.0.no_carriage_return }) (all_ordinary reads.0 text later reads.1.1)
+
+held_ordinary : (names : List NamedReference) (held text : List ℕ) → HoldsEach names held text → All IsOrdinary text
+unfolding HoldsEach
+held_ordinary names held [] holds = All-nil IsOrdinary
+held_ordinary names held (c ∷ text) holds =
+    All-cons IsOrdinary c text
+    (record { no_line_feed = λ e. omega (arith, holds.1, e); no_carriage_return = λ e. omega (arith, holds.1, e) })
+    (held_ordinary names (held ++ c ∷ []) text holds.3)
+
+text_ordinary : (rules : Rules) (opened : Open) (text : List ℕ) (later : Open) → TellsNothing rules opened text later → All IsOrdinary text
+text_ordinary rules opened text later (inl quiet) = all_ordinary opened text later quiet.1
+text_ordinary rules opened text later (inr held) = held_ordinary rules.names held.held text held.holds
 
 -- nothing was taken
 pub takes-nothing : {T : Type 0} (x : T) (rules : Rules) (K L : Start) (old : TextQueue) → L.opened ≡ K.opened → L.last_start_tag ≡ K.last_start_tag → L.input ≡ K.input
@@ -98,12 +115,27 @@ module _ {X S H : Type 0} (means : Means X S H) (rules : Rules) where
       rw (brought-tells rules (means.foreign s) opened c (Tells [] reads.0) q.decided here, stays, not_exact)
       (ap (with_messages []) (trace-quietly s line last reads.0 text later not_exact h reads.1.1))
 
+  -- each character of a text is held of a reference
+  trace-held : (s : S) (line : ℕ) (last : List ℕ) (stand : Stand) (held text : List ℕ) → line < 2 ^ 64 → HoldsEach rules.names held text
+      → trace means.step means.reply means.foreign rules s line last (InReference stand held) text ≡ record { messages = []; opened = InReference stand (held ++ text); last_start_tag = last }
+  unfolding trace trace_brought trace_here stepped HoldsEach line_past brought_at reference_step
+  trace-held s line last stand held [] h holds = rw (append-nil held) refl
+  trace-held s line last stand held (c ∷ text) h holds =
+      let stays : line_past line c ≡ line = rw (ne_eqb c line_feed (λ e. omega (arith, holds.1, e))) (omega (arith, h)) in
+      rw (holds.0, stays, good_between c holds.1 holds.2, and-false rules.exact, ← append_assoc held (c ∷ []) text)
+      (ap (with_messages []) (trace-held s line last stand (held ++ c ∷ []) text h holds.3))
+
+  trace-text : (s : S) (line : ℕ) (last : List ℕ) (opened : Open) (text : List ℕ) (later : Open) → line < 2 ^ 64 → TellsNothing rules opened text later
+      → trace means.step means.reply means.foreign rules s line last opened text ≡ record { messages = []; opened = later; last_start_tag = last }
+  trace-text s line last opened text later h (inl quiet) = trace-quietly s line last opened text later quiet.0 h quiet.1
+  trace-text s line last opened text later h (inr held) = rw (held.before, held.after) (trace-held s line last held.stand held.held text h held.holds)
+
   quiet-trace : (K : Start) (s : S) (text : List ℕ) (later : Open) → IsQuietText rules K text later
       → trace means.step means.reply means.foreign rules s (line_after K.input []) K.last_start_tag K.opened (normalised K.input text)
       ≡ record { messages = []; opened = later; last_start_tag = K.last_start_tag }
   quiet-trace K s text later q =
-      rw (line_after-none K.input q.fits, normalised-ordinary K.input text q.past_line_break q.past_stream_start (all_ordinary K.opened text later q.reads))
-      (trace-quietly s K.input.line K.last_start_tag K.opened text later q.not_exact q.fits q.reads)
+      rw (line_after-none K.input q.fits, normalised-ordinary K.input text q.past_line_break q.past_stream_start (text_ordinary rules K.opened text later q.reads))
+      (trace-text s K.input.line K.last_start_tag K.opened text later q.fits q.reads)
 
   pub told-quietly : (K : Start) (s : S) (text : List ℕ) (later : Open) → IsQuietText rules K text later → messages_so_far means rules K s text ≡ []
   told-quietly K s text later q =
@@ -115,7 +147,7 @@ module _ {X S H : Type 0} (means : Means X S H) (rules : Rules) where
       after-opened means.step means.reply means.foreign rules K s text ∙ ap (λ (t : Trace). t.opened) (quiet-trace K s text later q) in
       let last : (start_after means rules K s text).last_start_tag ≡ K.last_start_tag =
       after-last means.step means.reply means.foreign rules K s text ∙ ap (λ (t : Trace). t.last_start_tag) (quiet-trace K s text later q) in
-      rw (opened, last, input_after-ordinary K.input text q.past_line_break q.past_stream_start (all_ordinary K.opened text later q.reads) q.fits) refl
+      rw (opened, last, input_after-ordinary K.input text q.past_line_break q.past_stream_start (text_ordinary rules K.opened text later q.reads) q.fits) refl
 
   -- so the tokenizer has read on to where it leads, and sent nothing
   HasRead-text : (K L N : Start) (old mid new : TextQueue) (s t : S) (front : List ℕ) (later : Open) → HasRead means rules K L old mid s t → Takes mid new front

@@ -1,17 +1,31 @@
 -- Characters that tell nothing and are read at once, without the sink.
 use Rattle.std.specs.Prelude.{◌≡◌, ◌⊎◌, ◌≤◌, ◌<◌, ◌^◌, ℕ, false, List, [], ◌++◌, length, Result, OnOk}
-use Rattle.html5grammar.specs.Start.{Open, Rules, Start}
+use Rattle.html5grammar.specs.Start.{Open, Rules, Stand, Start}
+use Rattle.html5grammar.specs.Start.Open.{InReference}
+use Rattle.html5opened.specs.CharRef.{HoldsEach}
 use Rattle.html5opened.specs.declared.error.TokenizerError.{TokenizerError}
 use Rattle.html5quiet.specs.Quiet.{ReadsQuietly}
 use Rattle.markup5ever.specs.BufferQueue.{TextQueue, Takes}
+use Rattle.markup5ever.specs.NamedReferences.{NamedReference}
 
--- from K on the text tells nothing, and `later` is open after it. Errors are not exact, and no first character may be dropped.
+-- "Character reference state": where `opened` is a reference, each character of the text is held, and leads to `later`
+pub record HoldsText (names : List NamedReference) (opened : Open) (text : List ℕ) (later : Open) : Type 0 where
+  pub stand : Stand
+  pub held : List ℕ
+  pub before : opened ≡ InReference stand held
+  pub holds : HoldsEach names held text
+  pub after : later ≡ InReference stand (held ++ text)
+
+-- the text tells nothing after `opened`, and leads to `later`: errors are not exact, or the text is held of a reference
+abbrev pub TellsNothing : Rules → Open → List ℕ → Open → Type 0
+TellsNothing rules opened text later = ((rules.exact ≡ false) × ReadsQuietly opened text later) ⊎ HoldsText rules.names opened text later
+
+-- from K on the text tells nothing, and `later` is open after it. No first character may be dropped.
 pub record IsQuietText (rules : Rules) (K : Start) (text : List ℕ) (later : Open) : Type 0 where
-  pub not_exact : rules.exact ≡ false
   pub past_line_break : K.input.after_carriage_return ≡ false
   pub past_stream_start : K.input.drops_byte_order_mark ≡ false
   pub fits : K.input.line < 2 ^ 64
-  pub reads : ReadsQuietly K.opened text later
+  pub reads : TellsNothing rules K.opened text later
 
 -- the text is one that tells nothing, and then a character for which memory was refused
 pub record StopsAtCharacter (rules : Rules) (K : Start) (text : List ℕ) : Type 0 where

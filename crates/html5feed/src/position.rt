@@ -12,7 +12,8 @@ ghost use Rattle.html5grammar.specs.NormalisedText.{input_after};
 ghost use Rattle.html5grammar.specs.Reading.{last_after};
 ghost use Rattle.html5grammar.specs.Slice.{tokens_of_late};
 ghost use Rattle.html5grammar.specs.Start.{start_of, initial_name, raw_of, is_clean, is_undecided_open, held_len};
-ghost use Rattle.html5opened.specs.CharRef.{HasStand, begun_reference};
+ghost use Rattle.html5opened.specs.CharRef.{BeginsInAscii, HasStand, begun_reference};
+ghost use Rattle.html5opened.specs.Undecided.{is_reference};
 ghost use Rattle.html5grammar.specs.Start.Mode.{Data, Plain, RawText};
 ghost use Rattle.html5grammar.specs.Start.Open.{Between};
 ghost use Rattle.html5opened.specs.CurrentTag.{is_between, opened_of, last_name_of};
@@ -20,7 +21,7 @@ ghost use Rattle.html5feed.specs.Refused.{IsRun};
 ghost use Rattle.html5opened.specs.Runs.{IsRunAt, other_run_ends, run_ends, opened_after_run};
 ghost use Rattle.std.specs.Str.{IsUtf8, chars};
 ghost use Rattle.html5states.specs.Telling.{Emits, Tells, IsRefusal, IsToldAs, faults_of};
-ghost use Rattle.html5feed.specs.Quiet.{IsQuietText, StopsAtCharacter};
+ghost use Rattle.html5feed.specs.Quiet.{HoldsText, IsQuietText, StopsAtCharacter};
 ghost use Rattle.html5feed.specs.Starting.{CanStart};
 ghost use Rattle.html5feed.specs.Undecided.{rules_with};
 
@@ -289,8 +290,8 @@ impl<A: Allocator + Copy> Position<A> {
     }
 
     /// Reads a text, from its front, as long as its characters tell nothing. Answers how many bytes it
-    /// read. It reads none where errors are exact, where a reference is open, or where a first character
-    /// may be dropped.
+    /// read. Where a reference is open they are held of it, also where errors are exact. Elsewhere it
+    /// reads none where errors are exact. It reads none at all where a first character may be dropped.
     #[inline(always)]
     pub fn read_quietly(
         &mut self,
@@ -309,12 +310,40 @@ impl<A: Allocator + Copy> Position<A> {
             StopsAtCharacter rules.now self.old (chars (take refused.bytes text.now))) }
         ensures last { self.new.last_start_tag ≡ self.old.last_start_tag }
         ensures input { self.new.input ≡ self.old.input }
-        ensures held { held_len self.new.opened ≤ held_len self.old.opened }
+        ensures held { IfOk result (λ bytes. held_len self.new.opened
+            ≤ held_len self.old.opened + length (chars (take bytes text.now))) }
+        ensures refused_held { IfErr result (λ refused. held_len self.new.opened ≤ held_len self.old.opened) }
     {
-        if rules.exact_errors || self.in_reference || !self.input.is_past_start() {
+        if !self.input.is_past_start() {
+            return Ok(0);
+        }
+        if self.in_reference {
+            return self.hold_front(rules.names, text);
+        }
+        if rules.exact_errors {
             return Ok(0);
         }
         read_quietly(&mut self.opened, alloc, text)
+    }
+
+    // Holds the letters and digits with which a text begins, where a reference is open. Answers how many
+    // bytes it holds.
+    #[inline(always)]
+    fn hold_front(&mut self, names: &NamedReferences<A>, text: &str) -> Result<usize, Refused>
+        requires { is_reference self.old.opened ≡ true }
+        ensures within { IfOk result (λ bytes. bytes ≤ length text.now) }
+        ensures rest_utf8 { IfOk result (λ bytes. IsUtf8 (drop bytes text.now)) }
+        ensures holds { IfOk result (λ bytes.
+            HoldsText names.now self.old.opened (chars (take bytes text.now)) self.new.opened) }
+        ensures kept { IfErr result (λ refused. self.new.opened ≡ self.old.opened) }
+        ensures refused { IfErr result (λ refused. (refused.bytes ≡ 1) × BeginsInAscii text.now) }
+        ensures last { self.new.last_start_tag ≡ self.old.last_start_tag }
+        ensures input { self.new.input ≡ self.old.input }
+    {
+        match self.held.hold_front(names, text) {
+            Ok(bytes) => Ok(bytes),
+            Err(AllocError) => Err(Refused { bytes: 1 }),
+        }
     }
 
     /// Appends a run to the open name, value or comment.

@@ -10,6 +10,7 @@ pub mod HeldLetters
 pub mod KeywordReading
 pub mod Keywords
 pub mod LongestName
+pub mod NameFronts
 pub mod Numbers
 pub mod PlainNames
 pub mod RunSteps

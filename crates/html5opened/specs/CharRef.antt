@@ -1,9 +1,10 @@
 -- "Character reference state": where a reference stands, what is held of one, and what it comes to.
-use Rattle.std.specs.Prelude.{◌≡◌, ◌≤◌, ℕ, Bool, true, List, [], ◌∷◌, All, Option, None, Some, length, take, if◌then◌else◌}
+use Rattle.std.specs.Prelude.{◌≡◌, ◌≢◌, ◌≤◌, ◌==◌, ℕ, Bool, true, List, [], ◌∷◌, ◌++◌, All, Option, None, Some, length, take, drop, if◌then◌else◌}
 use Rattle.std.specs.Char.{is_ascii_alphanumeric}
 use Rattle.std.specs.List.{list_all}
-use Rattle.html5grammar.specs.Characters.{number_sign}
-use Rattle.html5grammar.specs.Reference.{is_number}
+use Rattle.std.specs.Str.{IsAscii, IsUtf8}
+use Rattle.html5grammar.specs.Characters.{number_sign, semicolon}
+use Rattle.html5grammar.specs.Reference.{is_number, is_undecided}
 use Rattle.html5grammar.specs.Reference as grammar
 use Rattle.html5grammar.specs.Start.{Open, Stand}
 use Rattle.html5grammar.specs.Start.Mode.{Data, RawText}
@@ -13,7 +14,7 @@ use Rattle.html5grammar.specs.Start.Place.{InValue}
 use Rattle.html5grammar.specs.Start.Stand.{InText, InAttribute}
 use Rattle.html5opened.specs.declared.char_ref.Found.{Found}
 use Rattle.html5opened.specs.declared.char_ref.Named.{Named}
-use Rattle.markup5ever.specs.NamedReferences.{NamedReference}
+use Rattle.markup5ever.specs.NamedReferences.{NamedReference, begins_name}
 
 -- whether a reference can stand where this is open
 abbrev pub HasStand : Open → Type 0
@@ -40,6 +41,26 @@ pub record IsHeld (held : List ℕ) (is_alphanumeric : Bool) : Type 0 where
   pub plain : All (λ c. (number_sign ≤ c) × (c ≤ 0x7A)) held
   pub number : IsNumberHeld held
   pub alphanumeric : is_alphanumeric ≡ list_all is_ascii_alphanumeric held
+
+-- "Named character reference state": each of these characters leaves the reference undecided of which so much is held, and is held,
+-- too
+unfoldable pub HoldsEach : List NamedReference → List ℕ → List ℕ → Type 0
+HoldsEach names held [] = Unit {0}
+HoldsEach names held (c ∷ text) =
+    (is_undecided names (held ++ c ∷ []) ≡ true) × (number_sign ≤ c) × (c ≤ 0x7A) × HoldsEach names (held ++ c ∷ []) text
+
+-- a text begins with a character of ASCII
+pub record BeginsInAscii (text : List ℕ) : Type 0 where
+  pub filled : 1 ≤ length text
+  pub ascii : IsAscii (take 1 text)
+  pub rest_utf8 : IsUtf8 (drop 1 text)
+
+-- "Named character reference state": a text begins with so many letters and digits, and so many bytes of it are these with a
+-- semicolon after them or with none, where a name of the table begins so. They are none where no name does.
+pub record IsNameFront (names : List NamedReference) (text : List ℕ) (letters bytes : ℕ) : Type 0 where
+  pub within : bytes ≤ length text
+  pub parts : bytes ≢ 0 → take bytes text ≡ take letters text ++ (if bytes == letters then [] else semicolon ∷ [])
+  pub begins : bytes ≢ 0 → begins_name names (take bytes text) ≡ true
 
 -- the second character, if there is one
 abbrev pub more_of : Option ℕ → List ℕ

@@ -148,6 +148,17 @@ impl<A: Allocator> AttributeList<A> {
         self.items.is_empty()
     }
 
+    /// Leaves none.
+    #[inline(always)]
+    pub fn clear(&mut self)
+        ensures { self.new ≡ [] }
+    {
+        self.is_indexed = false;
+        if !self.items.is_empty() {
+            self.items.clear();
+        }
+    }
+
     /// Whether an attribute has the name.
     pub fn has(&self, name: &str) -> bool
         ensures { result ≡ has_attribute self.now name.now }

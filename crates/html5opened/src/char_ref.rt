@@ -1,13 +1,14 @@
 //! What is held of a character reference until it is decided, its number and its longest name.
 #![tactic(auto)]
 
-ghost use Rattle.std.specs.Prelude.{◌≡◌, ◌≢◌, ◌≤◌, ◌||◌, ◌&&◌, ◌==◌, ℕ, ◌+◌, ◌%◌, ◌^◌, ◌∷◌, [], ◌++◌, true, false, not, min, All, Option, Some, None, IfOk, IfErr, OnOk, MatchOption, length, string_bytes, if◌then◌else◌};
+ghost use Rattle.std.specs.Prelude.{◌≡◌, ◌≢◌, ◌≤◌, ◌<◌, ◌||◌, ◌&&◌, ◌==◌, ℕ, ◌+◌, ◌%◌, ◌^◌, ◌∷◌, [], ◌++◌, true, false, not, min, All, Option, Some, None, IfOk, IfErr, OnOk, MatchOption, length, take, drop, slice_index, string_bytes, if◌then◌else◌};
 ghost use Rattle.std.specs.Char.{is_ascii_alphanumeric};
 ghost use Rattle.std.specs.Option.{is_none};
-ghost use Rattle.std.specs.Str.{IsAscii};
+ghost use Rattle.std.specs.List.{list_all};
+ghost use Rattle.std.specs.Str.{IsAscii, IsUtf8, chars};
 ghost use Rattle.html5grammar.specs.Characters.{number_sign, semicolon};
 ghost use Rattle.html5grammar.specs.Reference.{is_undecided, is_number, is_x, base_of, after_x, has_digits, number_value, character_of_number, is_invalid_number, longest_name, goes_on, first_or};
-ghost use Rattle.html5opened.specs.CharRef.{IsHeld, IsNumberHeld, IsNamed, decided};
+ghost use Rattle.html5opened.specs.CharRef.{BeginsInAscii, HoldsEach, IsHeld, IsNameFront, IsNumberHeld, IsNamed, decided};
 ghost use Rattle.markup5ever.specs.NamedReferences.{begins_name};
 
 use markup5ever::data::{NamedReferences, c1_replacement};
@@ -110,6 +111,35 @@ impl<A: Allocator> CharRef<A> {
         self.hold_name(names, c)
     }
 
+    /// Right after the `&`, holds all the letters and digits with which a text begins, where a name of the
+    /// table begins with them, and the semicolon after them, where one begins with that, too. Answers how
+    /// many bytes it holds. They are none where something is held, so a text is searched once for each `&`.
+    #[inline(never)]
+    pub fn hold_front(
+        &mut self,
+        names: &NamedReferences<A>,
+        text: &str,
+    ) -> Result<usize, AllocError>
+        ensures within { IfOk result (λ bytes. bytes ≤ length text.now) }
+        ensures rest_utf8 { IfOk result (λ bytes. IsUtf8 (drop bytes text.now)) }
+        ensures holds { IfOk result (λ bytes. HoldsEach names.now self.old (chars (take bytes text.now))) }
+        ensures held { IfOk result (λ bytes. self.new ≡ self.old ++ chars (take bytes text.now)) }
+        ensures kept { IfErr result (λ e. self.new ≡ self.old) }
+        ensures refused { IfErr result (λ e. BeginsInAscii text.now) }
+    {
+        if !self.held.is_empty() {
+            return Ok(0);
+        }
+        let letters = letters_len(text);
+        let bytes = front_len(names, text, letters);
+        if bytes == 0 {
+            return Ok(0);
+        }
+        self.held.push_str(&text[..bytes])?;
+        self.is_alphanumeric = bytes == letters;
+        Ok(bytes)
+    }
+
     // Whether the character is the `#` of a number.
     fn begins_number(&self, c: char) -> bool
         ensures { result ≡ ((length self.now == 0) && (c == number_sign)) }
@@ -149,6 +179,45 @@ impl<A: Allocator> CharRef<A> {
         }
         Ok(undecided)
     }
+}
+
+// How many letters and digits a text begins with.
+fn letters_len(text: &str) -> usize
+    ensures within { result ≤ length text.now }
+    ensures letters { list_all is_ascii_alphanumeric (take result text.now) ≡ true }
+{
+    let bytes = text.as_bytes();
+    for at in 0..bytes.len() {
+        if !bytes[at].is_ascii_alphanumeric() {
+            return at;
+        }
+    }
+    bytes.len()
+}
+
+// Whether a semicolon stands at the place.
+fn is_semicolon_at(text: &str, at: usize) -> bool
+    ensures { result ≡ true → (at < length text.now) × (slice_index text.now at ≡ semicolon) }
+{
+    at < text.len() && text.as_bytes()[at] == b';'
+}
+
+// How many bytes of a text are held at once, where it begins with so many letters and digits.
+fn front_len<A: Allocator>(names: &NamedReferences<A>, text: &str, letters: usize) -> usize
+    requires within { letters ≤ length text.now }
+    requires letters { list_all is_ascii_alphanumeric (take letters text.now) ≡ true }
+    ensures { IsNameFront names.now text.now letters result }
+{
+    if letters == 0 {
+        return 0;
+    }
+    if is_semicolon_at(text, letters) && names.is_prefix(&text[..letters + 1]) {
+        return letters + 1;
+    }
+    if names.is_prefix(&text[..letters]) {
+        return letters;
+    }
+    0
 }
 
 // Whether the character is one of names.

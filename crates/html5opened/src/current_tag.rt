@@ -41,6 +41,19 @@ impl<A: Allocator + Copy> CurrentTag<A> {
         }
     }
 
+    /// Begins a tag of which nothing was read yet. Buffers are kept.
+    #[inline(always)]
+    pub fn begin(&mut self, kind: TagKind)
+        ensures { open_tag self.new ≡ begun kind }
+    {
+        self.kind = kind;
+        self.name.clear();
+        self.attrs.clear();
+        self.had_duplicate_attributes = false;
+        self.attr_name.clear();
+        self.attr_value.clear();
+    }
+
     /// Ends the tag after its last attribute, and answers the tag. What stays here says nothing until
     /// the next tag begins.
     pub fn end(&mut self, alloc: A, self_closing: bool) -> Tag<A>

@@ -14,7 +14,6 @@ use crate::characters::first_ascii;
 use html5ever_interface::interface::token::TagKind;
 use html5ever_interface::states::State;
 use html5opened::characters::is_letter;
-use html5opened::current_tag::CurrentTag;
 use html5opened::opened::Opened;
 use html5opened::runs::{attribute_name_ends, name_of, tag_name_ends};
 use markup5ever::small_char_set::SmallCharSet;
@@ -47,7 +46,7 @@ fn begin_tag<A: Allocator + Copy>(
     ensures held { held_len (opened_of at.new) ≤ held_len (opened_of at.old) }
 {
     at.state = State::TagName;
-    at.tag = CurrentTag::new(alloc, kind);
+    at.tag.begin(kind);
     at.tag.name = name_of(alloc, name)?;
     Ok(())
 }

@@ -20,7 +20,6 @@ use html5ever_interface::interface::sink::TokenSink;
 use html5ever_interface::interface::token::{TagKind, Token};
 use html5ever_interface::states::{RawKind, ScriptEscapeKind, State};
 use html5opened::characters::{ends_name, is_letter};
-use html5opened::current_tag::CurrentTag;
 use html5opened::error::TokenizerError;
 use html5opened::letters::{clear_letters, end_tag_name, push_letter, switched};
 use html5opened::opened::{Opened, Progress, Step};
@@ -269,7 +268,7 @@ impl<S: TokenSink<Token<A>>, A: Allocator + Copy> Teller<'_, S, A> {
             (tag_name_end_step (record (begun TagKind.EndTag) { name = string_bytes name }) c) at.old at.new }
     {
         at.state = State::TagName;
-        at.tag = CurrentTag::new(self.alloc, TagKind::EndTag);
+        at.tag.begin(TagKind::EndTag);
         at.tag.name = name;
         self.tag_name_state(at, c)
     }

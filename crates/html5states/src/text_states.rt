@@ -16,7 +16,6 @@ use html5ever_interface::interface::sink::TokenSink;
 use html5ever_interface::interface::token::{TagKind, Token};
 use html5ever_interface::states::State;
 use html5opened::characters::is_letter;
-use html5opened::current_tag::CurrentTag;
 use html5opened::error::TokenizerError;
 use html5opened::opened::{Opened, Progress, Step};
 use std::alloc::Allocator;
@@ -102,7 +101,7 @@ impl<S: TokenSink<Token<A>>, A: Allocator + Copy> Teller<'_, S, A> {
             (tag_name_step self.old.exact_errors (begun kind) c) at.old at.new }
     {
         at.state = State::TagName;
-        at.tag = CurrentTag::new(self.alloc, kind);
+        at.tag.begin(kind);
         self.tag_name_state(at, c)
     }
 

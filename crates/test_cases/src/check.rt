@@ -87,9 +87,9 @@ fn is_told_so_far(
     let opts = options_of(alloc, settings)?;
     let sink = PrintSink::new(alloc, settings.foreign);
     let mut tokenizer = Tokenizer::new(alloc, sink, opts, &names);
-    let text = String::from_str(alloc, &case.input)?;
+    let input = &case.input;
     let mut writer = WriteTarget::new(Vec::new(alloc));
-    if feed_text(alloc, &mut tokenizer, text, settings.cut, &mut writer).is_err() {
+    if feed_text(alloc, &mut tokenizer, input, settings.cut, &mut writer).is_err() {
         return Err(CaseError::Memory);
     }
     let output = case.output.as_bytes();

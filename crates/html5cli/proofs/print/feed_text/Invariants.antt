@@ -1,12 +1,12 @@
-use Rattle.std.proofs.Common.{◌≡◌, ◌-◌, length, string_bytes}
+use Rattle.std.proofs.Common.{◌≡◌, ◌-◌, length}
 use Rattle.html5cli.proofs.Feeding.{FedTo}
 use Rattle.html5cli.proofs.print.feed_text.Given as goal
 
 abbrev pub invariant-loop-start : goal.invariant-loop-start
 invariant-loop-start g l = record {
-  fed : FedTo (g.W.Target.contents l.initial.writer) (g.W.Target.contents l.writer) l.initial.tokenizer l.tokenizer (string_bytes l.text) l.start l.queue;
+  fed : FedTo (g.W.Target.contents l.initial.writer) (g.W.Target.contents l.writer) l.initial.tokenizer l.tokenizer l.text l.start l.queue;
   no_failure : g.W.Target.failures l.writer ≡ g.W.Target.failures l.initial.writer;
 }
 
 abbrev pub decreases-loop-start : goal.decreases-loop-start
-decreases-loop-start g l = length (string_bytes l.text) - l.start
+decreases-loop-start g l = length l.text - l.start

@@ -1,8 +1,6 @@
-use Rattle.std.proofs.Common.{◌≡◌, ℕ, List, inr, refl, subst, string_bytes}
+use Rattle.std.proofs.Common.{◌≡◌, ◌∙◌, ℕ, List, inr, refl, subst}
 use Rattle.std.specs.Io.KnownBytes.{Appends}
-use Rattle.std.specs.Str.{IsUtf8}
 use Rattle.std.proofs.lemmas.Result.{on_ok_weaker, on_err_weaker}
-use Rattle.std.proofs.lemmas.Str.{IsUtf8-string_bytes}
 use Rattle.devices.specs.Device.{AppendsBeginning}
 use Rattle.html5cli.specs.Printing.{printed_reading}
 use Rattle.html5cli.specs.Settings.{said_by}
@@ -15,18 +13,18 @@ returns-in_err-text-clause-not_utf8 g c = λ _. record {
   bytes = c.in_ok-bytes.bytes.items;
   consumed = Consumes-whole _ _ c.in_ok-bytes.bytes.items c.in_ok-bytes.ensures.ok c.in_ok-bytes.ensures.end c.in_ok-bytes.ensures.in_order;
   at_end = c.in_ok-bytes.ensures.end;
-  no_utf8 = c.in_err-text.ensures.not_utf8.0 refl;
+  no_utf8 = rw c.deref.ensures.value at (c.in_err-text.ensures.not_utf8.0 refl);
   kept = Keeps-same _;
 }
 
 pub returns-clause-ok : goal.returns-clause-ok
 returns-clause-ok g c =
-    let text : string_bytes c.in_ok-text.text ≡ c.in_ok-bytes.bytes.items = c.in_ok-text.ensures.ok in
+    let text : c.in_ok-text.text.now ≡ c.in_ok-bytes.bytes.items = c.in_ok-text.ensures.ok.0 ∙ c.deref.ensures.value in
     on_ok_weaker c.print_text.result (λ written. record {
       bytes = c.in_ok-bytes.bytes.items;
       consumed = Consumes-whole _ _ c.in_ok-bytes.bytes.items c.in_ok-bytes.ensures.ok c.in_ok-bytes.ensures.end c.in_ok-bytes.ensures.in_order;
       at_end = c.in_ok-bytes.ensures.end;
-      utf8 = subst (λ (l : List ℕ). IsUtf8 l) text (IsUtf8-string_bytes c.in_ok-text.text);
+      utf8 = rw c.deref.ensures.value at c.in_ok-text.ensures.ok.1;
       printed = subst (λ (l : List ℕ). Appends (g.W.Target.contents c.args.writer.now) (g.W.Target.contents c.print_text.new.writer) (printed_reading (said_by c.args.settings.now) c.args.names.now l)) text written;
     }) c.print_text.ensures.ok
 
@@ -35,11 +33,11 @@ returns-clause-items g c = on_ok_weaker c.print_text.result (prints-items _ _ _ 
 
 pub returns-clause-beginning : goal.returns-clause-beginning
 returns-clause-beginning g c =
-    let text : string_bytes c.in_ok-text.text ≡ c.in_ok-bytes.bytes.items = c.in_ok-text.ensures.ok in
+    let text : c.in_ok-text.text.now ≡ c.in_ok-bytes.bytes.items = c.in_ok-text.ensures.ok.0 ∙ c.deref.ensures.value in
     on_err_weaker c.print_text.result (λ written. inr (record {
       bytes = c.in_ok-bytes.bytes.items;
       consumed = Consumes-whole _ _ c.in_ok-bytes.bytes.items c.in_ok-bytes.ensures.ok c.in_ok-bytes.ensures.end c.in_ok-bytes.ensures.in_order;
       at_end = c.in_ok-bytes.ensures.end;
-      utf8 = subst (λ (l : List ℕ). IsUtf8 l) text (IsUtf8-string_bytes c.in_ok-text.text);
+      utf8 = rw c.deref.ensures.value at c.in_ok-text.ensures.ok.1;
       printed = subst (λ (l : List ℕ). AppendsBeginning (g.W.Target.contents c.args.writer.now) (g.W.Target.contents c.print_text.new.writer) (printed_reading (said_by c.args.settings.now) c.args.names.now l)) text written;
     })) c.print_text.ensures.err
