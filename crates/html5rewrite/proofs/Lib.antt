@@ -1,4 +1,5 @@
-pub mod Steps
-pub mod WrittenPages
+pub mod Hiding
 pub mod PlainPieces
 pub mod Replies
+pub mod Steps
+pub mod WrittenPages

@@ -6,4 +6,5 @@ pub mod NamedReferencesLemmas
 pub mod Searches
 pub mod SmallCharSetLemmas
 pub mod TableChecks
+pub mod Tendrils
 pub mod TextLemmas

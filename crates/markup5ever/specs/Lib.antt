@@ -4,6 +4,8 @@ pub mod SetResult
 pub mod SmallCharSet
 pub mod Lanes
 pub mod Names
+pub mod Storage
+pub mod Tendril
 pub mod NamedReferences
 pub mod C1
 pub mod Place
