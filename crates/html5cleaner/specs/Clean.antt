@@ -1,5 +1,5 @@
 -- A page that is cleaned: what is kept of each run of text and of the token after it, and what is written of that.
-use Rattle.std.specs.Prelude.{ℕ, ◌+◌, ◌-◌, Bool, false, not, List, [], ◌∷◌, ◌++◌, ◌&&◌, ◌==◌, filter, map, chars, codes, encode_utf8_all, if◌then◌else◌}
+use Rattle.std.specs.Prelude.{ℕ, ◌+◌, ◌-◌, Bool, false, not, List, [], ◌∷◌, ◌++◌, ◌&&◌, ◌==◌, filter, map, chars, codes, string_bytes, encode_utf8_all, if◌then◌else◌}
 use Rattle.std.specs.List.{list_any}
 use Rattle.std.specs.Str.{bytes_eq}
 use Rattle.html5ever_interface.specs.Token.{Told, TagOf}
@@ -7,7 +7,6 @@ use Rattle.html5ever_interface.specs.Token.Told.{Tag}
 use Rattle.html5ever_interface.specs.declared.interface.token.TagKind.{TagKind}
 use Rattle.html5ever_interface.specs.declared.interface.token.TagKind.TheVariants.{StartTag, EndTag}
 use Rattle.markup5ever.specs.Names.{AttributeOf}
-use Rattle.markup5ever.specs.Tendril.{tendril_bytes}
 use Rattle.html5policy.specs.Policy.{PolicyOf, hides, is_allowed, is_rel_of_link}
 use Rattle.html5write.specs.Pieces.{NameAndValue, Piece, can_write}
 use Rattle.html5write.specs.Pieces.Piece.{TextPiece, StartTagPiece, EndTagPiece}
@@ -24,7 +23,7 @@ pub record Hidden : Type 0 where
   pub depth : ℕ
 
 abbrev pub hidden_of : {Z : Type 0} → RustHidden Z → Hidden
-hidden_of hidden = record { name = tendril_bytes hidden.name; depth = hidden.depth }
+hidden_of hidden = record { name = string_bytes hidden.name; depth = hidden.depth }
 
 -- whether a tag is the start tag of an element that is dropped with what stands in it; `<svg/>` and `<br>` have nothing in them
 abbrev pub opens_by_kind : PolicyOf → TagKind → List ℕ → Bool → Bool

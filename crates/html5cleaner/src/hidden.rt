@@ -1,20 +1,18 @@
 //! What is hidden: elements that are dropped with what stands in them.
-ghost use Rattle.std.specs.Prelude.{◌≡◌, [], IfSome};
+ghost use Rattle.std.specs.Prelude.{◌≡◌, [], IfSome, string_bytes};
 ghost use Rattle.html5ever_interface.specs.Token.{tag_of, told_by};
-ghost use Rattle.markup5ever.specs.Tendril.{tendril_bytes};
 ghost use Rattle.html5cleaner.specs.Clean.{depth_after, depth_after_tag, hidden_of, name_after, name_after_tag, opens};
 
 use crate::elements::is_empty_element;
 use html5ever_interface::interface::token::{Tag, TagKind, Token};
 use html5policy::Policy;
-use markup5ever::tendril::StrTendril;
 use std::alloc::Allocator;
 
 /// How many elements of one name are open and hide what stands in them. Where none is, the name says
 /// nothing.
 #[derive(Drop)]
 pub struct Hidden<A: Allocator> {
-    pub name: StrTendril<A>,
+    pub name: String<A>,
     pub depth: u64,
 }
 
@@ -33,11 +31,11 @@ fn opens<A: Allocator>(policy: &Policy<A>, tag: &Tag<A>) -> bool
 impl<A: Allocator> Hidden<A> {
     /// Nothing is hidden.
     pub fn none(alloc: A) -> Hidden<A>
-        ensures name { tendril_bytes result.name ≡ [] }
+        ensures name { string_bytes result.name ≡ [] }
         ensures depth { result.depth ≡ 0 }
     {
         Hidden {
-            name: StrTendril::new(alloc),
+            name: String::new(alloc),
             depth: 0,
         }
     }
@@ -69,8 +67,8 @@ impl<A: Allocator> Hidden<A> {
     }
 
     // After a tag of this name this many are open.
-    fn pass_tag(&mut self, name: StrTendril<A>, depth: u64)
-        ensures name { tendril_bytes self.new.name ≡ name_after_tag (hidden_of self.old) (tendril_bytes name) }
+    fn pass_tag(&mut self, name: String<A>, depth: u64)
+        ensures name { string_bytes self.new.name ≡ name_after_tag (hidden_of self.old) (string_bytes name) }
         ensures depth { self.new.depth ≡ depth }
     {
         if self.depth == 0 {
@@ -81,7 +79,7 @@ impl<A: Allocator> Hidden<A> {
 
     /// After a token this many are open.
     pub fn pass(&mut self, token: Token<A>, depth: u64)
-        ensures name { tendril_bytes self.new.name ≡ name_after (hidden_of self.old) (told_by token) }
+        ensures name { string_bytes self.new.name ≡ name_after (hidden_of self.old) (told_by token) }
         ensures depth { self.new.depth ≡ depth }
     {
         match token {

@@ -55,19 +55,21 @@ fn fault_of(error: TokenizerError) -> Fault
 fn feed_piece<A: Allocator + Copy>(
     tokenizer: &mut Tokenizer<'_, PrintSink<A>, A>,
     queue: &mut BufferQueue<A>,
-    piece: &str,
+    piece: String<A>,
 ) -> Result<(), Fault>
     requires waiting { queue.old.text ≡ [] }
     requires going_on { tokenizer.old.ended ≡ false }
     requires not_failed { tokenizer.old.failed ≡ false }
-    ensures reads { OnOk result (ReadsOn printer_means tokenizer.old tokenizer.new (chars piece.now)) }
+    ensures reads { OnOk result (ReadsOn printer_means tokenizer.old tokenizer.new (chars (string_bytes piece))) }
     ensures taken { OnOk result (queue.new.text ≡ []) }
     ensures rules { tokenizer.new.rules ≡ tokenizer.old.rules }
     ensures going_on { tokenizer.new.ended ≡ false }
     ensures not_failed { OnOk result (tokenizer.new.failed ≡ false) }
     ensures err { IfErr result IsRefusal }
 {
-    queue.push_str(piece)?;
+    if queue.push_back(piece).is_err() {
+        return Err(Fault::Memory);
+    }
     match feed_until_done(tokenizer, queue) {
         Ok(()) => Ok(()),
         Err(error) => Err(fault_of(error)),
@@ -212,7 +214,8 @@ pub fn feed_text<W: Target, A: Allocator + Copy>(
     let mut start = 0;
     while start < text.len() {
         let end = start + piece_len(&text[start..], cut);
-        feed_piece(tokenizer, &mut queue, &text[start..end])?;
+        let piece = String::from_str(alloc, &text[start..end])?;
+        feed_piece(tokenizer, &mut queue, piece)?;
         write_full_page(writer, &mut tokenizer.sink)?;
         start = end;
     }

@@ -3,11 +3,10 @@ use Rattle.std.proofs.Common.{◌≡◌, ℕ, zero, suc, ◌+◌, ◌/◌, ◌<�
 use Rattle.std.proofs.lemmas.Bool.{ltb-true}
 use Rattle.std.proofs.lemmas.List.{length-map}
 use Rattle.std.proofs.lemmas.List.Elements.{All-append}
+use Rattle.std.proofs.lemmas.Str.{IsUtf8-string_bytes}
 use Rattle.std.specs.Str.{IsUtf8}
 use lib.Utf8.{scalar, scalars, next, encode, encodes, scalar_cases}
 use Rattle.markup5ever.specs.Names.{AttributeOf, attribute_of, plain_name}
-use Rattle.markup5ever.specs.Tendril.{tendril_bytes}
-use Rattle.markup5ever.proofs.Tendrils.{IsUtf8-tendril_bytes, IsCounted-tendril_bytes}
 use Rattle.markup5ever.specs.declared.interface.Attribute.{Attribute}
 use Rattle.html5ever_interface.specs.Token.{told_by}
 use Rattle.html5ever_interface.specs.declared.interface.token.Token.{Token}
@@ -90,7 +89,7 @@ IsRecordable-all : {Z : Type 0} (attributes : List (Attribute Z)) → ArePlain (
 IsRecordable-all [] plain k d within = absurd (omega arith)
 IsRecordable-all (a ∷ attributes) plain zero d within = record {
   plain = plain 0 d within;
-  local = IsCounted-tendril_bytes a.name.local.0;
+  local = IsShort-string_bytes a.name.local.0;
   value = IsShort-string_bytes a.value;
 }
 IsRecordable-all (a ∷ attributes) plain (suc k) d within =
@@ -104,13 +103,13 @@ IsToldWhole-told_by (DoctypeToken doctype) plain = record {
   system_id = IsShortIfAny-string_bytes doctype.system_id;
 }
 IsToldWhole-told_by (TagToken tag) plain = record {
-  name = IsCounted-tendril_bytes tag.name.0;
+  name = IsShort-string_bytes tag.name.0;
   count = rw (length-map tag.attrs.items attribute_of) (IsShort-items tag.attrs);
   attributes = IsRecordable-all tag.attrs.items plain;
 }
 IsToldWhole-told_by (CommentToken text) plain = IsShort-string_bytes text
 IsToldWhole-told_by (ProcessingInstructionToken text) plain = IsShort-string_bytes text
-IsToldWhole-told_by (CharacterTokens text) plain = AreLow-utf8 (tendril_bytes text) (IsUtf8-tendril_bytes text)
+IsToldWhole-told_by (CharacterTokens text) plain = AreLow-utf8 (string_bytes text) (IsUtf8-string_bytes text)
 IsToldWhole-told_by NullCharacterToken plain = tt
 IsToldWhole-told_by EOFToken plain = tt
 IsToldWhole-told_by (ParseError message) plain = IsShort-string_bytes message

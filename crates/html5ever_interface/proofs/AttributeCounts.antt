@@ -10,7 +10,6 @@ use Rattle.std.proofs.lemmas.List.{length-map}
 use Rattle.std.proofs.lemmas.List.Elements.{All-map, All-weaker}
 use Rattle.std.proofs.lemmas.List.Sorted.{length_permutation}
 use Rattle.std.proofs.lemmas.List.Sums.{sum_by-cons}
-use Rattle.markup5ever.specs.Tendril.{tendril_bytes}
 use Rattle.markup5ever.specs.Names.{AttributeOf, attribute_of, prefix_bytes}
 use Rattle.markup5ever.specs.declared.interface.Attribute.{Attribute}
 use Rattle.markup5ever.specs.declared.interface.Prefix.{Prefix}
@@ -20,7 +19,7 @@ use Rattle.html5ever_interface.proofs.Counts.{count_equal, count_equal-permutati
 abbrev pub same : {Z : Type 0} → Attribute Z → Attribute Z → Bool
 same a b =
     (option_eq (λ p q. string_eq p.0 q.0) a.name.prefix b.name.prefix
-    && (string_eq a.name.ns.0 b.name.ns.0 && bytes_eq (tendril_bytes a.name.local.0) (tendril_bytes b.name.local.0)))
+    && (string_eq a.name.ns.0 b.name.ns.0 && string_eq a.name.local.0 b.name.local.0))
     && string_eq a.value b.value
 
 -- both lists have as many that are equal to it
@@ -46,7 +45,7 @@ option_eq-prefix (Some p) (Some q) = refl
 same-attribute_of : {Z : Type 0} (a b : Attribute Z) → same a b ≡ same_of (attribute_of a) (attribute_of b)
 unfolding same_of
 same-attribute_of a b =
-    ap (λ prefixes. (prefixes && (string_eq a.name.ns.0 b.name.ns.0 && bytes_eq (tendril_bytes a.name.local.0) (tendril_bytes b.name.local.0))) && string_eq a.value b.value)
+    ap (λ prefixes. (prefixes && (string_eq a.name.ns.0 b.name.ns.0 && string_eq a.name.local.0 b.name.local.0)) && string_eq a.value b.value)
     (option_eq-prefix a.name.prefix b.name.prefix)
 
 option_eq-Decides : (p q : Option (List ℕ)) → Decides (option_eq bytes_eq p q) (p ≡ q)

@@ -1,7 +1,6 @@
 -- What a sink is sent, and what it replies, in the words of contracts. Texts are the bytes of their UTF-8.
 use Rattle.std.specs.Prelude.{◌≡◌, ℕ, Bool, true, false, List, Option, None, option_map, map, string_bytes, IsPermutation}
 use Rattle.markup5ever.specs.Names.{AttributeOf, attribute_of}
-use Rattle.markup5ever.specs.Tendril.{tendril_bytes}
 use Rattle.html5ever_interface.specs.declared.interface.token.TagKind.{TagKind}
 use Rattle.html5ever_interface.specs.declared.interface.token.Tag.{Tag as RustTag}
 use Rattle.html5ever_interface.specs.declared.interface.token.Doctype.{Doctype as RustDoctype}
@@ -42,7 +41,7 @@ pub data Told : Type 0 where
 abbrev pub tag_of : {Z : Type 0} → RustTag Z → TagOf
 tag_of tag = record {
   kind = tag.kind;
-  name = tendril_bytes tag.name.0;
+  name = string_bytes tag.name.0;
   self_closing = tag.self_closing;
   attributes = map attribute_of tag.attrs.items;
   had_duplicate_attributes = tag.had_duplicate_attributes;
@@ -73,7 +72,7 @@ told_by (DoctypeToken doctype) = Doctype (doctype_of doctype)
 told_by (TagToken tag) = Tag (tag_of tag)
 told_by (CommentToken text) = Comment (string_bytes text)
 told_by (ProcessingInstructionToken text) = Instruction (string_bytes text)
-told_by (CharacterTokens text) = Text (tendril_bytes text)
+told_by (CharacterTokens text) = Text (string_bytes text)
 told_by NullCharacterToken = Null
 told_by EOFToken = End
 told_by (ParseError message) = Error (string_bytes message)

@@ -1,13 +1,11 @@
 //! A sink that keeps what it is sent.
-ghost use Rattle.std.specs.Prelude.{◌≡◌, [], ◌∷◌, ◌++◌, map, OnOk, OnErr};
+ghost use Rattle.std.specs.Prelude.{◌≡◌, [], ◌∷◌, ◌++◌, map, OnOk, OnErr, string_bytes};
 ghost use Rattle.html5ever_interface.specs.Collected.{message_of, with_text, with_told, none_collected};
 ghost use Rattle.html5ever_interface.specs.Token.{told_by};
-ghost use Rattle.markup5ever.specs.Tendril.{tendril_bytes};
 
 use crate::interface::sink::TokenSink;
 use crate::interface::token::{SinkFault, Token, TokenSinkResult};
 use ghost_counts::Count;
-use markup5ever::tendril::StrTendril;
 use std::alloc::{AllocError, Allocator, Global};
 use std::marker::Model;
 
@@ -27,13 +25,13 @@ fn push_entry<A: Allocator>(
 }
 
 // Appends a text: to the last entry, where that is a text.
-fn push_text<A: Allocator + Copy>(
+fn push_text<A: Allocator>(
     entries: &mut Vec<(Token<A>, u64), A>,
-    text: StrTendril<A>,
+    text: String<A>,
 ) -> Result<(), AllocError>
     ensures ok { OnOk result
         (map message_of entries.new.items
-        ≡ with_text (map message_of entries.old.items) (tendril_bytes text)) }
+        ≡ with_text (map message_of entries.old.items) (string_bytes text)) }
     ensures err { OnErr result
         (map message_of entries.new.items ≡ map message_of entries.old.items) }
 {
@@ -41,14 +39,14 @@ fn push_text<A: Allocator + Copy>(
         return push_entry(entries, Token::CharacterTokens(text), 0);
     };
     match &mut entries[last].0 {
-        Token::CharacterTokens(before) => before.push_slice(&text),
+        Token::CharacterTokens(before) => before.push_str(&text),
         _ => push_entry(entries, Token::CharacterTokens(text), 0),
     }
 }
 
 // Appends a token with its line.
 #[tactic(auto, unfolding(crate::specs::Collected::with_message))]
-fn push_token<A: Allocator + Copy>(
+fn push_token<A: Allocator>(
     entries: &mut Vec<(Token<A>, u64), A>,
     token: Token<A>,
     line: u64,

@@ -18,7 +18,6 @@ ghost use Rattle.html5grammar.specs.Start.Mode.{Data, Plain, RawText};
 ghost use Rattle.html5grammar.specs.Start.Open.{Between};
 ghost use Rattle.html5opened.specs.CurrentTag.{is_between, opened_of, last_name_of};
 ghost use Rattle.html5feed.specs.Refused.{IsRun};
-ghost use Rattle.markup5ever.specs.Tendril.{tendril_bytes};
 ghost use Rattle.html5opened.specs.Runs.{IsRunAt, other_run_ends, run_ends, opened_after_run};
 ghost use Rattle.std.specs.Str.{IsUtf8, chars};
 ghost use Rattle.html5states.specs.Telling.{Emits, Tells, IsRefusal, IsToldAs, faults_of};
@@ -43,7 +42,6 @@ use html5opened::runs::{push_run, run_ends};
 use html5quiet::texts::{Refused, read_quietly};
 use html5states::teller::Teller;
 use markup5ever::data::NamedReferences;
-use markup5ever::tendril::StrTendril;
 use std::alloc::{AllocError, Allocator, Global};
 use std::marker::Model;
 
@@ -266,19 +264,19 @@ impl<A: Allocator + Copy> Position<A> {
         &mut self,
         alloc: A,
         sink: &mut S,
-        run: StrTendril<A>,
+        run: String<A>,
     ) -> Result<(), TokenizerError>
-        requires filled { chars (tendril_bytes run) ≢ [] }
+        requires filled { chars (string_bytes run) ≢ [] }
         requires past_line_break { self.old.input.after_carriage_return ≡ false }
         requires past_stream_start { self.old.input.drops_byte_order_mark ≡ false }
-        requires no_carriage_return { All (λ c. c ≢ carriage_return) (chars (tendril_bytes run)) }
-        ensures tells { (M : List Message) → IsToldAs (Text (tendril_bytes run)) self.new.input.line M
+        requires no_carriage_return { All (λ c. c ≢ carriage_return) (chars (string_bytes run)) }
+        ensures tells { (M : List Message) → IsToldAs (Text (string_bytes run)) self.new.input.line M
             → Tells S.means.step S.means.faulted result (S.means.state sink.old) M (S.means.state sink.new) }
         ensures faults { S.faults sink.new ≡ S.faults sink.old + faults_of result }
         ensures refusal { IfErr result IsRefusal }
         ensures opened { self.new.opened ≡ self.old.opened }
         ensures last { self.new.last_start_tag ≡ self.old.last_start_tag }
-        ensures input { self.new.input ≡ input_after self.old.input (chars (tendril_bytes run)) }
+        ensures input { self.new.input ≡ input_after self.old.input (chars (string_bytes run)) }
     {
         self.input.advance_run(&run);
         let line = self.input.line();

@@ -19,8 +19,8 @@ use markup5ever::buffer_queue::BufferQueue;
 use markup5ever::tokenizer_result::TokenizerResult;
 use std::alloc::Allocator;
 
-// Sends the run of text with which the queue's text begins, and that takes so many bytes. Where a
-// long run is all of the queue's text it is moved, not copied. The run leaves the queue even after a refusal.
+// Sends the run of text with which the queue's text begins, and that takes so many bytes. Where it
+// is all of the queue's text it is moved, not copied. The run leaves the queue even after a refusal.
 #[inline(always)]
 fn tell_waiting_run<S: TokenSink<Token<A>>, A: Allocator + Copy>(
     alloc: A,

@@ -8,7 +8,6 @@ use Rattle.std.specs.BTreeSet.{BTreeSet, Updates, contains_text}
 use Rattle.std.specs.Str.{bytes_eq}
 use Rattle.std.specs.String.{string_cmp}
 use Rattle.html5grammar.specs.Tag.{has_attribute}
-use Rattle.markup5ever.specs.Tendril.{tendril_bytes}
 use Rattle.markup5ever.specs.Names.{AttributeOf, attribute_of}
 use Rattle.markup5ever.specs.declared.interface.Attribute.{Attribute}
 use Rattle.html5opened.specs.AttributeList.{AddsName, HasNames}
@@ -35,12 +34,12 @@ has_attribute-last (x ∷ attributes) a name =
 -- the names of the first attributes, and that of the next
 pub names-more : {Z : Type 0} (old new : BTreeSet (String Z)) (attributes : List (Attribute Z)) (i : ℕ) (next : Attribute Z)
     → HasNames old (map attribute_of (take i attributes)) → next ≡ get_or attributes i next → i < length attributes
-    → AddsName old new (tendril_bytes next.name.local.0) → HasNames new (map attribute_of (take (i + 1) attributes))
+    → AddsName old new (string_bytes next.name.local.0) → HasNames new (map attribute_of (take (i + 1) attributes))
 names-more old new attributes i next has is within adds name =
     let more : map attribute_of (take (i + 1) attributes) ≡ map attribute_of (take i attributes) ++ attribute_of next ∷ [] =
     rw (add-one, take-suc attributes i next within, ← is) (map-append attribute_of (take i attributes) (next ∷ [])) in
     adds name
-    ∙ ap (λ b. bytes_eq (tendril_bytes next.name.local.0) name || b) (has name)
+    ∙ ap (λ b. bytes_eq (string_bytes next.name.local.0) name || b) (has name)
     ∙ sym (has_attribute-last (map attribute_of (take i attributes)) (attribute_of next) name)
     ∙ ap (λ l. has_attribute l name) (sym more)
 

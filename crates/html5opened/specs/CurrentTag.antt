@@ -14,7 +14,6 @@ use Rattle.html5grammar.specs.Start.Place.{InName, BeforeAttribute, InAttributeN
 use Rattle.html5grammar.specs.Start.DoctypePlace.{AfterWord, BeforeName, InDoctypeName, AfterName, AfterKeyword, BeforeIdentifier, InIdentifier, AfterIdentifier, BetweenIdentifiers, Skipped}
 use Rattle.html5grammar.specs.Start.Open.{Between, LessThan, LessThanSolidus, InTag, InRaw, InDeclaration, InComment, InBogusComment, InInstruction, InDoctype, InDoctypeKeyword}
 use Rattle.html5grammar.specs.Start.Quotes.{DoubleQuotes, SingleQuotes}
-use Rattle.markup5ever.specs.Tendril.{tendril_bytes}
 use Rattle.html5opened.specs.declared.current_tag.CurrentTag.{CurrentTag}
 use Rattle.html5opened.specs.declared.opened.Opened.{Opened}
 
@@ -22,10 +21,10 @@ use Rattle.html5opened.specs.declared.opened.Opened.{Opened}
 abbrev pub open_tag : {Z : Type 0} → CurrentTag Z → OpenTag
 open_tag tag = record {
   kind = tag.kind;
-  name = tendril_bytes tag.name;
+  name = string_bytes tag.name;
   attributes = tag.attrs;
   had_duplicate_attributes = tag.had_duplicate_attributes;
-  last_name = tendril_bytes tag.attr_name;
+  last_name = string_bytes tag.attr_name;
   last_value = string_bytes tag.attr_value;
 }
 

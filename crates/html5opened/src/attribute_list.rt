@@ -5,10 +5,8 @@ ghost use Rattle.std.specs.Prelude.{◌≡◌, ◌↔◌, ◌∷◌, [], ◌++�
 ghost use Rattle.html5opened.specs.AttributeList.{AddsName, HasNames, HasNamesAnd, Indexes};
 ghost use Rattle.html5grammar.specs.Tag.{attribute, has_attribute};
 ghost use Rattle.markup5ever.specs.Names.{attribute_of};
-ghost use Rattle.markup5ever.specs.Tendril.{tendril_bytes};
 
 use markup5ever::interface::{Attribute, LocalName, Namespace, QualName};
-use markup5ever::tendril::StrTendril;
 use std::alloc::{AllocError, Allocator, Global};
 use std::collections::BTreeSet;
 use std::marker::Model;
@@ -61,19 +59,17 @@ fn is_among<A: Allocator>(attributes: &[Attribute<A>], name: &str) -> bool
 
 // Adds a name to the set.
 fn add_name<A: Allocator + Copy>(
-    alloc: A,
     names: &mut BTreeSet<String<A>, A>,
-    name: &str,
+    name: &String<A>,
 ) -> Result<(), AllocError>
-    ensures { OnOk result (AddsName names.old names.new name.now) }
+    ensures { OnOk result (AddsName names.old names.new (string_bytes name.now)) }
 {
-    names.insert(String::from_str(alloc, name)?)?;
+    names.insert(name.clone()?)?;
     Ok(())
 }
 
 // Makes the set that of the names of the attributes.
 fn index<A: Allocator + Copy>(
-    alloc: A,
     names: &mut BTreeSet<String<A>, A>,
     attributes: &[Attribute<A>],
 ) -> Result<(), AllocError>
@@ -81,37 +77,36 @@ fn index<A: Allocator + Copy>(
 {
     names.clear();
     for attribute in attributes {
-        add_name(alloc, names, &attribute.name.local.0)?;
+        add_name(names, &attribute.name.local.0)?;
     }
     Ok(())
 }
 
 // Makes the set that of the names of the attributes, where it is not, and adds a name.
 fn index_with<A: Allocator + Copy>(
-    alloc: A,
     names: &mut BTreeSet<String<A>, A>,
     is_indexed: bool,
     attributes: &[Attribute<A>],
-    name: &str,
+    name: &String<A>,
 ) -> Result<(), AllocError>
     requires { Indexes is_indexed names.old (map attribute_of attributes.now) }
-    ensures { OnOk result (HasNamesAnd names.new (map attribute_of attributes.now) name.now) }
+    ensures { OnOk result (HasNamesAnd names.new (map attribute_of attributes.now) (string_bytes name.now)) }
 {
     if !is_indexed {
-        index(alloc, names, attributes)?;
+        index(names, attributes)?;
     }
-    add_name(alloc, names, name)
+    add_name(names, name)
 }
 
 // Appends an attribute.
 fn push_attribute<A: Allocator + Copy>(
     alloc: A,
     attributes: &mut Vec<Attribute<A>, A>,
-    name: StrTendril<A>,
+    name: String<A>,
     value: String<A>,
 ) -> Result<(), AllocError>
     ensures { OnOk result (map attribute_of attributes.new.items
-        ≡ map attribute_of attributes.old.items ++ attribute (tendril_bytes name) (string_bytes value) ∷ []) }
+        ≡ map attribute_of attributes.old.items ++ attribute (string_bytes name) (string_bytes value) ∷ []) }
 {
     let name = QualName::new(None, Namespace(String::new(alloc)), LocalName(name));
     attributes.push(Attribute { name, value })?;
@@ -131,19 +126,14 @@ impl<A: Allocator + Copy> AttributeList<A> {
     }
 
     /// Appends an attribute.
-    pub fn push(
-        &mut self,
-        alloc: A,
-        name: StrTendril<A>,
-        value: String<A>,
-    ) -> Result<(), AllocError>
-        ensures { OnOk result (self.new ≡ self.old ++ attribute (tendril_bytes name) (string_bytes value) ∷ []) }
+    pub fn push(&mut self, alloc: A, name: String<A>, value: String<A>) -> Result<(), AllocError>
+        ensures { OnOk result (self.new ≡ self.old ++ attribute (string_bytes name) (string_bytes value) ∷ []) }
     {
         let is_indexed = mem::replace(&mut self.is_indexed, false);
         if self.items.len() < FEW {
             return push_attribute(alloc, &mut self.items, name, value);
         }
-        index_with(alloc, &mut self.names, is_indexed, &self.items, &name)?;
+        index_with(&mut self.names, is_indexed, &self.items, &name)?;
         push_attribute(alloc, &mut self.items, name, value)?;
         self.is_indexed = true;
         Ok(())

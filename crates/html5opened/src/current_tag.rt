@@ -7,13 +7,11 @@ ghost use Rattle.html5grammar.specs.Start.{begun};
 ghost use Rattle.html5grammar.specs.Tag.{has_last, repeats_attribute, told_tag, with_last_attribute};
 ghost use Rattle.html5opened.specs.CurrentTag.{open_tag};
 ghost use Rattle.html5ever_interface.specs.Token.{tag_of};
-ghost use Rattle.markup5ever.specs.Tendril.{tendril_bytes};
 
 use crate::attribute_list::AttributeList;
 use crate::characters::{name_character, shown};
 use html5ever_interface::interface::token::{Tag, TagKind};
 use markup5ever::interface::LocalName;
-use markup5ever::tendril::StrTendril;
 use std::alloc::{AllocError, Allocator, Global};
 use std::mem;
 
@@ -21,10 +19,10 @@ use std::mem;
 #[derive(Drop)]
 pub struct CurrentTag<A: Allocator = Global> {
     pub kind: TagKind,
-    pub name: StrTendril<A>,
+    pub name: String<A>,
     pub attrs: AttributeList<A>,
     pub had_duplicate_attributes: bool,
-    pub attr_name: StrTendril<A>,
+    pub attr_name: String<A>,
     pub attr_value: String<A>,
 }
 
@@ -35,10 +33,10 @@ impl<A: Allocator + Copy> CurrentTag<A> {
     {
         CurrentTag {
             kind,
-            name: StrTendril::new(alloc),
+            name: String::new(alloc),
             attrs: AttributeList::new(alloc),
             had_duplicate_attributes: false,
-            attr_name: StrTendril::new(alloc),
+            attr_name: String::new(alloc),
             attr_value: String::new(alloc),
         }
     }
@@ -63,7 +61,7 @@ impl<A: Allocator + Copy> CurrentTag<A> {
     {
         Tag {
             kind: self.kind,
-            name: LocalName(mem::replace(&mut self.name, StrTendril::new(alloc))),
+            name: LocalName(mem::replace(&mut self.name, String::new(alloc))),
             self_closing,
             attrs: mem::replace(&mut self.attrs, AttributeList::new(alloc)).into_vec(),
             had_duplicate_attributes: self.had_duplicate_attributes,
@@ -85,7 +83,7 @@ impl<A: Allocator + Copy> CurrentTag<A> {
         if self.attrs.has(&self.attr_name) {
             return Ok(false);
         }
-        let name = mem::replace(&mut self.attr_name, StrTendril::new(alloc));
+        let name = mem::replace(&mut self.attr_name, String::new(alloc));
         let value = mem::replace(&mut self.attr_value, String::new(alloc));
         self.attrs.push(alloc, name, value)?;
         Ok(true)
@@ -109,10 +107,10 @@ impl<A: Allocator + Copy> CurrentTag<A> {
 }
 
 /// Appends a character to a name, a letter in lower case.
-pub fn push_name<A: Allocator + Copy>(name: &mut StrTendril<A>, c: char) -> Result<(), AllocError>
-    ensures { OnOk result (tendril_bytes name.new ≡ tendril_bytes name.old ++ name_bytes c) }
+pub fn push_name<A: Allocator>(name: &mut String<A>, c: char) -> Result<(), AllocError>
+    ensures { OnOk result (string_bytes name.new ≡ string_bytes name.old ++ name_bytes c) }
 {
-    name.push_char(name_character(c))
+    name.push(name_character(c))
 }
 
 /// Appends a character to a value.

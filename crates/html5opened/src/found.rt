@@ -7,12 +7,9 @@ ghost use Rattle.std.specs.Str.{chars, IsAscii};
 ghost use Rattle.html5grammar.specs.Characters.{number_sign, value_bytes};
 ghost use Rattle.html5grammar.specs.Reference.{invalid_number, without_digits, semicolon_len, unknown_name, is_ended, goes_on, first_or};
 ghost use Rattle.html5opened.specs.CharRef.{more_of};
-ghost use Rattle.markup5ever.specs.Tendril.{tendril_bytes};
 
 use crate::char_ref::Found;
 use crate::current_tag::push_value;
-use crate::message::text_of;
-use markup5ever::tendril::StrTendril;
 use std::alloc::{AllocError, Allocator};
 
 /// The character after so much of the text.
@@ -126,29 +123,27 @@ fn push_second_value<A: Allocator>(
 }
 
 /// The text of a reference's characters, with ASCII after them.
-pub fn text_of_found<A: Allocator + Copy>(
+pub fn text_of_found<A: Allocator>(
     alloc: A,
     found: &Found,
     rest: &str,
-) -> Result<StrTendril<A>, AllocError>
+) -> Result<String<A>, AllocError>
     requires { IsAscii rest.now }
-    ensures { IfOk result (λ text. chars (tendril_bytes text) ≡ found.now.first ∷
+    ensures { IfOk result (λ text. chars (string_bytes text) ≡ found.now.first ∷
         (more_of found.now.second ++ rest.now)) }
 {
-    let mut text = text_of(alloc, found.first)?;
+    let mut text = String::new(alloc);
+    text.push(found.first)?;
     push_second(&mut text, found.second)?;
-    text.push_slice(rest)?;
+    text.push_str(rest)?;
     Ok(text)
 }
 
-fn push_second<A: Allocator + Copy>(
-    text: &mut StrTendril<A>,
-    second: Option<char>,
-) -> Result<(), AllocError>
-    ensures { OnOk result (tendril_bytes text.new ≡ tendril_bytes text.old ++ encode_utf8_all (more_of second)) }
+fn push_second<A: Allocator>(text: &mut String<A>, second: Option<char>) -> Result<(), AllocError>
+    ensures { OnOk result (string_bytes text.new ≡ string_bytes text.old ++ encode_utf8_all (more_of second)) }
 {
     match second {
-        Some(c) => text.push_char(c),
+        Some(c) => text.push(c),
         None => Ok(()),
     }
 }

@@ -6,13 +6,11 @@ ghost use Rattle.std.specs.Prelude.{◌≡◌, ◌∷◌, [], ◌++◌, OnOk, If
 ghost use Rattle.std.specs.Str.{chars};
 ghost use Rattle.html5grammar.specs.RawText.{lower, other_escape, switched, ends_raw_text};
 ghost use Rattle.html5opened.specs.CurrentTag.{last_name_of};
-ghost use Rattle.markup5ever.specs.Tendril.{tendril_bytes};
 
 use crate::characters::ends_name;
 use crate::opened::Opened;
 use crate::runs::push_names;
 use html5ever_interface::states::ScriptEscapeKind;
-use markup5ever::tendril::StrTendril;
 use std::alloc::{AllocError, Allocator};
 
 /// Appends a letter.
@@ -30,10 +28,10 @@ pub fn clear_letters<A: Allocator>(letters: &mut String<A>)
 }
 
 // The letters in lower case.
-fn lower<A: Allocator + Copy>(alloc: A, letters: &str) -> Result<StrTendril<A>, AllocError>
-    ensures { IfOk result (λ name. tendril_bytes name ≡ lower (chars letters.now)) }
+fn lower<A: Allocator>(alloc: A, letters: &str) -> Result<String<A>, AllocError>
+    ensures { IfOk result (λ name. string_bytes name ≡ lower (chars letters.now)) }
 {
-    let mut name = StrTendril::new(alloc);
+    let mut name = String::new(alloc);
     push_names(&mut name, letters)?;
     Ok(name)
 }
@@ -49,7 +47,7 @@ fn other_escape(kind: ScriptEscapeKind) -> ScriptEscapeKind
 }
 
 /// The kind of script data after letters and the end of their name.
-pub fn switched<A: Allocator + Copy>(
+pub fn switched<A: Allocator>(
     alloc: A,
     kind: ScriptEscapeKind,
     letters: &str,
@@ -65,15 +63,15 @@ pub fn switched<A: Allocator + Copy>(
 
 /// The name of the standard's "appropriate end tag token", in lower case, where the letters after `</`
 /// are that name and the character ends it.
-pub fn end_tag_name<A: Allocator + Copy>(
+pub fn end_tag_name<A: Allocator>(
     alloc: A,
     at: &Opened<A>,
     c: char,
-) -> Result<Option<StrTendril<A>>, AllocError>
+) -> Result<Option<String<A>>, AllocError>
     ensures ends { IfOk result (λ name.
         is_some name ≡ ends_raw_text (last_name_of at.now) (chars (string_bytes at.now.letters)) c) }
     ensures name { IfOk result (λ name. IfSome name (λ name.
-        tendril_bytes name ≡ lower (chars (string_bytes at.now.letters)))) }
+        string_bytes name ≡ lower (chars (string_bytes at.now.letters)))) }
 {
     if at.last_start_tag.is_empty() || !ends_name(c) {
         return Ok(None);

@@ -4,9 +4,7 @@
 ghost use Rattle.std.specs.Prelude.{◌≡◌, IfOk, string_bytes, encode_utf8};
 ghost use Rattle.html5grammar.specs.Characters.{is_bad_character};
 ghost use Rattle.html5grammar.specs.ErrorText.{saw, saw_end, bad_character};
-ghost use Rattle.markup5ever.specs.Tendril.{tendril_bytes};
 
-use markup5ever::tendril::StrTendril;
 use std::alloc::{AllocError, Allocator};
 
 const IN_STATE: &str = " in state ";
@@ -76,10 +74,10 @@ pub fn saw_end_message<A: Allocator>(
 
 /// The text of one character.
 #[inline(always)]
-pub fn text_of<A: Allocator + Copy>(alloc: A, c: char) -> Result<StrTendril<A>, AllocError>
-    ensures { IfOk result (λ text. tendril_bytes text ≡ encode_utf8 c) }
+pub fn text_of<A: Allocator>(alloc: A, c: char) -> Result<String<A>, AllocError>
+    ensures { IfOk result (λ text. string_bytes text ≡ encode_utf8 c) }
 {
-    let mut text = StrTendril::new(alloc);
-    text.push_char(c)?;
+    let mut text = String::with_capacity(alloc, c.len_utf8())?;
+    text.push(c)?;
     Ok(text)
 }

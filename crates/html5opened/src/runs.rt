@@ -1,7 +1,7 @@
 //! Runs: characters that are read at once. Here stands, for each state that reads runs, which
 //! characters end one, and where a run within a tag goes. A run between tags is sent as one text, and
 //! goes on over line feeds.
-ghost use Rattle.std.specs.Prelude.{◌≡◌, ℕ, [], false, ◌↔◌, ◌++◌, Contains, IfOk, OnOk, IfSome, is_some, flat_map};
+ghost use Rattle.std.specs.Prelude.{◌≡◌, ℕ, [], false, ◌↔◌, ◌++◌, Contains, IfOk, OnOk, IfSome, is_some, string_bytes, flat_map};
 ghost use Rattle.std.specs.Str.{chars};
 ghost use Rattle.html5grammar.specs.Cdata.{open_cdata};
 ghost use Rattle.html5grammar.specs.Characters.{name_bytes};
@@ -15,14 +15,12 @@ ghost use Rattle.html5opened.specs.CurrentTag.{opened_of, last_name_of};
 ghost use Rattle.html5opened.specs.Runs.{IsRunAt, other_value_ends, other_run_ends, run_ends, stays_in_names, opened_after_run};
 ghost use Rattle.std.specs.List.{list_all};
 ghost use Rattle.markup5ever.specs.SmallCharSet.{IsMember};
-ghost use Rattle.markup5ever.specs.Tendril.{tendril_bytes};
 
 use crate::comments::{ends_in, is_comment_state};
 use crate::current_tag::push_name;
 use crate::opened::Opened;
 use html5ever_interface::states::{AttrValueKind, RawKind, State};
 use markup5ever::small_char_set::SmallCharSet;
-use markup5ever::tendril::StrTendril;
 use std::alloc::{AllocError, Allocator};
 
 /// The characters that end a run in a tag's name.
@@ -134,9 +132,9 @@ fn is_plain_name(run: &[u8]) -> bool
 
 // Appends a run to a name, its letters in lower case, character by character.
 #[inline(never)]
-fn push_letters<A: Allocator + Copy>(name: &mut StrTendril<A>, run: &str) -> Result<(), AllocError>
-    ensures { OnOk result (tendril_bytes name.new
-        ≡ tendril_bytes name.old ++ flat_map name_bytes (chars run.now)) }
+fn push_letters<A: Allocator>(name: &mut String<A>, run: &str) -> Result<(), AllocError>
+    ensures { OnOk result (string_bytes name.new
+        ≡ string_bytes name.old ++ flat_map name_bytes (chars run.now)) }
 {
     for c in run.chars() {
         push_name(name, c)?;
@@ -146,36 +144,33 @@ fn push_letters<A: Allocator + Copy>(name: &mut StrTendril<A>, run: &str) -> Res
 
 /// The name that a run spells, its letters in lower case.
 #[inline(always)]
-pub fn name_of<A: Allocator + Copy>(alloc: A, run: &str) -> Result<StrTendril<A>, AllocError>
-    ensures { IfOk result (λ name. tendril_bytes name ≡ flat_map name_bytes (chars run.now)) }
+pub fn name_of<A: Allocator + Copy>(alloc: A, run: &str) -> Result<String<A>, AllocError>
+    ensures { IfOk result (λ name. string_bytes name ≡ flat_map name_bytes (chars run.now)) }
 {
     if is_plain_name(run.as_bytes()) {
-        return StrTendril::from_slice(alloc, run);
+        return String::from_str(alloc, run);
     }
-    let mut name = StrTendril::new(alloc);
+    let mut name = String::new(alloc);
     push_letters(&mut name, run)?;
     Ok(name)
 }
 
 /// Appends a run to a name, its letters in lower case.
 #[inline(always)]
-pub fn push_names<A: Allocator + Copy>(
-    name: &mut StrTendril<A>,
-    run: &str,
-) -> Result<(), AllocError>
-    ensures { OnOk result (tendril_bytes name.new
-        ≡ tendril_bytes name.old ++ flat_map name_bytes (chars run.now)) }
+pub fn push_names<A: Allocator>(name: &mut String<A>, run: &str) -> Result<(), AllocError>
+    ensures { OnOk result (string_bytes name.new
+        ≡ string_bytes name.old ++ flat_map name_bytes (chars run.now)) }
 {
     if !is_plain_name(run.as_bytes()) {
         return push_letters(name, run);
     }
-    name.push_slice(run)?;
+    name.push_str(run)?;
     Ok(())
 }
 
 /// Appends a run to the open name or value, or to the text of a comment, an instruction or a section.
 #[inline(always)]
-pub fn push_run<A: Allocator + Copy>(at: &mut Opened<A>, run: &str) -> Result<(), AllocError>
+pub fn push_run<A: Allocator>(at: &mut Opened<A>, run: &str) -> Result<(), AllocError>
     requires is_run { IsRunAt (opened_of at.old) (chars run.now) }
     requires not_clean { is_clean (opened_of at.old) ≡ false }
     ensures run { OnOk result

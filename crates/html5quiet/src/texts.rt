@@ -38,7 +38,7 @@ fn reads_open_runs<A: Allocator>(at: &Opened<A>) -> bool
 // Reads the run with which a text begins, if something is open that takes runs. Answers how many bytes
 // it takes.
 #[inline(always)]
-fn read_run<A: Allocator + Copy>(at: &mut Opened<A>, text: &str) -> Result<usize, AllocError>
+fn read_run<A: Allocator>(at: &mut Opened<A>, text: &str) -> Result<usize, AllocError>
     ensures reads { IfOk result (λ bytes. ReadsFront text.now bytes (opened_of at.old) (opened_of at.new)) }
     ensures last { last_name_of at.new ≡ last_name_of at.old }
     ensures held { held_len (opened_of at.new) ≤ held_len (opened_of at.old) }
@@ -92,10 +92,7 @@ fn read_sign_and_name<A: Allocator + Copy>(
 
 // Reads a run, and a sign after it. Answers how many bytes they take.
 #[inline(always)]
-fn read_run_and_sign<A: Allocator + Copy>(
-    at: &mut Opened<A>,
-    text: &str,
-) -> Result<usize, AllocError>
+fn read_run_and_sign<A: Allocator>(at: &mut Opened<A>, text: &str) -> Result<usize, AllocError>
     ensures reads { IfOk result (λ bytes. ReadsFront text.now bytes (opened_of at.old) (opened_of at.new)) }
     ensures last { last_name_of at.new ≡ last_name_of at.old }
     ensures held { held_len (opened_of at.new) ≤ held_len (opened_of at.old) }
@@ -108,7 +105,7 @@ fn read_run_and_sign<A: Allocator + Copy>(
 // Reads `="` after an attribute's name, and the value up to its quote, or to what is no plain part of
 // it. Answers how many bytes they take.
 #[inline(always)]
-fn read_value<A: Allocator + Copy>(at: &mut Opened<A>, text: &str) -> Result<usize, AllocError>
+fn read_value<A: Allocator>(at: &mut Opened<A>, text: &str) -> Result<usize, AllocError>
     ensures reads { IfOk result (λ bytes. ReadsFront text.now bytes (opened_of at.old) (opened_of at.new)) }
     ensures last { last_name_of at.new ≡ last_name_of at.old }
     ensures held { held_len (opened_of at.new) ≤ held_len (opened_of at.old) }
@@ -141,10 +138,7 @@ fn read_comment_character<A: Allocator>(at: &mut Opened<A>, text: &str) -> Resul
 // Reads the run with which a text begins, or else a character of a comment. Answers how many bytes it
 // takes.
 #[inline(always)]
-fn read_run_or_character<A: Allocator + Copy>(
-    at: &mut Opened<A>,
-    text: &str,
-) -> Result<usize, AllocError>
+fn read_run_or_character<A: Allocator>(at: &mut Opened<A>, text: &str) -> Result<usize, AllocError>
     ensures reads { IfOk result (λ bytes. ReadsFront text.now bytes (opened_of at.old) (opened_of at.new)) }
     ensures last { last_name_of at.new ≡ last_name_of at.old }
     ensures held { held_len (opened_of at.new) ≤ held_len (opened_of at.old) }

@@ -1,5 +1,4 @@
-pub mod Hiding
-pub mod PlainPieces
-pub mod Replies
 pub mod Steps
 pub mod WrittenPages
+pub mod PlainPieces
+pub mod Replies

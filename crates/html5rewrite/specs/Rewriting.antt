@@ -1,11 +1,10 @@
 -- A page that is rewritten: what is written of each run of text and of the token after it.
-use Rattle.std.specs.Prelude.{ℕ, ◌+◌, ◌-◌, Bool, List, [], ◌++◌, ◌==◌, if◌then◌else◌}
+use Rattle.std.specs.Prelude.{ℕ, ◌+◌, ◌-◌, Bool, List, [], ◌++◌, ◌==◌, string_bytes, if◌then◌else◌}
 use Rattle.std.specs.Str.{bytes_eq}
 use Rattle.html5ever_interface.specs.Token.{Told, TagOf}
 use Rattle.html5ever_interface.specs.Token.Told.{Tag}
 use Rattle.html5ever_interface.specs.declared.interface.token.TagKind.{TagKind}
 use Rattle.html5ever_interface.specs.declared.interface.token.TagKind.TheVariants.{StartTag, EndTag}
-use Rattle.markup5ever.specs.Tendril.{tendril_bytes}
 use Rattle.html5write.specs.Pieces.{Piece}
 use Rattle.html5rewrite.specs.Plain.{written_of_run, written_of_tag}
 use Rattle.html5rewrite.specs.Rewriter.{Rewriter, has_content, keep_of, opens}
@@ -21,7 +20,7 @@ pub record Hidden : Type 0 where
   pub depth : ℕ
 
 abbrev pub hidden_of : {Z : Type 0} → RustHidden Z → Hidden
-hidden_of hidden = record { name = tendril_bytes hidden.name; depth = hidden.depth }
+hidden_of hidden = record { name = string_bytes hidden.name; depth = hidden.depth }
 
 abbrev pub nothing_hidden : Hidden
 nothing_hidden = record { name = []; depth = 0 }

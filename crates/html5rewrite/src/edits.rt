@@ -6,7 +6,6 @@ ghost use Rattle.html5rewrite.specs.Edits.{value_of, with_attribute, without_att
 
 use html5ever_interface::interface::token::Tag;
 use markup5ever::interface::{Attribute, LocalName, Namespace, QualName};
-use markup5ever::tendril::StrTendril;
 use std::alloc::{AllocError, Allocator};
 
 /// The value of the first of these attributes that has this name.
@@ -44,7 +43,7 @@ pub fn set_attribute<A: Allocator + Copy>(
 ) -> Result<(), AllocError>
     ensures { OnOk result (tag_of tag.new ≡ with_attribute name.now (string_bytes value) (tag_of tag.old)) }
 {
-    let local = LocalName(StrTendril::from_slice(alloc, name)?);
+    let local = LocalName(String::from_str(alloc, name)?);
     drop_attribute(tag, name);
     let name = QualName::new(None, Namespace(String::new(alloc)), local);
     tag.attrs.push(Attribute { name, value })?;

@@ -1,19 +1,17 @@
 //! What is dropped with all that stands in it.
-ghost use Rattle.std.specs.Prelude.{◌≡◌, IfSome, OnErr, OnOk};
+ghost use Rattle.std.specs.Prelude.{◌≡◌, IfSome, OnErr, OnOk, string_bytes};
 ghost use Rattle.html5ever_interface.specs.Token.{tag_of, told_by};
-ghost use Rattle.markup5ever.specs.Tendril.{tendril_bytes};
 ghost use Rattle.html5rewrite.specs.Rewriting.{hidden_after, hidden_after_tag, hidden_of, nothing_hidden};
 
 use crate::rewriter::has_content;
 use html5ever_interface::interface::token::{SinkFault, Tag, TagKind, Token};
-use markup5ever::tendril::StrTendril;
 use std::alloc::Allocator;
 
 /// How many elements of one name are open and hide what stands in them. Where none is, the name says
 /// nothing.
 #[derive(Drop)]
 pub struct Hidden<A: Allocator> {
-    pub name: StrTendril<A>,
+    pub name: String<A>,
     pub depth: u64,
 }
 
@@ -23,14 +21,14 @@ impl<A: Allocator> Hidden<A> {
         ensures { hidden_of result ≡ nothing_hidden }
     {
         Hidden {
-            name: StrTendril::new(alloc),
+            name: String::new(alloc),
             depth: 0,
         }
     }
 
     /// In an element of this name.
-    pub fn within(name: StrTendril<A>) -> Hidden<A>
-        ensures name { tendril_bytes result.name ≡ tendril_bytes name }
+    pub fn within(name: String<A>) -> Hidden<A>
+        ensures name { string_bytes result.name ≡ string_bytes name }
         ensures depth { result.depth ≡ 1 }
     {
         Hidden { name, depth: 1 }

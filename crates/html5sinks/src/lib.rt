@@ -24,10 +24,9 @@
 //!     ghost step = { λ count tag line. if is_start_of tag (codes "a") then count + 1 else count };
 //!
 //!     fn take_tag(&mut self, tag: Tag<A>, _line_number: u64) -> Result<(), SinkFault> {
-//!         if !is_start_of(&tag, "a") {
-//!             return Ok(());
+//!         if is_start_of(&tag, "a") {
+//!             self.count = self.count.checked_add(1).ok_or(SinkFault)?;
 //!         }
-//!         self.count = self.count.checked_add(1).ok_or(SinkFault)?;
 //!         Ok(())
 //!     }
 //! }

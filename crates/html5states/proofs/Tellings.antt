@@ -1,16 +1,14 @@
 -- What telling leaves: one token, and one call after another.
-use Rattle.std.proofs.Common.{◌≡◌, ◌≢◌, ℕ, List, [], ◌∷◌, ◌++◌, refl, ap, sym, ◌∙◌, subst, inl, inr, Result, Ok, Err}
+use Rattle.std.proofs.Common.{◌≡◌, ◌≢◌, ℕ, List, [], ◌∷◌, ◌++◌, refl, ap, sym, ◌∙◌, subst, inl, inr, Result, Ok, Err, string_bytes}
 use Rattle.std.specs.Prelude.{◌+◌, map, encode_utf8, encode_utf8_all, Bool, true}
 use Rattle.std.specs.List.{concat}
 use Rattle.std.specs.Str.{chars, IsUtf8}
 use Rattle.std.proofs.Common.{add-zero}
 use Rattle.std.proofs.lemmas.List.{append-nil, append_assoc, map-append}
 use Rattle.std.proofs.lemmas.Result.{err_from_is_err_and}
-use Rattle.std.proofs.lemmas.Str.{encodes-chars, IsUtf8-encode, chars_past_char, chars-nil}
+use Rattle.std.proofs.lemmas.Str.{encodes-chars, IsUtf8-string_bytes, IsUtf8-encode, chars_past_char, chars-nil}
 use Rattle.std.specs.Char.{IsScalar}
 use Rattle.std.specs.Result.{IsErrAnd}
-use Rattle.markup5ever.specs.Tendril.{tendril_bytes}
-use Rattle.markup5ever.proofs.Tendrils.{IsUtf8-tendril_bytes}
 use Rattle.html5ever_interface.proofs.Steppings.{stepped-append}
 use Rattle.html5ever_interface.specs.Sink.{Means, Message, stepped, on_line}
 use Rattle.html5opened.specs.CurrentTag.{last_name_of}
@@ -65,11 +63,11 @@ says-token (TagToken tag) line filled = inl refl
 says-token (CommentToken text) line filled = inl refl
 says-token (ProcessingInstructionToken text) line filled = inl refl
 says-token (CharacterTokens text) line filled =
-    let last = last-on_line line (tokens_in (Text (tendril_bytes text))) filled in
+    let last = last-on_line line (tokens_in (Text (string_bytes text))) filled in
     inr (record {
-      texts = map encode_utf8 (chars (tendril_bytes text));
-      says = texts-encoded (chars (tendril_bytes text)) line;
-      joined = ap Text (sym (concat-encoded (chars (tendril_bytes text)) ∙ encodes-chars (tendril_bytes text) (IsUtf8-tendril_bytes text)));
+      texts = map encode_utf8 (chars (string_bytes text));
+      says = texts-encoded (chars (string_bytes text)) line;
+      joined = ap Text (sym (concat-encoded (chars (string_bytes text)) ∙ encodes-chars (string_bytes text) (IsUtf8-string_bytes text)));
       front = last.0;
       last = last.1.0;
       ends = last.1.1.0;

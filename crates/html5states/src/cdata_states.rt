@@ -21,7 +21,6 @@ use html5ever_interface::states::State;
 use html5opened::cdata::{ends_section, push_text, section_len};
 use html5opened::error::TokenizerError;
 use html5opened::opened::{Opened, Progress, Step};
-use markup5ever::tendril::StrTendril;
 use std::alloc::Allocator;
 use std::mem;
 
@@ -85,7 +84,7 @@ impl<S: TokenSink<Token<A>>, A: Allocator + Copy> Teller<'_, S, A> {
         if text.is_empty() {
             return Ok(());
         }
-        self.hand_on(Token::CharacterTokens(StrTendril::from(text)))
+        self.hand_on(Token::CharacterTokens(text))
     }
 
     /// The standard's CDATA section states at the end of input: the text is sent as it stands.

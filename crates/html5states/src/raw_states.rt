@@ -13,7 +13,6 @@ ghost use Rattle.html5grammar.specs.Start.Dashes.{NoDash, OneDash, TwoDashes};
 ghost use Rattle.html5grammar.specs.Start.Open.{InRaw};
 ghost use Rattle.html5grammar.specs.Start.RawPlace.{AfterMark, InSwitch};
 ghost use Rattle.html5opened.specs.CurrentTag.{last_name_of, opened_of};
-ghost use Rattle.markup5ever.specs.Tendril.{tendril_bytes};
 ghost use Rattle.html5states.specs.Telling.{Emits, Reads};
 
 use crate::teller::Teller;
@@ -24,7 +23,6 @@ use html5opened::characters::{ends_name, is_letter};
 use html5opened::error::TokenizerError;
 use html5opened::letters::{clear_letters, end_tag_name, push_letter, switched};
 use html5opened::opened::{Opened, Progress, Step};
-use markup5ever::tendril::StrTendril;
 use std::alloc::Allocator;
 
 impl<S: TokenSink<Token<A>>, A: Allocator + Copy> Teller<'_, S, A> {
@@ -264,10 +262,10 @@ impl<S: TokenSink<Token<A>>, A: Allocator + Copy> Teller<'_, S, A> {
     }
 
     // Begins an end tag whose name ends before the character.
-    fn create_end_tag(&mut self, at: &mut Opened<A>, name: StrTendril<A>, c: char) -> Step
+    fn create_end_tag(&mut self, at: &mut Opened<A>, name: String<A>, c: char) -> Step
         requires { ends_name c ≡ true }
         ensures { Reads S.means S.faults result self.old self.new
-            (tag_name_end_step (record (begun TagKind.EndTag) { name = tendril_bytes name }) c) at.old at.new }
+            (tag_name_end_step (record (begun TagKind.EndTag) { name = string_bytes name }) c) at.old at.new }
     {
         at.state = State::TagName;
         at.tag.begin(TagKind::EndTag);
@@ -290,8 +288,8 @@ impl<S: TokenSink<Token<A>>, A: Allocator + Copy> Teller<'_, S, A> {
         ensures { Emits S.means S.faults result self.old self.new
             (texts (less_than ∷ solidus ∷ chars letters.now)) }
     {
-        let mut text = StrTendril::from_slice(self.alloc, "</")?;
-        text.push_slice(letters)?;
+        let mut text = String::from_str(self.alloc, "</")?;
+        text.push_str(letters)?;
         self.tell(Token::CharacterTokens(text))
     }
 

@@ -1,13 +1,12 @@
 //! Names, attributes and states as keys of sets: equal ones are one key, also by their hash.
 use html5ever_interface::states::{RawKind, ScriptEscapeKind, State};
 use markup5ever::interface::{Attribute, LocalName, Namespace, QualName};
-use markup5ever::tendril::StrTendril;
 use std::alloc::{AllocError, Global};
 use std::collections::{BTreeSet, HashSet};
 use std::test::Fail;
 
 fn attribute_of(alloc: Global, name: &str, value: &str) -> Result<Attribute, AllocError> {
-    let local = LocalName(StrTendril::from_slice(alloc, name)?);
+    let local = LocalName(String::from_str(alloc, name)?);
     Ok(Attribute {
         name: QualName::new(None, Namespace(String::new(alloc)), local),
         value: String::from_str(alloc, value)?,

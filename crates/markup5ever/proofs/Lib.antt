@@ -6,5 +6,4 @@ pub mod NamedReferencesLemmas
 pub mod Searches
 pub mod SmallCharSetLemmas
 pub mod TableChecks
-pub mod Tendrils
 pub mod TextLemmas

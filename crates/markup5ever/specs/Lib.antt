@@ -4,8 +4,6 @@ pub mod SetResult
 pub mod SmallCharSet
 pub mod Lanes
 pub mod Names
-pub mod Storage
-pub mod Tendril
 pub mod NamedReferences
 pub mod C1
 pub mod Place

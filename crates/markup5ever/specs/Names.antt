@@ -1,6 +1,5 @@
 -- Names and attributes, in the words of contracts. Texts are the bytes of their UTF-8.
 use Rattle.std.specs.Prelude.{ℕ, List, [], Option, None, option_map, string_bytes}
-use Rattle.markup5ever.specs.Tendril.{tendril_bytes}
 use Rattle.markup5ever.specs.declared.interface.Prefix.{Prefix}
 use Rattle.markup5ever.specs.declared.interface.QualName.{QualName}
 use Rattle.markup5ever.specs.declared.interface.Attribute.{Attribute}
@@ -22,7 +21,7 @@ prefix_bytes prefix = string_bytes prefix.0
 
 -- a name, in the words of contracts
 abbrev pub qualified_name_of : {Z : Type 0} → QualName Z → QualifiedName
-qualified_name_of name = record { prefix = option_map prefix_bytes name.prefix; ns = string_bytes name.ns.0; local = tendril_bytes name.local.0 }
+qualified_name_of name = record { prefix = option_map prefix_bytes name.prefix; ns = string_bytes name.ns.0; local = string_bytes name.local.0 }
 
 -- an attribute, in the words of contracts
 abbrev pub attribute_of : {Z : Type 0} → Attribute Z → AttributeOf

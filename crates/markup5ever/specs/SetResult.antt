@@ -1,11 +1,11 @@
 -- What is taken from the front of the queue: a member of a set, or a run that has none.
 use Rattle.std.specs.Prelude.{◌≡◌, ◌≢◌, ℕ, List, [], ◌∷◌, Option, None, Some}
 use Rattle.std.specs.Str.{chars}
+use Rattle.std.specs.String.{string_bytes}
 use Rattle.markup5ever.specs.declared.buffer_queue.SetResult.{SetResult}
 use Rattle.markup5ever.specs.declared.buffer_queue.SetResult.TheVariants.{FromSet, NotFromSet}
 use Rattle.markup5ever.specs.BufferQueue.{TextQueue, Takes}
 use Rattle.markup5ever.specs.SmallCharSet.{IsMember, IsOutside}
-use Rattle.markup5ever.specs.Tendril.{tendril_bytes}
 
 -- this member of the set was taken from the front
 pub record TakesMember (set : ℕ) (old new : TextQueue) (c : ℕ) : Type 0 where
@@ -22,7 +22,7 @@ pub record TakesRun (set : ℕ) (old new : TextQueue) (run : List ℕ) : Type 0 
 abbrev pub Pops : {Z : Type 0} → ℕ → TextQueue → TextQueue → Option (SetResult Z) → Type 0
 Pops set old new None = (old.text ≡ []) × (new ≡ old)
 Pops set old new (Some (FromSet c)) = TakesMember set old new c
-Pops set old new (Some (NotFromSet run)) = TakesRun set old new (chars (tendril_bytes run))
+Pops set old new (Some (NotFromSet run)) = TakesRun set old new (chars (string_bytes run))
 
 -- no run goes on into this text: it is empty or begins with a member of the set
 abbrev pub EndsRun : ℕ → List ℕ → Type 0

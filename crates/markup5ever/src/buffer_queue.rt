@@ -5,10 +5,8 @@ ghost use Rattle.std.specs.Str.{IsAscii, IsUtf8, chars};
 ghost use Rattle.std.specs.String.{string_bytes};
 ghost use Rattle.markup5ever.specs.BufferQueue.{Gains, GainsFront, IsReadTo, TakesBack, Takes};
 ghost use Rattle.markup5ever.specs.SmallCharSet.{IsMember};
-ghost use Rattle.markup5ever.specs.Tendril.{tendril_bytes};
 
 use crate::small_char_set::SmallCharSet;
-use crate::tendril::{MAX_INLINE_LEN, StrTendril};
 use ghost_counts::Count;
 use std::alloc::{AllocError, Allocator, Global};
 use std::marker::Model;
@@ -21,7 +19,7 @@ pub enum SetResult<A: Allocator = Global> {
     /// A character of the set.
     FromSet(char),
     /// A run of characters that are not in the set.
-    NotFromSet(StrTendril<A>),
+    NotFromSet(String<A>),
 }
 
 /// How `BufferQueue::eat` compares letters.
@@ -131,25 +129,17 @@ impl<A: Allocator> BufferQueue<A> {
         if text.is_empty() {
             return Ok(());
         }
+        let handed_in = self.handed_in.with_chars(&text);
         if self.is_empty() {
-            self.handed_in = self.handed_in.with_chars(&text);
             self.text = text;
             self.offset = 0;
+            self.handed_in = handed_in;
             return Ok(());
         }
-        match self.push_str(&text) {
-            Ok(()) => Ok(()),
-            Err(_) => Err(text),
-        }
-    }
-
-    /// Hands in a copy of a text.
-    pub fn push_str(&mut self, text: &str) -> Result<(), AllocError>
-        ensures ok { OnOk result (Gains self.old self.new (chars text.now)) }
-        ensures err { OnErr result (self.new ≡ self.old) }
-    {
-        append(&mut self.text, &mut self.offset, text)?;
-        self.handed_in = self.handed_in.with_chars(text);
+        let Ok(()) = append(&mut self.text, &mut self.offset, &text) else {
+            return Err(text);
+        };
+        self.handed_in = handed_in;
         Ok(())
     }
 
@@ -284,25 +274,23 @@ impl<A: Allocator + Copy> BufferQueue<A> {
         Ok(Some(SetResult::NotFromSet(text)))
     }
 
-    /// Takes so many bytes as a text. Where these are all of a long text, it is handed out as it is.
+    /// Takes so many bytes as a text. Where these are all of the text, it is handed out as it is.
     #[inline(always)]
-    pub fn take_text(&mut self, bytes: usize) -> Result<StrTendril<A>, AllocError>
+    pub fn take_text(&mut self, bytes: usize) -> Result<String<A>, AllocError>
         requires within { bytes ≤ length (encode_utf8_all self.old.text) }
         requires rest_utf8 { IsUtf8 (drop bytes (encode_utf8_all self.old.text)) }
         ensures bytes { IfOk result
-            (λ text. tendril_bytes text ≡ take bytes (encode_utf8_all self.old.text)) }
+            (λ text. string_bytes text ≡ take bytes (encode_utf8_all self.old.text)) }
         ensures takes { OnOk result
             (Takes self.old self.new (chars (take bytes (encode_utf8_all self.old.text)))) }
         ensures err { OnErr result (self.new ≡ self.old) }
     {
-        if bytes > MAX_INLINE_LEN && self.offset == 0 && bytes == self.text.len() {
+        if self.offset == 0 && bytes == self.text.len() {
             let empty = String::new(*self.text.allocator());
             self.taken = self.taken.with_chars(&self.text);
-            let text = mem::replace(&mut self.text, empty);
-            return Ok(StrTendril::from(text));
+            return Ok(mem::replace(&mut self.text, empty));
         }
-        let alloc = *self.text.allocator();
-        let text = StrTendril::from_slice(alloc, &self.front_text()[..bytes])?;
+        let text = String::from_str(*self.text.allocator(), &self.front_text()[..bytes])?;
         self.skip(bytes);
         Ok(text)
     }

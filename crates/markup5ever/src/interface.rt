@@ -1,14 +1,12 @@
 //! Names of elements and attributes, and attributes.
 ghost use Rattle.std.specs.Prelude.{◌≡◌, IfOk, string_bytes};
-ghost use Rattle.markup5ever.specs.Tendril.{tendril_bytes};
 
-use crate::tendril::StrTendril;
 use std::alloc::{AllocError, Allocator, Global};
 
 /// A name without its prefix.
 #[derive(Drop)]
 #[derive_where(Debug, PartialEq, Eq, PartialOrd, Ord, Hash)]
-pub struct LocalName<A: Allocator = Global>(pub StrTendril<A>);
+pub struct LocalName<A: Allocator = Global>(pub String<A>);
 
 /// What stands before the colon of a name.
 #[derive(Drop)]
@@ -55,9 +53,9 @@ impl<A: Allocator> QualName<A> {
 impl<A: Allocator + Copy> LocalName<A> {
     /// An equal name, with the same allocator.
     pub fn try_clone(&self) -> Result<LocalName<A>, AllocError>
-        ensures { IfOk result (λ clone. tendril_bytes clone.0 ≡ tendril_bytes self.now.0) }
+        ensures { IfOk result (λ clone. string_bytes clone.0 ≡ string_bytes self.now.0) }
     {
-        Ok(LocalName(self.0.try_clone()?))
+        Ok(LocalName(self.0.clone()?))
     }
 }
 

@@ -6,12 +6,10 @@ pub mod buffer_queue;
 pub mod data;
 pub mod interface;
 pub mod small_char_set;
-pub mod tendril;
 pub mod tokenizer_result;
 
 pub use crate::buffer_queue::{BufferQueue, Case, SetResult};
 pub use crate::data::{NamedReferences, TableError};
 pub use crate::interface::{Attribute, LocalName, Namespace, Prefix, QualName};
 pub use crate::small_char_set::SmallCharSet;
-pub use crate::tendril::StrTendril;
 pub use crate::tokenizer_result::TokenizerResult;

@@ -1,7 +1,6 @@
 //! Tokens, and the bytes of their records, written by hand.
 use html5ever_interface::interface::token::{Doctype, Tag, TagKind, Token};
 use markup5ever::interface::{Attribute, LocalName, Namespace, QualName};
-use markup5ever::tendril::StrTendril;
 use std::alloc::{AllocError, Allocator};
 
 /// An attribute in no namespace.
@@ -11,7 +10,7 @@ fn attribute_of<A: Allocator + Copy>(
     value: &str,
 ) -> Result<Attribute<A>, AllocError> {
     let ns = Namespace(String::new(alloc));
-    let local = LocalName(StrTendril::from_slice(alloc, name)?);
+    let local = LocalName(String::from_str(alloc, name)?);
     let value = String::from_str(alloc, value)?;
     Ok(Attribute {
         name: QualName::new(None, ns, local),
@@ -21,7 +20,7 @@ fn attribute_of<A: Allocator + Copy>(
 
 // A start tag with two attributes and both flags.
 fn full_tag<A: Allocator + Copy>(alloc: A) -> Result<Token<A>, AllocError> {
-    let name = LocalName(StrTendril::from_slice(alloc, "img")?);
+    let name = LocalName(String::from_str(alloc, "img")?);
     let mut attrs = Vec::new(alloc);
     attrs.push(attribute_of(alloc, "src", "a.png")?)?;
     attrs.push(attribute_of(alloc, "alt", "")?)?;
@@ -40,7 +39,7 @@ pub fn bare_tag<A: Allocator + Copy>(
     kind: TagKind,
     name: &str,
 ) -> Result<Token<A>, AllocError> {
-    let name = LocalName(StrTendril::from_slice(alloc, name)?);
+    let name = LocalName(String::from_str(alloc, name)?);
     Ok(Token::TagToken(Tag {
         kind,
         name,
@@ -70,8 +69,8 @@ pub fn token_at<A: Allocator + Copy>(alloc: A, index: usize) -> Result<Token<A>,
         0 => doctype_of(alloc),
         1 => full_tag(alloc),
         2 => bare_tag(alloc, TagKind::EndTag, "p"),
-        3 => Ok(Token::CharacterTokens(StrTendril::from_slice(alloc, "x\u{e9}")?)),
-        4 => Ok(Token::CharacterTokens(StrTendril::from_slice(alloc, "")?)),
+        3 => Ok(Token::CharacterTokens(String::from_str(alloc, "x\u{e9}")?)),
+        4 => Ok(Token::CharacterTokens(String::from_str(alloc, "")?)),
         5 => Ok(Token::CommentToken(String::from_str(alloc, "c")?)),
         6 => Ok(Token::ProcessingInstructionToken(String::from_str(alloc, "pi?")?)),
         7 => Ok(Token::NullCharacterToken),

@@ -2,7 +2,6 @@
 use html5ever_interface::interface::sink::TokenSink;
 use html5ever_interface::interface::token::{Doctype, Tag, TagKind, Token, TokenSinkResult};
 use markup5ever::interface::{Attribute, LocalName, Namespace, Prefix, QualName};
-use markup5ever::tendril::StrTendril;
 use std::alloc::{AllocError, Allocator};
 
 /// Whether the sink took a token, and answered to keep on.
@@ -18,8 +17,8 @@ pub fn told<A: Allocator + Copy, S: TokenSink<Token<A>>>(
 }
 
 /// A text.
-pub fn text_of<A: Allocator + Copy>(alloc: A, text: &str) -> Result<Token<A>, AllocError> {
-    Ok(Token::CharacterTokens(StrTendril::from_slice(alloc, text)?))
+pub fn text_of<A: Allocator>(alloc: A, text: &str) -> Result<Token<A>, AllocError> {
+    Ok(Token::CharacterTokens(String::from_str(alloc, text)?))
 }
 
 /// An attribute in no namespace.
@@ -34,7 +33,7 @@ pub fn attribute_of<A: Allocator + Copy>(
         None => None,
     };
     let ns = Namespace(String::new(alloc));
-    let local = LocalName(StrTendril::from_slice(alloc, name)?);
+    let local = LocalName(String::from_str(alloc, name)?);
     let value = String::from_str(alloc, value)?;
     Ok(Attribute {
         name: QualName::new(prefix, ns, local),
@@ -48,7 +47,7 @@ pub fn bare_tag<A: Allocator + Copy>(
     kind: TagKind,
     name: &str,
 ) -> Result<Tag<A>, AllocError> {
-    let name = LocalName(StrTendril::from_slice(alloc, name)?);
+    let name = LocalName(String::from_str(alloc, name)?);
     Ok(Tag {
         kind,
         name,

@@ -14,15 +14,14 @@ struct Names<A: Allocator = Global> {
 }
 
 impl<A: Allocator> ReplyingTagHandler<Tag<A>> for Names<A> {
-    ghost use Rattle.std.specs.Prelude.{List, ℕ, map, ◌++◌, ◌∷◌, []};
-    ghost use Rattle.markup5ever.specs.Tendril.{tendril_bytes};
+    ghost use Rattle.std.specs.Prelude.{List, ℕ, map, string_bytes, ◌++◌, ◌∷◌, []};
     ghost use Rattle.html5ever_interface.specs.Token.Reply.{ReadPlainText};
 
     type Handle = u32;
 
     ghost State = { List (List ℕ) };
 
-    ghost state = { λ s. map (λ name. tendril_bytes name.0) s.names.items };
+    ghost state = { λ s. map (λ name. string_bytes name.0) s.names.items };
 
     ghost step = { λ names tag line. names ++ tag.name ∷ [] };
 

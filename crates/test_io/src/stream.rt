@@ -6,7 +6,6 @@ use html5ever_interface::options::TokenizerOpts;
 use html5stream::{StreamError, read_source};
 use markup5ever::data::NamedReferences;
 use markup5ever::interface::LocalName;
-use markup5ever::tendril::StrTendril;
 use std::alloc::{AllocError, Allocator, Global};
 use std::process::Abort;
 use test_alloc::Refusing;
@@ -39,10 +38,7 @@ fn told_at_once(rt: &impl Abort, alloc: Global, bytes: &[u8]) -> Outcome {
 type Entry<A> = (Token<A>, u64);
 
 fn text_of<A: Allocator + Copy>(alloc: A, text: &str) -> Result<Entry<A>, AllocError> {
-    Ok((
-        Token::CharacterTokens(StrTendril::from_slice(alloc, text)?),
-        0,
-    ))
+    Ok((Token::CharacterTokens(String::from_str(alloc, text)?), 0))
 }
 
 fn tag_of<A: Allocator + Copy>(
@@ -50,7 +46,7 @@ fn tag_of<A: Allocator + Copy>(
     kind: TagKind,
     name: &str,
 ) -> Result<Entry<A>, AllocError> {
-    let name = LocalName(StrTendril::from_slice(alloc, name)?);
+    let name = LocalName(String::from_str(alloc, name)?);
     let tag = Tag {
         kind,
         name,

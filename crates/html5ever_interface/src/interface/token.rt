@@ -5,7 +5,6 @@ ghost use Rattle.html5ever_interface.specs.Token.{TagOf, IsEquivalent};
 
 use crate::states::RawKind;
 use markup5ever::interface::{Attribute, LocalName};
-use markup5ever::tendril::StrTendril;
 use std::alloc::{AllocError, Allocator, Global};
 use thiserror::Error;
 
@@ -61,7 +60,7 @@ pub enum Token<A: Allocator = Global> {
     /// The content of a processing instruction, as `<?x>`: what stands between `<?` and `>`.
     ProcessingInstructionToken(String<A>),
     /// Text, never empty: line breaks are LF. A run of text may come in any number of these.
-    CharacterTokens(StrTendril<A>),
+    CharacterTokens(String<A>),
     /// U+0000 in text. In plain text it is U+FFFD, as text.
     NullCharacterToken,
     /// The end of the input: once, and last.
@@ -189,13 +188,7 @@ fn count_of<A: Allocator>(attrs: &[Attribute<A>], attribute: &Attribute<A>) -> u
     ensures { result
         ≡ count_by (λ other. ⟦<Attribute<A> as PartialEq>⟧.eq other attribute.now) attrs.now }
 {
-    let mut count = 0;
-    for other in attrs {
-        if other == attribute {
-            count += 1;
-        }
-    }
-    count
+    attrs.iter().filter(|other| **other == *attribute).count()
 }
 
 /// To be equal, except for the order of attributes and the flags, is an equivalence of tags.
@@ -234,7 +227,7 @@ impl<A: Allocator + Copy> Token<A> {
             Token::ProcessingInstructionToken(text) => {
                 Ok(Token::ProcessingInstructionToken(text.clone()?))
             }
-            Token::CharacterTokens(text) => Ok(Token::CharacterTokens(text.try_clone()?)),
+            Token::CharacterTokens(text) => Ok(Token::CharacterTokens(text.clone()?)),
             Token::NullCharacterToken => Ok(Token::NullCharacterToken),
             Token::EOFToken => Ok(Token::EOFToken),
             Token::ParseError(message) => Ok(Token::ParseError(message.clone()?)),

@@ -1,9 +1,7 @@
-use Rattle.std.proofs.Common.{◌∙◌, sym, ap, take}
+use Rattle.std.proofs.Common.{◌∙◌, sym, ap, take, string_bytes}
 use Rattle.std.specs.Prelude.{encode_utf8_all}
 use Rattle.std.specs.Str.{chars}
-use Rattle.std.proofs.lemmas.Str.{encodes-chars}
-use Rattle.markup5ever.specs.Tendril.{tendril_bytes}
-use Rattle.markup5ever.proofs.Tendrils.{IsUtf8-tendril_bytes}
+use Rattle.std.proofs.lemmas.Str.{encodes-chars, IsUtf8-string_bytes}
 use Rattle.html5feed.proofs.QueueReading.{ReadsRun-text, ReadsRun-memory}
 use Rattle.html5feed.proofs.RunLemmas.{no_returns}
 use Rattle.html5feed.proofs.reading.tell_waiting_run.Goals as goal
@@ -21,7 +19,7 @@ pub returns-clause-reads : goal.returns-clause-reads
 returns-clause-reads g c =
     let text = c.in-Ok.ensures.bytes in
     ReadsRun-text g.S.TokenSink.means c.args.rules.now c.tell_run.result g.met.S.TokenSink.keeps_on c.args.position.now _ _ _ _ _
-    (chars (take c.args.bytes (encode_utf8_all c.args.queue.now.text))) (tendril_bytes c.in-Ok.run')
+    (chars (take c.args.bytes (encode_utf8_all c.args.queue.now.text))) (string_bytes c.in-Ok.run')
     c.requires.is_run c.requires.clean c.requires.fits c.in-Ok.ensures.takes
-    (sym (encodes-chars (tendril_bytes c.in-Ok.run') (IsUtf8-tendril_bytes c.in-Ok.run')) ∙ ap (λ bytes. encode_utf8_all (chars bytes)) text)
+    (sym (encodes-chars (string_bytes c.in-Ok.run') (IsUtf8-string_bytes c.in-Ok.run')) ∙ ap (λ bytes. encode_utf8_all (chars bytes)) text)
     c.tell_run.ensures.tells c.tell_run.ensures.opened c.tell_run.ensures.last (rw text at c.tell_run.ensures.input)

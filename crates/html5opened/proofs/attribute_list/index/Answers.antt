@@ -10,4 +10,4 @@ loop-attribute-init g c = λ name. rw c.clear.ensures.empty refl
 pub loop-attribute-preserved : goal.loop-attribute-preserved
 loop-attribute-preserved g c =
     names-more c.loop-attribute.names c.add_name.new.names c.args.attributes.now c.loop-attribute.attribute-index c.attribute-item.result
-    c.loop-attribute.invariant c.attribute-item.is (omega arith) (rw c.deref.ensures at c.in_ok-add_name.ensures)
+    c.loop-attribute.invariant c.attribute-item.is (omega arith) c.in_ok-add_name.ensures

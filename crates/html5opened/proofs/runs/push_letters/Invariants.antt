@@ -1,9 +1,8 @@
-use Rattle.std.proofs.Common.{◌≡◌, ◌++◌}
+use Rattle.std.proofs.Common.{◌≡◌, ◌++◌, string_bytes}
 use Rattle.std.specs.Prelude.{flat_map}
 use Rattle.std.specs.Str.{IsUtf8, chars}
 use Rattle.std.specs.Str.Iter.{chars_rest}
 use Rattle.html5grammar.specs.Characters.{name_bytes}
-use Rattle.markup5ever.specs.Tendril.{tendril_bytes}
 use Rattle.html5opened.proofs.runs.push_letters.Given as goal
 
 -- the name and what the iterator has left are the name before and the run
@@ -11,4 +10,4 @@ abbrev pub invariant-loop-c : goal.invariant-loop-c
 invariant-loop-c g l =
     (goal.iterator-loop-c g).can_next l.c-iterator × (goal.iterator-loop-c g).is_finite l.c-iterator
     × IsUtf8 (chars_rest l.c-iterator)
-    × (tendril_bytes l.name ++ flat_map name_bytes (chars (chars_rest l.c-iterator)) ≡ tendril_bytes l.initial.name ++ flat_map name_bytes (chars l.run))
+    × (string_bytes l.name ++ flat_map name_bytes (chars (chars_rest l.c-iterator)) ≡ string_bytes l.initial.name ++ flat_map name_bytes (chars l.run))

@@ -1,6 +1,5 @@
-use Rattle.std.proofs.Common.{◌≡◌, ◌++◌, true, sym, ap, ◌∙◌}
+use Rattle.std.proofs.Common.{◌≡◌, ◌++◌, true, string_bytes, sym, ap, ◌∙◌}
 use Rattle.std.specs.List.{list_all}
-use Rattle.markup5ever.specs.Tendril.{tendril_bytes}
 use Rattle.html5opened.specs.Runs.{stays_in_names}
 use Rattle.html5opened.proofs.PlainNames.{plain-run}
 use Rattle.html5opened.proofs.runs.push_names.Goals as goal
@@ -9,4 +8,4 @@ pub returns : goal.returns
 returns g c =
     let plain : list_all stays_in_names c.args.run.now ≡ true =
     ap (list_all stays_in_names) (sym c.as_bytes.ensures.value) ∙ sym c.if-not-is_plain_name.ensures in
-    c.in_ok-push_slice.ensures.ok ∙ ap (λ l. tendril_bytes c.args.name.now ++ l) (sym (plain-run c.args.run.now c.utf8.run plain))
+    c.in_ok-push_str.ensures.bytes ∙ ap (λ l. string_bytes c.args.name.now ++ l) (sym (plain-run c.args.run.now c.utf8.run plain))

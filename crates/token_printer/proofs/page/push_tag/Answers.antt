@@ -1,6 +1,5 @@
-use Rattle.std.proofs.Common.{◌≡◌, ◌++◌, decimal, codes, map}
+use Rattle.std.proofs.Common.{◌≡◌, ◌++◌, decimal, codes, map, string_bytes}
 use Rattle.markup5ever.specs.Names.{attribute_of}
-use Rattle.markup5ever.specs.Tendril.{tendril_bytes}
 use Rattle.token_printer.specs.Page.{text_closing}
 use Rattle.token_printer.specs.Printed.{kind_word, quoted, quoted_bytes, numbered_text, open_attributes, tag_marks, tag_line}
 use Rattle.html5ever_interface.specs.Token.{tag_of}
@@ -12,7 +11,7 @@ pub returns-clause-ok : goal.returns-clause-ok
 unfolding tag_line numbered_text quoted
 returns-clause-ok g c =
     let tag = c.args.tag.now in
-    let name = quoted_bytes (tendril_bytes tag.name.0) in
+    let name = quoted_bytes (string_bytes tag.name.0) in
     let attributes = map attribute_of tag.attrs.items in
     let named : c.push_open_text.new.page.items ≡ c.push_kind.new.page.items ++ (decimal c.args.line ++ (codes " \"" ++ name)) = cc c.in_ok-push_open_text.ensures.ok in
     let listed : c.push_attributes.new.page.items ≡ c.push_open_text.new.page.items ++ open_attributes attributes = cc c.in_ok-push_attributes.ensures.ok in

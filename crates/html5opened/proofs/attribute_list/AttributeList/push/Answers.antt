@@ -3,14 +3,12 @@ use Rattle.std.specs.Prelude.{◌||◌}
 use Rattle.std.specs.Str.{bytes_eq}
 use Rattle.html5grammar.specs.Tag.{attribute, has_attribute}
 use Rattle.markup5ever.specs.Names.{attribute_of}
-use Rattle.markup5ever.specs.Tendril.{tendril_bytes}
 use Rattle.html5opened.proofs.AttributeNames.{has_attribute-last}
 use Rattle.html5opened.proofs.attribute_list.AttributeList.push.Goals as goal
 
 pub invariant_of-self-2 : goal.invariant_of-self-2
 invariant_of-self-2 g c = λ _ name.
     c.in_ok-index_with.ensures name
-    ∙ ap (λ bytes. bytes_eq bytes name || has_attribute (map attribute_of c.deref.result.now) name) c.deref-2.ensures
-    ∙ ap (λ items. bytes_eq (tendril_bytes c.args.name) name || has_attribute (map attribute_of items) name) c.deref.ensures.value
-    ∙ sym (has_attribute-last (map attribute_of c.self.inside.items.items) (attribute (tendril_bytes c.args.name) (string_bytes c.args.value)) name)
+    ∙ ap (λ items. bytes_eq (string_bytes c.args.name) name || has_attribute (map attribute_of items) name) c.deref.ensures.value
+    ∙ sym (has_attribute-last (map attribute_of c.self.inside.items.items) (attribute (string_bytes c.args.name) (string_bytes c.args.value)) name)
     ∙ ap (λ l. has_attribute l name) (sym c.in_ok-push_attribute.ensures)

@@ -1,5 +1,4 @@
-use Rattle.std.proofs.Common.{ap, sym, refl, ◌∙◌}
-use Rattle.markup5ever.specs.Tendril.{tendril_bytes}
+use Rattle.std.proofs.Common.{ap, sym, refl, ◌∙◌, string_bytes}
 use Rattle.html5grammar.specs.Start.{OpenTag}
 use Rattle.html5grammar.specs.Machine.{tag_name_end_step}
 use Rattle.html5opened.proofs.HeldLetters.{tag_name_step-ends}
@@ -9,6 +8,6 @@ use Rattle.html5states.proofs.teller.Teller.create_end_tag.Goals as goal
 pub returns : goal.returns
 returns g c =
     reads_as c.tag_name_state.ensures
-    (ap (λ (t : OpenTag). tag_name_end_step (record t { name = tendril_bytes c.args.name }) c.args.c) (sym c.begin.ensures)
+    (ap (λ (t : OpenTag). tag_name_end_step (record t { name = string_bytes c.args.name }) c.args.c) (sym c.begin.ensures)
     ∙ sym (tag_name_step-ends c.args.self.now.exact_errors _ c.args.c c.requires))
     refl

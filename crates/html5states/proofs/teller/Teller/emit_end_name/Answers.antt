@@ -1,6 +1,5 @@
-use Rattle.std.proofs.Common.{◌≡◌, ◌∷◌, ◌++◌, ap, ◌∙◌}
+use Rattle.std.proofs.Common.{◌≡◌, ◌∷◌, ◌++◌, ap, ◌∙◌, string_bytes}
 use Rattle.std.specs.Str.{chars}
-use Rattle.markup5ever.specs.Tendril.{tendril_bytes}
 use Rattle.html5grammar.specs.Characters.{less_than, solidus}
 use Rattle.html5grammar.specs.RawText.{texts}
 use Rattle.html5opened.proofs.HeldLetters.{chars-end_name}
@@ -9,12 +8,12 @@ use Rattle.html5states.proofs.teller.Teller.emit_end_name.Goals as goal
 
 pub tell-requires-clause-filled : goal.tell-requires-clause-filled
 tell-requires-clause-filled g c =
-    let text : chars (tendril_bytes c.push_slice.new.self) ≡ less_than ∷ solidus ∷ chars c.args.letters.now =
-    ap chars (c.in_ok-push_slice.ensures.ok ∙ ap (λ l. l ++ c.args.letters.now) c.in_ok-text.ensures) ∙ chars-end_name c.args.letters.now in
+    let text : chars (string_bytes c.push_str.new.self) ≡ less_than ∷ solidus ∷ chars c.args.letters.now =
+    ap chars (c.in_ok-push_str.ensures.bytes ∙ ap (λ l. l ++ c.args.letters.now) c.in_ok-text.ensures.ok) ∙ chars-end_name c.args.letters.now in
     rw text (cons≢nil _ _)
 
 pub returns : goal.returns
 returns g c =
-    let text : chars (tendril_bytes c.push_slice.new.self) ≡ less_than ∷ solidus ∷ chars c.args.letters.now =
-    ap chars (c.in_ok-push_slice.ensures.ok ∙ ap (λ l. l ++ c.args.letters.now) c.in_ok-text.ensures) ∙ chars-end_name c.args.letters.now in
+    let text : chars (string_bytes c.push_str.new.self) ≡ less_than ∷ solidus ∷ chars c.args.letters.now =
+    ap chars (c.in_ok-push_str.ensures.bytes ∙ ap (λ l. l ++ c.args.letters.now) c.in_ok-text.ensures.ok) ∙ chars-end_name c.args.letters.now in
     rw (ap texts text) at c.tell.ensures

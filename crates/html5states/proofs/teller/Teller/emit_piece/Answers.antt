@@ -6,7 +6,7 @@ use Rattle.html5states.proofs.Tellings.{filled-text}
 use Rattle.html5states.proofs.teller.Teller.emit_piece.Goals as goal
 
 pub hand_on-requires-clause-filled : goal.hand_on-requires-clause-filled
-hand_on-requires-clause-filled g c = rw c.from.ensures (filled-text (string_bytes c.args.text) (IsUtf8-string_bytes c.args.text) (search rules))
+hand_on-requires-clause-filled g c = filled-text (string_bytes c.args.text) (IsUtf8-string_bytes c.args.text) (search rules)
 
 pub returns-then-is_empty : goal.returns-then-is_empty
 unfolding stepped

@@ -10,7 +10,7 @@ pub returns-then-bytes-len-clause-bytes : goal.returns-then-bytes-len-clause-byt
 returns-then-bytes-len-clause-bytes g c =
     let q = c.self.inside in
     let whole = c.if-bytes-len.true ∙ c.len.ensures ∙ q.text.bytes.ok.0 in
-    c.from.ensures ∙ ap string_bytes c.replace-text.ensures.value ∙ whole_text (string_bytes q.text) c.args.self.now.text q.offset c.args.bytes c.self.invariant (ap (λ (t : TextQueue). t.text) c.self.view_is) c.if-self-eq0.true whole
+    ap string_bytes c.replace.ensures.value ∙ whole_text (string_bytes q.text) c.args.self.now.text q.offset c.args.bytes c.self.invariant (ap (λ (t : TextQueue). t.text) c.self.view_is) c.if-self-eq0.true whole
 
 pub returns-then-bytes-len-clause-takes : goal.returns-then-bytes-len-clause-takes
 returns-then-bytes-len-clause-takes g c =
@@ -20,8 +20,8 @@ returns-then-bytes-len-clause-takes g c =
     let text_is = ap (λ (t : TextQueue). t.text) c.self.view_is in
     let whole = c.if-bytes-len.true ∙ c.len.ensures ∙ q.text.bytes.ok.0 in
     let run_is = whole_run run q.offset c.args.bytes c.if-self-eq0.true whole in
-    let none : string_bytes c.replace-text.new.dest ≡ [] = ap string_bytes c.replace-text.ensures.after ∙ c.new-empty.ensures.bytes in
-    let rest_is = past_whole_text run (string_bytes c.replace-text.new.dest) q.offset c.args.bytes none whole in
+    let none : string_bytes c.replace.new.dest ≡ [] = ap string_bytes c.replace.ensures.after ∙ c.new-empty.ensures.bytes in
+    let rest_is = past_whole_text run (string_bytes c.replace.new.dest) q.offset c.args.bytes none whole in
     let counted : c.with_chars-self-inside.result.total ≡ q.taken.total + length (chars run) = c.with_chars-self-inside.ensures ∙ ap (λ bs. q.taken.total + length (chars bs)) c.deref.ensures in
     let taken : c.with_chars-self-inside.result.total ≡ old.taken + length (chars run) = counted ∙ ap (λ (t : TextQueue). t.taken + length (chars run)) c.self.view_is in
     takes_bytes old _ run run q.offset c.args.bytes c.self.invariant text_is run_is c.requires.within c.requires.rest_utf8 rest_is (ap (λ (t : TextQueue). t.handed_in) c.self.view_is) taken

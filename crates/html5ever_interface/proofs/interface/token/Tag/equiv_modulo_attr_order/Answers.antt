@@ -1,7 +1,6 @@
-use Rattle.std.proofs.Common.{◌≡◌, sym, ◌∙◌}
+use Rattle.std.proofs.Common.{◌≡◌, string_bytes, sym, ◌∙◌}
 use Rattle.std.proofs.lemmas.Bool.{false≢true}
 use Rattle.std.proofs.lemmas.Slice.Eq.{bytes_eq-Decides}
-use Rattle.markup5ever.specs.Tendril.{tendril_bytes}
 use Rattle.html5ever_interface.specs.contracts.interface.token.TagKind.{the_type}
 use Rattle.html5ever_interface.proofs.interface.token.Tag.equiv_modulo_attr_order.Goals as goal
 use Rattle.html5ever_interface.proofs.interface.token.Tag.equiv_modulo_attr_order.Goals.{then-eq, else-eq}
@@ -9,7 +8,7 @@ use denote.Enum.Bare.{same_true}
 
 pub returns-then-eq-2 : goal.returns-then-eq-2
 returns-then-eq-2 g c =
-    let alike : (c.args.self.now.kind ≡ c.args.other.now.kind) × (tendril_bytes c.args.self.now.name.0 ≡ tendril_bytes c.args.other.now.name.0) =
+    let alike : (c.args.self.now.kind ≡ c.args.other.now.kind) × (string_bytes c.args.self.now.name.0 ≡ string_bytes c.args.other.now.name.0) =
     elim c.if-eq.branch [
       | then-eq w ↦ (
         same_true the_type tt _ _ (sym c.eq.ensures ∙ w.if-eq.true),
