@@ -55,21 +55,19 @@ fn fault_of(error: TokenizerError) -> Fault
 fn feed_piece<A: Allocator + Copy>(
     tokenizer: &mut Tokenizer<'_, PrintSink<A>, A>,
     queue: &mut BufferQueue<A>,
-    piece: String<A>,
+    piece: &str,
 ) -> Result<(), Fault>
     requires waiting { queue.old.text ≡ [] }
     requires going_on { tokenizer.old.ended ≡ false }
     requires not_failed { tokenizer.old.failed ≡ false }
-    ensures reads { OnOk result (ReadsOn printer_means tokenizer.old tokenizer.new (chars (string_bytes piece))) }
+    ensures reads { OnOk result (ReadsOn printer_means tokenizer.old tokenizer.new (chars piece.now)) }
     ensures taken { OnOk result (queue.new.text ≡ []) }
     ensures rules { tokenizer.new.rules ≡ tokenizer.old.rules }
     ensures going_on { tokenizer.new.ended ≡ false }
     ensures not_failed { OnOk result (tokenizer.new.failed ≡ false) }
     ensures err { IfErr result IsRefusal }
 {
-    if queue.push_back(piece).is_err() {
-        return Err(Fault::Memory);
-    }
+    queue.push_str(piece)?;
     match feed_until_done(tokenizer, queue) {
         Ok(()) => Ok(()),
         Err(error) => Err(fault_of(error)),
@@ -214,8 +212,7 @@ pub fn feed_text<W: Target, A: Allocator + Copy>(
     let mut start = 0;
     while start < text.len() {
         let end = start + piece_len(&text[start..], cut);
-        let piece = String::from_str(alloc, &text[start..end])?;
-        feed_piece(tokenizer, &mut queue, piece)?;
+        feed_piece(tokenizer, &mut queue, &text[start..end])?;
         write_full_page(writer, &mut tokenizer.sink)?;
         start = end;
     }

@@ -129,17 +129,25 @@ impl<A: Allocator> BufferQueue<A> {
         if text.is_empty() {
             return Ok(());
         }
-        let handed_in = self.handed_in.with_chars(&text);
         if self.is_empty() {
+            self.handed_in = self.handed_in.with_chars(&text);
             self.text = text;
             self.offset = 0;
-            self.handed_in = handed_in;
             return Ok(());
         }
-        let Ok(()) = append(&mut self.text, &mut self.offset, &text) else {
-            return Err(text);
-        };
-        self.handed_in = handed_in;
+        match self.push_str(&text) {
+            Ok(()) => Ok(()),
+            Err(_) => Err(text),
+        }
+    }
+
+    /// Hands in a copy of a text.
+    pub fn push_str(&mut self, text: &str) -> Result<(), AllocError>
+        ensures ok { OnOk result (Gains self.old self.new (chars text.now)) }
+        ensures err { OnErr result (self.new ≡ self.old) }
+    {
+        append(&mut self.text, &mut self.offset, text)?;
+        self.handed_in = self.handed_in.with_chars(text);
         Ok(())
     }
 

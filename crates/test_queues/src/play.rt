@@ -1,5 +1,5 @@
 //! Plays a script, in each way that it asks for.
-use crate::queue::{Place, eat, hand_in, next, peek, pop, skip, waiting};
+use crate::queue::{Place, copy, eat, hand_in, next, peek, pop, skip, waiting};
 use crate::script::{Call, Entry, Script, Step};
 use crate::table::{begins, check, control, get};
 use markup5ever::buffer_queue::{BufferQueue, Case};
@@ -44,6 +44,7 @@ impl<'s, A: Allocator + Copy> Player<'s, A> {
     fn answer(&mut self, call: &Call) -> Result<String, Stop> {
         match call {
             Call::Push(text) => self.hand_in(Place::Back, text),
+            Call::Copy(text) => copy(self.ample, &mut self.queue, text),
             Call::Insert(text) => self.hand_in(Place::Front, text),
             Call::GiveBack(text) => self.hand_in(Place::BackAgain, text),
             Call::Eat(pattern, case) => self.eat(pattern, *case),

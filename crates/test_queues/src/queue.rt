@@ -59,6 +59,20 @@ pub fn hand_in<A: Allocator>(
     Ok(String::from_str(ample, "memory")?)
 }
 
+/// Hands in a copy of a text. Where that is refused the queue gives what it held.
+pub fn copy<A: Allocator>(
+    ample: Global,
+    queue: &mut BufferQueue<A>,
+    text: &str,
+) -> Result<String, Stop> {
+    let before = String::from_str(ample, queue.front_text())?;
+    let Err(AllocError) = queue.push_str(text) else {
+        return Ok(String::from_str(ample, "ok")?);
+    };
+    check_rest(ample, queue, &before)?;
+    Ok(String::from_str(ample, "memory")?)
+}
+
 /// Takes the first character.
 pub fn next<A: Allocator>(ample: Global, queue: &mut BufferQueue<A>) -> Result<String, Stop> {
     Ok(words_of(ample, queue.next())?)

@@ -9,6 +9,8 @@ use test_lines::{Case, CaseError, Wanted, number_of, push_meant};
 pub enum Call {
     /// Hands a text in, after what waits.
     Push(String),
+    /// Hands a copy of a text in, after what waits.
+    Copy(String),
     /// Hands a text in, in front of what waits.
     Insert(String),
     /// Puts a text back in front of what waits.
@@ -109,6 +111,7 @@ fn control_call(digits: &str) -> Result<Call, CaseError> {
 fn text_call(verb: &str, text: String) -> Result<Call, CaseError> {
     match verb {
         "push" => Ok(Call::Push(text)),
+        "copy" => Ok(Call::Copy(text)),
         "insert" => Ok(Call::Insert(text)),
         "give_back" => Ok(Call::GiveBack(text)),
         "eat" => Ok(Call::Eat(text, Letters::Exact)),

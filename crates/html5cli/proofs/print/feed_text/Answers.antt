@@ -33,7 +33,7 @@ loop-start-preserved g c =
     let text = c.args.text.now in
     let piece = IsPiece-sliced text _ _ _ c.loop-start.start c.piece_len.result c.loop-start.invariant.fed.cut
     c.range_from.ensures.value c.piece_len.ensures.within c.piece_len.ensures.boundary.1
-    c.range.ensures.value c.in_ok-piece.ensures.ok in
+    c.range.ensures.value refl in
     let said = c.in_ok-feed_piece.ensures in
     let was = g.W.Target.contents c.args.writer.now in
     let written = g.W.Target.contents c.write_full_page.new.writer in
@@ -46,20 +46,16 @@ loop-start-preserved g c =
       no_failure = omega (arith, c.in_ok-write_full_page.ensures.failures, c.loop-start.invariant.no_failure);
     }
 
-pub returns-in_err-piece-clause-beginning : goal.returns-in_err-piece-clause-beginning
-returns-in_err-piece-clause-beginning g c =
-    on_err-anyway c.from_residual.result (FedTo-short _ _ _ _ _ _ _ c.loop-start.invariant.fed c.utf8.text)
-
 pub returns-in_err-feed_piece-clause-beginning : goal.returns-in_err-feed_piece-clause-beginning
 returns-in_err-feed_piece-clause-beginning g c =
-    on_err-anyway c.from_residual-in_err-feed_piece.result (FedTo-short _ _ _ _ _ _ _ c.loop-start.invariant.fed c.utf8.text)
+    on_err-anyway c.from_residual.result (FedTo-short _ _ _ _ _ _ _ c.loop-start.invariant.fed c.utf8.text)
 
 pub returns-in_err-write_full_page-clause-beginning : goal.returns-in_err-write_full_page-clause-beginning
 returns-in_err-write_full_page-clause-beginning g c =
     let text = c.args.text.now in
     let piece = IsPiece-sliced text _ _ _ c.loop-start.start c.piece_len.result c.loop-start.invariant.fed.cut
     c.range_from.ensures.value c.piece_len.ensures.within c.piece_len.ensures.boundary.1
-    c.range.ensures.value c.in_ok-piece.ensures.ok in
+    c.range.ensures.value refl in
     let said = c.in_ok-feed_piece.ensures in
     let known = g.W.Target.contents c.loop-start.writer in
     let begun = subst (λ (t : Tokenizing Printer). AppendsBeginning known (g.W.Target.contents c.write_full_page.new.writer) t.sink.page.lines) c.tokenizer.view_is c.in_err-write_full_page.ensures.err in
