@@ -45,24 +45,22 @@ fn step<S: TokenSink<Token<A>>, A: Allocator + Copy>(
     step
 }
 
-// Sends the sink a tag, and goes on as it replies. A reply that pauses becomes the answer.
+// Sends the sink a tag, and goes on as it replies.
 #[tactic(auto, using(html5states::proofs::Tellings::tells_from_memory), unfolding(html5ever_interface::specs::Sink::stepped, crate::specs::Feed::first_pause))]
 #[inline(always)]
 fn tell_tag<S: TokenSink<Token<A>>, A: Allocator + Copy>(
     teller: &mut Teller<'_, S, A>,
     position: &mut Position<A>,
     tag: Tag<A>,
-    answer: &mut TokenizerResult<S::Handle, String<A>>,
-) -> Result<(), TokenizerError>
-    requires between { position.old.opened ≡ Between Data }
-    requires going_on { answer.old ≡ TokenizerResult.Done }
+) -> Result<TokenizerResult<S::Handle, String<A>>, TokenizerError>
+    requires { position.old.opened ≡ Between Data }
     ensures emits { Emits S.means S.faults result teller.old teller.new (Told.Tag (tag_of tag) ∷ []) }
     ensures leads { Leads result position.new.opened
         (open_after_reply (last_after position.old.last_start_tag (tag_of tag))
         (S.means.reply (S.means.state teller.old.sink.now) (Told.Tag (tag_of tag)) teller.old.line)) }
     ensures last { OnOk result
         (position.new.last_start_tag ≡ last_after position.old.last_start_tag (tag_of tag)) }
-    ensures answer { OnOk result (reply_in string_bytes answer.new
+    ensures answer { IfOk result (λ answer. reply_in string_bytes answer
         ≡ first_pause S.means (S.means.state teller.old.sink.now)
         (on_line teller.old.line (Told.Tag (tag_of tag) ∷ []))) }
     ensures input { position.new.input ≡ position.old.input }
@@ -70,15 +68,18 @@ fn tell_tag<S: TokenSink<Token<A>>, A: Allocator + Copy>(
 {
     position.note_tag(&tag)?;
     match teller.tell_tag(tag)? {
-        TokenSinkResult::Continue => {}
-        TokenSinkResult::Plaintext => position.set_plaintext(),
-        TokenSinkResult::RawData(kind) => position.set_raw_data(kind),
-        TokenSinkResult::Script(handle) => *answer = TokenizerResult::Script(handle),
-        TokenSinkResult::EncodingIndicator(text) => {
-            *answer = TokenizerResult::EncodingIndicator(text);
+        TokenSinkResult::Continue => Ok(TokenizerResult::Done),
+        TokenSinkResult::Plaintext => {
+            position.set_plaintext();
+            Ok(TokenizerResult::Done)
+        }
+        TokenSinkResult::Script(handle) => Ok(TokenizerResult::Script(handle)),
+        TokenSinkResult::EncodingIndicator(text) => Ok(TokenizerResult::EncodingIndicator(text)),
+        TokenSinkResult::RawData(kind) => {
+            position.set_raw_data(kind);
+            Ok(TokenizerResult::Done)
         }
     }
-    Ok(())
 }
 
 // Reads a character in the state that is open, where nothing is undecided.
@@ -89,10 +90,8 @@ fn read_opened<S: TokenSink<Token<A>>, A: Allocator + Copy>(
     rules: &Rules<'_, A>,
     position: &mut Position<A>,
     c: char,
-    answer: &mut TokenizerResult<S::Handle, String<A>>,
-) -> Result<(), TokenizerError>
-    requires decided { is_undecided_open position.old.opened ≡ false }
-    requires going_on { answer.old ≡ TokenizerResult.Done }
+) -> Result<TokenizerResult<S::Handle, String<A>>, TokenizerError>
+    requires { is_undecided_open position.old.opened ≡ false }
     ensures tells { Tells S.means.step S.means.faulted result (S.means.state sink.old)
         (messages_here S.means.step S.means.reply rules.now position.old.input.line c
         (step_at rules.now.exact position.old.opened c)) (S.means.state sink.new) }
@@ -101,7 +100,7 @@ fn read_opened<S: TokenSink<Token<A>>, A: Allocator + Copy>(
         position.old.last_start_tag c (step_at rules.now.exact position.old.opened c)) }
     ensures last { OnOk result (position.new.last_start_tag
         ≡ last_here position.old.last_start_tag (step_at rules.now.exact position.old.opened c)) }
-    ensures answer { OnOk result (reply_in string_bytes answer.new
+    ensures answer { IfOk result (λ answer. reply_in string_bytes answer
         ≡ first_pause S.means (S.means.state sink.old)
         (messages_here S.means.step S.means.reply rules.now position.old.input.line c
         (step_at rules.now.exact position.old.opened c))) }
@@ -118,30 +117,27 @@ fn read_opened<S: TokenSink<Token<A>>, A: Allocator + Copy>(
     };
     teller.emit_bad_character(c)?;
     match step(&mut teller, &mut position.opened, c)? {
-        Progress::Continues => Ok(()),
+        Progress::Continues => Ok(TokenizerResult::Done),
         Progress::BeginsReference => {
             position.begin_reference();
-            Ok(())
+            Ok(TokenizerResult::Done)
         }
         Progress::EndsTag { self_closing } => {
             let tag = position.opened.tag.end(alloc, self_closing);
-            tell_tag(&mut teller, position, tag, answer)
+            tell_tag(&mut teller, position, tag)
         }
     }
 }
 
-/// Reads one character of the stream. After a tag whose reply pauses, the answer becomes that reply.
-// It stands outside the loop of `read_queue`, which is small then, so that a feed of one character is cheap.
-#[inline(never)]
+/// Reads one character of the stream. The answer is `Done`, except after a tag whose reply pauses.
+#[inline(always)]
 pub fn read_character<S: TokenSink<Token<A>>, A: Allocator + Copy>(
     alloc: A,
     sink: &mut S,
     rules: &Rules<'_, A>,
     position: &mut Position<A>,
     c: char,
-    answer: &mut TokenizerResult<S::Handle, String<A>>,
-) -> Result<(), TokenizerError>
-    requires { answer.old ≡ TokenizerResult.Done }
+) -> Result<TokenizerResult<S::Handle, String<A>>, TokenizerError>
     ensures tells { Tells S.means.step S.means.faulted result (S.means.state sink.old)
         (messages_so_far S.means rules.now position.old (S.means.state sink.old) (c ∷ [])) (S.means.state sink.new) }
     ensures leads { Leads result position.new.opened
@@ -150,7 +146,7 @@ pub fn read_character<S: TokenSink<Token<A>>, A: Allocator + Copy>(
     ensures last { OnOk result (position.new.last_start_tag
         ≡ (start_after S.means rules.now position.old (S.means.state sink.old)
         (c ∷ [])).last_start_tag) }
-    ensures answer { OnOk result (reply_in string_bytes answer.new
+    ensures answer { IfOk result (λ answer. reply_in string_bytes answer
         ≡ first_pause S.means (S.means.state sink.old)
         (messages_so_far S.means rules.now position.old (S.means.state sink.old) (c ∷ []))) }
     ensures input { position.new.input ≡ input_after position.old.input (c ∷ []) }
@@ -159,13 +155,13 @@ pub fn read_character<S: TokenSink<Token<A>>, A: Allocator + Copy>(
 {
     let before = position.input.line();
     let Some(c) = position.input.advance(c) else {
-        return Ok(());
+        return Ok(TokenizerResult::Done);
     };
     if !position.is_undecided() {
-        return read_opened(alloc, sink, rules, position, c, answer);
+        return read_opened(alloc, sink, rules, position, c);
     }
     if read_undecided(alloc, sink, rules, position, before, c)? {
-        return Ok(());
+        return Ok(TokenizerResult::Done);
     }
-    read_opened(alloc, sink, rules, position, c, answer)
+    read_opened(alloc, sink, rules, position, c)
 }

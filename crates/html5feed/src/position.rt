@@ -206,7 +206,6 @@ impl<A: Allocator + Copy> Position<A> {
     }
 
     /// Keeps the name of a start tag as that of the last one. The tag is sent next.
-    #[inline(always)]
     pub(crate) fn note_tag(&mut self, tag: &Tag<A>) -> Result<(), TokenizerError>
         requires { self.old.opened ≡ Between Data }
         ensures opened { self.new.opened ≡ Between Data }
@@ -388,7 +387,6 @@ fn is_between(state: State, held: &str) -> bool
 
 // Keeps the name of a start tag as that of the last one.
 #[tactic(auto, unfolding(html5grammar::specs::Reading::last_after))]
-#[inline(always)]
 fn keep_name<A: Allocator>(last_name: &mut String<A>, tag: &Tag<A>) -> Result<(), AllocError>
     ensures { OnOk result (string_bytes last_name.new ≡ last_after (string_bytes last_name.old) (tag_of tag.now)) }
 {

@@ -138,17 +138,15 @@ pub fn read_queue<S: TokenSink<Token<A>>, A: Allocator + Copy>(
     ensures faults { S.faults sink.new ≡ S.faults sink.old + faults_of result }
     ensures empty { queue.old.text ≡ [] → IsOk result }
 {
-    let mut answer = TokenizerResult::Done;
     loop {
         read_waiting_run(alloc, sink, rules, position, queue)?;
         read_waiting_quietly(alloc, rules, position, queue)?;
         let Some(c) = queue.next() else {
-            return Ok(answer);
+            return Ok(TokenizerResult::Done);
         };
-        read_character(alloc, sink, rules, position, c, &mut answer)?;
-        match answer {
+        match read_character(alloc, sink, rules, position, c)? {
             TokenizerResult::Done => {}
-            _ => return Ok(answer),
+            pause => return Ok(pause),
         }
     }
 }

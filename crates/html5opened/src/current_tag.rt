@@ -56,7 +56,6 @@ impl<A: Allocator + Copy> CurrentTag<A> {
 
     /// Ends the tag after its last attribute, and answers the tag. What stays here says nothing until
     /// the next tag begins.
-    #[inline(always)]
     pub fn end(&mut self, alloc: A, self_closing: bool) -> Tag<A>
         ensures { tag_of result ≡ told_tag (open_tag self.old) self_closing }
     {

@@ -1,12 +1,10 @@
 use Rattle.std.proofs.Common.{◌∙◌, refl, ap, sym, Ok}
-use Rattle.std.proofs.lemmas.Result.{on_ok_weaker}
-use Rattle.std.specs.String.{string_bytes}
+use Rattle.std.proofs.lemmas.Result.{IfOk-weaker}
 use Rattle.html5ever_interface.specs.Sink.{stepped}
 use Rattle.html5grammar.proofs.ReadingLemmas.{told-none, after-none}
 use Rattle.html5grammar.specs.Start.{Start}
 use Rattle.html5opened.specs.CharRef.{with_reference}
 use Rattle.html5opened.specs.CurrentTag.{opened_of, last_name_of}
-use Rattle.html5feed.specs.Feed.{reply_in}
 use Rattle.html5feed.proofs.Pauses.{first_pause-none}
 use Rattle.html5feed.proofs.UndecidedReading.{told-plain, after-plain, last-plain, last-belongs, last-decides, told-belongs, after-belongs, after-decides, pause-belongs, pause-decides, tells-late, leads-late, tells-decides}
 use Rattle.html5feed.proofs.character.read_character.Goals as goal
@@ -25,7 +23,7 @@ returns-in_default-clause-leads g c =
 pub returns-in_default-clause-answer : goal.returns-in_default-clause-answer
 returns-in_default-clause-answer g c =
     let K : Start = record { opened = with_reference c.position.inside.in_reference c.position.inside.held (opened_of c.position.inside.opened); last_start_tag = last_name_of c.position.inside.opened; input = c.position.inside.input } in
-    rw (← c.position.view_is) (rw (told-none g.S.TokenSink.means.step g.S.TokenSink.means.reply g.S.TokenSink.means.foreign c.args.rules.now K (g.S.TokenSink.means.state c.args.sink.now) c.args.c c.in_default.ensures.reads) (ap (reply_in string_bytes) c.requires ∙ sym (first_pause-none g.S.TokenSink.means _)))
+    rw (← c.position.view_is) (rw (told-none g.S.TokenSink.means.step g.S.TokenSink.means.reply g.S.TokenSink.means.foreign c.args.rules.now K (g.S.TokenSink.means.state c.args.sink.now) c.args.c c.in_default.ensures.reads) (sym (first_pause-none g.S.TokenSink.means _)))
 
 -- nothing is undecided
 
@@ -74,7 +72,7 @@ returns-then-branch-clause-leads g c =
 pub returns-then-branch-clause-answer : goal.returns-then-branch-clause-answer
 returns-then-branch-clause-answer g c =
     let K : Start = record { opened = with_reference c.position.inside.in_reference c.position.inside.held (opened_of c.position.inside.opened); last_start_tag = last_name_of c.position.inside.opened; input = c.position.inside.input } in
-    rw (← c.position.view_is) (ap (reply_in string_bytes) c.requires ∙ pause-belongs g.S.TokenSink.means c.args.rules.now K (g.S.TokenSink.means.state c.args.sink.now) c.args.c c.in-Some.c c.in-Some.ensures.reads c.line-before.ensures.fits g.met.S.TokenSink.keeps_on _ (c.in_ok-read_undecided.ensures.taken (ap Ok c.if-branch.true)))
+    rw (← c.position.view_is) (pause-belongs g.S.TokenSink.means c.args.rules.now K (g.S.TokenSink.means.state c.args.sink.now) c.args.c c.in-Some.c c.in-Some.ensures.reads c.line-before.ensures.fits g.met.S.TokenSink.keeps_on _ (c.in_ok-read_undecided.ensures.taken (ap Ok c.if-branch.true)))
 
 -- a character that decides, and is then read
 
@@ -95,7 +93,7 @@ returns-clause-answer g c =
     let K : Start = record { opened = with_reference c.position.inside.in_reference c.position.inside.held (opened_of c.position.inside.opened); last_start_tag = last_name_of c.position.inside.opened; input = c.position.inside.input } in
     let told_late = (rw c.line-before.ensures.line at c.in_ok-read_undecided.ensures.tells) in
     let same = pause-decides g.S.TokenSink.means c.args.rules.now K (g.S.TokenSink.means.state c.args.sink.now) c.args.c c.in-Some.c c.in-Some.ensures.reads c.line-before.ensures.fits g.met.S.TokenSink.keeps_on _ (c.in_ok-read_undecided.ensures.decided (ap Ok c.if-branch.false)) in
-    rw (← c.position.view_is) (on_ok_weaker c.read_opened-2.result (λ is. is ∙ same) (rw (c.in_ok-read_undecided.ensures.input, c.in-Some.ensures.moves, told_late) at c.read_opened-2.ensures.answer))
+    rw (← c.position.view_is) (IfOk-weaker c.read_opened-2.result _ _ (λ answer is. is ∙ same) (rw (c.in_ok-read_undecided.ensures.input, c.in-Some.ensures.moves, told_late) at c.read_opened-2.ensures.answer))
 
 -- the name of the last start tag
 
