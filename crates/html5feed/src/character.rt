@@ -122,8 +122,8 @@ fn read_opened<S: TokenSink<Token<A>>, A: Allocator + Copy>(
             position.begin_reference();
             Ok(TokenizerResult::Done)
         }
-        Progress::EndsTag { self_closing } => {
-            let tag = position.opened.tag.end(alloc, self_closing);
+        Progress::EndsTag => {
+            let tag = position.opened.tag.end(alloc);
             tell_tag(&mut teller, position, tag)
         }
     }

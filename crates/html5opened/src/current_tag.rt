@@ -20,6 +20,8 @@ use std::mem;
 pub struct CurrentTag<A: Allocator = Global> {
     pub kind: TagKind,
     pub name: String<A>,
+    /// Whether the tag closes itself, which is known at its end.
+    pub self_closing: bool,
     pub attrs: AttributeList<A>,
     pub had_duplicate_attributes: bool,
     pub attr_name: String<A>,
@@ -34,6 +36,7 @@ impl<A: Allocator + Copy> CurrentTag<A> {
         CurrentTag {
             kind,
             name: String::new(alloc),
+            self_closing: false,
             attrs: AttributeList::new(alloc),
             had_duplicate_attributes: false,
             attr_name: String::new(alloc),
@@ -56,13 +59,13 @@ impl<A: Allocator + Copy> CurrentTag<A> {
 
     /// Ends the tag after its last attribute, and answers the tag. What stays here says nothing until
     /// the next tag begins.
-    pub fn end(&mut self, alloc: A, self_closing: bool) -> Tag<A>
-        ensures { tag_of result ≡ told_tag (open_tag self.old) self_closing }
+    pub fn end(&mut self, alloc: A) -> Tag<A>
+        ensures { tag_of result ≡ told_tag (open_tag self.old) self.old.self_closing }
     {
         Tag {
             kind: self.kind,
             name: LocalName(mem::replace(&mut self.name, String::new(alloc))),
-            self_closing,
+            self_closing: self.self_closing,
             attrs: mem::replace(&mut self.attrs, AttributeList::new(alloc)).into_vec(),
             had_duplicate_attributes: self.had_duplicate_attributes,
         }
@@ -70,6 +73,7 @@ impl<A: Allocator + Copy> CurrentTag<A> {
 
     /// Ends the last attribute, if there is one. Where the tag already has its name, nothing changes.
     /// Answers whether it ended.
+    #[inline(always)]
     pub fn keep_attribute(&mut self, alloc: A) -> Result<bool, AllocError>
         ensures kept { IfOk result (λ kept. kept
             ≡ not (has_last (open_tag self.old) && repeats_attribute (open_tag self.old))) }
@@ -80,6 +84,18 @@ impl<A: Allocator + Copy> CurrentTag<A> {
         if self.attr_name.is_empty() {
             return Ok(true);
         }
+        self.keep_named_attribute(alloc)
+    }
+
+    // Ends the last attribute, which has a name. Where the tag already has that, nothing changes.
+    #[inline(never)]
+    fn keep_named_attribute(&mut self, alloc: A) -> Result<bool, AllocError>
+        requires { has_last (open_tag self.old) ≡ true }
+        ensures kept { IfOk result (λ kept. kept ≡ not (repeats_attribute (open_tag self.old))) }
+        ensures finished { IfOk result (λ kept. kept ≡ true
+            → open_tag self.new ≡ with_last_attribute (open_tag self.old)) }
+        ensures unchanged { IfOk result (λ kept. kept ≡ false → self.new ≡ self.old) }
+    {
         if self.attrs.has(&self.attr_name) {
             return Ok(false);
         }

@@ -44,10 +44,7 @@ pub enum Progress {
     /// The character is an `&`: a reference begins, and stands where the state is.
     BeginsReference,
     /// The open tag ends: it is to be sent, and the sink's reply may choose another state.
-    EndsTag {
-        /// Whether the tag closes itself.
-        self_closing: bool,
-    },
+    EndsTag,
 }
 
 /// What reading a character answers.

@@ -216,7 +216,8 @@ pub fn read_quietly<A: Allocator + Copy>(
         StopsQuietly (opened_of at.old) (chars (take refused.bytes text.now))) }
 {
     let mut read = 0;
-    while read < text.len() {
+    // A `>` ends most tags, which is told.
+    while read < text.len() && text.as_bytes()[read] != b'>' {
         let rest = &text[read..];
         match read_next(at, alloc, rest) {
             Ok(0) => return Ok(read),

@@ -38,10 +38,6 @@ fn reply_to_raw_text<A: Allocator>(kind: Option<RawKind>) -> TokenSinkResult<(),
 pub fn standard_reply_to_start<A: Allocator>(name: &str) -> TokenSinkResult<(), String<A>>
     ensures { reply_of string_bytes result ≡ standard_reply_to_start name.now }
 {
-    // Most names have so many letters, and none of these asks for anything.
-    if name.len() < 3 || name.len() == 4 {
-        return TokenSinkResult::Continue;
-    }
     if name == "plaintext" {
         return TokenSinkResult::Plaintext;
     }

@@ -16,6 +16,7 @@ use std::alloc::Allocator;
 impl<S: TokenSink<Token<A>>, A: Allocator + Copy> Teller<'_, S, A> {
     /// Ends the last attribute, if there is one, as the standard's "Attribute name state" asks. It is
     /// dropped, with an error, where the tag already has its name.
+    #[inline(always)]
     pub fn finish_attribute(&mut self, tag: &mut CurrentTag<A>) -> Result<(), TokenizerError>
         ensures emits { Emits S.means S.faults result self.old self.new
             (duplicate_error (open_tag tag.old)) }

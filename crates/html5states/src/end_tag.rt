@@ -77,6 +77,7 @@ impl<S: TokenSink<Token<A>>, A: Allocator + Copy> Teller<'_, S, A> {
     {
         at.state = State::Data;
         self.finish_tag(&mut at.tag, self_closing)?;
-        Ok(Progress::EndsTag { self_closing })
+        at.tag.self_closing = self_closing;
+        Ok(Progress::EndsTag)
     }
 }

@@ -23,6 +23,7 @@ use std::alloc::Allocator;
 
 impl<S: TokenSink<Token<A>>, A: Allocator + Copy> Teller<'_, S, A> {
     /// The standard's "Tag name state".
+    #[inline(always)]
     #[tactic(auto, using(crate::proofs::Tellings::tells_from_memory, crate::proofs::Tellings::tells_memory), unfolding(html5grammar::specs::Machine::tag_name_step, html5grammar::specs::Tag::in_tag_name, html5opened::specs::Steps::tokens_of, html5opened::specs::Steps::afterwards, html5ever_interface::specs::Sink::stepped))]
     pub fn tag_name_state(&mut self, at: &mut Opened<A>, c: char) -> Step
         requires { at.old.state ≡ State.TagName }

@@ -84,6 +84,7 @@ fn append<A: Allocator>(
         ≡ drop offset.old (string_bytes text.old) ++ back.now) }
     ensures err { OnErr result (drop offset.new (string_bytes text.new)
         ≡ drop offset.old (string_bytes text.old)) }
+    ensures empty { back.now ≡ [] → IsOk result }
     ensures read_to { IsReadTo (string_bytes text.new) offset.new }
     ensures moved_up { offset.new ≤ length (string_bytes text.new) / 2 }
 {
@@ -145,6 +146,7 @@ impl<A: Allocator> BufferQueue<A> {
     pub fn push_str(&mut self, text: &str) -> Result<(), AllocError>
         ensures ok { OnOk result (Gains self.old self.new (chars text.now)) }
         ensures err { OnErr result (self.new ≡ self.old) }
+        ensures empty { text.now ≡ [] → IsOk result }
     {
         append(&mut self.text, &mut self.offset, text)?;
         self.handed_in = self.handed_in.with_chars(text);

@@ -89,6 +89,7 @@ fn push_number_and_end<A: Allocator>(page: &mut Vec<u8, A>, line: u64) -> Result
 }
 
 // Appends the number of a line, and opens a quote.
+#[inline(always)]
 fn push_number_and_quote<A: Allocator>(page: &mut Vec<u8, A>, line: u64) -> Result<(), AllocError>
     ensures ok { OnOk result (page.new.items ≡ page.old.items ++ (decimal line ++ codes " \"")) }
     ensures err { OnErr result (BeginsWith page.new.items page.old.items) }
