@@ -52,6 +52,7 @@ fn fault_of(error: TokenizerError) -> Fault
 }
 
 // Feeds one piece of the text, past its pauses.
+#[inline(always)]
 fn feed_piece<A: Allocator + Copy>(
     tokenizer: &mut Tokenizer<'_, PrintSink<A>, A>,
     queue: &mut BufferQueue<A>,

@@ -1,5 +1,5 @@
 //! The parts of printed lines: texts in quotes, marks, attributes, pause lines.
-ghost use Rattle.std.specs.Prelude.{◌≡◌, ◌+◌, ◌<◌, ◌≤◌, ◌==◌, ◌++◌, if◌then◌else◌, true, false, length, slice_index, map, option_map, string_bytes, OnOk, OnErr, codes};
+ghost use Rattle.std.specs.Prelude.{◌≡◌, ◌≢◌, ◌+◌, ◌<◌, ◌≤◌, ◌==◌, ◌++◌, if◌then◌else◌, true, false, length, slice_index, map, option_map, string_bytes, OnOk, OnErr, codes};
 ghost use Rattle.std.specs.Fmt.{digit_glyph};
 ghost use Rattle.std.specs.Int.{w64, trailing_zeros};
 ghost use Rattle.token_printer.specs.Page.{BeginsWith};
@@ -157,22 +157,35 @@ fn run_end(bytes: &[u8], from: usize) -> usize
     last_run_end(bytes, at)
 }
 
-// Appends what stands in quotes for a byte that may not stand there as it is.
+// Appends what stands in quotes for a byte that may not stand there as it is, but for a line feed.
 #[tactic(auto, using(std::proofs::lemmas::Fmt::hex_one_digit, std::proofs::lemmas::Fmt::hex_two_digits), unfolding(crate::specs::Printed::escape))]
-fn push_escape<A: Allocator>(page: &mut Vec<u8, A>, byte: u8) -> Result<(), AllocError>
+fn push_rare_escape<A: Allocator>(page: &mut Vec<u8, A>, byte: u8) -> Result<(), AllocError>
+    requires { byte ≢ 10 }
     ensures ok { OnOk result (page.new.items ≡ page.old.items ++ escape byte) }
     ensures err { OnErr result (BeginsWith page.new.items page.old.items) }
 {
     match byte {
         b'\\' => page.extend_from_slice(b"\\\\"),
         b'"' => page.extend_from_slice(b"\\\""),
-        b'\n' => page.extend_from_slice(b"\\n"),
         _ if byte < 16 => page.extend_from_slice(&[b'\\', b'u', b'{', hex_digit(byte), b'}']),
         _ => {
             let (high, low) = (hex_digit(byte / 16), hex_digit(byte % 16));
             page.extend_from_slice(&[b'\\', b'u', b'{', high, low, b'}'])
         }
     }
+}
+
+// Appends what stands in quotes for a byte that may not stand there as it is. Most are line feeds.
+#[inline(always)]
+#[tactic(auto, unfolding(crate::specs::Printed::escape))]
+fn push_escape<A: Allocator>(page: &mut Vec<u8, A>, byte: u8) -> Result<(), AllocError>
+    ensures ok { OnOk result (page.new.items ≡ page.old.items ++ escape byte) }
+    ensures err { OnErr result (BeginsWith page.new.items page.old.items) }
+{
+    if byte == b'\n' {
+        return page.extend_from_slice(b"\\n");
+    }
+    push_rare_escape(page, byte)
 }
 
 // Appends what stands in quotes for a byte.
