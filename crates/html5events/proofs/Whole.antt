@@ -4,7 +4,9 @@ use Rattle.std.proofs.lemmas.Bool.{ltb-true}
 use Rattle.std.proofs.lemmas.List.{length-map}
 use Rattle.std.proofs.lemmas.List.Elements.{All-append}
 use Rattle.std.proofs.lemmas.Str.{IsUtf8-string_bytes}
+use Rattle.std.specs.Cow.{cow_str_bytes}
 use Rattle.std.specs.Str.{IsUtf8}
+use Rattle.std.specs.declared.borrow.CowStr.{CowStr}
 use lib.Utf8.{scalar, scalars, next, encode, encodes, scalar_cases}
 use Rattle.markup5ever.specs.Names.{AttributeOf, attribute_of, plain_name}
 use Rattle.markup5ever.specs.declared.interface.Attribute.{Attribute}
@@ -95,21 +97,21 @@ IsRecordable-all (a ∷ attributes) plain zero d within = record {
 IsRecordable-all (a ∷ attributes) plain (suc k) d within =
     IsRecordable-all attributes (λ i e inside. plain (suc i) e (omega arith)) k d (omega arith)
 
--- each token whose names are plain can be read back
-pub IsToldWhole-told_by : {Z : Type 0} (token : Token Z) → HasPlainNames (told_by token) → IsToldWhole (told_by token)
-IsToldWhole-told_by (DoctypeToken doctype) plain = record {
+-- each token whose names are plain can be read back, if the message of an error is short
+pub IsToldWhole-told_by : {Z : Type 0} (token : Token Z) → ((message : CowStr Z) → token ≡ ParseError message → IsShort (cow_str_bytes message)) → HasPlainNames (told_by token) → IsToldWhole (told_by token)
+IsToldWhole-told_by (DoctypeToken doctype) short plain = record {
   name = IsShortIfAny-string_bytes doctype.name;
   public_id = IsShortIfAny-string_bytes doctype.public_id;
   system_id = IsShortIfAny-string_bytes doctype.system_id;
 }
-IsToldWhole-told_by (TagToken tag) plain = record {
+IsToldWhole-told_by (TagToken tag) short plain = record {
   name = IsShort-string_bytes tag.name.0;
   count = rw (length-map tag.attrs.items attribute_of) (IsShort-items tag.attrs);
   attributes = IsRecordable-all tag.attrs.items plain;
 }
-IsToldWhole-told_by (CommentToken text) plain = IsShort-string_bytes text
-IsToldWhole-told_by (ProcessingInstructionToken text) plain = IsShort-string_bytes text
-IsToldWhole-told_by (CharacterTokens text) plain = AreLow-utf8 (string_bytes text) (IsUtf8-string_bytes text)
-IsToldWhole-told_by NullCharacterToken plain = tt
-IsToldWhole-told_by EOFToken plain = tt
-IsToldWhole-told_by (ParseError message) plain = IsShort-string_bytes message
+IsToldWhole-told_by (CommentToken text) short plain = IsShort-string_bytes text
+IsToldWhole-told_by (ProcessingInstructionToken text) short plain = IsShort-string_bytes text
+IsToldWhole-told_by (CharacterTokens text) short plain = AreLow-utf8 (string_bytes text) (IsUtf8-string_bytes text)
+IsToldWhole-told_by NullCharacterToken short plain = tt
+IsToldWhole-told_by EOFToken short plain = tt
+IsToldWhole-told_by (ParseError message) short plain = short message refl

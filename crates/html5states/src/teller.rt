@@ -2,6 +2,7 @@
 #![tactic(auto, using(crate::proofs::Tellings::tells_from_memory), unfolding(html5ever_interface::specs::Sink::stepped))]
 
 ghost use Rattle.std.specs.Prelude.{◌≡◌, ◌≢◌, List, ◌∷◌, [], false, IfOk, encode_utf8, string_bytes};
+ghost use Rattle.std.specs.Cow.{cow_str_bytes};
 ghost use Rattle.html5grammar.specs.ErrorText.{error_in, end_error_in, where_true, bad_character_error};
 ghost use Rattle.html5ever_interface.specs.Sink.{Message};
 ghost use Rattle.html5ever_interface.specs.Token.{Told, told_by, tag_of, reply_of, is_tag};
@@ -14,6 +15,7 @@ use html5ever_interface::states::State;
 use html5opened::error::TokenizerError;
 use html5opened::message::{bad_character_message, is_bad, saw_end_message, saw_message, text_of};
 use std::alloc::Allocator;
+use std::borrow::CowStr;
 
 /// The sink, the line of what it is sent, and whether errors are exact.
 pub struct Teller<'s, S, A> {
@@ -94,23 +96,27 @@ impl<S: TokenSink<Token<A>>, A: Allocator + Copy> Teller<'_, S, A> {
     }
 
     /// Sends the sink an error.
-    pub fn emit_error(&mut self, message: String<A>) -> Result<(), TokenizerError>
+    pub fn emit_error(&mut self, message: CowStr<'static, A>) -> Result<(), TokenizerError>
         ensures { Emits S.means S.faults result self.old self.new
-            (Error (string_bytes message) ∷ []) }
+            (Error (cow_str_bytes message.entry) ∷ []) }
     {
         self.tell(Token::ParseError(message))
     }
 
     /// Sends the sink an error with that text.
-    pub fn emit_message(&mut self, message: &str) -> Result<(), TokenizerError>
+    pub fn emit_message(&mut self, message: &'static str) -> Result<(), TokenizerError>
         ensures { Emits S.means S.faults result self.old self.new
             (Error message.now ∷ []) }
     {
-        self.emit_error(String::from_str(self.alloc, message)?)
+        self.emit_error(CowStr::Borrowed(message))
     }
 
     /// Sends the sink an error with that text, if there is one.
-    pub fn emit_message_where(&mut self, holds: bool, message: &str) -> Result<(), TokenizerError>
+    pub fn emit_message_where(
+        &mut self,
+        holds: bool,
+        message: &'static str,
+    ) -> Result<(), TokenizerError>
         ensures { Emits S.means S.faults result self.old self.new
             (where_true holds (Error message.now)) }
     {
