@@ -4,13 +4,16 @@ use Rattle.std.proofs.lemmas.Bool.{ltb-true}
 use Rattle.std.proofs.lemmas.List.{length-map}
 use Rattle.std.proofs.lemmas.List.Elements.{All-append}
 use Rattle.std.proofs.lemmas.Str.{IsUtf8-string_bytes}
-use Rattle.std.specs.Cow.{cow_str_bytes}
 use Rattle.std.specs.Str.{IsUtf8}
-use Rattle.std.specs.declared.borrow.CowStr.{CowStr}
 use lib.Utf8.{scalar, scalars, next, encode, encodes, scalar_cases}
 use Rattle.markup5ever.specs.Names.{AttributeOf, attribute_of, plain_name}
 use Rattle.markup5ever.specs.declared.interface.Attribute.{Attribute}
+use Rattle.html5ever_interface.specs.Message.{fixed_text, message_bytes}
 use Rattle.html5ever_interface.specs.Token.{told_by}
+use Rattle.html5ever_interface.specs.declared.interface.message.FixedMessage.{FixedMessage}
+use Rattle.html5ever_interface.specs.declared.interface.message.FixedMessage.TheVariants.{BadCharacter, UnexpectedEof, AttributesOnEndTag, SelfClosingEndTag, DuplicateAttribute, MissingSemicolon, InvalidReference, NumberWithoutDigits, EofAfterNumberSign, EofInNumber, MissingSemicolonAfterNumber, InvalidNumber}
+use Rattle.html5ever_interface.specs.declared.interface.message.ErrorMessage.{ErrorMessage}
+use Rattle.html5ever_interface.specs.declared.interface.message.ErrorMessage.TheVariants.{Fixed, Named}
 use Rattle.html5ever_interface.specs.declared.interface.token.Token.{Token}
 use Rattle.html5ever_interface.specs.declared.interface.token.Token.TheVariants.{DoctypeToken, TagToken, CommentToken, ProcessingInstructionToken, CharacterTokens, NullCharacterToken, EOFToken, ParseError}
 use Rattle.html5events.specs.Reading.{IsShort, IsShortIfAny, IsRecordable, IsToldWhole, HasPlainNames}
@@ -76,6 +79,24 @@ AreLow-utf8 bytes is = let P : List ℕ → Type 0 = λ l. AreLow l in subst P i
 IsShort-string_bytes : {Z : Type 0} (s : String Z) → IsShort (string_bytes s)
 IsShort-string_bytes s = omega arith
 
+IsShort-fixed_text : (message : FixedMessage) → IsShort (fixed_text message)
+IsShort-fixed_text BadCharacter = omega arith
+IsShort-fixed_text UnexpectedEof = omega arith
+IsShort-fixed_text AttributesOnEndTag = omega arith
+IsShort-fixed_text SelfClosingEndTag = omega arith
+IsShort-fixed_text DuplicateAttribute = omega arith
+IsShort-fixed_text MissingSemicolon = omega arith
+IsShort-fixed_text InvalidReference = omega arith
+IsShort-fixed_text NumberWithoutDigits = omega arith
+IsShort-fixed_text EofAfterNumberSign = omega arith
+IsShort-fixed_text EofInNumber = omega arith
+IsShort-fixed_text MissingSemicolonAfterNumber = omega arith
+IsShort-fixed_text InvalidNumber = omega arith
+
+IsShort-message_bytes : {Z : Type 0} (message : ErrorMessage Z) → IsShort (message_bytes message)
+IsShort-message_bytes (Fixed message) = IsShort-fixed_text message
+IsShort-message_bytes (Named text) = IsShort-string_bytes text
+
 IsShortIfAny-string_bytes : {Z : Type 0} (s : Option (String Z)) → IsShortIfAny (option_map string_bytes s)
 IsShortIfAny-string_bytes None = tt
 IsShortIfAny-string_bytes (Some s) = IsShort-string_bytes s
@@ -97,21 +118,21 @@ IsRecordable-all (a ∷ attributes) plain zero d within = record {
 IsRecordable-all (a ∷ attributes) plain (suc k) d within =
     IsRecordable-all attributes (λ i e inside. plain (suc i) e (omega arith)) k d (omega arith)
 
--- each token whose names are plain can be read back, if the message of an error is short
-pub IsToldWhole-told_by : {Z : Type 0} (token : Token Z) → ((message : CowStr Z) → token ≡ ParseError message → IsShort (cow_str_bytes message)) → HasPlainNames (told_by token) → IsToldWhole (told_by token)
-IsToldWhole-told_by (DoctypeToken doctype) short plain = record {
+-- each token whose names are plain can be read back
+pub IsToldWhole-told_by : {Z : Type 0} (token : Token Z) → HasPlainNames (told_by token) → IsToldWhole (told_by token)
+IsToldWhole-told_by (DoctypeToken doctype) plain = record {
   name = IsShortIfAny-string_bytes doctype.name;
   public_id = IsShortIfAny-string_bytes doctype.public_id;
   system_id = IsShortIfAny-string_bytes doctype.system_id;
 }
-IsToldWhole-told_by (TagToken tag) short plain = record {
+IsToldWhole-told_by (TagToken tag) plain = record {
   name = IsShort-string_bytes tag.name.0;
   count = rw (length-map tag.attrs.items attribute_of) (IsShort-items tag.attrs);
   attributes = IsRecordable-all tag.attrs.items plain;
 }
-IsToldWhole-told_by (CommentToken text) short plain = IsShort-string_bytes text
-IsToldWhole-told_by (ProcessingInstructionToken text) short plain = IsShort-string_bytes text
-IsToldWhole-told_by (CharacterTokens text) short plain = AreLow-utf8 (string_bytes text) (IsUtf8-string_bytes text)
-IsToldWhole-told_by NullCharacterToken short plain = tt
-IsToldWhole-told_by EOFToken short plain = tt
-IsToldWhole-told_by (ParseError message) short plain = short message refl
+IsToldWhole-told_by (CommentToken text) plain = IsShort-string_bytes text
+IsToldWhole-told_by (ProcessingInstructionToken text) plain = IsShort-string_bytes text
+IsToldWhole-told_by (CharacterTokens text) plain = AreLow-utf8 (string_bytes text) (IsUtf8-string_bytes text)
+IsToldWhole-told_by NullCharacterToken plain = tt
+IsToldWhole-told_by EOFToken plain = tt
+IsToldWhole-told_by (ParseError message) plain = IsShort-message_bytes message

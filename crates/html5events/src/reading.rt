@@ -19,13 +19,9 @@ pub fn records_tell_tokens()
 
 /// The records of tokens tell them whole: all texts of a token are UTF-8 in memory. Only a prefix or a namespace of an
 /// attribute would be left out.
-pub fn tokens_are_told_whole<A: Allocator>(token: &Token<A>)
-    ensures { HasPlainNames (told_by token.now) → IsToldWhole (told_by token.now) }
-{
-    if let Token::ParseError(message) = token {
-        let _shorter_than_memory = message.len();
-    }
-}
+pub fn tokens_are_told_whole<A: Allocator>(_token: &Token<A>)
+    ensures { HasPlainNames (told_by _token.now) → IsToldWhole (told_by _token.now) }
+{}
 
 /// An attribute in a record. Its name is the local one.
 #[derive(Clone, Copy, Debug, PartialEq, Eq)]

@@ -3,10 +3,10 @@ ghost use Rattle.std.specs.Prelude.{◌≡◌, ◌↔◌, map, count_by, IfOk, I
 ghost use Rattle.markup5ever.specs.Names.{attribute_of};
 ghost use Rattle.html5ever_interface.specs.Token.{TagOf, IsEquivalent};
 
+use crate::interface::message::ErrorMessage;
 use crate::states::RawKind;
 use markup5ever::interface::{Attribute, LocalName};
 use std::alloc::{AllocError, Allocator, Global};
-use std::borrow::CowStr;
 use thiserror::Error;
 
 /// Which of the two kinds a tag is of.
@@ -67,7 +67,7 @@ pub enum Token<A: Allocator = Global> {
     /// The end of the input: once, and last.
     EOFToken,
     /// The message of an error, at the character that shows it. Reading goes on.
-    ParseError(CowStr<'static, A>),
+    ParseError(ErrorMessage<A>),
 }
 
 /// What a sink replies to a token. Only a tag gets another reply than `Continue`.
@@ -231,7 +231,7 @@ impl<A: Allocator + Copy> Token<A> {
             Token::CharacterTokens(text) => Ok(Token::CharacterTokens(text.clone()?)),
             Token::NullCharacterToken => Ok(Token::NullCharacterToken),
             Token::EOFToken => Ok(Token::EOFToken),
-            Token::ParseError(message) => Ok(Token::ParseError(message.clone()?)),
+            Token::ParseError(message) => Ok(Token::ParseError(message.try_clone()?)),
         }
     }
 }
