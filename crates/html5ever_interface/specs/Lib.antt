@@ -1,5 +1,4 @@
 pub mod States
-pub mod Message
 pub mod Token
 pub mod Sink
 pub mod Options

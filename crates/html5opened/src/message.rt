@@ -1,12 +1,10 @@
-//! The messages of errors.
+//! The texts of error messages.
 #![tactic(auto, unfolding(html5grammar::specs::Characters::is_bad_character, html5grammar::specs::ErrorText::bad_character, html5grammar::specs::ErrorText::saw, html5grammar::specs::ErrorText::saw_end))]
 
 ghost use Rattle.std.specs.Prelude.{◌≡◌, IfOk, string_bytes, encode_utf8};
-ghost use Rattle.html5ever_interface.specs.Message.{message_bytes};
 ghost use Rattle.html5grammar.specs.Characters.{is_bad_character};
 ghost use Rattle.html5grammar.specs.ErrorText.{saw, saw_end, bad_character};
 
-use html5ever_interface::interface::message::{ErrorMessage, FixedMessage};
 use std::alloc::{AllocError, Allocator};
 
 const IN_STATE: &str = " in state ";
@@ -30,12 +28,12 @@ fn begun<A: Allocator>(alloc: A, beginning: &str, more: usize) -> Result<String<
 }
 
 /// The message for a bad character.
-pub fn bad_character_message<A: Allocator>(alloc: A, c: char) -> Result<ErrorMessage<A>, AllocError>
-    ensures { IfOk result (λ message. message_bytes message ≡ bad_character c) }
+pub fn bad_character_message<A: Allocator>(alloc: A, c: char) -> Result<String<A>, AllocError>
+    ensures { IfOk result (λ text. string_bytes text ≡ bad_character c) }
 {
     let mut text = begun(alloc, "Bad character ", c.len_utf8())?;
     text.push(c)?;
-    Ok(ErrorMessage::Named(text))
+    Ok(text)
 }
 
 /// The message for a character that a state doesn't expect.
@@ -44,18 +42,18 @@ pub fn saw_message<A: Allocator>(
     exact_errors: bool,
     c: char,
     state: &str,
-) -> Result<ErrorMessage<A>, AllocError>
-    ensures { IfOk result (λ message. message_bytes message ≡ saw exact_errors c state.now) }
+) -> Result<String<A>, AllocError>
+    ensures { IfOk result (λ text. string_bytes text ≡ saw exact_errors c state.now) }
 {
     if exact_errors {
-        return Ok(ErrorMessage::Fixed(FixedMessage::BadCharacter));
+        return String::from_str(alloc, "Bad character");
     }
     let more = state.len().saturating_add(c.len_utf8() + IN_STATE.len());
     let mut text = begun(alloc, "Saw ", more)?;
     text.push(c)?;
     text.push_str(IN_STATE)?;
     text.push_str(state)?;
-    Ok(ErrorMessage::Named(text))
+    Ok(text)
 }
 
 /// The message for an end of input that a state doesn't expect.
@@ -63,15 +61,15 @@ pub fn saw_end_message<A: Allocator>(
     alloc: A,
     exact_errors: bool,
     state: &str,
-) -> Result<ErrorMessage<A>, AllocError>
-    ensures { IfOk result (λ message. message_bytes message ≡ saw_end exact_errors state.now) }
+) -> Result<String<A>, AllocError>
+    ensures { IfOk result (λ text. string_bytes text ≡ saw_end exact_errors state.now) }
 {
     if exact_errors {
-        return Ok(ErrorMessage::Fixed(FixedMessage::UnexpectedEof));
+        return String::from_str(alloc, "Unexpected EOF");
     }
     let mut text = begun(alloc, "Saw EOF in state ", state.len())?;
     text.push_str(state)?;
-    Ok(ErrorMessage::Named(text))
+    Ok(text)
 }
 
 /// The text of one character.
