@@ -8,7 +8,12 @@ use Rattle.std.specs.Str.{IsUtf8}
 use lib.Utf8.{scalar, scalars, next, encode, encodes, scalar_cases}
 use Rattle.markup5ever.specs.Names.{AttributeOf, attribute_of, plain_name}
 use Rattle.markup5ever.specs.declared.interface.Attribute.{Attribute}
+use Rattle.html5ever_interface.specs.Message.{fixed_text, message_bytes}
 use Rattle.html5ever_interface.specs.Token.{told_by}
+use Rattle.html5ever_interface.specs.declared.interface.message.FixedMessage.{FixedMessage}
+use Rattle.html5ever_interface.specs.declared.interface.message.FixedMessage.TheVariants.{BadCharacter, UnexpectedEof, AttributesOnEndTag, SelfClosingEndTag, DuplicateAttribute, MissingSemicolon, InvalidReference, NumberWithoutDigits, EofAfterNumberSign, EofInNumber, MissingSemicolonAfterNumber, InvalidNumber}
+use Rattle.html5ever_interface.specs.declared.interface.message.ErrorMessage.{ErrorMessage}
+use Rattle.html5ever_interface.specs.declared.interface.message.ErrorMessage.TheVariants.{Fixed, Named}
 use Rattle.html5ever_interface.specs.declared.interface.token.Token.{Token}
 use Rattle.html5ever_interface.specs.declared.interface.token.Token.TheVariants.{DoctypeToken, TagToken, CommentToken, ProcessingInstructionToken, CharacterTokens, NullCharacterToken, EOFToken, ParseError}
 use Rattle.html5events.specs.Reading.{IsShort, IsShortIfAny, IsRecordable, IsToldWhole, HasPlainNames}
@@ -74,6 +79,24 @@ AreLow-utf8 bytes is = let P : List ℕ → Type 0 = λ l. AreLow l in subst P i
 IsShort-string_bytes : {Z : Type 0} (s : String Z) → IsShort (string_bytes s)
 IsShort-string_bytes s = omega arith
 
+IsShort-fixed_text : (message : FixedMessage) → IsShort (fixed_text message)
+IsShort-fixed_text BadCharacter = omega arith
+IsShort-fixed_text UnexpectedEof = omega arith
+IsShort-fixed_text AttributesOnEndTag = omega arith
+IsShort-fixed_text SelfClosingEndTag = omega arith
+IsShort-fixed_text DuplicateAttribute = omega arith
+IsShort-fixed_text MissingSemicolon = omega arith
+IsShort-fixed_text InvalidReference = omega arith
+IsShort-fixed_text NumberWithoutDigits = omega arith
+IsShort-fixed_text EofAfterNumberSign = omega arith
+IsShort-fixed_text EofInNumber = omega arith
+IsShort-fixed_text MissingSemicolonAfterNumber = omega arith
+IsShort-fixed_text InvalidNumber = omega arith
+
+IsShort-message_bytes : {Z : Type 0} (message : ErrorMessage Z) → IsShort (message_bytes message)
+IsShort-message_bytes (Fixed message) = IsShort-fixed_text message
+IsShort-message_bytes (Named text) = IsShort-string_bytes text
+
 IsShortIfAny-string_bytes : {Z : Type 0} (s : Option (String Z)) → IsShortIfAny (option_map string_bytes s)
 IsShortIfAny-string_bytes None = tt
 IsShortIfAny-string_bytes (Some s) = IsShort-string_bytes s
@@ -112,4 +135,4 @@ IsToldWhole-told_by (ProcessingInstructionToken text) plain = IsShort-string_byt
 IsToldWhole-told_by (CharacterTokens text) plain = AreLow-utf8 (string_bytes text) (IsUtf8-string_bytes text)
 IsToldWhole-told_by NullCharacterToken plain = tt
 IsToldWhole-told_by EOFToken plain = tt
-IsToldWhole-told_by (ParseError message) plain = IsShort-string_bytes message
+IsToldWhole-told_by (ParseError message) plain = IsShort-message_bytes message

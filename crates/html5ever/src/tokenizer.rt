@@ -31,6 +31,7 @@ pub use crate::tokenizer::pieces::feed_pieces;
 pub use crate::tokenizer::resting::Resting;
 pub use crate::tokenizer::steps::{Step, feed_until_done, run_steps};
 pub use crate::tokenizer::whole::{read_pieces, read_whole};
+pub use html5ever_interface::interface::message::{ErrorMessage, FixedMessage};
 pub use html5ever_interface::interface::sink::{Says, TokenSink};
 pub use html5ever_interface::interface::token::TagKind::{EndTag, StartTag};
 pub use html5ever_interface::interface::token::Token::{

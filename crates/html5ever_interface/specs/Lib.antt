@@ -1,4 +1,5 @@
 pub mod States
+pub mod Message
 pub mod Token
 pub mod Sink
 pub mod Options

@@ -1,6 +1,7 @@
 -- What a sink is sent, and what it replies, in the words of contracts. Texts are the bytes of their UTF-8.
 use Rattle.std.specs.Prelude.{◌≡◌, ℕ, Bool, true, false, List, Option, None, option_map, map, string_bytes, IsPermutation}
 use Rattle.markup5ever.specs.Names.{AttributeOf, attribute_of}
+use Rattle.html5ever_interface.specs.Message.{message_bytes}
 use Rattle.html5ever_interface.specs.declared.interface.token.TagKind.{TagKind}
 use Rattle.html5ever_interface.specs.declared.interface.token.Tag.{Tag as RustTag}
 use Rattle.html5ever_interface.specs.declared.interface.token.Doctype.{Doctype as RustDoctype}
@@ -75,7 +76,7 @@ told_by (ProcessingInstructionToken text) = Instruction (string_bytes text)
 told_by (CharacterTokens text) = Text (string_bytes text)
 told_by NullCharacterToken = Null
 told_by EOFToken = End
-told_by (ParseError message) = Error (string_bytes message)
+told_by (ParseError message) = Error (message_bytes message)
 
 -- whether it is a tag
 abbrev pub is_tag : Told → Bool

@@ -4,12 +4,14 @@
 
 ghost use Rattle.std.specs.Prelude.{◌≡◌, ◌≤◌, ◌∷◌, ◌++◌, true, All, Option, IfOk, OnOk, drop, flat_map, encode_utf8_all, string_bytes};
 ghost use Rattle.std.specs.Str.{chars, IsAscii};
+ghost use Rattle.html5ever_interface.specs.Message.{fixed_text, message_bytes};
 ghost use Rattle.html5grammar.specs.Characters.{number_sign, value_bytes};
 ghost use Rattle.html5grammar.specs.Reference.{invalid_number, without_digits, semicolon_len, unknown_name, is_ended, goes_on, first_or};
 ghost use Rattle.html5opened.specs.CharRef.{more_of};
 
 use crate::char_ref::Found;
 use crate::current_tag::push_value;
+use html5ever_interface::interface::message::{ErrorMessage, FixedMessage};
 use std::alloc::{AllocError, Allocator};
 
 /// The character after so much of the text.
@@ -57,13 +59,13 @@ pub fn semicolon_len(next: Option<char>) -> usize
 
 /// The error of a number without digits.
 #[tactic(auto, unfolding(html5grammar::specs::Reference::without_digits))]
-pub fn without_digits(number: &str, next: Option<char>) -> &'static str
-    ensures { result.now ≡ without_digits number.now next }
+pub fn without_digits(number: &str, next: Option<char>) -> FixedMessage
+    ensures { fixed_text result ≡ without_digits number.now next }
 {
     if number.is_empty() && next.is_none() {
-        "EOF after '#' in character reference"
+        FixedMessage::EofAfterNumberSign
     } else {
-        "Numeric character reference without digits"
+        FixedMessage::NumberWithoutDigits
     }
 }
 
@@ -71,10 +73,11 @@ pub fn without_digits(number: &str, next: Option<char>) -> &'static str
 pub fn invalid_number_message<A: Allocator>(
     alloc: A,
     low_bits: u32,
-) -> Result<String<A>, AllocError>
-    ensures { IfOk result (λ text. string_bytes text ≡ invalid_number true low_bits) }
+) -> Result<ErrorMessage<A>, AllocError>
+    ensures { IfOk result (λ message. message_bytes message ≡ invalid_number true low_bits) }
 {
-    format!(in alloc; "Invalid numeric character reference value 0x{low_bits:06X}")
+    let text = format!(in alloc; "Invalid numeric character reference value 0x{low_bits:06X}")?;
+    Ok(ErrorMessage::Named(text))
 }
 
 /// The message for letters and digits that no name begins.
@@ -83,15 +86,15 @@ pub fn unknown_name_message<A: Allocator>(
     alloc: A,
     exact_errors: bool,
     held: &str,
-) -> Result<String<A>, AllocError>
+) -> Result<ErrorMessage<A>, AllocError>
     requires { IsAscii held.now }
-    ensures { IfOk result (λ text. string_bytes text ≡ unknown_name exact_errors held.now) }
+    ensures { IfOk result (λ message. message_bytes message ≡ unknown_name exact_errors held.now) }
 {
-    if exact_errors {
-        format!(in alloc; "Invalid character reference &{held};")
-    } else {
-        String::from_str(alloc, "Invalid character reference")
+    if !exact_errors {
+        return Ok(ErrorMessage::Fixed(FixedMessage::InvalidReference));
     }
+    let text = format!(in alloc; "Invalid character reference &{held};")?;
+    Ok(ErrorMessage::Named(text))
 }
 
 /// Appends a reference's characters, and ASCII after them, to a value.

@@ -1,10 +1,12 @@
-//! The texts of error messages.
+//! The messages of errors.
 #![tactic(auto, unfolding(html5grammar::specs::Characters::is_bad_character, html5grammar::specs::ErrorText::bad_character, html5grammar::specs::ErrorText::saw, html5grammar::specs::ErrorText::saw_end))]
 
 ghost use Rattle.std.specs.Prelude.{◌≡◌, IfOk, string_bytes, encode_utf8};
+ghost use Rattle.html5ever_interface.specs.Message.{message_bytes};
 ghost use Rattle.html5grammar.specs.Characters.{is_bad_character};
 ghost use Rattle.html5grammar.specs.ErrorText.{saw, saw_end, bad_character};
 
+use html5ever_interface::interface::message::{ErrorMessage, FixedMessage};
 use std::alloc::{AllocError, Allocator};
 
 const IN_STATE: &str = " in state ";
@@ -28,12 +30,12 @@ fn begun<A: Allocator>(alloc: A, beginning: &str, more: usize) -> Result<String<
 }
 
 /// The message for a bad character.
-pub fn bad_character_message<A: Allocator>(alloc: A, c: char) -> Result<String<A>, AllocError>
-    ensures { IfOk result (λ text. string_bytes text ≡ bad_character c) }
+pub fn bad_character_message<A: Allocator>(alloc: A, c: char) -> Result<ErrorMessage<A>, AllocError>
+    ensures { IfOk result (λ message. message_bytes message ≡ bad_character c) }
 {
     let mut text = begun(alloc, "Bad character ", c.len_utf8())?;
     text.push(c)?;
-    Ok(text)
+    Ok(ErrorMessage::Named(text))
 }
 
 /// The message for a character that a state doesn't expect.
@@ -42,18 +44,18 @@ pub fn saw_message<A: Allocator>(
     exact_errors: bool,
     c: char,
     state: &str,
-) -> Result<String<A>, AllocError>
-    ensures { IfOk result (λ text. string_bytes text ≡ saw exact_errors c state.now) }
+) -> Result<ErrorMessage<A>, AllocError>
+    ensures { IfOk result (λ message. message_bytes message ≡ saw exact_errors c state.now) }
 {
     if exact_errors {
-        return String::from_str(alloc, "Bad character");
+        return Ok(ErrorMessage::Fixed(FixedMessage::BadCharacter));
     }
     let more = state.len().saturating_add(c.len_utf8() + IN_STATE.len());
     let mut text = begun(alloc, "Saw ", more)?;
     text.push(c)?;
     text.push_str(IN_STATE)?;
     text.push_str(state)?;
-    Ok(text)
+    Ok(ErrorMessage::Named(text))
 }
 
 /// The message for an end of input that a state doesn't expect.
@@ -61,15 +63,15 @@ pub fn saw_end_message<A: Allocator>(
     alloc: A,
     exact_errors: bool,
     state: &str,
-) -> Result<String<A>, AllocError>
-    ensures { IfOk result (λ text. string_bytes text ≡ saw_end exact_errors state.now) }
+) -> Result<ErrorMessage<A>, AllocError>
+    ensures { IfOk result (λ message. message_bytes message ≡ saw_end exact_errors state.now) }
 {
     if exact_errors {
-        return String::from_str(alloc, "Unexpected EOF");
+        return Ok(ErrorMessage::Fixed(FixedMessage::UnexpectedEof));
     }
     let mut text = begun(alloc, "Saw EOF in state ", state.len())?;
     text.push_str(state)?;
-    Ok(text)
+    Ok(ErrorMessage::Named(text))
 }
 
 /// The text of one character.

@@ -216,7 +216,7 @@ pub fn read_quietly<A: Allocator + Copy>(
         StopsQuietly (opened_of at.old) (chars (take refused.bytes text.now))) }
 {
     let mut read = 0;
-    // A `>` ends most tags, which is told.
+    // Most often a `>` ends a tag, whose end is told.
     while read < text.len() && text.as_bytes()[read] != b'>' {
         let rest = &text[read..];
         match read_next(at, alloc, rest) {

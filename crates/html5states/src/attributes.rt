@@ -7,6 +7,7 @@ ghost use Rattle.html5opened.specs.CurrentTag.{open_tag};
 ghost use Rattle.html5states.specs.Telling.{Emits};
 
 use crate::teller::Teller;
+use html5ever_interface::interface::message::FixedMessage;
 use html5ever_interface::interface::sink::TokenSink;
 use html5ever_interface::interface::token::Token;
 use html5opened::current_tag::CurrentTag;
@@ -23,6 +24,6 @@ impl<S: TokenSink<Token<A>>, A: Allocator + Copy> Teller<'_, S, A> {
         ensures finished { OnOk result (open_tag tag.new ≡ with_last_attribute (open_tag tag.old)) }
     {
         let repeated = tag.end_attribute(self.alloc)?;
-        self.emit_message_where(repeated, "Duplicate attribute")
+        self.emit_message_where(repeated, FixedMessage::DuplicateAttribute)
     }
 }

@@ -9,6 +9,7 @@ ghost use Rattle.html5opened.specs.CurrentTag.{open_tag};
 ghost use Rattle.html5states.specs.Telling.{Emits, Reads};
 
 use crate::teller::Teller;
+use html5ever_interface::interface::message::FixedMessage;
 use html5ever_interface::interface::sink::TokenSink;
 use html5ever_interface::interface::token::{TagKind, Token};
 use html5ever_interface::states::State;
@@ -50,8 +51,8 @@ impl<S: TokenSink<Token<A>>, A: Allocator + Copy> Teller<'_, S, A> {
     {
         let attributes = has_wrong_attributes(tag);
         let solidus = has_wrong_solidus(tag, self_closing);
-        self.emit_message_where(attributes, "Attributes on an end tag")?;
-        self.emit_message_where(solidus, "Self-closing end tag")
+        self.emit_message_where(attributes, FixedMessage::AttributesOnEndTag)?;
+        self.emit_message_where(solidus, FixedMessage::SelfClosingEndTag)
     }
 
     // Ends the last attribute of a tag that ends, and sends the errors of the tag.

@@ -13,6 +13,7 @@ ghost use Rattle.html5opened.specs.CurrentTag.{opened_of, last_name_of};
 ghost use Rattle.html5states.specs.Telling.{Emits};
 
 use crate::teller::Teller;
+use html5ever_interface::interface::message::FixedMessage;
 use html5ever_interface::interface::sink::TokenSink;
 use html5ever_interface::interface::token::Token;
 use html5ever_interface::states::State;
@@ -70,11 +71,8 @@ impl<S: TokenSink<Token<A>>, A: Allocator + Copy> Teller<'_, S, A> {
         ensures { Emits S.means S.faults result self.old self.new (unended_number next) }
     {
         match next {
-            None => self.emit_message("EOF in numeric character reference"),
-            Some(c) => self.emit_message_where(
-                c != ';',
-                "Semicolon missing after numeric character reference",
-            ),
+            None => self.emit_message(FixedMessage::EofInNumber),
+            Some(c) => self.emit_message_where(c != ';', FixedMessage::MissingSemicolonAfterNumber),
         }
     }
 
@@ -88,7 +86,7 @@ impl<S: TokenSink<Token<A>>, A: Allocator + Copy> Teller<'_, S, A> {
             return Ok(());
         }
         if !self.exact_errors {
-            return self.emit_message("Invalid numeric character reference");
+            return self.emit_message(FixedMessage::InvalidNumber);
         }
         self.emit_error(invalid_number_message(self.alloc, low_bits)?)
     }
@@ -117,7 +115,7 @@ impl<S: TokenSink<Token<A>>, A: Allocator + Copy> Teller<'_, S, A> {
             if in_value && goes_on_with(&held[named.len..], next) {
                 return Ok(NO_REFERENCE);
             }
-            self.emit_message("Character reference does not end with semicolon")?;
+            self.emit_message(FixedMessage::MissingSemicolon)?;
         }
         Ok(Found {
             taken: named.len,

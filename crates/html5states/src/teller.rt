@@ -2,12 +2,14 @@
 #![tactic(auto, using(crate::proofs::Tellings::tells_from_memory), unfolding(html5ever_interface::specs::Sink::stepped))]
 
 ghost use Rattle.std.specs.Prelude.{◌≡◌, ◌≢◌, List, ◌∷◌, [], false, IfOk, encode_utf8, string_bytes};
+ghost use Rattle.html5ever_interface.specs.Message.{fixed_text, message_bytes};
 ghost use Rattle.html5grammar.specs.ErrorText.{error_in, end_error_in, where_true, bad_character_error};
 ghost use Rattle.html5ever_interface.specs.Sink.{Message};
 ghost use Rattle.html5ever_interface.specs.Token.{Told, told_by, tag_of, reply_of, is_tag};
 ghost use Rattle.html5ever_interface.specs.Token.Told.{Text, Error};
 ghost use Rattle.html5states.specs.Telling.{Emits, IsToldAs, Tells, tokens_in};
 
+use html5ever_interface::interface::message::{ErrorMessage, FixedMessage};
 use html5ever_interface::interface::sink::TokenSink;
 use html5ever_interface::interface::token::{SinkFault, Tag, Token, TokenSinkResult};
 use html5ever_interface::states::State;
@@ -94,25 +96,29 @@ impl<S: TokenSink<Token<A>>, A: Allocator + Copy> Teller<'_, S, A> {
     }
 
     /// Sends the sink an error.
-    pub fn emit_error(&mut self, message: String<A>) -> Result<(), TokenizerError>
+    pub fn emit_error(&mut self, message: ErrorMessage<A>) -> Result<(), TokenizerError>
         ensures { Emits S.means S.faults result self.old self.new
-            (Error (string_bytes message) ∷ []) }
+            (Error (message_bytes message) ∷ []) }
     {
         self.tell(Token::ParseError(message))
     }
 
-    /// Sends the sink an error with that text.
-    pub fn emit_message(&mut self, message: &str) -> Result<(), TokenizerError>
+    /// Sends the sink an error with that message.
+    pub fn emit_message(&mut self, message: FixedMessage) -> Result<(), TokenizerError>
         ensures { Emits S.means S.faults result self.old self.new
-            (Error message.now ∷ []) }
+            (Error (fixed_text message) ∷ []) }
     {
-        self.emit_error(String::from_str(self.alloc, message)?)
+        self.emit_error(ErrorMessage::Fixed(message))
     }
 
-    /// Sends the sink an error with that text, if there is one.
-    pub fn emit_message_where(&mut self, holds: bool, message: &str) -> Result<(), TokenizerError>
+    /// Sends the sink an error with that message, if there is one.
+    pub fn emit_message_where(
+        &mut self,
+        holds: bool,
+        message: FixedMessage,
+    ) -> Result<(), TokenizerError>
         ensures { Emits S.means S.faults result self.old self.new
-            (where_true holds (Error message.now)) }
+            (where_true holds (Error (fixed_text message))) }
     {
         if !holds {
             return Ok(());

@@ -1,11 +1,11 @@
 -- The text that waits in a queue: one text that is read up to an offset, what calls take of it and what they add.
-use Rattle.std.proofs.Common.{Bool, true, false, Option, ◌≡◌, ◌↔◌, ℕ, ◌+◌, ◌<◌, ◌≤◌, List, [], ◌∷◌, ◌++◌, length, take, drop, encode_utf8_all, refl, sym, ap, ◌∙◌, arith, length-append, length-drop}
-use Rattle.std.specs.List.{slice_get, slice_range}
-use Rattle.std.specs.Prelude.{IsNone, IfSome, if◌then◌else◌}
+use Rattle.std.proofs.Common.{Bool, true, false, Option, ◌≡◌, ◌↔◌, ℕ, ◌+◌, ◌<◌, ◌≤◌, List, [], ◌∷◌, ◌++◌, length, take, drop, encode_utf8, encode_utf8_all, refl, sym, ap, ◌∙◌, arith, length-append, length-drop}
+use Rattle.std.specs.List.{slice_range}
+use Rattle.std.specs.Prelude.{IsNone, if◌then◌else◌}
 use Rattle.std.specs.Str.{IsUtf8, IsCharBoundary, chars}
 use Rattle.std.proofs.lemmas.List.{append-nil, append_cancel_left, drop-append-le, drop-drop, drop_all, take_all}
 use Rattle.std.proofs.lemmas.List.Elements.{All-head}
-use Rattle.std.proofs.lemmas.Str.{chars-append, chars_from_encodes, encodes-chars, length-le-encodes, IsCharBoundary-from_drop, IsUtf8-append, IsUtf8-take}
+use Rattle.std.proofs.lemmas.Str.{chars-append, chars_from_encodes, chars_past_char, encodes-chars, length-le-encodes, IsCharBoundary-from_drop, IsUtf8-append, IsUtf8-take}
 use Rattle.markup5ever.specs.BufferQueue.{TextQueue, Gains, TakesBack, Takes, IsReadTo}
 use Rattle.markup5ever.specs.SetResult.{TakesRun, EndsRun}
 use Rattle.markup5ever.specs.SmallCharSet.{IsMember}
@@ -90,13 +90,14 @@ rest_ends_run set front run rest len utf8 run_is split stops =
 
 -- ---- the first character
 
-pub first_waits : (waiting : List ℕ) (r : Option ℕ) → r ≡ slice_get waiting 0 → IfSome r (λ c. (rest : List ℕ) × (waiting ≡ c ∷ rest))
-first_waits [] r is = rw is tt
-first_waits (c ∷ rest) r is = rw is (rest, refl)
+pub first_waits : (waiting front rest : List ℕ) (c : ℕ) → front ≡ encode_utf8_all waiting → IsUtf8 front → front ≡ encode_utf8 c ++ rest → (more : List ℕ) × (waiting ≡ c ∷ more)
+first_waits waiting front rest c is utf8 first = (chars rest, sym (waiting_chars front waiting utf8 is) ∙ chars_past_char front rest c utf8 first)
 
-pub first_none : (waiting : List ℕ) (r : Option ℕ) → r ≡ slice_get waiting 0 → IsNone r ↔ (waiting ≡ [])
-first_none [] r is = rw is ((λ _. refl), (λ _. refl))
-first_none (c ∷ rest) r is = rw is ((λ none. absurd cc), (λ e. absurd (omega (arith, ap length e))))
+pub first_none : (X : Type 0) (waiting front : List ℕ) (r : Option X) → front ≡ encode_utf8_all waiting → (IsNone r ↔ (front ≡ [])) → IsNone r ↔ (waiting ≡ [])
+first_none X waiting front r is none = (
+  λ missing. none_waits waiting (ap length (sym is ∙ none.0 missing)),
+  λ e. none.1 (is ∙ ap encode_utf8_all e),
+)
 
 -- ---- what a text gains
 

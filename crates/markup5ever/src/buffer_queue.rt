@@ -1,6 +1,6 @@
 //! The text that waits to be read.
-ghost use Rattle.std.specs.Prelude.{◌≡◌, ◌≢◌, ℕ, true, false, ◌+◌, ◌<◌, ◌≤◌, ◌↔◌, ◌/◌, List, [], ◌∷◌, ◌++◌, length, take, drop, encode_utf8_all, IsTrue, IsNone, IsOk, IfOk, IfErr, IfSome, IfNone, OnOk, OnErr};
-ghost use Rattle.std.specs.Char.{IsScalar};
+ghost use Rattle.std.specs.Prelude.{◌≡◌, ◌≢◌, ℕ, true, false, ◌+◌, ◌<◌, ◌≤◌, ◌↔◌, ◌/◌, List, [], ◌∷◌, ◌++◌, length, take, drop, encode_utf8, encode_utf8_all, IsTrue, IsNone, IsOk, IfOk, IfErr, IfSome, IfNone, OnOk, OnErr};
+ghost use Rattle.std.specs.Char.{IsScalar, len_utf8};
 ghost use Rattle.std.specs.Str.{IsAscii, IsUtf8, chars};
 ghost use Rattle.std.specs.String.{string_bytes};
 ghost use Rattle.markup5ever.specs.BufferQueue.{Gains, GainsFront, IsReadTo, TakesBack, Takes};
@@ -97,6 +97,21 @@ fn append<A: Allocator>(
     text.push_str(back)
 }
 
+// The first character of a text, and how many bytes it takes. Most are ASCII, which the first byte tells.
+#[inline(always)]
+fn first_char(text: &str) -> Option<(char, usize)>
+    ensures none { IsNone result ↔ (text.now ≡ []) }
+    ensures some { IfSome result (λ first. (rest : List ℕ) × (text.now ≡ encode_utf8 first.0 ++ rest)) }
+    ensures width { IfSome result (λ first. first.1 ≡ len_utf8 first.0) }
+{
+    let first = *text.as_bytes().first()?;
+    if first.is_ascii() {
+        return Some((char::from(first), 1));
+    }
+    let c = text.chars().next()?;
+    Some((c, c.len_utf8()))
+}
+
 impl<A: Allocator> BufferQueue<A> {
     ghost use Rattle.markup5ever.specs.Case.{BeginsLike, Differ, EndsWithin};
 
@@ -190,8 +205,8 @@ impl<A: Allocator> BufferQueue<A> {
         ensures none { IsNone result ↔ (self.now.text ≡ []) }
         ensures some { IfSome result (λ c. (rest : List ℕ) × (self.now.text ≡ c ∷ rest)) }
     {
-        let waiting = self.front_text();
-        waiting.chars().next()
+        let (c, _) = first_char(self.front_text())?;
+        Some(c)
     }
 
     /// Takes the first character.
@@ -202,8 +217,8 @@ impl<A: Allocator> BufferQueue<A> {
         ensures scalar { IfSome result IsScalar }
         ensures unchanged { IfNone result (self.new ≡ self.old) }
     {
-        let c = self.front_text().chars().next()?;
-        self.skip(c.len_utf8());
+        let (c, width) = first_char(self.front_text())?;
+        self.skip(width);
         Some(c)
     }
 
@@ -260,6 +275,9 @@ impl<A: Allocator> BufferQueue<A> {
     }
 }
 
+// So many bytes are handed out in the queue's own memory. Fewer are copied.
+const LENT: usize = 16;
+
 impl<A: Allocator + Copy> BufferQueue<A> {
     ghost use Rattle.markup5ever.specs.SetResult.{Pops, IsLongest};
 
@@ -284,7 +302,8 @@ impl<A: Allocator + Copy> BufferQueue<A> {
         Ok(Some(SetResult::NotFromSet(text)))
     }
 
-    /// Takes so many bytes as a text. Where these are all of the text, it is handed out as it is.
+    /// Takes so many bytes as a text. Where these are all of the text, it is handed out as it is, unless
+    /// it is short: the queue then keeps its memory for what comes next.
     #[inline(always)]
     pub fn take_text(&mut self, bytes: usize) -> Result<String<A>, AllocError>
         requires within { bytes ≤ length (encode_utf8_all self.old.text) }
@@ -295,7 +314,7 @@ impl<A: Allocator + Copy> BufferQueue<A> {
             (Takes self.old self.new (chars (take bytes (encode_utf8_all self.old.text)))) }
         ensures err { OnErr result (self.new ≡ self.old) }
     {
-        if self.offset == 0 && bytes == self.text.len() {
+        if LENT <= bytes && self.offset == 0 && bytes == self.text.len() {
             let empty = String::new(*self.text.allocator());
             self.taken = self.taken.with_chars(&self.text);
             return Ok(mem::replace(&mut self.text, empty));

@@ -69,10 +69,11 @@ impl SmallCharSet {
         let mut at = 0;
         while BLOCK <= bytes.len() - at {
             let step = self.first_in_block(bytes, at);
-            at += step;
             if step < BLOCK {
-                return at;
+                return at + step;
             }
+            // A constant, so that no block waits for the one before it.
+            at += BLOCK;
         }
         self.first_member_within(bytes, at, bytes.len())
     }

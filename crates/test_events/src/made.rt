@@ -1,4 +1,5 @@
 //! Tokens, and the bytes of their records, written by hand.
+use html5ever_interface::interface::message::ErrorMessage;
 use html5ever_interface::interface::token::{Doctype, Tag, TagKind, Token};
 use markup5ever::interface::{Attribute, LocalName, Namespace, QualName};
 use std::alloc::{AllocError, Allocator};
@@ -74,7 +75,7 @@ pub fn token_at<A: Allocator + Copy>(alloc: A, index: usize) -> Result<Token<A>,
         5 => Ok(Token::CommentToken(String::from_str(alloc, "c")?)),
         6 => Ok(Token::ProcessingInstructionToken(String::from_str(alloc, "pi?")?)),
         7 => Ok(Token::NullCharacterToken),
-        8 => Ok(Token::ParseError(String::from_str(alloc, "bad")?)),
+        8 => Ok(Token::ParseError(ErrorMessage::Named(String::from_str(alloc, "bad")?))),
         9 => Ok(Token::DoctypeToken(Doctype::default())),
         _ => Ok(Token::EOFToken),
     }

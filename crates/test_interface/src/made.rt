@@ -1,4 +1,5 @@
 //! Tokens, and a sink that is sent one.
+use html5ever_interface::interface::message::ErrorMessage;
 use html5ever_interface::interface::sink::TokenSink;
 use html5ever_interface::interface::token::{Doctype, Tag, TagKind, Token, TokenSinkResult};
 use markup5ever::interface::{Attribute, LocalName, Namespace, Prefix, QualName};
@@ -74,7 +75,7 @@ pub fn token_of<A: Allocator + Copy>(
 ) -> Result<Token<A>, AllocError> {
     match kind {
         "text" => text_of(alloc, text),
-        "error" => Ok(Token::ParseError(String::from_str(alloc, text)?)),
+        "error" => Ok(Token::ParseError(ErrorMessage::Named(String::from_str(alloc, text)?))),
         "comment" => Ok(Token::CommentToken(String::from_str(alloc, text)?)),
         "pi" => Ok(Token::ProcessingInstructionToken(String::from_str(alloc, text)?)),
         "start" => tag_of(alloc, TagKind::StartTag, text),

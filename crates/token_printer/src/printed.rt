@@ -149,10 +149,11 @@ fn run_end(bytes: &[u8], from: usize) -> usize
     let mut at = from;
     while BLOCK <= bytes.len() - at {
         let step = first_in_block(bytes, at);
-        at += step;
         if step < BLOCK {
-            return at;
+            return at + step;
         }
+        // A constant, so that no block waits for the one before it.
+        at += BLOCK;
     }
     last_run_end(bytes, at)
 }

@@ -3,6 +3,7 @@ ghost use Rattle.std.specs.Prelude.{◌≡◌, ◌↔◌, map, count_by, IfOk, I
 ghost use Rattle.markup5ever.specs.Names.{attribute_of};
 ghost use Rattle.html5ever_interface.specs.Token.{TagOf, IsEquivalent};
 
+use crate::interface::message::ErrorMessage;
 use crate::states::RawKind;
 use markup5ever::interface::{Attribute, LocalName};
 use std::alloc::{AllocError, Allocator, Global};
@@ -25,10 +26,10 @@ pub struct Tag<A: Allocator = Global> {
     pub kind: TagKind,
     /// The name, never empty: ASCII letters in lower case, U+0000 as U+FFFD.
     pub name: LocalName<A>,
-    /// Whether `/` stands directly before the tag's `>`.
-    pub self_closing: bool,
     /// The attributes in the order of the text, no two of one name. An end tag keeps its own, too.
     pub attrs: Vec<Attribute<A>, A>,
+    /// Whether `/` stands directly before the tag's `>`.
+    pub self_closing: bool,
     /// Whether an attribute was left out, since one of its name stood before it.
     pub had_duplicate_attributes: bool,
 }
@@ -66,7 +67,7 @@ pub enum Token<A: Allocator = Global> {
     /// The end of the input: once, and last.
     EOFToken,
     /// The message of an error, at the character that shows it. Reading goes on.
-    ParseError(String<A>),
+    ParseError(ErrorMessage<A>),
 }
 
 /// What a sink replies to a token. Only a tag gets another reply than `Continue`.
@@ -230,7 +231,7 @@ impl<A: Allocator + Copy> Token<A> {
             Token::CharacterTokens(text) => Ok(Token::CharacterTokens(text.clone()?)),
             Token::NullCharacterToken => Ok(Token::NullCharacterToken),
             Token::EOFToken => Ok(Token::EOFToken),
-            Token::ParseError(message) => Ok(Token::ParseError(message.clone()?)),
+            Token::ParseError(message) => Ok(Token::ParseError(message.try_clone()?)),
         }
     }
 }
