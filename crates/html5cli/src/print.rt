@@ -124,14 +124,16 @@ fn place_after(text: &str, from: usize, count: usize) -> usize
 
 // How many bytes the first `count` characters take, or all where there are fewer.
 fn prefix_len(text: &str, count: usize) -> usize
-    requires { 0 < count }
+    requires filled { 0 < length text.now }
+    requires some { 0 < count }
     ensures within { result ≤ length text.now }
     ensures boundary { IsUtf8 (take result text.now) × IsUtf8 (drop result text.now) }
-    ensures some { 0 < length text.now → 0 < result }
+    ensures some { 0 < result }
 {
     let bytes = text.as_bytes();
-    let mut len = 0;
-    let mut left = count;
+    // The first byte begins the first character.
+    let mut len = 1;
+    let mut left = count - 1;
     while BLOCK <= left && BLOCK <= bytes.len() - len {
         left -= begun_within(bytes, len);
         len += BLOCK;

@@ -1,15 +1,15 @@
 //! A sink that writes what it is sent as records of bytes.
 ghost use Rattle.std.specs.Prelude.{◌≡◌, ℕ, false, List, [], ◌∷◌, ◌+◌, ◌-◌, ◌/◌, ◌^◌, ◌≤◌, ◌++◌, length, take, drop, min, vec_len, string_bytes, IfOk, OnOk, OnErr};
-ghost use Rattle.html5events.specs.Events.{Recorded, no_events, reply_by, added_by, recorded_step, closed_bytes, joined, after_taking};
+ghost use Rattle.html5events.specs.Events.{Recorded, no_events, reply_by, added_by, added_by_text, recorded_step, closed_bytes, joined, after_taking};
 ghost use Rattle.html5events.specs.Records.{records_of, BeginsWith};
 ghost use Rattle.html5ever_interface.specs.Sink.{Message, stepped};
 ghost use Rattle.html5ever_interface.specs.Token.Told.{End};
 ghost use Rattle.html5ever_interface.specs.Token.{told_by, reply_of};
 
-use crate::records::{is_open_after, push_token};
+use crate::records::{is_open_after, is_open_after_text, push_text, push_token};
 use ghost_counts::{Count, Log};
 use html5ever_interface::interface::sink::TokenSink;
-use html5ever_interface::interface::token::{SinkFault, Token, TokenSinkResult};
+use html5ever_interface::interface::token::{SinkFault, TextFault, Token, TokenSinkResult};
 use html5sinks::pausing::pausing_reply;
 use html5sinks::replies::standard_reply;
 use std::alloc::{AllocError, Allocator, Global};
@@ -59,6 +59,25 @@ fn reply_to<A: Allocator + Copy>(
         Replies::None => Ok(TokenSinkResult::Continue),
         Replies::Standard => Ok(standard_reply_to(token)),
         Replies::Pausing => pausing_reply(token),
+    }
+}
+
+// Appends what a text adds, or nothing.
+fn push_whole_text<A: Allocator>(
+    page: &mut Vec<u8, A>,
+    in_text: bool,
+    text: &[u8],
+) -> Result<(), AllocError>
+    ensures ok { OnOk result (page.new.items ≡ page.old.items ++ added_by_text in_text text.now) }
+    ensures err { OnErr result (page.new.items ≡ page.old.items) }
+{
+    let before = page.len();
+    match push_text(page, in_text, text) {
+        Ok(()) => Ok(()),
+        Err(AllocError) => {
+            page.truncate(before);
+            Err(AllocError)
+        }
     }
 }
 
@@ -283,6 +302,21 @@ impl<A: Allocator + Copy> TokenSink<Token<A>> for EventSink<A> {
             Err(AllocError) => {
                 self.faults.add(1);
                 Err(SinkFault)
+            }
+        }
+    }
+
+    // Writes the text from where it lies.
+    fn process_text(&mut self, _alloc: A, text: &str, _line_number: u64) -> Result<(), TextFault> {
+        let text = text.as_bytes();
+        match push_whole_text(&mut self.page, self.in_text, text) {
+            Ok(()) => {
+                self.in_text = is_open_after_text(self.in_text, text);
+                Ok(())
+            }
+            Err(AllocError) => {
+                self.faults.add(1);
+                Err(TextFault::Sink)
             }
         }
     }

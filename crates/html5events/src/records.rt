@@ -4,6 +4,7 @@ ghost use Rattle.std.specs.List.{flat_map};
 ghost use Rattle.html5events.specs.Records.{BeginsWith, number, counted, flag, attribute_record, attribute_records, optional, tag_flags, tag_parts, tag_code, code_of, doctype_flags, doctype_parts, heading, parts, record_of};
 ghost use Rattle.html5events.specs.Events.{text_closing, added_by_text, added_by, open_after};
 ghost use Rattle.html5ever_interface.specs.Token.{told_by, tag_of, doctype_of, is_text};
+ghost use Rattle.html5ever_interface.specs.Token.Told.{Text};
 ghost use Rattle.markup5ever.specs.Names.{attribute_of};
 
 use crate::kinds;
@@ -211,9 +212,9 @@ fn push_record<A: Allocator>(
     push_parts(page, token)
 }
 
-// Appends a text, or a piece of it. An empty one opens no record.
+/// Appends a text, or a piece of it. An empty one opens no record.
 #[tactic(auto, unfolding(crate::specs::Events::added_by_text))]
-fn push_text<A: Allocator>(
+pub fn push_text<A: Allocator>(
     page: &mut Vec<u8, A>,
     in_text: bool,
     text: &[u8],
@@ -275,13 +276,21 @@ pub fn push_token<A: Allocator>(
     }
 }
 
+/// Whether a text is open after a text.
+#[tactic(auto, unfolding(crate::specs::Events::open_after))]
+pub fn is_open_after_text(in_text: bool, text: &[u8]) -> bool
+    ensures { result ≡ open_after in_text (Text text.now) }
+{
+    in_text || !text.is_empty()
+}
+
 /// Whether a text is open after a token.
 #[tactic(auto, unfolding(crate::specs::Events::open_after))]
 pub fn is_open_after<A: Allocator>(in_text: bool, token: &Token<A>) -> bool
     ensures { result ≡ open_after in_text (told_by token.now) }
 {
     match token {
-        Token::CharacterTokens(text) => in_text || !text.is_empty(),
+        Token::CharacterTokens(text) => is_open_after_text(in_text, text.as_bytes()),
         _ => false,
     }
 }

@@ -32,6 +32,7 @@ use Rattle.html5opened.specs.CharRef.{stand_of, with_reference}
 use Rattle.html5opened.specs.Steps.{Leads}
 use Rattle.html5opened.specs.declared.error.TokenizerError.TheVariants.{Memory, Sink, Failed}
 use Rattle.std.proofs.lemmas.Result.{err_from_is_err_and}
+use Rattle.html5feed.specs.Undecided.{ReadsUndecided}
 use Rattle.html5opened.specs.Undecided.{BelongsTo, Decides}
 
 pub answer-is : {E : Type 0} (b d : Bool) → ◌≡◌ {A = Result Bool E} (Ok b) (Ok d) → b ≡ d
@@ -144,6 +145,24 @@ pub end-reference : (rules : Rules) (is_in : Bool) (held : List ℕ) (opened : O
 unfolding with_reference open_at_end_of
 end-reference rules is_in held opened inside = rw inside refl
 
+-- where nothing is undecided, a character decides nothing
+
+module _ {X S H : Type 0} (means : Means X S H) (count : X → ℕ) (rules : Rules) (line c : ℕ) (x : X) (K : Start) where
+  pub reads-plain : is_undecided_open K.opened ≡ false → ReadsUndecided means count rules line c (Ok false) x x K K
+  unfolding stepped
+  reads-plain none =
+      let brought = brought-step rules (means.foreign (means.state x)) K.opened c none in
+      record {
+        tells = rw brought refl;
+        taken = λ same. absurd (false≢true (answer-is false true same));
+        decided = λ same. record { here = rw brought refl; decided = none };
+        last = refl;
+        input = refl;
+        held = omega arith;
+        refusal = tt;
+        faults = omega arith;
+      }
+
 -- one character of the stream, for which d is read
 
 module _ {X S H : Type 0} (means : Means X S H) (rules : Rules) (K : Start) (s : S) (c d : ℕ)
@@ -165,10 +184,6 @@ module _ {X S H : Type 0} (means : Means X S H) (rules : Rules) (K : Start) (s :
   last-parts : (start_after means rules K s (c ∷ [])).last_start_tag ≡ last_here K.last_start_tag (brought_at rules (means.foreign s) K.opened d).here
   last-parts = ap (λ (P : Start). P.last_start_tag) (after-one means.step means.reply means.foreign rules K s c d one)
 
-  pub last-plain : is_undecided_open K.opened ≡ false
-      → (start_after means rules K s (c ∷ [])).last_start_tag ≡ last_here K.last_start_tag (step_at rules.exact K.opened d)
-  last-plain none = last-parts ∙ rw (brought-step rules (means.foreign s) K.opened d none) refl
-
   pub last-belongs : (later : Open) → BelongsTo rules (means.foreign s) K.opened d later → (start_after means rules K s (c ∷ [])).last_start_tag ≡ K.last_start_tag
   unfolding last_here
   last-belongs later b = last-parts ∙ rw b.here refl
@@ -176,16 +191,6 @@ module _ {X S H : Type 0} (means : Means X S H) (rules : Rules) (K : Start) (s :
   pub last-decides : (later : Open) → Decides rules (means.foreign s) K.opened d later
       → (start_after means rules K s (c ∷ [])).last_start_tag ≡ last_here K.last_start_tag (step_at rules.exact later d)
   last-decides later b = last-parts ∙ rw b.here refl
-
-  -- nothing is undecided
-  pub told-plain : is_undecided_open K.opened ≡ false
-      → messages_so_far means rules K s (c ∷ []) ≡ messages_here means.step means.reply rules line d (step_at rules.exact K.opened d)
-  told-plain none = told-parts ∙ rw (brought-step rules (means.foreign s) K.opened d none) refl
-
-  pub after-plain : is_undecided_open K.opened ≡ false
-      → (start_after means rules K s (c ∷ [])).opened ≡ opened_here means.step means.reply rules s line K.last_start_tag d (step_at rules.exact K.opened d)
-  unfolding stepped
-  after-plain none = after-parts ∙ rw (brought-step rules (means.foreign s) K.opened d none) refl
 
   -- it belongs to what is undecided
   pub told-belongs : (later : Open) → BelongsTo rules (means.foreign s) K.opened d later → messages_so_far means rules K s (c ∷ []) ≡ on_line K.input.line settled

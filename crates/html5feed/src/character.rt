@@ -157,9 +157,6 @@ pub fn read_character<S: TokenSink<Token<A>>, A: Allocator + Copy>(
     let Some(c) = position.input.advance(c) else {
         return Ok(TokenizerResult::Done);
     };
-    if !position.is_undecided() {
-        return read_opened(alloc, sink, rules, position, c);
-    }
     if read_undecided(alloc, sink, rules, position, before, c)? {
         return Ok(TokenizerResult::Done);
     }

@@ -111,6 +111,9 @@ fn line_feeds(text: &str) -> u64
     ensures { result ≡ count_by (λ c. c == line_feed) (chars text.now) }
 {
     let bytes = text.as_bytes();
+    if bytes.len() == 1 {
+        return u64::from(bytes[0] == b'\n');
+    }
     let mut found = 0;
     let mut at = 0;
     while BLOCK <= bytes.len() - at {

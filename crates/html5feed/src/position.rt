@@ -258,27 +258,26 @@ impl<A: Allocator + Copy> Position<A> {
         good_run_len(ends, text)
     }
 
-    /// Sends a run of text as one token, on the line that is reached after it.
+    /// Sends a run of text at once, on the line that is reached after it.
     #[inline(always)]
     pub fn tell_run<S: TokenSink<Token<A>>>(
         &mut self,
         alloc: A,
         sink: &mut S,
-        run: String<A>,
+        run: &str,
     ) -> Result<(), TokenizerError>
-        requires filled { chars (string_bytes run) ≢ [] }
         requires past_line_break { self.old.input.after_carriage_return ≡ false }
         requires past_stream_start { self.old.input.drops_byte_order_mark ≡ false }
-        requires no_carriage_return { All (λ c. c ≢ carriage_return) (chars (string_bytes run)) }
-        ensures tells { (M : List Message) → IsToldAs (Text (string_bytes run)) self.new.input.line M
+        requires no_carriage_return { All (λ c. c ≢ carriage_return) (chars run.now) }
+        ensures tells { (M : List Message) → IsToldAs (Text run.now) self.new.input.line M
             → Tells S.means.step S.means.faulted result (S.means.state sink.old) M (S.means.state sink.new) }
         ensures faults { S.faults sink.new ≡ S.faults sink.old + faults_of result }
         ensures refusal { IfErr result IsRefusal }
         ensures opened { self.new.opened ≡ self.old.opened }
         ensures last { self.new.last_start_tag ≡ self.old.last_start_tag }
-        ensures input { self.new.input ≡ input_after self.old.input (chars (string_bytes run)) }
+        ensures input { self.new.input ≡ input_after self.old.input (chars run.now) }
     {
-        self.input.advance_run(&run);
+        self.input.advance_run(run);
         let line = self.input.line();
         let mut teller = Teller {
             sink,
@@ -286,7 +285,7 @@ impl<A: Allocator + Copy> Position<A> {
             exact_errors: false,
             line,
         };
-        teller.hand_on(Token::CharacterTokens(run))
+        teller.hand_on_text(run)
     }
 
     /// Reads a text, from its front, as long as its characters tell nothing. Answers how many bytes it

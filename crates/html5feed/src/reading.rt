@@ -19,8 +19,8 @@ use markup5ever::buffer_queue::BufferQueue;
 use markup5ever::tokenizer_result::TokenizerResult;
 use std::alloc::Allocator;
 
-// Sends the run of text with which the queue's text begins, and that takes so many bytes. Where it
-// is all of the queue's text it is moved, not copied. The run leaves the queue even after a refusal.
+// Sends the run of text with which the queue's text begins, and that takes so many bytes. The run leaves
+// the queue even after a refusal.
 #[inline(always)]
 fn tell_waiting_run<S: TokenSink<Token<A>>, A: Allocator + Copy>(
     alloc: A,
@@ -41,11 +41,9 @@ fn tell_waiting_run<S: TokenSink<Token<A>>, A: Allocator + Copy>(
     ensures faults { S.faults sink.new ≡ S.faults sink.old + faults_of result }
     ensures held { held_len position.new.opened ≡ held_len position.old.opened }
 {
-    let Ok(run) = queue.take_text(bytes) else {
-        queue.skip(bytes);
-        return Err(TokenizerError::Memory);
-    };
-    position.tell_run(alloc, sink, run)
+    let told = position.tell_run(alloc, sink, &queue.front_text()[..bytes]);
+    queue.skip(bytes);
+    told
 }
 
 // Reads the run with which the queue's text begins, if it begins with one. The run leaves the queue
@@ -140,6 +138,9 @@ pub fn read_queue<S: TokenSink<Token<A>>, A: Allocator + Copy>(
 {
     loop {
         read_waiting_run(alloc, sink, rules, position, queue)?;
+        if queue.is_empty() {
+            return Ok(TokenizerResult::Done);
+        }
         read_waiting_quietly(alloc, rules, position, queue)?;
         let Some(c) = queue.next() else {
             return Ok(TokenizerResult::Done);

@@ -105,9 +105,9 @@ fn read_keyword<S: TokenSink<Token<A>>, A: Allocator + Copy>(
     Ok(false)
 }
 
-/// Reads a character where a reference or a keyword is not decided, and answers whether it belongs to
-/// that. Else the character decides, and is still to be read. `line` is the line before it.
-pub fn read_undecided<S: TokenSink<Token<A>>, A: Allocator + Copy>(
+// The same where either is not decided. It stands apart, so that what each character goes through stays small.
+#[inline(never)]
+fn read_held<S: TokenSink<Token<A>>, A: Allocator + Copy>(
     alloc: A,
     sink: &mut S,
     rules: &Rules<'_, A>,
@@ -128,4 +128,24 @@ pub fn read_undecided<S: TokenSink<Token<A>>, A: Allocator + Copy>(
         return read_reference(&mut teller, rules.names, position, c);
     }
     read_keyword(&mut teller, position, c)
+}
+
+/// Reads a character where a reference or a keyword may not be decided, and answers whether it belongs to
+/// that. Else the character is still to be read, and decides what was not decided. `line` is the line
+/// before it.
+#[inline(always)]
+pub fn read_undecided<S: TokenSink<Token<A>>, A: Allocator + Copy>(
+    alloc: A,
+    sink: &mut S,
+    rules: &Rules<'_, A>,
+    position: &mut Position<A>,
+    line: u64,
+    c: char,
+) -> Result<bool, TokenizerError>
+    ensures { ReadsUndecided S.means S.faults rules.now line c result sink.old sink.new position.old position.new }
+{
+    if !position.is_undecided() {
+        return Ok(false);
+    }
+    read_held(alloc, sink, rules, position, line, c)
 }

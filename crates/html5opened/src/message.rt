@@ -1,7 +1,7 @@
 //! The messages of errors.
 #![tactic(auto, unfolding(html5grammar::specs::Characters::is_bad_character, html5grammar::specs::ErrorText::bad_character, html5grammar::specs::ErrorText::saw, html5grammar::specs::ErrorText::saw_end))]
 
-ghost use Rattle.std.specs.Prelude.{◌≡◌, IfOk, string_bytes, encode_utf8};
+ghost use Rattle.std.specs.Prelude.{◌≡◌, IfOk, string_bytes};
 ghost use Rattle.html5ever_interface.specs.Message.{message_bytes};
 ghost use Rattle.html5grammar.specs.Characters.{is_bad_character};
 ghost use Rattle.html5grammar.specs.ErrorText.{saw, saw_end, bad_character};
@@ -72,14 +72,4 @@ pub fn saw_end_message<A: Allocator>(
     let mut text = begun(alloc, "Saw EOF in state ", state.len())?;
     text.push_str(state)?;
     Ok(ErrorMessage::Named(text))
-}
-
-/// The text of one character.
-#[inline(always)]
-pub fn text_of<A: Allocator>(alloc: A, c: char) -> Result<String<A>, AllocError>
-    ensures { IfOk result (λ text. string_bytes text ≡ encode_utf8 c) }
-{
-    let mut text = String::with_capacity(alloc, c.len_utf8())?;
-    text.push(c)?;
-    Ok(text)
 }

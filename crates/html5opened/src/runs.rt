@@ -21,6 +21,7 @@ use crate::current_tag::push_name;
 use crate::opened::Opened;
 use html5ever_interface::states::{AttrValueKind, RawKind, State};
 use markup5ever::small_char_set::SmallCharSet;
+use markup5ever::text::push_text;
 use std::alloc::{AllocError, Allocator};
 
 /// The characters that end a run in a tag's name.
@@ -164,7 +165,7 @@ pub fn push_names<A: Allocator>(name: &mut String<A>, run: &str) -> Result<(), A
     if !is_plain_name(run.as_bytes()) {
         return push_letters(name, run);
     }
-    name.push_str(run)?;
+    push_text(name, run)?;
     Ok(())
 }
 
@@ -181,7 +182,7 @@ pub fn push_run<A: Allocator>(at: &mut Opened<A>, run: &str) -> Result<(), Alloc
     match at.state {
         State::TagName => push_names(&mut at.tag.name, run)?,
         State::AttributeName => push_names(&mut at.tag.attr_name, run)?,
-        State::AttributeValue(_) => at.tag.attr_value.push_str(run)?,
+        State::AttributeValue(_) => push_text(&mut at.tag.attr_value, run)?,
         State::BogusComment => at.comment.push_str(run)?,
         State::ProcessingInstruction => at.comment.push_str(run)?,
         State::CdataSection => at.comment.push_str(run)?,

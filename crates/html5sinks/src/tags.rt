@@ -6,7 +6,9 @@ ghost use Rattle.html5sinks.specs.Tags.{is_start_of};
 use crate::replies::standard_reply;
 use ghost_counts::Count;
 use html5ever_interface::interface::sink::TokenSink;
-use html5ever_interface::interface::token::{SinkFault, Tag, TagKind, Token, TokenSinkResult};
+use html5ever_interface::interface::token::{
+    SinkFault, Tag, TagKind, TextFault, Token, TokenSinkResult,
+};
 use std::alloc::Allocator;
 use std::marker::Model;
 
@@ -221,6 +223,11 @@ impl<H: ReplyingTagHandler<Tag<A>>, A: Allocator> TokenSink<Token<A>> for TagsOn
                 Err(SinkFault)
             }
         }
+    }
+
+    // A handler of tags has no use for a text.
+    fn process_text(&mut self, _alloc: A, _text: &str, _line_number: u64) -> Result<(), TextFault> {
+        Ok(())
     }
 
     fn end(&mut self) -> Result<(), SinkFault> {

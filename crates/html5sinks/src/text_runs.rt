@@ -7,7 +7,7 @@ ghost use Rattle.html5sinks.specs.Runs.{joined_of, joined_step, joined_reply, re
 use crate::replies::standard_reply;
 use ghost_counts::Count;
 use html5ever_interface::interface::sink::{Says, TokenSink};
-use html5ever_interface::interface::token::{SinkFault, Token, TokenSinkResult};
+use html5ever_interface::interface::token::{SinkFault, TextFault, Token, TokenSinkResult};
 use std::alloc::{AllocError, Allocator, Global};
 use std::marker::Model;
 
@@ -263,6 +263,17 @@ impl<H: ReplyingTokenHandler<Token<A>>, A: Allocator> TokenSink<Token<A>> for Te
             Err(SinkFault) => {
                 self.faults.add(1);
                 Err(SinkFault)
+            }
+        }
+    }
+
+    // Joins the text to the run from where it lies.
+    fn process_text(&mut self, _alloc: A, text: &str, _line_number: u64) -> Result<(), TextFault> {
+        match self.run.push_str(text) {
+            Ok(()) => Ok(()),
+            Err(AllocError) => {
+                self.faults.add(1);
+                Err(TextFault::Sink)
             }
         }
     }

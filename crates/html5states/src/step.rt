@@ -17,8 +17,8 @@ use html5opened::opened::{Opened, Step};
 use std::alloc::Allocator;
 
 impl<S: TokenSink<Token<A>>, A: Allocator + Copy> Teller<'_, S, A> {
-    /// Reads one character, and sends what it brings.
-    #[inline(always)]
+    /// Reads one character, and sends what it brings. It stands apart, so that what each piece goes through stays small.
+    #[inline(never)]
     pub fn step(&mut self, at: &mut Opened<A>, c: char) -> Step
         requires { is_undecided_open (opened_of at.old) ≡ false }
         ensures { Reads S.means S.faults result self.old self.new

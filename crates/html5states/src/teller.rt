@@ -11,10 +11,10 @@ ghost use Rattle.html5states.specs.Telling.{Emits, IsToldAs, Tells, tokens_in};
 
 use html5ever_interface::interface::message::{ErrorMessage, FixedMessage};
 use html5ever_interface::interface::sink::TokenSink;
-use html5ever_interface::interface::token::{SinkFault, Tag, Token, TokenSinkResult};
+use html5ever_interface::interface::token::{SinkFault, Tag, TextFault, Token, TokenSinkResult};
 use html5ever_interface::states::State;
 use html5opened::error::TokenizerError;
-use html5opened::message::{bad_character_message, is_bad, saw_end_message, saw_message, text_of};
+use html5opened::message::{bad_character_message, is_bad, saw_end_message, saw_message};
 use std::alloc::Allocator;
 
 /// The sink, the line of what it is sent, and whether errors are exact.
@@ -59,6 +59,20 @@ impl<S: TokenSink<Token<A>>, A: Allocator + Copy> Teller<'_, S, A> {
         }
     }
 
+    /// Sends the sink a text where it lies. It is the same to the sink as a token of the text.
+    #[inline(always)]
+    pub fn hand_on_text(&mut self, text: &str) -> Result<(), TokenizerError>
+        ensures whole { Emits S.means S.faults result self.old self.new (Text text.now ∷ []) }
+        ensures says { (M : List Message) → IsToldAs (Text text.now) self.old.line M
+            → Tells S.means.step S.means.faulted result (S.means.state self.old.sink.now) M (S.means.state self.new.sink.now) }
+    {
+        match self.sink.process_text(self.alloc, text, self.line) {
+            Ok(()) => Ok(()),
+            Err(TextFault::Memory) => Err(TokenizerError::Memory),
+            Err(TextFault::Sink) => Err(TokenizerError::Sink),
+        }
+    }
+
     /// Sends the sink a token that isn't a tag, a text by its characters.
     #[inline(always)]
     pub fn tell(&mut self, token: Token<A>) -> Result<(), TokenizerError>
@@ -92,7 +106,8 @@ impl<S: TokenSink<Token<A>>, A: Allocator + Copy> Teller<'_, S, A> {
         ensures { Emits S.means S.faults result self.old self.new
             (Text (encode_utf8 c) ∷ []) }
     {
-        self.tell(Token::CharacterTokens(text_of(self.alloc, c)?))
+        let mut bytes = [0; 4];
+        self.hand_on_text(c.encode_utf8(&mut bytes))
     }
 
     /// Sends the sink an error.

@@ -7,6 +7,7 @@ ghost use Rattle.markup5ever.specs.BufferQueue.{Gains, GainsFront, IsReadTo, Tak
 ghost use Rattle.markup5ever.specs.SmallCharSet.{IsMember};
 
 use crate::small_char_set::SmallCharSet;
+use crate::text::push_text;
 use ghost_counts::Count;
 use std::alloc::{AllocError, Allocator, Global};
 use std::marker::Model;
@@ -94,7 +95,7 @@ fn append<A: Allocator>(
             Err(_) => unreachable!(),
         }
     }
-    text.push_str(back)
+    push_text(text, back)
 }
 
 // The first character of a text, and how many bytes it takes. Most are ASCII, which the first byte tells.

@@ -6,6 +6,7 @@ pub mod buffer_queue;
 pub mod data;
 pub mod interface;
 pub mod small_char_set;
+pub mod text;
 pub mod tokenizer_result;
 
 pub use crate::buffer_queue::{BufferQueue, Case, SetResult};

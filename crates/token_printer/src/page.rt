@@ -4,6 +4,7 @@ ghost use Rattle.token_printer.specs.Page.{BeginsWith, text_closing, added_by_te
 ghost use Rattle.token_printer.specs.Printed.{quoted_bytes, kind_word, line_with_number, line_with_text, tag_line, pause_line, doctype_line};
 ghost use Rattle.html5sinks.specs.Pausing.{pausing_reply};
 ghost use Rattle.html5ever_interface.specs.Token.{told_by, tag_of, doctype_of, reply_of};
+ghost use Rattle.html5ever_interface.specs.Token.Told.{Text};
 
 use crate::printed::{
     push_attributes, push_mark, push_option, push_pause, push_quoted_bytes, push_tag_end,
@@ -12,10 +13,10 @@ use html5ever_interface::interface::token::{Doctype, Tag, TagKind, Token, TokenS
 use itoa::{Buffer, write_digits};
 use std::alloc::{AllocError, Allocator};
 
-// Appends a text of a token. An empty one opens no line.
+/// Appends a text. An empty one opens no line.
 #[inline(always)]
 #[tactic(auto, unfolding(crate::specs::Page::added_by_text))]
-fn push_text<A: Allocator>(
+pub fn push_text<A: Allocator>(
     page: &mut Vec<u8, A>,
     in_text: bool,
     text: &[u8],
@@ -276,6 +277,15 @@ pub fn push_token<A: Allocator + Copy>(
     }
 }
 
+/// Whether a text is open after a text.
+#[inline(always)]
+#[tactic(auto, unfolding(crate::specs::Page::open_after))]
+pub fn is_open_after_text(in_text: bool, text: &[u8]) -> bool
+    ensures { result ≡ open_after in_text (Text text.now) }
+{
+    in_text || !text.is_empty()
+}
+
 /// Whether a text is open after a token.
 #[inline(always)]
 #[tactic(auto, unfolding(crate::specs::Page::open_after))]
@@ -283,7 +293,7 @@ pub fn is_open_after<A: Allocator>(in_text: bool, token: &Token<A>) -> bool
     ensures { result ≡ open_after in_text (told_by token.now) }
 {
     match token {
-        Token::CharacterTokens(text) => in_text || !text.is_empty(),
+        Token::CharacterTokens(text) => is_open_after_text(in_text, text.as_bytes()),
         _ => false,
     }
 }

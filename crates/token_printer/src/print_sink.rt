@@ -4,10 +4,10 @@ ghost use Rattle.token_printer.specs.Page.{BeginsWith, blank_page, without_lines
 ghost use Rattle.html5sinks.specs.Pausing.{pausing_reply};
 ghost use Rattle.html5ever_interface.specs.Token.{told_by, reply_of};
 
-use crate::page::{is_open_after, push_token};
+use crate::page::{is_open_after, is_open_after_text, push_text, push_token};
 use ghost_counts::Count;
 use html5ever_interface::interface::sink::TokenSink;
-use html5ever_interface::interface::token::{SinkFault, Token, TokenSinkResult};
+use html5ever_interface::interface::token::{SinkFault, TextFault, Token, TokenSinkResult};
 use html5sinks::pausing::pausing_reply;
 use std::alloc::{AllocError, Allocator, Global};
 use std::marker::Model;
@@ -131,6 +131,24 @@ impl<A: Allocator + Copy> TokenSink<Token<A>> for PrintSink<A> {
                 self.page.truncate(printed);
                 self.faults.add(1);
                 Err(SinkFault)
+            }
+        }
+    }
+
+    // Prints the text where it lies.
+    #[inline(always)]
+    fn process_text(&mut self, _alloc: A, text: &str, _line_number: u64) -> Result<(), TextFault> {
+        let before = self.page.len();
+        let text = text.as_bytes();
+        match push_text(&mut self.page, self.in_text, text) {
+            Ok(()) => {
+                self.in_text = is_open_after_text(self.in_text, text);
+                Ok(())
+            }
+            Err(AllocError) => {
+                self.page.truncate(before);
+                self.faults.add(1);
+                Err(TextFault::Sink)
             }
         }
     }

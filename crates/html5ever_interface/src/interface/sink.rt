@@ -1,17 +1,25 @@
 //! What a sink of tokens is.
-use crate::interface::token::{SinkFault, Token, TokenSinkResult};
-use std::alloc::Allocator;
+use crate::interface::token::{SinkFault, TextFault, Token, TokenSinkResult};
+use std::alloc::{AllocError, Allocator};
 
 /// What a token means: the token that contracts speak of, and the bytes of a text of its own.
 pub trait Says: Drop {
-    ghost use Rattle.std.specs.Prelude.{ℕ, List};
+    ghost use Rattle.std.specs.Prelude.{◌≡◌, ℕ, List, IfOk};
     ghost use Rattle.html5ever_interface.specs.Token.{Told};
+    ghost use Rattle.html5ever_interface.specs.Token.Told.{Text};
 
     type Text: Drop;
+
+    /// What gives its texts their memory.
+    type Alloc;
 
     ghost told: { Self → Told };
 
     ghost text_bytes: { Self.Text → List ℕ };
+
+    /// The token of a text, which is copied.
+    fn of_text(alloc: Self::Alloc, text: &str) -> Result<Self, AllocError>
+        ensures { IfOk result (λ token. told token ≡ Text text.now) };
 }
 
 impl<A: Allocator> Says for Token<A> {
@@ -20,14 +28,20 @@ impl<A: Allocator> Says for Token<A> {
 
     type Text = String<A>;
 
+    type Alloc = A;
+
     ghost told = { told_by };
 
     ghost text_bytes = { string_bytes };
+
+    fn of_text(alloc: A, text: &str) -> Result<Token<A>, AllocError> {
+        Ok(Token::CharacterTokens(String::from_str(alloc, text)?))
+    }
 }
 
 /// Takes the tokens of a text, in order. A sink's contract names a state that the tokens step.
 pub trait TokenSink<T: Says> {
-    ghost use Rattle.std.specs.Prelude.{◌≡◌, ℕ, ◌+◌, Bool, false, List, [], ◌++◌, IfOk, OnOk, OnErr};
+    ghost use Rattle.std.specs.Prelude.{◌≡◌, ◌≢◌, ℕ, ◌+◌, Bool, false, List, [], ◌++◌, IfOk, OnOk, OnErr};
     ghost use Rattle.html5ever_interface.specs.Sink.{Means};
     ghost use Rattle.html5ever_interface.specs.Token.{Told, reply_of, is_tag};
     ghost use Rattle.html5ever_interface.specs.Token.Told.{Text};
@@ -57,6 +71,29 @@ pub trait TokenSink<T: Says> {
             (means.state self.new ≡ means.faulted (means.state self.old) (T.told token) line_number) }
         ensures no_fault { OnOk result (faults self.new ≡ faults self.old) }
         ensures one_fault { OnErr result (faults self.new ≡ faults self.old + 1) };
+
+    /// Takes a text, which stays the tokenizer's, as `process_token` takes the token of it. By itself it
+    /// hands that on, with a copy. A sink that needs none does better to read the text where it lies.
+    fn process_text(
+        &mut self,
+        alloc: T::Alloc,
+        text: &str,
+        line_number: u64,
+    ) -> Result<(), TextFault>
+        ensures steps { OnOk result (means.state self.new ≡ means.step (means.state self.old)
+            (Text text.now) line_number) }
+        ensures memory { result ≡ Err TextFault.Memory → means.state self.new ≡ means.state self.old }
+        ensures fault { result ≡ Err TextFault.Sink
+            → means.state self.new ≡ means.faulted (means.state self.old) (Text text.now) line_number }
+        ensures no_fault { result ≢ Err TextFault.Sink → faults self.new ≡ faults self.old }
+        ensures one_fault { result ≡ Err TextFault.Sink → faults self.new ≡ faults self.old + 1 }
+    {
+        let token = T::of_text(alloc, text)?;
+        match self.process_token(token, line_number)? {
+            TokenSinkResult::Continue => Ok(()),
+            _ => unreachable!(),
+        }
+    }
 
     /// Takes note that no token follows.
     fn end(&mut self) -> Result<(), SinkFault>

@@ -99,6 +99,39 @@ pub enum ProcessResult<Handle, Text> {
 #[error("the sink could not take a token")]
 pub struct SinkFault;
 
+/// Why a sink did not take a text.
+#[derive(Clone, Copy, Debug, PartialEq, Eq, Error)]
+pub enum TextFault {
+    /// There was no memory for a copy of it, and the sink was sent nothing.
+    #[error("no memory for a copy of the text")]
+    Memory,
+    /// The sink could not take it.
+    #[error("the sink could not take the text")]
+    Sink,
+}
+
+impl From<AllocError> for TextFault {
+    ghost use Rattle.std.specs.Prelude.{◌≡◌};
+    ghost use Rattle.html5ever_interface.specs.declared.interface.token.TextFault.TheVariants.{Memory};
+
+    ghost from_gives = { λ _ fault. fault ≡ Memory };
+
+    fn from(_error: AllocError) -> TextFault {
+        TextFault::Memory
+    }
+}
+
+impl From<SinkFault> for TextFault {
+    ghost use Rattle.std.specs.Prelude.{◌≡◌};
+    ghost use Rattle.html5ever_interface.specs.declared.interface.token.TextFault.TheVariants.{Sink};
+
+    ghost from_gives = { λ _ fault. fault ≡ Sink };
+
+    fn from(_fault: SinkFault) -> TextFault {
+        TextFault::Sink
+    }
+}
+
 impl<A: Allocator> Default for Doctype<A> {
     ghost use Rattle.std.specs.Prelude.{◌≡◌};
     ghost use Rattle.html5ever_interface.specs.Token.{doctype_of, empty_doctype};

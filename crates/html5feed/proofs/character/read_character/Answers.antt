@@ -6,7 +6,7 @@ use Rattle.html5grammar.specs.Start.{Start}
 use Rattle.html5opened.specs.CharRef.{with_reference}
 use Rattle.html5opened.specs.CurrentTag.{opened_of, last_name_of}
 use Rattle.html5feed.proofs.Pauses.{first_pause-none}
-use Rattle.html5feed.proofs.UndecidedReading.{told-plain, after-plain, last-plain, last-belongs, last-decides, told-belongs, after-belongs, after-decides, pause-belongs, pause-decides, tells-late, leads-late, tells-decides}
+use Rattle.html5feed.proofs.UndecidedReading.{last-belongs, last-decides, told-belongs, after-belongs, after-decides, pause-belongs, pause-decides, tells-late, leads-late, tells-decides}
 use Rattle.html5feed.proofs.character.read_character.Goals as goal
 
 pub returns-in_default-clause-tells : goal.returns-in_default-clause-tells
@@ -24,26 +24,6 @@ pub returns-in_default-clause-answer : goal.returns-in_default-clause-answer
 returns-in_default-clause-answer g c =
     let K : Start = record { opened = with_reference c.position.inside.in_reference c.position.inside.held (opened_of c.position.inside.opened); last_start_tag = last_name_of c.position.inside.opened; input = c.position.inside.input } in
     rw (← c.position.view_is) (rw (told-none g.S.TokenSink.means.step g.S.TokenSink.means.reply g.S.TokenSink.means.foreign c.args.rules.now K (g.S.TokenSink.means.state c.args.sink.now) c.args.c c.in_default.ensures.reads) (sym (first_pause-none g.S.TokenSink.means _)))
-
--- nothing is undecided
-
-pub returns-then-not-is_undecided-clause-tells : goal.returns-then-not-is_undecided-clause-tells
-returns-then-not-is_undecided-clause-tells g c =
-    let K : Start = record { opened = with_reference c.position.inside.in_reference c.position.inside.held (opened_of c.position.inside.opened); last_start_tag = last_name_of c.position.inside.opened; input = c.position.inside.input } in
-    let none = sym c.is_undecided.ensures ∙ c.if-not-is_undecided.true in
-    rw (← c.position.view_is) (rw (told-plain g.S.TokenSink.means c.args.rules.now K (g.S.TokenSink.means.state c.args.sink.now) c.args.c c.in-Some.c c.in-Some.ensures.reads c.line-before.ensures.fits none) (rw c.in-Some.ensures.moves at c.read_opened.ensures.tells))
-
-pub returns-then-not-is_undecided-clause-leads : goal.returns-then-not-is_undecided-clause-leads
-returns-then-not-is_undecided-clause-leads g c =
-    let K : Start = record { opened = with_reference c.position.inside.in_reference c.position.inside.held (opened_of c.position.inside.opened); last_start_tag = last_name_of c.position.inside.opened; input = c.position.inside.input } in
-    let none = sym c.is_undecided.ensures ∙ c.if-not-is_undecided.true in
-    rw (← c.position.view_is) (rw (after-plain g.S.TokenSink.means c.args.rules.now K (g.S.TokenSink.means.state c.args.sink.now) c.args.c c.in-Some.c c.in-Some.ensures.reads c.line-before.ensures.fits none) (rw c.in-Some.ensures.moves at c.read_opened.ensures.leads))
-
-pub returns-then-not-is_undecided-clause-answer : goal.returns-then-not-is_undecided-clause-answer
-returns-then-not-is_undecided-clause-answer g c =
-    let K : Start = record { opened = with_reference c.position.inside.in_reference c.position.inside.held (opened_of c.position.inside.opened); last_start_tag = last_name_of c.position.inside.opened; input = c.position.inside.input } in
-    let none = sym c.is_undecided.ensures ∙ c.if-not-is_undecided.true in
-    rw (← c.position.view_is) (rw (told-plain g.S.TokenSink.means c.args.rules.now K (g.S.TokenSink.means.state c.args.sink.now) c.args.c c.in-Some.c c.in-Some.ensures.reads c.line-before.ensures.fits none) (rw c.in-Some.ensures.moves at c.read_opened.ensures.answer))
 
 -- a character that belongs to what is undecided, or a refusal
 
@@ -80,20 +60,20 @@ pub returns-clause-tells : goal.returns-clause-tells
 returns-clause-tells g c =
     let K : Start = record { opened = with_reference c.position.inside.in_reference c.position.inside.held (opened_of c.position.inside.opened); last_start_tag = last_name_of c.position.inside.opened; input = c.position.inside.input } in
     rw (← c.position.view_is) (tells-decides g.S.TokenSink.means c.args.rules.now K (g.S.TokenSink.means.state c.args.sink.now) c.args.c c.in-Some.c c.in-Some.ensures.reads c.line-before.ensures.fits _ _ _ _ (c.in_ok-read_undecided.ensures.decided (ap Ok c.if-branch.false)) (rw c.line-before.ensures.line at c.in_ok-read_undecided.ensures.tells)
-    (rw (c.in_ok-read_undecided.ensures.input, c.in-Some.ensures.moves) at c.read_opened-2.ensures.tells))
+    (rw (c.in_ok-read_undecided.ensures.input, c.in-Some.ensures.moves) at c.read_opened.ensures.tells))
 
 pub returns-clause-leads : goal.returns-clause-leads
 returns-clause-leads g c =
     let K : Start = record { opened = with_reference c.position.inside.in_reference c.position.inside.held (opened_of c.position.inside.opened); last_start_tag = last_name_of c.position.inside.opened; input = c.position.inside.input } in
     let decides = (c.in_ok-read_undecided.ensures.decided (ap Ok c.if-branch.false)) in
-    rw (← c.position.view_is) (rw (after-decides g.S.TokenSink.means c.args.rules.now K (g.S.TokenSink.means.state c.args.sink.now) c.args.c c.in-Some.c c.in-Some.ensures.reads c.line-before.ensures.fits _ decides, ← (rw c.line-before.ensures.line at c.in_ok-read_undecided.ensures.tells)) (rw (c.in_ok-read_undecided.ensures.input, c.in_ok-read_undecided.ensures.last, c.in-Some.ensures.moves) at c.read_opened-2.ensures.leads))
+    rw (← c.position.view_is) (rw (after-decides g.S.TokenSink.means c.args.rules.now K (g.S.TokenSink.means.state c.args.sink.now) c.args.c c.in-Some.c c.in-Some.ensures.reads c.line-before.ensures.fits _ decides, ← (rw c.line-before.ensures.line at c.in_ok-read_undecided.ensures.tells)) (rw (c.in_ok-read_undecided.ensures.input, c.in_ok-read_undecided.ensures.last, c.in-Some.ensures.moves) at c.read_opened.ensures.leads))
 
 pub returns-clause-answer : goal.returns-clause-answer
 returns-clause-answer g c =
     let K : Start = record { opened = with_reference c.position.inside.in_reference c.position.inside.held (opened_of c.position.inside.opened); last_start_tag = last_name_of c.position.inside.opened; input = c.position.inside.input } in
     let told_late = (rw c.line-before.ensures.line at c.in_ok-read_undecided.ensures.tells) in
     let same = pause-decides g.S.TokenSink.means c.args.rules.now K (g.S.TokenSink.means.state c.args.sink.now) c.args.c c.in-Some.c c.in-Some.ensures.reads c.line-before.ensures.fits g.met.S.TokenSink.keeps_on _ (c.in_ok-read_undecided.ensures.decided (ap Ok c.if-branch.false)) in
-    rw (← c.position.view_is) (IfOk-weaker c.read_opened-2.result _ _ (λ answer is. is ∙ same) (rw (c.in_ok-read_undecided.ensures.input, c.in-Some.ensures.moves, told_late) at c.read_opened-2.ensures.answer))
+    rw (← c.position.view_is) (IfOk-weaker c.read_opened.result _ _ (λ answer is. is ∙ same) (rw (c.in_ok-read_undecided.ensures.input, c.in-Some.ensures.moves, told_late) at c.read_opened.ensures.answer))
 
 -- the name of the last start tag
 
@@ -101,12 +81,6 @@ pub returns-in_default-clause-last : goal.returns-in_default-clause-last
 returns-in_default-clause-last g c =
     let K : Start = record { opened = with_reference c.position.inside.in_reference c.position.inside.held (opened_of c.position.inside.opened); last_start_tag = last_name_of c.position.inside.opened; input = c.position.inside.input } in
     rw (← c.position.view_is) (sym (ap (λ (P : Start). P.last_start_tag) (after-none g.S.TokenSink.means.step g.S.TokenSink.means.reply g.S.TokenSink.means.foreign c.args.rules.now K (g.S.TokenSink.means.state c.args.sink.now) c.args.c c.in_default.ensures.reads)))
-
-pub returns-then-not-is_undecided-clause-last : goal.returns-then-not-is_undecided-clause-last
-returns-then-not-is_undecided-clause-last g c =
-    let K : Start = record { opened = with_reference c.position.inside.in_reference c.position.inside.held (opened_of c.position.inside.opened); last_start_tag = last_name_of c.position.inside.opened; input = c.position.inside.input } in
-    let none = sym c.is_undecided.ensures ∙ c.if-not-is_undecided.true in
-    rw (← c.position.view_is, last-plain g.S.TokenSink.means c.args.rules.now K (g.S.TokenSink.means.state c.args.sink.now) c.args.c c.in-Some.c c.in-Some.ensures.reads c.line-before.ensures.fits none) c.read_opened.ensures.last
 
 pub returns-then-branch-clause-last : goal.returns-then-branch-clause-last
 returns-then-branch-clause-last g c =
@@ -117,4 +91,4 @@ pub returns-clause-last : goal.returns-clause-last
 returns-clause-last g c =
     let K : Start = record { opened = with_reference c.position.inside.in_reference c.position.inside.held (opened_of c.position.inside.opened); last_start_tag = last_name_of c.position.inside.opened; input = c.position.inside.input } in
     rw (← c.position.view_is, last-decides g.S.TokenSink.means c.args.rules.now K (g.S.TokenSink.means.state c.args.sink.now) c.args.c c.in-Some.c c.in-Some.ensures.reads c.line-before.ensures.fits _ (c.in_ok-read_undecided.ensures.decided (ap Ok c.if-branch.false)))
-    (rw c.in_ok-read_undecided.ensures.last at c.read_opened-2.ensures.last)
+    (rw c.in_ok-read_undecided.ensures.last at c.read_opened.ensures.last)

@@ -1,25 +1,28 @@
-use Rattle.std.proofs.Common.{◌∙◌, sym, ap, take, string_bytes}
+use Rattle.std.proofs.Common.{◌≡◌, ◌∙◌, sym, ap, take}
 use Rattle.std.specs.Prelude.{encode_utf8_all}
 use Rattle.std.specs.Str.{chars}
-use Rattle.std.proofs.lemmas.Str.{encodes-chars, IsUtf8-string_bytes}
-use Rattle.html5feed.proofs.QueueReading.{ReadsRun-text, ReadsRun-memory}
+use Rattle.std.proofs.lemmas.Str.{encodes-chars, IsCharBoundary-from_drop}
+use Rattle.markup5ever.proofs.BufferQueueLemmas.{range_from_start}
+use Rattle.html5feed.proofs.QueueReading.{ReadsRun-text}
 use Rattle.html5feed.proofs.RunLemmas.{no_returns}
 use Rattle.html5feed.proofs.reading.tell_waiting_run.Goals as goal
 
-pub returns-in_default-clause-reads : goal.returns-in_default-clause-reads
-returns-in_default-clause-reads g c =
-    ReadsRun-memory g.S.TokenSink.means c.args.rules.now g.met.S.TokenSink.keeps_on c.args.position.now _ _ _ (chars (take c.args.bytes (encode_utf8_all c.args.queue.now.text)))
-    c.requires.is_run c.requires.fits (rw c.in_default.ensures.err at c.skip.ensures)
+pub range-requires-clause-end_boundary : goal.range-requires-clause-end_boundary
+range-requires-clause-end_boundary g c =
+    rw c.front_text.ensures (IsCharBoundary-from_drop _ c.args.bytes c.requires.within c.requires.rest_utf8)
 
-pub tell_run-requires-clause-no_carriage_return : goal.tell_run-requires-clause-no_carriage_return
-tell_run-requires-clause-no_carriage_return g c =
-    rw c.in-Ok.ensures.bytes (no_returns c.args.position.now.opened (chars (take c.args.bytes (encode_utf8_all c.args.queue.now.text))) c.requires.is_run.is_run)
+pub tell_run-told-requires-clause-no_carriage_return : goal.tell_run-told-requires-clause-no_carriage_return
+tell_run-told-requires-clause-no_carriage_return g c =
+    let text = encode_utf8_all c.args.queue.now.text in
+    let cut : c.range.result.now ≡ take c.args.bytes text = c.range.ensures.value ∙ range_from_start c.front_text.result.now c.args.bytes ∙ ap (take c.args.bytes) c.front_text.ensures in
+    rw cut (no_returns c.args.position.now.opened (chars (take c.args.bytes text)) c.requires.is_run.is_run)
 
 pub returns-clause-reads : goal.returns-clause-reads
 returns-clause-reads g c =
-    let text = c.in-Ok.ensures.bytes in
-    ReadsRun-text g.S.TokenSink.means c.args.rules.now c.tell_run.result g.met.S.TokenSink.keeps_on c.args.position.now _ _ _ _ _
-    (chars (take c.args.bytes (encode_utf8_all c.args.queue.now.text))) (string_bytes c.in-Ok.run')
-    c.requires.is_run c.requires.clean c.requires.fits c.in-Ok.ensures.takes
-    (sym (encodes-chars (string_bytes c.in-Ok.run') (IsUtf8-string_bytes c.in-Ok.run')) ∙ ap (λ bytes. encode_utf8_all (chars bytes)) text)
-    c.tell_run.ensures.tells c.tell_run.ensures.opened c.tell_run.ensures.last (rw text at c.tell_run.ensures.input)
+    let text = encode_utf8_all c.args.queue.now.text in
+    let run = chars (take c.args.bytes text) in
+    let cut : c.range.result.now ≡ take c.args.bytes text = c.range.ensures.value ∙ range_from_start c.front_text.result.now c.args.bytes ∙ ap (take c.args.bytes) c.front_text.ensures in
+    ReadsRun-text g.S.TokenSink.means c.args.rules.now c.tell_run-told.result g.met.S.TokenSink.keeps_on c.args.position.now _ _ _ _ _
+    run c.range.result.now c.requires.is_run c.requires.clean c.requires.fits c.skip.ensures
+    (sym (encodes-chars c.range.result.now c.range.utf8) ∙ ap (λ bytes. encode_utf8_all (chars bytes)) cut)
+    c.tell_run-told.ensures.tells c.tell_run-told.ensures.opened c.tell_run-told.ensures.last (rw cut at c.tell_run-told.ensures.input)

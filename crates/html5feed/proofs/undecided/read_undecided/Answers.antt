@@ -1,14 +1,7 @@
-use Rattle.std.proofs.Common.{rules}
-use Rattle.html5opened.proofs.Decided.{undecided-keyword}
+use Rattle.std.proofs.Common.{sym, ◌∙◌}
+use Rattle.html5feed.proofs.UndecidedReading.{reads-plain}
 use Rattle.html5feed.proofs.undecided.read_undecided.Goals as goal
 
-pub read_keyword-requires : goal.read_keyword-requires
-read_keyword-requires g c =
-    rw (← c.position.view_is) (undecided-keyword c.position.inside.in_reference c.position.inside.held c.position.inside.opened.state c.position.inside.opened c.if-position.false (rw (← c.position.view_is) at c.requires))
-
-pub returns : goal.returns
-returns g c =
-    rw (← c.rules.view_is)
-    (let read = c.read_keyword.ensures.reads c.rules.inside.names.now in
-    let kept = c.read_keyword.ensures.kept.sink in
-    search rules)
+pub returns-then-not-is_undecided : goal.returns-then-not-is_undecided
+returns-then-not-is_undecided g c =
+    reads-plain g.S.TokenSink.means g.S.TokenSink.faults c.args.rules.now c.args.line c.args.c c.args.sink.now c.args.position.now (sym c.is_undecided.ensures ∙ c.if-not-is_undecided.true)

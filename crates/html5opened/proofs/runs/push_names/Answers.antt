@@ -8,4 +8,4 @@ pub returns : goal.returns
 returns g c =
     let plain : list_all stays_in_names c.args.run.now ≡ true =
     ap (list_all stays_in_names) (sym c.as_bytes.ensures.value) ∙ sym c.if-not-is_plain_name.ensures in
-    c.in_ok-push_str.ensures.bytes ∙ ap (λ l. string_bytes c.args.name.now ++ l) (sym (plain-run c.args.run.now c.utf8.run plain))
+    c.in_ok-push_text.ensures.bytes ∙ ap (λ l. string_bytes c.args.name.now ++ l) (sym (plain-run c.args.run.now c.utf8.run plain))

@@ -15,8 +15,8 @@ use Rattle.html5opened.proofs.RunSteps.{value_bytes-run, no_null}
 use Rattle.html5opened.proofs.Sections.{section-run, held_len-section}
 use Rattle.html5opened.proofs.runs.push_run.Goals as goal
 
-pub returns-in_ok-push_str-in-AttributeValue : goal.returns-in_ok-push_str-in-AttributeValue
-returns-in_ok-push_str-in-AttributeValue g c =
+pub returns-in_ok-push_text-in-AttributeValue : goal.returns-in_ok-push_text-in-AttributeValue
+returns-in_ok-push_text-in-AttributeValue g c =
     let run = chars c.args.run.now in
     let ordinary = c.requires.is_run.ordinary in
     let value : flat_map value_bytes run ≡ c.args.run.now =
@@ -24,7 +24,7 @@ returns-in_ok-push_str-in-AttributeValue g c =
     record {
       run =
           rw c.in-AttributeValue.is (ap (λ v. InTag (InValue c.in-AttributeValue.field-0) (record (open_tag c.args.at.now.tag) { last_value = v }))
-          (c.in_ok-push_str-in-AttributeValue.ensures.bytes ∙ ap (λ l. string_bytes c.args.at.now.tag.attr_value ++ l) (sym value)));
+          (c.in_ok-push_text-in-AttributeValue.ensures.bytes ∙ ap (λ l. string_bytes c.args.at.now.tag.attr_value ++ l) (sym value)));
       last = refl;
       held = rw c.in-AttributeValue.is refl;
     }

@@ -17,4 +17,4 @@ returns-clause-read_to g c =
       | then-offset-len+in-Ok w ↦ rw w.offset-is (IsReadTo-start text (IsUtf8-string_bytes c.if-offset-len.text))
       | else-offset-len w ↦ rw (w.text-is, w.offset-is) c.requires
     ] in
-    IsReadTo-pushed text (string_bytes c.push_str.new.self) c.args.back.now c.if-offset-len.offset _ before c.utf8.back c.push_str.ensures.bytes
+    IsReadTo-pushed text (string_bytes c.push_text.new.text) c.args.back.now c.if-offset-len.offset _ before c.utf8.back c.push_text.ensures.bytes
