@@ -70,15 +70,29 @@ fn tells_that_a_later_page_was_not_written(rt: HostRuntime) -> Result<(), Fail> 
     Ok(())
 }
 
+// Line feeds, and tags after them, whose names ask for memory each.
+fn long_page(alloc: Global) -> Result<String, AllocError> {
+    let mut page = long_input(alloc)?;
+    page.push_str(&repeated(alloc, "<b>", 20)?)?;
+    Ok(page)
+}
+
+// What is printed for them.
+fn long_page_lines(alloc: Global) -> Result<String, AllocError> {
+    let escapes = repeated(alloc, "\\n", 80_000)?;
+    let tags = repeated(alloc, "start 80001 \"b\"\n", 20)?;
+    format!(in alloc; "text \"{escapes}\"\n{tags}eof 80001\n")
+}
+
 #[test]
 fn tells_that_memory_ran_out_after_a_page(rt: HostRuntime) -> Result<(), Fail> {
     let alloc = rt.alloc();
-    let input = long_input(alloc)?;
-    let lines = long_lines(alloc)?;
+    let input = long_page(alloc)?;
+    let lines = long_page_lines(alloc)?;
     let mut late = 0u64;
     for admitted in 0..1000u64 {
         let heap = Refusing::new(alloc, admitted);
-        let Ok(words) = words_of(&heap, &PLAIN) else {
+        let Ok(words) = words_of(&heap, &[]) else {
             continue;
         };
         let mut reader = ReadSource::new(input.as_bytes());
