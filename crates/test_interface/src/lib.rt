@@ -22,4 +22,6 @@ mod tags_only;
 #[cfg(test)]
 mod text_runs;
 #[cfg(test)]
+mod texts;
+#[cfg(test)]
 mod tokens;
