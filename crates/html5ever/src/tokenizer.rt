@@ -39,7 +39,7 @@ pub use html5ever_interface::interface::token::Token::{
     ProcessingInstructionToken, TagToken,
 };
 pub use html5ever_interface::interface::token::{
-    Doctype, ProcessResult, SinkFault, Tag, TagKind, Token, TokenSinkResult,
+    Doctype, ProcessResult, SinkFault, Tag, TagKind, TextFault, Token, TokenSinkResult,
 };
 pub use html5ever_interface::options::TokenizerOpts;
 pub use html5opened::error::TokenizerError;

@@ -186,14 +186,6 @@ module _ {X S H : Type 0} (means : Means X S H) (rules : Rules) where
       (tells (run_messages K.opened K.input.line run) (rw (same, input) (run-said rules K run is_run clean fits)))
       (on_ok r (opened ∙ sym (opened_after_run-clean K.opened run clean))) last (on_ok r input)
 
-  -- there was no memory for a run of text
-  pub ReadsRun-memory : {T : Type 0}
-      → ((s : S) (told : Told) (line : ℕ) → is_tag told ≡ false → means.reply s told line ≡ KeepOn)
-      → (K : Start) (old new : TextQueue) (s : S) (run : List ℕ) → IsRun rules K run → K.input.line < 2 ^ 64 → Takes old new run
-      → ReadsRun {T = T} means rules (Err Memory) K K old new s s
-  ReadsRun-memory keeps_on K old new s run is_run fits takes =
-      ReadsRun-run (Err Memory) keeps_on K K old new s s run is_run fits takes (Memory-at_once means.step means.faulted s _) tt refl tt
-
   -- a run was put to the open name or value, or there was no memory for it
   pub ReadsRun-open : {T : Type 0} (r : Result T TokenizerError)
       → ((s : S) (told : Told) (line : ℕ) → is_tag told ≡ false → means.reply s told line ≡ KeepOn)

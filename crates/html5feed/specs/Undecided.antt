@@ -17,7 +17,7 @@ rules_with teller names = record { exact = teller.exact_errors; names = names }
 
 module _ {X S H : Type 0} (means : Means X S H) (count : X → ℕ) where
   -- the character c, read where `old` stands and `before` is the sink. The answer is `Ok true` where c belongs to what is held,
-  -- and `Ok false` where it decides, and is still to be read.
+  -- and `Ok false` where it decides that, or where nothing is undecided: then c is still to be read.
   pub record ReadsUndecided (rules : Rules) (line c : ℕ) (result : Result Bool TokenizerError) (before after : X) (old new : Start) : Type 0 where
     pub tells : Tells means.step means.faulted result (means.state before)
         (on_line line (tokens_of_late (brought_at rules (means.foreign (means.state before)) old.opened c).settled)) (means.state after)

@@ -21,7 +21,7 @@ use crate::current_tag::push_name;
 use crate::opened::Opened;
 use html5ever_interface::states::{AttrValueKind, RawKind, State};
 use markup5ever::small_char_set::SmallCharSet;
-use markup5ever::text::push_text;
+use markup5ever::text::{copy_text, push_text};
 use std::alloc::{AllocError, Allocator};
 
 /// The characters that end a run in a tag's name.
@@ -149,7 +149,7 @@ pub fn name_of<A: Allocator + Copy>(alloc: A, run: &str) -> Result<String<A>, Al
     ensures { IfOk result (λ name. string_bytes name ≡ flat_map name_bytes (chars run.now)) }
 {
     if is_plain_name(run.as_bytes()) {
-        return String::from_str(alloc, run);
+        return copy_text(alloc, run);
     }
     let mut name = String::new(alloc);
     push_letters(&mut name, run)?;

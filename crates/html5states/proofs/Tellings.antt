@@ -6,8 +6,7 @@ use Rattle.std.specs.Str.{chars, IsUtf8}
 use Rattle.std.proofs.Common.{add-zero}
 use Rattle.std.proofs.lemmas.List.{append-nil, append_assoc, map-append}
 use Rattle.std.proofs.lemmas.Result.{err_from_is_err_and}
-use Rattle.std.proofs.lemmas.Str.{encodes-chars, IsUtf8-string_bytes, IsUtf8-encode, chars_past_char, chars-nil}
-use Rattle.std.specs.Char.{IsScalar}
+use Rattle.std.proofs.lemmas.Str.{encodes-chars, IsUtf8-string_bytes}
 use Rattle.std.specs.Result.{IsErrAnd}
 use Rattle.html5ever_interface.proofs.Steppings.{stepped-append}
 use Rattle.html5ever_interface.specs.Sink.{Means, Message, stepped, on_line}
@@ -234,12 +233,6 @@ pub leads_first : {Z : Type 0} → (r : Result Progress TokenizerError) (at : Op
     → all ≡ told_first before later → Ends r at (afterwards later) → Ends r at (afterwards all)
 leads_first r at before all later same leads =
     subst (Ends r at) (sym (ap afterwards same ∙ after-told_first before later)) leads
-
--- a character is one token
-pub tokens_in-char : (c : ℕ) → IsScalar c → tokens_in (Text (encode_utf8 c)) ≡ Text (encode_utf8 c) ∷ []
-tokens_in-char c scalar =
-    ap (map (λ (d : ℕ). Text (encode_utf8 d)))
-    (chars_past_char (encode_utf8 c) [] c (IsUtf8-encode c scalar) (sym (append-nil (encode_utf8 c))) ∙ ap (λ cs. c ∷ cs) chars-nil)
 
 -- an error that there is
 pub where_true-true : (holds : Bool) (error : Told) → holds ≡ true → where_true holds error ≡ error ∷ []

@@ -52,6 +52,7 @@ impl SmallCharSet {
     }
 
     /// How many bytes the characters outside the set take with which the text begins.
+    #[inline(always)]
     pub fn nonmember_prefix_len(&self, text: &str) -> usize
         ensures outside { BeginsOutside self.now text.now result }
         ensures stops { (c : ℕ) (rest : List ℕ) →
@@ -60,8 +61,22 @@ impl SmallCharSet {
         self.first_member(text.as_bytes())
     }
 
-    // The place of the first byte that is in the set, or the end.
+    // The place of the first byte that is in the set, or the end. One byte is looked at without a search.
+    #[inline(always)]
     fn first_member(&self, bytes: &[u8]) -> usize
+        ensures within { result ≤ length bytes.now }
+        ensures outside { NoneWithin self.now bytes.now 0 result }
+        ensures stops { result < length bytes.now → IsMember self.now (slice_index bytes.now result) }
+    {
+        if bytes.len() == 1 {
+            return usize::from(!self.contains(char::from(bytes[0])));
+        }
+        self.first_member_by_blocks(bytes)
+    }
+
+    // The same, by blocks.
+    #[inline(always)]
+    fn first_member_by_blocks(&self, bytes: &[u8]) -> usize
         ensures within { result ≤ length bytes.now }
         ensures outside { NoneWithin self.now bytes.now 0 result }
         ensures stops { result < length bytes.now → IsMember self.now (slice_index bytes.now result) }

@@ -72,7 +72,7 @@ pub trait TokenSink<T: Says> {
         ensures no_fault { OnOk result (faults self.new ≡ faults self.old) }
         ensures one_fault { OnErr result (faults self.new ≡ faults self.old + 1) };
 
-    /// Takes a text, which stays the tokenizer's, as `process_token` takes the token of it. By itself it
+    /// Takes a text, which stays the tokenizer's, as `process_token` takes the token of it. By default it
     /// hands that on, with a copy. A sink that needs none does better to read the text where it lies.
     fn process_text(
         &mut self,

@@ -1,4 +1,4 @@
-use Rattle.std.proofs.Common.{◌≡◌, ◌-◌, ◌<◌, ◌≤◌, length}
+use Rattle.std.proofs.Common.{◌-◌, ◌<◌, ◌≤◌, length}
 use Rattle.html5cli.proofs.print.prefix_len.Given as goal
 
 abbrev pub invariant-loop-left : goal.invariant-loop-left
