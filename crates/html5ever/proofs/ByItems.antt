@@ -1,12 +1,14 @@
 -- The sink is sent of a text what its items tell.
-use Rattle.std.proofs.Common.{◌≡◌, ℕ, Bool, List, ◌++◌, Result, Ok, Err, refl, ap, ◌∙◌, subst}
-use Rattle.std.specs.Prelude.{IsOk, IfOk}
-use Rattle.std.proofs.lemmas.Bool.{false≢true}
+use Rattle.std.proofs.Common.{◌≡◌, ℕ, Bool, false, List, ◌++◌, Result, Ok, Err, refl, ap, sym, ◌∙◌, subst}
+use Rattle.std.specs.Prelude.{IfOk}
 use Rattle.html5ever_interface.specs.Sink.{Means, Message, stepped}
-use Rattle.html5ever_interface.specs.Token.{Reply}
+use Rattle.html5ever_interface.specs.Token.{Told, Reply, is_tag}
+use Rattle.html5ever_interface.specs.Token.Reply.{KeepOn}
 use Rattle.html5grammar.specs.Reading.{state_after}
 use Rattle.html5ever.specs.Tokenizer.{Tokenizing, ReadsOn, Feeds, Finishes, ReadsItems, FeedsItems, FinishesItems, FinishedByItems, rules_of, state_at_end}
-use Rattle.html5feed.specs.Feed.{feed}
+use Rattle.html5ever.proofs.PausesByItems.{takes-by_items}
+use Rattle.html5ever.specs.Pauses.{TakesByItems}
+use Rattle.html5feed.specs.Feed.{Feed, feed}
 use Rattle.html5ever_interface.specs.Options.{OptionsOf}
 use Rattle.html5grammar.specs.Start.{Rules, start_of}
 use Rattle.html5ever_interface.specs.Collected.{Collecting, none_collected, collected_step, collected_finish}
@@ -23,21 +25,33 @@ module _ {X S H : Type 0} (means : Means X S H) where
       told-items means old.rules K s (text ++ more) (means.state new.sink) table clean
       (subst (λ r. means.state new.sink ≡ state_after means r K s (text ++ more)) same (reads K s text stands).told)
 
-  pub feeds-items : (old new : Tokenizing X) (queue left : List ℕ) (reply : Reply H) → IsTable old.rules.names → new.rules ≡ old.rules → Feeds means old new queue left reply
-      → FeedsItems means old new queue
-  feeds-items old new queue left reply table same feeds = λ K s text clean stands.
-      let taken : List ℕ = (feed means old.rules K s text queue).taken in
-      told-items means old.rules K s (text ++ taken) (means.state new.sink) table clean
-      (subst (λ r. means.state new.sink ≡ state_after means r K s (text ++ taken)) same (feeds K s text stands).stands.told)
+  pub feeds-items : ((s : S) (told : Told) (line : ℕ) → is_tag told ≡ false → means.reply s told line ≡ KeepOn)
+      → (old new : Tokenizing X) (queue left : List ℕ) (reply : Reply H) → IsTable old.rules.names → new.rules ≡ old.rules → Feeds means old new queue left reply
+      → FeedsItems means old new queue left reply
+  feeds-items keeps_on old new queue left reply table same feeds = λ K s text clean stands.
+      let fed : Feed H = feed means old.rules K s text queue in
+      let after = feeds K s text stands in
+      record {
+        taken = fed.taken;
+        takes =
+            subst (λ l. TakesByItems means old.rules K s text queue fed.taken l reply) (sym after.left)
+            (subst (λ r. TakesByItems means old.rules K s text queue fed.taken fed.left r) (sym after.answer)
+            (takes-by_items means old.rules keeps_on K s text queue table clean));
+        told =
+            told-items means old.rules K s (text ++ fed.taken) (means.state new.sink) table clean
+            (subst (λ r. means.state new.sink ≡ state_after means r K s (text ++ fed.taken)) same after.stands.told);
+        stands = after.stands;
+      }
 
   pub finishes-items : (old : Tokenizing X) (t : S) → IsTable old.rules.names → Finishes means old t → FinishesItems means old t
   finishes-items old t table finishes = λ K s text clean stands. finished-items means old.rules K s text t table clean (finishes K s text stands)
 
   -- where a feed answers
-  pub answered-items : {T E : Type 0} (result : Result T E) (reply : T → Reply H) (old new : Tokenizing X) (queue left : List ℕ) → IsTable old.rules.names → new.rules ≡ old.rules
-      → IfOk result (λ answer. Feeds means old new queue left (reply answer)) → IsOk result → FeedsItems means old new queue
-  answered-items (Ok answer) reply old new queue left table same feeds ok = feeds-items old new queue left (reply answer) table same feeds
-  answered-items (Err error) reply old new queue left table same feeds ok = absurd (false≢true ok)
+  pub answered-items : {T E : Type 0} → ((s : S) (told : Told) (line : ℕ) → is_tag told ≡ false → means.reply s told line ≡ KeepOn)
+      → (result : Result T E) (reply : T → Reply H) (old new : Tokenizing X) (queue left : List ℕ) → IsTable old.rules.names → new.rules ≡ old.rules
+      → IfOk result (λ answer. Feeds means old new queue left (reply answer)) → IfOk result (λ answer. FeedsItems means old new queue left (reply answer))
+  answered-items keeps_on (Ok answer) reply old new queue left table same feeds = feeds-items keeps_on old new queue left (reply answer) table same feeds
+  answered-items keeps_on (Err error) reply old new queue left table same feeds = tt
 
   -- a whole text
   pub whole-items : (opts : OptionsOf) (names : List NamedReference) (state : S) (text : List ℕ) (t : S) (rules : Rules) → IsTable names → rules ≡ rules_of opts names

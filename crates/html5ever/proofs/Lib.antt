@@ -5,3 +5,4 @@ pub mod StepRuns
 pub mod Handing
 pub mod FeedingPieces
 pub mod ByItems
+pub mod PausesByItems

@@ -1,16 +1,20 @@
 -- A run by steps: what was taken so far, and what that gives at the end or where it is refused.
-use Rattle.std.proofs.Common.{◌≡◌, ℕ, false, List, [], ◌∷◌, ◌++◌, refl, ap, sym, ◌∙◌, subst, length, arith}
+use Rattle.std.proofs.Common.{◌≡◌, ℕ, true, false, List, [], ◌∷◌, ◌++◌, refl, ap, sym, ◌∙◌, subst, length, arith}
 use Rattle.std.specs.List.{concat}
 use Rattle.std.specs.Prelude.{map}
 use Rattle.std.proofs.lemmas.List.{append-nil, append_assoc}
 use Rattle.html5ever_interface.specs.Sink.{Means}
-use Rattle.html5ever_interface.specs.Token.{Reply}
+use Rattle.html5ever_interface.specs.Token.{Told, Reply, is_tag}
+use Rattle.html5ever_interface.specs.Token.Reply.{KeepOn}
 use Rattle.html5grammar.specs.Reading.{all_messages}
-use Rattle.html5grammar.specs.Start.{Start, Rules}
+use Rattle.html5grammar.specs.Start.{Start, Rules, is_clean}
 use Rattle.html5feed.specs.Feed.{Feed, told_beyond, feed, IsEndOf}
 use Rattle.html5ever.specs.RunSteps.StepOf.{AtBack}
 use Rattle.html5feed.proofs.Pauses.{feed-parts}
-use Rattle.html5ever.specs.RunSteps.{StepOf, waiting_with, run_text, FinishesRun, StopsRun}
+use Rattle.html5ever.specs.RunSteps.{StepOf, waiting_with, run_text, FinishesRun, StopsRun, RunTakes}
+use Rattle.html5ever.specs.RunSteps.RunTakes.{Ended, Fed}
+use Rattle.html5ever.proofs.PausesByItems.{takes-by_items}
+use Rattle.markup5ever.specs.NamedReferences.{IsTable}
 use Rattle.html5states.specs.Telling.{Stops}
 use Rattle.html5ever.specs.Tokenizer.{Tokenizing, StandsAt, ReadsOn, Feeds, Finishes, StopsFeeding, StopsReading, StopsEnding, EndStops, state_at_end}
 use Rattle.html5opened.specs.declared.error.TokenizerError.{TokenizerError}
@@ -42,6 +46,17 @@ module _ {X S H : Type 0} (means : Means X S H) (rules : Rules) where
   pub run_text-last : (K : Start) (s : S) (text queue : List ℕ) → run_text means rules K s text queue [] ≡ text ++ queue
   unfolding run_text
   run_text-last K s text queue = refl
+
+  -- what each feed takes is said by items
+  pub run-takes : ((s : S) (told : Told) (line : ℕ) → is_tag told ≡ false → means.reply s told line ≡ KeepOn)
+      → (K : Start) (s : S) (text queue : List ℕ) (steps : List StepOf) → IsTable rules.names → is_clean K.opened ≡ true
+      → RunTakes means rules K s text queue steps (run_text means rules K s text queue steps)
+  unfolding run_text
+  run-takes keeps_on K s text queue [] table clean = Ended text queue
+  run-takes keeps_on K s text queue (t ∷ ts) table clean =
+      let f : Feed H = feed means rules K s text (waiting_with t queue) in
+      Fed text queue f.taken f.left _ f.answer t ts (takes-by_items means rules keeps_on K s text (waiting_with t queue) table clean)
+      (run-takes keeps_on K s (text ++ f.taken) f.left ts table clean)
 
   -- a run that hands in at the back alone takes all that waits and all that it hands in
   pub run_text-pushes : (K : Start) (s : S) (text queue : List ℕ) (pieces : List (List ℕ))

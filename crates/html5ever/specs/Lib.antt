@@ -4,3 +4,4 @@ pub mod Collecting
 pub mod RunSteps
 pub mod Pieces
 pub mod FedPieces
+pub mod Pauses

@@ -3,10 +3,13 @@ use Rattle.std.specs.Prelude.{◌≡◌, ℕ, List, [], ◌∷◌, ◌++◌}
 use Rattle.std.specs.Str.{chars}
 use Rattle.std.specs.String.{string_bytes}
 use Rattle.html5ever_interface.specs.Options.{OptionsOf}
+use Rattle.html5ever.specs.Pauses.{TakesByItems}
 use Rattle.html5ever_interface.specs.Sink.{Means}
+use Rattle.html5ever_interface.specs.Token.{Reply}
 use Rattle.html5grammar.specs.Reading.{all_messages}
 use Rattle.html5grammar.specs.Start.{Start, Rules, start_of}
 use Rattle.html5feed.specs.Feed.{Feed, feed}
+use Rattle.html5items.specs.Items.{FinishedItems}
 use Rattle.html5ever.specs.Tokenizer.{Tokenizing, StandsAt, EndStops, rules_of, state_at_end}
 use Rattle.html5opened.specs.declared.error.TokenizerError.{TokenizerError}
 use Rattle.html5ever.specs.declared.tokenizer.steps.Step.{Step}
@@ -50,3 +53,21 @@ module _ {X S H : Type 0} (means : Means X S H) where
   StopsRun e old steps t =
       (K : Start) (s : S) → StandsAt means old K s []
       → EndStops means e s (all_messages means old.rules K s (run_text old.rules K s [] [] steps)) t
+
+  -- ---- by items: how much each feed takes is said by `TakesByItems`
+
+  -- where `text` was taken and `queue` waits, the steps take `whole` in all. A feed after each step takes a beginning of what waits,
+  -- and after the last step all is taken.
+  pub data RunTakes (rules : Rules) (K : Start) (s : S) : List ℕ → List ℕ → List StepOf → List ℕ → Type 0 where
+    Ended : (text queue : List ℕ) → RunTakes rules K s text queue [] (text ++ queue)
+    Fed : (text queue taken left whole : List ℕ) (reply : Reply H) (t : StepOf) (ts : List StepOf)
+        → TakesByItems means rules K s text (waiting_with t queue) taken left reply
+        → RunTakes rules K s (text ++ taken) left ts whole
+        → RunTakes rules K s text queue (t ∷ ts) whole
+
+  -- from the start of a stream, by these options and this table, the sink was sent what the items and the end of the text taken tell,
+  -- and then finished
+  pub record RunsItems (opts : OptionsOf) (names : List NamedReference) (state : S) (steps : List StepOf) (t : S) : Type 0 where
+    pub whole : List ℕ
+    pub takes : RunTakes (rules_of opts names) (start_of opts) state [] [] steps whole
+    pub finished : FinishedItems means (rules_of opts names) (start_of opts) state whole t

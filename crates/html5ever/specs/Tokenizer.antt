@@ -6,6 +6,7 @@ use Rattle.html5ever_interface.specs.Token.{Reply}
 use Rattle.html5grammar.specs.Reading.{all_messages, state_after, start_after}
 use Rattle.html5grammar.specs.Start.{Start, Rules, start_of, is_clean}
 use Rattle.html5items.specs.Items.{ToldItems, FinishedItems}
+use Rattle.html5ever.specs.Pauses.{TakesByItems}
 use Rattle.html5feed.specs.Feed.{Feed, told_beyond, told_at_end, feed}
 use Rattle.html5feed.specs.Refused.{RefusedAfter}
 use Rattle.html5states.specs.Telling.{Stops, StopsWithin, FaultsWithin}
@@ -101,11 +102,18 @@ module _ {X S H : Type 0} (means : Means X S H) where
       (K : Start) (s : S) (text : List ℕ) → is_clean K.opened ≡ true → StandsAt old K s text
       → ToldItems means old.rules K s (text ++ more) (means.state new.sink)
 
-  -- after what a feed of a queue's text takes, likewise
-  abbrev pub FeedsItems : Tokenizing X → Tokenizing X → List ℕ → Type 0
-  FeedsItems old new queue =
-      (K : Start) (s : S) (text : List ℕ) → is_clean K.opened ≡ true → StandsAt old K s text
-      → ToldItems means old.rules K s (text ++ (feed means old.rules K s text queue).taken) (means.state new.sink)
+  -- after `text` the tokenizer took the beginning of the queue's text that its items say, `left` waits, and that reply was handed on.
+  -- The sink was sent exactly what the items of all that was taken tell.
+  pub record FedByItems (old new : Tokenizing X) (K : Start) (s : S) (text queue left : List ℕ) (reply : Reply H) : Type 0 where
+    pub taken : List ℕ
+    pub takes : TakesByItems means old.rules K s text queue taken left reply
+    pub told : ToldItems means old.rules K s (text ++ taken) (means.state new.sink)
+    pub stands : StandsAt new K s (text ++ taken)
+
+  -- a feed of a queue's text, likewise
+  abbrev pub FeedsItems : Tokenizing X → Tokenizing X → List ℕ → List ℕ → Reply H → Type 0
+  FeedsItems old new queue left reply =
+      (K : Start) (s : S) (text : List ℕ) → is_clean K.opened ≡ true → StandsAt old K s text → FedByItems old new K s text queue left reply
 
   -- the sink was sent what the items and the end tell, and then finished
   abbrev pub FinishesItems : Tokenizing X → S → Type 0

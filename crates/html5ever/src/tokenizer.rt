@@ -118,7 +118,8 @@ impl<'t, Sink: TokenSink<Token<A>>, A: Allocator + Copy> Tokenizer<'t, Sink, A> 
         // what that decides. The rest waits, and the answer is the reply that pauses.
         ensures reads { IfOk result (λ answer.
             Feeds Sink.means self.old self.new queue.old.text queue.new.text (reply_in string_bytes answer)) }
-        ensures items { IsOk result → FeedsItems Sink.means self.old self.new queue.old.text }
+        ensures items { IfOk result (λ answer.
+            FeedsItems Sink.means self.old self.new queue.old.text queue.new.text (reply_in string_bytes answer)) }
 
         // For a loop past the pauses, which asks for no more.
         ensures done { result ≡ Ok TokenizerResult.Done → queue.new.text ≡ [] }

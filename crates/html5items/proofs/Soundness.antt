@@ -1,6 +1,6 @@
 -- A text that is composed of items tells what they tell.
 use Rattle.std.proofs.Common.{◌≡◌, ℕ, Bool, true, false, List, [], ◌∷◌, ◌++◌, refl, ap, sym, ◌∙◌, subst}
-use Rattle.std.specs.Prelude.{◌==◌, ◌&&◌, not, codes, drop, encode_utf8, None, if◌then◌else◌}
+use Rattle.std.specs.Prelude.{◌==◌, ◌&&◌, ◌||◌, not, codes, drop, encode_utf8, None, if◌then◌else◌}
 use Rattle.std.specs.Option.{is_none}
 use Rattle.std.proofs.lemmas.Bool.{eqb-true, and_parts, not-true, false≢true}
 use Rattle.std.proofs.lemmas.List.{append-nil}
@@ -55,7 +55,7 @@ use Rattle.html5grammar.specs.Slice.{silent, after_while}
 use Rattle.html5grammar.specs.Reference.{Found, reference, is_undecided, first_or, told_of}
 use Rattle.html5grammar.proofs.ReadingLemmas.{reading-events, messages-at_end}
 use Rattle.html5grammar.proofs.Traces.{trace, trace_brought, trace_here, with_messages, brought-tells, messages-append}
-use Rattle.html5items.specs.Items.{IsRawCharacter, IsLone, IsLoneBefore, is_text, is_lone_before, text_told, spell_lone, spell_empty_end, spell_open_bogus, spell_open_comment, Item, Unfinished, Items, IsTextRun, nothing_at_end, reference_at_end, text_run_messages}
+use Rattle.html5items.specs.Items.{IsRawCharacter, IsLone, IsLoneBefore, is_text, is_lone_before, is_lone_in, is_data_text, is_text_alone, text_told, lone_told, told_before, spell_lone, spell_data, spell_text_run, spell_empty_end, spell_open_bogus, spell_open_comment, Item, Unfinished, Items, IsTextRun, nothing_at_end, reference_at_end, text_run_messages}
 use Rattle.html5items.specs.Items.Item.{OneCharacter, OneLone, OneLoneBefore, OneEmptyEnd, OneTag, OneComment, OneDoctype, OneInstruction, OneCdata, OneReferenceIn, OneRawCharacter, OneRawMark, OneRawLessThan, OneRawLessThanBefore, OneRawEnd}
 use Rattle.html5items.specs.Items.Unfinished.{OpenLessThan, OpenSolidus, OpenTag, OpenRaw, OpenSwitch, OpenRawEnd, OpenReference, OpenInstruction, OpenBogus, OpenKeyword, OpenBogusDeclaration, OpenDoctype, OpenCdata, OpenComment}
 use Rattle.html5items.proofs.Reference.Anywhere.{reference-before_all, trace-open_reference, is-line, tokens-late}
@@ -118,6 +118,11 @@ good-less_than = refl
 first_none : (text : List ℕ) → is_none (first_or text None) ≡ true → text ≡ []
 first_none [] h = refl
 first_none (c ∷ text) h = absurd (false≢true h)
+
+-- what is open in a text of Data, by whether a `<` stands directly before
+abbrev opened_after_less_than : Bool → Open
+opened_after_less_than true = LessThan
+opened_after_less_than false = Between Data
 
 -- ---- items
 
@@ -405,15 +410,66 @@ module _ {X S H : Type 0} (means : Means X S H) (rules : Rules) where
       Leads-append rules (Between mode) (Between mode) (Between mode) (record { character = c; told = text_told rules.exact mode c } ∷ []) (spell (text_told rules.exact mode) run)
       (leads-character rules mode c p.0) (leads-run mode run p.1)
 
+  -- a character of a text of Data, after what is told first
+  data-at : (before : List Told) (c : ℕ) (l : Bool) → (c == less_than) ≡ l → not (c == ampersand) ≡ true
+      → data_step rules.exact before c ≡ Tells (before ++ (if l then [] else text_told rules.exact Data c)) (opened_after_less_than l)
+  unfolding data_step
+  data-at before c true h a = rw (h, append-nil before) refl
+  data-at before c false h a = data-character rules.exact before c (rw (h, not-true (c == ampersand) a) refl)
+
+  -- the same where `<` stands directly before
+  brought-data : (after : Bool) (foreign : Bool) (c : ℕ) (l : Bool) → (c == less_than) ≡ l → not (c == ampersand) ≡ true → (after ≡ true → is_lone_before c ≡ true)
+      → brought_at rules foreign (opened_after_less_than after) c
+      ≡ record { settled = []; here = Tells (told_before rules.exact after c ++ (if l then [] else text_told rules.exact Data c)) (opened_after_less_than l) }
+  unfolding brought_at step_at less_than_step
+  brought-data false foreign c l h a lone = rw (data-at [] c l h a) refl
+  brought-data true foreign c l h a lone =
+      let p = and_parts (not (is_letter c)) _ (lone refl) in
+      let q = and_parts (not (c == solidus)) _ p.1 in
+      let r = and_parts (not (c == exclamation_mark)) (not (c == question_mark)) q.1 in
+      rw (not-true (is_letter c) p.0, not-true (c == solidus) q.0, not-true (c == exclamation_mark) r.0, not-true (c == question_mark) r.1)
+      (rw (data-at (lone_told rules.exact c) c l h a) refl)
+
+  leads-data : (after : Bool) (run : List ℕ) → is_data_text run ≡ true → (after ≡ true → is_lone_in run ≡ true)
+      → Leads rules (opened_after_less_than after) (spell_data rules.exact after run) (Between Data)
+  unfolding Leads is_data_text spell_data
+  leads-data true [] all lone = absurd (false≢true (lone refl))
+  leads-data false [] all lone = refl
+  leads-data after (c ∷ run) all lone =
+      let p = and_parts (not (c == ampersand)) _ all in
+      let q = and_parts (not (c == less_than) || is_lone_in run) (is_data_text run) p.1 in (
+        opened_after_less_than (c == less_than),
+        λ foreign. brought-data after foreign c (c == less_than) refl p.0 lone,
+        leads-data (c == less_than) run q.1 (λ is. ap (λ b. not b || is_lone_in run) (sym is) ∙ q.0),
+      )
+
+  characters-data : (after : Bool) (run : List ℕ) → characters (spell_data rules.exact after run) ≡ run
+  unfolding spell_data
+  characters-data after [] = refl
+  characters-data after (c ∷ run) = ap (λ l. c ∷ l) (characters-data (c == less_than) run)
+
+  -- what a run of text spells
+  leads-text_run : (mode : Mode) (run : List ℕ) → is_text_alone mode run ≡ true → Leads rules (Between mode) (spell_text_run rules.exact mode run) (Between mode)
+  leads-text_run Data run all = leads-data false run all (λ h. absurd (false≢true h))
+  leads-text_run Plain run all = leads-run Plain run all
+  leads-text_run (RawText raw name) run all = leads-run (RawText raw name) run all
+  leads-text_run Cdata run all = leads-run Cdata run all
+
+  characters-text_run : (mode : Mode) (run : List ℕ) → characters (spell_text_run rules.exact mode run) ≡ run
+  characters-text_run Data run = characters-data false run
+  characters-text_run Plain run = characters-spell (text_told rules.exact Plain) run
+  characters-text_run (RawText raw name) run = characters-spell (text_told rules.exact (RawText raw name)) run
+  characters-text_run Cdata run = characters-spell (text_told rules.exact Cdata) run
+
   -- a run of text tells its characters
   pub reading-run : (K : Start) (s : S) (X : List ℕ) (mode : Mode) (run : List ℕ) → IsTextRun K X mode run
       → all_messages means rules K s X ≡ text_run_messages rules.exact K.input X mode run
   reading-run K s X mode run one =
-      let cells : List Spelled = spell (text_told rules.exact mode) run in
+      let cells : List Spelled = spell_text_run rules.exact mode run in
       let M : List Message = spelled_messages rules.exact K.input [] cells in
       reading-all K s X M (on_line (line_after (input_after K.input X) []) (nothing_at_end rules.exact mode))
       (subst (λ tokens. TellsAll means rules K s X M (on_line (line_after (input_after K.input X) []) tokens)) (nothing-end mode)
       (tells-trace means rules K s X M (Between mode) K.last_start_tag
       (rw (one.starts, one.text)
       (trace-text means.step means.reply means.foreign rules K.input [] s K.last_start_tag (Between mode) (Between mode) cells run
-      (characters-spell (text_told rules.exact mode) run) (leads-run mode run one.is_text)))))
+      (characters-text_run mode run) (leads-text_run mode run one.is_text)))))

@@ -1,6 +1,6 @@
 -- A text as a sequence of items as they are written, followed by at most one unfinished item. The standard's "Tokenization", by
 -- what is written and not by states.
-use Rattle.std.specs.Prelude.{◌≡◌, ◌==◌, ◌&&◌, not, nat_eq, ℕ, Bool, true, false, List, [], ◌∷◌, ◌++◌, length, codes, encode_utf8, flat_map, take, drop, Option, if◌then◌else◌}
+use Rattle.std.specs.Prelude.{◌≡◌, ◌==◌, ◌&&◌, ◌||◌, not, nat_eq, ℕ, Bool, true, false, List, [], ◌∷◌, ◌++◌, length, codes, encode_utf8, flat_map, take, drop, Option, if◌then◌else◌}
 use Rattle.html5ever_interface.specs.Sink.{Means, Message, stepped, on_line}
 use Rattle.html5ever_interface.specs.Token.{Told}
 use Rattle.html5ever_interface.specs.Token.Told.{Text, Null, Comment, End}
@@ -73,15 +73,30 @@ pub record IsCharacter (K : Start) (Y : List ℕ) (mode : Mode) (c : ℕ) : Type
   pub is_text : is_text mode c ≡ true
   pub text : normalised K.input Y ≡ c ∷ []
 
--- "Data state" and "PLAINTEXT state": the text Y is a run of characters, each of which is text by itself
-pub record IsTextRun (K : Start) (Y : List ℕ) (mode : Mode) (run : List ℕ) : Type 0 where
-  pub starts : K.opened ≡ Between mode
-  pub is_text : list_all (is_text mode) run ≡ true
-  pub text : normalised K.input Y ≡ run
-
 -- "Tag open state": whether `<` before c begins nothing
 abbrev pub is_lone_before : ℕ → Bool
 is_lone_before c = not (is_letter c) && (not (c == solidus) && (not (c == exclamation_mark) && not (c == question_mark)))
+
+-- "Tag open state": whether `<` before this text begins nothing. At the end of a text it is unfinished.
+abbrev pub is_lone_in : List ℕ → Bool
+is_lone_in [] = false
+is_lone_in (c ∷ text) = is_lone_before c
+
+-- "Data state" and "Tag open state": whether a text of Data is text alone: it has no `&`, and no `<` begins anything
+unfoldable pub is_data_text : List ℕ → Bool
+is_data_text [] = true
+is_data_text (c ∷ text) = not (c == ampersand) && ((not (c == less_than) || is_lone_in text) && is_data_text text)
+
+-- "Data state" and "PLAINTEXT state": the same of each of them
+abbrev pub is_text_alone : Mode → List ℕ → Bool
+is_text_alone Data run = is_data_text run
+is_text_alone mode run = list_all (is_text mode) run
+
+-- "Data state" and "PLAINTEXT state": the text Y is a run of characters, all of which are text
+pub record IsTextRun (K : Start) (Y : List ℕ) (mode : Mode) (run : List ℕ) : Type 0 where
+  pub starts : K.opened ≡ Between mode
+  pub is_text : is_text_alone mode run ≡ true
+  pub text : normalised K.input Y ≡ run
 
 -- "Tag open state": the text Y is `<` and this character, which together are text
 pub record IsLone (K : Start) (Y : List ℕ) (c : ℕ) : Type 0 where
@@ -90,12 +105,33 @@ pub record IsLone (K : Start) (Y : List ℕ) (c : ℕ) : Type 0 where
   pub is_text : is_text Data c ≡ true
   pub text : normalised K.input Y ≡ less_than ∷ c ∷ []
 
+-- "Tag open state": what a lone `<` tells, at the character after it
+abbrev pub lone_told : Bool → ℕ → List Told
+lone_told exact c = error_in exact state.TagOpen c ∷ Text (codes "<") ∷ []
+
 -- "Tag open state": what the two characters tell, both at the second
 abbrev pub spell_lone : Bool → ℕ → List Spelled
 spell_lone exact c =
     record { character = less_than; told = [] }
-    ∷ record { character = c; told = error_in exact state.TagOpen c ∷ Text (codes "<") ∷ text_told exact Data c }
+    ∷ record { character = c; told = lone_told exact c ++ text_told exact Data c }
     ∷ []
+
+-- what a `<` tells at the character c after it, where one stands directly before
+abbrev pub told_before : Bool → Bool → ℕ → List Told
+told_before exact true c = lone_told exact c
+told_before exact false c = []
+
+-- "Data state" and "Tag open state": what each character of a text tells. A `<` tells itself at the character after it.
+unfoldable pub spell_data : Bool → Bool → List ℕ → List Spelled
+spell_data exact after [] = []
+spell_data exact after (c ∷ text) =
+    record { character = c; told = told_before exact after c ++ (if c == less_than then [] else text_told exact Data c) }
+    ∷ spell_data exact (c == less_than) text
+
+-- "Data state" and "PLAINTEXT state": the same of each of them
+abbrev pub spell_text_run : Bool → Mode → List ℕ → List Spelled
+spell_text_run exact Data run = spell_data exact false run
+spell_text_run exact mode run = spell (text_told exact mode) run
 
 -- "Tag open state": the text Y is `<`, and c after it begins an item, or a reference, and decides it
 pub record IsLoneBefore (K : Start) (Y Z : List ℕ) (c : ℕ) (rest : List ℕ) : Type 0 where
@@ -276,7 +312,7 @@ spell_open_bogus exact content = spell_silent (codes "</") ++ spell_odd exact co
 
 abbrev pub text_run_messages : Bool → Input → List ℕ → Mode → List ℕ → List Message
 text_run_messages exact input Y mode run =
-    spelled_messages exact input [] (spell (text_told exact mode) run) ++ on_line (end_line input Y) (nothing_at_end exact mode)
+    spelled_messages exact input [] (spell_text_run exact mode run) ++ on_line (end_line input Y) (nothing_at_end exact mode)
 
 abbrev pub open_comment_messages : Bool → Input → List ℕ → List ℕ → List Message
 open_comment_messages exact input Y content =
@@ -308,7 +344,7 @@ module _ {X S H : Type 0} (means : Means X S H) (rules : Rules) where
         → Item Z K s Y (spelled_messages rules.exact K.input [] (spell_lone rules.exact c)) (start_beyond K Y (Between Data) K.last_start_tag)
     -- "Tag open state"
     OneLoneBefore : (c : ℕ) (rest : List ℕ) → IsLoneBefore K Y Z c rest
-        → Item Z K s Y (on_line (line_after K.input (less_than ∷ [])) (error_in rules.exact state.TagOpen c ∷ Text (codes "<") ∷ []))
+        → Item Z K s Y (on_line (line_after K.input (less_than ∷ [])) (lone_told rules.exact c))
         (start_beyond K Y (Between Data) K.last_start_tag)
     -- "End tag open state"
     OneEmptyEnd : IsEmptyEnd K Y

@@ -1,5 +1,5 @@
 //! A sink of tags alone, and what it hands them to.
-ghost use Rattle.std.specs.Prelude.{◌≡◌, false};
+ghost use Rattle.std.specs.Prelude.{◌≡◌, false, IsOk};
 ghost use Rattle.html5ever_interface.specs.Token.{tag_of};
 ghost use Rattle.html5sinks.specs.Tags.{is_start_of};
 
@@ -225,8 +225,11 @@ impl<H: ReplyingTagHandler<Tag<A>>, A: Allocator> TokenSink<Token<A>> for TagsOn
         }
     }
 
-    // A handler of tags has no use for a text.
-    fn process_text(&mut self, _alloc: A, _text: &str, _line_number: u64) -> Result<(), TextFault> {
+    // A handler of tags has no use for a text, so none is refused.
+    fn process_text(&mut self, _alloc: A, _text: &str, _line_number: u64) -> Result<(), TextFault>
+        ensures never_refused { IsOk result }
+        ensures kept { self.new ≡ self.old }
+    {
         Ok(())
     }
 

@@ -1,5 +1,5 @@
 //! A sink that joins texts, and what it hands them to.
-ghost use Rattle.std.specs.Prelude.{◌≡◌, false, [], string_bytes, IfOk, OnOk, OnErr};
+ghost use Rattle.std.specs.Prelude.{◌≡◌, ◌≢◌, ◌+◌, ◌++◌, Err, false, [], string_bytes, IfOk, OnOk, OnErr};
 ghost use Rattle.html5ever_interface.specs.Token.{told_by, reply_of};
 ghost use Rattle.html5sinks.specs.Replies.{standard_reply};
 ghost use Rattle.html5sinks.specs.Runs.{joined_of, joined_step, joined_reply, reply_where_tag};
@@ -267,8 +267,12 @@ impl<H: ReplyingTokenHandler<Token<A>>, A: Allocator> TokenSink<Token<A>> for Te
         }
     }
 
-    // Joins the text to the run from where it lies.
-    fn process_text(&mut self, _alloc: A, text: &str, _line_number: u64) -> Result<(), TextFault> {
+    // Joins the text to the run from where it lies. A run that finds no memory is a fault of the sink.
+    fn process_text(&mut self, _alloc: A, text: &str, _line_number: u64) -> Result<(), TextFault>
+        ensures joins { OnOk result (self.new ≡ record self.old { run = self.old.run ++ text.now }) }
+        ensures never_memory { result ≢ Err TextFault.Memory }
+        ensures fault { OnErr result (self.new ≡ record self.old { faults = self.old.faults + 1 }) }
+    {
         match self.run.push_str(text) {
             Ok(()) => Ok(()),
             Err(AllocError) => {

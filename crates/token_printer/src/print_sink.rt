@@ -1,8 +1,9 @@
 //! A sink that prints what it is sent.
-ghost use Rattle.std.specs.Prelude.{◌≡◌, ◌++◌, string_bytes, IfOk, OnOk, OnErr};
-ghost use Rattle.token_printer.specs.Page.{BeginsWith, blank_page, without_lines, added_by};
+ghost use Rattle.std.specs.Prelude.{◌≡◌, ◌≢◌, ◌+◌, ◌++◌, Err, string_bytes, IfOk, OnOk, OnErr};
+ghost use Rattle.token_printer.specs.Page.{BeginsWith, blank_page, without_lines, added_by, page_step};
 ghost use Rattle.html5sinks.specs.Pausing.{pausing_reply};
 ghost use Rattle.html5ever_interface.specs.Token.{told_by, reply_of};
+ghost use Rattle.html5ever_interface.specs.Token.Told.{Text};
 
 use crate::page::{is_open_after, is_open_after_text, push_text, push_token};
 use ghost_counts::Count;
@@ -135,9 +136,13 @@ impl<A: Allocator + Copy> TokenSink<Token<A>> for PrintSink<A> {
         }
     }
 
-    // Prints the text where it lies.
+    // Prints the text where it lies. A page that finds no memory is a fault of the sink.
     #[inline(always)]
-    fn process_text(&mut self, _alloc: A, text: &str, _line_number: u64) -> Result<(), TextFault> {
+    fn process_text(&mut self, _alloc: A, text: &str, _line_number: u64) -> Result<(), TextFault>
+        ensures prints { OnOk result (self.new ≡ record self.old { page = page_step self.old.page (Text text.now) _line_number }) }
+        ensures never_memory { result ≢ Err TextFault.Memory }
+        ensures fault { OnErr result (self.new ≡ record self.old { faults = self.old.faults + 1 }) }
+    {
         let before = self.page.len();
         let text = text.as_bytes();
         match push_text(&mut self.page, self.in_text, text) {

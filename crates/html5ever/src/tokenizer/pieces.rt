@@ -4,10 +4,10 @@ ghost use Rattle.html5grammar.specs.Start.{held_len};
 ghost use Rattle.html5states.specs.Telling.{IsRefusal, faults_of};
 ghost use Rattle.html5ever.specs.FedPieces.{fed_text, left_of, IsLinearFor, StandsWithin};
 ghost use Rattle.html5ever.specs.Pieces.{text_of};
-ghost use Rattle.html5ever.specs.Tokenizer.{ReadsOn, StopsReading};
+ghost use Rattle.html5ever.specs.Tokenizer.{ReadsOn, ReadsItems, StopsReading};
 
-use crate::tokenizer::Tokenizer;
 use crate::tokenizer::steps::feed_until_done;
+use crate::tokenizer::{Tokenizer, table_laws};
 use html5ever_interface::interface::sink::TokenSink;
 use html5ever_interface::interface::token::Token;
 use html5opened::error::TokenizerError;
@@ -59,6 +59,8 @@ pub fn feed_pieces<S: TokenSink<Token<A>>, A: Allocator + Copy>(
     // What an `Ok` says: all pieces were taken, and all that waited before the first of them.
     ensures reads { OnOk result
         (ReadsOn S.means tokenizer.old tokenizer.new (fed_text queue.old.text (map string_bytes pieces.items))) }
+    ensures items { OnOk result
+        (ReadsItems S.means tokenizer.old tokenizer.new (fed_text queue.old.text (map string_bytes pieces.items))) }
     ensures left { OnOk result (queue.new.text ≡ left_of queue.old.text (map string_bytes pieces.items)) }
 
     // When each error comes, and what it leaves.
@@ -81,5 +83,6 @@ pub fn feed_pieces<S: TokenSink<Token<A>>, A: Allocator + Copy>(
     if tokenizer.has_failed() {
         return Err(TokenizerError::Failed);
     }
+    table_laws(&tokenizer.rules);
     feed_each(tokenizer, queue, pieces)
 }

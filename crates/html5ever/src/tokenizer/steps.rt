@@ -5,9 +5,9 @@ ghost use Rattle.html5ever_interface.specs.Token.{Reply};
 ghost use Rattle.html5grammar.specs.Start.{held_len};
 ghost use Rattle.html5feed.specs.Feed.{IsEndOf, IsLinear};
 ghost use Rattle.html5states.specs.Telling.{faults_of};
-ghost use Rattle.html5ever.specs.RunSteps.{step_of, waiting_with, text_of_steps, FinishesRun, StopsRun};
+ghost use Rattle.html5ever.specs.RunSteps.{step_of, waiting_with, text_of_steps, FinishesRun, StopsRun, RunsItems};
 ghost use Rattle.html5feed.specs.Starting.{CanStart};
-ghost use Rattle.html5ever.specs.Tokenizer.{finished_reading, FinishedByItems, StoppedReading, ReadsOn, ReadsItems, StopsReading};
+ghost use Rattle.html5ever.specs.Tokenizer.{finished_reading, StoppedReading, ReadsOn, ReadsItems, StopsReading};
 ghost use Rattle.html5ever.specs.Tokenizer.{Feeds, StopsFeeding};
 
 use crate::tokenizer::{Tokenizer, table_laws};
@@ -141,9 +141,8 @@ pub fn run_steps<S: TokenSink<Token<A>>, A: Allocator + Copy>(
     ensures finishes { OnOk result.1 (S.means.state result.0
         ≡ finished_reading S.means (options_of opts) names.now (S.means.state sink)
         (text_of_steps S.means (options_of opts) names.now (S.means.state sink) (map step_of steps.items))) }
-    ensures items { OnOk result.1 (FinishedByItems S.means (options_of opts) names.now (S.means.state sink)
-        (text_of_steps S.means (options_of opts) names.now (S.means.state sink) (map step_of steps.items))
-        (S.means.state result.0)) }
+    ensures items { OnOk result.1 (RunsItems S.means (options_of opts) names.now (S.means.state sink)
+        (map step_of steps.items) (S.means.state result.0)) }
     ensures stops { IfErr result.1 (λ error. StoppedReading S.means (options_of opts) names.now
         error (S.means.state sink)
         (text_of_steps S.means (options_of opts) names.now (S.means.state sink) (map step_of steps.items))

@@ -12,7 +12,7 @@ returns-clause-reads g c =
 pub returns-clause-items : goal.returns-clause-items
 returns-clause-items g c =
     rw (← c.self.view_is)
-    (answered-items g.Sink.TokenSink.means c.read_queue-result.result _ _ _ _ _ c.table_laws.ensures refl
+    (answered-items g.Sink.TokenSink.means g.met.Sink.TokenSink.keeps_on c.read_queue-result.result _ _ _ _ _ c.table_laws.ensures refl
     (Feeds-read g.Sink.TokenSink.means string_bytes c.read_queue-result.result _ _ c.args.queue.now.text _ refl c.is_err-self-inside.ensures.value refl
     c.read_queue-result.ensures.tells c.read_queue-result.ensures.moves c.read_queue-result.ensures.answer c.read_queue-result.ensures.left))
 

@@ -6,6 +6,7 @@ use Rattle.html5grammar.specs.Start.{start_of}
 use Rattle.html5ever.specs.RunSteps.{step_of, run_text}
 use Rattle.html5ever.specs.Tokenizer.{EndStops, state_at_end}
 use Rattle.html5ever.proofs.ByItems.{whole-items}
+use Rattle.html5ever.proofs.StepRuns.{run-takes}
 use Rattle.html5ever.specs.Tokenizer.{rules_of}
 use Rattle.std.proofs.Common.{refl}
 use Rattle.html5ever.proofs.tokenizer.steps.run_steps.Goals as goal
@@ -21,7 +22,11 @@ returns-clause-finishes g c =
 pub returns-clause-items : goal.returns-clause-items
 returns-clause-items g c =
     on_ok_weaker c.take_steps-result.result
-    (whole-items g.S.TokenSink.means (options_of c.args.opts) c.args.names.now (g.S.TokenSink.means.state c.args.sink) _ _ (rules_of (options_of c.args.opts) c.args.names.now) c.table_laws.ensures refl)
+    (λ e. record {
+      whole = run_text g.S.TokenSink.means (rules_of (options_of c.args.opts) c.args.names.now) (start_of (options_of c.args.opts)) (g.S.TokenSink.means.state c.args.sink) [] [] (map step_of c.args.steps.items);
+      takes = run-takes g.S.TokenSink.means (rules_of (options_of c.args.opts) c.args.names.now) g.met.S.TokenSink.keeps_on (start_of (options_of c.args.opts)) (g.S.TokenSink.means.state c.args.sink) [] [] (map step_of c.args.steps.items) c.table_laws.ensures refl;
+      finished = whole-items g.S.TokenSink.means (options_of c.args.opts) c.args.names.now (g.S.TokenSink.means.state c.args.sink) _ _ (rules_of (options_of c.args.opts) c.args.names.now) c.table_laws.ensures refl e;
+    })
     (returns-clause-finishes g c)
 
 pub returns-clause-stops : goal.returns-clause-stops
