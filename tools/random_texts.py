@@ -6,9 +6,9 @@
 
 A case is words of the command line and a text (`tools/cases/maker.py`). Its number and the seed say what it is, so a
 run can be repeated; the seed `today` is the day's date. The program reads each text whole and in pieces. Both times it
-has to print the lines of the model (`tools/model`), which is checked first: it has to print the lines of the worked cases
-(crates/test_cases/stdin). The first case that differs is made as small as it goes, and shown with a command line, the
-program's lines and the model's.
+has to print the lines of the model (`tools/model`), which is checked first: it has to print the lines of the worked
+cases that have an end (crates/test_cases/stdin). The first case that differs is made as small as it goes, and shown
+with a command line, the program's lines and the model's.
 
 --peer html5lib compares with Debian's html5lib instead. `tools/cases/peer.py` says of what both speak.
 --self-test plants wrong changes in copies of the model, and says at which case the comparison finds each.

@@ -25,7 +25,7 @@ NUMBERS += (0x10FFFF, 0x110000, 2**32, 2**32 + 65, 10**20)
 STATES = ("plaintext", "rcdata", "rawtext", "script", "cdata")
 LAST_NAMES = ("title", "script", "style", "a", "Title", "", "x1")
 FEW_NAMES = ("amp", "amp;", "gt", "lt;", "nGt;", "not", "notin;", "quot;")
-BAD_ENTRIES = ("=41", "a;;=41", "a=0", "b=41+0", ";=41", "é=41", "a b=41")
+BAD_ENTRIES = ("=41", "a;;=0", "a=0", "b=41+0", ";=41", "é=41", "a b=41")
 CUTS = ("1", "2", "3", "7")
 
 
@@ -131,7 +131,7 @@ class Maker:
             return [("--table", standard_table())]
         entries = self.entries()
         if self.one_in(12):
-            entries.append(self.pick((*BAD_ENTRIES, entries[0])))
+            entries.append(self.pick((*BAD_ENTRIES, entries[0], entries[0] + "+0")))
         return [("--table", ",".join(entries))]
 
     def entries(self) -> list[str]:
@@ -148,18 +148,25 @@ class Maker:
     # ---- texts
 
     def text(self, state: str, last: str) -> str:
-        """A text: parts one after another, now and then changed at some places, or cut off at the end or the start."""
-        text = "\ufeff" * self.one_in(10)
-        if state == "cdata":
-            text += self.some(6, self.cdata_piece) + self.one_of("", "]]>")
-        elif state != "data":
-            text += self.raw_content(last) + self.raw_end(last)
+        """A text: what belongs to the state, and parts, now and then changed at some places, or cut off at the end or
+        the start. Or one unfinished part."""
+        text = "\ufeff" * self.one_in(10) + self.of_state(state, last)
+        if self.one_in(4):
+            return text + self.unfinished()
         text += "".join(self.part() for _ in range(self.choices.randint(1, self.pick((1, 2, 4, 8)))))
         for _ in range(self.pick((0, 0, 0, 1, 2, 4))):
             text = self.changed(text)
         if self.one_in(3):
-            text = self.beginning(text)
+            text = self.one_of(text + self.unfinished(), self.beginning(text))
         return text[len(self.beginning(text)) :] if self.one_in(10) else text
+
+    def of_state(self, state: str, last: str) -> str:
+        """What is read in a state before Data is: now and then without what ends that."""
+        if state == "cdata":
+            return self.some(6, self.cdata_piece) + self.one_of("", "]]>")
+        if state == "script":
+            return self.one_of(self.loose_script, self.escaped_script) + self.one_of("", self.raw_end(last))
+        return "" if state == "data" else self.raw_content(last) + self.one_of("", self.raw_end(last))
 
     def changed(self, text: str) -> str:
         """The text with a character more, less, in another case, or another."""
@@ -172,6 +179,12 @@ class Maker:
         tags = (self.tag, self.tag, self.tag, self.reference, self.reference)
         declarations = (self.comment, self.comment, self.doctype, self.doctype, self.cdata, self.instruction)
         return self.one_of(*tags, *declarations, self.raw_text, self.script, self.plain, self.plain, self.noise)
+
+    def unfinished(self) -> str:
+        """A beginning of a part that has an end."""
+        doctypes = (self.doctype, self.doctype, self.doctype)
+        part = self.one_of(self.tag, self.comment, self.comment, *doctypes, self.cdata, self.instruction, self.script)
+        return self.beginning(part) if self.one_in(2) else part[: -self.pick((1, 1, 1, 2, 3))]
 
     def odd(self) -> str:
         """A character that is seldom in texts, or a line break."""
@@ -224,7 +237,7 @@ class Maker:
         return quote + self.some(4, self.value_piece) + (quote if self.choices.randrange(15) else "")
 
     def value_piece(self) -> str:
-        references = (self.reference, self.reference)
+        references = (self.reference, self.reference, self.unended_name)
         return self.one_of(self.letter, self.letter, *references, self.odd, self.pick("\"'<=`/>- "))
 
     # ---- references
@@ -239,6 +252,11 @@ class Maker:
             name = self.beginning(name)
         name = name.rstrip(";") if self.one_in(3) else name
         return name + self.some(2, self.letter) if self.one_in(3) else name
+
+    def unended_name(self) -> str:
+        """A reference by a name without a semicolon, where the table has one, before what may go on with it."""
+        unended = [name for name in self.names if not name.endswith(";")]
+        return "&" + self.pick(unended or ["amp"]) + self.one_of("=", "=", self.letter, "", " ", "-", ";")
 
     def number(self) -> str:
         number = self.pick(NUMBERS)
@@ -287,7 +305,9 @@ class Maker:
         if self.one_in(4):
             return self.some(3, self.letter, "p", "s", "pub", "sys", " ", "\0", self.odd)
         keyword = self.any_case(self.one_of("public", "system"))
-        rest = self.one_of("", "", "", "x", "\0", self.odd)
+        if self.one_in(6):
+            return keyword + self.space() + self.one_of("", self.letter, self.odd)
+        rest = self.one_of("", "", "", "", "", "x", "\0", self.odd)
         return keyword + self.identifier() + self.one_of(self.identifier, "") + rest
 
     def identifier(self) -> str:
@@ -316,10 +336,21 @@ class Maker:
         return opening + self.any_case(name) + self.some(1, self.attribute) + self.tag_end()
 
     def script(self) -> str:
-        return "<script>" + self.some(10, self.script_piece) + self.one_of("", self.raw_end("script"))
+        content = self.one_of(self.loose_script, self.escaped_script)
+        return "<script>" + content + self.one_of("", self.raw_end("script"))
+
+    def loose_script(self) -> str:
+        return self.some(10, self.script_piece)
+
+    def escaped_script(self) -> str:
+        """Script data with what escapes it and ends that, in its order; now and then a part is missing."""
+        start, end = "<" + self.any_case("script"), "</" + self.any_case("script")
+        parts = ("<!--", start, self.one_of(*"> /\n"), end, ">", "-->")
+        text = "".join(part + self.some(1, self.script_piece) for part in parts if not self.one_in(6))
+        return self.beginning(text) + self.one_of("", "-", "--", "\0") if self.one_in(3) else text
 
     def script_piece(self) -> str:
-        marks = ("<!--", "<!--", "<!-", "<!", "-->", "--", "-", ">")
+        marks = ("<!--", "<!--", "<!-", "<!", "-->", "--", "-", ">", "-\0", "--\0", "\0")
         words = (self.script_word,) * 8
         return self.one_of(*marks, *words, "<", "</", "<a", "</a>", self.letter, self.odd)
 

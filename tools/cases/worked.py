@@ -28,7 +28,7 @@ def worked_case(lines: list[str]) -> tuple[Case, Ended, bool]:
 
 
 def worked_cases() -> list[tuple[Case, Ended]]:
-    """The cases, but for those of a text that may go on (`~`): their lines have no end."""
+    """The cases that have an end: those of a text that may go on (`~`) have none."""
     told = []
     for block in re.split(r"\n\n+", WORKED.read_bytes().decode()):
         lines = [line for line in block.strip("\n").split("\n") if not line.startswith("#")]
