@@ -58,7 +58,7 @@ class Code:
         for file in sorted(CRATES.glob("*/*/**/*")):
             if file.suffix in (".rt", ".antt", ".edit") and "out" not in file.relative_to(CRATES).parts:
                 self.read(file)
-        for file in [*TOP.glob("tools/*"), *TOP.glob("bench/*.py"), TOP / "crates.txt"]:
+        for file in [TOP / "tools/edits", *TOP.glob("tools/**/*.py"), *TOP.glob("bench/*.py"), TOP / "crates.txt"]:
             self.words.update(words_of(file.read_text()))
 
     def read(self, file):

@@ -1,0 +1,71 @@
+"""Wrong changes that are planted in copies of the model: the comparison has to find each."""
+
+from __future__ import annotations
+
+import importlib
+import pathlib
+import shutil
+import sys
+import tempfile
+from dataclasses import dataclass
+
+MODEL = pathlib.Path(__file__).resolve().parent.parent / "model"
+
+
+@dataclass(frozen=True)
+class Change:
+    """A wrong change: what it says, the module, and the text that it replaces there, which stands there once."""
+
+    name: str
+    module: str
+    right: str
+    wrong: str
+
+
+BAD_CHARACTER = '''        if reading.exact and is_bad_character(c):
+            yield Error(f"Bad character {c}"), line
+'''
+PLACE = "        yield from ((token, line) for token in told_at.get(place, []))\n"
+
+CHANGES = (
+    Change("a CR LF is two line breaks", "reading", '.replace("\\r\\n", "\\n").replace', ".replace"),
+    Change("a byte order mark is dropped with --keep-bom, too", "reading", " and not keep_bom", ""),
+    Change("U+FDEF is no bad character", "characters", "0xFDEF", "0xFDEE"),
+    Change("the error of a bad character comes last", "items", BAD_CHARACTER + PLACE, PLACE + BAD_CHARACTER),
+    Change("of attributes of one name the last stays", "tag", "self.attributes[:n]", "self.attributes[n + 1 :]"),
+    Change("after = no line break is white space", "tag", '=[\\t\\n\\f ]*"', '=[\\t\\f ]*"'),
+    Change("a value has names without a semicolon before =", "reference", 'after == "=" or ', ""),
+    Change("a reference takes the shortest name", "reference", "range(len(held), 0, -1)", "range(1, len(held) + 1)"),
+    Change("&#x80; is the character U+0080", "reference", "range(0x80, 0xA0)", "range(0x180, 0x1A0)"),
+    Change("an error shows all digits of a number", "reference", "number % 2**32", "number"),
+    Change("--!> ends no comment", "comment", '"--!?>"', '"-->"'),
+    Change("a <!-- in a comment is no error", "comment", 'before.endswith("<!--")', "False"),
+    Change("a rest after the identifier of the system brings quirks", "doctype", "quirks=False", "quirks=True"),
+    Change("pUblic is no keyword", "doctype", "keyword = lower_case(", "keyword = str("),
+    Change("a CDATA section ends at ]>", "cdata", 'reading.find("]]>", start)', 'reading.find("]>", start)'),
+    Change("> after one dash ends escaped script data", "raw_text", "mode.dashes == 2", "mode.dashes >= 1"),
+    Change("<SCRIPT in capitals is no switch", "raw_text", 'lower_case(letters) == "script"', 'letters == "script"'),
+    Change("</titles> ends a title", "raw_text", " and ends_name(reading.next(place + 2 + len(letters)))", ""),
+    Change("the end is no error in escaped script data", "reading", "if mode.kind in ESCAPED_KINDS:", "if False:"),
+)
+
+
+def load(change: Change, folder: str, number: int):
+    """The module `program` of a copy of the model with the change."""
+    package = pathlib.Path(folder) / f"planted_{number}"
+    shutil.copytree(MODEL, package, ignore=shutil.ignore_patterns("__pycache__"))
+    module = package / f"{change.module}.py"
+    source = module.read_text()
+    if source.count(change.right) != 1:
+        sys.exit(f"model/{module.name}: {change.right!r} stands there {source.count(change.right)} times, and not once")
+    module.write_text(source.replace(change.right, change.wrong))
+    return importlib.import_module(f"{package.name}.program")
+
+
+def load_all() -> list:
+    """The changes, each with the module `program` of its copy."""
+    with tempfile.TemporaryDirectory() as folder:
+        sys.path.insert(0, folder)
+        loaded = [(change, load(change, folder, number)) for number, change in enumerate(CHANGES)]
+        sys.path.remove(folder)
+    return loaded

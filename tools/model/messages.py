@@ -1,0 +1,61 @@
+"""Tokens, and the places that tell them."""
+
+from __future__ import annotations
+
+from dataclasses import dataclass
+
+
+@dataclass(frozen=True)
+class Text:
+    text: str
+
+
+@dataclass(frozen=True)
+class Null:
+    pass
+
+
+@dataclass(frozen=True)
+class Error:
+    message: str
+
+
+@dataclass(frozen=True)
+class Tag:
+    is_end: bool
+    name: str
+    attributes: list[tuple[str, str]]
+    self_closing: bool
+    duplicates: bool
+
+
+@dataclass(frozen=True)
+class Comment:
+    text: str
+
+
+@dataclass(frozen=True)
+class Instruction:
+    content: str
+
+
+@dataclass(frozen=True)
+class Doctype:
+    name: str | None = None
+    public_id: str | None = None
+    system_id: str | None = None
+    quirks: bool = False
+
+
+@dataclass(frozen=True)
+class End:
+    pass
+
+
+# tokens, each at the place that tells it
+Told = list[tuple[int, object]]
+
+
+def texts(place: int, characters: str) -> Told:
+    """Characters that one place tells, each as a text."""
+    return [(place, Text(c)) for c in characters]
