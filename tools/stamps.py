@@ -42,8 +42,14 @@ def toolchain():
     return module
 
 
-def sum_of(value):
-    return hashlib.sha256(repr(value).encode()).hexdigest()
+def sum_of(words, folder, files):
+    """A sum of these words, and of these files with their places in a folder."""
+    found = hashlib.sha256(repr(words).encode())
+    for file in files:
+        text = file.read_bytes()
+        found.update(f"{file.relative_to(folder)} {len(text)} ".encode())
+        found.update(text)
+    return found.hexdigest()
 
 
 def files_in(*folders):
@@ -63,7 +69,7 @@ def has_stamp(name):
 def sum_of_library(name):
     """A sum of a library's files, or none where there is no library."""
     files = files_in(library_of(name))
-    return sum_of([(str(file.relative_to(TOP)), file.read_bytes()) for file in files]) if files else None
+    return sum_of(name, TOP, files) if files else None
 
 
 def lines():
@@ -82,8 +88,7 @@ def sums():
             words, below = listed[name]
             folder = TOP / "crates" / name
             files = files_in(*(folder / part for part in ("src", "specs", "proofs")))
-            texts = [(str(file.relative_to(folder)), file.read_bytes()) for file in files]
-            found[name] = sum_of((handles, words, texts, [found_of(it) for it in below if it in listed]))
+            found[name] = sum_of((handles, words, [found_of(it) for it in below if it in listed]), folder, files)
         return found[name]
 
     return {name: found_of(name) for name in listed}
