@@ -1,7 +1,8 @@
 #!/bin/bash
-# Builds the archive and the shared library, and checks the readers in C, Rust and Python: each prints a page in pieces of
-# 1, 7 and 4,096 bytes as html5tok does. What it makes stands in bindings/out. It wants the toolchain, and, for each
-# language, gcc, cargo and python3; what isn't there is left out, and it says so.
+# Builds the archive and the shared library. First it tries each call from C, and under valgrind that all memory comes
+# back. Then it checks the readers in C, Rust and Python: each prints a page in pieces of 1, 7 and 4,096 bytes as
+# html5tok does. What it makes stands in bindings/out. It wants the toolchain, and, for each language, gcc with valgrind,
+# cargo and python3; what isn't there is left out, and it says so, also at the end.
 set -eu
 cd "$(dirname "$0")"
 here=$PWD
@@ -9,10 +10,12 @@ out=$here/out
 kit=$(dirname "$(rt doc)")
 failed=0
 passed=0
+left_out=""
 
 has() {
     command -v "$1" >/dev/null || {
         echo "bindings: there is no $1 here, so $2 is left out"
+        left_out="$left_out; $2 left out"
         return 1
     }
 }
@@ -92,21 +95,21 @@ check "the archive" archive
 [ -x ../crates/html5tok/out/html5tok ] || (cd ../crates/html5tok && rt run </dev/null >/dev/null 2>"$out/rt.log")
 check "html5tok" pages
 if has gcc "C"; then
-    check "the shared library" shared
-    check "the example in C" built_in_c examples/tokens.c tokens-c
-    check "the reader in C" prints_as_html5tok "$out/tokens-c"
     check "the tests in C" built_in_c tests/calls.c calls-c
     check "each call from C" "$out/calls-c"
+    check "the example in C" built_in_c examples/tokens.c tokens-c
     has valgrind "the check for leaks" && check "leaks" leaks_nothing
+    check "the reader in C" prints_as_html5tok "$out/tokens-c"
+    check "the shared library" shared
 fi
 if has cargo "Rust"; then
-    check "the example in Rust" rust build --release --example tokens
     check "the tests in Rust" rust test --tests >/dev/null
+    check "the example in Rust" rust build --release --example tokens
     check "the reader in Rust" prints_as_html5tok "$out/target/release/examples/tokens"
 fi
 if has python3 "Python" && [ -e "$out/libfirnuubal.so" ]; then
     check "the tests in Python" python python/test_firnuubal.py --quiet
     check "the reader in Python" prints_as_html5tok env "FIRNUUBAL_LIB=$out" PYTHONDONTWRITEBYTECODE=1 python3 python/examples/tokens.py
 fi
-echo "bindings: $passed checks passed, $failed failed"
+echo "bindings: $passed checks passed, $failed failed$left_out"
 [ "$failed" = 0 ]
