@@ -7,12 +7,13 @@ use Rattle.html5ever_interface.specs.Sink.{Message, stepped}
 use Rattle.html5ever_interface.specs.Token.{Told}
 use Rattle.html5ever_interface.specs.Token.Told.{Text, Null, Error, Tag, Comment, Instruction, Doctype, End}
 use Rattle.html5sinks.specs.Runs.{Joined, Running, joined_of, joined_step, runs_step}
-use Rattle.html5stream.specs.Pages.{ReadsPage, StopsPage, runs_after, runs_handed, runs_page, runs_start}
-use Rattle.markup5ever.specs.NamedReferences.{NamedReference}
+use Rattle.html5stream.specs.Pages.{ReadsPage, ReadsPageItems, StopsPage, runs_after, runs_handed, runs_page, runs_start}
+use Rattle.html5stream.proofs.ByItems.{page-items, runs-composed}
+use Rattle.markup5ever.specs.NamedReferences.{NamedReference, IsTable}
 use Rattle.html5write.specs.Pieces.{Piece, page_text, piece_text}
 use Rattle.html5rewrite.specs.Rewriter.{Rewriter}
 use Rattle.html5rewrite.specs.Rewriting.{Rewriting, rewriting_step, start_of_page, written_where}
-use Rattle.html5rewrite.specs.Writing.{Written, page_bytes, page_messages, start_of_writing, writing_step, written_of}
+use Rattle.html5rewrite.specs.Writing.{Written, PageItems, page_bytes, page_messages, start_of_writing, writing_step, written_of}
 
 -- where these pieces were kept, and written after other bytes
 abbrev written_after : List ℕ → Rewriting → Written
@@ -71,6 +72,14 @@ reads-written rewriter names unread left before after read = record {
   utf8 = read.utf8;
   told = ap (λ s. s.bytes) (read.told ∙ written-handed rewriter before (page_messages rewriter names before read.bytes));
 }
+
+-- and as the messages of its items say
+pub items-written : (rewriter : Rewriter) (names : List NamedReference) (unread left : Option (List ℕ)) (before after : List ℕ) → IsTable names
+    → ReadsPage (λ s bytes. written_of rewriter s (page_messages rewriter names s bytes)) unread left before after
+    → ReadsPageItems (PageItems rewriter names) (written_of rewriter) unread left before after
+items-written rewriter names unread left before after table =
+    page-items (page_messages rewriter names) (written_of rewriter) (PageItems rewriter names) unread left before after
+    (λ bytes. runs-composed writing_step names (start_of_writing rewriter before) bytes table)
 
 pub stops-written : (rewriter : Rewriter) (names : List NamedReference) (unread left : Option (List ℕ)) (before : List ℕ) (after : Written)
     → StopsPage (runs_page writing_step names) (runs_handed writing_step) unread left (start_of_writing rewriter before) after

@@ -1,8 +1,8 @@
 //! Pages that are rewritten.
-ghost use Rattle.std.specs.Prelude.{◌≡◌, ℕ, ◌+◌, [], Err, IfOk, OnOk, OnErr, string_bytes};
-ghost use Rattle.html5stream.specs.Pages.{ReadsPage, StopsPage, runs_page, runs_handed, runs_after};
-ghost use Rattle.html5stream.specs.Streams.{GivesNoText, failed_reads};
-ghost use Rattle.html5rewrite.specs.Writing.{page_bytes, page_messages, pieces_of, start_of_writing, writing_of, writing_step, written_of};
+ghost use Rattle.std.specs.Prelude.{◌≡◌, ◌≢◌, ℕ, ◌+◌, ◌-◌, ◌^◌, [], Err, IfOk, OnOk, OnErr, string_bytes};
+ghost use Rattle.html5stream.specs.Pages.{ReadsPage, ReadsPageItems, StopsPage, runs_page, runs_handed, runs_after};
+ghost use Rattle.html5stream.specs.Streams.{GivesNoText, GivesNoFault, GivesAtLeast, failed_reads};
+ghost use Rattle.html5rewrite.specs.Writing.{PageItems, page_bytes, page_messages, pieces_of, start_of_writing, writing_of, writing_step, written_of};
 
 use crate::output::Output;
 use crate::rewriter::TagRewriter;
@@ -29,6 +29,10 @@ fn read_rewritten<R: Source, H: TagRewriter<Tag<A>>, O: Output, A: Allocator + C
         (start_of_writing (H.means rewriter) (O.bytes output)) (writing_of H.means O.bytes result.0)) }
     ensures not_utf8 { (place : ℕ) → result.1 ≡ Err (StreamError.NotUtf8 place)
         → GivesNoText place (R.remaining source.old) (R.remaining source.new) }
+    ensures no_fault { ((place : ℕ) → result.1 ≢ Err (StreamError.NotUtf8 place))
+        → GivesNoFault (R.remaining source.old) (R.remaining source.new) }
+    ensures too_long { result.1 ≡ Err StreamError.TooLong
+        → GivesAtLeast (2 ^ 64 - 1) (R.remaining source.old) (R.remaining source.new) }
     ensures read { R.failures source.new ≡ R.failures source.old + failed_reads result.1 }
 {
     let handler = Rewriting::new(alloc, rewriter, output);
@@ -47,13 +51,20 @@ pub fn rewrite_page<R: Source, H: TagRewriter<Tag<A>>, O: Output, A: Allocator +
     ensures finishes { OnOk result.1 (ReadsPage (λ before bytes. written_of (H.means rewriter) before
         (page_messages (H.means rewriter) names.now before bytes))
         (R.remaining source.old) (R.remaining source.new) (O.bytes output) (O.bytes result.0)) }
+    ensures items { OnOk result.1 (ReadsPageItems (PageItems (H.means rewriter) names.now) (written_of (H.means rewriter))
+        (R.remaining source.old) (R.remaining source.new) (O.bytes output) (O.bytes result.0)) }
     ensures beginning { OnErr result.1 (StopsPage (page_messages (H.means rewriter) names.now)
         (written_of (H.means rewriter))
         (R.remaining source.old) (R.remaining source.new) (O.bytes output) (O.bytes result.0)) }
     ensures not_utf8 { (place : ℕ) → result.1 ≡ Err (StreamError.NotUtf8 place)
         → GivesNoText place (R.remaining source.old) (R.remaining source.new) }
+    ensures no_fault { ((place : ℕ) → result.1 ≢ Err (StreamError.NotUtf8 place))
+        → GivesNoFault (R.remaining source.old) (R.remaining source.new) }
+    ensures too_long { result.1 ≡ Err StreamError.TooLong
+        → GivesAtLeast (2 ^ 64 - 1) (R.remaining source.old) (R.remaining source.new) }
     ensures read { R.failures source.new ≡ R.failures source.old + failed_reads result.1 }
 {
+    names.table_laws();
     let (handler, read) = read_rewritten(alloc, source, rewriter, output, names);
     match read {
         Ok(()) => (handler.into_output(), Ok(())),

@@ -27,7 +27,7 @@ module _ {X S H : Type 0} (means : Means X S H) where
   }
 
 -- what a handler makes of a page is what it makes of the messages of its items
-page-items : {S : Type 0} (page : S → List ℕ → List Message) (handed : S → List Message → S) (composes : S → List ℕ → List Message → List Message → Type 0)
+pub page-items : {S : Type 0} (page : S → List ℕ → List Message) (handed : S → List Message → S) (composes : S → List ℕ → List Message → List Message → Type 0)
     (unread left : Option (List ℕ)) (before after : S)
     → ((bytes : List ℕ) → (M : List Message) × (E : List Message) × composes before bytes M E × (page before bytes ≡ M ++ E))
     → ReadsPage (λ s bytes. handed s (page s bytes)) unread left before after → ReadsPageItems composes handed unread left before after
@@ -59,9 +59,14 @@ tags-items step names unread left before after table =
     page-items (tags_page step names) (tags_handed step) (TagsItems step names) unread left before after
     (λ bytes. composed-page (tags_means (λ t. t) step) names (tags_start before) (chars bytes) table)
 
+-- a page as a handler of runs is sent it is items, and its messages are those that they tell
+pub runs-composed : {S : Type 0} (step : S → List ℕ → Told → ℕ → S) (names : List NamedReference) (before : S) (bytes : List ℕ) → IsTable names
+    → (M : List Message) × (E : List Message) × RunsItems step names before bytes M E × (runs_page step names before bytes ≡ M ++ E)
+unfolding runs_page
+runs-composed step names before bytes table = composed-page (runs_means (λ t. t) step) names (runs_start before) (chars bytes) table
+
 pub runs-items : {S : Type 0} (step : S → List ℕ → Told → ℕ → S) (names : List NamedReference) (unread left : Option (List ℕ)) (before after : S) → IsTable names
     → ReadsPage (runs_after step names) unread left before after → ReadsPageItems (RunsItems step names) (runs_handed step) unread left before after
-unfolding runs_page
 runs-items step names unread left before after table =
     page-items (runs_page step names) (runs_handed step) (RunsItems step names) unread left before after
-    (λ bytes. composed-page (runs_means (λ t. t) step) names (runs_start before) (chars bytes) table)
+    (λ bytes. runs-composed step names before bytes table)

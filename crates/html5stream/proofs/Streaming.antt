@@ -1,10 +1,10 @@
 -- A source that is read piece by piece: what was fed so far, and what that gives at the end, or where the reading stops.
-use Rattle.std.proofs.Common.{Result, Ok, Err, ◌≡◌, ◌≢◌, ◌⊎◌, ℕ, ◌+◌, ◌<◌, false, List, [], ◌∷◌, ◌++◌, length, take, Option, None, Some, refl, sym, ◌∙◌, ap, subst, arith, inl, inr, append-nil, append_assoc, length-append}
-use Rattle.std.specs.Prelude.{IfErr}
+use Rattle.std.proofs.Common.{Result, Ok, Err, ◌≡◌, ◌≢◌, ◌⊎◌, ℕ, ◌+◌, ◌<◌, ◌≤◌, false, List, [], ◌∷◌, ◌++◌, length, take, Option, None, Some, refl, sym, ◌∙◌, ap, subst, arith, inl, inr, append-nil, append_assoc, length-append}
+use Rattle.std.specs.Prelude.{OnOk, IfErr}
 use Rattle.std.specs.Io.KnownBytes.{Consumes, IsAtEnd}
 use Rattle.std.specs.Str.{IsUtf8, IsValidUpTo, chars}
 use Rattle.std.proofs.lemmas.Bool.{cases_lt}
-use Rattle.std.proofs.lemmas.List.{take_all}
+use Rattle.std.proofs.lemmas.List.{take_all, length-take-le}
 use Rattle.std.proofs.lemmas.Result.{IfErr-at_err}
 use Rattle.std.proofs.lemmas.Str.{IsUtf8-append, IsUtf8-nil, chars-append, chars-nil}
 use Rattle.devices.proofs.KnownBytes.{Consumes-append}
@@ -28,7 +28,7 @@ use Rattle.html5stream.specs.declared.error.StreamError.{StreamError}
 use Rattle.html5stream.specs.declared.error.StreamError.TheVariants.{Read, NotUtf8, Memory, Sink, TooLong}
 use Rattle.html5stream.specs.DecodeErrors.{of_decoder}
 use Rattle.html5stream.specs.Errors.{stream_error}
-use Rattle.html5stream.specs.Streams.{SourceStops, ReadsSource, StopsSource, TellsGiven, GivesNoText, failed_read, failed_reads, sink_fault}
+use Rattle.html5stream.specs.Streams.{SourceStops, ReadsSource, StopsSource, TellsGiven, GivesNoText, GivesNoFault, GivesAtLeast, failed_read, failed_reads, sink_fault}
 use Rattle.html5stream.specs.Taking.{TakesBytes, TakesText, FinishesText, StopsTelling, StopsAtEnd, StopsBytes, StopsText}
 use Rattle.html5stream.proofs.Refusals.{decoder-place, decoder-named, place_in, SourceStops-end}
 
@@ -44,6 +44,25 @@ place_after-twice place a b = omega arith
 some_bytes : (bytes : List ℕ) → ¬ (bytes ≡ []) → 0 < length bytes
 some_bytes [] some = absurd (some refl)
 some_bytes (b ∷ bytes) some = omega arith
+
+-- at the start a source gave nothing yet
+pub GivesAtLeast-none : (known : Option (List ℕ)) → GivesAtLeast 0 known known
+GivesAtLeast-none known = record { bytes = []; given = Consumes-none known; long = omega arith }
+
+-- and after each read that gives something, a byte more at least
+pub GivesAtLeast-more : (count : ℕ) (before now after : Option (List ℕ)) (more : List ℕ) → GivesAtLeast count before now → Consumes now after more → 0 < length more
+    → GivesAtLeast (count + 1) before after
+GivesAtLeast-more count before now after more had given some = record {
+  bytes = had.bytes ++ more;
+  given = Consumes-append before now after had.bytes more had.given given;
+  long = omega (arith, had.long, length-append had.bytes more);
+}
+
+pub GivesAtLeast-fewer : (count more : ℕ) (before after : Option (List ℕ)) → count ≤ more → GivesAtLeast more before after → GivesAtLeast count before after
+GivesAtLeast-fewer count more before after few had = record { bytes = had.bytes; given = had.given; long = omega (arith, had.long) }
+
+pub some_taken : (n : ℕ) (buffer : List ℕ) → n ≤ length buffer → n ≢ 0 → 0 < length (take n buffer)
+some_taken n buffer within some = omega (arith, length-take-le n buffer within)
 
 -- no text begins a character that is cut
 IsValidUpTo-cut : (held : List ℕ) → IsCutCharacter held → 0 < length held → IsValidUpTo held 0
@@ -266,6 +285,21 @@ module _ {X S H : Type 0} (means : Means X S H) where
       → GivesNoText place before after
   GivesNoText-stop r before after t v place stops is =
       (IfErr-at_err (λ error. StopsText means error before after t v) is stops).no_text place refl
+
+  -- no other answer than `NotUtf8` comes where the bytes have a fault
+  pub GivesNoFault-read : {T : Type 0} (r : Result T StreamError) (before after : Option (List ℕ)) (t : Tokenizing X) (v : S)
+      → OnOk r (FinishesText means before after t v) → IfErr r (λ error. StopsText means error before after t v)
+      → ((place : ℕ) → r ≢ Err (NotUtf8 place)) → GivesNoFault before after
+  GivesNoFault-read (Ok x) before after t v finishes stops other = record {
+    bytes = finishes.bytes;
+    given = finishes.given;
+    may_go_on = subst (λ l. ¬ (IsNeverUtf8 l)) (append-nil finishes.bytes) (not_never-cut finishes.bytes [] finishes.utf8 IsCutCharacter-nil);
+  }
+  GivesNoFault-read (Err error) before after t v finishes stops other = record {
+    bytes = stops.text ++ stops.rest;
+    given = stops.given;
+    may_go_on = stops.may_go_on (λ place same. other place (ap Err same));
+  }
 
   StopsWithin-none : (s : S) (M : List Message) → StopsWithin means.step means.faulted s M s
   unfolding stepped

@@ -1,5 +1,5 @@
 -- What reading a source to its end tells, and what it leaves where it stops.
-use Rattle.std.specs.Prelude.{◌≡◌, ◌≢◌, ◌⊎◌, ℕ, List, ◌++◌, Option, Result, Ok, Err}
+use Rattle.std.specs.Prelude.{◌≡◌, ◌≢◌, ◌≤◌, ◌⊎◌, ℕ, List, ◌++◌, length, Option, Result, Ok, Err}
 use Rattle.std.specs.Io.KnownBytes.{Consumes, IsAtEnd}
 use Rattle.std.specs.Str.{IsUtf8, chars}
 use Rattle.html5ever_interface.specs.Options.{OptionsOf}
@@ -47,6 +47,18 @@ pub record GivesNoText (place : ℕ) (before after : Option (List ℕ)) : Type 0
   pub given : Consumes before after bytes
   pub fault : IsFault 0 bytes (decoder.NotUtf8 place)
   pub settled : IsNeverUtf8 bytes ⊎ IsAtEnd after
+
+-- what the source gave has no such fault: bytes after it can still make it UTF-8
+pub record GivesNoFault (before after : Option (List ℕ)) : Type 0 where
+  pub bytes : List ℕ
+  pub given : Consumes before after bytes
+  pub may_go_on : ¬ (IsNeverUtf8 bytes)
+
+-- the source gave so many bytes, or more
+pub record GivesAtLeast (count : ℕ) (before after : Option (List ℕ)) : Type 0 where
+  pub bytes : List ℕ
+  pub given : Consumes before after bytes
+  pub long : count ≤ length bytes
 
 module _ {X S H : Type 0} (means : Means X S H) where
   -- what each error leaves of the messages that a text tells: a beginning of them was sent, and the sink may have faulted after it,

@@ -24,12 +24,13 @@ pub enum StreamError {
 }
 
 impl From<DecodeError> for StreamError {
-    ghost use Rattle.std.specs.Prelude.{◌≡◌};
+    ghost use Rattle.std.specs.Prelude.{◌≡◌, ◌≢◌};
     ghost use Rattle.html5stream.specs.DecodeErrors.{of_decoder};
+    ghost use Rattle.html5stream.specs.declared.error.StreamError.TheVariants.{TooLong};
     ghost use Rattle.html5stream.specs.Streams.{failed_read, sink_fault};
 
     ghost from_gives = { λ error result. (result ≡ of_decoder error) × (failed_read result ≡ 0)
-        × (sink_fault result ≡ 0) };
+        × (sink_fault result ≡ 0) × (result ≢ TooLong) };
 
     fn from(error: DecodeError) -> StreamError {
         match error {

@@ -1,7 +1,7 @@
 //! Pages, which one call reads from a source for a handler.
-ghost use Rattle.std.specs.Prelude.{◌≡◌, ℕ, ◌+◌, Err, OnOk, OnErr};
+ghost use Rattle.std.specs.Prelude.{◌≡◌, ◌≢◌, ℕ, ◌+◌, ◌-◌, ◌^◌, Err, OnOk, OnErr};
 ghost use Rattle.html5stream.specs.Pages.{ReadsPage, ReadsPageItems, StopsPage, TagsItems, RunsItems, tags_page, tags_handed, tags_after, runs_page, runs_handed, runs_after};
-ghost use Rattle.html5stream.specs.Streams.{GivesNoText, failed_reads};
+ghost use Rattle.html5stream.specs.Streams.{GivesNoText, GivesNoFault, GivesAtLeast, failed_reads};
 
 use crate::error::StreamError;
 use crate::source::read_source;
@@ -29,6 +29,10 @@ pub fn read_tags<R: Source, H: TagHandler<Tag<A>>, A: Allocator + Copy>(
         (R.remaining source.old) (R.remaining source.new) (H.state handler) (H.state result.0)) }
     ensures not_utf8 { (place : ℕ) → result.1 ≡ Err (StreamError.NotUtf8 place)
         → GivesNoText place (R.remaining source.old) (R.remaining source.new) }
+    ensures no_fault { ((place : ℕ) → result.1 ≢ Err (StreamError.NotUtf8 place))
+        → GivesNoFault (R.remaining source.old) (R.remaining source.new) }
+    ensures too_long { result.1 ≡ Err StreamError.TooLong
+        → GivesAtLeast (2 ^ 64 - 1) (R.remaining source.old) (R.remaining source.new) }
     ensures read { R.failures source.new ≡ R.failures source.old + failed_reads result.1 }
 {
     names.table_laws();
@@ -54,6 +58,10 @@ pub fn read_tokens<R: Source, H: TokenHandler<Token<A>>, A: Allocator + Copy>(
         (R.remaining source.old) (R.remaining source.new) (H.state handler) (H.state result.0)) }
     ensures not_utf8 { (place : ℕ) → result.1 ≡ Err (StreamError.NotUtf8 place)
         → GivesNoText place (R.remaining source.old) (R.remaining source.new) }
+    ensures no_fault { ((place : ℕ) → result.1 ≢ Err (StreamError.NotUtf8 place))
+        → GivesNoFault (R.remaining source.old) (R.remaining source.new) }
+    ensures too_long { result.1 ≡ Err StreamError.TooLong
+        → GivesAtLeast (2 ^ 64 - 1) (R.remaining source.old) (R.remaining source.new) }
     ensures read { R.failures source.new ≡ R.failures source.old + failed_reads result.1 }
 {
     names.table_laws();

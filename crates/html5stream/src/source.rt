@@ -1,5 +1,5 @@
 //! A source, read to its end piece by piece.
-ghost use Rattle.std.specs.Prelude.{◌≡◌, ◌≢◌, ℕ, ◌+◌, ◌<◌, ◌≤◌, [], take, length, false, Err, IfOk, IfErr, OnOk, OnErr, string_bytes};
+ghost use Rattle.std.specs.Prelude.{◌≡◌, ◌≢◌, ℕ, ◌+◌, ◌-◌, ◌^◌, ◌<◌, ◌≤◌, [], take, length, false, Err, IfOk, IfErr, OnOk, OnErr, string_bytes};
 ghost use Rattle.std.specs.Io.KnownBytes.{Consumes, IsAtEnd};
 ghost use Rattle.std.specs.Str.{chars};
 ghost use Rattle.html5ever_interface.specs.Options.{options_of};
@@ -7,7 +7,7 @@ ghost use Rattle.html5states.specs.Telling.{faults_of};
 ghost use Rattle.html5feed.specs.Starting.{CanStart};
 ghost use Rattle.html5ever.specs.Tokenizer.{ReadsOn, Finishes};
 ghost use Rattle.html5stream.specs.Errors.{stream_error};
-ghost use Rattle.html5stream.specs.Streams.{ReadsSource, ReadsSourceItems, StopsSource, TellsGiven, GivesNoText, failed_read, failed_reads, sink_fault, sink_faults};
+ghost use Rattle.html5stream.specs.Streams.{ReadsSource, ReadsSourceItems, StopsSource, TellsGiven, GivesNoText, GivesNoFault, GivesAtLeast, failed_read, failed_reads, sink_fault, sink_faults};
 ghost use Rattle.html5stream.specs.Taking.{TakesBytes, TakesText, FinishesText, StopsTelling, StopsAtEnd, StopsBytes, StopsText};
 
 use crate::error::StreamError;
@@ -30,6 +30,7 @@ fn error_of(error: TokenizerError) -> StreamError
     requires { error ≢ TokenizerError.Failed }
     ensures error { result ≡ stream_error error }
     ensures text_error { (place : ℕ) → result ≢ StreamError.NotUtf8 place }
+    ensures short { result ≢ StreamError.TooLong }
     ensures read { failed_read result ≡ 0 }
     ensures faults { sink_fault result ≡ faults_of {T = Unit {0}} (Err error) }
 {
@@ -83,6 +84,7 @@ fn feed_text<S: TokenSink<Token<A>>, A: Allocator + Copy>(
     ensures stops { IfErr result (λ error.
         StopsTelling S.means error tokenizer.old (chars (string_bytes text)) (S.means.state tokenizer.new.sink)) }
     ensures text_error { IfErr result (λ error. (place : ℕ) → error ≢ StreamError.NotUtf8 place) }
+    ensures short { result ≢ Err StreamError.TooLong }
     ensures read { failed_reads result ≡ 0 }
     ensures faults { S.faults tokenizer.new.sink ≡ S.faults tokenizer.old.sink + sink_faults result }
     ensures rules { tokenizer.new.rules ≡ tokenizer.old.rules }
@@ -112,6 +114,7 @@ fn take_bytes<S: TokenSink<Token<A>>, A: Allocator + Copy>(
     ensures taken { OnOk result (queue.new.text ≡ []) }
     ensures stops { IfErr result (λ error.
         StopsBytes S.means error decoder.old tokenizer.old bytes.now (S.means.state tokenizer.new.sink)) }
+    ensures short { result ≢ Err StreamError.TooLong }
     ensures read { failed_reads result ≡ 0 }
     ensures faults { S.faults tokenizer.new.sink ≡ S.faults tokenizer.old.sink + sink_faults result }
 {
@@ -132,6 +135,8 @@ fn read_text<R: Source, S: TokenSink<Token<A>>, A: Allocator + Copy>(
         (TakesText S.means (R.remaining source.old) (R.remaining source.new) tokenizer.old tokenizer.new) }
     ensures stops { IfErr result (λ error. StopsText S.means error
         (R.remaining source.old) (R.remaining source.new) tokenizer.old (S.means.state tokenizer.new.sink)) }
+    ensures too_long { result ≡ Err StreamError.TooLong
+        → GivesAtLeast (2 ^ 64 - 1) (R.remaining source.old) (R.remaining source.new) }
     ensures read { R.failures source.new ≡ R.failures source.old + failed_reads result }
     ensures faults { S.faults tokenizer.new.sink ≡ S.faults tokenizer.old.sink + sink_faults result }
     ensures going_on { OnOk result (tokenizer.new.ended ≡ false) }
@@ -141,7 +146,7 @@ fn read_text<R: Source, S: TokenSink<Token<A>>, A: Allocator + Copy>(
     let mut decoder = Decoder::new();
     let mut queue = BufferQueue::new(alloc);
     // A loop is proved to end, so this one counts its reads.
-    for _ in 0..u64::MAX {
+    for _reads in 0..u64::MAX {
         let n = read_bytes(source, &mut buffer)?;
         if n == 0 {
             decoder.finish()?;
@@ -162,6 +167,7 @@ fn tell_end<S: TokenSink<Token<A>>, A: Allocator + Copy>(
     ensures stops { IfErr result (λ error.
         StopsAtEnd S.means error tokenizer.old (S.means.state tokenizer.new.sink)) }
     ensures text_error { IfErr result (λ error. (place : ℕ) → error ≢ StreamError.NotUtf8 place) }
+    ensures short { result ≢ Err StreamError.TooLong }
     ensures read { failed_reads result ≡ 0 }
     ensures faults { S.faults tokenizer.new.sink ≡ S.faults tokenizer.old.sink + sink_faults result }
 {
@@ -183,6 +189,8 @@ fn read_all<R: Source, S: TokenSink<Token<A>>, A: Allocator + Copy>(
         (R.remaining source.old) (R.remaining source.new) tokenizer.old (S.means.state tokenizer.new.sink)) }
     ensures stops { IfErr result (λ error. StopsText S.means error
         (R.remaining source.old) (R.remaining source.new) tokenizer.old (S.means.state tokenizer.new.sink)) }
+    ensures too_long { result ≡ Err StreamError.TooLong
+        → GivesAtLeast (2 ^ 64 - 1) (R.remaining source.old) (R.remaining source.new) }
     ensures read { R.failures source.new ≡ R.failures source.old + failed_reads result }
     ensures faults { S.faults tokenizer.new.sink ≡ S.faults tokenizer.old.sink + sink_faults result }
 {
@@ -213,6 +221,10 @@ pub fn read_source<R: Source, S: TokenSink<Token<A>>, A: Allocator + Copy>(
         (S.means.state sink) (R.remaining source.old) (R.remaining source.new) (S.means.state result.0) }
     ensures not_utf8 { (place : ℕ) → result.1 ≡ Err (StreamError.NotUtf8 place)
         → GivesNoText place (R.remaining source.old) (R.remaining source.new) }
+    ensures no_fault { ((place : ℕ) → result.1 ≢ Err (StreamError.NotUtf8 place))
+        → GivesNoFault (R.remaining source.old) (R.remaining source.new) }
+    ensures too_long { result.1 ≡ Err StreamError.TooLong
+        → GivesAtLeast (2 ^ 64 - 1) (R.remaining source.old) (R.remaining source.new) }
     ensures beginning { IfErr result.1 (λ error. StopsSource S.means error (options_of opts) names.now
         (S.means.state sink) (R.remaining source.old) (R.remaining source.new) (S.means.state result.0)) }
     ensures read { R.failures source.new ≡ R.failures source.old + failed_reads result.1 }

@@ -1,5 +1,5 @@
 use Rattle.std.proofs.lemmas.Result.{on_ok_weaker, IfErr-weaker}
-use Rattle.html5stream.proofs.Streaming.{ReadsSource-start, StopsSource-start, TellsGiven-start, GivesNoText-stop}
+use Rattle.html5stream.proofs.Streaming.{ReadsSource-start, StopsSource-start, TellsGiven-start, GivesNoText-stop, GivesNoFault-read}
 use Rattle.html5stream.proofs.source.read_source.Goals as goal
 use Rattle.html5stream.proofs.ByItems.{source-items}
 
@@ -32,3 +32,8 @@ returns-clause-beginning g c =
     (StopsSource-start g.S.TokenSink.means
     _ _ _ _ c.new-tokenizer.result _ _ c.new-tokenizer.ensures.stands c.new-tokenizer.ensures.rules)
     c.read_all-result.ensures.stops)
+
+pub returns-clause-no_fault : goal.returns-clause-no_fault
+returns-clause-no_fault g c =
+    GivesNoFault-read g.S.TokenSink.means
+    c.read_all-result.result _ _ c.new-tokenizer.result _ c.read_all-result.ensures.finishes c.read_all-result.ensures.stops
