@@ -46,17 +46,17 @@ feeds_between s t u v text left reply begins ends feeds =
     subst (λ (w : Tokenizing Events). Feeds recorded_means w v text left reply) begins
     (subst (λ (w : Tokenizing Events). Feeds recorded_means t w text left reply) (sym ends) feeds)
 
-items_between : (s t u v : Tokenizing Events) (text : List ℕ) → t ≡ s → v ≡ u
-    → FeedsItems recorded_means t u text → FeedsItems recorded_means s v text
-items_between s t u v text begins ends items =
-    subst (λ (w : Tokenizing Events). FeedsItems recorded_means w v text) begins
-    (subst (λ (w : Tokenizing Events). FeedsItems recorded_means t w text) (sym ends) items)
+items_between : (s t u v : Tokenizing Events) (text left : List ℕ) (reply : Reply (Unit {0})) → t ≡ s → v ≡ u
+    → FeedsItems recorded_means t u text left reply → FeedsItems recorded_means s v text left reply
+items_between s t u v text left reply begins ends items =
+    subst (λ (w : Tokenizing Events). FeedsItems recorded_means w v text left reply) begins
+    (subst (λ (w : Tokenizing Events). FeedsItems recorded_means t w text left reply) (sym ends) items)
 
 -- a feed of the tokenizer is a feed of the session
 pub feeds_text : (r out : RestingOf Events) (names : List NamedReference) (t u : Tokenizing Events) (text left : List ℕ) (fed : Fed) (reply : Reply (Unit {0}))
     → r.failed ≡ false → r.ended ≡ false
     → t ≡ tokenizing r names → u.rules ≡ t.rules → tokenizing out u.rules.names ≡ u
-    → Feeds recorded_means t u text left reply → FeedsItems recorded_means t u text
+    → Feeds recorded_means t u text left reply → FeedsItems recorded_means t u text left reply
     → fed ≡ fed_by reply → (fed ≡ Done → left ≡ []) → (fed ≢ Done → length left < length text)
     → u.failed ≡ false → u.ended ≡ false
     → FeedsText (tokenizing r names) (tokenizing out names) text left fed
@@ -66,7 +66,7 @@ feeds_text r out names t u text left fed reply was_not_failed was_going_on begin
     record {
       reply = reply;
       feeds = feeds;
-      items = items_between (tokenizing r names) t u (tokenizing out names) text begins ends items;
+      items = items_between (tokenizing r names) t u (tokenizing out names) text left reply begins ends items;
       pause = pause;
       all = all;
       shorter = shorter;

@@ -97,7 +97,7 @@ fed_by other = Done
 pub record FeedsText (old new : Tokenizing Events) (text left : List ℕ) (fed : Fed) : Type 0 where
   pub reply : Reply (Unit {0})
   pub feeds : Feeds recorded_means old new text left reply
-  pub items : FeedsItems recorded_means old new text
+  pub items : FeedsItems recorded_means old new text left reply
   pub pause : fed ≡ fed_by reply
   pub all : fed ≡ Done → left ≡ []
   pub shorter : fed ≢ Done → length left < length text

@@ -1,4 +1,4 @@
-use Rattle.std.proofs.Common.{refl, sym, ap, ◌∙◌, string_bytes, Ok}
+use Rattle.std.proofs.Common.{sym, ap, ◌∙◌, string_bytes, Ok}
 use Rattle.html5feed.specs.Feed.{reply_in}
 use Rattle.html5session.specs.Session.{fed_by}
 use Rattle.html5session.proofs.Calls.{feeds_text, stops_text}
@@ -9,7 +9,7 @@ returns-in-Ok-clause-feeds g c =
     let fed = c.in-Ok.ensures in
     feeds_text c.args.resting c.rest-resting.result c.args.names.now c.resume-tokenizer.result c.feed-answer.new.self _ _ _ (reply_in string_bytes c.in-Ok.answer)
     c.requires.not_failed c.requires.going_on
-    c.resume-tokenizer.ensures fed.rules c.rest-resting.ensures.whole fed.reads (fed.items refl) c.fed_of.ensures.reply
+    c.resume-tokenizer.ensures fed.rules c.rest-resting.ensures.whole fed.reads fed.items c.fed_of.ensures.reply
     (λ is. fed.done (ap Ok (c.fed_of.ensures.done is)))
     (λ other. fed.shorter (λ is. other (c.fed_of.ensures.reply ∙ ap (λ answer. fed_by (reply_in string_bytes answer)) is)))
     fed.failed fed.going_on
