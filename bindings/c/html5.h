@@ -79,7 +79,10 @@ uint32_t html5_new(html5_handle *handle, const uint8_t *last_start_tag, size_t l
 /* Reads the next bytes, in pieces of any size. After a pause it goes on, with what waits and these bytes. */
 uint32_t html5_feed(html5_handle *handle, const uint8_t *bytes, size_t len);
 
-/* Puts a text in front of what waits, as document.write does. It is UTF-8 by itself, else nothing changes. */
+/*
+ * Puts a text in front of what waits, as document.write does. It is UTF-8 by itself, else nothing changes. Where nothing
+ * more is read it answers HTML5_OVER, whatever the bytes.
+ */
 uint32_t html5_insert(html5_handle *handle, const uint8_t *text, size_t len);
 
 /* Tells the end of the page. */
@@ -90,6 +93,13 @@ size_t html5_take(html5_handle *handle, uint8_t *out, size_t len);
 
 /* After HTML5_NOT_UTF8: the place of the first byte that is no UTF-8, counted from the page's first. */
 uint64_t html5_error_at(html5_handle *handle);
+
+/*
+ * Whether nothing more is read: the end was told, or a call was refused for good. Then feeds, inserts and ends answer
+ * HTML5_OVER; what was recorded can still be taken. After HTML5_NO_MEMORY it says whether the page can go on. Of a closed
+ * handle it is false.
+ */
+bool html5_is_over(html5_handle *handle);
 
 /* Gives the memory back. The handle is closed then, and may be opened again. */
 void html5_free(html5_handle *handle);

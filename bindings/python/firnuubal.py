@@ -154,6 +154,7 @@ def _load():
         "html5_end": ([handle], ctypes.c_uint32),
         "html5_take": ([handle, ctypes.c_char_p, size], size),
         "html5_error_at": ([handle], ctypes.c_uint64),
+        "html5_is_over": ([handle], ctypes.c_bool),
         "html5_free": ([handle], None),
     }
     for name, (arguments, answer) in given.items():
@@ -284,6 +285,10 @@ class Tokenizer:
     def end(self):
         """Tells the end of the page."""
         self._checked(_library.html5_end(self._handle))
+
+    def is_over(self):
+        """Whether nothing more is read: the end was told, or a call was refused for good."""
+        return _library.html5_is_over(self._handle)
 
     def tokens(self):
         """The tokens that were told and not read yet. A text comes when its end is known."""

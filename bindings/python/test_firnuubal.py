@@ -57,7 +57,9 @@ class Calls(unittest.TestCase):
 
     def test_after_the_end(self):
         with Tokenizer() as tokenizer:
+            self.assertFalse(tokenizer.is_over())
             tokenizer.end()
+            self.assertTrue(tokenizer.is_over())
             with self.assertRaises(TokenizerError) as refused:
                 tokenizer.feed(b"x")
             self.assertEqual(refused.exception.status, Status.OVER)

@@ -46,11 +46,15 @@ static void reads_a_page_in_pieces(void) {
     CHECK(feed(&handle, "\xa9</p") == HTML5_DONE);
     CHECK(feed(&handle, ">") == HTML5_DONE);
     CHECK(TAKES(&handle, 4, "\x03" "1 <"));
+    CHECK(!html5_is_over(&handle));
     CHECK(html5_end(&handle) == HTML5_DONE);
+    CHECK(html5_is_over(&handle));
     CHECK(TAKES(&handle, 64, " \xc3\xa9\xff\x02\x01\0\0\0\0\0\0\0\0\x01\0\0\0\0\0\0\0p\0\0\0\0\0\0\0\0\x09\x01\0\0\0\0\0\0\0"));
     CHECK(TAKES(&handle, 64, ""));
     CHECK(feed(&handle, "x") == HTML5_OVER);
+    CHECK(feed(&handle, "\xff") == HTML5_OVER);
     CHECK(insert(&handle, "x") == HTML5_OVER);
+    CHECK(insert(&handle, "\xff") == HTML5_OVER);
     CHECK(html5_end(&handle) == HTML5_OVER);
     html5_free(&handle);
 }
@@ -94,9 +98,11 @@ static void is_closed_until_it_is_opened(void) {
     CHECK(html5_end(&handle) == HTML5_CLOSED);
     CHECK(TAKES(&handle, 8, ""));
     CHECK(html5_error_at(&handle) == 0);
+    CHECK(!html5_is_over(&handle));
     html5_free(&handle);
     CHECK(open_after(&handle, "", no_state) == HTML5_BAD_OPTION);
     CHECK(open_after(&handle, "", no_replies) == HTML5_BAD_OPTION);
+    CHECK(open_after(&handle, "\xff", no_state) == HTML5_BAD_OPTION);
     CHECK(open_after(&handle, "\xff", options) == HTML5_NOT_UTF8);
     CHECK(open_after(&handle, "", options) == HTML5_DONE);
     CHECK(feed(&handle, "x") == HTML5_DONE);

@@ -46,6 +46,7 @@ extern "C" {
     fn html5_end(handle: *mut Handle) -> u32;
     fn html5_take(handle: *mut Handle, out: *mut u8, len: usize) -> usize;
     fn html5_error_at(handle: *mut Handle) -> u64;
+    fn html5_is_over(handle: *mut Handle) -> bool;
     fn html5_free(handle: *mut Handle);
 }
 
@@ -177,6 +178,12 @@ impl Tokenizer {
     pub fn end(&mut self) -> Result<(), Error> {
         let status = unsafe { html5_end(&mut self.handle) };
         self.fed_or_error(status).map(|_| ())
+    }
+
+    /// Whether nothing more is read: the end was told, or a call was refused for good. After `Error::NoMemory` it says
+    /// whether the reading can go on.
+    pub fn is_over(&mut self) -> bool {
+        unsafe { html5_is_over(&mut self.handle) }
     }
 
     /// The tokens that were told and not read yet. A text is one token however it was fed, so the last one comes when its

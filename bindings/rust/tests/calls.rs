@@ -55,7 +55,9 @@ fn refusals() -> Result<(), Error> {
     tokenizer.feed(&[0xC3])?;
     assert_eq!(tokenizer.end(), Err(Error::Cut));
     let mut tokenizer = Tokenizer::new(&Options::default())?;
+    assert!(!tokenizer.is_over());
     tokenizer.end()?;
+    assert!(tokenizer.is_over());
     assert_eq!(tokenizer.feed(b"x"), Err(Error::Over));
     Ok(())
 }

@@ -1,173 +1,262 @@
 -- What a call did, by the status that it answers.
-use Rattle.std.proofs.Common.{◌≡◌, ℕ, true, List, Option, None, Result, Ok, Err, refl, ap, inl, inr, arith}
-use Rattle.html5c.specs.Pages.{fed_status, error_status, open_status, OpenFails, IsStart, NewSays, FeedSays, EndSays}
+use Rattle.std.proofs.Common.{◌≡◌, ◌↔◌, ℕ, Bool, true, false, List, ◌++◌, Option, None, Some, Result, Ok, Err, refl, sym, ap, ◌∙◌, inl, inr, arith}
+use Rattle.std.proofs.lemmas.Bool.{false≢true}
+use Rattle.std.specs.Str.{IsUtf8, chars}
+use Rattle.utf8_pieces.specs.Pieces.{IsNeverUtf8}
+use Rattle.html5c.specs.Pages.{fed_status, error_status, open_status, OpenFails, IsStart, NewSays, FeedSays, InsertSays, EndSays}
 use Rattle.html5c.specs.declared.opening.OpenError.{OpenError}
 use Rattle.html5c.specs.declared.opening.OpenError.TheVariants as opening
 use Rattle.html5c.specs.declared.options.Options.{Options}
-use Rattle.html5session.specs.Session.{SessionOf, is_over, FeedsPiece, FeedRefused, EndsSession, EndRefused}
+use Rattle.html5session.specs.Session.{SessionOf, is_over, FeedsPiece, FeedRefused, EndsSession, EndRefused, IsNotUtf8}
 use Rattle.html5session.specs.declared.error.SessionError.{SessionError}
 use Rattle.html5session.specs.declared.error.SessionError.TheVariants.{Memory, NotUtf8, Cut, Waiting, Over}
 use Rattle.html5session.specs.declared.fed.Fed.{Fed}
 use Rattle.html5session.specs.declared.fed.Fed.TheVariants.{Done, Script, Encoding}
 
-pub ok_is_no_error : {A E : Type 0} (x : A) (e : E) → ◌≡◌ {A = Result A E} (Ok x) (Err e) → ⊥
+-- ---- when a session is over
+
+is_false : (b : Bool) → ¬ (b ≡ true) → b ≡ false
+is_false true is_not = absurd (is_not refl)
+is_false false is_not = refl
+
+ok_is_no_error : {A E : Type 0} (x : A) (e : E) → ◌≡◌ {A = Result A E} (Ok x) (Err e) → ⊥
 ok_is_no_error x e same = cc
 
-pub over_status : {A : Type 0} (error : SessionError) → ◌≡◌ {A = Result A SessionError} (Err error) (Err Over) → error_status error ≡ 7
-over_status error same = let is : error ≡ Over = cc in ap error_status is
+same_error : {A E : Type 0} (e f : E) → ◌≡◌ {A = Result A E} (Err e) (Err f) → e ≡ f
+same_error e f same = cc
+
+-- a call that was answered found the session going on
+pub answered_going : {A : Type 0} (result : Result A SessionError) (x : A) (old : SessionOf) → result ≡ Ok x
+    → ((result ≡ Err Over) ↔ (is_over old ≡ true)) → is_over old ≡ false
+answered_going result x old is over = is_false (is_over old) (λ was. ok_is_no_error x Over (sym is ∙ over.1 was))
+
+-- the error of a call is `Over` just where the session was over
+pub refused_over : {A : Type 0} (result : Result A SessionError) (error : SessionError) (old : SessionOf) → result ≡ Err error
+    → ((result ≡ Err Over) ↔ (is_over old ≡ true)) → (error ≡ Over) ↔ (is_over old ≡ true)
+refused_over result error old is over = (λ same. over.0 (is ∙ ap Err same), λ was. same_error error Over (sym is ∙ over.1 was))
+
+over_is : (old : SessionOf) → is_over old ≡ false → ¬ (is_over old ≡ true)
+over_is old going was = false≢true (sym going ∙ was)
+
+refused_going : (error : SessionError) (old : SessionOf) → ((error ≡ Over) ↔ (is_over old ≡ true)) → ¬ (error ≡ Over) → is_over old ≡ false
+refused_going error old over other = is_false (is_over old) (λ was. other (over.1 was))
+
+-- ---- what each status says
 
 -- the status of a feed that was answered says what it left
-pub feed_says-fed : (old new : SessionOf) (bytes : List ℕ) (fed : Fed) → FeedsPiece old new bytes fed
-    → (is_over old ≡ true → (fed_status fed ≡ 7) × (new ≡ old)) → FeedSays old new bytes (fed_status fed)
-feed_says-fed old new bytes Done feeds unchanged = record {
+pub feed_says-fed : (old new : SessionOf) (bytes : List ℕ) (fed : Fed) → FeedsPiece old new bytes fed → is_over old ≡ false
+    → ¬ (IsNeverUtf8 (old.decoder.held ++ bytes)) → FeedSays old new bytes (fed_status fed)
+feed_says-fed old new bytes Done feeds going possible = record {
   done = λ _. feeds;
   script = λ e. absurd (omega (arith, e));
   encoding = λ e. absurd (omega (arith, e));
   no_memory = λ e. absurd (omega (arith, e));
-  not_utf8 = λ e. absurd (omega (arith, e));
-  over = λ e. absurd (omega (arith, e));
-  unchanged = unchanged;
+  not_utf8 = (λ e. absurd (omega (arith, e)), λ is. absurd (possible is.1));
+  place = λ e. absurd (omega (arith, e));
+  over = (λ e. absurd (omega (arith, e)), λ was. absurd (over_is old going was));
+  unchanged = λ was. absurd (over_is old going was);
   only = (λ e. omega (arith, e), λ e. omega (arith, e), λ e. omega (arith, e), λ e. omega (arith, e));
 }
-feed_says-fed old new bytes Script feeds unchanged = record {
+feed_says-fed old new bytes Script feeds going possible = record {
   done = λ e. absurd (omega (arith, e));
   script = λ _. feeds;
   encoding = λ e. absurd (omega (arith, e));
   no_memory = λ e. absurd (omega (arith, e));
-  not_utf8 = λ e. absurd (omega (arith, e));
-  over = λ e. absurd (omega (arith, e));
-  unchanged = unchanged;
+  not_utf8 = (λ e. absurd (omega (arith, e)), λ is. absurd (possible is.1));
+  place = λ e. absurd (omega (arith, e));
+  over = (λ e. absurd (omega (arith, e)), λ was. absurd (over_is old going was));
+  unchanged = λ was. absurd (over_is old going was);
   only = (λ e. omega (arith, e), λ e. omega (arith, e), λ e. omega (arith, e), λ e. omega (arith, e));
 }
-feed_says-fed old new bytes Encoding feeds unchanged = record {
+feed_says-fed old new bytes Encoding feeds going possible = record {
   done = λ e. absurd (omega (arith, e));
   script = λ e. absurd (omega (arith, e));
   encoding = λ _. feeds;
   no_memory = λ e. absurd (omega (arith, e));
-  not_utf8 = λ e. absurd (omega (arith, e));
-  over = λ e. absurd (omega (arith, e));
-  unchanged = unchanged;
+  not_utf8 = (λ e. absurd (omega (arith, e)), λ is. absurd (possible is.1));
+  place = λ e. absurd (omega (arith, e));
+  over = (λ e. absurd (omega (arith, e)), λ was. absurd (over_is old going was));
+  unchanged = λ was. absurd (over_is old going was);
   only = (λ e. omega (arith, e), λ e. omega (arith, e), λ e. omega (arith, e), λ e. omega (arith, e));
 }
+
+memory_no_over : ◌≡◌ {A = SessionError} Memory Over → ⊥
+memory_no_over same = cc
+
+not_utf8_no_over : (place : ℕ) → ◌≡◌ {A = SessionError} (NotUtf8 place) Over → ⊥
+not_utf8_no_over place same = cc
+
+cut_no_over : ◌≡◌ {A = SessionError} Cut Over → ⊥
+cut_no_over same = cc
+
+waiting_no_over : ◌≡◌ {A = SessionError} Waiting Over → ⊥
+waiting_no_over same = cc
 
 -- the status of a feed that was refused says what it left
 pub feed_says-error : (old new : SessionOf) (bytes : List ℕ) (error : SessionError) → FeedRefused old new bytes error
-    → (is_over old ≡ true → (error_status error ≡ 7) × (new ≡ old)) → FeedSays old new bytes (error_status error)
-feed_says-error old new bytes Memory refused unchanged = record {
+    → ((error ≡ Over) ↔ (is_over old ≡ true))
+    → (is_over old ≡ false → IsNeverUtf8 (old.decoder.held ++ bytes) → IsNotUtf8 error)
+    → FeedSays old new bytes (error_status error)
+feed_says-error old new bytes Memory refused over never = record {
   done = λ e. absurd (omega (arith, e));
   script = λ e. absurd (omega (arith, e));
   encoding = λ e. absurd (omega (arith, e));
   no_memory = λ _. refused;
-  not_utf8 = λ e. absurd (omega (arith, e));
-  over = λ e. absurd (omega (arith, e));
-  unchanged = unchanged;
+  not_utf8 = (λ e. absurd (omega (arith, e)), λ is. absurd (never is.0 is.1));
+  place = λ e. absurd (omega (arith, e));
+  over = (λ e. absurd (omega (arith, e)), λ was. absurd (memory_no_over (over.1 was)));
+  unchanged = λ was. absurd (memory_no_over (over.1 was));
   only = (λ e. omega (arith, e), λ e. omega (arith, e), λ e. omega (arith, e), λ e. omega (arith, e));
 }
-feed_says-error old new bytes (NotUtf8 place) refused unchanged = record {
+feed_says-error old new bytes (NotUtf8 place) refused over never = record {
   done = λ e. absurd (omega (arith, e));
   script = λ e. absurd (omega (arith, e));
   encoding = λ e. absurd (omega (arith, e));
   no_memory = λ e. absurd (omega (arith, e));
-  not_utf8 = λ _. (place, refused);
-  over = λ e. absurd (omega (arith, e));
-  unchanged = unchanged;
+  not_utf8 = (λ _. (refused_going (NotUtf8 place) old over (not_utf8_no_over place), refused.never), λ _. refl);
+  place = λ _. (place, refused);
+  over = (λ e. absurd (omega (arith, e)), λ was. absurd (not_utf8_no_over place (over.1 was)));
+  unchanged = λ was. absurd (not_utf8_no_over place (over.1 was));
   only = (λ e. omega (arith, e), λ e. omega (arith, e), λ e. omega (arith, e), λ e. omega (arith, e));
 }
-feed_says-error old new bytes Cut refused unchanged = absurd refused
-feed_says-error old new bytes Waiting refused unchanged = absurd refused
-feed_says-error old new bytes Over refused unchanged = record {
+feed_says-error old new bytes Cut refused over never = absurd refused
+feed_says-error old new bytes Waiting refused over never = absurd refused
+feed_says-error old new bytes Over refused over never = record {
   done = λ e. absurd (omega (arith, e));
   script = λ e. absurd (omega (arith, e));
   encoding = λ e. absurd (omega (arith, e));
   no_memory = λ e. absurd (omega (arith, e));
-  not_utf8 = λ e. absurd (omega (arith, e));
-  over = λ _. refused;
-  unchanged = unchanged;
+  not_utf8 = (λ e. absurd (omega (arith, e)), λ is. absurd (never is.0 is.1));
+  place = λ e. absurd (omega (arith, e));
+  over = (λ _. over.0 refl, λ _. refl);
+  unchanged = λ _. refused.unchanged;
   only = (λ e. omega (arith, e), λ e. omega (arith, e), λ e. omega (arith, e), λ e. omega (arith, e));
 }
 
-pub end_says-done : (old new : SessionOf) → EndsSession old new → (is_over old ≡ true → ⊥) → EndSays old new 0
+-- the status of an insert
+
+pub insert_says-over : (old : SessionOf) (text : List ℕ) → is_over old ≡ true → InsertSays old old text 7
+insert_says-over old text was = record {
+  done = λ e. absurd (omega (arith, e));
+  refused = λ _. refl;
+  not_utf8 = (λ e. absurd (omega (arith, e)), λ is. absurd (over_is old is.0 was));
+  over = (λ _. was, λ _. refl);
+  only = inr (inr (inr refl));
+}
+
+pub insert_says-not_utf8 : (old : SessionOf) (text : List ℕ) → is_over old ≡ false → ¬ (IsUtf8 text) → InsertSays old old text 4
+insert_says-not_utf8 old text going no_text = record {
+  done = λ e. absurd (omega (arith, e));
+  refused = λ _. refl;
+  not_utf8 = (λ _. (going, no_text), λ _. refl);
+  over = (λ e. absurd (omega (arith, e)), λ was. absurd (over_is old going was));
+  only = inr (inr (inl refl));
+}
+
+pub insert_says-memory : (old : SessionOf) (text : List ℕ) → is_over old ≡ false → IsUtf8 text → InsertSays old old text 3
+insert_says-memory old text going utf8 = record {
+  done = λ e. absurd (omega (arith, e));
+  refused = λ _. refl;
+  not_utf8 = (λ e. absurd (omega (arith, e)), λ is. absurd (is.1 utf8));
+  over = (λ e. absurd (omega (arith, e)), λ was. absurd (over_is old going was));
+  only = inr (inl refl);
+}
+
+pub insert_says-done : (old new : SessionOf) (text : List ℕ) → is_over old ≡ false → IsUtf8 text → new ≡ record old { text = chars text ++ old.text }
+    → InsertSays old new text 0
+insert_says-done old new text going utf8 is = record {
+  done = λ _. (utf8, is);
+  refused = λ other. absurd (other refl);
+  not_utf8 = (λ e. absurd (omega (arith, e)), λ it. absurd (it.1 utf8));
+  over = (λ e. absurd (omega (arith, e)), λ was. absurd (over_is old going was));
+  only = inl refl;
+}
+
+-- the status of an end that was answered, or refused
+
+pub end_says-done : (old new : SessionOf) → EndsSession old new → is_over old ≡ false → EndSays old new 0
 end_says-done old new ends going = record {
   done = λ _. ends;
   no_memory = λ e. absurd (omega (arith, e));
-  cut = λ e. absurd (omega (arith, e));
-  waiting = λ e. absurd (omega (arith, e));
-  over = λ e. absurd (omega (arith, e));
-  unchanged = λ is. absurd (going is);
+  waiting = (λ e. absurd (omega (arith, e)), λ is. absurd (is.1 ends.read));
+  cut = (λ e. absurd (omega (arith, e)), λ is. absurd (is.2 ends.whole));
+  over = (λ e. absurd (omega (arith, e)), λ was. absurd (over_is old going was));
+  unchanged = λ other _. absurd (other refl);
   only = inl refl;
 }
 
--- the status of an end that was refused says what it left
 pub end_says-error : (old new : SessionOf) (error : SessionError) → EndRefused old new error
-    → (is_over old ≡ true → (error_status error ≡ 7) × (new ≡ old)) → EndSays old new (error_status error)
-end_says-error old new Memory refused unchanged = record {
+    → ((error ≡ Over) ↔ (is_over old ≡ true)) → EndSays old new (error_status error)
+end_says-error old new Memory refused over = record {
   done = λ e. absurd (omega (arith, e));
   no_memory = λ _. refused;
-  cut = λ e. absurd (omega (arith, e));
-  waiting = λ e. absurd (omega (arith, e));
-  over = λ e. absurd (omega (arith, e));
-  unchanged = unchanged;
+  waiting = (λ e. absurd (omega (arith, e)), λ is. absurd (is.1 refused.read));
+  cut = (λ e. absurd (omega (arith, e)), λ is. absurd (is.2 refused.whole));
+  over = (λ e. absurd (omega (arith, e)), λ was. absurd (memory_no_over (over.1 was)));
+  unchanged = λ _ other. absurd (other refl);
   only = inr (inl refl);
 }
-end_says-error old new (NotUtf8 place) refused unchanged = absurd refused
-end_says-error old new Cut refused unchanged = record {
+end_says-error old new (NotUtf8 place) refused over = absurd refused
+end_says-error old new Cut refused over = record {
   done = λ e. absurd (omega (arith, e));
   no_memory = λ e. absurd (omega (arith, e));
-  cut = λ _. refused;
-  waiting = λ e. absurd (omega (arith, e));
-  over = λ e. absurd (omega (arith, e));
-  unchanged = unchanged;
+  waiting = (λ e. absurd (omega (arith, e)), λ is. absurd (is.1 refused.1));
+  cut = (λ _. (refused_going Cut old over cut_no_over, refused.1, refused.2), λ _. refl);
+  over = (λ e. absurd (omega (arith, e)), λ was. absurd (cut_no_over (over.1 was)));
+  unchanged = λ _ _. refused.0;
   only = inr (inr (inl refl));
 }
-end_says-error old new Waiting refused unchanged = record {
+end_says-error old new Waiting refused over = record {
   done = λ e. absurd (omega (arith, e));
   no_memory = λ e. absurd (omega (arith, e));
-  cut = λ e. absurd (omega (arith, e));
-  waiting = λ _. refused;
-  over = λ e. absurd (omega (arith, e));
-  unchanged = unchanged;
+  waiting = (λ _. (refused_going Waiting old over waiting_no_over, refused.1), λ _. refl);
+  cut = (λ e. absurd (omega (arith, e)), λ is. absurd (refused.1 is.1));
+  over = (λ e. absurd (omega (arith, e)), λ was. absurd (waiting_no_over (over.1 was)));
+  unchanged = λ _ _. refused.0;
   only = inr (inr (inr (inl refl)));
 }
-end_says-error old new Over refused unchanged = record {
+end_says-error old new Over refused over = record {
   done = λ e. absurd (omega (arith, e));
   no_memory = λ e. absurd (omega (arith, e));
-  cut = λ e. absurd (omega (arith, e));
-  waiting = λ e. absurd (omega (arith, e));
-  over = λ _. refused;
-  unchanged = unchanged;
+  waiting = (λ e. absurd (omega (arith, e)), λ is. absurd (over_is old is.0 (over.0 refl)));
+  cut = (λ e. absurd (omega (arith, e)), λ is. absurd (over_is old is.0 (over.0 refl)));
+  over = (λ _. over.0 refl, λ _. refl);
+  unchanged = λ _ _. refused.unchanged;
   only = inr (inr (inr (inr refl)));
 }
 
+-- the status of `html5_new`
+
 pub new_says-done : (now : Option SessionOf) (name : List ℕ) (o : Options) → IsStart now name o → NewSays now name o 0
-new_says-done now name o start = record {
+new_says-done None name o start = absurd start
+new_says-done (Some s) name o start = record {
   done = λ _. start;
   refused = λ other. absurd (other refl);
-  not_utf8 = λ e. absurd (omega (arith, e));
-  bad_option = λ e. absurd (omega (arith, e));
+  bad_option = (λ e. absurd (omega (arith, e)), λ is. absurd (false≢true (sym is ∙ start.named)));
+  not_utf8 = (λ e. absurd (omega (arith, e)), λ is. absurd (is.1 start.utf8));
   only = inl refl;
 }
 
--- the status of a refused `html5_new` says why
 pub new_says-error : (now : Option SessionOf) (name : List ℕ) (o : Options) (error : OpenError) → now ≡ None → OpenFails name o error
     → NewSays now name o (open_status error)
 new_says-error now name o opening.Memory closed fails = record {
   done = λ e. absurd (omega (arith, e));
   refused = λ _. closed;
-  not_utf8 = λ e. absurd (omega (arith, e));
-  bad_option = λ e. absurd (omega (arith, e));
+  bad_option = (λ e. absurd (omega (arith, e)), λ is. absurd (false≢true (sym is ∙ fails.0)));
+  not_utf8 = (λ e. absurd (omega (arith, e)), λ is. absurd (is.1 fails.1));
   only = inr (inl refl);
 }
 new_says-error now name o opening.NotUtf8 closed fails = record {
   done = λ e. absurd (omega (arith, e));
   refused = λ _. closed;
-  not_utf8 = λ _. fails;
-  bad_option = λ e. absurd (omega (arith, e));
+  bad_option = (λ e. absurd (omega (arith, e)), λ is. absurd (false≢true (sym is ∙ fails.0)));
+  not_utf8 = (λ _. fails, λ _. refl);
   only = inr (inr (inl refl));
 }
 new_says-error now name o opening.BadOption closed fails = record {
   done = λ e. absurd (omega (arith, e));
   refused = λ _. closed;
-  not_utf8 = λ e. absurd (omega (arith, e));
-  bad_option = λ _. fails;
+  bad_option = (λ _. fails, λ _. refl);
+  not_utf8 = (λ e. absurd (omega (arith, e)), λ is. absurd (false≢true (sym fails ∙ is.0)));
   only = inr (inr (inr refl));
 }

@@ -1,17 +1,18 @@
 -- What each call makes of the session that a handle is of. A handle is closed where there is none.
-use Rattle.std.specs.Prelude.{◌≡◌, ◌≢◌, ◌⊎◌, ℕ, true, false, List, [], ◌++◌, length, take, drop, min, Option, None, Some}
+use Rattle.std.specs.Prelude.{◌≡◌, ◌≢◌, ◌↔◌, ◌⊎◌, ◌&&◌, ℕ, Bool, true, false, List, [], ◌++◌, length, take, drop, min, Option, None, Some, is_some}
 use Rattle.std.specs.Str.{IsUtf8, chars}
+use Rattle.utf8_pieces.specs.Pieces.{IsNeverUtf8}
 use Rattle.html5c.specs.Said.{options_said, replies_said, state_said}
 use Rattle.html5c.specs.declared.opening.OpenError.{OpenError}
 use Rattle.html5c.specs.declared.opening.OpenError.TheVariants as opening
 use Rattle.html5c.specs.declared.options.Options.{Options}
 use Rattle.html5c.specs.declared.page.Page.{Page}
-use Rattle.html5events.specs.Events.{recorded_means, none_recorded, no_events}
+use Rattle.html5events.specs.Events.{recorded_means, none_recorded, no_events, waiting}
 use Rattle.html5events.specs.declared.event_sink.Replies.{Replies}
 use Rattle.html5ever.specs.Tokenizer.{StandsAt, rules_of}
 use Rattle.html5grammar.specs.Start.{start_of}
 use Rattle.html5names.specs.Standard.{standard_list}
-use Rattle.html5session.specs.Session.{SessionOf, tokenizer_of, is_over, after_session_takes, StaysOver, FeedsPiece, LosesPiece, RefusesBytes, MiscountsPiece, EndsSession, LosesEnd, MiscountsEnd}
+use Rattle.html5session.specs.Session.{SessionOf, tokenizer_of, recorded_by, is_over, after_session_takes, StandsOn, FeedsPiece, LosesPiece, RefusesBytes, EndsSession, LosesEnd}
 use Rattle.html5session.specs.declared.error.SessionError.{SessionError}
 use Rattle.html5session.specs.declared.error.SessionError.TheVariants.{Memory, NotUtf8, Cut, Waiting, Over}
 use Rattle.html5session.specs.declared.fed.Fed.{Fed}
@@ -40,6 +41,10 @@ error_status Over = 7
 
 -- ---- a new session
 
+-- each number in the options names something
+abbrev pub are_named : Options → Bool
+are_named o = is_some (replies_said o.replies) && is_some (state_said o.state)
+
 -- it stands at the start of a page, by these options, and reads references by the standard's names
 pub record Starts (s : SessionOf) (name : List ℕ) (o : Options) : Type 0 where
   pub replies : Replies
@@ -53,6 +58,7 @@ pub record Starts (s : SessionOf) (name : List ℕ) (o : Options) : Type 0 where
   pub text : s.text ≡ []
   pub going_on : is_over s ≡ false
   pub error_at : s.error_at ≡ None
+  pub named : are_named o ≡ true
   pub utf8 : IsUtf8 name
 
 -- there is a session, and it is at the start of a page
@@ -60,11 +66,16 @@ abbrev pub IsStart : Option SessionOf → List ℕ → Options → Type 0
 IsStart None name o = ⊥
 IsStart (Some s) name o = Starts s name o
 
--- when a page is not opened, by the error
+-- when no page is opened for its name, by the error
+abbrev pub IsNameRefused : List ℕ → OpenError → Type 0
+IsNameRefused name opening.Memory = IsUtf8 name
+IsNameRefused name opening.NotUtf8 = ¬ (IsUtf8 name)
+IsNameRefused name opening.BadOption = ⊥
+
+-- when a page is not opened, by the error: the options are looked at first
 abbrev pub OpenFails : List ℕ → Options → OpenError → Type 0
-OpenFails name o opening.Memory = Unit {0}
-OpenFails name o opening.NotUtf8 = ¬ (IsUtf8 name)
-OpenFails name o opening.BadOption = (replies_said o.replies ≡ None) ⊎ (state_said o.state ≡ None)
+OpenFails name o opening.BadOption = are_named o ≡ false
+OpenFails name o error = (are_named o ≡ true) × IsNameRefused name error
 
 abbrev pub open_status : OpenError → ℕ
 open_status opening.Memory = 3
@@ -75,8 +86,8 @@ open_status opening.BadOption = 9
 pub record NewSays (now : Option SessionOf) (name : List ℕ) (o : Options) (status : ℕ) : Type 0 where
   pub done : status ≡ 0 → IsStart now name o
   pub refused : status ≢ 0 → now ≡ None
-  pub not_utf8 : status ≡ 4 → ¬ (IsUtf8 name)
-  pub bad_option : status ≡ 9 → (replies_said o.replies ≡ None) ⊎ (state_said o.state ≡ None)
+  pub bad_option : (status ≡ 9) ↔ (are_named o ≡ false)
+  pub not_utf8 : (status ≡ 4) ↔ ((are_named o ≡ true) × ¬ (IsUtf8 name))
   pub only : (status ≡ 0) ⊎ (status ≡ 3) ⊎ (status ≡ 4) ⊎ (status ≡ 9)
 
 -- ---- what a status of each call says of an open handle
@@ -86,34 +97,37 @@ pub record FeedSays (old new : SessionOf) (bytes : List ℕ) (status : ℕ) : Ty
   pub script : status ≡ 1 → FeedsPiece old new bytes Script
   pub encoding : status ≡ 2 → FeedsPiece old new bytes Encoding
   pub no_memory : status ≡ 3 → (new ≡ old) ⊎ LosesPiece old new bytes
-  pub not_utf8 : status ≡ 4 → (place : ℕ) × RefusesBytes old new bytes place
-  pub over : status ≡ 7 → StaysOver old new ⊎ MiscountsPiece old new bytes
+  pub not_utf8 : (status ≡ 4) ↔ ((is_over old ≡ false) × IsNeverUtf8 (old.decoder.held ++ bytes))
+  pub place : status ≡ 4 → (place : ℕ) × RefusesBytes old new bytes place
+  pub over : (status ≡ 7) ↔ (is_over old ≡ true)
   -- where nothing more is read, nothing changes
-  pub unchanged : is_over old ≡ true → (status ≡ 7) × (new ≡ old)
+  pub unchanged : is_over old ≡ true → new ≡ old
   pub only : status ≢ 5 × status ≢ 6 × status ≢ 8 × status ≢ 9
 
 pub record InsertSays (old new : SessionOf) (text : List ℕ) (status : ℕ) : Type 0 where
   pub done : status ≡ 0 → IsUtf8 text × (new ≡ record old { text = chars text ++ old.text })
   pub refused : status ≢ 0 → new ≡ old
-  pub not_utf8 : status ≡ 4 → ¬ (IsUtf8 text)
-  pub over : status ≡ 7 → is_over old ≡ true
+  pub not_utf8 : (status ≡ 4) ↔ ((is_over old ≡ false) × ¬ (IsUtf8 text))
+  pub over : (status ≡ 7) ↔ (is_over old ≡ true)
   pub only : (status ≡ 0) ⊎ (status ≡ 3) ⊎ (status ≡ 4) ⊎ (status ≡ 7)
 
 pub record EndSays (old new : SessionOf) (status : ℕ) : Type 0 where
   pub done : status ≡ 0 → EndsSession old new
   pub no_memory : status ≡ 3 → LosesEnd old new
-  pub cut : status ≡ 5 → (new ≡ old) × (old.decoder.held ≢ [])
-  pub waiting : status ≡ 6 → (new ≡ old) × (old.text ≢ [])
-  pub over : status ≡ 7 → StaysOver old new ⊎ MiscountsEnd old new
-  -- where nothing more is read, nothing changes
-  pub unchanged : is_over old ≡ true → (status ≡ 7) × (new ≡ old)
+  pub waiting : (status ≡ 6) ↔ ((is_over old ≡ false) × (old.text ≢ []))
+  pub cut : (status ≡ 5) ↔ ((is_over old ≡ false) × (old.text ≡ []) × (old.decoder.held ≢ []))
+  pub over : (status ≡ 7) ↔ (is_over old ≡ true)
+  -- at these three nothing changes
+  pub unchanged : status ≢ 0 → status ≢ 3 → new ≡ old
   pub only : (status ≡ 0) ⊎ (status ≡ 3) ⊎ (status ≡ 5) ⊎ (status ≡ 6) ⊎ (status ≡ 7)
 
 -- the next bytes of the records that wait were copied, as many as there was room for, and let go; nothing else changed
 pub record TakeSays (old new : SessionOf) (room out : List ℕ) (n : ℕ) : Type 0 where
-  pub count : n ≡ min (length room) (length old.resting.sink.waiting)
-  pub copied : out ≡ take n old.resting.sink.waiting ++ drop n room
+  pub count : n ≡ min (length room) (length (waiting (recorded_by old)))
+  pub copied : out ≡ take n (waiting (recorded_by old)) ++ drop n room
   pub taken : new ≡ after_session_takes old n
+  -- and it stands where it stood
+  pub stands : StandsOn old new n
 
 -- ---- the same, of a handle that is open or closed
 
@@ -145,3 +159,8 @@ place_in (Some place) = place
 abbrev pub error_place : Option SessionOf → ℕ
 error_place None = 0
 error_place (Some s) = place_in s.error_at
+
+-- whether nothing more is read of the page
+abbrev pub over_in : Option SessionOf → Bool
+over_in None = false
+over_in (Some s) = is_over s

@@ -2,7 +2,7 @@
 #![tactic(auto)]
 
 ghost use Rattle.std.specs.Prelude.{◌≡◌, None};
-ghost use Rattle.html5c.specs.Pages.{session_of, NewSays, Feeds, Inserts, Ends, Takes, error_place};
+ghost use Rattle.html5c.specs.Pages.{session_of, NewSays, Feeds, Inserts, Ends, Takes, error_place, over_in};
 
 mod handle;
 mod opening;
@@ -50,7 +50,8 @@ pub extern "C" fn html5_feed(alloc: Global, h: &mut Handle, bytes: &[u8]) -> u32
     status
 }
 
-/// Puts a text in front of what waits. It is read at the next feed.
+/// Puts a text in front of what waits. It is read at the next feed. Where nothing more is read it answers `OVER`,
+/// whatever the bytes.
 #[unsafe(no_mangle)]
 pub extern "C" fn html5_insert(alloc: Global, h: &mut Handle, text: &[u8]) -> u32
     ensures { Inserts (session_of h.old.owned.value) (session_of h.new.owned.value) text.now result }
@@ -103,6 +104,21 @@ pub extern "C" fn html5_error_at(alloc: Global, h: &mut Handle) -> u64
     let place = page.error_at();
     h.put(page);
     place
+}
+
+/// Whether nothing more is read: the page has ended, or a call failed for good. Then `html5_feed`, `html5_insert` and
+/// `html5_end` answer `OVER`. It is false where the handle is closed.
+#[unsafe(no_mangle)]
+pub extern "C" fn html5_is_over(alloc: Global, h: &mut Handle) -> bool
+    ensures over { result ≡ over_in (session_of h.old.owned.value) }
+    ensures kept { h.new.owned.value ≡ h.old.owned.value }
+{
+    let Some(page) = h.take(alloc) else {
+        return false;
+    };
+    let is_over = page.is_over();
+    h.put(page);
+    is_over
 }
 
 /// Gives the handle's memory back, and closes it. It may be opened again.

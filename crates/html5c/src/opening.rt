@@ -1,7 +1,7 @@
 //! A page at its start.
 ghost use Rattle.std.specs.Prelude.{◌≡◌, option_map, string_bytes, OnOk, IfOk, IfErr};
 ghost use Rattle.std.specs.Str.{IsUtf8};
-ghost use Rattle.html5c.specs.Pages.{Starts, IsStart, OpenFails, open_status};
+ghost use Rattle.html5c.specs.Pages.{Starts, IsStart, IsNameRefused, OpenFails, open_status};
 ghost use Rattle.html5c.specs.Said.{name_said};
 
 use crate::options::Options;
@@ -37,14 +37,10 @@ impl OpenError {
 }
 
 // The name of the last start tag, if it has bytes.
-fn name_of(
-    alloc: Global,
-    bytes: &[u8],
-    options: &Options,
-) -> Result<Option<String<Global>>, OpenError>
+fn name_of(alloc: Global, bytes: &[u8]) -> Result<Option<String<Global>>, OpenError>
     ensures name { IfOk result (λ name. option_map string_bytes name ≡ name_said bytes.now) }
     ensures utf8 { OnOk result (IsUtf8 bytes.now) }
-    ensures refused { IfErr result (λ error. OpenFails bytes.now options.now error) }
+    ensures refused { IfErr result (λ error. IsNameRefused bytes.now error) }
 {
     let Ok(name) = str::from_utf8(bytes) else {
         return Err(OpenError::NotUtf8);
@@ -58,7 +54,7 @@ fn name_of(
     }
 }
 
-// A session at the start of a page.
+// A session at the start of a page. The options are looked at first, and then the name.
 fn session_at_start(
     alloc: Global,
     last_start_tag: &[u8],
@@ -70,16 +66,17 @@ fn session_at_start(
     let Some(events) = options.events() else {
         return Err(OpenError::BadOption);
     };
-    let name = match name_of(alloc, last_start_tag, options) {
+    let Some(start) = options.start() else {
+        return Err(OpenError::BadOption);
+    };
+    let name = match name_of(alloc, last_start_tag) {
         Ok(name) => name,
         Err(error) => return Err(error),
-    };
-    let Some(opts) = options.opts(name) else {
-        return Err(OpenError::BadOption);
     };
     let Ok(names) = standard_names(alloc) else {
         return Err(OpenError::Memory);
     };
+    let opts = options.opts(start, name);
     Ok(Session::new(alloc, names, opts, events))
 }
 

@@ -1,5 +1,5 @@
 //! How a page is to be read, as C says it.
-ghost use Rattle.std.specs.Prelude.{◌≡◌, option_map, string_bytes, IfSome, IsNone};
+ghost use Rattle.std.specs.Prelude.{◌≡◌, Some, option_map, string_bytes, IfSome, IsNone};
 ghost use Rattle.html5c.specs.Said.{state_said, replies_said, options_by};
 ghost use Rattle.html5ever_interface.specs.Options.{options_of};
 ghost use Rattle.html5feed.specs.Starting.{CanStart};
@@ -25,22 +25,6 @@ pub struct Options {
     pub keep_bom: bool,
     /// Whether the current node is outside the HTML namespace, so that `<![CDATA[` begins a section.
     pub foreign: bool,
-}
-
-// The state that a number names, if one does.
-fn state_of(number: u32) -> Option<State>
-    ensures said { result ≡ state_said number }
-    ensures start { IfSome result (λ state. CanStart (Some state)) }
-{
-    match number {
-        0 => Some(State::Data),
-        1 => Some(State::Plaintext),
-        2 => Some(State::RawData(RawKind::Rcdata)),
-        3 => Some(State::RawData(RawKind::Rawtext)),
-        4 => Some(State::RawData(RawKind::ScriptData)),
-        5 => Some(State::CdataSection),
-        _ => None,
-    }
 }
 
 // The replies that a number names, if one does.
@@ -71,22 +55,37 @@ impl Options {
         }
     }
 
-    /// How the tokenizer reads, if the number of the state names one, after a last start tag, if there
-    /// is one.
-    pub fn opts(&self, last_start_tag_name: Option<String<Global>>) -> Option<TokenizerOpts<Global>>
-        ensures start { IfSome result (λ opts. CanStart opts.initial_state) }
-        ensures said { IfSome result (λ opts. options_of opts
-            ≡ options_by self.now (option_map string_bytes last_start_tag_name)) }
-        ensures none { IsNone result → state_said self.now.state ≡ None }
+    /// The state to start in, if its number names one.
+    pub fn start(&self) -> Option<State>
+        ensures said { result ≡ state_said self.now.state }
+        ensures start { IfSome result (λ state. CanStart (Some state)) }
     {
-        match state_of(self.state) {
-            Some(state) => Some(TokenizerOpts {
-                exact_errors: self.exact_errors,
-                discard_bom: !self.keep_bom,
-                initial_state: Some(state),
-                last_start_tag_name,
-            }),
-            None => None,
+        match self.state {
+            0 => Some(State::Data),
+            1 => Some(State::Plaintext),
+            2 => Some(State::RawData(RawKind::Rcdata)),
+            3 => Some(State::RawData(RawKind::Rawtext)),
+            4 => Some(State::RawData(RawKind::ScriptData)),
+            5 => Some(State::CdataSection),
+            _ => None,
+        }
+    }
+
+    /// How the tokenizer reads from this state, after a last start tag, if there is one.
+    pub fn opts(
+        &self,
+        start: State,
+        last_start_tag_name: Option<String<Global>>,
+    ) -> TokenizerOpts<Global>
+        ensures start { result.initial_state ≡ Some start }
+        ensures said { Some start ≡ state_said self.now.state
+            → options_of result ≡ options_by self.now (option_map string_bytes last_start_tag_name) }
+    {
+        TokenizerOpts {
+            exact_errors: self.exact_errors,
+            discard_bom: !self.keep_bom,
+            initial_state: Some(start),
+            last_start_tag_name,
         }
     }
 }

@@ -1,6 +1,6 @@
 //! What a handle is of: a session over C's memory.
 ghost use Rattle.std.specs.Prelude.{◌≡◌};
-ghost use Rattle.html5c.specs.Pages.{Feeds, Inserts, Ends, Takes, fed_status, error_status, error_place};
+ghost use Rattle.html5c.specs.Pages.{Feeds, Inserts, Ends, Takes, fed_status, error_status, error_place, over_in};
 
 use crate::status;
 use html5session::{Fed, Session, SessionError};
@@ -60,6 +60,9 @@ impl Page {
         let Some(session) = &mut self.session else {
             return status::CLOSED;
         };
+        if session.is_over() {
+            return status::OVER;
+        }
         let Ok(text) = str::from_utf8(text) else {
             return status::NOT_UTF8;
         };
@@ -101,6 +104,16 @@ impl Page {
         match &self.session {
             Some(session) => session.error_at().unwrap_or(0),
             None => 0,
+        }
+    }
+
+    /// Whether nothing more is read.
+    pub fn is_over(&self) -> bool
+        ensures { result ≡ over_in self.now.session }
+    {
+        match &self.session {
+            Some(session) => session.is_over(),
+            None => false,
         }
     }
 }

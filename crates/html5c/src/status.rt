@@ -21,7 +21,7 @@ pub const CUT: u32 = 5;
 /// The page ends while text waits.
 pub const WAITING: u32 = 6;
 
-/// The page has ended, an earlier call failed, or the count of taken bytes was lost.
+/// The page has ended, or an earlier call failed.
 pub const OVER: u32 = 7;
 
 /// The handle is closed.

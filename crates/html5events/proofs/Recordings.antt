@@ -6,9 +6,9 @@ use Rattle.html5ever_interface.specs.Collected.{told_text, kept_text, last_with_
 use Rattle.html5ever_interface.specs.Sink.{Message, stepped}
 use Rattle.html5ever_interface.specs.Token.{Told, is_text}
 use Rattle.html5ever_interface.specs.Token.Told.{Text, End}
-use Rattle.html5events.specs.Events.{Recorded, text_closing, added_by, added_by_text, open_after, recorded_step, closed_bytes, joined}
+use Rattle.html5events.specs.Events.{Recorded, text_closing, added_by, added_by_text, open_after, recorded_step, WritesOn, closed_bytes, joined}
 use Rattle.html5events.specs.EventLaws.{recorded_empty}
-use Rattle.html5events.specs.Records.{text_end, parts, heading_of, record_of, records_of, BeginsWith}
+use Rattle.html5events.specs.Records.{text_end, parts, heading_of, record_of, records_of}
 use Rattle.html5events.proofs.Written.{flat_map-push, added_by-other}
 
 -- a record more
@@ -155,11 +155,11 @@ bytes-stepped r M N line closed ends =
     ∙ ap (λ in_text. (stepped recorded_step r M).bytes ++ text_closing in_text) (sym ended)
     ∙ closed_bytes-stepped r M closed
 
--- what was written before stays, and more comes after it
-pub bytes-begin : (r : Recorded) (M : List Message) → BeginsWith (stepped recorded_step r M).bytes r.bytes
+-- what was written before stays, more comes after it, and none is taken
+pub writes_on : (r : Recorded) (M : List Message) → WritesOn r (stepped recorded_step r M)
 unfolding stepped recorded_step
-bytes-begin r [] = record { rest = []; parts = sym (append-nil r.bytes) }
-bytes-begin r (m ∷ M) =
+writes_on r [] = record { taken = refl; bytes = record { rest = []; parts = sym (append-nil r.bytes) } }
+writes_on r (m ∷ M) =
     let added : List ℕ = added_by r.in_text m.token m.line in
-    let more = bytes-begin (recorded_step r m.token m.line) M in
-    record { rest = added ++ more.rest; parts = more.parts ∙ append_assoc r.bytes added more.rest }
+    let more = writes_on (recorded_step r m.token m.line) M in
+    record { taken = more.taken; bytes = record { rest = added ++ more.bytes.rest; parts = more.bytes.parts ∙ append_assoc r.bytes added more.bytes.rest } }

@@ -1,6 +1,6 @@
 -- What is written, one thing after the other.
 use Rattle.std.proofs.Common.{◌≡◌, ℕ, ◌+◌, ◌<◌, ◌≤◌, Bool, false, List, [], ◌∷◌, ◌++◌, map, length, take, drop, get_or, Result, OnOk, refl, ap, sym, ◌∙◌}
-use Rattle.std.proofs.lemmas.List.{append-nil, append_assoc, map_more, drop-append-le, take-append-drop}
+use Rattle.std.proofs.lemmas.List.{append-nil, append_assoc, map_more, drop-append-le, take-append-drop, length-append, length-take-le}
 use Rattle.std.proofs.lemmas.List.Concat.{flat_map-append}
 use Rattle.std.proofs.lemmas.Result.{on_ok_weaker}
 use Rattle.std.specs.List.{flat_map}
@@ -67,3 +67,7 @@ bytes-taken taken more front rest count more_is rest_is =
     ∙ append_assoc taken (take count front) rest
     ∙ ap (λ l. taken ++ (take count front ++ l)) rest_is
     ∙ ap (λ l. taken ++ l) (take-append-drop count front)
+
+pub count-taken : (taken more front : List ℕ) (count : ℕ) → more ≡ taken ++ take count front → count ≤ length front → length more ≡ length taken + count
+count-taken taken more front count more_is within =
+    ap length more_is ∙ length-append taken (take count front) ∙ ap (λ n. length taken + n) (length-take-le count front within)

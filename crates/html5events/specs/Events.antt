@@ -1,9 +1,10 @@
 -- What a sink of records makes of what it is sent.
 --
--- The abstract state is all that was ever written, and whether a text is open at its end: it is the same whether bytes were
--- taken or not. A text is written as it is sent and ends where another token comes, so that two adjacent texts are as one.
-use Rattle.std.specs.Prelude.{◌≡◌, ℕ, ◌-◌, ◌^◌, ◌≤◌, min, Bool, true, false, List, [], ◌∷◌, ◌++◌, length, take, drop}
-use Rattle.html5events.specs.Records.{text_end, record_of}
+-- The abstract state is all that was ever written, how many of these bytes were taken, and whether a text is open at their end.
+-- What the sink is sent changes no count of taken bytes: so no tokenizer takes any. A text is written as it is sent and ends where
+-- another token comes, so that two adjacent texts are as one.
+use Rattle.std.specs.Prelude.{◌≡◌, ℕ, ◌+◌, Bool, true, false, List, [], ◌∷◌, ◌++◌, drop}
+use Rattle.html5events.specs.Records.{text_end, record_of, BeginsWith}
 use Rattle.html5ever_interface.specs.Collected.{with_told}
 use Rattle.html5ever_interface.specs.Sink.{Means, Message, stepped}
 use Rattle.html5ever_interface.specs.Token.{Told, Reply}
@@ -19,25 +20,33 @@ use Rattle.html5sinks.specs.Runs.{reply_where_tag}
 pub record Recorded : Type 0 where
   -- the bytes written so far
   pub bytes : List ℕ
+  -- how many of them were taken
+  pub taken : ℕ
   -- a text is open at their end
   pub in_text : Bool
   -- how tags are replied to, and the answer about foreign content
   pub replies : Replies
   pub foreign : Bool
 
--- a sink: what it wrote, of which so much was taken and the rest waits, and how many tokens could not be written
+-- a sink: its state, and how many tokens could not be written
 pub record Events : Type 0 where
   pub recorded : Recorded
-  pub taken : List ℕ
-  pub waiting : List ℕ
   pub faults : ℕ
+
+-- the bytes that wait: all but those that were taken
+abbrev pub waiting : Recorded → List ℕ
+waiting r = drop r.taken r.bytes
+
+-- so many bytes more were taken, and all else is as it was
+abbrev pub taking : Recorded → ℕ → Recorded
+taking r count = record r { taken = r.taken + count }
 
 -- nothing written
 abbrev pub none_recorded : Replies → Bool → Recorded
-none_recorded replies foreign = record { bytes = []; in_text = false; replies = replies; foreign = foreign }
+none_recorded replies foreign = record { bytes = []; taken = 0; in_text = false; replies = replies; foreign = foreign }
 
 abbrev pub no_events : Replies → Bool → Events
-no_events replies foreign = record { recorded = none_recorded replies foreign; taken = []; waiting = []; faults = 0 }
+no_events replies foreign = record { recorded = none_recorded replies foreign; faults = 0 }
 
 -- what comes before the first bytes of a text, where `in_text` says that a text is open
 abbrev pub text_opening : Bool → List ℕ
@@ -98,14 +107,14 @@ recorded_means = record {
   end_faulted = λ r. r;
 }
 
--- what a sink keeps of the bytes of its page, of which so many were skipped, and of how many were taken
-pub record Keeps (page : List ℕ) (skipped : ℕ) (taken : List ℕ) (count : ℕ) : Type 0 where
-  pub within : skipped ≤ length page
-  pub counted : count ≡ min (length taken) (2 ^ 64 - 1)
-
--- the sink once so many bytes of what waits were taken
+-- the sink once so many bytes more were taken
 abbrev pub after_taking : Events → ℕ → Events
-after_taking e count = record e { taken = e.taken ++ take count e.waiting; waiting = drop count e.waiting }
+after_taking e count = record e { recorded = taking e.recorded count }
+
+-- no byte more was taken, and what was written stays, with more after it: so what is taken next is what it was, and goes on
+pub record WritesOn (old new : Recorded) : Type 0 where
+  pub taken : new.taken ≡ old.taken
+  pub bytes : BeginsWith new.bytes old.bytes
 
 -- all that was written, once the open text is ended
 abbrev pub closed_bytes : Recorded → List ℕ

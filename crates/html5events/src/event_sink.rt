@@ -1,7 +1,7 @@
 //! A sink that writes what it is sent as records of bytes.
-ghost use Rattle.std.specs.Prelude.{◌≡◌, ℕ, false, List, [], ◌∷◌, ◌+◌, ◌-◌, ◌/◌, ◌^◌, ◌≤◌, ◌++◌, length, take, drop, min, vec_len, string_bytes, IfOk, OnOk, OnErr};
-ghost use Rattle.html5events.specs.Events.{Recorded, no_events, reply_by, added_by, added_by_text, recorded_step, closed_bytes, joined, after_taking};
-ghost use Rattle.html5events.specs.Records.{records_of, BeginsWith};
+ghost use Rattle.std.specs.Prelude.{◌≡◌, ℕ, false, List, [], ◌∷◌, ◌+◌, ◌/◌, ◌≤◌, ◌++◌, length, take, drop, min, vec_len, string_bytes, IfOk, OnOk, OnErr};
+ghost use Rattle.html5events.specs.Events.{Recorded, waiting, no_events, reply_by, added_by, added_by_text, recorded_step, WritesOn, closed_bytes, joined, after_taking};
+ghost use Rattle.html5events.specs.Records.{records_of};
 ghost use Rattle.html5ever_interface.specs.Sink.{Message, stepped};
 ghost use Rattle.html5ever_interface.specs.Token.Told.{End};
 ghost use Rattle.html5ever_interface.specs.Token.{told_by, reply_of};
@@ -155,10 +155,9 @@ fn skip_front<A: Allocator>(page: &mut Vec<u8, A>, skipped: &mut usize, count: u
 
 /// What is written for messages is their records, one after the other. Adjacent texts are one, and an empty text has none.
 /// It is all there once the last text is ended, or at once where the messages end with the end of the input. What was
-/// written before stays in front.
+/// written before stays in front, and as many bytes of it are taken as before.
 pub fn writes_records()
-    ensures begins { (r : Recorded) (M : List Message) →
-        BeginsWith (stepped recorded_step r M).bytes r.bytes }
+    ensures on { (r : Recorded) (M : List Message) → WritesOn r (stepped recorded_step r M) }
     ensures closed { (r : Recorded) (M : List Message) → r.in_text ≡ false
         → closed_bytes (stepped recorded_step r M) ≡ r.bytes ++ records_of (joined M) }
     ensures ended { (r : Recorded) (M N : List Message) (line : ℕ) → r.in_text ≡ false
@@ -177,29 +176,27 @@ pub struct EventSink<A: Allocator = Global> {
     replies: Replies,
     foreign: bool,
     taken: Log,
-    taken_len: u64,
     faults: Count,
 }
 
 impl<A: Allocator> Model for EventSink<A> {
-    ghost use Rattle.std.specs.Prelude.{◌++◌, drop};
-    ghost use Rattle.html5events.specs.Events.{Events, Keeps};
+    ghost use Rattle.std.specs.Prelude.{◌≤◌, ◌++◌, length, drop};
+    ghost use Rattle.html5events.specs.Events.{Events};
 
     ghost Value = { Events };
 
     ghost view = { λ s. record {
       recorded = record {
         bytes = s.taken.bytes ++ drop s.skipped s.page.items;
+        taken = length s.taken.bytes;
         in_text = s.in_text;
         replies = s.replies;
         foreign = s.foreign;
       };
-      taken = s.taken.bytes;
-      waiting = drop s.skipped s.page.items;
       faults = s.faults.total;
     } };
 
-    ghost invariant = { λ s. Keeps s.page.items s.skipped s.taken.bytes s.taken_len };
+    ghost invariant = { λ s. s.skipped ≤ length s.page.items };
 }
 
 impl<A: Allocator> EventSink<A> {
@@ -214,46 +211,34 @@ impl<A: Allocator> EventSink<A> {
             replies: options.replies,
             foreign: options.foreign,
             taken: Log::new(),
-            taken_len: 0,
             faults: Count::new(),
         }
     }
 
-    /// The bytes that were not taken yet: they go on waiting. With those that were taken they are all that was written.
+    /// The bytes that were not taken yet: they go on waiting.
     pub fn waiting(&self) -> &[u8]
-        ensures waiting { result.now ≡ self.now.waiting }
-        ensures written { self.now.taken ++ result.now ≡ self.now.recorded.bytes }
+        ensures waiting { result.now ≡ waiting self.now.recorded }
+        ensures within { self.now.recorded.taken ≤ length self.now.recorded.bytes }
     {
         rest_of(&self.page, self.skipped)
     }
 
-    /// How many bytes were taken so far. It stays at the largest `u64`.
-    pub fn taken_len(&self) -> u64
-        ensures count { result ≡ min (length self.now.taken) (2 ^ 64 - 1) }
-        ensures written { self.now.taken ++ self.now.waiting ≡ self.now.recorded.bytes }
-    {
-        self.taken_len
-    }
-
-    /// Takes so many bytes of what waits. The abstract state stays.
+    /// Takes so many bytes of what waits.
     pub fn skip(&mut self, count: usize)
-        requires { count ≤ length self.old.waiting }
-        ensures taken { self.new ≡ after_taking self.old count }
-        ensures state { self.new.recorded ≡ self.old.recorded }
+        requires { count ≤ length (waiting self.old.recorded) }
+        ensures { self.new ≡ after_taking self.old count }
     {
         let front = rest_of(&self.page, self.skipped);
         self.taken.add(&front[..count]);
-        self.taken_len = self.taken_len.saturating_add(count as u64);
         skip_front(&mut self.page, &mut self.skipped, count);
     }
 
     /// Takes as many bytes of what waits as there is room for, and copies them. It answers how many. A record may be cut
     /// in two: what is left of it comes first at the next call.
     pub fn take(&mut self, into: &mut [u8]) -> usize
-        ensures count { result ≡ min (length into.old) (length self.old.waiting) }
-        ensures copied { into.new ≡ take result self.old.waiting ++ drop result into.old }
+        ensures count { result ≡ min (length into.old) (length (waiting self.old.recorded)) }
+        ensures copied { into.new ≡ take result (waiting self.old.recorded) ++ drop result into.old }
         ensures taken { self.new ≡ after_taking self.old result }
-        ensures state { self.new.recorded ≡ self.old.recorded }
     {
         let waiting = self.waiting();
         let count = into.len().min(waiting.len());

@@ -1,6 +1,7 @@
 -- What a call of the tokenizer between `resume` and `rest` says of the session around it.
-use Rattle.std.proofs.Common.{◌≡◌, ◌≢◌, ◌⊎◌, ℕ, ◌-◌, ◌^◌, ◌<◌, ◌||◌, min, Bool, true, false, List, [], ◌++◌, length, Some, Result, Ok, Err, refl, sym, ap, ◌∙◌, subst, inl, inr, arith}
-use Rattle.std.specs.Prelude.{IfOk, IfErr, is_err}
+use Rattle.std.proofs.Common.{◌≡◌, ◌≢◌, ◌⊎◌, ℕ, ◌<◌, ◌||◌, Bool, true, false, List, [], ◌++◌, length, Some, Result, Ok, Err, refl, sym, ap, ◌∙◌, subst, inl, inr}
+use Rattle.std.proofs.lemmas.List.{append-nil}
+use Rattle.std.specs.Prelude.{IfOk, IfErr, OnErr, is_err}
 use Rattle.std.specs.Str.{chars}
 use Rattle.utf8_pieces.specs.Pieces.{Decoding, IsFault, IsNeverUtf8}
 use Rattle.utf8_pieces.specs.declared.error.DecodeError.{DecodeError}
@@ -8,14 +9,15 @@ use Rattle.utf8_pieces.specs.declared.error.DecodeError.TheVariants as decoder
 use Rattle.html5ever_interface.specs.Token.{Reply}
 use Rattle.html5grammar.specs.Start.{Rules}
 use Rattle.html5opened.specs.declared.error.TokenizerError.{TokenizerError}
-use Rattle.html5events.specs.Events.{Events, Recorded, recorded_means}
+use Rattle.html5events.specs.Events.{Events, Recorded, recorded_means, WritesOn}
 use Rattle.html5ever.specs.Resting.{RestingOf, tokenizing}
-use Rattle.html5ever.specs.Tokenizer.{Tokenizing, Feeds, StopsFeeding, Finishes, StopsEnding}
-use Rattle.html5session.specs.Session.{SessionOf, tokenizer_of, recorded_by, is_over, taken_count, KeepsTaken, LosesCount, Completes, TakesPiece, RefusesBytes, FeedsText, fed_by, StopsText, MiscountsText, FeedsPiece, LosesPiece, FeedRefused, TextRefused, EndsText, StopsTextEnd, MiscountsTextEnd, TextEndRefused, EndRefused}
+use Rattle.html5ever.specs.Tokenizer.{Tokenizing, Feeds, FeedsItems, StopsFeeding, Finishes, FinishesItems, StopsEnding}
+use Rattle.html5session.specs.Session.{SessionOf, tokenizer_of, recorded_by, is_over, Completes, TakesPiece, RefusesBytes, FeedsText, fed_by, StopsText, FeedsPiece, LosesPiece, FeedRefused, EndsText, StopsTextEnd, EndRefused}
 use Rattle.html5session.specs.declared.error.SessionError.{SessionError}
 use Rattle.html5session.specs.declared.error.SessionError.TheVariants.{Memory, NotUtf8, Cut, Waiting, Over}
 use Rattle.html5session.specs.declared.fed.Fed.{Fed}
 use Rattle.html5session.specs.declared.fed.Fed.TheVariants.{Done}
+use Rattle.html5session.proofs.Writing.{writes_on-feed, writes_on-stopped, writes_on-end, writes_on-ending}
 use Rattle.markup5ever.specs.NamedReferences.{NamedReference}
 
 -- ---- sessions that are not over
@@ -37,21 +39,6 @@ rests : (r out : RestingOf Events) (names : List NamedReference) (t u : Tokenizi
 rests r out names t u begins rules rested =
     subst (λ (n : List NamedReference). tokenizing out n ≡ u) (ap (λ (w : Rules). w.names) rules ∙ ap (λ (w : Tokenizing Events). w.rules.names) begins) rested
 
--- counts that are equal, and below the largest, count as many
-pub keeps_taken : (old was new is : Events) (count : ℕ) → was ≡ old → is ≡ new
-    → count ≡ min (length was.taken) (2 ^ 64 - 1) → min (length is.taken) (2 ^ 64 - 1) ≡ count → count < 2 ^ 64 - 1
-    → is.taken ++ is.waiting ≡ is.recorded.bytes → KeepsTaken old new
-keeps_taken old was new is count begins ends before after below written =
-    let keeps : KeepsTaken was is = record { count = omega arith; written = written } in
-    subst (λ (w : Events). KeepsTaken w new) begins (subst (λ (w : Events). KeepsTaken was w) ends keeps)
-
--- a count that is another, or was at its limit
-pub loses_count : (old was new is : Events) (count : ℕ) → was ≡ old → is ≡ new → count ≡ taken_count was
-    → (taken_count is ≢ count) ⊎ (count ≡ 2 ^ 64 - 1) → LosesCount old new
-loses_count old was new is count begins ends before lost =
-    let loses : LosesCount was is = subst (λ (n : ℕ). (taken_count is ≢ n) ⊎ (n ≡ 2 ^ 64 - 1)) before lost in
-    subst (λ (w : Events). LosesCount w new) begins (subst (λ (w : Events). LosesCount was w) ends loses)
-
 -- what was fed between `resume` and `rest`
 feeds_between : (s t u v : Tokenizing Events) (text left : List ℕ) (reply : Reply (Unit {0})) → t ≡ s → v ≡ u
     → Feeds recorded_means t u text left reply → Feeds recorded_means s v text left reply
@@ -59,35 +46,35 @@ feeds_between s t u v text left reply begins ends feeds =
     subst (λ (w : Tokenizing Events). Feeds recorded_means w v text left reply) begins
     (subst (λ (w : Tokenizing Events). Feeds recorded_means t w text left reply) (sym ends) feeds)
 
+items_between : (s t u v : Tokenizing Events) (text left : List ℕ) (reply : Reply (Unit {0})) → t ≡ s → v ≡ u
+    → FeedsItems recorded_means t u text left reply → FeedsItems recorded_means s v text left reply
+items_between s t u v text left reply begins ends items =
+    subst (λ (w : Tokenizing Events). FeedsItems recorded_means w v text left reply) begins
+    (subst (λ (w : Tokenizing Events). FeedsItems recorded_means t w text left reply) (sym ends) items)
+
 -- a feed of the tokenizer is a feed of the session
 pub feeds_text : (r out : RestingOf Events) (names : List NamedReference) (t u : Tokenizing Events) (text left : List ℕ) (fed : Fed) (reply : Reply (Unit {0}))
+    → r.failed ≡ false → r.ended ≡ false
     → t ≡ tokenizing r names → u.rules ≡ t.rules → tokenizing out u.rules.names ≡ u
-    → Feeds recorded_means t u text left reply → fed ≡ fed_by reply → (fed ≡ Done → left ≡ []) → (fed ≢ Done → length left < length text)
-    → KeepsTaken r.sink out.sink → u.failed ≡ false → u.ended ≡ false
+    → Feeds recorded_means t u text left reply → FeedsItems recorded_means t u text left reply
+    → fed ≡ fed_by reply → (fed ≡ Done → left ≡ []) → (fed ≢ Done → length left < length text)
+    → u.failed ≡ false → u.ended ≡ false
     → FeedsText (tokenizing r names) (tokenizing out names) text left fed
-feeds_text r out names t u text left fed reply begins rules rested feeds pause all shorter taken not_failed going_on =
+feeds_text r out names t u text left fed reply was_not_failed was_going_on begins rules rested reads items pause all shorter not_failed going_on =
     let ends = rests r out names t u begins rules rested in
+    let feeds = feeds_between (tokenizing r names) t u (tokenizing out names) text left reply begins ends reads in
     record {
       reply = reply;
-      feeds = feeds_between (tokenizing r names) t u (tokenizing out names) text left reply begins ends feeds;
+      feeds = feeds;
+      items = items_between (tokenizing r names) t u (tokenizing out names) text left reply begins ends items;
       pause = pause;
       all = all;
       shorter = shorter;
-      taken = taken;
+      records = writes_on-feed (tokenizing r names) (tokenizing out names) text left reply was_not_failed was_going_on feeds;
       rules = ap (λ (w : Tokenizing Events). w.rules) ends ∙ rules ∙ ap (λ (w : Tokenizing Events). w.rules) begins;
       not_failed = ap (λ (w : Tokenizing Events). w.failed) ends ∙ not_failed;
       going_on = ap (λ (w : Tokenizing Events). w.ended) ends ∙ going_on;
     }
-
-pub miscounts_text : (r out : RestingOf Events) (names : List NamedReference) (t u : Tokenizing Events) (text left : List ℕ) (reply : Reply (Unit {0}))
-    → t ≡ tokenizing r names → u.rules ≡ t.rules → tokenizing out u.rules.names ≡ u
-    → Feeds recorded_means t u text left reply → LosesCount r.sink out.sink
-    → MiscountsText (tokenizing r names) (tokenizing out names) text left
-miscounts_text r out names t u text left reply begins rules rested feeds count = record {
-  reply = reply;
-  feeds = feeds_between (tokenizing r names) t u (tokenizing out names) text left reply begins (rests r out names t u begins rules rested) feeds;
-  count = count;
-}
 
 pub stops_text : (t s : Tokenizing Events) (text left : List ℕ) (error : TokenizerError) (v told : Recorded) → t ≡ s → v ≡ told
     → StopsFeeding recorded_means error t text left v → StopsText s text left told
@@ -102,13 +89,19 @@ finishes_between : (t s : Tokenizing Events) (v told : Recorded) → t ≡ s →
 finishes_between t s v told begins same finishes =
     subst (λ (w : Tokenizing Events). Finishes recorded_means w told) begins (subst (λ (w : Recorded). Finishes recorded_means t w) same finishes)
 
-pub ends_text : (t s : Tokenizing Events) (v : Recorded) (new : Events) → t ≡ s → v ≡ new.recorded
-    → Finishes recorded_means t v → KeepsTaken s.sink new → EndsText s new
-ends_text t s v new begins same finishes taken = record { finishes = finishes_between t s v new.recorded begins same finishes; taken = taken }
+finished_between : (t s : Tokenizing Events) (v told : Recorded) → t ≡ s → v ≡ told → FinishesItems recorded_means t v → FinishesItems recorded_means s told
+finished_between t s v told begins same items =
+    subst (λ (w : Tokenizing Events). FinishesItems recorded_means w told) begins (subst (λ (w : Recorded). FinishesItems recorded_means t w) same items)
 
-pub miscounts_text_end : (t s : Tokenizing Events) (v : Recorded) (new : Events) → t ≡ s → v ≡ new.recorded
-    → Finishes recorded_means t v → LosesCount s.sink new → MiscountsTextEnd s new
-miscounts_text_end t s v new begins same finishes count = record { finishes = finishes_between t s v new.recorded begins same finishes; count = count }
+pub ends_text : (t s : Tokenizing Events) (v : Recorded) (new : Events) → s.failed ≡ false → s.ended ≡ false → t ≡ s → v ≡ new.recorded
+    → Finishes recorded_means t v → FinishesItems recorded_means t v → EndsText s new
+ends_text t s v new not_failed going_on begins same tells items =
+    let finishes = finishes_between t s v new.recorded begins same tells in
+    record {
+      finishes = finishes;
+      items = finished_between t s v new.recorded begins same items;
+      records = writes_on-end s new.recorded not_failed going_on finishes;
+    }
 
 pub stops_end : (t s : Tokenizing Events) (error : TokenizerError) (v told : Recorded) → t ≡ s → v ≡ told
     → StopsEnding recorded_means error t v → StopsTextEnd s told
@@ -136,6 +129,7 @@ loses_piece s t d queue bytes text same completes = record {
   text = text;
   completes = subst (λ (w : SessionOf). Completes w.decoder d bytes text) same completes;
   stops = inl (ap recorded_by same);
+  records = subst (λ (w : SessionOf). WritesOn (recorded_by t) (recorded_by w)) (sym same) (record { taken = refl; bytes = record { rest = []; parts = sym (append-nil t.resting.sink.recorded.bytes) } });
   kept = ap (λ (w : SessionOf). record w { resting = s.resting; decoder = d; text = queue; lost = true }) same;
 }
 
@@ -152,12 +146,15 @@ refuses_bytes s t d bytes place error same unchanged is (inr fault) never = reco
   never = subst (λ (w : SessionOf). IsNeverUtf8 (w.decoder.held ++ bytes)) same (never (λ memory. cc));
 }
 
+-- bytes that no further ones make UTF-8, where a session `s` is seen as `t`
+pub never_before : (s t : SessionOf) (bytes : List ℕ) → s ≡ t → IsNeverUtf8 (t.decoder.held ++ bytes) → IsNeverUtf8 (s.decoder.held ++ bytes)
+never_before s t bytes same never = subst (λ (w : SessionOf). IsNeverUtf8 (w.decoder.held ++ bytes)) (sym same) never
+
 -- ---- whole calls
 
-pub text_refused : (result : Result Fed SessionError) (s t : SessionOf) (new : Tokenizing Events) (left : List ℕ) → s ≡ t
-    → IfErr result (λ error. TextRefused (tokenizer_of s) new s.text left error) → IfErr result (λ error. TextRefused (tokenizer_of t) new t.text left error)
-text_refused result s t new left same refused =
-    subst (λ (w : SessionOf). IfErr result (λ error. TextRefused (tokenizer_of w) new w.text left error)) same refused
+pub text_stops : (result : Result Fed SessionError) (s t : SessionOf) (left : List ℕ) (v : Recorded) → s ≡ t
+    → OnErr result (StopsText (tokenizer_of s) s.text left v) → OnErr result (StopsText (tokenizer_of t) t.text left v)
+text_stops result s t left v same stops = subst (λ (w : SessionOf). OnErr result (StopsText (tokenizer_of w) w.text left v)) same stops
 
 -- what a piece left, and what was then read: the decoder and all else but the tokenizer and the text are as the piece left them
 kept_piece : (s mid t : SessionOf) (bytes : List ℕ) (lost : Bool) → TakesPiece s mid bytes
@@ -189,27 +186,26 @@ feeds_piece (Ok fed) s mid t bytes going takes kept feeds = record {
 }
 
 -- a piece that was decoded, and whose feed was refused, was refused by the session
-pub feed_refused : (result : Result Fed SessionError) (s mid t : SessionOf) (bytes : List ℕ) → TakesPiece s mid bytes
+pub feed_refused : (result : Result Fed SessionError) (s mid t : SessionOf) (bytes : List ℕ) → is_over s ≡ false → TakesPiece s mid bytes
     → t ≡ record mid { resting = t.resting; text = t.text; lost = is_err result }
-    → IfErr result (λ error. TextRefused (tokenizer_of mid) (tokenizer_of t) mid.text t.text error)
+    → OnErr result (StopsText (tokenizer_of mid) mid.text t.text (recorded_by t))
+    → IfErr result (λ error. error ≡ Memory)
     → IfErr result (λ error. FeedRefused s t bytes error)
-feed_refused (Ok fed) s mid t bytes takes kept refused = tt
-feed_refused (Err Memory) s mid t bytes takes kept refused = inr (record {
-  text = takes.text;
-  completes = completes_piece s mid t bytes true takes kept;
-  stops = inr (subst (λ (w : SessionOf). StopsText (tokenizer_of w) w.text t.text (recorded_by t)) takes.taken refused);
-  kept = kept_piece s mid t bytes true takes kept;
-})
-feed_refused (Err (NotUtf8 place)) s mid t bytes takes kept refused = absurd refused
-feed_refused (Err Cut) s mid t bytes takes kept refused = absurd refused
-feed_refused (Err Waiting) s mid t bytes takes kept refused = absurd refused
-feed_refused (Err Over) s mid t bytes takes kept refused = inr (record {
-  text = takes.text;
-  completes = completes_piece s mid t bytes true takes kept;
-  reads = subst (λ (w : SessionOf). MiscountsText (tokenizer_of w) (tokenizer_of t) w.text t.text) takes.taken refused;
-  kept = kept_piece s mid t bytes true takes kept;
-  over = ap (λ (w : SessionOf). w.lost || (t.resting.failed || t.resting.ended)) kept;
-})
+feed_refused (Ok fed) s mid t bytes going takes kept stops memory = tt
+feed_refused (Err Memory) s mid t bytes going takes kept stops memory =
+    let goes = goes_on s.lost s.resting.failed s.resting.ended going in
+    let stopped = subst (λ (w : SessionOf). StopsText (tokenizer_of w) w.text t.text (recorded_by t)) takes.taken stops in
+    inr (record {
+      text = takes.text;
+      completes = completes_piece s mid t bytes true takes kept;
+      stops = inr stopped;
+      records = writes_on-stopped stopped.0 (tokenizer_of s) _ t.text (recorded_by t) goes.1 goes.2 stopped.1;
+      kept = kept_piece s mid t bytes true takes kept;
+    })
+feed_refused (Err (NotUtf8 place)) s mid t bytes going takes kept stops memory = absurd cc
+feed_refused (Err Cut) s mid t bytes going takes kept stops memory = absurd cc
+feed_refused (Err Waiting) s mid t bytes going takes kept stops memory = absurd cc
+feed_refused (Err Over) s mid t bytes going takes kept stops memory = absurd cc
 
 -- all else but the tokenizer is as it was
 kept_end : (s t : SessionOf) (out : RestingOf Events) (lost is_lost : Bool) → s ≡ t → lost ≡ is_lost
@@ -218,20 +214,23 @@ kept_end s t out lost is_lost same is =
     ap (λ (w : SessionOf). record w { resting = out; lost = lost }) same ∙ ap (λ (l : Bool). record t { resting = out; lost = l }) is
 
 -- an end that the tokenizer refused was refused by the session
-pub end_refused : (result : Result (Unit {0}) SessionError) (s t : SessionOf) (out : RestingOf Events) (lost : Bool) → s ≡ t → lost ≡ is_err result
-    → IfErr result (λ error. TextEndRefused (tokenizer_of s) out.sink error)
+pub end_refused : (result : Result (Unit {0}) SessionError) (s t : SessionOf) (out : RestingOf Events) (lost : Bool) → is_over s ≡ false → s.text ≡ [] → s.decoder.held ≡ [] → s ≡ t → lost ≡ is_err result
+    → OnErr result (StopsTextEnd (tokenizer_of s) out.sink.recorded)
+    → IfErr result (λ error. error ≡ Memory)
     → IfErr result (λ error. EndRefused t (record s { resting = out; lost = lost }) error)
-end_refused (Ok done) s t out lost same is refused = tt
-end_refused (Err Memory) s t out lost same is refused = record {
-  error = refused.0;
-  stops = subst (λ (w : SessionOf). StopsEnding recorded_means refused.0 (tokenizer_of w) out.sink.recorded) same refused.1;
-  kept = kept_end s t out lost true same is;
-}
-end_refused (Err (NotUtf8 place)) s t out lost same is refused = absurd refused
-end_refused (Err Cut) s t out lost same is refused = absurd refused
-end_refused (Err Waiting) s t out lost same is refused = absurd refused
-end_refused (Err Over) s t out lost same is refused = inr (record {
-  ends = subst (λ (w : SessionOf). MiscountsTextEnd (tokenizer_of w) out.sink) same refused;
-  kept = kept_end s t out lost true same is;
-  over = ap (λ (l : Bool). l || (out.failed || out.ended)) is;
-})
+end_refused (Ok done) s t out lost going read whole same is stops memory = tt
+end_refused (Err Memory) s t out lost going read whole same is stops memory =
+    let goes = goes_on s.lost s.resting.failed s.resting.ended going in
+    record {
+      error = stops.0;
+      stops = subst (λ (w : SessionOf). StopsEnding recorded_means stops.0 (tokenizer_of w) out.sink.recorded) same stops.1;
+      read = subst (λ (w : SessionOf). w.text ≡ []) same read;
+      whole = subst (λ (w : SessionOf). w.decoder.held ≡ []) same whole;
+      records = subst (λ (w : SessionOf). WritesOn (recorded_by w) out.sink.recorded) same
+          (writes_on-ending stops.0 (tokenizer_of s) out.sink.recorded goes.1 goes.2 stops.1);
+      kept = kept_end s t out lost true same is;
+    }
+end_refused (Err (NotUtf8 place)) s t out lost going read whole same is stops memory = absurd cc
+end_refused (Err Cut) s t out lost going read whole same is stops memory = absurd cc
+end_refused (Err Waiting) s t out lost going read whole same is stops memory = absurd cc
+end_refused (Err Over) s t out lost going read whole same is stops memory = absurd cc

@@ -1,5 +1,5 @@
 -- What a session is, and what each call makes of it.
-use Rattle.std.specs.Prelude.{◌≡◌, ◌≢◌, ◌⊎◌, ◌||◌, ◌<◌, ◌-◌, ◌^◌, ℕ, min, Bool, true, false, List, [], ◌++◌, length, Option, Some}
+use Rattle.std.specs.Prelude.{◌≡◌, ◌≢◌, ◌⊎◌, ◌||◌, ◌<◌, ℕ, Bool, true, false, List, [], ◌++◌, length, Option, Some}
 use Rattle.std.specs.Str.{IsUtf8, chars}
 use Rattle.utf8_pieces.specs.Pieces.{Decoding, IsCutCharacter, IsFault, IsNeverUtf8, place_after}
 use Rattle.utf8_pieces.specs.declared.error.DecodeError.TheVariants as decoder
@@ -7,9 +7,10 @@ use Rattle.markup5ever.specs.NamedReferences.{NamedReference}
 use Rattle.html5ever_interface.specs.Token.{Reply}
 use Rattle.html5ever_interface.specs.Token.Reply.{RunScript, SwitchEncoding}
 use Rattle.html5opened.specs.declared.error.TokenizerError.{TokenizerError}
-use Rattle.html5events.specs.Events.{Events, Recorded, recorded_means, after_taking}
+use Rattle.html5events.specs.Events.{Events, Recorded, recorded_means, taking, after_taking, WritesOn}
 use Rattle.html5ever.specs.Resting.{RestingOf, tokenizing}
-use Rattle.html5ever.specs.Tokenizer.{Tokenizing, Feeds, StopsFeeding, Finishes, StopsEnding}
+use Rattle.html5ever.specs.Tokenizer.{Tokenizing, StandsAt, Feeds, FeedsItems, StopsFeeding, Finishes, FinishesItems, StopsEnding}
+use Rattle.html5grammar.specs.Start.{Start}
 use Rattle.html5session.specs.declared.error.SessionError.{SessionError}
 use Rattle.html5session.specs.declared.error.SessionError.TheVariants.{Memory, NotUtf8, Cut, Waiting, Over}
 use Rattle.html5session.specs.declared.fed.Fed.{Fed}
@@ -34,7 +35,7 @@ pub record SessionOf : Type 0 where
 abbrev pub tokenizer_of : SessionOf → Tokenizing Events
 tokenizer_of s = tokenizing s.resting s.names
 
--- all that was written of the page, taken or not
+-- what was written of the page, and how many of its bytes were taken
 abbrev pub recorded_by : SessionOf → Recorded
 recorded_by s = s.resting.sink.recorded
 
@@ -53,18 +54,11 @@ pub record StaysOver (old new : SessionOf) : Type 0 where
 abbrev pub after_session_takes : SessionOf → ℕ → SessionOf
 after_session_takes s count = record s { resting = record s.resting { sink = after_taking s.resting.sink count } }
 
--- how many bytes were taken, as a sink counts them: no further than 2 ^ 64 - 1
-abbrev pub taken_count : Events → ℕ
-taken_count e = min (length e.taken) (2 ^ 64 - 1)
-
--- as many bytes are taken as were before, and what waits is the rest of all that was written
-pub record KeepsTaken (old new : Events) : Type 0 where
-  pub count : length new.taken ≡ length old.taken
-  pub written : new.taken ++ new.waiting ≡ new.recorded.bytes
-
--- the count of taken bytes is another than before, or it was at its limit: so it is not known whether as many are taken
-abbrev pub LosesCount : Events → Events → Type 0
-LosesCount old new = (taken_count new ≢ taken_count old) ⊎ (taken_count old ≡ 2 ^ 64 - 1)
+-- wherever the tokenizer stood, it stands there still, with so many bytes more taken
+abbrev pub StandsOn : SessionOf → SessionOf → ℕ → Type 0
+StandsOn old new count =
+    (K : Start) (s : Recorded) (text : List ℕ) → StandsAt recorded_means (tokenizer_of old) K s text
+    → StandsAt recorded_means (tokenizer_of new) K (taking s count) text
 
 -- ---- pieces
 
@@ -87,6 +81,10 @@ pub record RefusesBytes (old new : SessionOf) (bytes : List ℕ) (place : ℕ) :
   pub fault : IsFault old.decoder.taken (old.decoder.held ++ bytes) (decoder.NotUtf8 place)
   pub never : IsNeverUtf8 (old.decoder.held ++ bytes)
 
+abbrev pub IsNotUtf8 : SessionError → Type 0
+IsNotUtf8 (NotUtf8 place) = Unit {0}
+IsNotUtf8 other = ⊥
+
 -- ---- what one feed of the text that waits does
 
 -- the pause that a reply asks for
@@ -99,10 +97,11 @@ fed_by other = Done
 pub record FeedsText (old new : Tokenizing Events) (text left : List ℕ) (fed : Fed) : Type 0 where
   pub reply : Reply (Unit {0})
   pub feeds : Feeds recorded_means old new text left reply
+  pub items : FeedsItems recorded_means old new text left reply
   pub pause : fed ≡ fed_by reply
   pub all : fed ≡ Done → left ≡ []
   pub shorter : fed ≢ Done → length left < length text
-  pub taken : KeepsTaken old.sink new.sink
+  pub records : WritesOn old.sink.recorded new.sink.recorded
   pub rules : new.rules ≡ old.rules
   pub not_failed : new.failed ≡ false
   pub going_on : new.ended ≡ false
@@ -110,12 +109,6 @@ pub record FeedsText (old new : Tokenizing Events) (text left : List ℕ) (fed :
 -- a feed failed within what it would have sent
 abbrev pub StopsText : Tokenizing Events → List ℕ → List ℕ → Recorded → Type 0
 StopsText old text left told = (error : TokenizerError) × StopsFeeding recorded_means error old text left told
-
--- the text was read as a feed reads it, but the count of taken bytes is lost
-pub record MiscountsText (old new : Tokenizing Events) (text left : List ℕ) : Type 0 where
-  pub reply : Reply (Unit {0})
-  pub feeds : Feeds recorded_means old new text left reply
-  pub count : LosesCount old.sink new.sink
 
 -- ---- what the calls do
 
@@ -132,15 +125,8 @@ pub record LosesPiece (old new : SessionOf) (bytes : List ℕ) : Type 0 where
   pub text : List ℕ
   pub completes : Completes old.decoder new.decoder bytes text
   pub stops : (recorded_by new ≡ recorded_by old) ⊎ StopsText (tokenizer_of old) (old.text ++ chars text) new.text (recorded_by new)
+  pub records : WritesOn (recorded_by old) (recorded_by new)
   pub kept : new ≡ record old { resting = new.resting; decoder = new.decoder; text = new.text; lost = true }
-
--- a piece was read, but the count of taken bytes is lost, and so the session is over
-pub record MiscountsPiece (old new : SessionOf) (bytes : List ℕ) : Type 0 where
-  pub text : List ℕ
-  pub completes : Completes old.decoder new.decoder bytes text
-  pub reads : MiscountsText (tokenizer_of old) (tokenizer_of new) (old.text ++ chars text) new.text
-  pub kept : new ≡ record old { resting = new.resting; decoder = new.decoder; text = new.text; lost = true }
-  pub over : is_over new ≡ true
 
 -- when each error of a feed comes, and what it leaves
 abbrev pub FeedRefused : SessionOf → SessionOf → List ℕ → SessionError → Type 0
@@ -148,20 +134,13 @@ FeedRefused old new bytes Memory = (new ≡ old) ⊎ LosesPiece old new bytes
 FeedRefused old new bytes (NotUtf8 place) = RefusesBytes old new bytes place
 FeedRefused old new bytes Cut = ⊥
 FeedRefused old new bytes Waiting = ⊥
-FeedRefused old new bytes Over = StaysOver old new ⊎ MiscountsPiece old new bytes
-
--- what each error leaves of a feed of what waits
-abbrev pub TextRefused : Tokenizing Events → Tokenizing Events → List ℕ → List ℕ → SessionError → Type 0
-TextRefused old new text left Memory = StopsText old text left new.sink.recorded
-TextRefused old new text left (NotUtf8 place) = ⊥
-TextRefused old new text left Cut = ⊥
-TextRefused old new text left Waiting = ⊥
-TextRefused old new text left Over = MiscountsText old new text left
+FeedRefused old new bytes Over = StaysOver old new
 
 -- from wherever the tokenizer stood, the whole reading was sent
 pub record EndsText (old : Tokenizing Events) (new : Events) : Type 0 where
   pub finishes : Finishes recorded_means old new.recorded
-  pub taken : KeepsTaken old.sink new
+  pub items : FinishesItems recorded_means old new.recorded
+  pub records : WritesOn old.sink.recorded new.recorded
 
 -- the end was sent, where nothing waited, and nothing was held of a character
 pub record EndsSession (old new : SessionOf) : Type 0 where
@@ -175,35 +154,19 @@ pub record EndsSession (old new : SessionOf) : Type 0 where
 pub record LosesEnd (old new : SessionOf) : Type 0 where
   pub error : TokenizerError
   pub stops : StopsEnding recorded_means error (tokenizer_of old) (recorded_by new)
+  pub read : old.text ≡ []
+  pub whole : old.decoder.held ≡ []
+  pub records : WritesOn (recorded_by old) (recorded_by new)
   pub kept : new ≡ record old { resting = new.resting; lost = true }
 
 -- the end failed within what it would have told
 abbrev pub StopsTextEnd : Tokenizing Events → Recorded → Type 0
 StopsTextEnd old told = (error : TokenizerError) × StopsEnding recorded_means error old told
 
--- the whole reading was told, but the count of taken bytes is lost
-pub record MiscountsTextEnd (old : Tokenizing Events) (new : Events) : Type 0 where
-  pub finishes : Finishes recorded_means old new.recorded
-  pub count : LosesCount old.sink new
-
--- the end was told, but the count of taken bytes is lost, and so the session is over
-pub record MiscountsEnd (old new : SessionOf) : Type 0 where
-  pub ends : MiscountsTextEnd (tokenizer_of old) new.resting.sink
-  pub kept : new ≡ record old { resting = new.resting; lost = true }
-  pub over : is_over new ≡ true
-
--- what each error of telling the end to a tokenizer leaves
-abbrev pub TextEndRefused : Tokenizing Events → Events → SessionError → Type 0
-TextEndRefused old new Memory = StopsTextEnd old new.recorded
-TextEndRefused old new (NotUtf8 place) = ⊥
-TextEndRefused old new Cut = ⊥
-TextEndRefused old new Waiting = ⊥
-TextEndRefused old new Over = MiscountsTextEnd old new
-
 -- when each error of an end comes, and what it leaves
 abbrev pub EndRefused : SessionOf → SessionOf → SessionError → Type 0
 EndRefused old new Memory = LosesEnd old new
 EndRefused old new (NotUtf8 place) = ⊥
-EndRefused old new Cut = (new ≡ old) × (old.decoder.held ≢ [])
+EndRefused old new Cut = (new ≡ old) × (old.text ≡ []) × (old.decoder.held ≢ [])
 EndRefused old new Waiting = (new ≡ old) × (old.text ≢ [])
-EndRefused old new Over = StaysOver old new ⊎ MiscountsEnd old new
+EndRefused old new Over = StaysOver old new

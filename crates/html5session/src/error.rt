@@ -16,7 +16,7 @@ pub enum SessionError {
     /// The page ends while text waits after a pause.
     #[error("text waits to be fed")]
     Waiting,
-    /// The page has ended, an earlier call failed, or the count of taken bytes was lost.
+    /// The page has ended, or an earlier call failed.
     #[error("the session is over")]
     Over,
 }

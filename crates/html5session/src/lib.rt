@@ -4,10 +4,12 @@
 
 mod error;
 mod fed;
+mod laws;
 mod session;
 
 pub use crate::error::SessionError;
 pub use crate::fed::Fed;
+pub use crate::laws::readings_ignore_taking;
 pub use crate::session::Session;
 
 #[cfg(test)]

@@ -1,49 +1,25 @@
 //! A tokenizer with its table, its sink of records, and the bytes and the text that wait.
-ghost use Rattle.std.specs.Prelude.{◌≡◌, ◌≢◌, ◌↔◌, ◌⊎◌, ◌<◌, ◌^◌, ◌-◌, ◌++◌, [], true, false, length, take, drop, min, is_err, OnOk, OnErr, IfOk, IfErr};
+ghost use Rattle.std.specs.Prelude.{◌≡◌, ◌≢◌, ◌↔◌, ◌⊎◌, ◌++◌, [], true, false, length, take, drop, min, is_err, OnOk, OnErr, IfOk, IfErr, IsErrAnd};
 ghost use Rattle.std.specs.Str.{chars};
+ghost use Rattle.utf8_pieces.specs.Pieces.{IsNeverUtf8};
 ghost use Rattle.html5ever.specs.Resting.{tokenizing};
 ghost use Rattle.html5ever.specs.Tokenizer.{StandsAt, rules_of};
 ghost use Rattle.html5ever_interface.specs.Options.{options_of};
-ghost use Rattle.html5events.specs.Events.{recorded_means, none_recorded, no_events};
+ghost use Rattle.html5events.specs.Events.{recorded_means, none_recorded, no_events, waiting};
 ghost use Rattle.html5feed.specs.Starting.{CanStart};
 ghost use Rattle.html5grammar.specs.Start.{start_of};
-ghost use Rattle.html5session.specs.Session.{is_over, tokenizer_of, recorded_by, taken_count, after_session_takes, FeedsText, TextRefused, EndsText, TextEndRefused};
-ghost use Rattle.html5session.specs.Session.{TakesPiece, FeedsPiece, FeedRefused, EndsSession, EndRefused};
+ghost use Rattle.html5session.specs.Session.{is_over, tokenizer_of, recorded_by, after_session_takes, StandsOn, FeedsText, StopsText, EndsText, StopsTextEnd};
+ghost use Rattle.html5session.specs.Session.{TakesPiece, FeedsPiece, FeedRefused, EndsSession, EndRefused, IsNotUtf8};
 
 use crate::error::SessionError;
 use crate::fed::{Fed, fed_of};
 use html5events::event_sink::{EventOptions, EventSink};
-use html5ever::tokenizer::{
-    BufferQueue, NamedReferences, Resting, Tokenizer, TokenizerError, TokenizerOpts,
-};
+use html5ever::tokenizer::{BufferQueue, NamedReferences, Resting, Tokenizer, TokenizerOpts};
 use std::alloc::{Allocator, Global};
 use std::marker::Model;
 use utf8_pieces::{DecodeError, Decoder};
 
-// The error that a refused call of the tokenizer means: the sink's only fault is want of memory.
-fn error_of(error: TokenizerError) -> SessionError
-    requires { error ≢ TokenizerError.Failed }
-    ensures { result ≡ SessionError.Memory }
-{
-    match error {
-        TokenizerError::Memory | TokenizerError::Sink => SessionError::Memory,
-        TokenizerError::Failed => unreachable!(),
-    }
-}
-
-// Whether as many bytes were taken of the sink as are counted. A tokenizer takes none of its sink, but
-// that is said nowhere, so it is tested.
-fn keeps_taken<A: Allocator>(sink: &EventSink<A>, count: u64) -> bool
-    ensures count { result ≡ true → taken_count sink.now ≡ count }
-    ensures below { result ≡ true → count < 2 ^ 64 - 1 }
-    ensures lost { result ≡ false → (taken_count sink.now ≢ count) ⊎ (count ≡ 2 ^ 64 - 1) }
-    ensures written { sink.now.taken ++ sink.now.waiting ≡ sink.now.recorded.bytes }
-{
-    let same = sink.taken_len() == count;
-    same && count < u64::MAX
-}
-
-// Feeds the tokenizer what waits, up to a pause.
+// Feeds the tokenizer what waits, up to a pause. The sink's only fault is want of memory.
 fn feed_text<A: Allocator + Copy>(
     names: &NamedReferences<A>,
     resting: Resting<EventSink<A>, A>,
@@ -53,22 +29,20 @@ fn feed_text<A: Allocator + Copy>(
     requires not_failed { resting.failed ≡ false }
     ensures feeds { IfOk result.1 (λ fed. FeedsText (tokenizing resting names.now)
         (tokenizing result.0 names.now) queue.old.text queue.new.text fed) }
-    ensures refused { IfErr result.1 (λ error. TextRefused (tokenizing resting names.now)
-        (tokenizing result.0 names.now) queue.old.text queue.new.text error) }
+    ensures stops { OnErr result.1 (StopsText (tokenizing resting names.now)
+        queue.old.text queue.new.text result.0.sink.recorded) }
+    ensures memory { IfErr result.1 (λ error. error ≡ SessionError.Memory) }
 {
-    let count = resting.sink.taken_len();
     let mut tokenizer = resting.resume(names);
     let answer = tokenizer.feed(queue);
-    let keeps_taken = keeps_taken(&tokenizer.sink, count);
     let resting = tokenizer.rest();
     match answer {
-        Ok(_) if !keeps_taken => (resting, Err(SessionError::Over)),
         Ok(answer) => (resting, Ok(fed_of(&answer))),
-        Err(error) => (resting, Err(error_of(error))),
+        Err(_) => (resting, Err(SessionError::Memory)),
     }
 }
 
-// Ends the tokenizer.
+// Ends the tokenizer. The sink's only fault is want of memory.
 fn end_text<A: Allocator + Copy>(
     names: &NamedReferences<A>,
     resting: Resting<EventSink<A>, A>,
@@ -77,18 +51,15 @@ fn end_text<A: Allocator + Copy>(
     requires not_failed { resting.failed ≡ false }
     ensures ends { OnOk result.1 (EndsText (tokenizing resting names.now) result.0.sink) }
     ensures ended { OnOk result.1 (result.0.ended ≡ true) }
-    ensures refused { IfErr result.1 (λ error. TextEndRefused (tokenizing resting names.now)
-        result.0.sink error) }
+    ensures stops { OnErr result.1 (StopsTextEnd (tokenizing resting names.now) result.0.sink.recorded) }
+    ensures memory { IfErr result.1 (λ error. error ≡ SessionError.Memory) }
 {
-    let count = resting.sink.taken_len();
     let mut tokenizer = resting.resume(names);
     let answer = tokenizer.end();
-    let keeps_taken = keeps_taken(&tokenizer.sink, count);
     let resting = tokenizer.rest();
     match answer {
-        Ok(()) if !keeps_taken => (resting, Err(SessionError::Over)),
         Ok(()) => (resting, Ok(())),
-        Err(error) => (resting, Err(error_of(error))),
+        Err(_) => (resting, Err(SessionError::Memory)),
     }
 }
 
@@ -142,10 +113,10 @@ impl<A: Allocator> Session<A> {
     /// Takes the next bytes of the records, as many as wait and as there is room for. It answers how
     /// many. A record may be cut in two: what is left of it comes first at the next call.
     pub fn take(&mut self, into: &mut [u8]) -> usize
-        ensures count { result ≡ min (length into.old) (length self.old.resting.sink.waiting) }
-        ensures copied { into.new ≡ take result self.old.resting.sink.waiting ++ drop result into.old }
+        ensures count { result ≡ min (length into.old) (length (waiting (recorded_by self.old))) }
+        ensures copied { into.new ≡ take result (waiting (recorded_by self.old)) ++ drop result into.old }
         ensures taken { self.new ≡ after_session_takes self.old result }
-        ensures state { recorded_by self.new ≡ recorded_by self.old }
+        ensures stands { StandsOn self.old self.new result }
     {
         self.resting.sink.take(into)
     }
@@ -188,6 +159,8 @@ impl<A: Allocator + Copy> Session<A> {
     fn take_piece(&mut self, bytes: &[u8]) -> Result<(), SessionError>
         ensures takes { OnOk result (TakesPiece self.old self.new bytes.now) }
         ensures refused { IfErr result (λ error. FeedRefused self.old self.new bytes.now error) }
+        ensures not_utf8 { IsNeverUtf8 (self.old.decoder.held ++ bytes.now) → IsErrAnd result IsNotUtf8 }
+        ensures not_over { result ≢ Err SessionError.Over }
     {
         let text = match self.decoder.decode(self.alloc, bytes) {
             Ok(text) => text,
@@ -209,8 +182,9 @@ impl<A: Allocator + Copy> Session<A> {
         requires { is_over self ≡ false }
         ensures feeds { IfOk result.1 (λ fed. FeedsText (tokenizer_of self) (tokenizer_of result.0)
             self.text result.0.text fed) }
-        ensures refused { IfErr result.1 (λ error. TextRefused (tokenizer_of self) (tokenizer_of result.0)
-            self.text result.0.text error) }
+        ensures stops { OnErr result.1 (StopsText (tokenizer_of self)
+            self.text result.0.text (recorded_by result.0)) }
+        ensures memory { IfErr result.1 (λ error. error ≡ SessionError.Memory) }
         ensures kept { result.0 ≡ record self { resting = result.0.resting; text = result.0.text; lost = is_err result.1 } }
     {
         let Session {
@@ -244,7 +218,9 @@ impl<A: Allocator + Copy> Session<A> {
     pub fn feed(mut self, bytes: &[u8]) -> (Session<A>, Result<Fed, SessionError>)
         ensures feeds { IfOk result.1 (λ fed. FeedsPiece self result.0 bytes.now fed) }
         ensures refused { IfErr result.1 (λ error. FeedRefused self result.0 bytes.now error) }
-        ensures over { is_over self ≡ true → (result.0 ≡ self) × (result.1 ≡ Err SessionError.Over) }
+        ensures not_utf8 { is_over self ≡ false → IsNeverUtf8 (self.decoder.held ++ bytes.now)
+            → IsErrAnd result.1 IsNotUtf8 }
+        ensures over { (result.1 ≡ Err SessionError.Over) ↔ (is_over self ≡ true) }
     {
         if self.is_over() {
             return (self, Err(SessionError::Over));
@@ -279,7 +255,7 @@ impl<A: Allocator + Copy> Session<A> {
     pub fn end(self) -> (Session<A>, Result<(), SessionError>)
         ensures ends { OnOk result.1 (EndsSession self result.0) }
         ensures refused { IfErr result.1 (λ error. EndRefused self result.0 error) }
-        ensures over { is_over self ≡ true → (result.0 ≡ self) × (result.1 ≡ Err SessionError.Over) }
+        ensures over { (result.1 ≡ Err SessionError.Over) ↔ (is_over self ≡ true) }
     {
         if self.is_over() {
             return (self, Err(SessionError::Over));

@@ -50,7 +50,6 @@ fn told_and_taken(
             take_pieces(rt, &mut sink, &mut taken, size, pieces);
         }
     }
-    assert_eq!(rt; sink.taken_len(), taken.len() as u64);
     let left = sink.waiting().len();
     taken.extend_from_slice(sink.waiting()).expect(rt, "memory");
     sink.skip(left);

@@ -11,4 +11,5 @@ end_text-resting-requires-clause-not_failed g c = (goes_on c.self.inside.lost _ 
 
 pub returns-clause-refused : goal.returns-clause-refused
 returns-clause-refused g c =
-    end_refused c.end_text-resting.result.1 _ _ c.end_text-resting.result.0 c.is_err.result c.self.view_is c.is_err.ensures.value c.end_text-resting.ensures.refused
+    end_refused c.end_text-resting.result.1 _ _ c.end_text-resting.result.0 c.is_err.result (ap is_over c.self.view_is ∙ sym c.is_over.ensures ∙ c.if-is_over.false)
+    (c.is_empty.ensures.0 c.if-not-is_empty.false) (c.is_complete.ensures.complete.0 c.if-not-is_complete.false) c.self.view_is c.is_err.ensures.value c.end_text-resting.ensures.stops c.end_text-resting.ensures.memory

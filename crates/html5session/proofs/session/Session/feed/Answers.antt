@@ -7,4 +7,5 @@ returns-in-Ok-clause-feeds g c =
     feeds_piece c.feed_waiting.result.1 _ _ _ _ (sym c.is_over.ensures ∙ c.if-is_over.false) c.in-Ok.ensures.takes c.feed_waiting.ensures.kept c.feed_waiting.ensures.feeds
 
 pub returns-in-Ok-clause-refused : goal.returns-in-Ok-clause-refused
-returns-in-Ok-clause-refused g c = feed_refused c.feed_waiting.result.1 _ _ _ _ c.in-Ok.ensures.takes c.feed_waiting.ensures.kept c.feed_waiting.ensures.refused
+returns-in-Ok-clause-refused g c =
+    feed_refused c.feed_waiting.result.1 _ _ _ _ (sym c.is_over.ensures ∙ c.if-is_over.false) c.in-Ok.ensures.takes c.feed_waiting.ensures.kept c.feed_waiting.ensures.stops c.feed_waiting.ensures.memory

@@ -1,6 +1,6 @@
 use Rattle.std.proofs.Common.{inr, string_bytes}
 use Rattle.std.proofs.lemmas.Str.{IsUtf8-string_bytes}
-use Rattle.html5session.proofs.Calls.{refuses_bytes, takes_piece, loses_piece}
+use Rattle.html5session.proofs.Calls.{refuses_bytes, takes_piece, loses_piece, never_before}
 use Rattle.html5session.proofs.session.Session.take_piece.Goals as goal
 
 pub returns-in-Err-NotUtf8-clause-refused : goal.returns-in-Err-NotUtf8-clause-refused
@@ -19,3 +19,12 @@ returns-clause-refused g c =
     let said = c.in-Ok.ensures in
     inr (loses_piece _ _ c.decode.new.self c.push_back.new.self.text _ (string_bytes c.in-Ok.text) c.self.view_is
     (record { parts = said.text; utf8 = IsUtf8-string_bytes c.in-Ok.text; cut = said.cut; taken = said.taken }))
+
+pub returns-in-Err-Memory-clause-not_utf8 : goal.returns-in-Err-Memory-clause-not_utf8
+returns-in-Err-Memory-clause-not_utf8 g c never = c.in-Err-Memory.ensures.refused.1 (never_before _ _ _ c.self.view_is never) c.in-Err-Memory.field-0-is
+
+pub returns-in_default-clause-not_utf8 : goal.returns-in_default-clause-not_utf8
+returns-in_default-clause-not_utf8 g c never = c.in-Ok.ensures.refused.1 (never_before _ _ _ c.self.view_is never)
+
+pub returns-clause-not_utf8 : goal.returns-clause-not_utf8
+returns-clause-not_utf8 g c never = c.in-Ok.ensures.refused.1 (never_before _ _ _ c.self.view_is never)
