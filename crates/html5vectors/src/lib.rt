@@ -11,3 +11,5 @@ mod kept_parts;
 mod keys;
 #[cfg(test)]
 mod lines;
+#[cfg(test)]
+mod reading;

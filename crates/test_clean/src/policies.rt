@@ -2,6 +2,7 @@
 use html5policy::{Policy, PolicyError, RuleError};
 use std::alloc::Global;
 use std::process::Abort;
+use std::test::Fail;
 use test_alloc::Refusing;
 
 // What a text keeps that it didn't without this rule.
@@ -192,6 +193,32 @@ fn takes_each_rule(rt: HostRuntime) {
         check_elements(&rt, &policy, rule);
         check_attributes(&rt, &policy, rule);
     }
+}
+
+// Names of elements, attributes and schemes are letters and numbers, so each text has that many.
+#[test]
+fn takes_many_rules(rt: HostRuntime) -> Result<(), Fail> {
+    let mut text = String::new(rt.alloc());
+    let mut added = Policy::new(rt.alloc());
+    for number in 0..200 {
+        let line = format!(in rt.alloc();
+            "allow e{number} a{number}\nschemes s{number}\nhide h{number}\n"
+        )?;
+        text.push_str(&line)?;
+        let name = format!(in rt.alloc(); "e{number}")?;
+        assert!(rt; added.add(html5policy::Rule::Element(&name)).is_ok());
+    }
+    let parsed = Policy::parse(rt.alloc(), &text).expect(&rt, "a policy");
+    for number in 0..200 {
+        let element = format!(in rt.alloc(); "e{number}")?;
+        let attribute = format!(in rt.alloc(); "a{number}")?;
+        let hidden = format!(in rt.alloc(); "h{number}")?;
+        assert!(rt; added.is_allowed(&element) && parsed.is_allowed(&element));
+        assert!(rt; parsed.is_kept(&element, &attribute, "x"));
+        assert!(rt; parsed.hides(&hidden));
+    }
+    assert!(rt; !parsed.is_allowed("e200") && !added.is_allowed("e200"));
+    Ok(())
 }
 
 // Texts, and whether a policy that one says balances.

@@ -100,6 +100,24 @@ fn replies_where_it_is_asked_to(rt: HostRuntime) {
     }
 }
 
+// A caller that chooses nothing gets what stands in a script as text.
+#[test]
+fn replies_as_the_standard_where_nothing_is_chosen(rt: HostRuntime) {
+    let options = EventOptions::default();
+    assert!(rt; options.replies == Replies::Standard && !options.foreign);
+    let cases = [
+        ("script", TokenSinkResult::RawData(RawKind::ScriptData)),
+        ("style", TokenSinkResult::RawData(RawKind::Rawtext)),
+        ("plaintext", TokenSinkResult::Plaintext),
+        ("p", TokenSinkResult::Continue),
+    ];
+    for (name, reply) in cases {
+        let mut sink = EventSink::new(rt.alloc(), EventOptions::default());
+        let tag = bare_tag(rt.alloc(), TagKind::StartTag, name).expect(&rt, "memory");
+        assert!(rt; sink.process_token(tag, 1) == Ok(reply), "{name}");
+    }
+}
+
 // Adds what a token adds, where a text is open or not, and answers whether one is open after it.
 fn push_expected(rt: &impl Abort, expected: &mut Vec<u8>, in_text: bool, index: usize) -> bool {
     if index == 4 {

@@ -1,82 +1,163 @@
-//! The displayed texts of errors: each is another than those of the other errors of its kind.
+//! The displayed texts of errors.
 use devices::Fault;
 use html5ever::TokenizerError;
-use html5ever_interface::interface::token::SinkFault;
+use html5ever_interface::interface::token::{SinkFault, TextFault};
+use html5policy::{PolicyError, RuleError};
+use html5programs::NamesError;
+use html5session::SessionError;
 use html5stream::StreamError;
+use html5write::WriteError;
 use markup5ever::data::TableError;
 use std::alloc::Global;
-use std::fmt::{Debug, Display};
+use std::fmt::Display;
 use std::process::Abort;
 use std::test::Fail;
 use utf8_pieces::DecodeError;
 
-// Compares the texts of errors, each with each.
-fn check_texts<E: Display + Debug + PartialEq + Copy + Drop>(
+// Compares the texts of errors.
+fn check_texts<E: Display>(
     rt: &impl Abort,
     alloc: Global,
-    errors: &[E],
+    errors: &[(E, &str)],
 ) -> Result<(), Fail> {
-    for error in errors {
-        let text = format!(in alloc; "{error}")?;
-        assert!(rt; !text.is_empty(), "{error:?}");
-        for other in errors {
-            let other_text = format!(in alloc; "{other}")?;
-            let is_same = text.as_str() == other_text.as_str();
-            assert_eq!(rt; is_same, error == other, "{error:?} and {other:?}");
-        }
+    for (error, text) in errors {
+        let found = format!(in alloc; "{error}")?;
+        assert_eq!(rt; found.as_str(), *text);
     }
     Ok(())
 }
 
 #[test]
-fn of_a_tokenizer_and_its_sink(rt: HostRuntime) -> Result<(), Fail> {
-    let errors = [
-        TokenizerError::Memory,
-        TokenizerError::Sink,
-        TokenizerError::Failed,
+fn of_the_tokenizer_and_what_it_stands_on(rt: HostRuntime) -> Result<(), Fail> {
+    let table = [
+        (TableError::Memory, "out of memory"),
+        (TableError::BadName(7), "bad name at 7"),
+        (TableError::ZeroCharacter(0), "zero character at 0"),
+        (TableError::RepeatedName(12), "repeated name at 12"),
     ];
-    check_texts(&rt, rt.alloc(), &errors)?;
-    check_texts(&rt, rt.alloc(), &[SinkFault])
+    check_texts(&rt, rt.alloc(), &table)?;
+    let tokenizer = [
+        (TokenizerError::Memory, "out of memory"),
+        (TokenizerError::Sink, "the sink could not take a token"),
+        (TokenizerError::Failed, "an earlier call failed"),
+    ];
+    check_texts(&rt, rt.alloc(), &tokenizer)?;
+    let sink = [(SinkFault, "the sink could not take a token")];
+    check_texts(&rt, rt.alloc(), &sink)?;
+    let text = [
+        (TextFault::Memory, "no memory for a copy of the text"),
+        (TextFault::Sink, "the sink could not take the text"),
+    ];
+    check_texts(&rt, rt.alloc(), &text)
 }
 
-#[test]
-fn of_a_table(rt: HostRuntime) -> Result<(), Fail> {
-    let errors = [
-        TableError::Memory,
-        TableError::BadName(0),
-        TableError::BadName(7),
-        TableError::ZeroCharacter(0),
-        TableError::ZeroCharacter(7),
-        TableError::RepeatedName(0),
-        TableError::RepeatedName(7),
-    ];
-    check_texts(&rt, rt.alloc(), &errors)
-}
+const NO_UTF8: &str = "the bytes from place 7 on are no UTF-8";
 
 #[test]
-fn of_a_source(rt: HostRuntime) -> Result<(), Fail> {
-    let errors = [
-        StreamError::Read,
-        StreamError::NotUtf8 { valid_up_to: 0 },
-        StreamError::NotUtf8 { valid_up_to: 7 },
-        StreamError::Memory,
-        StreamError::Sink,
-        StreamError::TooLong,
+fn of_bytes_that_come_in(rt: HostRuntime) -> Result<(), Fail> {
+    let devices = [
+        (Fault::NotUtf8, "input is not UTF-8"),
+        (Fault::Memory, "out of memory"),
+        (Fault::Device, "read or write failed"),
     ];
-    check_texts(&rt, rt.alloc(), &errors)
+    check_texts(&rt, rt.alloc(), &devices)?;
+    let decoder = [
+        (DecodeError::NotUtf8 { valid_up_to: 7 }, NO_UTF8),
+        (DecodeError::Memory, "out of memory"),
+    ];
+    check_texts(&rt, rt.alloc(), &decoder)?;
+    let stream = [
+        (StreamError::Read, "a read failed"),
+        (StreamError::NotUtf8 { valid_up_to: 7 }, NO_UTF8),
+        (StreamError::Memory, "out of memory"),
+        (StreamError::Sink, "the sink could not take a token"),
+        (StreamError::TooLong, "the source does not end"),
+    ];
+    check_texts(&rt, rt.alloc(), &stream)?;
+    let session = [
+        (SessionError::Memory, "out of memory"),
+        (SessionError::NotUtf8 { valid_up_to: 7 }, NO_UTF8),
+        (SessionError::Cut, "the bytes end within a character"),
+        (SessionError::Waiting, "text waits to be fed"),
+        (SessionError::Over, "the session is over"),
+    ];
+    check_texts(&rt, rt.alloc(), &session)?;
+    let names = [
+        (NamesError::Unreadable, "the file can't be read"),
+        (NamesError::NoList, "the file has no list of names"),
+        (
+            NamesError::Table(TableError::BadName(3)),
+            "the list makes no table: bad name at 3",
+        ),
+    ];
+    check_texts(&rt, rt.alloc(), &names)
 }
 
+const RULES: [(RuleError, &str); 11] = [
+    (RuleError::UnknownRule, "an unknown rule"),
+    (RuleError::NoName, "a name is missing after the rule"),
+    (RuleError::WordTooMany, "a word too many after the rule"),
+    (RuleError::ElementName, "a name that no tag is read with"),
+    (
+        RuleError::AttributeName,
+        "a name that no attribute is read with",
+    ),
+    (
+        RuleError::HidesContent,
+        "an element that always hides what stands in it can't be allowed",
+    ),
+    (
+        RuleError::AllowedAndHidden,
+        "an element can't be both allowed and hidden",
+    ),
+    (
+        RuleError::NeverKept,
+        "an attribute that runs scripts or holds no single address can't be allowed",
+    ),
+    (
+        RuleError::SchemeName,
+        "a name that is no scheme in small letters",
+    ),
+    (
+        RuleError::RunsAddress,
+        "a scheme whose addresses run what stands in them can't be allowed",
+    ),
+    (RuleError::Memory, "out of memory"),
+];
+
 #[test]
-fn of_bytes_and_of_a_program(rt: HostRuntime) -> Result<(), Fail> {
-    let errors = [
-        DecodeError::NotUtf8 { valid_up_to: 0 },
-        DecodeError::NotUtf8 { valid_up_to: 7 },
-        DecodeError::Memory,
+fn of_policies_and_of_what_is_written(rt: HostRuntime) -> Result<(), Fail> {
+    check_texts(&rt, rt.alloc(), &RULES)?;
+    let fault = RuleError::NoName;
+    let policy = [(
+        PolicyError { line: 9, fault },
+        "line 9: a name is missing after the rule",
+    )];
+    check_texts(&rt, rt.alloc(), &policy)?;
+    let in_value = WriteError::NullInValue {
+        attribute: 1,
+        at: 4,
+    };
+    let write = [
+        (
+            WriteError::NullInText { at: 3 },
+            "a NUL at byte 3 of the text",
+        ),
+        (WriteError::TagName, "a name that no tag is read with"),
+        (
+            WriteError::AttributeName { attribute: 2 },
+            "attribute 2 has a name that none is read with",
+        ),
+        (in_value, "a NUL at byte 4 of the value of attribute 1"),
+        (
+            WriteError::Repeated { attribute: 5 },
+            "attribute 5 repeats a name",
+        ),
+        (
+            WriteError::CommentText,
+            "a text that no comment is read with",
+        ),
+        (WriteError::Memory, "out of memory"),
     ];
-    check_texts(&rt, rt.alloc(), &errors)?;
-    check_texts(
-        &rt,
-        rt.alloc(),
-        &[Fault::NotUtf8, Fault::Memory, Fault::Device],
-    )
+    check_texts(&rt, rt.alloc(), &write)
 }

@@ -5,7 +5,7 @@ use std::alloc::{AllocError, Global};
 use std::process::Abort;
 use std::test::Fail;
 use test_alloc::Refusing;
-use test_devices::{FailingTarget, Refusal};
+use test_devices::{FailingTarget, MeasuringTarget, Refusal, RepeatingSource};
 
 // So many copies of a text.
 fn repeated(alloc: Global, text: &str, count: usize) -> Result<String, AllocError> {
@@ -107,5 +107,62 @@ fn tells_that_memory_ran_out_after_a_page(rt: HostRuntime) -> Result<(), Fail> {
         }
     }
     assert!(rt; late > 10);
+    Ok(())
+}
+
+// The sizes of the writes of a run over so many copies of a text, which prints so many bytes.
+fn writes_of(
+    rt: &impl Abort,
+    alloc: Global,
+    words: &[&str],
+    part: &str,
+    times: usize,
+    printed: usize,
+) -> Result<MeasuringTarget, AllocError> {
+    let mut reader = RepeatingSource::new(part.as_bytes(), times);
+    let mut writer = MeasuringTarget::new(alloc);
+    let mut errors = MeasuringTarget::new(alloc);
+    let words = words_of(alloc, words)?;
+    let status = status_of_run(alloc, words, &mut reader, &mut writer, &mut errors);
+    assert_eq!(rt; status, 0);
+    assert_eq!(rt; writer.taken(), printed);
+    Ok(writer)
+}
+
+// A page is 65,536 bytes, and written after the piece that fills it. Each tag is printed in 12 bytes, and
+// so a piece of 4,096 bytes in 16,380 or 16,392; the end in 6.
+#[test]
+fn a_megabyte_is_written_by_pages(rt: HostRuntime) -> Result<(), Fail> {
+    let writer = writes_of(&rt, rt.alloc(), &[], "<b>", 87_382, 1_048_590)?;
+    let writes = writer.sizes();
+    assert!(rt; 12 <= writes.len() && writes.len() <= 17);
+    for (place, size) in writes.iter().enumerate() {
+        let is_full = 65_536 <= *size && *size < 81_928;
+        assert!(rt; is_full || place + 1 == writes.len(), "{place}");
+    }
+    Ok(())
+}
+
+// A letter is printed as one byte, after the 6 bytes with which the text begins. So the first page shows
+// how many letters were fed at once.
+#[test]
+fn letters_are_fed_by_as_many_as_the_words_say(rt: HostRuntime) -> Result<(), Fail> {
+    let cases = [
+        ("1", 65_536),
+        ("2", 65_536),
+        ("7", 65_540),
+        ("1000", 66_006),
+    ];
+    for (cut, first) in cases {
+        let words = ["--state", "plaintext", "--cut", cut];
+        let writer = writes_of(&rt, rt.alloc(), &words, "abcde", 40_000, 200_014)?;
+        assert!(rt; writer.sizes().first() == Some(&first), "{cut}");
+    }
+    Ok(())
+}
+
+#[test]
+fn a_long_run_is_printed(rt: HostRuntime) -> Result<(), Fail> {
+    writes_of(&rt, rt.alloc(), &[], "abcdefghij", 100_000, 1_000_014)?;
     Ok(())
 }

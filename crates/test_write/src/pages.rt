@@ -1,5 +1,5 @@
 //! What stands in a page for each piece.
-use html5write::{Attribute, Writer};
+use html5write::{Attribute, Piece, Writer};
 
 #[test]
 fn writes_each_piece(rt: HostRuntime) {
@@ -28,6 +28,17 @@ fn writes_each_piece(rt: HostRuntime) {
     );
     assert!(rt; page.as_str() == wanted, "{}", page.as_str());
     assert!(rt; page.into_string().as_str() == wanted);
+}
+
+#[test]
+fn takes_two_pieces_and_another_page(rt: HostRuntime) {
+    let mut page = Writer::new(rt.alloc());
+    let mut other = Writer::new(rt.alloc());
+    page.text("a").expect(&rt, "a text");
+    let both = other.write_both(&Piece::Text("b"), &Piece::Comment("c"));
+    both.expect(&rt, "a text and a comment");
+    page.append(&other).expect(&rt, "the other page");
+    assert!(rt; page.as_str() == "ab<!--c-->");
 }
 
 #[test]
