@@ -3,6 +3,7 @@ ghost use Rattle.std.specs.Prelude.{◌≡◌, ◌⊎◌, IfErr, IfOk, Ok, Err, 
 ghost use Rattle.html5policy.specs.Policy.{hides, is_allowed, is_kept, is_named, is_rel_of_link, nothing_kept};
 ghost use Rattle.html5policy.specs.Rules.{IsSound, rule_added};
 ghost use Rattle.html5policy.specs.Code.{rule_of};
+ghost use Rattle.html5policy.specs.declared.error.RuleError.{RuleError};
 ghost use Rattle.html5policy.specs.declared.error.RuleError.TheVariants.{Memory};
 
 use crate::addresses::is_safe_address;
@@ -53,6 +54,7 @@ impl<A: Allocator + Copy> Policy<A> {
     pub fn add(&mut self, rule: Rule<'_>) -> Result<(), RuleError>
         ensures added { OnOk result (rule_added self.old (rule_of rule.entry) ≡ Ok self.new) }
         ensures fault { IfErr result (λ fault. (fault ≡ Memory) ⊎ (rule_added self.old (rule_of rule.entry) ≡ Err fault)) }
+        ensures refused { (fault : RuleError) → rule_added self.old (rule_of rule.entry) ≡ Err fault → result ≡ Err fault }
         ensures unchanged { OnErr result (self.new ≡ self.old) }
         ensures sound { IsSound self.new }
     {
