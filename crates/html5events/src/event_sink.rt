@@ -1,9 +1,9 @@
 //! A sink that writes what it is sent as records of bytes.
-ghost use Rattle.std.specs.Prelude.{◌≡◌, ℕ, false, List, [], ◌∷◌, ◌+◌, ◌/◌, ◌≤◌, ◌++◌, length, take, drop, min, vec_len, string_bytes, IfOk, OnOk, OnErr};
+ghost use Rattle.std.specs.Prelude.{◌≡◌, ◌≢◌, ℕ, Err, false, List, [], ◌∷◌, ◌+◌, ◌/◌, ◌≤◌, ◌++◌, length, take, drop, min, vec_len, string_bytes, IfOk, OnOk, OnErr};
 ghost use Rattle.html5events.specs.Events.{Recorded, waiting, no_events, reply_by, added_by, added_by_text, recorded_step, WritesOn, closed_bytes, joined, after_taking};
 ghost use Rattle.html5events.specs.Records.{records_of};
 ghost use Rattle.html5ever_interface.specs.Sink.{Message, stepped};
-ghost use Rattle.html5ever_interface.specs.Token.Told.{End};
+ghost use Rattle.html5ever_interface.specs.Token.Told.{End, Text};
 ghost use Rattle.html5ever_interface.specs.Token.{told_by, reply_of};
 
 use crate::records::{is_open_after, is_open_after_text, push_text, push_token};
@@ -291,8 +291,12 @@ impl<A: Allocator + Copy> TokenSink<Token<A>> for EventSink<A> {
         }
     }
 
-    // Writes the text from where it lies.
-    fn process_text(&mut self, _alloc: A, text: &str, _line_number: u64) -> Result<(), TextFault> {
+    // Writes the text from where it lies. Bytes that find no memory are a fault of the sink.
+    fn process_text(&mut self, _alloc: A, text: &str, _line_number: u64) -> Result<(), TextFault>
+        ensures writes { OnOk result (self.new ≡ record self.old { recorded = recorded_step self.old.recorded (Text text.now) _line_number }) }
+        ensures never_memory { result ≢ Err TextFault.Memory }
+        ensures fault { OnErr result (self.new ≡ record self.old { faults = self.old.faults + 1 }) }
+    {
         let text = text.as_bytes();
         match push_whole_text(&mut self.page, self.in_text, text) {
             Ok(()) => {

@@ -3,8 +3,8 @@ use Rattle.html5events.specs.Events.{recorded_step, added_by}
 use Rattle.html5events.proofs.Written.{bytes-more}
 use Rattle.html5events.proofs.event_sink.EventSinkTokenSinkToken.process_text.Goals as goal
 
-pub returns-in-Ok-clause-steps : goal.returns-in-Ok-clause-steps
+pub returns-in-Ok-clause-writes : goal.returns-in-Ok-clause-writes
 unfolding recorded_step added_by
-returns-in-Ok-clause-steps g c =
+returns-in-Ok-clause-writes g c =
     let s = c.self.inside in
     rw (← c.self.view_is, bytes-more s.taken.bytes s.page.items _ _ s.skipped c.self.invariant c.in-Ok.ensures.ok, c.is_open_after_text-self-inside.ensures, c.as_bytes-text.ensures.value) refl
