@@ -7,8 +7,9 @@ use Rattle.html5ever_interface.specs.Sink.{Message, stepped}
 use Rattle.html5ever_interface.specs.Token.{Told}
 use Rattle.html5ever_interface.specs.Token.Told.{Text, Null, Error, Tag, Comment, Instruction, Doctype, End}
 use Rattle.html5sinks.specs.Runs.{Joined, Running, joined_of, joined_step, runs_step}
-use Rattle.html5stream.specs.Pages.{ReadsPage, StopsPage, runs_after, runs_handed, runs_page, runs_start}
-use Rattle.markup5ever.specs.NamedReferences.{NamedReference}
+use Rattle.html5stream.specs.Pages.{ReadsPage, ReadsPageItems, StopsPage, runs_after, runs_handed, runs_page, runs_start}
+use Rattle.html5stream.proofs.ByItems.{page-items, runs-composed}
+use Rattle.markup5ever.specs.NamedReferences.{NamedReference, IsTable}
 use Rattle.html5cleaner.proofs.SameReadings.{page-same}
 use Rattle.html5write.specs.Pieces.{Piece, page_text, piece_text}
 use Rattle.std.specs.List.{list_all}
@@ -17,7 +18,7 @@ use Rattle.html5cleaner.specs.Allowed.{is_clean}
 use Rattle.html5cleaner.specs.Balance.{AreClean, end_tags, is_end, written_by}
 use Rattle.html5cleaner.proofs.CleanPieces.{are_clean-step}
 use Rattle.html5cleaner.specs.Clean.{Cleaned, at_start, clean_step, kept_where}
-use Rattle.html5cleaner.specs.Cleaning.{Cleaning, Standing, cleaning_step, page_bytes, page_messages, page_start, printed_of}
+use Rattle.html5cleaner.specs.Cleaning.{Cleaning, PageItems, Standing, cleaning_step, page_bytes, page_messages, page_start, printed_of}
 
 -- where these pieces were kept, and printed after other bytes
 abbrev pub printed_after : List ℕ → Cleaned → Cleaning
@@ -142,6 +143,14 @@ reads_printed names unread left before after read = record {
       ∙ ap (runs_handed cleaning_step (page_start before)) (page-same cleaning_step clean_step names (page_start before) (at_start before.policy) read.bytes))
       ∙ standing-handed before (page_messages names before read.bytes);
 }
+
+-- and as the messages of its items say
+pub items_printed : (names : List NamedReference) (unread left : Option (List ℕ)) (before after : Standing) → IsTable names
+    → ReadsPage (λ s bytes. printed_of s (page_messages names s bytes)) unread left before after
+    → ReadsPageItems (PageItems names) printed_of unread left before after
+items_printed names unread left before after table =
+    page-items (page_messages names) printed_of (PageItems names) unread left before after
+    (λ bytes. runs-composed clean_step names (at_start before.policy) bytes table)
 
 pub stops_printed : (names : List NamedReference) (unread left : Option (List ℕ)) (before : Standing) (after : Cleaning)
     → StopsPage (runs_page cleaning_step names) (runs_handed cleaning_step) unread left (page_start before) after

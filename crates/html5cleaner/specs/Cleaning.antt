@@ -1,10 +1,11 @@
 -- A page that is cleaned as it arrives: what is printed of it.
-use Rattle.std.specs.Prelude.{ℕ, List, [], ◌++◌, encode_utf8_all}
+use Rattle.std.specs.Prelude.{ℕ, List, [], ◌++◌, Option, None, Some, Result, Ok, Err, encode_utf8_all}
 use Rattle.devices.specs.Printing.{Printing}
 use Rattle.html5ever_interface.specs.Sink.{Message}
 use Rattle.html5ever_interface.specs.Token.{Told}
-use Rattle.html5stream.specs.Pages.{runs_after, runs_handed, runs_page}
+use Rattle.html5stream.specs.Pages.{RunsItems, runs_after, runs_handed, runs_page}
 use Rattle.html5policy.specs.Policy.{PolicyOf}
+use Rattle.html5policy.specs.declared.error.PolicyError.{PolicyError}
 use Rattle.html5write.specs.Pieces.{Piece, page_text}
 use Rattle.html5cleaner.specs.Balance.{end_tags, is_end, open_by, written_by}
 use Rattle.html5cleaner.specs.Clean.{Hidden, at_start, clean_step, hidden_after, kept_where}
@@ -28,6 +29,11 @@ pub record Printed (W : Type 0) : Type 0 where
 pub record Standing : Type 0 where
   pub policy : PolicyOf
   pub printed : List ℕ
+
+-- the policy that a text says, if it says any
+abbrev pub policy_in : Result PolicyOf PolicyError → Option PolicyOf
+policy_in (Ok policy) = Some policy
+policy_in (Err error) = None
 
 -- where a page begins
 abbrev pub page_start : Standing → Cleaning
@@ -60,6 +66,10 @@ cleaning_step s run told line = record {
 -- the messages of a page, which don't depend on what was printed before it
 abbrev pub page_messages : List NamedReference → Standing → List ℕ → List Message
 page_messages names s bytes = runs_page clean_step names (at_start s.policy) bytes
+
+-- the items of a page, which tell these messages, and its end those
+abbrev pub PageItems : List NamedReference → Standing → List ℕ → List Message → List Message → Type 0
+PageItems names s bytes tells ends = RunsItems clean_step names (at_start s.policy) bytes tells ends
 
 -- what was printed after some messages of a page: what was printed before, and the text of the pieces that are kept of them
 abbrev pub printed_of : Standing → List Message → Standing

@@ -1,13 +1,13 @@
 //! Pages that are cleaned and printed as they arrive.
-ghost use Rattle.std.specs.Prelude.{◌≡◌, ℕ, ◌+◌, List, Err, OnOk, OnErr, true};
-ghost use Rattle.html5stream.specs.Pages.{ReadsPage, StopsPage, runs_page, runs_handed, runs_after};
-ghost use Rattle.html5stream.specs.Streams.{GivesNoText, failed_reads};
+ghost use Rattle.std.specs.Prelude.{◌≡◌, ◌≢◌, ℕ, ◌+◌, ◌-◌, ◌^◌, List, Err, OnOk, OnErr, true};
+ghost use Rattle.html5stream.specs.Pages.{ReadsPage, ReadsPageItems, StopsPage, runs_page, runs_handed, runs_after};
+ghost use Rattle.html5stream.specs.Streams.{GivesNoText, GivesNoFault, GivesAtLeast, failed_reads};
 ghost use Rattle.html5ever_interface.specs.Sink.{Message};
 ghost use Rattle.std.specs.List.{list_all};
 ghost use Rattle.html5policy.specs.Policy.{PolicyOf};
 ghost use Rattle.html5cleaner.specs.Allowed.{is_clean};
 ghost use Rattle.html5cleaner.specs.Clean.{at_start, clean_step};
-ghost use Rattle.html5cleaner.specs.Cleaning.{page_start, cleaning_of, cleaning_step, page_messages, printed_of, standing_of};
+ghost use Rattle.html5cleaner.specs.Cleaning.{page_start, cleaning_of, cleaning_step, PageItems, page_messages, printed_of, standing_of};
 
 use crate::clean_printer::CleanPrinter;
 use devices::{Printer, Source, Target};
@@ -39,6 +39,10 @@ fn read_printed<R: Source, W: Target, A: Allocator + Copy>(
         (page_start (standing_of cleaner)) (cleaning_of result.0)) }
     ensures not_utf8 { (place : ℕ) → result.1 ≡ Err (StreamError.NotUtf8 place)
         → GivesNoText place (R.remaining source.old) (R.remaining source.new) }
+    ensures no_fault { ((place : ℕ) → result.1 ≢ Err (StreamError.NotUtf8 place))
+        → GivesNoFault (R.remaining source.old) (R.remaining source.new) }
+    ensures too_long { result.1 ≡ Err StreamError.TooLong
+        → GivesAtLeast (2 ^ 64 - 1) (R.remaining source.old) (R.remaining source.new) }
     ensures read { R.failures source.new ≡ R.failures source.old + failed_reads result.1 }
 {
     read_tokens(alloc, source, cleaner.at_start(), names)
@@ -53,12 +57,19 @@ pub fn print_cleaned<R: Source, W: Target, A: Allocator + Copy>(
 ) -> (CleanPrinter<W, A>, Result<(), StreamError>)
     ensures finishes { OnOk result.1 (ReadsPage (λ s bytes. printed_of s (page_messages names.now s bytes))
         (R.remaining source.old) (R.remaining source.new) (standing_of cleaner) (standing_of result.0)) }
+    ensures items { OnOk result.1 (ReadsPageItems (PageItems names.now) printed_of
+        (R.remaining source.old) (R.remaining source.new) (standing_of cleaner) (standing_of result.0)) }
     ensures beginning { OnErr result.1 (StopsPage (page_messages names.now) printed_of
         (R.remaining source.old) (R.remaining source.new) (standing_of cleaner) (standing_of result.0)) }
     ensures not_utf8 { (place : ℕ) → result.1 ≡ Err (StreamError.NotUtf8 place)
         → GivesNoText place (R.remaining source.old) (R.remaining source.new) }
+    ensures no_fault { ((place : ℕ) → result.1 ≢ Err (StreamError.NotUtf8 place))
+        → GivesNoFault (R.remaining source.old) (R.remaining source.new) }
+    ensures too_long { result.1 ≡ Err StreamError.TooLong
+        → GivesAtLeast (2 ^ 64 - 1) (R.remaining source.old) (R.remaining source.new) }
     ensures read { R.failures source.new ≡ R.failures source.old + failed_reads result.1 }
 {
+    names.table_laws();
     let (cleaner, read) = read_printed(alloc, source, cleaner, names);
     match read {
         Ok(()) => (cleaner, Ok(())),
@@ -67,23 +78,26 @@ pub fn print_cleaned<R: Source, W: Target, A: Allocator + Copy>(
 }
 
 impl<W: Target + Drop> Filter<W> for CleanPrinter<W> {
-    ghost use Rattle.html5cleaner.specs.Cleaning.{Standing, page_messages, printed_of, standing_of};
-
-    ghost State = { Standing };
-
-    ghost state = { standing_of };
-
-    ghost printed = { λ s. s.printed };
-
-    ghost begun = { λ s. s };
-
-    ghost page = { page_messages };
-
-    ghost handed = { printed_of };
+    ghost use Rattle.html5policy.specs.Standard.{standard_policy};
+    ghost use Rattle.html5policy.specs.Text.{policy_said};
+    ghost use Rattle.html5cleaner.specs.Cleaning.{Standing, page_messages, policy_in, printed_of, standing_of};
 
     type Settings = Policy;
 
     type Fault = PolicyError;
+
+    ghost State = { Standing };
+
+    ghost means = { record {
+      state = standing_of;
+      unsaid = standard_policy;
+      said = λ text. policy_in (policy_said text);
+      started = λ policy printed. record { policy = policy; printed = printed };
+      begun = λ s. s;
+      page = page_messages;
+      handed = printed_of;
+      printed = λ s. s.printed;
+    } };
 
     fn default_settings(alloc: Global) -> Result<Policy, AllocError> {
         Policy::standard(alloc)
@@ -94,7 +108,7 @@ impl<W: Target + Drop> Filter<W> for CleanPrinter<W> {
     }
 
     fn new(alloc: Global, printer: Printer<W>, policy: Policy) -> CleanPrinter<W>
-        ensures { result.printer.printed ≡ printer.printed }
+        ensures { standing_of result ≡ record { policy = policy; printed = printer.printed } }
     {
         CleanPrinter::new(alloc, printer, policy)
     }

@@ -1,7 +1,7 @@
 //! Pages whose links are printed as they arrive.
-ghost use Rattle.std.specs.Prelude.{◌≡◌, ℕ, ◌+◌, Err, OnOk, OnErr};
-ghost use Rattle.html5stream.specs.Pages.{ReadsPage, StopsPage, tags_page, tags_handed, tags_after};
-ghost use Rattle.html5stream.specs.Streams.{GivesNoText, failed_reads};
+ghost use Rattle.std.specs.Prelude.{◌≡◌, ◌≢◌, ℕ, ◌+◌, ◌-◌, ◌^◌, Err, OnOk, OnErr};
+ghost use Rattle.html5stream.specs.Pages.{ReadsPage, ReadsPageItems, StopsPage, TagsItems, tags_page, tags_handed, tags_after};
+ghost use Rattle.html5stream.specs.Streams.{GivesNoText, GivesNoFault, GivesAtLeast, failed_reads};
 ghost use Rattle.html5extract.specs.Links.{links_step};
 
 use crate::links::Links;
@@ -21,36 +21,44 @@ pub fn read_links<R: Source, W: Target, A: Allocator + Copy>(
     ensures finishes { OnOk result.1 (ReadsPage (tags_after links_step names.now)
         (R.remaining source.old) (R.remaining source.new)
         links.printer.printed result.0.printer.printed) }
+    ensures items { OnOk result.1 (ReadsPageItems (TagsItems links_step names.now) (tags_handed links_step)
+        (R.remaining source.old) (R.remaining source.new)
+        links.printer.printed result.0.printer.printed) }
     ensures beginning { OnErr result.1 (StopsPage (tags_page links_step names.now) (tags_handed links_step)
         (R.remaining source.old) (R.remaining source.new)
         links.printer.printed result.0.printer.printed) }
     ensures not_utf8 { (place : ℕ) → result.1 ≡ Err (StreamError.NotUtf8 place)
         → GivesNoText place (R.remaining source.old) (R.remaining source.new) }
+    ensures no_fault { ((place : ℕ) → result.1 ≢ Err (StreamError.NotUtf8 place))
+        → GivesNoFault (R.remaining source.old) (R.remaining source.new) }
+    ensures too_long { result.1 ≡ Err StreamError.TooLong
+        → GivesAtLeast (2 ^ 64 - 1) (R.remaining source.old) (R.remaining source.new) }
     ensures read { R.failures source.new ≡ R.failures source.old + failed_reads result.1 }
 {
     read_tags(alloc, source, links, names)
 }
 
 impl<W: Target + Drop> Filter<W> for Links<W> {
-    ghost use Rattle.std.specs.Prelude.{ℕ, List};
+    ghost use Rattle.std.specs.Prelude.{ℕ, List, Some};
     ghost use Rattle.html5stream.specs.Pages.{tags_page, tags_handed};
     ghost use Rattle.html5extract.specs.Links.{links_step};
-
-    ghost State = { List ℕ };
-
-    ghost state = { λ l. l.printer.printed };
-
-    ghost printed = { λ s. s };
-
-    ghost begun = { λ s. s };
-
-    ghost page = { λ names. tags_page links_step names };
-
-    ghost handed = { tags_handed links_step };
 
     type Settings = ();
 
     type Fault = AllocError;
+
+    ghost State = { List ℕ };
+
+    ghost means = { record {
+      state = λ l. l.printer.printed;
+      unsaid = tt;
+      said = λ text. Some tt;
+      started = λ settings printed. printed;
+      begun = λ s. s;
+      page = tags_page links_step;
+      handed = tags_handed links_step;
+      printed = λ s. s;
+    } };
 
     fn default_settings(_alloc: Global) -> Result<(), AllocError> {
         Ok(())

@@ -1,7 +1,7 @@
 //! Pages whose text is printed as it arrives.
-ghost use Rattle.std.specs.Prelude.{◌≡◌, ℕ, ◌+◌, Err, OnOk, OnErr};
-ghost use Rattle.html5stream.specs.Pages.{ReadsPage, StopsPage, runs_page, runs_handed, runs_after};
-ghost use Rattle.html5stream.specs.Streams.{GivesNoText, failed_reads};
+ghost use Rattle.std.specs.Prelude.{◌≡◌, ◌≢◌, ℕ, ◌+◌, ◌-◌, ◌^◌, Err, OnOk, OnErr};
+ghost use Rattle.html5stream.specs.Pages.{ReadsPage, ReadsPageItems, StopsPage, RunsItems, runs_page, runs_handed, runs_after};
+ghost use Rattle.html5stream.specs.Streams.{GivesNoText, GivesNoFault, GivesAtLeast, failed_reads};
 ghost use Rattle.html5extract.specs.PageText.{at_start, reading_of, text_step};
 
 use crate::page_text::PageText;
@@ -21,35 +21,44 @@ pub fn read_text<R: Source, W: Target, A: Allocator + Copy>(
     ensures finishes { OnOk result.1 (ReadsPage (runs_after text_step names.now)
         (R.remaining source.old) (R.remaining source.new)
         (at_start text.printer.printed) (reading_of result.0)) }
+    ensures items { OnOk result.1 (ReadsPageItems (RunsItems text_step names.now) (runs_handed text_step)
+        (R.remaining source.old) (R.remaining source.new)
+        (at_start text.printer.printed) (reading_of result.0)) }
     ensures beginning { OnErr result.1 (StopsPage (runs_page text_step names.now) (runs_handed text_step)
         (R.remaining source.old) (R.remaining source.new)
         (at_start text.printer.printed) (reading_of result.0)) }
     ensures not_utf8 { (place : ℕ) → result.1 ≡ Err (StreamError.NotUtf8 place)
         → GivesNoText place (R.remaining source.old) (R.remaining source.new) }
+    ensures no_fault { ((place : ℕ) → result.1 ≢ Err (StreamError.NotUtf8 place))
+        → GivesNoFault (R.remaining source.old) (R.remaining source.new) }
+    ensures too_long { result.1 ≡ Err StreamError.TooLong
+        → GivesAtLeast (2 ^ 64 - 1) (R.remaining source.old) (R.remaining source.new) }
     ensures read { R.failures source.new ≡ R.failures source.old + failed_reads result.1 }
 {
     read_tokens(alloc, source, text.at_start(), names)
 }
 
 impl<W: Target + Drop> Filter<W> for PageText<W> {
+    ghost use Rattle.std.specs.Prelude.{Some};
     ghost use Rattle.html5stream.specs.Pages.{runs_page, runs_handed};
     ghost use Rattle.html5extract.specs.PageText.{Reading, at_start, reading_of, text_step};
-
-    ghost State = { Reading };
-
-    ghost state = { reading_of };
-
-    ghost printed = { λ s. s.printed };
-
-    ghost begun = { λ s. at_start s.printed };
-
-    ghost page = { λ names. runs_page text_step names };
-
-    ghost handed = { runs_handed text_step };
 
     type Settings = ();
 
     type Fault = AllocError;
+
+    ghost State = { Reading };
+
+    ghost means = { record {
+      state = reading_of;
+      unsaid = tt;
+      said = λ text. Some tt;
+      started = λ settings printed. at_start printed;
+      begun = λ s. at_start s.printed;
+      page = runs_page text_step;
+      handed = runs_handed text_step;
+      printed = λ s. s.printed;
+    } };
 
     fn default_settings(_alloc: Global) -> Result<(), AllocError> {
         Ok(())
@@ -60,7 +69,7 @@ impl<W: Target + Drop> Filter<W> for PageText<W> {
     }
 
     fn new(alloc: Global, printer: Printer<W>, _settings: ()) -> PageText<W>
-        ensures { result.printer.printed ≡ printer.printed }
+        ensures { reading_of result ≡ at_start printer.printed }
     {
         PageText::new(printer)
     }

@@ -1,13 +1,16 @@
 //! What programs share that read pages and print what they make of them: words, inputs, messages.
 #![tactic(auto)]
 
+mod ending;
 mod messages;
 mod names;
 mod output;
 mod running;
 mod words;
 
-pub use crate::names::{NamesError, read_names};
+pub use crate::ending::Ending;
+pub use crate::messages::Messages;
+pub use crate::names::{NamesError, read_names, table_of_text};
 pub use crate::output::Output;
-pub use crate::running::{Filter, Program, run, run_by_words};
+pub use crate::running::{Filter, Program, filter_by_words, run, run_by_words};
 pub use crate::words::{Words, words_of};

@@ -1,9 +1,11 @@
-ghost use Rattle.std.specs.Prelude.{◌≡◌};
+//! What a program prints to.
+ghost use Rattle.std.specs.Prelude.{◌≡◌, false};
 
 use devices::Target;
 use ghost_counts::Count;
 use std::io;
 use std::io::{ErrorKind, Write};
+use std::marker::Model;
 
 /// A writer as a target, which knows whether its reader has gone away.
 #[derive(Drop)]
@@ -13,10 +15,19 @@ pub struct Output<W> {
     failures: Count,
 }
 
+impl<W> Model for Output<W> {
+    ghost use Rattle.html5programs.specs.Messages.{Piped};
+
+    ghost Value = { Piped W };
+
+    ghost view = { λ o. record { inner = o.inner; is_closed = o.is_closed; failures = o.failures.total } };
+}
+
 impl<W> Output<W> {
     pub fn new(inner: W) -> Output<W>
         ensures inner { result.inner ≡ inner }
-        ensures failures { result.failures.total ≡ 0 }
+        ensures closed { result.is_closed ≡ false }
+        ensures failures { result.failures ≡ 0 }
     {
         Output {
             inner,
@@ -36,7 +47,7 @@ impl<W> Output<W> {
 impl<W: Write> Target for Output<W> {
     ghost contents = { λ t. W.contents t.inner };
 
-    ghost failures = { λ t. t.failures.total };
+    ghost failures = { λ t. t.failures };
 
     fn write(&mut self, buf: &[u8]) -> io::Result<usize> {
         match self.inner.write(buf) {

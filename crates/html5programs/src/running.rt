@@ -1,10 +1,15 @@
-ghost use Rattle.std.specs.Prelude.{◌≡◌, OnOk};
+//! Programs that read pages, and print what they make of them.
+ghost use Rattle.std.specs.Prelude.{◌≡◌, ◌≢◌, ◌⊎◌, ◌∷◌, [], true, false, Contains, IfSome, IsOk, OnOk, Some, map, option_map, string_bytes};
+ghost use Rattle.html5programs.specs.Ending.{AsksHelp, HasWrongWord, PrintsAsked, PrintsFiles, asked_of, status_of};
+ghost use Rattle.html5programs.specs.Filtering.{AreSettingsAsked, ReadsFile, ReadsFiles};
+ghost use Rattle.html5programs.specs.Words.{asked_by};
 
+use crate::ending::Ending;
 use crate::messages::Messages;
 use crate::names::read_names;
 use crate::output::Output;
 use crate::words::{Words, words_of};
-use devices::{Printer, ReadSource, Source, Target, WriteTarget, given_words, write_all};
+use devices::{Logged, Printer, ReadSource, Source, Target, WriteTarget, given_words, write_all};
 use html5stream::StreamError;
 use markup5ever::data::NamedReferences;
 use std::alloc::{AllocError, Global};
@@ -17,41 +22,32 @@ use thiserror::Error;
 
 /// What a program makes of the pages that it reads: what it prints.
 pub trait Filter<W: Target + Drop>: Drop {
-    ghost use Rattle.std.specs.Prelude.{◌≡◌, ℕ, ◌+◌, List, OnOk, OnErr};
-    ghost use Rattle.markup5ever.specs.NamedReferences.{NamedReference};
-    ghost use Rattle.html5ever_interface.specs.Sink.{Message};
+    ghost use Rattle.std.specs.Prelude.{◌≡◌, ℕ, ◌+◌, List, Some, IfOk, OnOk, OnErr};
+    ghost use Rattle.html5programs.specs.Filtering.{Filtering};
     ghost use Rattle.html5stream.specs.Pages.{ReadsPage, StopsPage};
     ghost use Rattle.html5stream.specs.Streams.{failed_reads};
-
-    // The abstract state of a filter, and what was printed in it.
-    ghost State: { Type 0 };
-
-    ghost state: { Self → State };
-
-    ghost printed: { State → List ℕ };
-
-    // Where a page begins, after what was read before; a page's messages, by a table of names; and a
-    // filter after some of them.
-    ghost begun: { State → State };
-
-    ghost page: { List NamedReference → State → List ℕ → List Message };
-
-    ghost handed: { State → List Message → State };
 
     /// What a filter goes by, and why a text of settings says none.
     type Settings: Drop;
 
     type Fault: Display + Drop;
 
+    // The abstract state of a filter, and what it makes of settings and pages.
+    ghost State: { Type 0 };
+
+    ghost means: { Filtering Self Self.Settings State };
+
     /// The settings where no file of them is given.
-    fn default_settings(alloc: Global) -> Result<Self::Settings, AllocError>;
+    fn default_settings(alloc: Global) -> Result<Self::Settings, AllocError>
+        ensures { IfOk result (λ settings. settings ≡ means.unsaid) };
 
     /// The settings that a text says.
-    fn settings_of(alloc: Global, text: &str) -> Result<Self::Settings, Self::Fault>;
+    fn settings_of(alloc: Global, text: &str) -> Result<Self::Settings, Self::Fault>
+        ensures { IfOk result (λ settings. means.said text.now ≡ Some settings) };
 
     /// A filter that has read nothing, and prints to this printer.
     fn new(alloc: Global, printer: Printer<W>, settings: Self::Settings) -> Self
-        ensures { printed (state result) ≡ printer.printed };
+        ensures { means.state result ≡ means.started settings printer.printed };
 
     /// Reads a page, and prints what it makes of it as it arrives: of the whole page, or after an error
     /// of a beginning of it.
@@ -61,15 +57,17 @@ pub trait Filter<W: Target + Drop>: Drop {
         source: &mut R,
         names: &NamedReferences,
     ) -> (Self, Result<(), StreamError>)
-        ensures finishes { OnOk result.1 (ReadsPage (λ s bytes. handed s (page names.now s bytes))
-            (R.remaining source.old) (R.remaining source.new) (begun (state self)) (state result.0)) }
-        ensures beginning { OnErr result.1 (StopsPage (page names.now) handed
-            (R.remaining source.old) (R.remaining source.new) (begun (state self)) (state result.0)) }
+        ensures finishes { OnOk result.1 (ReadsPage (λ s bytes. means.handed s (means.page names.now s bytes))
+            (R.remaining source.old) (R.remaining source.new)
+            (means.begun (means.state self)) (means.state result.0)) }
+        ensures beginning { OnErr result.1 (StopsPage (means.page names.now) means.handed
+            (R.remaining source.old) (R.remaining source.new)
+            (means.begun (means.state self)) (means.state result.0)) }
         ensures read { R.failures source.new ≡ R.failures source.old + failed_reads result.1 };
 
     /// The printer, with what was printed.
     fn into_printer(self) -> Printer<W>
-        ensures { result.printed ≡ printed (state self) };
+        ensures { result.printed ≡ means.printed (means.state self) };
 }
 
 /// The name of a program, how it is used, and its option for a file of settings, where it has one.
@@ -79,15 +77,6 @@ pub struct Program<'p> {
     pub help: &'p str,
     pub settings: Option<&'p str>,
 }
-
-/// The status of a program that did all that it was asked for.
-const DONE: u8 = 0;
-
-/// The status of a program that could not read an input or write what it printed.
-const FAILED: u8 = 1;
-
-/// The status of a program whose words are wrong, or a table or settings that they name.
-const WRONG: u8 = 2;
 
 // Why a file was not read to its end.
 #[derive(Clone, Copy, Debug, PartialEq, Eq, Error)]
@@ -109,6 +98,16 @@ enum Outcome {
     Stopped,
 }
 
+// The same answer in words of files.
+fn read_or_error(read: Result<(), StreamError>) -> Result<(), FileError>
+    ensures { OnOk result (IsOk read) }
+{
+    match read {
+        Ok(()) => Ok(()),
+        Err(error) => Err(FileError::Stream(error)),
+    }
+}
+
 // Reads a file, or standard input where it is named `-`.
 fn read_file<F: Filter<W>, W: Target + Drop, R: Files + Alloc<A = Global>, I: Source>(
     rt: &R,
@@ -117,19 +116,20 @@ fn read_file<F: Filter<W>, W: Target + Drop, R: Files + Alloc<A = Global>, I: So
     stdin: &mut I,
     file: &str,
 ) -> (F, Result<(), FileError>)
+    ensures file { OnOk result.1 (ReadsFile F.means names.now file.now
+        (I.remaining stdin.old) (I.remaining stdin.new) (F.means.state filter) (F.means.state result.0)) }
     ensures read { OnOk result.1 (I.failures stdin.new ≡ I.failures stdin.old) }
 {
-    let (filter, read) = if file == "-" {
-        filter.read_page(rt.alloc(), stdin, names)
-    } else {
-        match File::open(rt, file) {
-            Ok(opened) => filter.read_page(rt.alloc(), &mut ReadSource::new(opened), names),
-            Err(_) => return (filter, Err(FileError::Open)),
+    if file == "-" {
+        let (filter, read) = filter.read_page(rt.alloc(), stdin, names);
+        return (filter, read_or_error(read));
+    }
+    match File::open(rt, file) {
+        Ok(opened) => {
+            let (filter, read) = filter.read_page(rt.alloc(), &mut ReadSource::new(opened), names);
+            (filter, read_or_error(read))
         }
-    };
-    match read {
-        Ok(()) => (filter, Ok(())),
-        Err(error) => (filter, Err(FileError::Stream(error))),
+        Err(_) => (filter, Err(FileError::Open)),
     }
 }
 
@@ -142,6 +142,8 @@ fn read_files<F: Filter<W>, W: Target + Drop, R: Files + Alloc<A = Global>, I: S
     files: &[&str],
     messages: &mut Messages<'_, E>,
 ) -> (F, Outcome)
+    ensures files { result.1 ≡ Outcome.Read → ReadsFiles F.means names.now (map (λ file. file.now) files.now)
+        (I.remaining stdin.old) (I.remaining stdin.new) (F.means.state filter) (F.means.state result.0) }
     ensures read { result.1 ≡ Outcome.Read → I.failures stdin.new ≡ I.failures stdin.old }
 {
     let mut filter = filter;
@@ -161,6 +163,22 @@ fn read_files<F: Filter<W>, W: Target + Drop, R: Files + Alloc<A = Global>, I: S
     (filter, outcome)
 }
 
+// How a run over files ends, where what was made of them was written or not.
+fn ending_of(outcome: Outcome, is_written: bool, is_closed: bool) -> Ending
+    ensures done { result ≡ Ending.Done → (outcome ≡ Outcome.Read) × (is_written ≡ true) }
+    ensures closed { (result ≡ Ending.Closed) → is_closed ≡ true }
+    ensures words { (result ≢ Ending.WrongWord) × (result ≢ Ending.NoMemory) }
+{
+    if is_closed {
+        return Ending::Closed;
+    }
+    match outcome {
+        Outcome::Read if is_written => Ending::Done,
+        Outcome::Missed if is_written => Ending::Missed,
+        _ => Ending::Unprinted,
+    }
+}
+
 // Reads the files and prints what the filter makes of them.
 fn filter_files<
     F: Filter<Output<O>>,
@@ -176,50 +194,21 @@ fn filter_files<
     stdin: &mut I,
     stdout: O,
     messages: &mut Messages<'_, E>,
-) -> u8 {
-    let filter = F::new(
-        rt.alloc(),
-        Printer::new(rt.alloc(), Output::new(stdout)),
-        settings,
-    );
+) -> (Logged<Output<O>>, Ending)
+    ensures done { result.1 ≡ Ending.Done → PrintsFiles F.means names.now settings (map (λ file. file.now) files.now)
+        (I.remaining stdin.old) (I.remaining stdin.new) result.0.taken }
+    ensures closed { result.1 ≡ Ending.Closed → result.0.inner.is_closed ≡ true }
+    ensures words { (result.1 ≢ Ending.WrongWord) × (result.1 ≢ Ending.NoMemory) }
+{
+    let printer = Printer::new(rt.alloc(), Output::new(stdout));
+    let filter = F::new(rt.alloc(), printer, settings);
     let (filter, outcome) = read_files(rt, filter, names, stdin, files, messages);
     let (target, written) = filter.into_printer().finish();
-    if target.inner().is_closed() {
-        return DONE;
+    let ending = ending_of(outcome, written.is_ok(), target.inner().is_closed());
+    if ending == Ending::Unprinted {
+        messages.say("output", "can't be printed");
     }
-    match outcome {
-        Outcome::Read if written.is_ok() => DONE,
-        Outcome::Missed if written.is_ok() => FAILED,
-        _ => {
-            messages.say("output", "can't be printed");
-            FAILED
-        }
-    }
-}
-
-/// Runs a program by the words after its name, and answers the status that the process ends with.
-/// Where the reader of the output goes away it ends without a word.
-pub fn run<
-    F: Filter<Output<O>>,
-    R: Env + Files + Alloc<A = Global>,
-    I: Read + Drop,
-    O: Write + Drop,
-    E: Write + Drop,
->(rt: &R, program: Program, stdin: I, stdout: O, stderr: E) -> u8 {
-    let Ok(words) = given_words(rt) else {
-        messages_of(rt.alloc(), program, stderr).say("words", "can't be read");
-        return WRONG;
-    };
-    run_by_words::<F, R, I, O, E>(rt, program, &words, stdin, stdout, stderr)
-}
-
-// Says on standard error what goes wrong, in the program's name.
-fn messages_of<'p, E: Write>(
-    alloc: Global,
-    program: Program<'p>,
-    stderr: E,
-) -> Messages<'p, WriteTarget<E>> {
-    Messages::new(alloc, program.name, WriteTarget::new(stderr))
+    (target, ending)
 }
 
 // The settings of a file, or else those of a filter where none is given. Where there are none, it says
@@ -228,7 +217,9 @@ fn read_settings<F: Filter<W>, W: Target + Drop, R: Files + Alloc<A = Global>, E
     rt: &R,
     path: Option<&str>,
     messages: &mut Messages<'_, E>,
-) -> Option<F::Settings> {
+) -> Option<F::Settings>
+    ensures { IfSome result (AreSettingsAsked F.means (option_map (λ path. path.now) path.entry)) }
+{
     let Some(path) = path else {
         let Ok(settings) = F::default_settings(rt.alloc()) else {
             messages.say("settings", "out of memory");
@@ -253,50 +244,147 @@ fn read_settings<F: Filter<W>, W: Target + Drop, R: Files + Alloc<A = Global>, E
 fn filter_asked<
     F: Filter<Output<O>>,
     R: Files + Alloc<A = Global>,
-    I: Read + Drop,
+    I: Source,
     O: Write + Drop,
     E: Target,
->(rt: &R, asked: &Words<'_>, stdin: I, stdout: O, messages: &mut Messages<'_, E>) -> u8 {
+>(
+    rt: &R,
+    asked: &Words<'_>,
+    stdin: &mut I,
+    stdout: O,
+    messages: &mut Messages<'_, E>,
+) -> (Logged<Output<O>>, Ending)
+    ensures done { result.1 ≡ Ending.Done → PrintsAsked F.means (asked_by asked.now)
+        (I.remaining stdin.old) (I.remaining stdin.new) result.0.taken }
+    ensures closed { result.1 ≡ Ending.Closed → result.0.inner.is_closed ≡ true }
+    ensures words { (result.1 ≢ Ending.WrongWord) × (result.1 ≢ Ending.NoMemory) }
+{
     let names = match read_names(rt, asked.names) {
         Ok(names) => names,
         Err(error) => {
             messages.say("names", error);
-            return WRONG;
+            return (Logged::new(Output::new(stdout)), Ending::NoTable);
         }
     };
     let Some(settings) = read_settings::<F, Output<O>, R, E>(rt, asked.settings, messages) else {
-        return WRONG;
+        return (Logged::new(Output::new(stdout)), Ending::NoSettings);
     };
-    let stdin = &mut ReadSource::new(stdin);
     if asked.files.is_empty() {
-        return filter_files::<F, R, _, O, _>(rt, &names, settings, &["-"], stdin, stdout, messages);
+        return filter_files::<F, R, I, O, E>(rt, &names, settings, &["-"], stdin, stdout, messages);
     }
-    filter_files::<F, R, _, O, _>(rt, &names, settings, &asked.files, stdin, stdout, messages)
+    filter_files::<F, R, I, O, E>(rt, &names, settings, &asked.files, stdin, stdout, messages)
 }
 
-/// Runs a program by these words, as `run` does by those that the process was given.
-pub fn run_by_words<
+// Prints how a program is used.
+fn print_help<O: Write + Drop, E: Target>(
+    help: &str,
+    stdout: O,
+    messages: &mut Messages<'_, E>,
+) -> (Logged<Output<O>>, Ending)
+    ensures done { result.1 ≡ Ending.Done → result.0.taken ≡ help.now }
+    ensures closed { result.1 ≡ Ending.Closed → result.0.inner.is_closed ≡ true }
+    ensures words { (result.1 ≢ Ending.WrongWord) × (result.1 ≢ Ending.NoMemory) }
+{
+    let mut output = Logged::new(Output::new(stdout));
+    let written = write_all(&mut output, help.as_bytes());
+    let ending = ending_of(Outcome::Read, written.is_ok(), output.inner().is_closed());
+    if ending == Ending::Unprinted {
+        messages.say("output", "can't be printed");
+    }
+    (output, ending)
+}
+
+/// Runs a program by the words after its name: prints how it is used, or what its filter makes of the
+/// files that the words name, or else of standard input. It gives the output back, and how it ended.
+/// What a file holds that is opened by its path no contract says.
+pub fn filter_by_words<
     F: Filter<Output<O>>,
     R: Files + Alloc<A = Global>,
-    I: Read + Drop,
+    I: Source,
     O: Write + Drop,
-    E: Write + Drop,
->(rt: &R, program: Program, words: &[String], stdin: I, stdout: O, stderr: E) -> u8 {
-    let messages = &mut messages_of(rt.alloc(), program, stderr);
+    E: Target,
+>(
+    rt: &R,
+    program: Program<'_>,
+    words: &[String],
+    stdin: &mut I,
+    stdout: O,
+    messages: &mut Messages<'_, E>,
+) -> (Logged<Output<O>>, Ending)
+    // What `Done` says: all files that the words ask for were read to their ends, and what was written is
+    // what the filter printed of them.
+    ensures done { (asked_of program.entry (map string_bytes words.now)).help ≡ false → result.1 ≡ Ending.Done
+        → PrintsAsked F.means (asked_of program.entry (map string_bytes words.now))
+        (I.remaining stdin.old) (I.remaining stdin.new) result.0.taken }
+    ensures help { AsksHelp (asked_of program.entry (map string_bytes words.now)) → result.1 ≡ Ending.Done
+        → result.0.taken ≡ program.entry.help.now }
+    ensures closed { result.1 ≡ Ending.Closed → result.0.inner.is_closed ≡ true }
+
+    // When words are wrong, and that nothing is read and written then.
+    ensures wrong { result.1 ≡ Ending.WrongWord → HasWrongWord (asked_of program.entry (map string_bytes words.now)) }
+    ensures usage { HasWrongWord (asked_of program.entry (map string_bytes words.now))
+        → (result.1 ≡ Ending.WrongWord) ⊎ (result.1 ≡ Ending.NoMemory) }
+    ensures untouched { HasWrongWord (asked_of program.entry (map string_bytes words.now))
+        → (stdin.new ≡ stdin.old) × (result.0.taken ≡ []) }
+{
     let Ok(asked) = words_of(rt.alloc(), words, program.settings) else {
         messages.say("words", "out of memory");
-        return FAILED;
+        return (Logged::new(Output::new(stdout)), Ending::NoMemory);
     };
     if asked.help {
-        let _ = write_all(&mut WriteTarget::new(stdout), program.help.as_bytes());
-        return DONE;
+        return print_help(program.help, stdout, messages);
     }
     if let Some(word) = asked.wrong {
         messages.say(
             word,
             "unknown word, or a word is missing after it; try --help",
         );
-        return WRONG;
+        return (Logged::new(Output::new(stdout)), Ending::WrongWord);
     }
-    filter_asked::<F, R, I, O, _>(rt, &asked, stdin, stdout, messages)
+    filter_asked::<F, R, I, O, E>(rt, &asked, stdin, stdout, messages)
+}
+
+// Says on standard error what goes wrong, in the program's name.
+fn messages_of<'p, E: Write>(
+    alloc: Global,
+    program: Program<'p>,
+    stderr: E,
+) -> Messages<'p, WriteTarget<E>> {
+    Messages::new(alloc, program.name, WriteTarget::new(stderr))
+}
+
+/// Runs a program by these words, as `filter_by_words` says, and answers the status that the process
+/// ends with. Where the reader of the output goes away it ends without a word.
+pub fn run_by_words<
+    F: Filter<Output<O>>,
+    R: Files + Alloc<A = Global>,
+    I: Read + Drop,
+    O: Write + Drop,
+    E: Write + Drop,
+>(rt: &R, program: Program, words: &[String], stdin: I, stdout: O, stderr: E) -> u8
+    ensures status { Contains (0 ∷ 1 ∷ 2 ∷ []) result }
+    ensures usage { HasWrongWord (asked_of program.entry (map string_bytes words.now)) → Contains (1 ∷ 2 ∷ []) result }
+{
+    let messages = &mut messages_of(rt.alloc(), program, stderr);
+    let stdin = &mut ReadSource::new(stdin);
+    let (_, ending) = filter_by_words::<F, R, _, O, _>(rt, program, words, stdin, stdout, messages);
+    ending.status()
+}
+
+/// Runs a program by the words that the process was given, and answers the status that it ends with.
+/// No contract says which words these are.
+pub fn run<
+    F: Filter<Output<O>>,
+    R: Env + Files + Alloc<A = Global>,
+    I: Read + Drop,
+    O: Write + Drop,
+    E: Write + Drop,
+>(rt: &R, program: Program, stdin: I, stdout: O, stderr: E) -> u8
+    ensures { Contains (0 ∷ 1 ∷ 2 ∷ []) result }
+{
+    let Ok(words) = given_words(rt) else {
+        messages_of(rt.alloc(), program, stderr).say("words", "can't be read");
+        return Ending::WrongWord.status();
+    };
+    run_by_words::<F, R, I, O, E>(rt, program, &words, stdin, stdout, stderr)
 }

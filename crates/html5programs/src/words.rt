@@ -1,3 +1,8 @@
+//! The words of the command line.
+ghost use Rattle.std.specs.Prelude.{◌≡◌, IfOk, OnOk, map, string_bytes};
+ghost use Rattle.std.specs.Option.{option_map};
+ghost use Rattle.html5programs.specs.Words.{asked_after, asked_by, is_file, nothing_asked, takes_path, with_path, with_word, with_wrong, words_asked};
+
 use std::alloc::{AllocError, Allocator, Global};
 
 /// What the words of the command line ask for.
@@ -15,9 +20,21 @@ pub struct Words<'w, A: Allocator = Global> {
     pub wrong: Option<&'w str>,
 }
 
+// Whether a word is a file.
+fn is_file(word: &str) -> bool
+    ensures { result ≡ is_file word.now }
+{
+    match word.as_bytes() {
+        [first, _, ..] => *first != b'-',
+        _ => true,
+    }
+}
+
 impl<'w, A: Allocator + Copy> Words<'w, A> {
     // What no word asks for.
-    fn none(alloc: A) -> Words<'w, A> {
+    fn none(alloc: A) -> Words<'w, A>
+        ensures { asked_by result ≡ nothing_asked }
+    {
         Words {
             help: false,
             names: None,
@@ -27,20 +44,35 @@ impl<'w, A: Allocator + Copy> Words<'w, A> {
         }
     }
 
+    // Takes a word that is wrong.
+    fn take_wrong(&mut self, word: &'w str)
+        ensures { asked_by self.new ≡ with_wrong (asked_by self.old) word.now }
+    {
+        if self.wrong.is_none() {
+            self.wrong = Some(word);
+        }
+    }
+
     // Takes a word that is no option with a word after it.
-    fn take(&mut self, word: &'w str) -> Result<(), AllocError> {
+    #[tactic(auto, unfolding(crate::specs::Words::with_word))]
+    fn take(&mut self, word: &'w str) -> Result<(), AllocError>
+        ensures { OnOk result (asked_by self.new ≡ with_word (asked_by self.old) word.now) }
+    {
         if word == "--help" {
             self.help = true;
-        } else if word == "-" || !word.starts_with('-') {
+        } else if is_file(word) {
             self.files.push(word)?;
-        } else if self.wrong.is_none() {
-            self.wrong = Some(word);
+        } else {
+            self.take_wrong(word);
         }
         Ok(())
     }
 
     // Takes an option and the path after it.
-    fn take_path(&mut self, option: &str, path: &'w str) {
+    #[tactic(auto, unfolding(crate::specs::Words::with_path))]
+    fn take_path(&mut self, option: &str, path: &'w str)
+        ensures { asked_by self.new ≡ with_path (asked_by self.old) option.now path.now }
+    {
         if option == "--names" {
             self.names = Some(path);
         } else {
@@ -50,7 +82,10 @@ impl<'w, A: Allocator + Copy> Words<'w, A> {
 }
 
 // Whether a word is an option with a path after it, where this one is for settings.
-fn takes_path(word: &str, settings: Option<&str>) -> bool {
+#[tactic(auto, unfolding(crate::specs::Words::takes_path))]
+fn takes_path(word: &str, settings: Option<&str>) -> bool
+    ensures { result ≡ takes_path (option_map (λ option. option.now) settings.entry) word.now }
+{
     match settings {
         Some(option) => word == option || word == "--names",
         None => word == "--names",
@@ -62,7 +97,10 @@ pub fn words_of<'w, A: Allocator + Copy>(
     alloc: A,
     words: &'w [String<A>],
     settings: Option<&str>,
-) -> Result<Words<'w, A>, AllocError> {
+) -> Result<Words<'w, A>, AllocError>
+    ensures { IfOk result (λ asked. asked_by asked ≡ words_asked (option_map (λ option. option.now) settings.entry)
+        (map string_bytes words.now)) }
+{
     let mut asked = Words::none(alloc);
     let mut words = words.iter();
     while let Some(word) = words.next() {
@@ -72,7 +110,10 @@ pub fn words_of<'w, A: Allocator + Copy>(
         }
         match words.next() {
             Some(path) => asked.take_path(word.as_str(), path.as_str()),
-            None => asked.wrong = Some(word.as_str()),
+            None => {
+                asked.take_wrong(word.as_str());
+                return Ok(asked);
+            }
         }
     }
     Ok(asked)

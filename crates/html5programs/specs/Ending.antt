@@ -1,0 +1,48 @@
+-- How a run ends: its status, and what was read and printed.
+use Rattle.std.specs.Prelude.{◌≡◌, ℕ, List, [], ◌∷◌, Option, option_map, IsSome, true, false}
+use Rattle.html5programs.specs.Filtering.{AreSettingsAsked, Filtering, ReadsFiles}
+use Rattle.html5programs.specs.Names.{IsTableAsked}
+use Rattle.html5programs.specs.Words.{Asked, files_asked, words_asked}
+use Rattle.html5programs.specs.declared.running.Program.{Program}
+use Rattle.html5programs.specs.declared.ending.Ending.{Ending}
+use Rattle.html5programs.specs.declared.ending.Ending.TheVariants.{Done, Closed, Missed, Unprinted, NoMemory, WrongWord, NoTable, NoSettings}
+use Rattle.markup5ever.specs.NamedReferences.{NamedReference}
+
+-- the status that the process ends with
+abbrev pub status_of : Ending → ℕ
+status_of Done = 0
+status_of Closed = 0
+status_of Missed = 1
+status_of Unprinted = 1
+status_of NoMemory = 1
+status_of WrongWord = 2
+status_of NoTable = 2
+status_of NoSettings = 2
+
+-- what words ask of a program
+abbrev pub asked_of : Program → List (List ℕ) → Asked
+asked_of program words = words_asked (option_map (λ option. option.now) program.settings) words
+
+-- the words ask how the program is used
+abbrev pub AsksHelp : Asked → Type 0
+AsksHelp asked = asked.help ≡ true
+
+-- they don't, and one of them is wrong
+pub record HasWrongWord (asked : Asked) : Type 0 where
+  pub no_help : asked.help ≡ false
+  pub wrong : IsSome asked.wrong
+
+module _ {F T S : Type 0} (means : Filtering F T S) where
+  -- these files were read by a table and by settings, and what was written is what the filter printed of them
+  pub record PrintsFiles (names : List NamedReference) (settings : T) (files : List (List ℕ)) (unread left : Option (List ℕ)) (written : List ℕ) : Type 0 where
+    pub after : S
+    pub read : ReadsFiles means names files unread left (means.started settings []) after
+    pub printed : written ≡ means.printed after
+
+  -- those that the words ask for were, by the table and the settings that they ask for
+  pub record PrintsAsked (asked : Asked) (unread left : Option (List ℕ)) (written : List ℕ) : Type 0 where
+    pub names : List NamedReference
+    pub settings : T
+    pub table : IsTableAsked asked.names names
+    pub said : AreSettingsAsked means asked.settings settings
+    pub prints : PrintsFiles names settings (files_asked asked) unread left written

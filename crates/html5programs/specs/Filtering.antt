@@ -1,0 +1,50 @@
+-- What a program makes of the files that it reads, one after the other.
+use Rattle.std.specs.Prelude.{◌≡◌, ℕ, List, [], ◌∷◌, Option, None, Some, codes}
+use Rattle.std.specs.Io.KnownBytes.{Consumes, IsAtEnd}
+use Rattle.std.specs.Str.{IsUtf8}
+use Rattle.html5ever_interface.specs.Sink.{Message}
+use Rattle.markup5ever.specs.NamedReferences.{NamedReference}
+
+-- what a filter makes of its settings and of pages, where S is that of its state
+pub record Filtering (F T S : Type 0) : Type 0 where
+  -- where a filter stands
+  pub state : F → S
+  -- the settings where no file of them is given, and those that a text says, if it says any
+  pub unsaid : T
+  pub said : List ℕ → Option T
+  -- a filter with these settings, to whose printer this was printed
+  pub started : T → List ℕ → S
+  -- where a page begins, after what was read before
+  pub begun : S → S
+  -- the messages of a page whose bytes are given, by a table of names
+  pub page : List NamedReference → S → List ℕ → List Message
+  -- a filter after some of them
+  pub handed : S → List Message → S
+  -- what was printed
+  pub printed : S → List ℕ
+
+-- a file that is standard input
+abbrev pub IsInput : List ℕ → Type 0
+IsInput file = file ≡ codes "-"
+
+module _ {F T S : Type 0} (means : Filtering F T S) (names : List NamedReference) where
+  -- a file was read to its end, its bytes are UTF-8, and the filter was handed all of their messages. Of standard input they are all that
+  -- it had left. Which bytes another file holds no contract says.
+  pub record ReadsFile (file : List ℕ) (unread left : Option (List ℕ)) (before after : S) : Type 0 where
+    pub bytes : List ℕ
+    pub utf8 : IsUtf8 bytes
+    pub told : after ≡ means.handed (means.begun before) (means.page names (means.begun before) bytes)
+    pub input : IsInput file → Consumes unread left bytes × IsAtEnd left
+    pub other : ¬ (IsInput file) → left ≡ unread
+
+  -- and so was each of the files, one after the other
+  unfoldable pub ReadsFiles : List (List ℕ) → Option (List ℕ) → Option (List ℕ) → S → S → Type 0
+  ReadsFiles [] unread left before after = (left ≡ unread) × (after ≡ before)
+  ReadsFiles (file ∷ files) unread left before after =
+      (now : Option (List ℕ)) × (between : S) × ReadsFile file unread now before between × ReadsFiles files now left between after
+
+-- the settings where no file of them is given, or those of a text. Which text the file holds no contract says.
+module _ {F T S : Type 0} (means : Filtering F T S) where
+  abbrev pub AreSettingsAsked : Option (List ℕ) → T → Type 0
+  AreSettingsAsked None settings = settings ≡ means.unsaid
+  AreSettingsAsked (Some path) settings = (text : List ℕ) × (means.said text ≡ Some settings)
