@@ -117,7 +117,7 @@ pub record EndSays (old new : SessionOf) (status : ℕ) : Type 0 where
   pub waiting : (status ≡ 6) ↔ ((is_over old ≡ false) × (old.text ≢ []))
   pub cut : (status ≡ 5) ↔ ((is_over old ≡ false) × (old.text ≡ []) × (old.decoder.held ≢ []))
   pub over : (status ≡ 7) ↔ (is_over old ≡ true)
-  -- at these three nothing changes
+  -- at those three nothing changes
   pub unchanged : status ≢ 0 → status ≢ 3 → new ≡ old
   pub only : (status ≡ 0) ⊎ (status ≡ 3) ⊎ (status ≡ 5) ⊎ (status ≡ 6) ⊎ (status ≡ 7)
 

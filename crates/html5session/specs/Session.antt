@@ -81,6 +81,7 @@ pub record RefusesBytes (old new : SessionOf) (bytes : List ℕ) (place : ℕ) :
   pub fault : IsFault old.decoder.taken (old.decoder.held ++ bytes) (decoder.NotUtf8 place)
   pub never : IsNeverUtf8 (old.decoder.held ++ bytes)
 
+-- the error of such a piece
 abbrev pub IsNotUtf8 : SessionError → Type 0
 IsNotUtf8 (NotUtf8 place) = Unit {0}
 IsNotUtf8 other = ⊥
