@@ -8,7 +8,7 @@ use Rattle.html5write.specs.Pieces.{NameAndValue, Piece, are_distinct, can_write
 use Rattle.html5write.specs.Pieces.Piece.{TextPiece, StartTagPiece, EndTagPiece, CommentPiece}
 use Rattle.html5cleaner.specs.Allowed.{is_allowed_piece, is_clean, is_written_attribute}
 use Rattle.html5cleaner.specs.Balance.{AreClean, all_balanced, all_open_after, balanced, closed_at_end, end_tags, open_after, open_by, written_by}
-use Rattle.html5cleaner.specs.Elements.{is_void}
+use Rattle.html5elements.specs.Elements.{is_void}
 use Rattle.html5cleaner.specs.Open.{closed_by}
 use Rattle.html5cleaner.proofs.Replies.{and-left, and-right}
 

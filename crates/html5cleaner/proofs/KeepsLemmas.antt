@@ -12,7 +12,7 @@ use Rattle.html5write.specs.declared.error.WriteError.{WriteError}
 use Rattle.html5cleaner.specs.declared.balance.Change.{Change}
 use Rattle.html5cleaner.specs.Balance.{all_balanced, all_open_after, balanced, end_tags, is_end, open_after, open_by, written_by}
 use Rattle.html5cleaner.specs.Clean.{kept_of_run, kept_where}
-use Rattle.html5cleaner.specs.Elements.{is_void}
+use Rattle.html5elements.specs.Elements.{is_void}
 use Rattle.html5cleaner.specs.Kept.{Keeps}
 use Rattle.html5cleaner.specs.Open.{closed_by}
 use Rattle.html5cleaner.proofs.WrittenRuns.{nothing-opened, nothing-written, open-last, open-plain, piece-balanced, piece-open, written-last, written-plain}

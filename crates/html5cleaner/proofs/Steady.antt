@@ -24,7 +24,7 @@ use Rattle.html5cleaner.specs.Balance.{all_balanced, all_open_after, balanced, e
 use Rattle.html5cleaner.specs.Open.{closed_by}
 use Rattle.html5stream.specs.Pages.{runs_handed, runs_start}
 use Rattle.html5cleaner.specs.Clean.{Cleaned, adds_noopener, at_start, allows_by_kind, attribute_chars, clean_step, is_href, kept, kept_attributes, kept_of_parts, kept_of_run, kept_of_tag, kept_of_token, kept_where, noopener_attribute, opens, piece_by_kind, where_writable, with_noopener}
-use Rattle.html5cleaner.specs.Elements.{is_empty_element}
+use Rattle.html5elements.specs.Elements.{is_empty_element}
 use Rattle.html5cleaner.proofs.Encoded.{chars-encoded}
 use lib.Utf8.{encode}
 use Rattle.html5cleaner.proofs.Replies.{and-left, and-right}

@@ -4,7 +4,7 @@ use Rattle.std.specs.List.{list_all}
 use Rattle.html5policy.specs.Policy.{PolicyOf, is_allowed, is_kept, is_written}
 use Rattle.html5write.specs.Pieces.{NameAndValue, Piece, can_write}
 use Rattle.html5write.specs.Pieces.Piece.{TextPiece, StartTagPiece, EndTagPiece, CommentPiece}
-use Rattle.html5cleaner.specs.Elements.{is_void}
+use Rattle.html5elements.specs.Elements.{is_void}
 
 -- in an element of this name
 abbrev pub is_kept_attribute : PolicyOf → List ℕ → NameAndValue → Bool

@@ -9,7 +9,7 @@ use Rattle.html5write.specs.Pieces.{Piece}
 use Rattle.html5write.specs.Pieces.Piece.{TextPiece, StartTagPiece, EndTagPiece, CommentPiece}
 use Rattle.html5policy.specs.Policy.{PolicyOf}
 use Rattle.html5cleaner.specs.Allowed.{is_clean}
-use Rattle.html5cleaner.specs.Elements.{is_void}
+use Rattle.html5elements.specs.Elements.{is_void}
 use Rattle.html5cleaner.specs.Open.{closed_by}
 
 -- ---- a piece

@@ -10,7 +10,7 @@ use Rattle.markup5ever.specs.Names.{AttributeOf}
 use Rattle.html5policy.specs.Policy.{PolicyOf, hides, is_allowed, is_rel_of_link}
 use Rattle.html5write.specs.Pieces.{NameAndValue, Piece, can_write}
 use Rattle.html5write.specs.Pieces.Piece.{TextPiece, StartTagPiece, EndTagPiece}
-use Rattle.html5cleaner.specs.Elements.{is_empty_element, is_void}
+use Rattle.html5elements.specs.Elements.{is_empty_element, is_void}
 use Rattle.html5cleaner.specs.Allowed.{is_kept_attribute}
 use Rattle.html5cleaner.specs.Balance.{is_end, open_by, written_by}
 use Rattle.html5cleaner.specs.declared.hidden.Hidden.{Hidden as RustHidden}

@@ -1,4 +1,3 @@
-pub mod Elements
 pub mod Allowed
 pub mod Open
 pub mod Counts

@@ -9,7 +9,7 @@ use Rattle.html5ever_interface.specs.declared.interface.token.TagKind.TheVariant
 use Rattle.html5sinks.specs.Replies.{standard_reply}
 use Rattle.markup5ever.specs.Names.{AttributeOf}
 use Rattle.html5policy.specs.Policy.{PolicyOf, is_allowed, is_written}
-use Rattle.html5cleaner.specs.Elements.{is_void}
+use Rattle.html5elements.specs.Elements.{is_void}
 
 -- whether each attribute of an element is kept, or written into links
 abbrev pub has_written_attributes : PolicyOf → List ℕ → List AttributeOf → Bool

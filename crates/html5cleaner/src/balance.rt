@@ -3,13 +3,13 @@ ghost use Rattle.std.specs.Prelude.{◌≡◌, ◌++◌, ◌∷◌, [], OnErr, O
 ghost use Rattle.html5write.specs.Writing.{piece_of};
 ghost use Rattle.html5cleaner.specs.Balance.{all_balanced, all_open_after, end_tags};
 ghost use Rattle.html5cleaner.specs.Clean.{kept_of_run};
-ghost use Rattle.html5cleaner.specs.Elements.{is_void};
+ghost use Rattle.html5elements.specs.Elements.{is_void};
 ghost use Rattle.html5cleaner.specs.Kept.{Keeps, piece_where};
 ghost use Rattle.html5cleaner.specs.Open.{names_of};
 
-use crate::elements::is_void;
 use crate::kept::{kept_run, write_kept};
 use crate::open_elements::OpenElements;
+use html5elements::is_void;
 use html5write::{Piece, WriteError, Writer};
 use std::alloc::Allocator;
 

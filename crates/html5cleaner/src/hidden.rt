@@ -3,7 +3,7 @@ ghost use Rattle.std.specs.Prelude.{◌≡◌, [], IfSome, string_bytes};
 ghost use Rattle.html5ever_interface.specs.Token.{tag_of, told_by};
 ghost use Rattle.html5cleaner.specs.Clean.{depth_after, depth_after_tag, hidden_of, name_after, name_after_tag, opens};
 
-use crate::elements::is_empty_element;
+use html5elements::is_empty_element;
 use html5ever_interface::interface::token::{Tag, TagKind, Token};
 use html5policy::Policy;
 use std::alloc::Allocator;

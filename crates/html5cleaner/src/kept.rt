@@ -5,7 +5,7 @@ ghost use Rattle.html5write.specs.Writing.{attribute_of, piece_of};
 ghost use Rattle.html5cleaner.specs.Clean.{allows_by_kind, kept_of_parts, kept_of_run};
 ghost use Rattle.html5cleaner.specs.Kept.{piece_where};
 
-use crate::elements::is_void;
+use html5elements::is_void;
 use html5ever_interface::interface::token::TagKind;
 use html5policy::Policy;
 use html5write::laws::refusals;

@@ -6,7 +6,6 @@ mod balance;
 mod clean_printer;
 mod cleaner;
 mod counts;
-mod elements;
 mod hidden;
 mod kept;
 pub mod laws;

@@ -1,7 +1,8 @@
 -- What a rewriter makes of tags, and what a rewriting handler does by that.
-use Rattle.std.specs.Prelude.{ℕ, Bool, true, false, not, List, ◌&&◌, ◌||◌, codes, if◌then◌else◌}
+use Rattle.std.specs.Prelude.{ℕ, Bool, true, false, not, List, ◌&&◌, codes, if◌then◌else◌}
 use Rattle.std.specs.Option.{is_none}
 use Rattle.std.specs.Str.{bytes_eq}
+use Rattle.html5elements.specs.Elements.{is_empty_element}
 use Rattle.html5ever_interface.specs.Token.{TagOf}
 use Rattle.html5ever_interface.specs.declared.interface.token.TagKind.{TagKind}
 use Rattle.html5ever_interface.specs.declared.interface.token.TagKind.TheVariants.{StartTag, EndTag}
@@ -28,21 +29,9 @@ keep_of rewriter tag = if reads_markup_by_kind tag.kind tag.name then rewriter.k
 
 -- ---- content
 
--- elements that have no end tag
-unfoldable pub is_void : List ℕ → Bool
-is_void name =
-    bytes_eq name (codes "area") || bytes_eq name (codes "base") || bytes_eq name (codes "br") || bytes_eq name (codes "col")
-    || bytes_eq name (codes "embed") || bytes_eq name (codes "hr") || bytes_eq name (codes "img") || bytes_eq name (codes "input")
-    || bytes_eq name (codes "link") || bytes_eq name (codes "meta") || bytes_eq name (codes "param") || bytes_eq name (codes "source")
-    || bytes_eq name (codes "track") || bytes_eq name (codes "wbr")
-
--- elements of other namespaces, which a `/` before the `>` ends
-unfoldable pub is_foreign : List ℕ → Bool
-is_foreign name = bytes_eq name (codes "svg") || bytes_eq name (codes "math")
-
 -- whether a tag begins an element in which something can stand
 abbrev pub has_content_by_kind : TagKind → List ℕ → Bool → Bool
-has_content_by_kind StartTag name self_closing = not (is_void name) && not (self_closing && is_foreign name)
+has_content_by_kind StartTag name self_closing = not (is_empty_element name self_closing)
 has_content_by_kind EndTag name self_closing = false
 
 abbrev pub has_content : TagOf → Bool

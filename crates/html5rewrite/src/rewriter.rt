@@ -1,8 +1,9 @@
 //! What a rewriter says of tags.
 ghost use Rattle.std.specs.Prelude.{◌≡◌};
 ghost use Rattle.html5ever_interface.specs.Token.{tag_of};
-ghost use Rattle.html5rewrite.specs.Rewriter.{has_content, is_foreign, is_void, keep_of, reads_markup_after, reads_markup_by_kind};
+ghost use Rattle.html5rewrite.specs.Rewriter.{has_content, keep_of, reads_markup_after, reads_markup_by_kind};
 
+use html5elements::is_empty_element;
 use html5ever_interface::interface::token::{Tag, TagKind};
 use html5sinks::replies::raw_text_in;
 use html5sinks::tags::SaysTag;
@@ -68,46 +69,12 @@ pub fn keep_of<H: TagRewriter<Tag<A>>, A: Allocator>(rewriter: &H, tag: &Tag<A>)
     }
 }
 
-// Whether an element has no end tag.
-#[tactic(auto, unfolding(crate::specs::Rewriter::is_void))]
-fn is_void(name: &str) -> bool
-    ensures { result ≡ is_void name.now }
-{
-    matches!(
-        name,
-        "area"
-            | "base"
-            | "br"
-            | "col"
-            | "embed"
-            | "hr"
-            | "img"
-            | "input"
-            | "link"
-            | "meta"
-            | "param"
-            | "source"
-            | "track"
-            | "wbr"
-    )
-}
-
-// Whether a `/` before the `>` ends an element of this name.
-#[tactic(auto, unfolding(crate::specs::Rewriter::is_foreign))]
-fn is_foreign(name: &str) -> bool
-    ensures { result ≡ is_foreign name.now }
-{
-    matches!(name, "svg" | "math")
-}
-
 /// Whether a tag begins an element in which something can stand.
 pub fn has_content<A: Allocator>(tag: &Tag<A>) -> bool
     ensures { result ≡ has_content (tag_of tag.now) }
 {
     match tag.kind {
-        TagKind::StartTag => {
-            !is_void(&tag.name.0) && !(tag.self_closing && is_foreign(&tag.name.0))
-        }
+        TagKind::StartTag => !is_empty_element(&tag.name.0, tag.self_closing),
         TagKind::EndTag => false,
     }
 }

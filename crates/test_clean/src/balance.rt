@@ -57,7 +57,7 @@ fn cleaning_twice_changes_nothing(rt: HostRuntime) {
 }
 
 // Policies, pages, and what is written of them.
-const BY_POLICY: [(&str, &str, &str); 4] = [
+const BY_POLICY: [(&str, &str, &str); 5] = [
     (
         "allow a href\nallow b\nnoopener\nbalance",
         "<a href=x>1<b>2</a>3",
@@ -65,6 +65,11 @@ const BY_POLICY: [(&str, &str, &str); 4] = [
     ),
     ("balance\nallow b", "<b>1<i>2</b></i>3", "<b>12</b>3"),
     ("balance", "<b>1</b>2", "12"),
+    (
+        "allow p\nallow keygen\nbalance",
+        "<p><keygen>1</keygen>",
+        "<p><keygen>1</p>",
+    ),
     ("allow b\nallow i", "<b><i>1</b>2</p>", "<b><i>1</b>2"),
 ];
 

@@ -68,8 +68,13 @@ fn cleans_a_text(rt: HostRuntime) {
 }
 
 // Policies, pages, and what is kept of them.
-const BY_POLICY: [(&str, &str, &str); 9] = [
+const BY_POLICY: [(&str, &str, &str); 10] = [
     ("allow b\nhide input svg", "a<input>b<svg/><b>c", "ab<b>c"),
+    (
+        "allow b\nhide param frame",
+        "a<param>b<frame><b>c",
+        "ab<b>c",
+    ),
     ("", "a<p>b</p><script>c</script>", "ab"),
     (
         "allow p class\nallow form",

@@ -1,8 +1,11 @@
-//! Elements of which no policy decides.
-ghost use Rattle.std.specs.Prelude.{◌≡◌};
-ghost use Rattle.html5cleaner.specs.Elements.{is_empty_element, is_foreign, is_void};
+//! What the standard says of elements by their names alone.
+#![tactic(auto)]
 
-/// Whether an element of this name has no end tag.
+ghost use Rattle.std.specs.Prelude.{◌≡◌};
+ghost use Rattle.html5elements.specs.Elements.{is_empty_element, is_foreign, is_void};
+
+/// Whether an element of this name is void: its start tag is all of it, and it has no end tag. These are
+/// the elements of the standard's "Serializing HTML fragments" that are written without one.
 #[tactic(auto, unfolding(crate::specs::Elements::is_void))]
 pub fn is_void(name: &str) -> bool
     ensures { result ≡ is_void name.now }
@@ -11,23 +14,29 @@ pub fn is_void(name: &str) -> bool
         name,
         "area"
             | "base"
+            | "basefont"
+            | "bgsound"
             | "br"
             | "col"
             | "embed"
+            | "frame"
             | "hr"
             | "img"
             | "input"
+            | "keygen"
             | "link"
             | "meta"
+            | "param"
             | "source"
             | "track"
             | "wbr"
     )
 }
 
-// Whether an element of this name is of another namespace.
+/// Whether an element of this name is of another namespace, so that a `/` before the `>` of its start
+/// tag ends it.
 #[tactic(auto, unfolding(crate::specs::Elements::is_foreign))]
-fn is_foreign(name: &str) -> bool
+pub fn is_foreign(name: &str) -> bool
     ensures { result ≡ is_foreign name.now }
 {
     matches!(name, "svg" | "math")
