@@ -1,7 +1,7 @@
 """The standard's named character references as a table's list, from Python's `html.entities`.
 
     python3 tools/names.py          # prints the list
-    python3 tools/names.py --check  # says whether crates/html5names has it
+    python3 tools/names.py --check  # says whether crates/html5entities has it
 """
 
 import html.entities
@@ -9,7 +9,7 @@ import pathlib
 import re
 import sys
 
-SPECS = pathlib.Path(__file__).resolve().parent.parent / "crates" / "html5names" / "specs" / "Standard.antt"
+SPECS = pathlib.Path(__file__).resolve().parent.parent / "crates" / "html5entities" / "specs" / "Standard.antt"
 
 
 def entry(name, characters):

@@ -119,7 +119,7 @@ impl<'t> Iterator for Tokens<'t> {
     }
 }
 
-// The texts of records are UTF-8, as the README of html5events says.
+// The texts of records are UTF-8, as the README of html5records says.
 fn text(bytes: &[u8]) -> &str {
     str::from_utf8(bytes).expect("the texts of records are UTF-8")
 }

@@ -7,11 +7,11 @@ use Rattle.html5c.specs.declared.opening.OpenError.{OpenError}
 use Rattle.html5c.specs.declared.opening.OpenError.TheVariants as opening
 use Rattle.html5c.specs.declared.options.Options.{Options}
 use Rattle.html5c.specs.declared.page.Page.{Page}
-use Rattle.html5events.specs.Events.{recorded_means, none_recorded, no_events, waiting}
-use Rattle.html5events.specs.declared.event_sink.Replies.{Replies}
+use Rattle.html5records.specs.Events.{recorded_means, none_recorded, no_events, waiting}
+use Rattle.html5records.specs.declared.event_sink.Replies.{Replies}
 use Rattle.html5ever.specs.Tokenizer.{StandsAt, rules_of}
-use Rattle.html5grammar.specs.Start.{start_of}
-use Rattle.html5names.specs.Standard.{standard_list}
+use Rattle.html5reading.specs.Start.{start_of}
+use Rattle.html5entities.specs.Standard.{standard_list}
 use Rattle.html5session.specs.Session.{SessionOf, tokenizer_of, recorded_by, is_over, after_session_takes, StandsOn, FeedsPiece, LosesPiece, RefusesBytes, EndsSession, LosesEnd}
 use Rattle.html5session.specs.declared.error.SessionError.{SessionError}
 use Rattle.html5session.specs.declared.error.SessionError.TheVariants.{Memory, NotUtf8, Cut, Waiting, Over}

@@ -7,7 +7,7 @@ ghost use Rattle.html5c.specs.Said.{name_said};
 use crate::options::Options;
 use crate::page::Page;
 use crate::status;
-use html5names::standard_names;
+use html5entities::standard_names;
 use html5session::Session;
 use std::alloc::Global;
 use std::str;

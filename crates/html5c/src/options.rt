@@ -4,7 +4,7 @@ ghost use Rattle.html5c.specs.Said.{state_said, replies_said, options_by};
 ghost use Rattle.html5ever_interface.specs.Options.{options_of};
 ghost use Rattle.html5feed.specs.Starting.{CanStart};
 
-use html5events::event_sink::{EventOptions, Replies};
+use html5records::event_sink::{EventOptions, Replies};
 use html5ever::tokenizer::TokenizerOpts;
 use html5ever_interface::states::{RawKind, State};
 use std::alloc::Global;

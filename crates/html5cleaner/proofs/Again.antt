@@ -9,7 +9,7 @@ use Rattle.std.proofs.lemmas.Str.{encodes-append, encodes_same}
 use Rattle.html5ever_interface.specs.Sink.{Message, stepped}
 use Rattle.html5ever_interface.specs.Token.{Told, TagOf}
 use Rattle.html5ever_interface.specs.Token.Told.{Text, Null, Error, Tag, Comment, Instruction, Doctype, End}
-use Rattle.html5grammar.specs.Characters.{null}
+use Rattle.html5reading.specs.Characters.{null}
 use Rattle.html5sinks.specs.Runs.{Joined, Running, joined_step, runs_step}
 use Rattle.html5policy.specs.Policy.{PolicyOf}
 use Rattle.html5write.specs.Escaped.{escaped, escaped_text}

@@ -4,18 +4,18 @@ use Rattle.std.proofs.lemmas.List.{map-append}
 use Rattle.html5ever_interface.specs.Sink.{Message, on_line}
 use Rattle.html5ever_interface.specs.Token.{Told, Reply}
 use Rattle.html5ever_interface.specs.Token.Told.{End}
-use Rattle.html5grammar.specs.EndOfInput.{late_at_end_of, open_at_end_of, raw_end_error, told_at_doctype_end, told_at_end_of, told_at_raw_end, tokens_at_end}
-use Rattle.html5grammar.specs.NormalisedText.{normalised, line_after}
-use Rattle.html5grammar.specs.RawText.{texts}
-use Rattle.html5grammar.specs.Reading.{after, messages, reading, told}
-use Rattle.html5grammar.specs.Reference.{opened_in}
-use Rattle.html5grammar.specs.Slice.{tokens_of_late}
-use Rattle.html5grammar.specs.Start.{Open, Rules, Stand, Start}
-use Rattle.html5grammar.specs.Start.Mode.{Data, Plain, RawText, Cdata}
-use Rattle.html5grammar.specs.Start.Stand.{InText, InAttribute}
-use Rattle.html5grammar.specs.Start.Open.{Between, LessThan, LessThanSolidus, InTag, InRaw, InDeclaration, InComment, InBogusComment, InInstruction, InDoctype, InDoctypeKeyword, InCdata, InReference}
-use Rattle.html5grammar.proofs.ReadingLemmas.{reading-events, messages-at_end}
-use Rattle.html5grammar.proofs.Traces.{messages-append}
+use Rattle.html5reading.specs.EndOfInput.{late_at_end_of, open_at_end_of, raw_end_error, told_at_doctype_end, told_at_end_of, told_at_raw_end, tokens_at_end}
+use Rattle.html5reading.specs.NormalisedText.{normalised, line_after}
+use Rattle.html5reading.specs.RawText.{texts}
+use Rattle.html5reading.specs.Reading.{after, messages, reading, told}
+use Rattle.html5reading.specs.Reference.{opened_in}
+use Rattle.html5reading.specs.Slice.{tokens_of_late}
+use Rattle.html5reading.specs.Start.{Open, Rules, Stand, Start}
+use Rattle.html5reading.specs.Start.Mode.{Data, Plain, RawText, Cdata}
+use Rattle.html5reading.specs.Start.Stand.{InText, InAttribute}
+use Rattle.html5reading.specs.Start.Open.{Between, LessThan, LessThanSolidus, InTag, InRaw, InDeclaration, InComment, InBogusComment, InInstruction, InDoctype, InDoctypeKeyword, InCdata, InReference}
+use Rattle.html5reading.proofs.ReadingLemmas.{reading-events, messages-at_end}
+use Rattle.html5reading.proofs.Traces.{messages-append}
 
 -- the last token is the end
 abbrev pub EndsWithEnd : List Told → Type 0

@@ -7,7 +7,7 @@ use Rattle.html5ever_interface.specs.Sink.{Message, stepped}
 use Rattle.html5ever_interface.specs.Token.{Told}
 use Rattle.html5ever_interface.specs.Token.Told.{Text, Null, Error, Tag, Comment, Instruction, Doctype, End}
 use Rattle.html5ever_interface.proofs.Steppings.{stepped-append}
-use Rattle.html5grammar.specs.Start.{Rules, start_of}
+use Rattle.html5reading.specs.Start.{Rules, start_of}
 use Rattle.html5sinks.specs.Runs.{Joined, Running, joined_step, runs_step}
 use Rattle.html5stream.specs.Pages.{runs_handed, runs_means, runs_page, runs_start}
 use Rattle.markup5ever.specs.NamedReferences.{NamedReference}

@@ -6,9 +6,9 @@ use Rattle.std.proofs.lemmas.List.{append-nil}
 use Rattle.html5ever_interface.specs.Options.{default_options}
 use Rattle.html5ever_interface.specs.Sink.{Message}
 use Rattle.html5ever_interface.specs.Token.Told.{End}
-use Rattle.html5grammar.specs.NormalisedText.{normalised, line_after}
-use Rattle.html5grammar.specs.Reading.{all_messages}
-use Rattle.html5grammar.specs.Start.{Start, Rules, start_of}
+use Rattle.html5reading.specs.NormalisedText.{normalised, line_after}
+use Rattle.html5reading.specs.Reading.{all_messages}
+use Rattle.html5reading.specs.Start.{Start, Rules, start_of}
 use Rattle.html5policy.specs.Policy.{PolicyOf}
 use Rattle.html5policy.specs.Rules.{IsSound}
 use Rattle.html5sinks.specs.Runs.{Joined, Running}

@@ -4,14 +4,14 @@ use Rattle.html5ever_interface.specs.Options.{default_options}
 use Rattle.html5ever_interface.specs.Sink.{Message, stepped, on_line}
 use Rattle.html5ever_interface.specs.Token.{Told, Reply}
 use Rattle.html5ever_interface.specs.Token.Told.{Tag}
-use Rattle.html5grammar.specs.ErrorText.{bad_character_error}
-use Rattle.html5grammar.specs.NormalisedText.{normalised, line_after}
-use Rattle.html5grammar.specs.Reading.{Brought, Here, Read, brought, end_events, events_at, last_after, late_events, messages, open_after_reply, read_from, read, reading, read_here, with_events}
-use Rattle.html5grammar.specs.Reading.Here.{Tells, TellsTag}
-use Rattle.html5grammar.specs.Reading.TextPlace.{Character}
-use Rattle.html5grammar.specs.Cutting.{rest_of}
-use Rattle.html5grammar.specs.Slice.{Slice, cut_off, tokens_of_late}
-use Rattle.html5grammar.specs.Start.{Start, Rules, start_of}
+use Rattle.html5reading.specs.ErrorText.{bad_character_error}
+use Rattle.html5reading.specs.NormalisedText.{normalised, line_after}
+use Rattle.html5reading.specs.Reading.{Brought, Here, Read, brought, end_events, events_at, last_after, late_events, messages, open_after_reply, read_from, read, reading, read_here, with_events}
+use Rattle.html5reading.specs.Reading.Here.{Tells, TellsTag}
+use Rattle.html5reading.specs.Reading.TextPlace.{Character}
+use Rattle.html5reading.specs.Cutting.{rest_of}
+use Rattle.html5reading.specs.Slice.{Slice, cut_off, tokens_of_late}
+use Rattle.html5reading.specs.Start.{Start, Rules, start_of}
 use Rattle.html5sinks.specs.Replies.{standard_reply}
 use Rattle.html5sinks.specs.Runs.{Running, runs_step, runs_reply}
 use Rattle.html5stream.specs.Pages.{runs_page, runs_start}

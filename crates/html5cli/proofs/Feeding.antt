@@ -12,8 +12,8 @@ use Rattle.markup5ever.specs.NamedReferences.{NamedReference}
 use Rattle.token_printer.specs.Page.{Page, Printer, blank_page, without_lines}
 use Rattle.html5ever.specs.Tokenizer.{Tokenizing, StandsAt, ReadsOn, rules_of, state_at_end}
 use Rattle.html5ever.proofs.Standing.{StandsAt-start}
-use Rattle.html5grammar.specs.Reading.{state_after, start_after}
-use Rattle.html5grammar.specs.Start.{Start, Rules, start_of}
+use Rattle.html5reading.specs.Reading.{state_after, start_after}
+use Rattle.html5reading.specs.Start.{Start, Rules, start_of}
 use Rattle.html5ever_interface.specs.Options.{OptionsOf}
 use Rattle.devices.proofs.KnownBytes.{Appends-append, Appends-kept, AppendsBeginning-stopped}
 use Rattle.devices.specs.Device.{AppendsBeginning}

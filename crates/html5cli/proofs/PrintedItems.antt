@@ -3,10 +3,10 @@ use Rattle.std.proofs.Common.{List, refl, subst}
 use Rattle.std.specs.Io.KnownBytes.{Appends}
 use Rattle.std.specs.Str.{chars}
 use Rattle.html5ever.specs.Tokenizer.{rules_of}
-use Rattle.html5grammar.specs.Start.{start_of}
-use Rattle.html5items.specs.Items.{Composed}
-use Rattle.html5items.proofs.Completeness.{all-composed}
-use Rattle.html5items.proofs.Soundness.{reading-items}
+use Rattle.html5reading.specs.Start.{start_of}
+use Rattle.html5grammar.specs.Items.{Composed}
+use Rattle.html5grammar.proofs.Completeness.{all-composed}
+use Rattle.html5grammar.proofs.Soundness.{reading-items}
 use Rattle.html5cli.specs.Printing.{printer_means, printed_reading, Traffic, PrintsReading, PrintsItems}
 use Rattle.html5cli.specs.Settings.{SettingsOf}
 use Rattle.markup5ever.specs.NamedReferences.{NamedReference, IsTable}

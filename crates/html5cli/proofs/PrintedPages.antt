@@ -8,22 +8,22 @@ use Rattle.html5ever_interface.specs.Sink.{Message, stepped, on_line}
 use Rattle.html5ever_interface.specs.Token.{Told, Reply}
 use Rattle.html5ever_interface.specs.Token.Told.{Text, Comment, Instruction, End}
 use Rattle.html5ever_interface.specs.declared.states.State.TheVariants as state
-use Rattle.html5grammar.specs.Comment.{comment_content, comment_state}
-use Rattle.html5grammar.specs.Doctype.{with_quirks}
-use Rattle.html5grammar.specs.EndOfInput.{late_at_end_of, open_at_end_of, told_at_doctype_end, told_at_end_of, told_at_raw_end, raw_end_error, state_at}
-use Rattle.html5grammar.specs.ErrorText.{end_error_in}
-use Rattle.html5grammar.specs.NormalisedText.{normalised, line_after}
-use Rattle.html5grammar.specs.RawText.{texts}
-use Rattle.html5grammar.specs.Reading.{Event, end_events, late_events, read, reading, told, messages}
-use Rattle.html5grammar.specs.Reading.TextPlace.{EndOfInput}
-use Rattle.html5grammar.specs.Start.{Start, Mode, Open, Rules, start_of}
-use Rattle.html5grammar.specs.Start.Mode.{Data, Plain, RawText, Cdata}
-use Rattle.html5grammar.specs.Start.DoctypePlace.{Skipped}
-use Rattle.html5grammar.specs.Start.Open.{Between, LessThan, LessThanSolidus, InTag, InRaw, InDeclaration, InComment, InBogusComment, InInstruction, InDoctype, InDoctypeKeyword, InCdata, InReference}
-use Rattle.html5grammar.specs.Start.Place.{InValue}
-use Rattle.html5grammar.specs.Start.Stand.{InText, InAttribute}
-use Rattle.html5grammar.proofs.ReadingLemmas.{reading-events}
-use Rattle.html5grammar.proofs.Traces.{messages-append, messages-map}
+use Rattle.html5reading.specs.Comment.{comment_content, comment_state}
+use Rattle.html5reading.specs.Doctype.{with_quirks}
+use Rattle.html5reading.specs.EndOfInput.{late_at_end_of, open_at_end_of, told_at_doctype_end, told_at_end_of, told_at_raw_end, raw_end_error, state_at}
+use Rattle.html5reading.specs.ErrorText.{end_error_in}
+use Rattle.html5reading.specs.NormalisedText.{normalised, line_after}
+use Rattle.html5reading.specs.RawText.{texts}
+use Rattle.html5reading.specs.Reading.{Event, end_events, late_events, read, reading, told, messages}
+use Rattle.html5reading.specs.Reading.TextPlace.{EndOfInput}
+use Rattle.html5reading.specs.Start.{Start, Mode, Open, Rules, start_of}
+use Rattle.html5reading.specs.Start.Mode.{Data, Plain, RawText, Cdata}
+use Rattle.html5reading.specs.Start.DoctypePlace.{Skipped}
+use Rattle.html5reading.specs.Start.Open.{Between, LessThan, LessThanSolidus, InTag, InRaw, InDeclaration, InComment, InBogusComment, InInstruction, InDoctype, InDoctypeKeyword, InCdata, InReference}
+use Rattle.html5reading.specs.Start.Place.{InValue}
+use Rattle.html5reading.specs.Start.Stand.{InText, InAttribute}
+use Rattle.html5reading.proofs.ReadingLemmas.{reading-events}
+use Rattle.html5reading.proofs.Traces.{messages-append, messages-map}
 use Rattle.html5ever.specs.Tokenizer.{rules_of}
 use Rattle.token_printer.specs.Page.{Page, page_step, page_reply, page_foreign, blank_page}
 use Rattle.token_printer.proofs.Pages.{lines-stepped}

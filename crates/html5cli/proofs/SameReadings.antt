@@ -3,16 +3,16 @@ use Rattle.std.proofs.Common.{◌≡◌, ℕ, List, [], ◌∷◌, ◌++◌, ref
 use Rattle.html5ever_interface.specs.Sink.{Message, stepped, on_line}
 use Rattle.html5ever_interface.specs.Token.{Told}
 use Rattle.html5ever_interface.specs.Token.Told.{Tag}
-use Rattle.html5grammar.specs.ErrorText.{bad_character_error}
-use Rattle.html5grammar.specs.Machine.{brought_at}
-use Rattle.html5grammar.specs.NormalisedText.{normalised, line_after}
-use Rattle.html5grammar.specs.Reading.{Here, Brought, last_after, open_after_reply, messages_so_far, start_after}
-use Rattle.html5grammar.specs.Reading.Here.{Tells, TellsTag}
-use Rattle.html5grammar.specs.Slice.{tokens_of_late}
-use Rattle.html5grammar.specs.Start.{Start, Open, Rules}
-use Rattle.html5grammar.proofs.InputLemmas.{line_past}
-use Rattle.html5grammar.proofs.ReadingLemmas.{told-trace, after-opened, after-last}
-use Rattle.html5grammar.proofs.Traces.{Trace, with_messages, trace, trace_here, trace_brought}
+use Rattle.html5reading.specs.ErrorText.{bad_character_error}
+use Rattle.html5reading.specs.Machine.{brought_at}
+use Rattle.html5reading.specs.NormalisedText.{normalised, line_after}
+use Rattle.html5reading.specs.Reading.{Here, Brought, last_after, open_after_reply, messages_so_far, start_after}
+use Rattle.html5reading.specs.Reading.Here.{Tells, TellsTag}
+use Rattle.html5reading.specs.Slice.{tokens_of_late}
+use Rattle.html5reading.specs.Start.{Start, Open, Rules}
+use Rattle.html5reading.proofs.InputLemmas.{line_past}
+use Rattle.html5reading.proofs.ReadingLemmas.{told-trace, after-opened, after-last}
+use Rattle.html5reading.proofs.Traces.{Trace, with_messages, trace, trace_here, trace_brought}
 use Rattle.token_printer.specs.Page.{Page, page_step, page_reply, page_foreign}
 use Rattle.html5cli.specs.Printing.{printer_means}
 

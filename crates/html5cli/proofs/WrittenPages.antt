@@ -5,13 +5,13 @@ use Rattle.html5ever_interface.proofs.Steppings.{stepped-append}
 use Rattle.html5ever_interface.specs.Sink.{Message, stepped, on_line}
 use Rattle.html5ever_interface.specs.Token.{Told}
 use Rattle.html5ever_interface.specs.Token.Told.{End}
-use Rattle.html5grammar.specs.EndOfInput.{tokens_at_end}
-use Rattle.html5grammar.specs.NormalisedText.{normalised, without_dropped_first, with_line_feeds, line_after, input_after}
-use Rattle.html5grammar.specs.Reading.{all_messages, end_events, messages, messages_so_far, read, start_after, state_after, told}
-use Rattle.html5grammar.specs.Start.{Input, Start, Rules}
-use Rattle.html5grammar.proofs.InputLemmas.{input_after-line_none, line_after-lines_past}
-use Rattle.html5grammar.proofs.ReadingLemmas.{after-append, after-nil, messages-at_end, reading-events, told-append, told-nil}
-use Rattle.html5grammar.proofs.Traces.{messages-append}
+use Rattle.html5reading.specs.EndOfInput.{tokens_at_end}
+use Rattle.html5reading.specs.NormalisedText.{normalised, without_dropped_first, with_line_feeds, line_after, input_after}
+use Rattle.html5reading.specs.Reading.{all_messages, end_events, messages, messages_so_far, read, start_after, state_after, told}
+use Rattle.html5reading.specs.Start.{Input, Start, Rules}
+use Rattle.html5reading.proofs.InputLemmas.{input_after-line_none, line_after-lines_past}
+use Rattle.html5reading.proofs.ReadingLemmas.{after-append, after-nil, messages-at_end, reading-events, told-append, told-nil}
+use Rattle.html5reading.proofs.Traces.{messages-append}
 use Rattle.html5feed.proofs.Pauses.{state_beyond-append}
 use Rattle.html5ever.specs.Tokenizer.{state_at_end}
 use Rattle.token_printer.specs.Page.{Page, added_by, page_step, page_reply, page_foreign}

@@ -6,9 +6,9 @@ use Rattle.devices.specs.Device.{AppendsBeginning}
 use Rattle.token_printer.specs.Page.{Page, Printer, blank_page, page_step, page_reply, page_foreign, page_faulted}
 use Rattle.token_printer.specs.Printed.{printed}
 use Rattle.html5ever_interface.specs.Sink.{Means, Message}
-use Rattle.html5grammar.specs.Reading.{all_messages}
-use Rattle.html5grammar.specs.Start.{Start, start_of}
-use Rattle.html5items.specs.Items.{Items}
+use Rattle.html5reading.specs.Reading.{all_messages}
+use Rattle.html5reading.specs.Start.{Start, start_of}
+use Rattle.html5grammar.specs.Items.{Items}
 use Rattle.html5cli.specs.Settings.{SettingsOf}
 use Rattle.html5ever.specs.Tokenizer.{Tokenizing, StandsAt, ReadsOn, rules_of, state_at_end}
 use Rattle.markup5ever.specs.NamedReferences.{NamedReference}

@@ -4,19 +4,19 @@ use Rattle.std.specs.Prelude.{IfOk}
 use Rattle.html5ever_interface.specs.Sink.{Means, Message, stepped}
 use Rattle.html5ever_interface.specs.Token.{Told, Reply, is_tag}
 use Rattle.html5ever_interface.specs.Token.Reply.{KeepOn}
-use Rattle.html5grammar.specs.Reading.{state_after}
+use Rattle.html5reading.specs.Reading.{state_after}
 use Rattle.html5ever.specs.Tokenizer.{Tokenizing, ReadsOn, Feeds, Finishes, ReadsItems, FeedsItems, FinishesItems, FinishedByItems, rules_of, state_at_end}
 use Rattle.html5ever.proofs.PausesByItems.{takes-by_items}
 use Rattle.html5ever.specs.Pauses.{TakesByItems}
 use Rattle.html5feed.specs.Feed.{Feed, feed}
 use Rattle.html5ever_interface.specs.Options.{OptionsOf}
-use Rattle.html5grammar.specs.Start.{Rules, start_of}
+use Rattle.html5reading.specs.Start.{Rules, start_of}
 use Rattle.html5ever_interface.specs.Collected.{Collecting, none_collected, collected_step, collected_finish}
 use Rattle.html5ever.specs.Collecting.{Collects, ComposedOf, collected_of, collector_means}
-use Rattle.html5items.proofs.Soundness.{reading-items, reading-unfinished}
-use Rattle.html5items.specs.Items.{Unfinished}
+use Rattle.html5grammar.proofs.Soundness.{reading-items, reading-unfinished}
+use Rattle.html5grammar.specs.Items.{Unfinished}
 use Rattle.std.proofs.lemmas.Result.{IfOk-weaker}
-use Rattle.html5items.proofs.Completeness.{told-items, finished-items}
+use Rattle.html5grammar.proofs.Completeness.{told-items, finished-items}
 use Rattle.markup5ever.specs.NamedReferences.{NamedReference, IsTable}
 
 module _ {X S H : Type 0} (means : Means X S H) where

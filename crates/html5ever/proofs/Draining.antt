@@ -3,15 +3,15 @@ use Rattle.std.proofs.Common.{◌≡◌, ℕ, Bool, false, List, [], ◌++◌, r
 use Rattle.std.proofs.lemmas.List.{append-nil, append_assoc, append_cancel_right}
 use Rattle.html5ever_interface.specs.Sink.{Means, Message, stepped}
 use Rattle.html5ever_interface.specs.Token.{Reply}
-use Rattle.html5grammar.proofs.ReadingLemmas.{told-append, after-append}
-use Rattle.html5grammar.specs.Reading.{state_after, messages_so_far, start_after}
-use Rattle.html5grammar.specs.Start.{Start, Rules, held_len}
+use Rattle.html5reading.proofs.ReadingLemmas.{told-append, after-append}
+use Rattle.html5reading.specs.Reading.{state_after, messages_so_far, start_after}
+use Rattle.html5reading.specs.Start.{Start, Rules, held_len}
 use Rattle.markup5ever.specs.BufferQueue.{TextQueue}
 use Rattle.html5feed.specs.Feed.{Feed, told_beyond, feed, IsEndOf, IsLinear}
 use Rattle.html5states.specs.Telling.{Stops}
 use Rattle.html5ever.specs.Tokenizer.{Tokenizing, StandsAt, ReadsOn, Feeds, StopsReading, StopsFeeding}
-use Rattle.html5opened.specs.declared.error.TokenizerError.{TokenizerError}
-use Rattle.html5opened.specs.declared.error.TokenizerError.TheVariants.{Memory, Sink, Failed}
+use Rattle.html5partial.specs.declared.error.TokenizerError.{TokenizerError}
+use Rattle.html5partial.specs.declared.error.TokenizerError.TheVariants.{Memory, Sink, Failed}
 use Rattle.html5feed.proofs.Pauses.{told_beyond-after, state_beyond-append, feed-parts}
 use Rattle.html5feed.proofs.QueueReading.{no_error}
 use Rattle.html5states.proofs.Tellings.{stops_after, stops_before}

@@ -5,8 +5,8 @@ use Rattle.std.proofs.lemmas.List.Folds.{concat-append}
 use Rattle.std.specs.List.{concat}
 use Rattle.std.specs.Str.{chars}
 use Rattle.html5ever_interface.specs.Sink.{Means, stepped}
-use Rattle.html5grammar.specs.Reading.{state_after}
-use Rattle.html5grammar.specs.Start.{Rules, held_len}
+use Rattle.html5reading.specs.Reading.{state_after}
+use Rattle.html5reading.specs.Start.{Rules, held_len}
 use Rattle.markup5ever.specs.BufferQueue.{TextQueue, Gains}
 use Rattle.html5feed.specs.Feed.{told_beyond, IsLinear}
 use Rattle.html5states.specs.Telling.{Stops}
@@ -15,8 +15,8 @@ use Rattle.html5ever.specs.Pieces.{text_of}
 use Rattle.html5ever.specs.Tokenizer.{Tokenizing, StandsAt, ReadsOn, StopsReading}
 use Rattle.html5ever.proofs.Draining.{told_beyond-append, state-beyond, drained-stops}
 use Rattle.html5ever.proofs.Wholes.{untold}
-use Rattle.html5opened.specs.declared.error.TokenizerError.{TokenizerError}
-use Rattle.html5opened.specs.declared.error.TokenizerError.TheVariants.{Memory}
+use Rattle.html5partial.specs.declared.error.TokenizerError.{TokenizerError}
+use Rattle.html5partial.specs.declared.error.TokenizerError.TheVariants.{Memory}
 
 text_of-append : (fed later : List (List ℕ)) → text_of (fed ++ later) ≡ text_of fed ++ text_of later
 text_of-append fed later = ap concat (map-append chars fed later) ∙ concat-append (map chars fed) (map chars later)

@@ -11,28 +11,28 @@ use Rattle.html5ever_interface.specs.Token.{Told, TagOf, DoctypeOf, Reply, is_ta
 use Rattle.html5ever_interface.specs.Token.Told.{Tag}
 use Rattle.html5ever_interface.specs.Token.Reply.{KeepOn}
 use Rattle.html5ever_interface.specs.declared.states.DoctypeIdKind.TheVariants.{Public, System}
-use Rattle.html5grammar.proofs.InputLemmas.{normalised-dropped, normalised-kept}
-use Rattle.html5grammar.proofs.NoTags.{NoTags, NoTagsHere, no_tags-append, no_tags-bad, no_tags-step_at, no_tags-settled}
-use Rattle.html5grammar.proofs.ReadingLemmas.{told-nil, told-append, told-none, told-one}
-use Rattle.html5grammar.specs.Characters.{carriage_return, line_feed, lower_case}
-use Rattle.html5grammar.specs.Comment.{begins_keyword, cdata_keyword, begins_cdata}
-use Rattle.html5grammar.specs.Doctype.{with_quirks, is_keyword, begins_doctype_keyword}
-use Rattle.html5grammar.specs.ErrorText.{bad_character_error}
-use Rattle.html5grammar.specs.Machine.{brought_at, step_at, messages_here, reference_step, declaration_step, declaration_answer_step, doctype_keyword_step, doctype_step, skipped_step}
-use Rattle.html5grammar.specs.NormalisedText.{normalised, line_after, input_after, drops_first}
-use Rattle.html5grammar.specs.Reading.{Here, Brought, messages_so_far, state_after, start_after}
-use Rattle.html5grammar.specs.Reading.Here.{Tells, TellsTag}
-use Rattle.html5grammar.specs.Reference.{is_undecided, ends_number}
-use Rattle.html5grammar.specs.Slice.{tokens_of_late}
-use Rattle.html5grammar.specs.Start.{Start, Stand, Open, Rules, is_clean}
-use Rattle.html5grammar.specs.Start.DoctypePlace.{Skipped}
-use Rattle.html5grammar.specs.Start.Open.{Between, LessThan, LessThanSolidus, InTag, InRaw, InDeclaration, InComment, InBogusComment, InInstruction, InDoctype, InDoctypeKeyword, InReference, InCdata}
+use Rattle.html5reading.proofs.InputLemmas.{normalised-dropped, normalised-kept}
+use Rattle.html5reading.proofs.NoTags.{NoTags, NoTagsHere, no_tags-append, no_tags-bad, no_tags-step_at, no_tags-settled}
+use Rattle.html5reading.proofs.ReadingLemmas.{told-nil, told-append, told-none, told-one}
+use Rattle.html5reading.specs.Characters.{carriage_return, line_feed, lower_case}
+use Rattle.html5reading.specs.Comment.{begins_keyword, cdata_keyword, begins_cdata}
+use Rattle.html5reading.specs.Doctype.{with_quirks, is_keyword, begins_doctype_keyword}
+use Rattle.html5reading.specs.ErrorText.{bad_character_error}
+use Rattle.html5reading.specs.Machine.{brought_at, step_at, messages_here, reference_step, declaration_step, declaration_answer_step, doctype_keyword_step, doctype_step, skipped_step}
+use Rattle.html5reading.specs.NormalisedText.{normalised, line_after, input_after, drops_first}
+use Rattle.html5reading.specs.Reading.{Here, Brought, messages_so_far, state_after, start_after}
+use Rattle.html5reading.specs.Reading.Here.{Tells, TellsTag}
+use Rattle.html5reading.specs.Reference.{is_undecided, ends_number}
+use Rattle.html5reading.specs.Slice.{tokens_of_late}
+use Rattle.html5reading.specs.Start.{Start, Stand, Open, Rules, is_clean}
+use Rattle.html5reading.specs.Start.DoctypePlace.{Skipped}
+use Rattle.html5reading.specs.Start.Open.{Between, LessThan, LessThanSolidus, InTag, InRaw, InDeclaration, InComment, InBogusComment, InInstruction, InDoctype, InDoctypeKeyword, InReference, InCdata}
 use Rattle.html5feed.specs.Feed.{Feed, pauses, takes_before, up_to_pause, first_pause, feed}
 use Rattle.html5feed.proofs.Pauses.{NoTagMessages, no_tag_messages, first_pause-none, first_pause-append, first_pause-no_tags, pause_here, feed-cons, feed-pauses, feed-anew}
-use Rattle.html5items.proofs.Completeness.{all-composed}
-use Rattle.html5items.proofs.Soundness.{tells-items}
-use Rattle.html5items.proofs.Split.{nil≢cons, cons_first, cons_rest}
-use Rattle.html5items.specs.Items.{Items, Composed}
+use Rattle.html5grammar.proofs.Completeness.{all-composed}
+use Rattle.html5grammar.proofs.Soundness.{tells-items}
+use Rattle.html5grammar.proofs.Split.{nil≢cons, cons_first, cons_rest}
+use Rattle.html5grammar.specs.Items.{Items, Composed}
 use Rattle.html5ever.specs.Pauses.{tag_message, ItemsTell, EndsInPause, TakesByItems}
 use Rattle.html5ever.specs.Pauses.TakesByItems.{UpToPause, All}
 use Rattle.markup5ever.specs.NamedReferences.{IsTable}

@@ -2,15 +2,15 @@
 use Rattle.std.proofs.Common.{◌≡◌, ℕ, ◌<◌, ◌^◌, arith, false, List, [], ◌∷◌, ◌++◌, refl, ap, sym, ◌∙◌, subst, length, drop}
 use Rattle.std.proofs.Math.Seq.{drop-append_seam}
 use Rattle.html5ever_interface.specs.Sink.{Means, Message, stepped, on_line}
-use Rattle.html5grammar.specs.EndOfInput.{tokens_at_end}
-use Rattle.html5grammar.specs.NormalisedText.{with_line_feeds, without_dropped_first, normalised, line_after, input_after}
-use Rattle.html5grammar.specs.Reading.{end_events, read, told, messages, all_messages, messages_so_far, state_after, start_after}
-use Rattle.html5grammar.specs.Start.{Start, Input, Rules}
-use Rattle.html5grammar.specs.Start.Mode.{Plain}
-use Rattle.html5grammar.specs.Start.Open.{Between}
-use Rattle.html5grammar.proofs.ReadingLemmas.{told-nil, told-append, after-nil, after-append, reading-events, messages-at_end}
+use Rattle.html5reading.specs.EndOfInput.{tokens_at_end}
+use Rattle.html5reading.specs.NormalisedText.{with_line_feeds, without_dropped_first, normalised, line_after, input_after}
+use Rattle.html5reading.specs.Reading.{end_events, read, told, messages, all_messages, messages_so_far, state_after, start_after}
+use Rattle.html5reading.specs.Start.{Start, Input, Rules}
+use Rattle.html5reading.specs.Start.Mode.{Plain}
+use Rattle.html5reading.specs.Start.Open.{Between}
+use Rattle.html5reading.proofs.ReadingLemmas.{told-nil, told-append, after-nil, after-append, reading-events, messages-at_end}
 use Rattle.html5ever_interface.proofs.Steppings.{stepped-append}
-use Rattle.html5grammar.proofs.Traces.{messages-append}
+use Rattle.html5reading.proofs.Traces.{messages-append}
 use Rattle.html5feed.specs.Feed.{pauses, reply_in, told_beyond, told_at_end, feed}
 use Rattle.html5feed.specs.Refused.{IsItem, RefusedAfter}
 use Rattle.html5feed.proofs.Pauses.{told_beyond-after, state_beyond-append, feed-anew, feed-done, feed-shorter, reply_in-pauses}
@@ -19,7 +19,7 @@ use Rattle.markup5ever.specs.declared.tokenizer_result.TokenizerResult.TheVarian
 use Rattle.std.specs.Prelude.{Result, Ok, Err, OnOk, IfOk, IfErr, is_err, ◌≢◌}
 use Rattle.html5states.specs.Telling.{Stops, Tells}
 use Rattle.html5ever.specs.Tokenizer.{Tokenizing, StandsAt, Feeds, StopsFeeding, EndStops, state_at_end}
-use Rattle.html5opened.specs.declared.error.TokenizerError.{TokenizerError}
+use Rattle.html5partial.specs.declared.error.TokenizerError.{TokenizerError}
 
 -- the line on which the tokenizer stands is the one that the text has reached
 position-line : (I : Input) (X : List ℕ) → (input_after I X).line < 2 ^ 64 → (input_after I X).line ≡ line_after I (normalised I X)

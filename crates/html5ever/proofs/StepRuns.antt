@@ -6,8 +6,8 @@ use Rattle.std.proofs.lemmas.List.{append-nil, append_assoc}
 use Rattle.html5ever_interface.specs.Sink.{Means}
 use Rattle.html5ever_interface.specs.Token.{Told, Reply, is_tag}
 use Rattle.html5ever_interface.specs.Token.Reply.{KeepOn}
-use Rattle.html5grammar.specs.Reading.{all_messages}
-use Rattle.html5grammar.specs.Start.{Start, Rules, is_clean}
+use Rattle.html5reading.specs.Reading.{all_messages}
+use Rattle.html5reading.specs.Start.{Start, Rules, is_clean}
 use Rattle.html5feed.specs.Feed.{Feed, told_beyond, feed, IsEndOf}
 use Rattle.html5ever.specs.RunSteps.StepOf.{AtBack}
 use Rattle.html5feed.proofs.Pauses.{feed-parts}
@@ -17,8 +17,8 @@ use Rattle.html5ever.proofs.PausesByItems.{takes-by_items}
 use Rattle.markup5ever.specs.NamedReferences.{IsTable}
 use Rattle.html5states.specs.Telling.{Stops}
 use Rattle.html5ever.specs.Tokenizer.{Tokenizing, StandsAt, ReadsOn, Feeds, Finishes, StopsFeeding, StopsReading, StopsEnding, EndStops, state_at_end}
-use Rattle.html5opened.specs.declared.error.TokenizerError.{TokenizerError}
-use Rattle.html5opened.specs.declared.error.TokenizerError.TheVariants.{Memory}
+use Rattle.html5partial.specs.declared.error.TokenizerError.{TokenizerError}
+use Rattle.html5partial.specs.declared.error.TokenizerError.TheVariants.{Memory}
 use Rattle.html5ever.proofs.Draining.{taken-is}
 use Rattle.html5states.proofs.Tellings.{Memory-at_once}
 use Rattle.html5ever.proofs.Wholes.{whole-within_stops, whole-end_stops}

@@ -6,17 +6,17 @@ use Rattle.std.specs.Prelude.{IfOk}
 use Rattle.html5ever_interface.proofs.Steppings.{stepped-append}
 use Rattle.html5ever_interface.specs.Collected.{Collected}
 use Rattle.html5ever_interface.specs.Sink.{Means, Message, stepped}
-use Rattle.html5grammar.specs.Reading.{Event, end_events, read, told, messages, all_messages, messages_so_far}
-use Rattle.html5grammar.specs.NormalisedText.{normalised}
-use Rattle.html5grammar.specs.Start.{Start, Rules}
-use Rattle.html5grammar.proofs.ReadingLemmas.{told-nil, reading-events}
+use Rattle.html5reading.specs.Reading.{Event, end_events, read, told, messages, all_messages, messages_so_far}
+use Rattle.html5reading.specs.NormalisedText.{normalised}
+use Rattle.html5reading.specs.Start.{Start, Rules}
+use Rattle.html5reading.proofs.ReadingLemmas.{told-nil, reading-events}
 use Rattle.html5ever.proofs.Draining.{told-beyond}
-use Rattle.html5grammar.proofs.Traces.{messages-append}
+use Rattle.html5reading.proofs.Traces.{messages-append}
 use Rattle.html5feed.specs.Feed.{told_beyond, told_at_end}
 use Rattle.html5states.specs.Telling.{Stops, StopsWithin, IsRefusal}
 use Rattle.html5ever.specs.Tokenizer.{Tokenizing, StandsAt, EndStops}
-use Rattle.html5opened.specs.declared.error.TokenizerError.{TokenizerError}
-use Rattle.html5opened.specs.declared.error.TokenizerError.TheVariants.{Memory, Sink, Failed}
+use Rattle.html5partial.specs.declared.error.TokenizerError.{TokenizerError}
+use Rattle.html5partial.specs.declared.error.TokenizerError.TheVariants.{Memory, Sink, Failed}
 use Rattle.html5states.proofs.Tellings.{stops_before, stops_after}
 use Rattle.std.proofs.Math.Seq.{drop-append_seam}
 

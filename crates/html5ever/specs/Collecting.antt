@@ -4,10 +4,10 @@ use Rattle.html5ever_interface.specs.Collected.{Collected, Collecting, none_coll
 use Rattle.html5ever_interface.specs.Options.{OptionsOf}
 use Rattle.html5ever_interface.specs.Sink.{Means, Message, stepped}
 use Rattle.html5states.specs.Telling.{IsRefusal}
-use Rattle.html5opened.specs.declared.error.TokenizerError.{TokenizerError}
+use Rattle.html5partial.specs.declared.error.TokenizerError.{TokenizerError}
 use Rattle.html5ever.specs.Tokenizer.{rules_of, finished_reading}
-use Rattle.html5grammar.specs.Start.{start_of}
-use Rattle.html5items.specs.Items.{Composed}
+use Rattle.html5reading.specs.Start.{start_of}
+use Rattle.html5grammar.specs.Items.{Composed}
 use Rattle.markup5ever.specs.NamedReferences.{NamedReference}
 
 -- what a collector makes of what it is sent

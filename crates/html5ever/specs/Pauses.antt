@@ -5,8 +5,8 @@ use Rattle.html5ever_interface.specs.Token.{TagOf, Reply}
 use Rattle.html5ever_interface.specs.Token.Told.{Tag}
 use Rattle.html5ever_interface.specs.Token.Reply.{KeepOn}
 use Rattle.html5feed.specs.Feed.{pauses}
-use Rattle.html5grammar.specs.Start.{Start, Rules}
-use Rattle.html5items.specs.Items.{Items}
+use Rattle.html5reading.specs.Start.{Start, Rules}
+use Rattle.html5grammar.specs.Items.{Items}
 
 -- the message of a tag
 abbrev pub tag_message : TagOf → ℕ → Message

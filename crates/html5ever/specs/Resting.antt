@@ -1,7 +1,7 @@
 -- What a tokenizer is between two calls, without its table, and what it is with a table.
 use Rattle.std.specs.Prelude.{Bool, List}
 use Rattle.markup5ever.specs.NamedReferences.{NamedReference}
-use Rattle.html5grammar.specs.Start.{Start}
+use Rattle.html5reading.specs.Start.{Start}
 use Rattle.html5ever.specs.Tokenizer.{Tokenizing}
 
 -- a tokenizer without its table

@@ -6,12 +6,12 @@ use Rattle.html5ever_interface.specs.Options.{OptionsOf}
 use Rattle.html5ever.specs.Pauses.{TakesByItems}
 use Rattle.html5ever_interface.specs.Sink.{Means}
 use Rattle.html5ever_interface.specs.Token.{Reply}
-use Rattle.html5grammar.specs.Reading.{all_messages}
-use Rattle.html5grammar.specs.Start.{Start, Rules, start_of}
+use Rattle.html5reading.specs.Reading.{all_messages}
+use Rattle.html5reading.specs.Start.{Start, Rules, start_of}
 use Rattle.html5feed.specs.Feed.{Feed, feed}
-use Rattle.html5items.specs.Items.{FinishedItems}
+use Rattle.html5grammar.specs.Items.{FinishedItems}
 use Rattle.html5ever.specs.Tokenizer.{Tokenizing, StandsAt, EndStops, rules_of, state_at_end}
-use Rattle.html5opened.specs.declared.error.TokenizerError.{TokenizerError}
+use Rattle.html5partial.specs.declared.error.TokenizerError.{TokenizerError}
 use Rattle.html5ever.specs.declared.tokenizer.steps.Step.{Step}
 use Rattle.html5ever.specs.declared.tokenizer.steps.Step.TheVariants.{Push, Insert}
 use Rattle.markup5ever.specs.NamedReferences.{NamedReference}

@@ -3,15 +3,15 @@ use Rattle.std.specs.Prelude.{◌≡◌, ℕ, Bool, true, false, List, [], ◌++
 use Rattle.html5ever_interface.specs.Options.{OptionsOf}
 use Rattle.html5ever_interface.specs.Sink.{Means, Message, stepped}
 use Rattle.html5ever_interface.specs.Token.{Reply}
-use Rattle.html5grammar.specs.Reading.{all_messages, state_after, start_after}
-use Rattle.html5grammar.specs.Start.{Start, Rules, start_of, is_clean}
-use Rattle.html5items.specs.Items.{ToldItems, FinishedItems}
+use Rattle.html5reading.specs.Reading.{all_messages, state_after, start_after}
+use Rattle.html5reading.specs.Start.{Start, Rules, start_of, is_clean}
+use Rattle.html5grammar.specs.Items.{ToldItems, FinishedItems}
 use Rattle.html5ever.specs.Pauses.{TakesByItems}
 use Rattle.html5feed.specs.Feed.{Feed, told_beyond, told_at_end, feed}
 use Rattle.html5feed.specs.Refused.{RefusedAfter}
 use Rattle.html5states.specs.Telling.{Stops, StopsWithin, FaultsWithin}
-use Rattle.html5opened.specs.declared.error.TokenizerError.{TokenizerError}
-use Rattle.html5opened.specs.declared.error.TokenizerError.TheVariants.{Memory, Sink, Failed}
+use Rattle.html5partial.specs.declared.error.TokenizerError.{TokenizerError}
+use Rattle.html5partial.specs.declared.error.TokenizerError.TheVariants.{Memory, Sink, Failed}
 use Rattle.markup5ever.specs.NamedReferences.{NamedReference}
 
 -- what contracts see of a tokenizer

@@ -4,4 +4,4 @@
 pub mod tokenizer;
 
 pub use crate::tokenizer::{Tokenizer, TokenizerResult};
-pub use html5opened::error::TokenizerError;
+pub use html5partial::error::TokenizerError;

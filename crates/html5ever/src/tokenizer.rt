@@ -2,10 +2,10 @@
 ghost use Rattle.std.specs.Prelude.{◌≡◌, ◌≢◌, ◌^◌, ◌<◌, ◌+◌, ◌↔◌, ◌&&◌, not, [], true, false, IsOk, IfOk, IfErr, OnOk, is_ok, is_err, length, string_bytes};
 ghost use Rattle.html5ever_interface.specs.Options.{options_of};
 ghost use Rattle.html5ever_interface.specs.Sink.{stepped, on_line};
-ghost use Rattle.html5grammar.specs.EndOfInput.{tokens_at_end};
-ghost use Rattle.html5grammar.specs.Start.{start_of, is_clean, held_len};
-ghost use Rattle.html5grammar.specs.Start.Mode.{Plain};
-ghost use Rattle.html5grammar.specs.Start.Open.{Between};
+ghost use Rattle.html5reading.specs.EndOfInput.{tokens_at_end};
+ghost use Rattle.html5reading.specs.Start.{start_of, is_clean, held_len};
+ghost use Rattle.html5reading.specs.Start.Mode.{Plain};
+ghost use Rattle.html5reading.specs.Start.Open.{Between};
 ghost use Rattle.html5feed.specs.Feed.{reply_in, IsEndOf, IsLinear};
 ghost use Rattle.html5states.specs.Telling.{faults_of};
 ghost use Rattle.html5feed.specs.Starting.{CanStart};
@@ -42,7 +42,7 @@ pub use html5ever_interface::interface::token::{
     Doctype, ProcessResult, SinkFault, Tag, TagKind, TextFault, Token, TokenSinkResult,
 };
 pub use html5ever_interface::options::TokenizerOpts;
-pub use html5opened::error::TokenizerError;
+pub use html5partial::error::TokenizerError;
 pub use html5sinks::replies;
 pub use html5sinks::tags::{ReplyingTagHandler, SaysTag, TagHandler, TagsOnly};
 pub use html5sinks::text_runs::{ReplyingTokenHandler, TextRuns, TokenHandler};

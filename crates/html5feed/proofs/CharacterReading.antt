@@ -12,30 +12,30 @@ use Rattle.html5ever_interface.specs.Token.Told.{Tag}
 use Rattle.html5ever_interface.specs.declared.states.ScriptEscapeKind.TheVariants as escape_kind
 use Rattle.html5ever_interface.specs.declared.states.State.{State}
 use Rattle.html5ever_interface.specs.declared.states.State.TheVariants as state
-use Rattle.html5grammar.specs.Cdata.{open_cdata}
-use Rattle.html5grammar.specs.ErrorText.{bad_character_error}
-use Rattle.html5grammar.specs.Reading.{Here, last_after, open_after_reply}
-use Rattle.html5grammar.specs.Reading.Here.{Tells, TellsTag}
-use Rattle.html5grammar.specs.Start.{Open, Rules, held_len}
-use Rattle.html5grammar.specs.Start.Mode.{Data}
-use Rattle.html5grammar.specs.Start.Open.{Between}
-use Rattle.html5grammar.proofs.Holding.{HoldsAtMostOne}
-use Rattle.html5grammar.specs.Machine.{step_at, messages_here, opened_here, last_here}
+use Rattle.html5reading.specs.Cdata.{open_cdata}
+use Rattle.html5reading.specs.ErrorText.{bad_character_error}
+use Rattle.html5reading.specs.Reading.{Here, last_after, open_after_reply}
+use Rattle.html5reading.specs.Reading.Here.{Tells, TellsTag}
+use Rattle.html5reading.specs.Start.{Open, Rules, held_len}
+use Rattle.html5reading.specs.Start.Mode.{Data}
+use Rattle.html5reading.specs.Start.Open.{Between}
+use Rattle.html5reading.proofs.Holding.{HoldsAtMostOne}
+use Rattle.html5reading.specs.Machine.{step_at, messages_here, opened_here, last_here}
 use Rattle.html5ever_interface.proofs.Steppings.{stepped-append}
 use Rattle.html5ever_interface.specs.Token.{DoctypeOf}
 use Rattle.std.proofs.Common.{◌≤◌, ◌≢◌}
-use Rattle.html5opened.specs.CurrentTag.{open_of, is_between, after_doctype_name, last_name_of}
-use Rattle.html5opened.specs.Steps.{tokens_of, Next, afterwards}
-use Rattle.html5opened.specs.Steps.Next.{Opens, Closes}
-use Rattle.html5opened.specs.declared.opened.Opened.{Opened}
-use Rattle.html5opened.specs.declared.error.TokenizerError.{TokenizerError}
-use Rattle.html5opened.specs.declared.error.TokenizerError.TheVariants.{Memory, Sink, Failed}
+use Rattle.html5partial.specs.CurrentTag.{open_of, is_between, after_doctype_name, last_name_of}
+use Rattle.html5partial.specs.Steps.{tokens_of, Next, afterwards}
+use Rattle.html5partial.specs.Steps.Next.{Opens, Closes}
+use Rattle.html5partial.specs.declared.opened.Opened.{Opened}
+use Rattle.html5partial.specs.declared.error.TokenizerError.{TokenizerError}
+use Rattle.html5partial.specs.declared.error.TokenizerError.TheVariants.{Memory, Sink, Failed}
 use Rattle.html5feed.specs.Feed.{first_pause}
-use Rattle.html5opened.specs.Steps.{Leads, Ends}
+use Rattle.html5partial.specs.Steps.{Leads, Ends}
 use Rattle.html5states.specs.Telling as telling
 use Rattle.html5feed.proofs.Pauses.{first_pause-none, first_pause-append, first_pause-no_tags, no_tag_messages}
 use Rattle.html5states.proofs.Tellings.{told_then, told_stop}
-use Rattle.html5grammar.proofs.NoTags.{NoTags, NoTagsHere, no_tags-append, no_tags-bad, no_tags-step_at}
+use Rattle.html5reading.proofs.NoTags.{NoTags, NoTagsHere, no_tags-append, no_tags-bad, no_tags-step_at}
 use Rattle.html5ever_interface.specs.Token.{is_tag}
 use Rattle.html5ever_interface.specs.Token.Reply.{KeepOn}
 use Rattle.std.specs.Result.{IsErrAnd}

@@ -7,7 +7,7 @@ use Rattle.std.proofs.lemmas.List.{get_or-take, length-take-le}
 use Rattle.std.proofs.lemmas.List.Elements.{All-from_get_or}
 use Rattle.std.proofs.lemmas.Str.{IsCharBoundary-after_ascii, IsCharBoundary-start, IsUtf8-drop, chars-IsAscii}
 use Rattle.std.proofs.lemmas.Str.Ascii.{IsAscii-more, IsAscii-nil}
-use Rattle.html5grammar.specs.Characters.{is_bad_character}
+use Rattle.html5reading.specs.Characters.{is_bad_character}
 use Rattle.markup5ever.specs.SmallCharSet.{BeginsOutside, IsMember}
 
 -- so many bytes are such a front

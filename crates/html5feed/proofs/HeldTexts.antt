@@ -3,9 +3,9 @@ use Rattle.std.proofs.Common.{◌≡◌, ℕ, ◌<◌, ◌^◌, Bool, true, fals
 use Rattle.std.specs.Str.{chars}
 use Rattle.std.proofs.lemmas.List.{append-nil, length-take-le}
 use Rattle.std.proofs.lemmas.Str.{chars-IsAscii}
-use Rattle.html5grammar.specs.Start.{Open, Rules, Start}
-use Rattle.html5grammar.specs.Start.Open.{InReference}
-use Rattle.html5opened.specs.CharRef.{BeginsInAscii, HoldsEach, stand_of, with_reference}
+use Rattle.html5reading.specs.Start.{Open, Rules, Start}
+use Rattle.html5reading.specs.Start.Open.{InReference}
+use Rattle.html5partial.specs.CharRef.{BeginsInAscii, HoldsEach, stand_of, with_reference}
 use Rattle.html5feed.specs.Quiet.{HoldsText, StopsAtCharacter}
 use Rattle.markup5ever.specs.NamedReferences.{NamedReference}
 

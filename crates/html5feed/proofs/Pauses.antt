@@ -8,12 +8,12 @@ use Rattle.html5ever_interface.proofs.Steppings.{stepped-append}
 use Rattle.html5ever_interface.specs.Sink.{Means, Message, stepped, on_line}
 use Rattle.html5ever_interface.specs.Token.{Told, Reply, is_tag}
 use Rattle.html5ever_interface.specs.Token.Reply.{KeepOn}
-use Rattle.html5grammar.proofs.NoTags.{NoTags}
+use Rattle.html5reading.proofs.NoTags.{NoTags}
 use Rattle.markup5ever.specs.declared.tokenizer_result.TokenizerResult.{TokenizerResult}
 use Rattle.markup5ever.specs.declared.tokenizer_result.TokenizerResult.TheVariants.{Done, Script, EncodingIndicator}
-use Rattle.html5grammar.proofs.ReadingLemmas.{told-nil, told-append, after-nil, after-append}
-use Rattle.html5grammar.specs.Reading.{messages_so_far, state_after, start_after}
-use Rattle.html5grammar.specs.Start.{Start, Rules}
+use Rattle.html5reading.proofs.ReadingLemmas.{told-nil, told-append, after-nil, after-append}
+use Rattle.html5reading.specs.Reading.{messages_so_far, state_after, start_after}
+use Rattle.html5reading.specs.Start.{Start, Rules}
 use Rattle.html5feed.specs.Feed.{Feed, pauses, takes_before, up_to_pause, reply_in, told_beyond, first_pause, pause_at, feed}
 
 unfoldable pub NoTagMessages : List Message → Type 0

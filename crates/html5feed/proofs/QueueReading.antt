@@ -3,12 +3,12 @@ use Rattle.std.proofs.Common.{◌≡◌, ℕ, true, false, List, [], ◌∷◌, 
 use Rattle.std.specs.Prelude.{IfErr, encode_utf8_all}
 use Rattle.std.proofs.lemmas.List.{append_assoc, append-nil}
 use Rattle.markup5ever.specs.BufferQueue.{TextQueue, Takes}
-use Rattle.html5grammar.specs.Reading.{messages_so_far, state_after, start_after}
+use Rattle.html5reading.specs.Reading.{messages_so_far, state_after, start_after}
 use Rattle.html5feed.specs.Runs.{ReadsRun}
 use Rattle.html5ever_interface.specs.Sink.{Means, Message, stepped}
-use Rattle.html5grammar.specs.Start.{Start, Open, is_clean, Rules}
+use Rattle.html5reading.specs.Start.{Start, Open, is_clean, Rules}
 use Rattle.html5states.specs.Telling.{Stops, IsRefusal}
-use Rattle.html5grammar.specs.NormalisedText.{input_after}
+use Rattle.html5reading.specs.NormalisedText.{input_after}
 use Rattle.std.specs.Result.{IsErrAnd}
 use Rattle.std.proofs.Common.{Result, Ok, Err}
 use Rattle.html5ever_interface.specs.Token.{Told, Reply, is_tag}
@@ -16,15 +16,15 @@ use Rattle.html5ever_interface.specs.Token.Told.{Text}
 use Rattle.html5ever_interface.specs.Token.Reply.{KeepOn}
 use Rattle.html5feed.specs.Feed.{Feed, pauses, takes_before, first_pause, feed, IsEndOf}
 use Rattle.html5feed.specs.Refused.{IsRun, IsItem, RefusedAfter}
-use Rattle.html5opened.specs.Runs.{opened_after_run}
+use Rattle.html5partial.specs.Runs.{opened_after_run}
 use Rattle.html5feed.proofs.RunLemmas.{run_messages, run_messages-within, run-said, input_after-within, told-run, after-run, run-quiet}
 use Rattle.html5states.specs.Telling.{IsToldAs, Tells}
 use Rattle.std.specs.Prelude.{OnOk, IsNone}
 use Rattle.html5feed.proofs.Pauses.{told_beyond-after, state_beyond-append, pause_here, feed-goes_on, feed-takes, feed-pauses}
-use Rattle.html5opened.specs.declared.error.TokenizerError.{TokenizerError}
-use Rattle.html5opened.specs.declared.error.TokenizerError.TheVariants.{Memory, Sink, Failed}
-use Rattle.html5grammar.proofs.ReadingLemmas.{clean-mode, told-nil, told-append, after-nil, after-append}
-use Rattle.html5opened.proofs.Keywords.{cons≢nil}
+use Rattle.html5partial.specs.declared.error.TokenizerError.{TokenizerError}
+use Rattle.html5partial.specs.declared.error.TokenizerError.TheVariants.{Memory, Sink, Failed}
+use Rattle.html5reading.proofs.ReadingLemmas.{clean-mode, told-nil, told-append, after-nil, after-append}
+use Rattle.html5partial.proofs.Keywords.{cons≢nil}
 use Rattle.html5states.proofs.Tellings.{Memory-at_once, stops_before, stops_after}
 
 -- between tags a run opens nothing

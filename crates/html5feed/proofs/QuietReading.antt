@@ -8,20 +8,20 @@ use Rattle.std.proofs.lemmas.List.{append-nil, append_assoc}
 use Rattle.std.proofs.lemmas.List.Elements.{All-nil, All-cons}
 use Rattle.std.proofs.lemmas.Str.{chars-nil}
 use Rattle.html5ever_interface.specs.Sink.{Means, stepped}
-use Rattle.html5grammar.specs.Characters.{line_feed}
-use Rattle.html5grammar.specs.Machine.{step_at, brought_at, reference_step}
-use Rattle.html5grammar.specs.NormalisedText.{normalised, line_after}
-use Rattle.html5grammar.specs.Reading.{messages_so_far, start_after}
-use Rattle.html5grammar.specs.Reading.Here.{Tells}
-use Rattle.html5grammar.specs.Start.{Open, Rules, Stand, Start}
-use Rattle.html5grammar.specs.Start.Open.{InReference}
-use Rattle.html5grammar.proofs.GoodCharacters.{good_between}
-use Rattle.html5grammar.proofs.InputLemmas.{line_past, line_after-none}
-use Rattle.html5grammar.proofs.ReadingLemmas.{told-trace, after-opened, after-last, told-nil, after-nil}
-use Rattle.html5grammar.proofs.Traces.{Trace, trace, trace_brought, trace_here, with_messages, brought-tells}
-use Rattle.html5opened.specs.CharRef.{HoldsEach}
-use Rattle.html5opened.specs.declared.error.TokenizerError.TheVariants.{Memory}
-use Rattle.html5quiet.specs.Quiet.{IsQuiet, ReadsQuietly}
+use Rattle.html5reading.specs.Characters.{line_feed}
+use Rattle.html5reading.specs.Machine.{step_at, brought_at, reference_step}
+use Rattle.html5reading.specs.NormalisedText.{normalised, line_after}
+use Rattle.html5reading.specs.Reading.{messages_so_far, start_after}
+use Rattle.html5reading.specs.Reading.Here.{Tells}
+use Rattle.html5reading.specs.Start.{Open, Rules, Stand, Start}
+use Rattle.html5reading.specs.Start.Open.{InReference}
+use Rattle.html5reading.proofs.GoodCharacters.{good_between}
+use Rattle.html5reading.proofs.InputLemmas.{line_past, line_after-none}
+use Rattle.html5reading.proofs.ReadingLemmas.{told-trace, after-opened, after-last, told-nil, after-nil}
+use Rattle.html5reading.proofs.Traces.{Trace, trace, trace_brought, trace_here, with_messages, brought-tells}
+use Rattle.html5partial.specs.CharRef.{HoldsEach}
+use Rattle.html5partial.specs.declared.error.TokenizerError.TheVariants.{Memory}
+use Rattle.html5fast_path.specs.Quiet.{IsQuiet, ReadsQuietly}
 use Rattle.html5feed.specs.Feed.{feed, first_pause}
 use Rattle.html5feed.specs.Quiet.{IsQuietText, StopsAtCharacter, TakesQuietly, TellsNothing}
 use Rattle.html5feed.specs.Refused.{RefusedAfter}

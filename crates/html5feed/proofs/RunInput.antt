@@ -7,10 +7,10 @@ use Rattle.std.proofs.lemmas.List.{append-nil}
 use Rattle.std.proofs.lemmas.List.Elements.{All-head, All-tail, All-from_get_or}
 use Rattle.std.proofs.lemmas.List.Sums.{sum_by-append, sum_by-cons}
 use Rattle.std.proofs.lemmas.Str.{encode_ascii, encodes-chars, inside_one}
-use Rattle.html5grammar.specs.Characters.{line_feed, carriage_return}
-use Rattle.html5grammar.specs.NormalisedText.{with_line_feeds, without_dropped_first, normalised, line_after, input_after, ends_with_carriage_return}
-use Rattle.html5grammar.specs.Start.{Input}
-use Rattle.html5grammar.proofs.InputLemmas.{lines_past, line_after-none, line_after-lines_past}
+use Rattle.html5reading.specs.Characters.{line_feed, carriage_return}
+use Rattle.html5reading.specs.NormalisedText.{with_line_feeds, without_dropped_first, normalised, line_after, input_after, ends_with_carriage_return}
+use Rattle.html5reading.specs.Start.{Input}
+use Rattle.html5reading.proofs.InputLemmas.{lines_past, line_after-none, line_after-lines_past}
 
 with_line_feeds-run : (run : List ℕ) → All (λ c. c ≢ carriage_return) run → with_line_feeds false run ≡ run
 unfolding with_line_feeds

@@ -1,7 +1,7 @@
 -- Between tags a run tells its characters, each on its own line, and moves nothing but the line. Where something is open that takes
 -- it, it tells nothing.
-use Rattle.html5grammar.specs.Reading.Here.{Tells}
-use Rattle.html5grammar.specs.Machine.{step_at}
+use Rattle.html5reading.specs.Reading.Here.{Tells}
+use Rattle.html5reading.specs.Machine.{step_at}
 use Rattle.std.proofs.Common.{◌≡◌, ◌≢◌, ℕ, ◌<◌, ◌^◌, Bool, false, inl, cond, List, [], ◌∷◌, ◌++◌, inr, refl, ap, sym, ◌∙◌, arith, Some, true, take, drop, subst, ◌↔◌}
 use Rattle.std.specs.Prelude.{map, ◌==◌, ◌&&◌, ◌⊎◌, All, Contains, encode_utf8, encode_utf8_all, is_some, IfSome}
 use Rattle.std.specs.Str.{IsUtf8, chars}
@@ -17,21 +17,21 @@ use Rattle.html5ever_interface.specs.Token.Reply.{KeepOn}
 use Rattle.html5ever_interface.specs.Token.Told.{Text}
 use Rattle.html5ever_interface.specs.declared.states.AttrValueKind.{AttrValueKind}
 use Rattle.html5ever_interface.specs.declared.states.AttrValueKind.TheVariants.{Unquoted, SingleQuoted, DoubleQuoted}
-use Rattle.html5grammar.specs.Characters.{line_feed, carriage_return, is_bad_character}
-use Rattle.html5grammar.specs.NormalisedText.{normalised, line_after, input_after}
-use Rattle.html5grammar.specs.Reading.{messages_so_far, start_after}
-use Rattle.html5grammar.specs.Reference.{with_value}
-use Rattle.html5grammar.specs.Start.{Input, Start, Open, OpenTag, Mode, Rules, is_clean}
-use Rattle.html5grammar.specs.Start.Place.{InName, BeforeAttribute, InAttributeName, AfterAttributeName, BeforeValue, InValue, AfterQuotedValue, AfterSolidus}
-use Rattle.html5grammar.specs.Start.Open.{Between, LessThan, LessThanSolidus, InTag, InRaw, InDeclaration, InComment, InBogusComment, InInstruction, InDoctype, InDoctypeKeyword, InCdata, InReference}
-use Rattle.html5grammar.proofs.InputLemmas.{line_past, lines_past, line_after-none}
-use Rattle.html5grammar.proofs.NoTags.{NoTags}
-use Rattle.html5grammar.proofs.ReadingLemmas.{clean-mode, told-trace, after-opened, after-last}
-use Rattle.html5grammar.proofs.Traces.{Trace, trace, trace_here, with_messages, brought-tells, trace_brought}
-use Rattle.html5opened.specs.Runs.{IsRunAt, is_unquoted, other_run_ends, run_ends, run_tokens, opened_after_run}
-use Rattle.html5opened.proofs.RunSteps.{step-run, opened_after_run-nil, opened_after_run-cons, other_run_ends-after, no_line_feed, no_carriage_return}
-use Rattle.html5quiet.proofs.Runs as quiet
-use Rattle.html5quiet.proofs.Runs.{run-decided, run_tokens-open, open-after, some_of}
+use Rattle.html5reading.specs.Characters.{line_feed, carriage_return, is_bad_character}
+use Rattle.html5reading.specs.NormalisedText.{normalised, line_after, input_after}
+use Rattle.html5reading.specs.Reading.{messages_so_far, start_after}
+use Rattle.html5reading.specs.Reference.{with_value}
+use Rattle.html5reading.specs.Start.{Input, Start, Open, OpenTag, Mode, Rules, is_clean}
+use Rattle.html5reading.specs.Start.Place.{InName, BeforeAttribute, InAttributeName, AfterAttributeName, BeforeValue, InValue, AfterQuotedValue, AfterSolidus}
+use Rattle.html5reading.specs.Start.Open.{Between, LessThan, LessThanSolidus, InTag, InRaw, InDeclaration, InComment, InBogusComment, InInstruction, InDoctype, InDoctypeKeyword, InCdata, InReference}
+use Rattle.html5reading.proofs.InputLemmas.{line_past, lines_past, line_after-none}
+use Rattle.html5reading.proofs.NoTags.{NoTags}
+use Rattle.html5reading.proofs.ReadingLemmas.{clean-mode, told-trace, after-opened, after-last}
+use Rattle.html5reading.proofs.Traces.{Trace, trace, trace_here, with_messages, brought-tells, trace_brought}
+use Rattle.html5partial.specs.Runs.{IsRunAt, is_unquoted, other_run_ends, run_ends, run_tokens, opened_after_run}
+use Rattle.html5partial.proofs.RunSteps.{step-run, opened_after_run-nil, opened_after_run-cons, other_run_ends-after, no_line_feed, no_carriage_return}
+use Rattle.html5fast_path.proofs.Runs as quiet
+use Rattle.html5fast_path.proofs.Runs.{run-decided, run_tokens-open, open-after, some_of}
 use Rattle.html5feed.specs.Feed.{first_pause}
 use Rattle.html5feed.specs.Refused.{IsGoodRun, IsRun}
 use Rattle.html5feed.proofs.RunInput.{normalised-run, input_after-run, line-run}

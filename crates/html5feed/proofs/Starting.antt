@@ -6,11 +6,11 @@ use Rattle.std.specs.Str.{chars}
 use Rattle.std.proofs.lemmas.Str.{chars-nil}
 use Rattle.html5ever_interface.specs.declared.states.State.{State}
 use Rattle.html5ever_interface.specs.declared.states.State.TheVariants as state
-use Rattle.html5grammar.specs.Cdata.{open_cdata}
-use Rattle.html5grammar.specs.Start.{Start, initial_mode}
-use Rattle.html5grammar.specs.Start.Open.{Between}
-use Rattle.html5opened.specs.CurrentTag.{open_of, opened_of, last_name_of}
-use Rattle.html5opened.specs.declared.opened.Opened.{Opened}
+use Rattle.html5reading.specs.Cdata.{open_cdata}
+use Rattle.html5reading.specs.Start.{Start, initial_mode}
+use Rattle.html5reading.specs.Start.Open.{Between}
+use Rattle.html5partial.specs.CurrentTag.{open_of, opened_of, last_name_of}
+use Rattle.html5partial.specs.declared.opened.Opened.{Opened}
 use Rattle.html5feed.specs.Starting.{CanStart}
 
 -- the state in which a stream starts

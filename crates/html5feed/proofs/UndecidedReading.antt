@@ -8,32 +8,32 @@ use Rattle.std.proofs.lemmas.List.{append-nil}
 use Rattle.std.specs.Result.{IsErrAnd}
 use Rattle.html5ever_interface.specs.Token.{Told, is_tag}
 use Rattle.html5ever_interface.specs.Token.Reply.{KeepOn}
-use Rattle.html5grammar.proofs.InputLemmas.{line_after-none}
-use Rattle.html5grammar.proofs.NoTags.{no_tags-settled}
-use Rattle.html5grammar.proofs.ReadingLemmas.{told-one, after-one}
-use Rattle.html5grammar.proofs.Traces.{brought-step}
-use Rattle.html5grammar.specs.EndOfInput.{late_at_end_of, open_at_end_of}
-use Rattle.html5grammar.specs.NormalisedText.{normalised, input_after}
-use Rattle.html5grammar.specs.Slice.{tokens_of_late}
+use Rattle.html5reading.proofs.InputLemmas.{line_after-none}
+use Rattle.html5reading.proofs.NoTags.{no_tags-settled}
+use Rattle.html5reading.proofs.ReadingLemmas.{told-one, after-one}
+use Rattle.html5reading.proofs.Traces.{brought-step}
+use Rattle.html5reading.specs.EndOfInput.{late_at_end_of, open_at_end_of}
+use Rattle.html5reading.specs.NormalisedText.{normalised, input_after}
+use Rattle.html5reading.specs.Slice.{tokens_of_late}
 use Rattle.html5states.proofs.Tellings.{stops_before, tells_stop, tells_after}
 use Rattle.html5states.specs.Telling as telling
-use Rattle.html5opened.specs.declared.error.TokenizerError.{TokenizerError}
+use Rattle.html5partial.specs.declared.error.TokenizerError.{TokenizerError}
 use Rattle.html5feed.specs.Feed.{first_pause}
 use Rattle.html5feed.proofs.Pauses.{first_pause-append, first_pause-no_tags, no_tag_messages}
-use Rattle.html5grammar.specs.Machine.{step_at, brought_at, reference_step, messages_here, opened_here, last_here}
-use Rattle.html5grammar.specs.Characters.{number_sign, semicolon, is_bad_character}
-use Rattle.html5grammar.specs.Reading.{Brought, messages_so_far, start_after}
-use Rattle.html5grammar.specs.Reading.Here.{Tells}
-use Rattle.html5grammar.specs.Reference.{in_value, reference, is_undecided, ends_number, has_digits, late_tokens, opened_in, opened_after}
-use Rattle.html5grammar.specs.Start.{Stand, Start, Open, Rules, is_undecided_open, held_len}
-use Rattle.html5grammar.specs.Start.Open.{Between, LessThan, LessThanSolidus, InTag, InRaw, InDeclaration, InComment, InBogusComment, InInstruction, InDoctype, InDoctypeKeyword, InCdata, InReference}
-use Rattle.html5grammar.specs.Start.Stand.{InText, InAttribute}
-use Rattle.html5opened.specs.CharRef.{stand_of, with_reference}
-use Rattle.html5opened.specs.Steps.{Leads}
-use Rattle.html5opened.specs.declared.error.TokenizerError.TheVariants.{Memory, Sink, Failed}
+use Rattle.html5reading.specs.Machine.{step_at, brought_at, reference_step, messages_here, opened_here, last_here}
+use Rattle.html5reading.specs.Characters.{number_sign, semicolon, is_bad_character}
+use Rattle.html5reading.specs.Reading.{Brought, messages_so_far, start_after}
+use Rattle.html5reading.specs.Reading.Here.{Tells}
+use Rattle.html5reading.specs.Reference.{in_value, reference, is_undecided, ends_number, has_digits, late_tokens, opened_in, opened_after}
+use Rattle.html5reading.specs.Start.{Stand, Start, Open, Rules, is_undecided_open, held_len}
+use Rattle.html5reading.specs.Start.Open.{Between, LessThan, LessThanSolidus, InTag, InRaw, InDeclaration, InComment, InBogusComment, InInstruction, InDoctype, InDoctypeKeyword, InCdata, InReference}
+use Rattle.html5reading.specs.Start.Stand.{InText, InAttribute}
+use Rattle.html5partial.specs.CharRef.{stand_of, with_reference}
+use Rattle.html5partial.specs.Steps.{Leads}
+use Rattle.html5partial.specs.declared.error.TokenizerError.TheVariants.{Memory, Sink, Failed}
 use Rattle.std.proofs.lemmas.Result.{err_from_is_err_and}
 use Rattle.html5feed.specs.Undecided.{ReadsUndecided}
-use Rattle.html5opened.specs.Undecided.{BelongsTo, Decides}
+use Rattle.html5partial.specs.Undecided.{BelongsTo, Decides}
 
 pub answer-is : {E : Type 0} (b d : Bool) → ◌≡◌ {A = Result Bool E} (Ok b) (Ok d) → b ≡ d
 answer-is b d e = cc

@@ -4,8 +4,8 @@ use Rattle.std.specs.Prelude.{◌≡◌, ℕ, ◌+◌, ◌*◌, ◌≤◌, Bool,
 use Rattle.html5ever_interface.specs.Sink.{Means, Message}
 use Rattle.html5ever_interface.specs.Token.{Reply}
 use Rattle.html5ever_interface.specs.Token.Reply.{KeepOn, RunScript, SwitchEncoding}
-use Rattle.html5grammar.specs.Reading.{all_messages, messages_so_far, state_after}
-use Rattle.html5grammar.specs.Start.{Start, Rules}
+use Rattle.html5reading.specs.Reading.{all_messages, messages_so_far, state_after}
+use Rattle.html5reading.specs.Start.{Start, Rules}
 use Rattle.markup5ever.specs.BufferQueue.{TextQueue}
 use Rattle.markup5ever.specs.declared.tokenizer_result.TokenizerResult.{TokenizerResult}
 use Rattle.markup5ever.specs.declared.tokenizer_result.TokenizerResult.TheVariants.{Done, Script, EncodingIndicator}

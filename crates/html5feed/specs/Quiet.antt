@@ -1,10 +1,10 @@
 -- Characters that tell nothing and are read at once, without the sink.
 use Rattle.std.specs.Prelude.{◌≡◌, ◌⊎◌, ◌≤◌, ◌<◌, ◌^◌, ℕ, false, List, [], ◌++◌, length, Result, OnOk}
-use Rattle.html5grammar.specs.Start.{Open, Rules, Stand, Start}
-use Rattle.html5grammar.specs.Start.Open.{InReference}
-use Rattle.html5opened.specs.CharRef.{HoldsEach}
-use Rattle.html5opened.specs.declared.error.TokenizerError.{TokenizerError}
-use Rattle.html5quiet.specs.Quiet.{ReadsQuietly}
+use Rattle.html5reading.specs.Start.{Open, Rules, Stand, Start}
+use Rattle.html5reading.specs.Start.Open.{InReference}
+use Rattle.html5partial.specs.CharRef.{HoldsEach}
+use Rattle.html5partial.specs.declared.error.TokenizerError.{TokenizerError}
+use Rattle.html5fast_path.specs.Quiet.{ReadsQuietly}
 use Rattle.markup5ever.specs.BufferQueue.{TextQueue, Takes}
 use Rattle.markup5ever.specs.NamedReferences.{NamedReference}
 

@@ -1,13 +1,13 @@
 -- What a refused feed leaves: which beginning of the queue's text is gone, and how much of what it tells was sent.
 use Rattle.std.specs.Prelude.{◌≡◌, ◌≤◌, ◌⊎◌, ℕ, false, List, ◌++◌, length, All}
 use Rattle.html5ever_interface.specs.Sink.{Means}
-use Rattle.html5grammar.specs.Reading.{state_after, start_after}
-use Rattle.html5grammar.specs.Characters.{is_bad_character}
-use Rattle.html5grammar.specs.Start.{Open, Start, Rules}
+use Rattle.html5reading.specs.Reading.{state_after, start_after}
+use Rattle.html5reading.specs.Characters.{is_bad_character}
+use Rattle.html5reading.specs.Start.{Open, Start, Rules}
 use Rattle.html5feed.specs.Feed.{told_beyond}
-use Rattle.html5opened.specs.Runs.{IsRunAt, is_unquoted}
+use Rattle.html5partial.specs.Runs.{IsRunAt, is_unquoted}
 use Rattle.html5states.specs.Telling.{Stops}
-use Rattle.html5opened.specs.declared.error.TokenizerError.{TokenizerError}
+use Rattle.html5partial.specs.declared.error.TokenizerError.{TokenizerError}
 
 -- a run with no error in it where errors are exact: it stands in no value without quotes, and none of its characters is bad
 pub record IsGoodRun (opened : Open) (run : List ℕ) : Type 0 where

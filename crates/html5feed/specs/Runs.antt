@@ -2,12 +2,12 @@
 use Rattle.std.specs.Prelude.{◌≡◌, ℕ, List, Result, OnOk}
 use Rattle.html5ever_interface.specs.Sink.{Means}
 use Rattle.html5ever_interface.specs.Token.Reply.{KeepOn}
-use Rattle.html5grammar.specs.Reading.{messages_so_far, start_after}
-use Rattle.html5grammar.specs.Start.{Start, Rules}
+use Rattle.html5reading.specs.Reading.{messages_so_far, start_after}
+use Rattle.html5reading.specs.Start.{Start, Rules}
 use Rattle.html5feed.specs.Feed.{first_pause}
 use Rattle.html5feed.specs.Refused.{IsItem}
 use Rattle.html5states.specs.Telling.{Tells}
-use Rattle.html5opened.specs.declared.error.TokenizerError.{TokenizerError}
+use Rattle.html5partial.specs.declared.error.TokenizerError.{TokenizerError}
 use Rattle.markup5ever.specs.BufferQueue.{TextQueue, Takes}
 
 module _ {X S H T : Type 0} (means : Means X S H) (rules : Rules) where

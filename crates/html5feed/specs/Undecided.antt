@@ -2,11 +2,11 @@
 -- a reference or a keyword is not decided.
 use Rattle.std.specs.Prelude.{◌≡◌, ◌≤◌, ℕ, ◌+◌, Bool, true, false, List, Result, Ok, IfErr}
 use Rattle.html5ever_interface.specs.Sink.{Means, on_line}
-use Rattle.html5grammar.specs.Machine.{brought_at}
-use Rattle.html5grammar.specs.Slice.{tokens_of_late}
-use Rattle.html5grammar.specs.Start.{Start, Rules, held_len}
-use Rattle.html5opened.specs.Undecided.{BelongsTo, Decides}
-use Rattle.html5opened.specs.declared.error.TokenizerError.{TokenizerError}
+use Rattle.html5reading.specs.Machine.{brought_at}
+use Rattle.html5reading.specs.Slice.{tokens_of_late}
+use Rattle.html5reading.specs.Start.{Start, Rules, held_len}
+use Rattle.html5partial.specs.Undecided.{BelongsTo, Decides}
+use Rattle.html5partial.specs.declared.error.TokenizerError.{TokenizerError}
 use Rattle.html5states.specs.Telling.{Tells, IsRefusal, faults_of}
 use Rattle.html5states.specs.declared.teller.Teller.{Teller}
 use Rattle.markup5ever.specs.NamedReferences.{NamedReference}

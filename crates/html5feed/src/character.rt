@@ -1,18 +1,18 @@
 //! One character of a stream.
-#![tactic(auto, unfolding(html5opened::specs::CharRef::with_reference))]
+#![tactic(auto, unfolding(html5partial::specs::CharRef::with_reference))]
 
 ghost use Rattle.std.specs.Prelude.{◌≡◌, ◌≤◌, ◌+◌, ◌∷◌, [], false, IfOk, IfErr, OnOk, string_bytes};
 ghost use Rattle.html5ever_interface.specs.Sink.{on_line};
 ghost use Rattle.html5ever_interface.specs.Token.{Told, tag_of};
-ghost use Rattle.html5grammar.specs.NormalisedText.{input_after};
-ghost use Rattle.html5grammar.specs.Reading.{messages_so_far, start_after, last_after, open_after_reply};
-ghost use Rattle.html5grammar.specs.Start.{is_undecided_open, held_len};
-ghost use Rattle.html5grammar.specs.Start.Mode.{Data};
-ghost use Rattle.html5grammar.specs.Start.Open.{Between};
-ghost use Rattle.html5opened.specs.CurrentTag.{opened_of};
+ghost use Rattle.html5reading.specs.NormalisedText.{input_after};
+ghost use Rattle.html5reading.specs.Reading.{messages_so_far, start_after, last_after, open_after_reply};
+ghost use Rattle.html5reading.specs.Start.{is_undecided_open, held_len};
+ghost use Rattle.html5reading.specs.Start.Mode.{Data};
+ghost use Rattle.html5reading.specs.Start.Open.{Between};
+ghost use Rattle.html5partial.specs.CurrentTag.{opened_of};
 ghost use Rattle.html5feed.specs.Feed.{reply_in, first_pause};
-ghost use Rattle.html5grammar.specs.Machine.{step_at, messages_here, opened_here, last_here};
-ghost use Rattle.html5opened.specs.Steps.{Leads};
+ghost use Rattle.html5reading.specs.Machine.{step_at, messages_here, opened_here, last_here};
+ghost use Rattle.html5partial.specs.Steps.{Leads};
 ghost use Rattle.html5states.specs.Telling.{Emits, Reads, Tells, faults_of};
 
 use crate::position::Position;
@@ -20,8 +20,8 @@ use crate::rules::Rules;
 use crate::undecided::read_undecided;
 use html5ever_interface::interface::sink::TokenSink;
 use html5ever_interface::interface::token::{Tag, Token, TokenSinkResult};
-use html5opened::error::TokenizerError;
-use html5opened::opened::{Opened, Progress, Step};
+use html5partial::error::TokenizerError;
+use html5partial::opened::{Opened, Progress, Step};
 use html5states::teller::Teller;
 use markup5ever::tokenizer_result::TokenizerResult;
 use std::alloc::Allocator;

@@ -1,14 +1,14 @@
 //! Runs that are read where errors are exact: their characters are of ASCII, and none is bad.
 ghost use Rattle.std.specs.Prelude.{◌≡◌, ◌<◌, false, true, All, length, take};
 ghost use Rattle.std.specs.Str.{chars};
-ghost use Rattle.html5grammar.specs.Characters.{is_bad_character};
-ghost use Rattle.html5opened.specs.CurrentTag.{opened_of};
-ghost use Rattle.html5opened.specs.Runs.{is_unquoted};
+ghost use Rattle.html5reading.specs.Characters.{is_bad_character};
+ghost use Rattle.html5partial.specs.CurrentTag.{opened_of};
+ghost use Rattle.html5partial.specs.Runs.{is_unquoted};
 ghost use Rattle.markup5ever.specs.SmallCharSet.{BeginsOutside, IsMember};
 
 use html5ever_interface::states::{AttrValueKind, State};
-use html5opened::message::is_bad;
-use html5opened::opened::Opened;
+use html5partial::message::is_bad;
+use html5partial::opened::Opened;
 use markup5ever::small_char_set::SmallCharSet;
 use std::alloc::Allocator;
 

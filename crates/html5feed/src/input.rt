@@ -1,7 +1,7 @@
 ghost use Rattle.std.specs.Prelude.{◌≡◌, ◌≢◌, ◌==◌, ◌+◌, ◌^◌, ◌<◌, ◌≤◌, ◌↔◌, [], ◌∷◌, false, All, IsTrue, MatchOption, count_by, length, take};
 ghost use Rattle.std.specs.Str.{chars};
-ghost use Rattle.html5grammar.specs.Characters.{line_feed, carriage_return};
-ghost use Rattle.html5grammar.specs.NormalisedText.{normalised, drops_first, input_after};
+ghost use Rattle.html5reading.specs.Characters.{line_feed, carriage_return};
+ghost use Rattle.html5reading.specs.NormalisedText.{normalised, drops_first, input_after};
 
 use std::marker::Model;
 use std::simd::prelude::*;
@@ -20,7 +20,7 @@ pub struct Input {
 
 impl Model for Input {
     ghost use Rattle.std.specs.Prelude.{◌^◌, ◌<◌};
-    ghost use Rattle.html5grammar.specs.Start.{Input};
+    ghost use Rattle.html5reading.specs.Start.{Input};
 
     ghost Value = { Input };
 

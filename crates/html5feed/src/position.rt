@@ -1,24 +1,24 @@
 //! Where a tokenizer stands in its stream.
-#![tactic(auto, unfolding(html5opened::specs::CharRef::with_reference))]
+#![tactic(auto, unfolding(html5partial::specs::CharRef::with_reference))]
 
 ghost use Rattle.std.specs.Prelude.{◌≡◌, ◌≢◌, ◌^◌, ◌<◌, ◌≤◌, ◌+◌, ℕ, List, ◌∷◌, [], true, false, length, take, drop, All, Contains, IfOk, IfErr, IfSome, OnOk, option_map, string_bytes};
 ghost use Rattle.html5ever_interface.specs.Options.{options_of};
 ghost use Rattle.html5ever_interface.specs.Sink.{Message, on_line};
 ghost use Rattle.html5ever_interface.specs.Token.{tag_of};
 ghost use Rattle.html5ever_interface.specs.Token.Told.{Text};
-ghost use Rattle.html5grammar.specs.Characters.{carriage_return};
-ghost use Rattle.html5grammar.specs.EndOfInput.{late_at_end_of, open_at_end_of, tokens_at_end};
-ghost use Rattle.html5grammar.specs.NormalisedText.{input_after};
-ghost use Rattle.html5grammar.specs.Reading.{last_after};
-ghost use Rattle.html5grammar.specs.Slice.{tokens_of_late};
-ghost use Rattle.html5grammar.specs.Start.{start_of, initial_name, raw_of, is_clean, is_undecided_open, held_len};
-ghost use Rattle.html5opened.specs.CharRef.{BeginsInAscii, HasStand, begun_reference};
-ghost use Rattle.html5opened.specs.Undecided.{is_reference};
-ghost use Rattle.html5grammar.specs.Start.Mode.{Data, Plain, RawText};
-ghost use Rattle.html5grammar.specs.Start.Open.{Between};
-ghost use Rattle.html5opened.specs.CurrentTag.{is_between, opened_of, last_name_of};
+ghost use Rattle.html5reading.specs.Characters.{carriage_return};
+ghost use Rattle.html5reading.specs.EndOfInput.{late_at_end_of, open_at_end_of, tokens_at_end};
+ghost use Rattle.html5reading.specs.NormalisedText.{input_after};
+ghost use Rattle.html5reading.specs.Reading.{last_after};
+ghost use Rattle.html5reading.specs.Slice.{tokens_of_late};
+ghost use Rattle.html5reading.specs.Start.{start_of, initial_name, raw_of, is_clean, is_undecided_open, held_len};
+ghost use Rattle.html5partial.specs.CharRef.{BeginsInAscii, HasStand, begun_reference};
+ghost use Rattle.html5partial.specs.Undecided.{is_reference};
+ghost use Rattle.html5reading.specs.Start.Mode.{Data, Plain, RawText};
+ghost use Rattle.html5reading.specs.Start.Open.{Between};
+ghost use Rattle.html5partial.specs.CurrentTag.{is_between, opened_of, last_name_of};
 ghost use Rattle.html5feed.specs.Refused.{IsRun};
-ghost use Rattle.html5opened.specs.Runs.{IsRunAt, other_run_ends, run_ends, opened_after_run};
+ghost use Rattle.html5partial.specs.Runs.{IsRunAt, other_run_ends, run_ends, opened_after_run};
 ghost use Rattle.std.specs.Str.{IsUtf8, chars};
 ghost use Rattle.html5states.specs.Telling.{Emits, Tells, IsRefusal, IsToldAs, faults_of};
 ghost use Rattle.html5feed.specs.Quiet.{HoldsText, IsQuietText, StopsAtCharacter};
@@ -33,13 +33,13 @@ use html5ever_interface::interface::sink::TokenSink;
 use html5ever_interface::interface::token::{Doctype, Tag, TagKind, Token};
 use html5ever_interface::options::TokenizerOpts;
 use html5ever_interface::states::{RawKind, State};
-use html5opened::char_ref::CharRef;
-use html5opened::current_tag::CurrentTag;
-use html5opened::error::TokenizerError;
-use html5opened::keyword::holds_keyword;
-use html5opened::opened::Opened;
-use html5opened::runs::{push_run, run_ends};
-use html5quiet::texts::{Refused, read_quietly};
+use html5partial::char_ref::CharRef;
+use html5partial::current_tag::CurrentTag;
+use html5partial::error::TokenizerError;
+use html5partial::keyword::holds_keyword;
+use html5partial::opened::Opened;
+use html5partial::runs::{push_run, run_ends};
+use html5fast_path::texts::{Refused, read_quietly};
 use html5states::teller::Teller;
 use markup5ever::data::NamedReferences;
 use std::alloc::{AllocError, Allocator, Global};
@@ -67,10 +67,10 @@ impl<A: Allocator> Drop for Position<A> {
 }
 
 impl<A: Allocator> Model for Position<A> {
-    ghost use Rattle.html5grammar.specs.Start.{Start};
+    ghost use Rattle.html5reading.specs.Start.{Start};
     ghost use Rattle.std.specs.Prelude.{◌≡◌, true};
-    ghost use Rattle.html5opened.specs.CharRef.{HasStand, with_reference};
-    ghost use Rattle.html5opened.specs.CurrentTag.{opened_of, last_name_of};
+    ghost use Rattle.html5partial.specs.CharRef.{HasStand, with_reference};
+    ghost use Rattle.html5partial.specs.CurrentTag.{opened_of, last_name_of};
 
     ghost Value = { Start };
 
@@ -385,7 +385,7 @@ fn is_between(state: State, held: &str) -> bool
 }
 
 // Keeps the name of a start tag as that of the last one.
-#[tactic(auto, unfolding(html5grammar::specs::Reading::last_after))]
+#[tactic(auto, unfolding(html5reading::specs::Reading::last_after))]
 fn keep_name<A: Allocator>(last_name: &mut String<A>, tag: &Tag<A>) -> Result<(), AllocError>
     ensures { OnOk result (string_bytes last_name.new ≡ last_after (string_bytes last_name.old) (tag_of tag.now)) }
 {

@@ -1,8 +1,8 @@
 //! Reading the queue.
 ghost use Rattle.std.specs.Prelude.{◌≡◌, ◌≢◌, ◌^◌, ◌+◌, ◌<◌, ◌≤◌, [], true, IsOk, IfOk, IfErr, OnOk, length, take, drop, encode_utf8_all, string_bytes};
 ghost use Rattle.std.specs.Str.{IsUtf8, chars};
-ghost use Rattle.html5grammar.specs.Reading.{messages_so_far, start_after};
-ghost use Rattle.html5grammar.specs.Start.{is_clean, held_len};
+ghost use Rattle.html5reading.specs.Reading.{messages_so_far, start_after};
+ghost use Rattle.html5reading.specs.Start.{is_clean, held_len};
 ghost use Rattle.html5feed.specs.Feed.{IsEndOf, reply_in, feed};
 ghost use Rattle.html5feed.specs.Quiet.{TakesQuietly};
 ghost use Rattle.html5feed.specs.Refused.{IsRun, RefusedAfter};
@@ -14,7 +14,7 @@ use crate::position::Position;
 use crate::rules::Rules;
 use html5ever_interface::interface::sink::TokenSink;
 use html5ever_interface::interface::token::Token;
-use html5opened::error::TokenizerError;
+use html5partial::error::TokenizerError;
 use markup5ever::buffer_queue::BufferQueue;
 use markup5ever::tokenizer_result::TokenizerResult;
 use std::alloc::Allocator;

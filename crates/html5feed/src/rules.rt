@@ -11,7 +11,7 @@ pub struct Rules<'t, A: Allocator = Global> {
 }
 
 impl<'t, A: Allocator> Model for Rules<'t, A> {
-    ghost use Rattle.html5grammar.specs.Start as grammar;
+    ghost use Rattle.html5reading.specs.Start as grammar;
 
     ghost Value = { grammar.Rules };
 

@@ -1,12 +1,12 @@
 //! One character where a reference or a keyword is not decided.
-#![tactic(auto, unfolding(html5opened::specs::CharRef::with_reference))]
+#![tactic(auto, unfolding(html5partial::specs::CharRef::with_reference))]
 
 ghost use Rattle.std.specs.Prelude.{◌≡◌, ◌&&◌, List, true};
-ghost use Rattle.html5grammar.specs.EndOfInput.{late_at_end_of, open_at_end_of};
-ghost use Rattle.html5grammar.specs.Slice.{tokens_of_late};
-ghost use Rattle.html5grammar.specs.Start.{is_undecided_open};
-ghost use Rattle.html5opened.specs.Undecided.{asks, is_reference, is_keyword_open};
-ghost use Rattle.html5opened.specs.CurrentTag.{opened_of, last_name_of};
+ghost use Rattle.html5reading.specs.EndOfInput.{late_at_end_of, open_at_end_of};
+ghost use Rattle.html5reading.specs.Slice.{tokens_of_late};
+ghost use Rattle.html5reading.specs.Start.{is_undecided_open};
+ghost use Rattle.html5partial.specs.Undecided.{asks, is_reference, is_keyword_open};
+ghost use Rattle.html5partial.specs.CurrentTag.{opened_of, last_name_of};
 ghost use Rattle.html5feed.specs.Undecided.{ReadsUndecided, rules_with};
 ghost use Rattle.html5states.specs.Telling.{Emits, IsKept};
 ghost use Rattle.markup5ever.specs.NamedReferences.{NamedReference};
@@ -16,10 +16,10 @@ use crate::rules::Rules;
 use html5ever_interface::interface::sink::TokenSink;
 use html5ever_interface::interface::token::Token;
 use html5ever_interface::states::State;
-use html5opened::declaration::depends_on_sink;
-use html5opened::error::TokenizerError;
-use html5opened::keyword::hold_keyword;
-use html5opened::opened::Opened;
+use html5partial::declaration::depends_on_sink;
+use html5partial::error::TokenizerError;
+use html5partial::keyword::hold_keyword;
+use html5partial::opened::Opened;
 use html5states::teller::Teller;
 use markup5ever::data::NamedReferences;
 use std::alloc::Allocator;

@@ -1,26 +1,19 @@
-pub mod Slices
-pub mod InputLemmas
-pub mod TextEnds
-pub mod Traces
-pub mod Cases
-pub mod ReadingLemmas
-pub mod Splitting
-pub mod Steps
-pub mod GoodCharacters
-pub mod Letters
-pub mod Numbers
-pub mod NoTags
-pub mod NoTagsAtEnd
-pub mod LawfulBytes
-pub mod LawfulReferences
-pub mod LawfulTags
-pub mod LawfulSteps
-pub mod LawfulReading
-pub mod Holding
-pub mod TableNames
-pub mod NameRuns
-mod ReferenceCases
-mod CommentCases
-mod InstructionCases
-mod DoctypeCases
-mod CdataCases
+pub mod Goes
+pub mod Leading
+pub mod LastReply
+pub mod ByItself
+pub mod Telling
+pub mod HeldWords
+pub mod Collected
+pub mod Split
+pub mod Tag
+pub mod Reference
+pub mod Comment
+pub mod Instruction
+pub mod Doctype
+pub mod Declarations
+pub mod Cdata
+pub mod RawText
+pub mod Soundness
+pub mod Completeness
+pub mod ItemCases

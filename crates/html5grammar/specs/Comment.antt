@@ -1,142 +1,178 @@
--- Comments, and what stands after `<!`. The text of a comment before a character says what that character tells.
--- The slices below are vocabulary of proofs: `html5items/specs/Comment` says how a comment is written.
-use Rattle.std.specs.Prelude.{ℕ, ◌+◌, ◌-◌, Bool, true, false, List, [], ◌∷◌, ◌++◌, ◌==◌, ◌||◌, ◌&&◌, codes, flat_map, length, nat_eq, not, take, if◌then◌else◌}
-use Rattle.std.specs.List.{ends_with, starts_with}
-use Rattle.std.specs.Str.{bytes_eq}
-use Rattle.html5ever_interface.specs.Token.{Told, empty_doctype}
-use Rattle.html5ever_interface.specs.Token.Told.{Comment}
+-- One comment as it is written, and what it tells.
+use Rattle.std.specs.Prelude.{◌≡◌, ℕ, Bool, true, false, List, [], ◌∷◌, ◌++◌, ◌==◌, ◌||◌, ◌&&◌, not, nat_eq, length, flat_map, codes, if◌then◌else◌}
+use Rattle.std.specs.List.{starts_with, list_all}
+use Rattle.html5ever_interface.specs.Sink.{Message, on_line}
+use Rattle.html5ever_interface.specs.Token.{Told}
+use Rattle.html5ever_interface.specs.Token.Told.{Comment, End}
 use Rattle.html5ever_interface.specs.declared.states.State.{State}
 use Rattle.html5ever_interface.specs.declared.states.State.TheVariants as state
-use Rattle.html5grammar.specs.Characters.{exclamation_mark, greater_than, lower_case, value_bytes}
-use Rattle.html5grammar.specs.Doctype.{doctype}
-use Rattle.html5grammar.specs.ErrorText.{error_in, where_true}
-use Rattle.html5grammar.specs.Slice.{Slice, Late, no_character, cut_off, one_character, with_character, with_run, run_of, after_run}
-use Rattle.html5grammar.specs.Slice.Afterwards.{Settles, Asks}
-use Rattle.html5grammar.specs.Start.Mode.{Data, Cdata}
-use Rattle.html5grammar.specs.Start.Open.{Between, InDeclaration, InComment, InBogusComment}
-use Rattle.html5grammar.specs.Tag.{null_error}
+use Rattle.html5reading.specs.Characters.{exclamation_mark, greater_than, is_letter, value_bytes, lower_case}
+use Rattle.html5reading.specs.Comment.{ends_in, is_lone_dash, in_bogus_comment}
+use Rattle.html5reading.specs.ErrorText.{error_in, where_true}
+use Rattle.html5reading.specs.NormalisedText.{normalised, line_after}
+use Rattle.html5grammar.specs.Spelled.{Spelled, spell, spell_silent, spelled_messages}
+use Rattle.html5reading.specs.Start.{Input, Start}
+use Rattle.html5reading.specs.Start.Mode.{Data}
+use Rattle.html5reading.specs.Start.Open.{Between}
+use Rattle.html5reading.specs.Tag.{null_error}
 
--- ---- the text of a comment, in bytes
+-- ---- how a comment is written
 
-abbrev pub ends_in : List ℕ → List ℕ → Bool
-ends_in text word = ends_with nat_eq text word
+-- "Comment end state", "Comment end bang state", "Comment start state" and "Comment start dash state": the end of a comment
+pub data Ending : Type 0 where
+  -- `-->`
+  Dashes : Ending
+  -- `--!>`
+  Bang : Ending
+  -- `>` directly after `<!--`
+  AtOnce : Ending
+  -- `->` directly after `<!--`
+  AfterDash : Ending
 
--- the text without so many last bytes
-abbrev pub without_last : ℕ → List ℕ → List ℕ
-without_last n text = take (length text - n) text
+-- "Bogus comment state": what a bogus comment begins with, before its content
+pub data Opening : Type 0 where
+  -- `</`
+  Solidus : Opening
+  -- `<!`
+  ExclamationMark : Opening
 
-abbrev pub is_lone_dash : List ℕ → Bool
-is_lone_dash text = bytes_eq text (codes "-")
+-- a comment as it is written
+pub data WrittenComment : Type 0 where
+  -- `<!--`, the content and the end
+  Proper : List ℕ → Ending → WrittenComment
+  -- the opening, the content and `>`
+  Bogus : Opening → List ℕ → WrittenComment
 
--- ---- errors
+-- ---- its text
 
--- "Comment start state" to "Comment end bang state": the state that an error names, where `after_dashes` is that after two dashes
--- or more
-unfoldable pub comment_state : State → List ℕ → State
-comment_state after_dashes text =
-    if nat_eq (length text) 0 then state.CommentStart
-    else if is_lone_dash text then state.CommentStartDash
-    else if ends_in text (codes "--!") then state.CommentEndBang
-    else if ends_in text (codes "--") then after_dashes
-    else if ends_in text (codes "-") then state.CommentEndDash
+-- an end without its `>`
+abbrev pub before_greater_than : Ending → List ℕ
+before_greater_than Dashes = codes "--"
+before_greater_than Bang = codes "--!"
+before_greater_than AtOnce = []
+before_greater_than AfterDash = codes "-"
+
+-- the text of such an opening
+abbrev pub opening_text : Opening → List ℕ
+opening_text Solidus = codes "</"
+opening_text ExclamationMark = codes "<!"
+
+-- the text of a comment
+unfoldable pub written : WrittenComment → List ℕ
+written (Proper content ending) = codes "<!--" ++ ((content ++ before_greater_than ending) ++ greater_than ∷ [])
+written (Bogus opening content) = opening_text opening ++ (content ++ greater_than ∷ [])
+
+-- ---- which contents there are
+
+-- whether the text begins with the word
+abbrev pub begins_with : List ℕ → List ℕ → Bool
+begins_with word text = starts_with nat_eq text word
+
+-- whether the word stands anywhere in the text
+unfoldable pub occurs : List ℕ → List ℕ → Bool
+occurs word [] = false
+occurs word (c ∷ text) = begins_with word (c ∷ text) || occurs word text
+
+-- "Comment state": whether this can be a content. A comment ends at the first end, and an earlier one would lie in its content,
+-- since each has `>` last. So `-->` and `--!>` stand nowhere there, and `>` and `->` not at its start.
+unfoldable pub is_content : List ℕ → Bool
+is_content content =
+    not (begins_with (codes ">") content)
+    && (not (begins_with (codes "->") content) && (not (occurs (codes "-->") content) && not (occurs (codes "--!>") content)))
+
+abbrev pub is_empty : List ℕ → Bool
+is_empty content = nat_eq (length content) 0
+
+-- whether a content can have this end
+abbrev pub can_end_with : List ℕ → Ending → Bool
+can_end_with content Dashes = is_content content
+can_end_with content Bang = is_content content
+can_end_with content AtOnce = is_empty content
+can_end_with content AfterDash = is_empty content
+
+-- "Markup declaration open state" and "End tag open state": whether a bogus comment begins here. After `</` a letter begins a
+-- tag. After `<!` two dashes begin a comment, `doctype` in any case a doctype, and `[CDATA[` in foreign content a CDATA section.
+abbrev pub can_open : Bool → Opening → List ℕ → Bool
+can_open foreign Solidus [] = false
+can_open foreign Solidus (c ∷ content) = not (is_letter c)
+can_open foreign ExclamationMark content =
+    not (begins_with (codes "--") content)
+    && (not (begins_with (codes "doctype") (lower_case content)) && not (foreign && begins_with (codes "[CDATA[") content))
+
+-- whether this is a comment, written out, in foreign content or not. A bogus one ends at the first `>`.
+unfoldable pub is_written : Bool → WrittenComment → Bool
+is_written foreign (Proper content ending) = can_end_with content ending
+is_written foreign (Bogus opening content) = can_open foreign opening content && list_all in_bogus_comment content
+
+-- ---- what it tells
+
+-- whether exactly one dash stands directly before
+abbrev pub after_one_dash : List ℕ → Bool
+after_one_dash before = ends_in before (codes "-") && not (ends_in before (codes "--"))
+
+-- "Comment less-than sign bang dash dash state": a `<!--` within the content is an error at the character after it, unless that
+-- is `>`
+unfoldable pub after_mark_error : Bool → List ℕ → ℕ → List Told
+after_mark_error exact before c =
+    where_true (ends_in before (codes "<!--") && not (c == greater_than))
+    (error_in exact state.CommentLessThanSignBangDashDash c)
+
+-- "Comment start state" to "Comment end bang state": the state that the error of a NUL names
+unfoldable pub null_state : List ℕ → State
+null_state before =
+    if is_empty before then state.CommentStart
+    else if is_lone_dash before then state.CommentStartDash
+    else if ends_in before (codes "--!") then state.CommentEndBang
+    else if after_one_dash before then state.CommentEndDash
     else state.Comment
 
--- "Comment less-than sign bang dash dash state": whether the text ends in a `<!--` within the comment
-unfoldable pub ends_in_mark : List ℕ → Bool
-ends_in_mark text = ends_in text (codes "<!--")
+-- "Comment state": the characters of a comment, each with its errors, by what stands before it in the comment
+unfoldable pub spell_content : Bool → List ℕ → List ℕ → List Spelled
+spell_content exact before [] = []
+spell_content exact before (c ∷ content) =
+    record { character = c; told = after_mark_error exact before c ++ null_error exact (null_state before) c }
+    ∷ spell_content exact (before ++ c ∷ []) content
 
--- "Comment less-than sign bang dash dash state": a nested comment is an error, unless `>` follows
-unfoldable pub mark_error : Bool → List ℕ → ℕ → List Told
-mark_error exact text c =
-    where_true (ends_in_mark text && not (c == greater_than)) (error_in exact state.CommentLessThanSignBangDashDash c)
+-- "Comment end bang state", "Comment start state" and "Comment start dash state": the errors of an end
+abbrev pub ending_errors : Bool → Ending → List Told
+ending_errors exact Dashes = []
+ending_errors exact Bang = error_in exact state.CommentEndBang greater_than ∷ []
+ending_errors exact AtOnce = error_in exact state.CommentStart greater_than ∷ []
+ending_errors exact AfterDash = error_in exact state.CommentStartDash greater_than ∷ []
 
--- "Comment state": what a character of the text tells
-unfoldable pub comment_errors : Bool → List ℕ → ℕ → List Told
-comment_errors exact text c = mark_error exact text c ++ null_error exact (comment_state state.Comment text) c
+-- the `>` of a comment, with errors before it
+abbrev pub spell_end : List Told → List ℕ → List Spelled
+spell_end errors content = record { character = greater_than; told = errors ++ Comment (flat_map value_bytes content) ∷ [] } ∷ []
 
--- ---- the end of a comment
+-- "Bogus comment state": the content of a bogus comment
+abbrev pub spell_bogus : Bool → List ℕ → List Spelled
+spell_bogus exact content = spell (null_error exact state.BogusComment) content
 
--- "Comment start state", "Comment start dash state", "Comment end state" and "Comment end bang state": whether `>` ends the
--- comment after this text
-unfoldable pub ends_comment : List ℕ → Bool
-ends_comment text = nat_eq (length text) 0 || is_lone_dash text || ends_in text (codes "--") || ends_in text (codes "--!")
+-- "End tag open state" and "Bogus comment state": the content of a bogus comment after `</`, whose first character is an error
+abbrev pub spell_odd : Bool → List ℕ → List Spelled
+spell_odd exact [] = []
+spell_odd exact (c ∷ content) =
+    record { character = c; told = error_in exact state.EndTagOpen c ∷ null_error exact state.BogusComment c } ∷ spell_bogus exact content
 
--- "Comment end state": only after two dashes the `>` is no error
-unfoldable pub comment_end_error : Bool → List ℕ → List Told
-comment_end_error exact text = where_true (not (ends_in text (codes "--"))) (error_in exact (comment_state state.Comment text) greater_than)
+-- the messages of a comment. Where no keyword stands after `<!`, that is an error on the line of its `!`. What could have begun
+-- one tells nothing, so the error comes first.
+unfoldable pub messages_of : Bool → Input → WrittenComment → List Message
+messages_of exact input (Proper content ending) =
+    spelled_messages exact input []
+    (spell_silent (codes "<!--") ++ (spell_content exact [] (content ++ before_greater_than ending) ++ spell_end (ending_errors exact ending) content))
+messages_of exact input (Bogus Solidus content) =
+    spelled_messages exact input [] (spell_silent (codes "</") ++ (spell_odd exact content ++ spell_end [] content))
+messages_of exact input (Bogus ExclamationMark content) =
+    on_line (line_after input (codes "<!")) (error_in exact state.MarkupDeclarationOpen exclamation_mark ∷ [])
+    ++ spelled_messages exact input (codes "<!") (spell_bogus exact content ++ spell_end [] content)
 
--- the text that is sent: without the dashes that belong to the end
-unfoldable pub comment_content : List ℕ → List ℕ
-comment_content text =
-    if ends_in text (codes "--!") then without_last 3 text
-    else if ends_in text (codes "--") then without_last 2 text
-    else if ends_in text (codes "-") then without_last 1 text
-    else text
+-- the messages of a text that is one comment
+unfoldable pub comment_messages : Bool → Input → WrittenComment → List Message
+comment_messages exact input comment =
+    messages_of exact input comment ++ record { token = End; line = line_after input (written comment) } ∷ []
 
--- "Comment start state" to "Comment end bang state": a comment, of which `before` was read after its `<!--`
-unfoldable pub comment : Bool → List ℕ → List ℕ → Slice
-comment exact before [] = cut_off (InComment before)
-comment exact before (c ∷ text) =
-    if (c == greater_than) && ends_comment before
-    then one_character (comment_end_error exact before ++ Comment (comment_content before) ∷ []) (Between Data)
-    else with_character (comment_errors exact before c) (comment exact (before ++ value_bytes c) text)
-
--- ---- bogus comments
-
--- whether a character goes on with a bogus comment
-unfoldable pub in_bogus_comment : ℕ → Bool
-in_bogus_comment c = not (c == greater_than)
-
--- "Bogus comment state", at its `>`
-unfoldable pub after_bogus_comment : List ℕ → List ℕ → Slice
-after_bogus_comment told [] = cut_off (InBogusComment told)
-after_bogus_comment told (c ∷ text) = one_character (Comment told ∷ []) (Between Data)
-
--- "Bogus comment state": a bogus comment runs to `>`
-unfoldable pub bogus_comment : Bool → List ℕ → List ℕ → Slice
-bogus_comment exact before text =
-    let run : List ℕ = run_of in_bogus_comment text in
-    with_run (null_error exact state.BogusComment) run (after_bogus_comment (before ++ flat_map value_bytes run) (after_run in_bogus_comment text))
-
--- "Bogus comment state": the same from c on, where something is sent first
-unfoldable pub bogus_comment_from : Bool → List ℕ → List Told → ℕ → List ℕ → Slice
-bogus_comment_from exact before first c text =
-    if c == greater_than then one_character (first ++ Comment before ∷ []) (Between Data)
-    else with_character (first ++ null_error exact state.BogusComment c) (bogus_comment exact (before ++ value_bytes c) text)
-
--- ---- after `<!`
-
--- "Markup declaration open state": the first two keywords, `doctype` in any case. What is held of them is ASCII, so its
--- characters are its bytes.
-unfoldable pub begins_keyword : List ℕ → Bool
-begins_keyword held = starts_with nat_eq (codes "--") held || starts_with nat_eq (codes "doctype") (lower_case held)
-
--- "Markup declaration open state": where no keyword comes, that is an error at the `!`, and a comment begins after that
-abbrev pub declaration_error : Bool → List ℕ → List Late
-declaration_error exact held =
-    record { token = error_in exact state.MarkupDeclarationOpen exclamation_mark; back = length held + 2; is_at = true; is_held = false } ∷ []
-
--- "Markup declaration open state": the first keyword with which the text after `<!` begins decides. Where neither of the first
--- two begins, the sink is asked at that character whether a CDATA section may begin.
-unfoldable pub declaration : Bool → List ℕ → List ℕ → Slice
-declaration exact held [] = cut_off (InDeclaration held)
-declaration exact held (c ∷ text) =
-    if bytes_eq (held ++ c ∷ []) (codes "--") then with_character [] (comment exact [] text)
-    else if bytes_eq (lower_case (held ++ c ∷ [])) (codes "doctype") then with_character [] (doctype exact empty_doctype text)
-    else if begins_keyword (held ++ c ∷ []) then with_character [] (declaration exact (held ++ c ∷ []) text)
-    else no_character (Asks held)
-
--- "Markup declaration open state": the keyword of a CDATA section, in this case only
-abbrev pub cdata_keyword : List ℕ
-cdata_keyword = codes "[CDATA["
-
-unfoldable pub begins_cdata : List ℕ → Bool
-begins_cdata held = starts_with nat_eq cdata_keyword held
-
--- "Markup declaration open state", where c goes on with neither of the first two. By the sink's answer whether that is in foreign
--- content, a CDATA section begins after its keyword, and else a bogus comment.
-unfoldable pub declaration_by_answer : Bool → Bool → List ℕ → ℕ → List ℕ → Slice
-declaration_by_answer exact foreign held c text =
-    if foreign && bytes_eq (held ++ c ∷ []) cdata_keyword then one_character [] (Between Cdata)
-    else if foreign && begins_cdata (held ++ c ∷ []) then with_character [] (declaration exact (held ++ c ∷ []) text)
-    else no_character (Settles (declaration_error exact held) (InBogusComment held))
+-- the text X, read from the start K, in foreign content or not, is this comment, written out
+pub record IsComment (K : Start) (foreign : Bool) (X : List ℕ) (comment : WrittenComment) : Type 0 where
+  pub starts : K.opened ≡ Between Data
+  pub is_comment : is_written foreign comment ≡ true
+  pub text : normalised K.input X ≡ written comment

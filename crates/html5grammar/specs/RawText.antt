@@ -1,197 +1,261 @@
--- Raw text: text in which nothing but the end tag of one name is markup. Script data also has `<!--` and `<script`, which hide
--- that end tag.
--- The slices below are vocabulary of proofs: `html5items/specs/RawText` says how raw text is written.
-use Rattle.std.specs.Prelude.{ℕ, Bool, true, false, List, [], ◌∷◌, ◌++◌, ◌==◌, ◌||◌, ◌&&◌, codes, encode_utf8, flat_map, map, length, nat_eq, not, if◌then◌else◌}
+-- Raw text as it is written, without `&` in RCDATA, and what it tells.
+use Rattle.std.specs.Prelude.{◌≡◌, ℕ, Bool, true, false, List, [], ◌∷◌, ◌++◌, ◌==◌, ◌&&◌, not, nat_eq, length, Option, None, Some, codes, if◌then◌else◌}
+use Rattle.std.specs.List.{list_all}
 use Rattle.std.specs.Str.{bytes_eq}
+use Rattle.html5ever_interface.specs.Sink.{Message, on_line}
 use Rattle.html5ever_interface.specs.Token.{Told}
-use Rattle.html5ever_interface.specs.Token.Told.{Text}
-use Rattle.html5ever_interface.specs.declared.interface.token.TagKind.TheVariants.{EndTag}
+use Rattle.html5ever_interface.specs.Token.Told.{End}
 use Rattle.html5ever_interface.specs.declared.states.RawKind.{RawKind}
-use Rattle.html5ever_interface.specs.declared.states.RawKind.TheVariants as raw_kind
-use Rattle.html5ever_interface.specs.declared.states.ScriptEscapeKind.{ScriptEscapeKind}
+use Rattle.html5ever_interface.specs.declared.states.RawKind.TheVariants.{ScriptData, ScriptDataEscaped}
 use Rattle.html5ever_interface.specs.declared.states.ScriptEscapeKind.TheVariants as escape_kind
-use Rattle.html5ever_interface.specs.declared.states.State.{State}
-use Rattle.html5ever_interface.specs.declared.states.State.TheVariants as state
-use Rattle.html5grammar.specs.Characters.{null, replacement_character, exclamation_mark, ampersand, hyphen, solidus, less_than, greater_than, is_letter, is_white_space, name_bytes}
-use Rattle.html5grammar.specs.ErrorText.{error_in}
-use Rattle.html5grammar.specs.Reference.{reference_text}
-use Rattle.html5grammar.specs.Slice.{Slice, silent, no_character, cut_off, one_character, with_character, with_run, run_of, after_run}
-use Rattle.html5grammar.specs.Slice.Afterwards.{Leaves}
-use Rattle.html5grammar.specs.Start.{Dashes, Raw, Open, Rules, begun, raw_of}
-use Rattle.html5grammar.specs.Start.Dashes.{NoDash, OneDash, TwoDashes}
-use Rattle.html5grammar.specs.Start.Raw.{Rcdata, Rawtext, ScriptData, Escaped, DoubleEscaped}
-use Rattle.html5grammar.specs.Start.Mode.{RawText}
-use Rattle.html5grammar.specs.Start.RawPlace.{AfterLessThan, InEndName, AfterMark, AfterMarkAndDash, InSwitch}
-use Rattle.html5grammar.specs.Start.Stand.{InText}
-use Rattle.html5grammar.specs.Start.Open.{Between, InRaw}
-use Rattle.html5grammar.specs.Tag.{with_name, after_tag_name}
+use Rattle.html5reading.specs.Characters.{exclamation_mark, ampersand, hyphen, solidus, less_than, is_letter}
+use Rattle.html5reading.specs.EndOfInput.{raw_end_error}
+use Rattle.html5reading.specs.NormalisedText.{normalised, line_after}
+use Rattle.html5grammar.specs.Tag as one_tag
+use Rattle.html5grammar.specs.Tag.{WrittenTag, is_written, spelled}
+use Rattle.html5grammar.specs.Spelled.{Spelled, spell, spell_silent, spelled_messages}
+use Rattle.html5reading.specs.RawText.{texts, ends_name, kind_of, is_rcdata, raw_after, raw_character, lower, ends_raw_text, switched, told_at_less_than, told_after_less_than}
+use Rattle.html5reading.specs.Slice.{after_run}
+use Rattle.html5reading.specs.Start.{Raw, Input, Start, Rules, raw_of}
+use Rattle.html5reading.specs.Start.Dashes.{NoDash, TwoDashes}
+use Rattle.html5reading.specs.Start.Mode.{RawText}
+use Rattle.html5reading.specs.Start.Raw.{Escaped, DoubleEscaped}
+use Rattle.html5reading.specs.Start.Open.{Between}
+use Rattle.html5reading.specs.Tag.{is_end_tag}
 
--- raw text of a kind, with nothing open and no dash before
-abbrev pub raw_text_of : RawKind → List ℕ → Open
-raw_text_of kind name = Between (RawText (raw_of kind) name)
+-- ---- how raw text is written
+
+-- "RCDATA state", "RAWTEXT state", "Script data state" and the states that they lead to: an item of raw text
+pub data RawItem : Type 0 where
+  -- a character other than `<`
+  Character : ℕ → RawItem
+  -- a `<` that begins neither an end tag nor one of the items below
+  LessThan : RawItem
+  -- `</` and letters, maybe none, after which no end tag goes on
+  Letters : List ℕ → RawItem
+  -- the `<!--` of script data
+  Mark : RawItem
+  -- in escaped script data `<`, letters and a character that ends a name. In double-escaped script data `</`, letters, maybe
+  -- none, and such a character.
+  Switch : List ℕ → ℕ → RawItem
+
+-- raw text: its items, and the end tag that ends it, where there is one
+pub record WrittenRaw : Type 0 where
+  pub items : List RawItem
+  pub end_tag : Option WrittenTag
+
+-- ---- the raw text after an item
+
+-- "Script data double escape start state" and "Script data double escape end state": the kind of raw text after letters
+abbrev pub switched_kind : RawKind → List ℕ → RawKind
+switched_kind (ScriptDataEscaped kind) letters = ScriptDataEscaped (switched kind letters)
+switched_kind kind letters = kind
+
+-- the raw text after an item: after `<` or letters no dash stands directly before
+abbrev pub raw_after_item : Raw → RawItem → Raw
+raw_after_item raw (Character c) = raw_after raw c
+raw_after_item raw LessThan = raw_of (kind_of raw)
+raw_after_item raw (Letters letters) = raw_of (kind_of raw)
+raw_after_item raw Mark = Escaped TwoDashes
+raw_after_item raw (Switch letters c) = raw_of (switched_kind (kind_of raw) letters)
+
+-- the raw text after items
+unfoldable pub raw_after_items : Raw → List RawItem → Raw
+raw_after_items raw [] = raw
+raw_after_items raw (item ∷ items) = raw_after_items (raw_after_item raw item) items
+
+-- ---- its text
+
+-- the text of a switch after its `<`
+abbrev pub switch_text : RawKind → List ℕ → ℕ → List ℕ
+switch_text (ScriptDataEscaped escape_kind.DoubleEscaped) letters c = solidus ∷ letters ++ c ∷ []
+switch_text kind letters c = letters ++ c ∷ []
+
+-- an item after its `<`
+abbrev pub text_after_less_than : RawKind → RawItem → List ℕ
+text_after_less_than kind (Character c) = []
+text_after_less_than kind LessThan = []
+text_after_less_than kind (Letters letters) = solidus ∷ letters
+text_after_less_than kind Mark = codes "!--"
+text_after_less_than kind (Switch letters c) = switch_text kind letters c
+
+-- the text of an item
+abbrev pub item_text : Raw → RawItem → List ℕ
+item_text raw (Character c) = c ∷ []
+item_text raw item = less_than ∷ text_after_less_than (kind_of raw) item
+
+-- the text of items, with `later` after them
+unfoldable pub items_text : Raw → List RawItem → List ℕ → List ℕ
+items_text raw [] later = later
+items_text raw (item ∷ items) later = item_text raw item ++ items_text (raw_after_item raw item) items later
+
+-- the text of the end tag, if there is one
+abbrev pub end_tag_text : Option WrittenTag → List ℕ
+end_tag_text None = []
+end_tag_text (Some tag) = one_tag.written tag
+
+-- the text of raw text
+unfoldable pub written : Raw → WrittenRaw → List ℕ
+written raw written_as = items_text raw written_as.items (end_tag_text written_as.end_tag)
+
+-- ---- which items can stand where, so that each run of letters is as long as it can be
+
+-- whether the text begins with such a character
+abbrev pub next_is : (ℕ → Bool) → List ℕ → Bool
+next_is is_kind [] = false
+next_is is_kind (c ∷ text) = is_kind c
+
+-- "Script data escape start dash state": the second dash of `<!--`
+abbrev pub begins_dash : List ℕ → Bool
+begins_dash text = next_is (λ c. c == hyphen) text
+
+-- "Script data escape start state": the two dashes of `<!--`
+abbrev pub begins_dashes : List ℕ → Bool
+begins_dashes [] = false
+begins_dashes (c ∷ text) = (c == hyphen) && begins_dash text
+
+-- "Script data double escape end state": letters, maybe none, and a character that ends a name
+abbrev pub begins_name_and_end : List ℕ → Bool
+begins_name_and_end text = next_is ends_name (after_run is_letter text)
+
+-- "RCDATA less-than sign state" and those of other raw text: whether a `<` before this text begins neither `</`, nor a mark or a
+-- switch. In double-escaped script data `</` is text.
+abbrev pub is_alone_before : RawKind → List ℕ → Bool
+is_alone_before kind [] = true
+is_alone_before (ScriptDataEscaped escape_kind.DoubleEscaped) (c ∷ text) = not ((c == solidus) && begins_name_and_end text)
+is_alone_before (ScriptDataEscaped escape_kind.Escaped) (c ∷ text) = not (c == solidus) && not (is_letter c && begins_name_and_end text)
+is_alone_before ScriptData (c ∷ text) = not (c == solidus) && not ((c == exclamation_mark) && begins_dashes text)
+is_alone_before kind (c ∷ text) = not (c == solidus)
+
+-- whether the raw text is double-escaped script data
+abbrev pub is_double_escaped : RawKind → Bool
+is_double_escaped (ScriptDataEscaped escape_kind.DoubleEscaped) = true
+is_double_escaped kind = false
+
+-- whether the raw text is script data
+abbrev pub is_script_data : RawKind → Bool
+is_script_data ScriptData = true
+is_script_data kind = false
+
+-- "Script data double escape start state": whether letters can switch. In escaped script data there is one at least.
+abbrev pub can_switch : RawKind → List ℕ → Bool
+can_switch (ScriptDataEscaped escape_kind.DoubleEscaped) letters = true
+can_switch (ScriptDataEscaped escape_kind.Escaped) letters = not (nat_eq (length letters) 0)
+can_switch kind letters = false
+
+-- whether an item can stand in such raw text, with `text` after it
+abbrev pub can_stand : List ℕ → Raw → RawItem → List ℕ → Bool
+can_stand name raw (Character c) text = not (c == less_than) && not (is_rcdata raw && (c == ampersand))
+can_stand name raw LessThan text = is_alone_before (kind_of raw) text
+can_stand name raw (Letters letters) text =
+    not (is_double_escaped (kind_of raw))
+    && (list_all is_letter letters && (not (next_is is_letter text) && not (next_is (ends_raw_text name letters) text)))
+can_stand name raw Mark text = is_script_data (kind_of raw)
+can_stand name raw (Switch letters c) text = can_switch (kind_of raw) letters && (list_all is_letter letters && ends_name c)
+
+-- whether items can stand in such raw text, with `text` after them
+unfoldable pub can_follow : List ℕ → Raw → List RawItem → List ℕ → Bool
+can_follow name raw [] later = true
+can_follow name raw (item ∷ items) later =
+    can_stand name raw item (items_text (raw_after_item raw item) items later) && can_follow name (raw_after_item raw item) items later
+
+-- "Appropriate end tag token": whether this is an end tag of that name. Double-escaped script data has none.
+abbrev pub can_end_with : List ℕ → Raw → Option WrittenTag → Bool
+can_end_with name raw None = true
+can_end_with name raw (Some tag) =
+    not (is_double_escaped (kind_of raw))
+    && (is_end_tag tag.kind && (list_all is_letter tag.rest && (bytes_eq (lower (tag.first ∷ tag.rest)) name && is_written tag)))
+
+-- whether this is raw text, written out. The name is the one whose end tag ends it.
+unfoldable pub is_raw : List ℕ → Raw → WrittenRaw → Bool
+is_raw name raw written_as =
+    can_follow name raw written_as.items (end_tag_text written_as.end_tag) && can_end_with name (raw_after_items raw written_as.items) written_as.end_tag
+
+-- ---- what it tells
+
+-- "RCDATA less-than sign state", the end tag name states and those of other raw text: what is sent of an item only at the next
+-- place
+abbrev pub carried : Raw → RawItem → List Told
+carried raw LessThan = told_after_less_than (kind_of raw)
+carried raw (Letters letters) = texts (less_than ∷ solidus ∷ letters)
+carried raw item = []
+
+-- characters to whose first something is carried
+abbrev pub carried_to : List Told → List Spelled → List Spelled
+carried_to before [] = []
+carried_to before (here ∷ more) = record { character = here.character; told = before ++ here.told } ∷ more
 
 -- characters that are text, each by itself
-abbrev pub texts : List ℕ → List Told
-texts run = map (λ (c : ℕ). Text (encode_utf8 c)) run
+abbrev pub spell_text : List ℕ → List Spelled
+spell_text run = spell (λ c. texts (c ∷ [])) run
 
--- white space, `/` and `>` end a name
-unfoldable pub ends_name : ℕ → Bool
-ends_name c = is_white_space c || (c == solidus) || (c == greater_than)
+-- an item after its `<`
+abbrev pub spell_after_less_than : RawKind → RawItem → List Spelled
+spell_after_less_than kind (Character c) = []
+spell_after_less_than kind LessThan = []
+spell_after_less_than kind (Letters letters) = spell_silent (solidus ∷ letters)
+spell_after_less_than kind Mark = carried_to (told_after_less_than kind) (spell_text (codes "!--"))
+spell_after_less_than kind (Switch letters c) = carried_to (told_after_less_than kind) (spell_text (switch_text kind letters c))
 
--- ---- one character
+-- the characters of an item
+abbrev pub spell_item : Bool → Raw → RawItem → List Spelled
+spell_item exact raw (Character c) = spell (raw_character exact raw) (c ∷ [])
+spell_item exact raw item =
+    record { character = less_than; told = told_at_less_than (kind_of raw) } ∷ spell_after_less_than (kind_of raw) item
 
--- the state that an error names: in escaped script data the dashes directly before choose it
-unfoldable pub escaped_state : ScriptEscapeKind → Dashes → State
-escaped_state kind NoDash = state.RawData (raw_kind.ScriptDataEscaped kind)
-escaped_state kind OneDash = state.ScriptDataEscapedDash kind
-escaped_state kind TwoDashes = state.ScriptDataEscapedDashDash kind
+-- items, where `before` is carried to the first
+unfoldable pub spell_items : Bool → Raw → List Told → List RawItem → List Spelled
+spell_items exact raw before [] = []
+spell_items exact raw before (item ∷ items) =
+    carried_to before (spell_item exact raw item) ++ spell_items exact (raw_after_item raw item) (carried raw item) items
 
--- the state that an error in raw text names
-unfoldable pub raw_state : Raw → State
-raw_state Rcdata = state.RawData raw_kind.Rcdata
-raw_state Rawtext = state.RawData raw_kind.Rawtext
-raw_state ScriptData = state.RawData raw_kind.ScriptData
-raw_state (Escaped dashes) = escaped_state escape_kind.Escaped dashes
-raw_state (DoubleEscaped dashes) = escaped_state escape_kind.DoubleEscaped dashes
+-- what is carried after items
+unfoldable pub carried_after : Raw → List Told → List RawItem → List Told
+carried_after raw before [] = before
+carried_after raw before (item ∷ items) = carried_after (raw_after_item raw item) (carried raw item) items
 
--- the kind of raw text
-unfoldable pub kind_of : Raw → RawKind
-kind_of Rcdata = raw_kind.Rcdata
-kind_of Rawtext = raw_kind.Rawtext
-kind_of ScriptData = raw_kind.ScriptData
-kind_of (Escaped dashes) = raw_kind.ScriptDataEscaped escape_kind.Escaped
-kind_of (DoubleEscaped dashes) = raw_kind.ScriptDataEscaped escape_kind.DoubleEscaped
+-- the characters of the end tag, if there is one
+abbrev pub spell_end_tag : Rules → List Told → Option WrittenTag → List Spelled
+spell_end_tag rules before None = []
+spell_end_tag rules before (Some tag) = carried_to before (spelled rules tag)
 
-abbrev pub is_rcdata : Raw → Bool
-is_rcdata Rcdata = true
-is_rcdata other = false
+-- the characters of raw text
+abbrev pub spell_raw : Rules → Raw → WrittenRaw → List Spelled
+spell_raw rules raw written_as =
+    spell_items rules.exact raw [] written_as.items ++ spell_end_tag rules (carried_after raw [] written_as.items) written_as.end_tag
 
-abbrev pub is_two : Dashes → Bool
-is_two TwoDashes = true
-is_two other = false
+-- "Script data double escape start state": whether the `<` of escaped script data has nothing but letters after it, one at least
+abbrev pub ends_in_letters : RawItem → RawKind → List ℕ → Bool
+ends_in_letters LessThan (ScriptDataEscaped escape_kind.Escaped) (c ∷ text) = is_letter c && list_all is_letter text
+ends_in_letters item kind text = false
 
-abbrev pub one_more : Dashes → Dashes
-one_more NoDash = OneDash
-one_more other = TwoDashes
+-- the raw text that the error of the end speaks of: after such letters it is double-escaped
+unfoldable pub raw_at_end : Raw → List RawItem → Raw
+raw_at_end raw [] = raw
+raw_at_end raw (item ∷ items) =
+    if ends_in_letters item (kind_of raw) (items_text (raw_after_item raw item) items []) then DoubleEscaped NoDash
+    else raw_at_end (raw_after_item raw item) items
 
--- the dashes after a character
-unfoldable pub dashes_after : Dashes → ℕ → Dashes
-dashes_after dashes c = if c == hyphen then one_more dashes else NoDash
+-- "Script data escaped state" and "Script data double escaped state", at the end: what the end tells. After an end tag nothing is
+-- open.
+abbrev pub told_at_end : Bool → Raw → List RawItem → Option WrittenTag → List Told
+told_at_end exact raw items None = (carried_after raw [] items ++ raw_end_error exact (raw_at_end raw items)) ++ End ∷ []
+told_at_end exact raw items (Some tag) = End ∷ []
 
--- "Script data escaped dash dash state" and its double escaped form: `>` after two dashes ends what `<!--` began
-unfoldable pub raw_after : Raw → ℕ → Raw
-raw_after (Escaped dashes) c = if (c == greater_than) && is_two dashes then ScriptData else Escaped (dashes_after dashes c)
-raw_after (DoubleEscaped dashes) c = if (c == greater_than) && is_two dashes then ScriptData else DoubleEscaped (dashes_after dashes c)
-raw_after other c = other
+-- the messages of a text that is raw text
+unfoldable pub raw_messages : Rules → Input → Raw → WrittenRaw → List Message
+raw_messages rules input raw written_as =
+    spelled_messages rules.exact input [] (spell_raw rules raw written_as)
+    ++ on_line (line_after input (written raw written_as)) (told_at_end rules.exact raw written_as.items written_as.end_tag)
 
--- "RCDATA state", "RAWTEXT state", "Script data state" and the escaped states: a character is text; NUL is an error and U+FFFD
-unfoldable pub raw_character : Bool → Raw → ℕ → List Told
-raw_character exact raw c =
-    if c == null then error_in exact (raw_state raw) c ∷ Text (encode_utf8 replacement_character) ∷ []
-    else Text (encode_utf8 c) ∷ []
+-- one item or more, counting the end tag
+abbrev pub has_item : List RawItem → Option WrittenTag → Bool
+has_item [] None = false
+has_item items end_tag = true
 
--- ---- `</` and letters
-
--- the letters in lower case
-abbrev pub lower : List ℕ → List ℕ
-lower letters = flat_map name_bytes letters
-
--- "Appropriate end tag token": whether the letters are, in lower case, the name whose end tag ends the text, and c ends a name
-unfoldable pub ends_raw_text : List ℕ → List ℕ → ℕ → Bool
-ends_raw_text name letters c = not (nat_eq (length name) 0) && (ends_name c && bytes_eq (lower letters) name)
-
--- "RCDATA end tag name state" and those of other raw text: after the letters an end tag goes on, or all of it is text
-unfoldable pub after_end_name : RawKind → List ℕ → List ℕ → List ℕ → Slice
-after_end_name kind name letters [] = cut_off (InRaw (InEndName kind letters) name)
-after_end_name kind name letters (c ∷ text) =
-    if ends_raw_text name letters c then after_tag_name (with_name (begun EndTag) letters) (c ∷ text)
-    else no_character (Leaves (texts (less_than ∷ solidus ∷ letters)) (raw_text_of kind name))
-
--- "RCDATA end tag open state", "RCDATA end tag name state" and those of other raw text: the letters after `</`
-unfoldable pub end_name : RawKind → List ℕ → List ℕ → List ℕ → Slice
-end_name kind name letters text =
-    let run : List ℕ = run_of is_letter text in
-    with_run silent run (after_end_name kind name (letters ++ run) (after_run is_letter text))
-
--- ---- script data: `<!--`, and the switches between escaped and double-escaped
-
--- "Script data escape start dash state": a second dash begins escaped script data
-unfoldable pub after_mark_and_dash : List ℕ → List ℕ → Slice
-after_mark_and_dash name [] = cut_off (InRaw AfterMarkAndDash name)
-after_mark_and_dash name (c ∷ text) =
-    if c == hyphen then one_character (texts (c ∷ [])) (Between (RawText (Escaped TwoDashes) name))
-    else cut_off (raw_text_of raw_kind.ScriptData name)
-
--- "Script data escape start state": what follows `<!`
-unfoldable pub after_mark : List ℕ → List ℕ → Slice
-after_mark name [] = cut_off (InRaw AfterMark name)
-after_mark name (c ∷ text) =
-    if c == hyphen then with_character (texts (c ∷ [])) (after_mark_and_dash name text)
-    else cut_off (raw_text_of raw_kind.ScriptData name)
-
--- the other of the two kinds of escaped script data
-abbrev pub other_escape : ScriptEscapeKind → ScriptEscapeKind
-other_escape escape_kind.Escaped = escape_kind.DoubleEscaped
-other_escape escape_kind.DoubleEscaped = escape_kind.Escaped
-
--- "Script data double escape start state" and "Script data double escape end state": the letters `script` switch
-unfoldable pub switched : ScriptEscapeKind → List ℕ → ScriptEscapeKind
-switched kind letters = if bytes_eq (lower letters) (codes "script") then other_escape kind else kind
-
--- "Script data double escape start state" and "Script data double escape end state", at the character that ends the letters
-unfoldable pub after_switch : ScriptEscapeKind → List ℕ → List ℕ → List ℕ → Slice
-after_switch kind name letters [] = cut_off (InRaw (InSwitch kind letters) name)
-after_switch kind name letters (c ∷ text) =
-    if ends_name c then one_character (texts (c ∷ [])) (raw_text_of (raw_kind.ScriptDataEscaped (switched kind letters)) name)
-    else cut_off (raw_text_of (raw_kind.ScriptDataEscaped kind) name)
-
--- "Script data double escape start state" and "Script data double escape end state": letters that are text, and what follows them
-unfoldable pub switch : ScriptEscapeKind → List ℕ → List ℕ → List ℕ → Slice
-switch kind name letters text =
-    let run : List ℕ = run_of is_letter text in
-    with_run (λ c. texts (c ∷ [])) run (after_switch kind name (letters ++ run) (after_run is_letter text))
-
--- ---- `<`
-
--- "Script data double escaped state": only there is `<` sent at once
-abbrev pub told_at_less_than : RawKind → List Told
-told_at_less_than (raw_kind.ScriptDataEscaped escape_kind.DoubleEscaped) = texts (less_than ∷ [])
-told_at_less_than kind = []
-
--- everywhere else it is sent at the next character
-abbrev pub told_after_less_than : RawKind → List Told
-told_after_less_than (raw_kind.ScriptDataEscaped escape_kind.DoubleEscaped) = []
-told_after_less_than kind = texts (less_than ∷ [])
-
--- "RCDATA end tag open state" and those of other raw text, or "Script data double escape end state": the text after `</`
-unfoldable pub after_raw_solidus : RawKind → List ℕ → List ℕ → Slice
-after_raw_solidus (raw_kind.ScriptDataEscaped escape_kind.DoubleEscaped) name text =
-    with_character (texts (solidus ∷ [])) (switch escape_kind.DoubleEscaped name [] text)
-after_raw_solidus kind name text = with_character [] (end_name kind name [] text)
-
--- "Script data less-than sign state": whether c after `<` begins a `<!--`
-unfoldable pub begins_mark : RawKind → ℕ → Bool
-begins_mark raw_kind.ScriptData c = c == exclamation_mark
-begins_mark kind c = false
-
--- "Script data escaped less-than sign state": whether c after `<` begins a `<script`
-unfoldable pub begins_switch : RawKind → ℕ → Bool
-begins_switch (raw_kind.ScriptDataEscaped escape_kind.Escaped) c = is_letter c
-begins_switch kind c = false
-
--- "RCDATA less-than sign state", "RAWTEXT less-than sign state", "Script data less-than sign state" and the escaped ones: the
--- text after `<`
-unfoldable pub after_raw_less_than : RawKind → List ℕ → List ℕ → Slice
-after_raw_less_than kind name [] = cut_off (InRaw (AfterLessThan kind) name)
-after_raw_less_than kind name (c ∷ text) =
-    if c == solidus then after_raw_solidus kind name text
-    else if begins_mark kind c then with_character (texts (less_than ∷ c ∷ [])) (after_mark name text)
-    else if begins_switch kind c then with_character (texts (less_than ∷ c ∷ [])) (switch escape_kind.Escaped name (c ∷ []) text)
-    else no_character (Leaves (told_after_less_than kind) (raw_text_of kind name))
-
--- "RCDATA state", "RAWTEXT state", "Script data state" and the escaped states: what begins with c, where `before` is sent first
-unfoldable pub raw_text : Rules → Raw → List ℕ → List Told → ℕ → List ℕ → Slice
-raw_text rules raw name before c text =
-    if c == less_than then with_character (before ++ told_at_less_than (kind_of raw)) (after_raw_less_than (kind_of raw) name text)
-    else if is_rcdata raw && (c == ampersand) then with_character before (reference_text rules (InText (RawText raw name)) [] text)
-    else one_character (before ++ raw_character rules.exact raw c) (Between (RawText (raw_after raw c) name))
+-- the text X, read from the start K, is this raw text, written out
+pub record IsRawText (K : Start) (X : List ℕ) (raw : Raw) (name : List ℕ) (written_as : WrittenRaw) : Type 0 where
+  pub starts : K.opened ≡ Between (RawText raw name)
+  pub some : has_item written_as.items written_as.end_tag ≡ true
+  pub is_raw : is_raw name raw written_as ≡ true
+  pub text : normalised K.input X ≡ written raw written_as

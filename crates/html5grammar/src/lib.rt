@@ -1,80 +1,57 @@
-//! The words of the grammar, and what a text tells by slices of the whole text. The definitions are in
-//! specs/. Here stand the laws that readers of a text in pieces rest on.
+//! The grammar: items as they are written, and texts as sequences of them. Its definitions are in
+//! specs/. Here stand its two laws, `sound` and `each_text`, and in `anywhere` those of single items.
 #![tactic(auto)]
 
-ghost use Rattle.std.specs.Prelude.{◌≡◌, ◌≢◌, ℕ, List, [], ◌++◌, All, length, take_while, true, None, Some, if◌then◌else◌};
-ghost use Rattle.std.specs.Char.{is_ascii_alphanumeric};
-ghost use Rattle.std.specs.Option.{is_none};
+ghost use Rattle.std.specs.Prelude.{◌≡◌, ℕ, Bool, List, ◌++◌, true, false, codes};
 ghost use Rattle.html5ever_interface.specs.Sink.{Message};
-ghost use Rattle.html5grammar.specs.Reading.{reading, told, is_among, all_messages, messages_so_far, state_after, start_after};
-ghost use Rattle.html5grammar.specs.Lawful.{IsLawful, TellsNoTagAfter};
-ghost use Rattle.html5grammar.specs.Characters.{number_sign};
-ghost use Rattle.html5grammar.specs.NormalisedText.{normalised};
-ghost use Rattle.html5grammar.specs.Reference.{first_or, is_undecided, longest_name};
-ghost use Rattle.html5grammar.specs.Slice.{run_of, run_while};
-ghost use Rattle.html5grammar.specs.Start.{Start, Rules, is_clean};
-ghost use Rattle.markup5ever.specs.NamedReferences.{NamedReference, IsTable, begins_name};
+ghost use Rattle.html5reading.specs.Reading.{all_messages, messages_so_far};
+ghost use Rattle.html5reading.specs.Start.{Start, Rules, is_clean};
+ghost use Rattle.html5grammar.specs.Items.{Items, Composed};
+ghost use Rattle.markup5ever.specs.NamedReferences.{IsTable};
+ghost use Rattle.std.specs.List.{list_all};
+ghost use Rattle.std.specs.Str.{bytes_eq};
+ghost use Rattle.html5reading.specs.Characters.{lower_case};
+ghost use Rattle.html5reading.specs.Doctype.{in_skipped_rest};
+ghost use Rattle.html5grammar.specs.Cdata.{IsCdataText};
+ghost use Rattle.html5grammar.specs.Comment.{occurs};
+ghost use Rattle.html5grammar.specs.Doctype.{IsDoctypeText};
+
+pub mod anywhere;
 
 use html5ever_interface::interface::sink::TokenSink;
 use html5ever_interface::interface::token::Token;
 use std::alloc::Allocator;
 
-/// Forgetting: what a text tells is what its first part tells, and then what its rest tells. The rest
-/// is read from the start after the first part, in the state of the sink that this part leaves. So,
-/// wherever a text is cut, a reader may forget all but that start.
-pub fn forgetting<S: TokenSink<Token<A>>, A: Allocator>()
-    ensures told { (rules : Rules) (K : Start) (s : S.State) (text rest : List ℕ) →
-        messages_so_far S.means rules K s (text ++ rest)
-        ≡ messages_so_far S.means rules K s text
-        ++ messages_so_far S.means rules (start_after S.means rules K s text)
-        (state_after S.means rules K s text) rest }
-    ensures after { (rules : Rules) (K : Start) (s : S.State) (text rest : List ℕ) →
-        start_after S.means rules K s (text ++ rest)
-        ≡ start_after S.means rules (start_after S.means rules K s text)
-        (state_after S.means rules K s text) rest }
+/// A text that is items, and at most one unfinished one after them, tells their messages, and its
+/// end tells the others. So what it tells is the same however it is taken as items.
+pub fn sound<S: TokenSink<Token<A>>, A: Allocator>()
+    ensures told { (rules : Rules) (K : Start) (s : S.State) (text : List ℕ) (M E : List Message) → IsTable rules.names
+        → Items S.means rules K s text M E → messages_so_far S.means rules K s text ≡ M }
+    ensures whole { (rules : Rules) (K : Start) (s : S.State) (text : List ℕ) (M E : List Message) → IsTable rules.names
+        → Items S.means rules K s text M E → all_messages S.means rules K s text ≡ M ++ E }
+    ensures only { (rules : Rules) (K : Start) (s : S.State) (text : List ℕ) (M E N F : List Message)
+        → IsTable rules.names
+        → Items S.means rules K s text M E → Items S.means rules K s text N F → (M ≡ N) × (E ≡ F) }
 {}
 
-/// What the sink is sent of a text is a beginning of what it is sent of that text and more.
-pub fn beginning<S: TokenSink<Token<A>>, A: Allocator>()
-    ensures { (rules : Rules) (K : Start) (s : S.State) (text rest : List ℕ) → (later : List Message)
-        × (messages_so_far S.means rules K s (text ++ rest)
-        ≡ messages_so_far S.means rules K s text ++ later) }
+/// Each text is items, and at most one unfinished one after them, from each start at which nothing
+/// is open.
+pub fn each_text<S: TokenSink<Token<A>>, A: Allocator>()
+    ensures { (rules : Rules) (K : Start) (s : S.State) (text : List ℕ) → is_clean K.opened ≡ true
+        → Composed S.means rules K s text }
 {}
 
-/// What the sink is sent of a text, however that goes on. Of the reading of the whole it is the events
-/// before the first one that a character after the text decides, or the end.
-pub fn told_of_a_split<S: TokenSink<Token<A>>, A: Allocator>()
-    ensures { (rules : Rules) (K : Start) (s : S.State) (text more : List ℕ) →
-        told S.means.step S.means.reply S.means.foreign rules K s text
-        ≡ take_while (λ e. is_among (length (normalised K.input text)) e.decided_by)
-        (reading S.means.step S.means.reply S.means.foreign rules K s (text ++ more)) }
+/// Take `<!`, `doctype` in any case, characters other than `>`, and `>`. Each such text is one doctype,
+/// written out. So what is said of one doctype is said of all.
+pub fn each_doctype()
+    ensures { (word text : List ℕ) → bytes_eq (lower_case word) (codes "doctype") ≡ true
+        → list_all in_skipped_rest text ≡ true → IsDoctypeText word text }
 {}
 
-/// Names after an `&` that no `#` follows. When a reference is decided, the longest name that begins
-/// what is held is the longest that begins the whole text. By a table what is held is the longest
-/// beginning of the text that begins a name. Where no name begins the text, it is the text's letters
-/// and digits up to another character.
-pub fn longest_name_of_text()
-    ensures name { (names : List NamedReference) (text : List ℕ) → first_or text None ≢ Some number_sign →
-        longest_name names (run_while (is_undecided names) [] text) ≡ longest_name names text }
-    ensures held { (names : List NamedReference) (text : List ℕ) → IsTable names
-        → first_or text None ≢ Some number_sign →
-        run_while (is_undecided names) [] text
-        ≡ (if is_none (longest_name names text) then run_of is_ascii_alphanumeric text
-        else run_while (begins_name names) [] text) }
-{}
-
-/// A tag that the end of input cuts off is never sent: what the end decides and tells has no tag.
-pub fn tags_cut_off<S: TokenSink<Token<A>>, A: Allocator>()
-    ensures { (rules : Rules) (K : Start) (s : S.State) (text : List ℕ) →
-        TellsNoTagAfter (messages_so_far S.means rules K s text) (all_messages S.means rules K s text) }
-{}
-
-/// By a table of names each token that a text tells is lawful, where nothing was open before it. A
-/// text has no NUL. A tag's name begins with a letter, its names have no capital, and no attribute
-/// comes twice. A doctype's name has no capital.
-pub fn lawful_tokens<S: TokenSink<Token<A>>, A: Allocator>()
-    ensures { (rules : Rules) (K : Start) (s : S.State) (text : List ℕ) → IsTable rules.names → is_clean K.opened
-        ≡ true →
-        All (λ m. IsLawful m.token) (all_messages S.means rules K s text) }
+/// Each text in which `]]>` stands nowhere is that of one CDATA section, written out, between its
+/// `<![CDATA[` and its `]]>`, or without one of them or both. So what is said of one section is said
+/// of all.
+pub fn each_cdata()
+    ensures { (has_opening is_ended : Bool) (text : List ℕ) → occurs (codes "]]>") text ≡ false
+        → IsCdataText has_opening is_ended text }
 {}

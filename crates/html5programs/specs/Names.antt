@@ -1,7 +1,7 @@
 -- The table of names that a program goes by.
 use Rattle.std.specs.Prelude.{◌≡◌, ℕ, List, Option, None, Some, Result, Ok, Err}
 use Rattle.std.specs.Str.{trim_end}
-use Rattle.html5names.specs.Standard.{standard_list}
+use Rattle.html5entities.specs.Standard.{standard_list}
 use Rattle.html5table.specs.Listed.{entries_in, listed}
 use Rattle.html5programs.specs.declared.names.NamesError.{NamesError}
 use Rattle.html5programs.specs.declared.names.NamesError.TheVariants.{Table}

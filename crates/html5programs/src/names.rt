@@ -1,13 +1,13 @@
 //! The table of names that a program goes by.
 ghost use Rattle.std.specs.Prelude.{◌≡◌, ◌≢◌, ◌⊎◌, ◌↔◌, IfOk, IsNone, IsSome, Err, Some, option_map};
-ghost use Rattle.html5names.specs.Standard.{standard_list};
+ghost use Rattle.html5entities.specs.Standard.{standard_list};
 ghost use Rattle.html5programs.specs.Names.{IsTableAsked, list_of, table_or_error, table_said};
 ghost use Rattle.html5table.specs.Listed.{entries_in, listed};
 ghost use Rattle.markup5ever.specs.NamedReferences.{first_fault, table_of};
 ghost use Rattle.markup5ever.specs.declared.data.TableError.{TableError};
 ghost use Rattle.markup5ever.specs.declared.data.TableError.TheVariants.{Memory};
 
-use html5names::standard_names;
+use html5entities::standard_names;
 use html5table::{has_form, names_of};
 use markup5ever::data::{NamedReferences, TableError};
 use std::alloc::Allocator;

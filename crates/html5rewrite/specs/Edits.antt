@@ -2,7 +2,7 @@
 use Rattle.std.specs.Prelude.{ℕ, Bool, not, List, [], ◌∷◌, ◌++◌, filter, Option, None, Some, if◌then◌else◌}
 use Rattle.std.specs.Str.{bytes_eq}
 use Rattle.html5ever_interface.specs.Token.{TagOf}
-use Rattle.html5grammar.specs.Tag.{attribute}
+use Rattle.html5reading.specs.Tag.{attribute}
 use Rattle.markup5ever.specs.Names.{AttributeOf}
 
 -- the value of the first of these attributes that has this name

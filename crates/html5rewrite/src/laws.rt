@@ -3,9 +3,9 @@ ghost use Rattle.std.specs.Prelude.{◌≡◌, List, [], ◌∷◌, ◌++◌, tr
 ghost use Rattle.std.specs.List.{list_all};
 ghost use Rattle.html5ever_interface.specs.Sink.{Message};
 ghost use Rattle.html5ever_interface.specs.Token.Told.{End};
-ghost use Rattle.html5grammar.specs.Reading.{all_messages};
-ghost use Rattle.html5grammar.specs.Start.{Start, Rules};
-ghost use Rattle.html5items.specs.Anywhere.{TellsByItself};
+ghost use Rattle.html5reading.specs.Reading.{all_messages};
+ghost use Rattle.html5reading.specs.Start.{Start, Rules};
+ghost use Rattle.html5grammar.specs.Anywhere.{TellsByItself};
 ghost use Rattle.markup5ever.specs.NamedReferences.{IsTable};
 ghost use Rattle.html5write.specs.Pieces.{Piece, page_text};
 ghost use Rattle.html5write.specs.Told.{IsOpen, page_messages, page_tokens, proper, start_after_page};

@@ -7,9 +7,9 @@ use Rattle.utf8_pieces.specs.Pieces.{Decoding, IsFault, IsNeverUtf8}
 use Rattle.utf8_pieces.specs.declared.error.DecodeError.{DecodeError}
 use Rattle.utf8_pieces.specs.declared.error.DecodeError.TheVariants as decoder
 use Rattle.html5ever_interface.specs.Token.{Reply}
-use Rattle.html5grammar.specs.Start.{Rules}
-use Rattle.html5opened.specs.declared.error.TokenizerError.{TokenizerError}
-use Rattle.html5events.specs.Events.{Events, Recorded, recorded_means, WritesOn}
+use Rattle.html5reading.specs.Start.{Rules}
+use Rattle.html5partial.specs.declared.error.TokenizerError.{TokenizerError}
+use Rattle.html5records.specs.Events.{Events, Recorded, recorded_means, WritesOn}
 use Rattle.html5ever.specs.Resting.{RestingOf, tokenizing}
 use Rattle.html5ever.specs.Tokenizer.{Tokenizing, Feeds, FeedsItems, StopsFeeding, Finishes, FinishesItems, StopsEnding}
 use Rattle.html5session.specs.Session.{SessionOf, tokenizer_of, recorded_by, is_over, Completes, TakesPiece, RefusesBytes, FeedsText, fed_by, StopsText, FeedsPiece, LosesPiece, FeedRefused, EndsText, StopsTextEnd, EndRefused}

@@ -8,15 +8,15 @@ use Rattle.html5ever_interface.specs.Sink.{Means, Message, stepped, on_line}
 use Rattle.html5ever_interface.specs.Token.{Told, Reply}
 use Rattle.html5ever_interface.specs.Token.Told.{Tag}
 use Rattle.html5feed.specs.Feed.{feed, first_pause, pause_at, pauses, told_beyond, up_to_pause}
-use Rattle.html5grammar.specs.Cutting.{rest_of}
-use Rattle.html5grammar.specs.ErrorText.{bad_character_error}
-use Rattle.html5grammar.specs.NormalisedText.{normalised, line_after, input_after}
-use Rattle.html5grammar.specs.Reading.{Brought, Event, Here, Read, all_messages, brought, end_events, events_at, is_character, last_after, late_events, messages, messages_so_far, open_after_reply, read, read_from, read_here, reading, start_after, state_after, told, with_events}
-use Rattle.html5grammar.specs.Reading.Here.{Tells, TellsTag}
-use Rattle.html5grammar.specs.Reading.TextPlace.{Character}
-use Rattle.html5grammar.specs.Slice.{Slice, cut_off, tokens_of_late}
-use Rattle.html5grammar.specs.Start.{Start, Rules}
-use Rattle.html5events.specs.Events.{Events, Recorded, recorded_means, recorded_step, taking, after_taking}
+use Rattle.html5reading.specs.Cutting.{rest_of}
+use Rattle.html5reading.specs.ErrorText.{bad_character_error}
+use Rattle.html5reading.specs.NormalisedText.{normalised, line_after, input_after}
+use Rattle.html5reading.specs.Reading.{Brought, Event, Here, Read, all_messages, brought, end_events, events_at, is_character, last_after, late_events, messages, messages_so_far, open_after_reply, read, read_from, read_here, reading, start_after, state_after, told, with_events}
+use Rattle.html5reading.specs.Reading.Here.{Tells, TellsTag}
+use Rattle.html5reading.specs.Reading.TextPlace.{Character}
+use Rattle.html5reading.specs.Slice.{Slice, cut_off, tokens_of_late}
+use Rattle.html5reading.specs.Start.{Start, Rules}
+use Rattle.html5records.specs.Events.{Events, Recorded, recorded_means, recorded_step, taking, after_taking}
 
 module _ {X S H : Type 0} (means : Means X S H) (f : S → S)
     (steps : (s : S) (t : Told) (line : ℕ) → means.step (f s) t line ≡ f (means.step s t line))

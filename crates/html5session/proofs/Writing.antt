@@ -4,10 +4,10 @@ use Rattle.html5ever_interface.specs.Sink.{Message}
 use Rattle.html5ever_interface.specs.Token.{Reply}
 use Rattle.html5ever.proofs.Standing.{StandsAt-start}
 use Rattle.html5ever.specs.Tokenizer.{Tokenizing, StandsAt, EndStops, Feeds, StopsFeeding, Finishes, StopsEnding}
-use Rattle.html5events.specs.Events.{Events, Recorded, recorded_faulted, recorded_means, recorded_step, WritesOn}
-use Rattle.html5events.proofs.Recordings.{writes_on}
-use Rattle.html5opened.specs.declared.error.TokenizerError.{TokenizerError}
-use Rattle.html5opened.specs.declared.error.TokenizerError.TheVariants.{Memory, Sink, Failed}
+use Rattle.html5records.specs.Events.{Events, Recorded, recorded_faulted, recorded_means, recorded_step, WritesOn}
+use Rattle.html5records.proofs.Recordings.{writes_on}
+use Rattle.html5partial.specs.declared.error.TokenizerError.{TokenizerError}
+use Rattle.html5partial.specs.declared.error.TokenizerError.TheVariants.{Memory, Sink, Failed}
 use Rattle.html5states.specs.Telling.{FaultsWithin, Stops}
 
 writes_on-faults : (r t : Recorded) (M : List Message) → FaultsWithin recorded_step recorded_faulted r M t → WritesOn r t

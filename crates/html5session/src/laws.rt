@@ -1,9 +1,9 @@
 //! What the bytes that are taken have to do with how a page is read: nothing.
 ghost use Rattle.std.specs.Prelude.{◌≡◌, ℕ, List};
-ghost use Rattle.html5events.specs.Events.{Recorded, recorded_means, taking};
+ghost use Rattle.html5records.specs.Events.{Recorded, recorded_means, taking};
 ghost use Rattle.html5feed.specs.Feed.{feed};
-ghost use Rattle.html5grammar.specs.Reading.{all_messages, messages_so_far, state_after, start_after};
-ghost use Rattle.html5grammar.specs.Start.{Rules, Start};
+ghost use Rattle.html5reading.specs.Reading.{all_messages, messages_so_far, state_after, start_after};
+ghost use Rattle.html5reading.specs.Start.{Rules, Start};
 
 /// A text is read alike however many bytes of the records were taken. It tells the same, a feed pauses at the same tag,
 /// and what follows the text is read from the same start.

@@ -5,15 +5,15 @@ ghost use Rattle.utf8_pieces.specs.Pieces.{IsNeverUtf8};
 ghost use Rattle.html5ever.specs.Resting.{tokenizing};
 ghost use Rattle.html5ever.specs.Tokenizer.{StandsAt, rules_of};
 ghost use Rattle.html5ever_interface.specs.Options.{options_of};
-ghost use Rattle.html5events.specs.Events.{recorded_means, none_recorded, no_events, waiting};
+ghost use Rattle.html5records.specs.Events.{recorded_means, none_recorded, no_events, waiting};
 ghost use Rattle.html5feed.specs.Starting.{CanStart};
-ghost use Rattle.html5grammar.specs.Start.{start_of};
+ghost use Rattle.html5reading.specs.Start.{start_of};
 ghost use Rattle.html5session.specs.Session.{is_over, tokenizer_of, recorded_by, after_session_takes, StandsOn, FeedsText, StopsText, EndsText, StopsTextEnd};
 ghost use Rattle.html5session.specs.Session.{TakesPiece, FeedsPiece, FeedRefused, EndsSession, EndRefused, IsNotUtf8};
 
 use crate::error::SessionError;
 use crate::fed::{Fed, fed_of};
-use html5events::event_sink::{EventOptions, EventSink};
+use html5records::event_sink::{EventOptions, EventSink};
 use html5ever::tokenizer::{BufferQueue, NamedReferences, Resting, Tokenizer, TokenizerOpts};
 use std::alloc::{Allocator, Global};
 use std::marker::Model;

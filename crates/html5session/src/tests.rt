@@ -1,6 +1,6 @@
 use crate::{Fed, Session, SessionError};
-use html5events::event_sink::{EventOptions, Replies};
-use html5events::reading::{TokenRecord, read_record};
+use html5records::event_sink::{EventOptions, Replies};
+use html5records::reading::{TokenRecord, read_record};
 use html5ever::tokenizer::{NamedReferences, TokenizerOpts};
 use std::alloc::{AllocError, Global};
 use std::process::Abort;

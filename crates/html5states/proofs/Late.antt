@@ -6,15 +6,15 @@ use Rattle.std.proofs.lemmas.Bool.Decides.{nat_tests}
 use Rattle.std.proofs.lemmas.List.{map-append}
 use Rattle.html5ever_interface.specs.Token.{Told}
 use Rattle.html5ever_interface.specs.Token.Told.{Text}
-use Rattle.html5grammar.specs.Characters.{number_sign, semicolon}
-use Rattle.html5grammar.specs.Reference as grammar
-use Rattle.html5grammar.specs.Reference.{first_or, has_digits, number_reference, named_reference, longest_name, text_in, told_of, characters_in, held_text, late_tokens, opened_in, opened_after, ends_number, in_value}
-use Rattle.html5grammar.specs.Slice.{Late, tokens_of_late}
-use Rattle.html5grammar.specs.Start.{Stand}
-use Rattle.html5grammar.specs.Start.Stand.{InText, InAttribute}
-use Rattle.html5opened.specs.CharRef.{IsFound, decided, found_at, more_of}
-use Rattle.html5opened.specs.declared.char_ref.Found.{Found}
-use Rattle.html5grammar.proofs.TableNames.{longest-nil}
+use Rattle.html5reading.specs.Characters.{number_sign, semicolon}
+use Rattle.html5reading.specs.Reference as grammar
+use Rattle.html5reading.specs.Reference.{first_or, has_digits, number_reference, named_reference, longest_name, text_in, told_of, characters_in, held_text, late_tokens, opened_in, opened_after, ends_number, in_value}
+use Rattle.html5reading.specs.Slice.{Late, tokens_of_late}
+use Rattle.html5reading.specs.Start.{Stand}
+use Rattle.html5reading.specs.Start.Stand.{InText, InAttribute}
+use Rattle.html5partial.specs.CharRef.{IsFound, decided, found_at, more_of}
+use Rattle.html5partial.specs.declared.char_ref.Found.{Found}
+use Rattle.html5reading.proofs.TableNames.{longest-nil}
 use Rattle.html5states.proofs.Resolving.{number-none, number-some}
 use Rattle.markup5ever.specs.NamedReferences.{NamedReference, IsTable}
 

@@ -6,18 +6,18 @@ use Rattle.std.proofs.lemmas.List.{length-take-le}
 use Rattle.html5ever_interface.specs.Sink.{Means}
 use Rattle.html5ever_interface.specs.Token.{Told}
 use Rattle.html5ever_interface.specs.Token.Told.{Error}
-use Rattle.html5grammar.specs.Characters.{ampersand}
-use Rattle.html5grammar.specs.ErrorText.{where_true}
-use Rattle.html5grammar.specs.Reference as grammar
-use Rattle.html5grammar.specs.Reference.{number_reference, named_reference, no_name, no_reference, error, has_digits, number_value, without_digits, semicolon_len, unended_number, is_invalid_number, invalid_number, character_of_number, longest_name, is_ended, goes_on, first_or, second_of}
-use Rattle.html5opened.specs.CharRef.{IsFound, IsNamed, more_of}
+use Rattle.html5reading.specs.Characters.{ampersand}
+use Rattle.html5reading.specs.ErrorText.{where_true}
+use Rattle.html5reading.specs.Reference as grammar
+use Rattle.html5reading.specs.Reference.{number_reference, named_reference, no_name, no_reference, error, has_digits, number_value, without_digits, semicolon_len, unended_number, is_invalid_number, invalid_number, character_of_number, longest_name, is_ended, goes_on, first_or, second_of}
+use Rattle.html5partial.specs.CharRef.{IsFound, IsNamed, more_of}
 use Rattle.html5states.specs.Telling.{Emits}
 use Rattle.html5states.specs.declared.teller.Teller.{Teller}
-use Rattle.html5opened.specs.declared.char_ref.Found.{Found}
-use Rattle.html5opened.specs.declared.char_ref.Named.{Named}
+use Rattle.html5partial.specs.declared.char_ref.Found.{Found}
+use Rattle.html5partial.specs.declared.char_ref.Named.{Named}
 use Rattle.markup5ever.specs.NamedReferences.{NamedReference}
-use Rattle.html5opened.proofs.LongestName.{upto}
-use Rattle.html5opened.proofs.Numbers.{character-limited, is_invalid-limited, invalid-last_bits}
+use Rattle.html5partial.proofs.LongestName.{upto}
+use Rattle.html5partial.proofs.Numbers.{character-limited, is_invalid-limited, invalid-last_bits}
 
 -- ---- numbers
 

@@ -10,18 +10,18 @@ use Rattle.std.proofs.lemmas.Str.{encodes-chars, IsUtf8-string_bytes}
 use Rattle.std.specs.Result.{IsErrAnd}
 use Rattle.html5ever_interface.proofs.Steppings.{stepped-append}
 use Rattle.html5ever_interface.specs.Sink.{Means, Message, stepped, on_line}
-use Rattle.html5opened.specs.CurrentTag.{last_name_of}
-use Rattle.html5opened.specs.Steps.{Next, tokens_of, afterwards, Ends}
+use Rattle.html5partial.specs.CurrentTag.{last_name_of}
+use Rattle.html5partial.specs.Steps.{Next, tokens_of, afterwards, Ends}
 use Rattle.html5states.specs.Telling.{IsRefusal, tokens_in, IsToldAs, IsKept, Stops, Tells, Emits, Reads, faults_of}
-use Rattle.html5grammar.specs.ErrorText.{where_true}
-use Rattle.html5grammar.specs.Reading.{Here}
-use Rattle.html5grammar.specs.Start.{Open}
-use Rattle.html5grammar.specs.Machine.{told_first}
-use Rattle.html5opened.specs.declared.opened.Opened.{Opened}
-use Rattle.html5opened.specs.declared.opened.Progress.{Progress}
+use Rattle.html5reading.specs.ErrorText.{where_true}
+use Rattle.html5reading.specs.Reading.{Here}
+use Rattle.html5reading.specs.Start.{Open}
+use Rattle.html5reading.specs.Machine.{told_first}
+use Rattle.html5partial.specs.declared.opened.Opened.{Opened}
+use Rattle.html5partial.specs.declared.opened.Progress.{Progress}
 use Rattle.html5states.specs.declared.teller.Teller.{Teller}
-use Rattle.html5opened.specs.declared.error.TokenizerError.{TokenizerError}
-use Rattle.html5opened.specs.declared.error.TokenizerError.TheVariants.{Memory, Sink, Failed}
+use Rattle.html5partial.specs.declared.error.TokenizerError.{TokenizerError}
+use Rattle.html5partial.specs.declared.error.TokenizerError.TheVariants.{Memory, Sink, Failed}
 use Rattle.html5ever_interface.specs.declared.interface.token.Token.{Token}
 use Rattle.html5ever_interface.specs.declared.interface.token.Token.TheVariants.{DoctypeToken, TagToken, CommentToken, ProcessingInstructionToken, CharacterTokens, NullCharacterToken, EOFToken, ParseError}
 use Rattle.html5ever_interface.specs.Token.{Told, told_by}

@@ -5,15 +5,15 @@ use Rattle.std.specs.Str.{chars}
 use Rattle.html5ever_interface.specs.Sink.{Means, Message, stepped, on_line}
 use Rattle.html5ever_interface.specs.Token.{Told}
 use Rattle.html5ever_interface.specs.Token.Told.{Text}
-use Rattle.html5grammar.specs.Reading.{Here}
-use Rattle.html5grammar.specs.Start.{Open}
-use Rattle.html5opened.specs.CurrentTag.{last_name_of}
-use Rattle.html5opened.specs.Steps.{tokens_of, afterwards, Ends}
-use Rattle.html5opened.specs.declared.opened.Opened.{Opened}
-use Rattle.html5opened.specs.declared.opened.Progress.{Progress}
+use Rattle.html5reading.specs.Reading.{Here}
+use Rattle.html5reading.specs.Start.{Open}
+use Rattle.html5partial.specs.CurrentTag.{last_name_of}
+use Rattle.html5partial.specs.Steps.{tokens_of, afterwards, Ends}
+use Rattle.html5partial.specs.declared.opened.Opened.{Opened}
+use Rattle.html5partial.specs.declared.opened.Progress.{Progress}
 use Rattle.html5states.specs.declared.teller.Teller.{Teller}
-use Rattle.html5opened.specs.declared.error.TokenizerError.{TokenizerError}
-use Rattle.html5opened.specs.declared.error.TokenizerError.TheVariants.{Memory, Sink, Failed}
+use Rattle.html5partial.specs.declared.error.TokenizerError.{TokenizerError}
+use Rattle.html5partial.specs.declared.error.TokenizerError.TheVariants.{Memory, Sink, Failed}
 
 -- the tokens that the grammar has for one that is sent: a text for each character of a text, and else the token itself
 abbrev pub tokens_in : Told → List Told

@@ -1,17 +1,17 @@
 //! The end of an attribute.
-#![tactic(auto, using(crate::proofs::Tellings::tells_from_memory), unfolding(html5grammar::specs::Tag::duplicate_error))]
+#![tactic(auto, using(crate::proofs::Tellings::tells_from_memory), unfolding(html5reading::specs::Tag::duplicate_error))]
 
 ghost use Rattle.std.specs.Prelude.{◌≡◌, OnOk};
-ghost use Rattle.html5grammar.specs.Tag.{with_last_attribute, duplicate_error};
-ghost use Rattle.html5opened.specs.CurrentTag.{open_tag};
+ghost use Rattle.html5reading.specs.Tag.{with_last_attribute, duplicate_error};
+ghost use Rattle.html5partial.specs.CurrentTag.{open_tag};
 ghost use Rattle.html5states.specs.Telling.{Emits};
 
 use crate::teller::Teller;
 use html5ever_interface::interface::message::FixedMessage;
 use html5ever_interface::interface::sink::TokenSink;
 use html5ever_interface::interface::token::Token;
-use html5opened::current_tag::CurrentTag;
-use html5opened::error::TokenizerError;
+use html5partial::current_tag::CurrentTag;
+use html5partial::error::TokenizerError;
 use std::alloc::Allocator;
 
 impl<S: TokenSink<Token<A>>, A: Allocator + Copy> Teller<'_, S, A> {

@@ -1,26 +1,26 @@
 //! The states of CDATA sections. The text that is held says by its end which of the standard's states
 //! is open.
-#![tactic(auto, using(crate::proofs::Tellings::tells_from_memory), unfolding(html5grammar::specs::Machine::cdata_step, html5opened::specs::Steps::tokens_of, html5opened::specs::Steps::afterwards, html5ever_interface::specs::Sink::stepped))]
+#![tactic(auto, using(crate::proofs::Tellings::tells_from_memory), unfolding(html5reading::specs::Machine::cdata_step, html5partial::specs::Steps::tokens_of, html5partial::specs::Steps::afterwards, html5ever_interface::specs::Sink::stepped))]
 
 ghost use Rattle.std.specs.Prelude.{◌≡◌, ◌∷◌, [], ◌++◌, true, string_bytes};
 ghost use Rattle.std.specs.Str.{chars};
 ghost use Rattle.html5ever_interface.specs.Token.Told.{Null, End};
-ghost use Rattle.html5grammar.specs.Machine.{cdata_step};
-ghost use Rattle.html5grammar.specs.Cdata.{ends_cdata, told_at_end_of_cdata};
-ghost use Rattle.html5grammar.specs.ErrorText.{end_error_in};
-ghost use Rattle.html5grammar.specs.RawText.{texts};
-ghost use Rattle.html5grammar.specs.Reading.Here.{Tells};
-ghost use Rattle.html5grammar.specs.Start.Mode.{Cdata, Data};
-ghost use Rattle.html5grammar.specs.Start.Open.{Between};
+ghost use Rattle.html5reading.specs.Machine.{cdata_step};
+ghost use Rattle.html5reading.specs.Cdata.{ends_cdata, told_at_end_of_cdata};
+ghost use Rattle.html5reading.specs.ErrorText.{end_error_in};
+ghost use Rattle.html5reading.specs.RawText.{texts};
+ghost use Rattle.html5reading.specs.Reading.Here.{Tells};
+ghost use Rattle.html5reading.specs.Start.Mode.{Cdata, Data};
+ghost use Rattle.html5reading.specs.Start.Open.{Between};
 ghost use Rattle.html5states.specs.Telling.{Emits, Reads};
 
 use crate::teller::Teller;
 use html5ever_interface::interface::sink::TokenSink;
 use html5ever_interface::interface::token::Token;
 use html5ever_interface::states::State;
-use html5opened::cdata::{ends_section, push_text, section_len};
-use html5opened::error::TokenizerError;
-use html5opened::opened::{Opened, Progress, Step};
+use html5partial::cdata::{ends_section, push_text, section_len};
+use html5partial::error::TokenizerError;
+use html5partial::opened::{Opened, Progress, Step};
 use std::alloc::Allocator;
 use std::mem;
 

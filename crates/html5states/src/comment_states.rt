@@ -1,25 +1,25 @@
 //! The states of comments.
-#![tactic(auto, using(crate::proofs::Tellings::tells_from_memory), unfolding(html5grammar::specs::Machine::comment_step, html5grammar::specs::Machine::bogus_comment_step, html5grammar::specs::Comment::comment_errors, html5grammar::specs::Comment::mark_error, html5grammar::specs::Comment::comment_end_error, html5opened::specs::Steps::tokens_of, html5opened::specs::Steps::afterwards, html5ever_interface::specs::Sink::stepped))]
+#![tactic(auto, using(crate::proofs::Tellings::tells_from_memory), unfolding(html5reading::specs::Machine::comment_step, html5reading::specs::Machine::bogus_comment_step, html5reading::specs::Comment::comment_errors, html5reading::specs::Comment::mark_error, html5reading::specs::Comment::comment_end_error, html5partial::specs::Steps::tokens_of, html5partial::specs::Steps::afterwards, html5ever_interface::specs::Sink::stepped))]
 
 ghost use Rattle.std.specs.Prelude.{◌≡◌, ◌∷◌, [], ◌++◌, string_bytes};
 ghost use Rattle.html5ever_interface.specs.Token.Told.{Comment};
-ghost use Rattle.html5grammar.specs.Machine.{comment_step, bogus_comment_step};
-ghost use Rattle.html5grammar.specs.Comment.{ends_comment, comment_errors, comment_end_error, comment_content};
-ghost use Rattle.html5grammar.specs.Characters.{greater_than};
-ghost use Rattle.html5grammar.specs.ErrorText.{error_in, where_true};
-ghost use Rattle.html5grammar.specs.Reading.Here.{Tells};
-ghost use Rattle.html5grammar.specs.Start.Mode.{Data};
-ghost use Rattle.html5grammar.specs.Start.Open.{Between};
+ghost use Rattle.html5reading.specs.Machine.{comment_step, bogus_comment_step};
+ghost use Rattle.html5reading.specs.Comment.{ends_comment, comment_errors, comment_end_error, comment_content};
+ghost use Rattle.html5reading.specs.Characters.{greater_than};
+ghost use Rattle.html5reading.specs.ErrorText.{error_in, where_true};
+ghost use Rattle.html5reading.specs.Reading.Here.{Tells};
+ghost use Rattle.html5reading.specs.Start.Mode.{Data};
+ghost use Rattle.html5reading.specs.Start.Open.{Between};
 ghost use Rattle.html5states.specs.Telling.{Emits, Reads};
 
 use crate::teller::Teller;
 use html5ever_interface::interface::sink::TokenSink;
 use html5ever_interface::interface::token::Token;
 use html5ever_interface::states::State;
-use html5opened::comments::{content_len, ends_comment, ends_in, is_after_mark, state_in_comment};
-use html5opened::current_tag::push_value;
-use html5opened::error::TokenizerError;
-use html5opened::opened::{Opened, Progress, Step};
+use html5partial::comments::{content_len, ends_comment, ends_in, is_after_mark, state_in_comment};
+use html5partial::current_tag::push_value;
+use html5partial::error::TokenizerError;
+use html5partial::opened::{Opened, Progress, Step};
 use std::alloc::Allocator;
 use std::mem;
 

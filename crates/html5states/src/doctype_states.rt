@@ -1,26 +1,26 @@
 //! The states of DOCTYPEs up to their name and keyword, and what ends or skips a DOCTYPE.
-#![tactic(auto, using(crate::proofs::Tellings::tells_from_memory), unfolding(html5grammar::specs::Machine::doctype_step, html5grammar::specs::Machine::space_step, html5grammar::specs::Machine::skipped_step, html5grammar::specs::Machine::wanted_name_step, html5grammar::specs::Machine::doctype_name_step, html5grammar::specs::Machine::keyword_or_end_step, html5grammar::specs::Doctype::in_doctype_name, html5opened::specs::Steps::tokens_of, html5opened::specs::Steps::afterwards, html5ever_interface::specs::Sink::stepped))]
+#![tactic(auto, using(crate::proofs::Tellings::tells_from_memory), unfolding(html5reading::specs::Machine::doctype_step, html5reading::specs::Machine::space_step, html5reading::specs::Machine::skipped_step, html5reading::specs::Machine::wanted_name_step, html5reading::specs::Machine::doctype_name_step, html5reading::specs::Machine::keyword_or_end_step, html5reading::specs::Doctype::in_doctype_name, html5partial::specs::Steps::tokens_of, html5partial::specs::Steps::afterwards, html5ever_interface::specs::Sink::stepped))]
 
 ghost use Rattle.std.specs.Prelude.{◌≡◌, ◌∷◌, [], string_bytes};
 ghost use Rattle.html5ever_interface.specs.Token.{doctype_of};
 ghost use Rattle.html5ever_interface.specs.Token.{Told};
-ghost use Rattle.html5grammar.specs.Machine.{doctype_step, skipped_step, wanted_name_step};
-ghost use Rattle.html5grammar.specs.Doctype.{with_quirks};
-ghost use Rattle.html5grammar.specs.ErrorText.{error_in};
-ghost use Rattle.html5grammar.specs.Reading.Here.{Tells};
-ghost use Rattle.html5grammar.specs.Start.DoctypePlace.{AfterWord, BeforeName, InDoctypeName, AfterName};
-ghost use Rattle.html5grammar.specs.Start.Mode.{Data};
-ghost use Rattle.html5grammar.specs.Start.Open.{Between};
+ghost use Rattle.html5reading.specs.Machine.{doctype_step, skipped_step, wanted_name_step};
+ghost use Rattle.html5reading.specs.Doctype.{with_quirks};
+ghost use Rattle.html5reading.specs.ErrorText.{error_in};
+ghost use Rattle.html5reading.specs.Reading.Here.{Tells};
+ghost use Rattle.html5reading.specs.Start.DoctypePlace.{AfterWord, BeforeName, InDoctypeName, AfterName};
+ghost use Rattle.html5reading.specs.Start.Mode.{Data};
+ghost use Rattle.html5reading.specs.Start.Open.{Between};
 ghost use Rattle.html5states.specs.Telling.{Reads};
 
 use crate::teller::Teller;
 use html5ever_interface::interface::sink::TokenSink;
 use html5ever_interface::interface::token::{Doctype, Token};
 use html5ever_interface::states::State;
-use html5opened::characters::is_white_space;
-use html5opened::doctype_keyword::begins_doctype_keyword;
-use html5opened::doctypes::{begin_name, push_doctype_name};
-use html5opened::opened::{Opened, Progress, Step};
+use html5partial::characters::is_white_space;
+use html5partial::doctype_keyword::begins_doctype_keyword;
+use html5partial::doctypes::{begin_name, push_doctype_name};
+use html5partial::opened::{Opened, Progress, Step};
 use std::alloc::Allocator;
 use std::mem;
 

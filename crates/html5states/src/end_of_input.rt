@@ -1,19 +1,19 @@
 //! The end of input, in the state that is open.
-#![tactic(auto, using(crate::proofs::Tellings::tells_from_memory), unfolding(html5grammar::specs::EndOfInput::told_at_end_of, html5grammar::specs::EndOfInput::told_at_raw_end, html5grammar::specs::EndOfInput::raw_end_error, html5grammar::specs::RawText::raw_state, html5grammar::specs::RawText::escaped_state, html5grammar::specs::EndOfInput::state_at, html5grammar::specs::EndOfInput::told_at_doctype_end, html5grammar::specs::EndOfInput::doctype_state_at))]
+#![tactic(auto, using(crate::proofs::Tellings::tells_from_memory), unfolding(html5reading::specs::EndOfInput::told_at_end_of, html5reading::specs::EndOfInput::told_at_raw_end, html5reading::specs::EndOfInput::raw_end_error, html5reading::specs::RawText::raw_state, html5reading::specs::RawText::escaped_state, html5reading::specs::EndOfInput::state_at, html5reading::specs::EndOfInput::told_at_doctype_end, html5reading::specs::EndOfInput::doctype_state_at))]
 
 ghost use Rattle.std.specs.Prelude.{◌≡◌, ◌∷◌, [], ◌++◌, false, codes, encode_utf8};
 ghost use Rattle.std.specs.Str.{chars};
 ghost use Rattle.html5ever_interface.specs.Token.{doctype_of};
 ghost use Rattle.html5ever_interface.specs.Token.Told.{Text, Comment, End};
 ghost use Rattle.html5ever_interface.specs.Token.{Told};
-ghost use Rattle.html5grammar.specs.Doctype.{with_quirks};
-ghost use Rattle.html5grammar.specs.Characters.{solidus, less_than};
-ghost use Rattle.html5grammar.specs.EndOfInput.{told_at_end_of, raw_end_error};
-ghost use Rattle.html5grammar.specs.ErrorText.{end_error_in};
-ghost use Rattle.html5grammar.specs.RawText.{texts, told_after_less_than};
-ghost use Rattle.html5grammar.specs.Comment.{comment_state, comment_content};
-ghost use Rattle.html5grammar.specs.Start.{raw_of, is_undecided_open};
-ghost use Rattle.html5opened.specs.CurrentTag.{opened_of};
+ghost use Rattle.html5reading.specs.Doctype.{with_quirks};
+ghost use Rattle.html5reading.specs.Characters.{solidus, less_than};
+ghost use Rattle.html5reading.specs.EndOfInput.{told_at_end_of, raw_end_error};
+ghost use Rattle.html5reading.specs.ErrorText.{end_error_in};
+ghost use Rattle.html5reading.specs.RawText.{texts, told_after_less_than};
+ghost use Rattle.html5reading.specs.Comment.{comment_state, comment_content};
+ghost use Rattle.html5reading.specs.Start.{raw_of, is_undecided_open};
+ghost use Rattle.html5partial.specs.CurrentTag.{opened_of};
 ghost use Rattle.html5states.specs.Telling.{Emits};
 
 use crate::teller::Teller;
@@ -21,10 +21,10 @@ use html5ever_interface::interface::sink::TokenSink;
 use html5ever_interface::interface::token::{Doctype, Token};
 use html5ever_interface::states::AttrValueKind::Unquoted;
 use html5ever_interface::states::{RawKind, ScriptEscapeKind, State};
-use html5opened::comments::{content_len, is_comment_state, state_in_comment};
-use html5opened::doctypes::is_doctype_state;
-use html5opened::error::TokenizerError;
-use html5opened::opened::Opened;
+use html5partial::comments::{content_len, is_comment_state, state_in_comment};
+use html5partial::doctypes::is_doctype_state;
+use html5partial::error::TokenizerError;
+use html5partial::opened::Opened;
 use std::alloc::Allocator;
 
 // The state that the error of the end names after letters that may switch.

@@ -1,11 +1,11 @@
 //! The end of a tag: its last attribute and its errors.
-#![tactic(auto, using(crate::proofs::Tellings::tells_from_memory), unfolding(html5grammar::specs::Machine::closing_step, html5opened::specs::Steps::tokens_of, html5opened::specs::Steps::afterwards))]
+#![tactic(auto, using(crate::proofs::Tellings::tells_from_memory), unfolding(html5reading::specs::Machine::closing_step, html5partial::specs::Steps::tokens_of, html5partial::specs::Steps::afterwards))]
 
 ghost use Rattle.std.specs.Prelude.{◌≡◌, [], ◌++◌, ◌&&◌, not, nat_eq, length, OnOk};
-ghost use Rattle.html5grammar.specs.Machine.{closing_step};
-ghost use Rattle.html5grammar.specs.Tag.{is_end_tag, duplicate_error, end_tag_errors};
-ghost use Rattle.html5grammar.specs.Tag.{with_last_attribute};
-ghost use Rattle.html5opened.specs.CurrentTag.{open_tag};
+ghost use Rattle.html5reading.specs.Machine.{closing_step};
+ghost use Rattle.html5reading.specs.Tag.{is_end_tag, duplicate_error, end_tag_errors};
+ghost use Rattle.html5reading.specs.Tag.{with_last_attribute};
+ghost use Rattle.html5partial.specs.CurrentTag.{open_tag};
 ghost use Rattle.html5states.specs.Telling.{Emits, Reads};
 
 use crate::teller::Teller;
@@ -13,9 +13,9 @@ use html5ever_interface::interface::message::FixedMessage;
 use html5ever_interface::interface::sink::TokenSink;
 use html5ever_interface::interface::token::{TagKind, Token};
 use html5ever_interface::states::State;
-use html5opened::current_tag::CurrentTag;
-use html5opened::error::TokenizerError;
-use html5opened::opened::{Opened, Progress, Step};
+use html5partial::current_tag::CurrentTag;
+use html5partial::error::TokenizerError;
+use html5partial::opened::{Opened, Progress, Step};
 use std::alloc::Allocator;
 
 // Whether the kind is that of an end tag.

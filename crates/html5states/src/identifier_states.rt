@@ -1,12 +1,12 @@
 //! The states of a DOCTYPE's identifiers.
-#![tactic(auto, using(crate::proofs::Tellings::tells_from_memory), unfolding(html5grammar::specs::Machine::doctype_step, html5grammar::specs::Machine::space_step, html5grammar::specs::Machine::skipped_step, html5grammar::specs::Machine::wanted_identifier_step, html5grammar::specs::Machine::system_or_end_step, html5grammar::specs::Machine::identifier_step, html5grammar::specs::Machine::after_identifier_step, html5grammar::specs::Doctype::in_identifier, html5opened::specs::Steps::tokens_of, html5opened::specs::Steps::afterwards, html5ever_interface::specs::Sink::stepped))]
+#![tactic(auto, using(crate::proofs::Tellings::tells_from_memory), unfolding(html5reading::specs::Machine::doctype_step, html5reading::specs::Machine::space_step, html5reading::specs::Machine::skipped_step, html5reading::specs::Machine::wanted_identifier_step, html5reading::specs::Machine::system_or_end_step, html5reading::specs::Machine::identifier_step, html5reading::specs::Machine::after_identifier_step, html5reading::specs::Doctype::in_identifier, html5partial::specs::Steps::tokens_of, html5partial::specs::Steps::afterwards, html5ever_interface::specs::Sink::stepped))]
 
 ghost use Rattle.std.specs.Prelude.{◌≡◌, true, false};
 ghost use Rattle.html5ever_interface.specs.Token.{doctype_of};
-ghost use Rattle.html5grammar.specs.Machine.{doctype_step, wanted_identifier_step};
-ghost use Rattle.html5grammar.specs.Doctype.{identifier_state};
-ghost use Rattle.html5grammar.specs.Start.DoctypePlace.{AfterKeyword, BeforeIdentifier, InIdentifier, AfterIdentifier, BetweenIdentifiers};
-ghost use Rattle.html5opened.specs.Doctypes.{quotes_of};
+ghost use Rattle.html5reading.specs.Machine.{doctype_step, wanted_identifier_step};
+ghost use Rattle.html5reading.specs.Doctype.{identifier_state};
+ghost use Rattle.html5reading.specs.Start.DoctypePlace.{AfterKeyword, BeforeIdentifier, InIdentifier, AfterIdentifier, BetweenIdentifiers};
+ghost use Rattle.html5partial.specs.Doctypes.{quotes_of};
 ghost use Rattle.html5states.specs.Telling.{Reads};
 
 use crate::teller::Teller;
@@ -14,9 +14,9 @@ use html5ever_interface::interface::sink::TokenSink;
 use html5ever_interface::interface::token::Token;
 use html5ever_interface::states::DoctypeIdKind::{Public, System};
 use html5ever_interface::states::{DoctypeIdKind, State};
-use html5opened::characters::{is_quote, is_white_space};
-use html5opened::doctypes::{Quotes, begin_identifier, push_identifier};
-use html5opened::opened::{Opened, Progress, Step};
+use html5partial::characters::{is_quote, is_white_space};
+use html5partial::doctypes::{Quotes, begin_identifier, push_identifier};
+use html5partial::opened::{Opened, Progress, Step};
 use std::alloc::Allocator;
 
 impl<S: TokenSink<Token<A>>, A: Allocator + Copy> Teller<'_, S, A> {
@@ -96,7 +96,7 @@ impl<S: TokenSink<Token<A>>, A: Allocator + Copy> Teller<'_, S, A> {
 
     /// The standard's "DOCTYPE public identifier (double-quoted) state" and "DOCTYPE public identifier
     /// (single-quoted) state", and the same two of the system identifier.
-    #[tactic(auto, using(crate::proofs::Tellings::tells_from_memory), unfolding(html5grammar::specs::Machine::doctype_step, html5grammar::specs::Machine::identifier_step, html5grammar::specs::Machine::skipped_step, html5grammar::specs::Doctype::in_identifier, html5opened::specs::Steps::tokens_of, html5opened::specs::Steps::afterwards, html5ever_interface::specs::Sink::stepped))]
+    #[tactic(auto, using(crate::proofs::Tellings::tells_from_memory), unfolding(html5reading::specs::Machine::doctype_step, html5reading::specs::Machine::identifier_step, html5reading::specs::Machine::skipped_step, html5reading::specs::Doctype::in_identifier, html5partial::specs::Steps::tokens_of, html5partial::specs::Steps::afterwards, html5ever_interface::specs::Sink::stepped))]
     pub fn doctype_identifier_state(
         &mut self,
         at: &mut Opened<A>,

@@ -1,19 +1,19 @@
 //! The state of processing instructions, which the standard doesn't have.
-#![tactic(auto, using(crate::proofs::Tellings::tells_from_memory), unfolding(html5grammar::specs::Machine::instruction_step, html5opened::specs::Steps::tokens_of, html5opened::specs::Steps::afterwards, html5ever_interface::specs::Sink::stepped))]
+#![tactic(auto, using(crate::proofs::Tellings::tells_from_memory), unfolding(html5reading::specs::Machine::instruction_step, html5partial::specs::Steps::tokens_of, html5partial::specs::Steps::afterwards, html5ever_interface::specs::Sink::stepped))]
 
 ghost use Rattle.std.specs.Prelude.{◌≡◌, ◌∷◌, [], string_bytes};
 ghost use Rattle.html5ever_interface.specs.Token.Told.{Instruction, End};
-ghost use Rattle.html5grammar.specs.Machine.{instruction_step};
-ghost use Rattle.html5grammar.specs.ErrorText.{end_error_in};
+ghost use Rattle.html5reading.specs.Machine.{instruction_step};
+ghost use Rattle.html5reading.specs.ErrorText.{end_error_in};
 ghost use Rattle.html5states.specs.Telling.{Emits, Reads};
 
 use crate::teller::Teller;
 use html5ever_interface::interface::sink::TokenSink;
 use html5ever_interface::interface::token::Token;
 use html5ever_interface::states::State;
-use html5opened::current_tag::push_value;
-use html5opened::error::TokenizerError;
-use html5opened::opened::{Opened, Progress, Step};
+use html5partial::current_tag::push_value;
+use html5partial::error::TokenizerError;
+use html5partial::opened::{Opened, Progress, Step};
 use std::alloc::Allocator;
 use std::mem;
 

@@ -1,22 +1,22 @@
 //! What is sent where no keyword stands: after `<!`, or after the name of a DOCTYPE.
-#![tactic(auto, using(crate::proofs::Tellings::tells_from_memory), unfolding(html5grammar::specs::Doctype::keyword_error))]
+#![tactic(auto, using(crate::proofs::Tellings::tells_from_memory), unfolding(html5reading::specs::Doctype::keyword_error))]
 
 ghost use Rattle.std.specs.Prelude.{◌≡◌, ◌<◌, ◌+◌, Ok, true, string_bytes};
 ghost use Rattle.html5ever_interface.specs.Token.{doctype_of};
-ghost use Rattle.html5grammar.specs.Doctype.{keyword_error, with_quirks};
-ghost use Rattle.html5grammar.specs.Start.DoctypePlace.{Skipped};
-ghost use Rattle.html5grammar.specs.Start.Open.{InDoctype, InBogusComment};
-ghost use Rattle.html5grammar.specs.Comment.{declaration_error};
-ghost use Rattle.html5grammar.specs.Slice.{tokens_of_late};
-ghost use Rattle.html5opened.specs.CurrentTag.{opened_of, last_name_of};
+ghost use Rattle.html5reading.specs.Doctype.{keyword_error, with_quirks};
+ghost use Rattle.html5reading.specs.Start.DoctypePlace.{Skipped};
+ghost use Rattle.html5reading.specs.Start.Open.{InDoctype, InBogusComment};
+ghost use Rattle.html5reading.specs.Comment.{declaration_error};
+ghost use Rattle.html5reading.specs.Slice.{tokens_of_late};
+ghost use Rattle.html5partial.specs.CurrentTag.{opened_of, last_name_of};
 ghost use Rattle.html5states.specs.Telling.{Emits};
 
 use crate::teller::Teller;
 use html5ever_interface::interface::sink::TokenSink;
 use html5ever_interface::interface::token::Token;
 use html5ever_interface::states::State;
-use html5opened::error::TokenizerError;
-use html5opened::opened::Opened;
+use html5partial::error::TokenizerError;
+use html5partial::opened::Opened;
 use std::alloc::Allocator;
 
 impl<S: TokenSink<Token<A>>, A: Allocator + Copy> Teller<'_, S, A> {

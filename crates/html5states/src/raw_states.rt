@@ -1,28 +1,28 @@
 //! The states of raw text, one function for each.
-#![tactic(auto, using(crate::proofs::Tellings::tells_from_memory), unfolding(html5grammar::specs::Machine::step_at, html5grammar::specs::Machine::raw_place_step, html5grammar::specs::Machine::tag_name_end_step, html5grammar::specs::Machine::raw_step, html5grammar::specs::Machine::raw_less_than_step, html5grammar::specs::Machine::raw_solidus_step, html5grammar::specs::Machine::end_name_step, html5grammar::specs::Machine::switch_step, html5grammar::specs::Machine::mark_step, html5grammar::specs::Machine::mark_and_dash_step, html5grammar::specs::RawText::raw_character, html5grammar::specs::RawText::raw_state, html5grammar::specs::RawText::escaped_state, html5grammar::specs::RawText::raw_after, html5grammar::specs::RawText::dashes_after, html5grammar::specs::RawText::kind_of, html5grammar::specs::RawText::begins_mark, html5grammar::specs::RawText::begins_switch, html5opened::specs::Steps::tokens_of, html5opened::specs::Steps::afterwards, html5ever_interface::specs::Sink::stepped))]
+#![tactic(auto, using(crate::proofs::Tellings::tells_from_memory), unfolding(html5reading::specs::Machine::step_at, html5reading::specs::Machine::raw_place_step, html5reading::specs::Machine::tag_name_end_step, html5reading::specs::Machine::raw_step, html5reading::specs::Machine::raw_less_than_step, html5reading::specs::Machine::raw_solidus_step, html5reading::specs::Machine::end_name_step, html5reading::specs::Machine::switch_step, html5reading::specs::Machine::mark_step, html5reading::specs::Machine::mark_and_dash_step, html5reading::specs::RawText::raw_character, html5reading::specs::RawText::raw_state, html5reading::specs::RawText::escaped_state, html5reading::specs::RawText::raw_after, html5reading::specs::RawText::dashes_after, html5reading::specs::RawText::kind_of, html5reading::specs::RawText::begins_mark, html5reading::specs::RawText::begins_switch, html5partial::specs::Steps::tokens_of, html5partial::specs::Steps::afterwards, html5ever_interface::specs::Sink::stepped))]
 
 ghost use Rattle.std.specs.Prelude.{◌≡◌, ◌∷◌, [], ◌++◌, true, string_bytes};
 ghost use Rattle.std.specs.Str.{chars};
-ghost use Rattle.html5grammar.specs.Machine.{raw_step, raw_less_than_step, raw_solidus_step};
-ghost use Rattle.html5grammar.specs.Machine.{tag_name_end_step, end_name_step, switch_step, mark_step, mark_and_dash_step, step_at};
-ghost use Rattle.html5grammar.specs.Characters.{exclamation_mark, solidus, less_than};
-ghost use Rattle.html5grammar.specs.RawText.{texts, told_at_less_than, told_after_less_than, ends_name};
-ghost use Rattle.html5grammar.specs.Reading.Here.{Tells};
-ghost use Rattle.html5grammar.specs.Start.{begun, escaped, raw_of};
-ghost use Rattle.html5grammar.specs.Start.Dashes.{NoDash, OneDash, TwoDashes};
-ghost use Rattle.html5grammar.specs.Start.Open.{InRaw};
-ghost use Rattle.html5grammar.specs.Start.RawPlace.{AfterMark, InSwitch};
-ghost use Rattle.html5opened.specs.CurrentTag.{last_name_of, opened_of};
+ghost use Rattle.html5reading.specs.Machine.{raw_step, raw_less_than_step, raw_solidus_step};
+ghost use Rattle.html5reading.specs.Machine.{tag_name_end_step, end_name_step, switch_step, mark_step, mark_and_dash_step, step_at};
+ghost use Rattle.html5reading.specs.Characters.{exclamation_mark, solidus, less_than};
+ghost use Rattle.html5reading.specs.RawText.{texts, told_at_less_than, told_after_less_than, ends_name};
+ghost use Rattle.html5reading.specs.Reading.Here.{Tells};
+ghost use Rattle.html5reading.specs.Start.{begun, escaped, raw_of};
+ghost use Rattle.html5reading.specs.Start.Dashes.{NoDash, OneDash, TwoDashes};
+ghost use Rattle.html5reading.specs.Start.Open.{InRaw};
+ghost use Rattle.html5reading.specs.Start.RawPlace.{AfterMark, InSwitch};
+ghost use Rattle.html5partial.specs.CurrentTag.{last_name_of, opened_of};
 ghost use Rattle.html5states.specs.Telling.{Emits, Reads};
 
 use crate::teller::Teller;
 use html5ever_interface::interface::sink::TokenSink;
 use html5ever_interface::interface::token::{TagKind, Token};
 use html5ever_interface::states::{RawKind, ScriptEscapeKind, State};
-use html5opened::characters::{ends_name, is_letter};
-use html5opened::error::TokenizerError;
-use html5opened::letters::{clear_letters, end_tag_name, push_letter, switched};
-use html5opened::opened::{Opened, Progress, Step};
+use html5partial::characters::{ends_name, is_letter};
+use html5partial::error::TokenizerError;
+use html5partial::letters::{clear_letters, end_tag_name, push_letter, switched};
+use html5partial::opened::{Opened, Progress, Step};
 use std::alloc::Allocator;
 
 impl<S: TokenSink<Token<A>>, A: Allocator + Copy> Teller<'_, S, A> {

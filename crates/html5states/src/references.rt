@@ -4,12 +4,12 @@
 ghost use Rattle.std.specs.Prelude.{◌≡◌, ◌≤◌, ◌||◌, ◌&&◌, ℕ, ◌+◌, ◌∷◌, ◌++◌, true, not, All, Option, Some, None, IfOk, OnOk, nat_lt, length};
 ghost use Rattle.std.specs.Str.{IsAscii};
 ghost use Rattle.html5ever_interface.specs.Token.Told.{Error};
-ghost use Rattle.html5grammar.specs.Characters.{number_sign, semicolon};
-ghost use Rattle.html5grammar.specs.ErrorText.{where_true};
-ghost use Rattle.html5grammar.specs.Reference.{number_reference, named_reference, no_name, is_number, has_digits, number_value, invalid_number, unended_number, without_digits, semicolon_len, longest_name, is_ended, ends_number, in_value, text_in, opened_in, late_tokens, opened_after};
-ghost use Rattle.html5grammar.specs.Slice.{tokens_of_late};
-ghost use Rattle.html5opened.specs.CharRef.{HasStand, stand_of, IsFound, more_of, decided, found_at};
-ghost use Rattle.html5opened.specs.CurrentTag.{opened_of, last_name_of};
+ghost use Rattle.html5reading.specs.Characters.{number_sign, semicolon};
+ghost use Rattle.html5reading.specs.ErrorText.{where_true};
+ghost use Rattle.html5reading.specs.Reference.{number_reference, named_reference, no_name, is_number, has_digits, number_value, invalid_number, unended_number, without_digits, semicolon_len, longest_name, is_ended, ends_number, in_value, text_in, opened_in, late_tokens, opened_after};
+ghost use Rattle.html5reading.specs.Slice.{tokens_of_late};
+ghost use Rattle.html5partial.specs.CharRef.{HasStand, stand_of, IsFound, more_of, decided, found_at};
+ghost use Rattle.html5partial.specs.CurrentTag.{opened_of, last_name_of};
 ghost use Rattle.html5states.specs.Telling.{Emits};
 
 use crate::teller::Teller;
@@ -17,13 +17,13 @@ use html5ever_interface::interface::message::FixedMessage;
 use html5ever_interface::interface::sink::TokenSink;
 use html5ever_interface::interface::token::Token;
 use html5ever_interface::states::State;
-use html5opened::char_ref::{CharRef, Found, has_digits, longest_name, number_value};
-use html5opened::error::TokenizerError;
-use html5opened::found::{
+use html5partial::char_ref::{CharRef, Found, has_digits, longest_name, number_value};
+use html5partial::error::TokenizerError;
+use html5partial::found::{
     afterwards, goes_on_with, invalid_number_message, is_ended, push_found, semicolon_len,
     text_of_found, unknown_name_message, without_digits,
 };
-use html5opened::opened::Opened;
+use html5partial::opened::Opened;
 use markup5ever::data::NamedReferences;
 use std::alloc::Allocator;
 
@@ -44,7 +44,7 @@ fn is_in_value<A: Allocator>(at: &Opened<A>) -> bool
 
 impl<S: TokenSink<Token<A>>, A: Allocator + Copy> Teller<'_, S, A> {
     // Sends the errors of a number, and answers what it comes to.
-    #[tactic(auto, using(crate::proofs::Tellings::tells_from_memory), unfolding(html5grammar::specs::Reference::number_reference, html5ever_interface::specs::Sink::stepped))]
+    #[tactic(auto, using(crate::proofs::Tellings::tells_from_memory), unfolding(html5reading::specs::Reference::number_reference, html5ever_interface::specs::Sink::stepped))]
     fn resolve_number(&mut self, number: &str, next: Option<char>) -> Result<Found, TokenizerError>
         requires { is_number number.now ≡ true }
         ensures emits { Emits S.means S.faults result self.old self.new
@@ -66,7 +66,7 @@ impl<S: TokenSink<Token<A>>, A: Allocator + Copy> Teller<'_, S, A> {
     }
 
     // Sends the error of a number that has no semicolon after it.
-    #[tactic(auto, using(crate::proofs::Tellings::tells_from_memory), unfolding(html5grammar::specs::Reference::unended_number, html5ever_interface::specs::Sink::stepped))]
+    #[tactic(auto, using(crate::proofs::Tellings::tells_from_memory), unfolding(html5reading::specs::Reference::unended_number, html5ever_interface::specs::Sink::stepped))]
     fn emit_unended_number(&mut self, next: Option<char>) -> Result<(), TokenizerError>
         ensures { Emits S.means S.faults result self.old self.new (unended_number next) }
     {
@@ -77,7 +77,7 @@ impl<S: TokenSink<Token<A>>, A: Allocator + Copy> Teller<'_, S, A> {
     }
 
     // Sends the error of a number that no character should have, if it is one.
-    #[tactic(auto, using(crate::proofs::Tellings::tells_from_memory), unfolding(html5grammar::specs::Reference::invalid_number, html5ever_interface::specs::Sink::stepped))]
+    #[tactic(auto, using(crate::proofs::Tellings::tells_from_memory), unfolding(html5reading::specs::Reference::invalid_number, html5ever_interface::specs::Sink::stepped))]
     fn emit_invalid_number(&mut self, is_invalid: bool, low_bits: u32) -> Result<(), TokenizerError>
         ensures { Emits S.means S.faults result self.old self.new
             (where_true is_invalid (Error (invalid_number self.old.exact_errors low_bits))) }
@@ -92,7 +92,7 @@ impl<S: TokenSink<Token<A>>, A: Allocator + Copy> Teller<'_, S, A> {
     }
 
     // Sends the errors of a name, and answers what it comes to.
-    #[tactic(auto, using(crate::proofs::Tellings::tells_from_memory), unfolding(html5grammar::specs::Reference::named_reference, html5ever_interface::specs::Sink::stepped))]
+    #[tactic(auto, using(crate::proofs::Tellings::tells_from_memory), unfolding(html5reading::specs::Reference::named_reference, html5ever_interface::specs::Sink::stepped))]
     fn resolve_name(
         &mut self,
         names: &NamedReferences<A>,
@@ -125,7 +125,7 @@ impl<S: TokenSink<Token<A>>, A: Allocator + Copy> Teller<'_, S, A> {
     }
 
     // Sends the error of letters and digits, up to a semicolon, that no name begins.
-    #[tactic(auto, using(crate::proofs::Tellings::tells_from_memory), unfolding(html5grammar::specs::Reference::no_name, html5ever_interface::specs::Sink::stepped))]
+    #[tactic(auto, using(crate::proofs::Tellings::tells_from_memory), unfolding(html5reading::specs::Reference::no_name, html5ever_interface::specs::Sink::stepped))]
     fn emit_unknown_name(&mut self, held: &str, next: Option<char>) -> Result<(), TokenizerError>
         requires { IsAscii held.now }
         ensures { Emits S.means S.faults result self.old self.new

@@ -1,10 +1,10 @@
 //! One character, in the state that is open.
-#![tactic(auto, unfolding(html5grammar::specs::Machine::step_at, html5grammar::specs::Machine::tag_step, html5grammar::specs::Machine::raw_place_step, html5opened::specs::Steps::tokens_of, html5opened::specs::Steps::afterwards, html5ever_interface::specs::Sink::stepped))]
+#![tactic(auto, unfolding(html5reading::specs::Machine::step_at, html5reading::specs::Machine::tag_step, html5reading::specs::Machine::raw_place_step, html5partial::specs::Steps::tokens_of, html5partial::specs::Steps::afterwards, html5ever_interface::specs::Sink::stepped))]
 
-ghost use Rattle.html5grammar.specs.Machine.{step_at};
+ghost use Rattle.html5reading.specs.Machine.{step_at};
 ghost use Rattle.std.specs.Prelude.{◌≡◌, false};
-ghost use Rattle.html5grammar.specs.Start.{is_undecided_open};
-ghost use Rattle.html5opened.specs.CurrentTag.{opened_of};
+ghost use Rattle.html5reading.specs.Start.{is_undecided_open};
+ghost use Rattle.html5partial.specs.CurrentTag.{opened_of};
 ghost use Rattle.html5states.specs.Telling.{Reads};
 
 use crate::teller::Teller;
@@ -12,8 +12,8 @@ use html5ever_interface::interface::sink::TokenSink;
 use html5ever_interface::interface::token::Token;
 use html5ever_interface::states::AttrValueKind::Unquoted;
 use html5ever_interface::states::State;
-use html5opened::doctypes::is_doctype_state;
-use html5opened::opened::{Opened, Step};
+use html5partial::doctypes::is_doctype_state;
+use html5partial::opened::{Opened, Step};
 use std::alloc::Allocator;
 
 impl<S: TokenSink<Token<A>>, A: Allocator + Copy> Teller<'_, S, A> {

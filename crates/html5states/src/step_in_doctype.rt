@@ -1,10 +1,10 @@
 //! One character of a DOCTYPE, in the state that is open.
-#![tactic(auto, using(crate::proofs::Tellings::tells_from_memory), unfolding(html5grammar::specs::Machine::step_at, html5grammar::specs::Machine::doctype_step, html5opened::specs::Steps::tokens_of, html5opened::specs::Steps::afterwards, html5ever_interface::specs::Sink::stepped))]
+#![tactic(auto, using(crate::proofs::Tellings::tells_from_memory), unfolding(html5reading::specs::Machine::step_at, html5reading::specs::Machine::doctype_step, html5partial::specs::Steps::tokens_of, html5partial::specs::Steps::afterwards, html5ever_interface::specs::Sink::stepped))]
 
 ghost use Rattle.std.specs.Prelude.{◌≡◌, true, false};
-ghost use Rattle.html5grammar.specs.Machine.{step_at};
-ghost use Rattle.html5grammar.specs.Start.{is_undecided_open};
-ghost use Rattle.html5opened.specs.CurrentTag.{is_doctype_state, opened_of};
+ghost use Rattle.html5reading.specs.Machine.{step_at};
+ghost use Rattle.html5reading.specs.Start.{is_undecided_open};
+ghost use Rattle.html5partial.specs.CurrentTag.{is_doctype_state, opened_of};
 ghost use Rattle.html5states.specs.Telling.{Reads};
 
 use crate::teller::Teller;
@@ -12,8 +12,8 @@ use html5ever_interface::interface::sink::TokenSink;
 use html5ever_interface::interface::token::Token;
 use html5ever_interface::states::DoctypeIdKind::{Public, System};
 use html5ever_interface::states::State;
-use html5opened::doctypes::Quotes;
-use html5opened::opened::{Opened, Step};
+use html5partial::doctypes::Quotes;
+use html5partial::opened::{Opened, Step};
 use std::alloc::Allocator;
 
 impl<S: TokenSink<Token<A>>, A: Allocator + Copy> Teller<'_, S, A> {

@@ -1,30 +1,30 @@
 //! The states within a tag, except those of values: one function for each.
-#![tactic(auto, using(crate::proofs::Tellings::tells_from_memory, crate::proofs::Tellings::tells_memory), unfolding(html5grammar::specs::Machine::tag_name_step, html5grammar::specs::Machine::part_step, html5grammar::specs::Machine::attribute_name_step, html5grammar::specs::Machine::after_attribute_name_step, html5grammar::specs::Tag::in_tag_name, html5grammar::specs::Tag::in_attribute_name, html5grammar::specs::Tag::place_error, html5grammar::specs::Tag::first_error, html5opened::specs::Steps::tokens_of, html5opened::specs::Steps::afterwards, html5ever_interface::specs::Sink::stepped))]
+#![tactic(auto, using(crate::proofs::Tellings::tells_from_memory, crate::proofs::Tellings::tells_memory), unfolding(html5reading::specs::Machine::tag_name_step, html5reading::specs::Machine::part_step, html5reading::specs::Machine::attribute_name_step, html5reading::specs::Machine::after_attribute_name_step, html5reading::specs::Tag::in_tag_name, html5reading::specs::Tag::in_attribute_name, html5reading::specs::Tag::place_error, html5reading::specs::Tag::first_error, html5partial::specs::Steps::tokens_of, html5partial::specs::Steps::afterwards, html5ever_interface::specs::Sink::stepped))]
 
 ghost use Rattle.std.specs.Prelude.{◌≡◌, ◌∷◌, [], ◌++◌, OnOk};
-ghost use Rattle.html5grammar.specs.Machine.{told_first, tag_name_step, attribute_name_step};
-ghost use Rattle.html5grammar.specs.Machine.{after_attribute_name_step, part_step};
-ghost use Rattle.html5grammar.specs.ErrorText.{error_in, where_true};
-ghost use Rattle.html5grammar.specs.Start.Place.{BeforeAttribute, AfterSolidus};
-ghost use Rattle.html5grammar.specs.Tag.{is_odd_at_name, duplicate_error};
-ghost use Rattle.html5grammar.specs.Tag.{with_last_attribute, with_last_name};
-ghost use Rattle.html5opened.specs.CurrentTag.{open_tag, last_name_of};
+ghost use Rattle.html5reading.specs.Machine.{told_first, tag_name_step, attribute_name_step};
+ghost use Rattle.html5reading.specs.Machine.{after_attribute_name_step, part_step};
+ghost use Rattle.html5reading.specs.ErrorText.{error_in, where_true};
+ghost use Rattle.html5reading.specs.Start.Place.{BeforeAttribute, AfterSolidus};
+ghost use Rattle.html5reading.specs.Tag.{is_odd_at_name, duplicate_error};
+ghost use Rattle.html5reading.specs.Tag.{with_last_attribute, with_last_name};
+ghost use Rattle.html5partial.specs.CurrentTag.{open_tag, last_name_of};
 ghost use Rattle.html5states.specs.Telling.{Emits, Reads};
 
 use crate::teller::Teller;
 use html5ever_interface::interface::sink::TokenSink;
 use html5ever_interface::interface::token::Token;
 use html5ever_interface::states::State;
-use html5opened::characters::{is_odd_at_name, is_odd_in_name, is_white_space};
-use html5opened::current_tag::{CurrentTag, push_name};
-use html5opened::error::TokenizerError;
-use html5opened::opened::{Opened, Progress, Step};
+use html5partial::characters::{is_odd_at_name, is_odd_in_name, is_white_space};
+use html5partial::current_tag::{CurrentTag, push_name};
+use html5partial::error::TokenizerError;
+use html5partial::opened::{Opened, Progress, Step};
 use std::alloc::Allocator;
 
 impl<S: TokenSink<Token<A>>, A: Allocator + Copy> Teller<'_, S, A> {
     /// The standard's "Tag name state".
     #[inline(always)]
-    #[tactic(auto, using(crate::proofs::Tellings::tells_from_memory, crate::proofs::Tellings::tells_memory), unfolding(html5grammar::specs::Machine::tag_name_step, html5grammar::specs::Tag::in_tag_name, html5opened::specs::Steps::tokens_of, html5opened::specs::Steps::afterwards, html5ever_interface::specs::Sink::stepped))]
+    #[tactic(auto, using(crate::proofs::Tellings::tells_from_memory, crate::proofs::Tellings::tells_memory), unfolding(html5reading::specs::Machine::tag_name_step, html5reading::specs::Tag::in_tag_name, html5partial::specs::Steps::tokens_of, html5partial::specs::Steps::afterwards, html5ever_interface::specs::Sink::stepped))]
     pub fn tag_name_state(&mut self, at: &mut Opened<A>, c: char) -> Step
         requires { at.old.state ≡ State.TagName }
         ensures { Reads S.means S.faults result self.old self.new
@@ -65,7 +65,7 @@ impl<S: TokenSink<Token<A>>, A: Allocator + Copy> Teller<'_, S, A> {
     }
 
     /// The standard's "Attribute name state".
-    #[tactic(auto, using(crate::proofs::Tellings::tells_from_memory, crate::proofs::Tellings::tells_memory), unfolding(html5grammar::specs::Machine::attribute_name_step, html5grammar::specs::Tag::in_attribute_name, html5opened::specs::Steps::tokens_of, html5opened::specs::Steps::afterwards, html5ever_interface::specs::Sink::stepped))]
+    #[tactic(auto, using(crate::proofs::Tellings::tells_from_memory, crate::proofs::Tellings::tells_memory), unfolding(html5reading::specs::Machine::attribute_name_step, html5reading::specs::Tag::in_attribute_name, html5partial::specs::Steps::tokens_of, html5partial::specs::Steps::afterwards, html5ever_interface::specs::Sink::stepped))]
     pub fn attribute_name_state(&mut self, at: &mut Opened<A>, c: char) -> Step
         requires { at.old.state ≡ State.AttributeName }
         ensures { Reads S.means S.faults result self.old self.new

@@ -3,7 +3,7 @@
 
 ghost use Rattle.std.specs.Prelude.{◌≡◌, ◌≢◌, List, ◌∷◌, [], false, IfOk, encode_utf8, string_bytes};
 ghost use Rattle.html5ever_interface.specs.Message.{fixed_text, message_bytes};
-ghost use Rattle.html5grammar.specs.ErrorText.{error_in, end_error_in, where_true, bad_character_error};
+ghost use Rattle.html5reading.specs.ErrorText.{error_in, end_error_in, where_true, bad_character_error};
 ghost use Rattle.html5ever_interface.specs.Sink.{Message};
 ghost use Rattle.html5ever_interface.specs.Token.{Told, told_by, tag_of, reply_of, is_tag};
 ghost use Rattle.html5ever_interface.specs.Token.Told.{Text, Error};
@@ -13,8 +13,8 @@ use html5ever_interface::interface::message::{ErrorMessage, FixedMessage};
 use html5ever_interface::interface::sink::TokenSink;
 use html5ever_interface::interface::token::{SinkFault, Tag, TextFault, Token, TokenSinkResult};
 use html5ever_interface::states::State;
-use html5opened::error::TokenizerError;
-use html5opened::message::{bad_character_message, is_bad, saw_end_message, saw_message};
+use html5partial::error::TokenizerError;
+use html5partial::message::{bad_character_message, is_bad, saw_end_message, saw_message};
 use std::alloc::Allocator;
 
 /// The sink, the line of what it is sent, and whether errors are exact.

@@ -1,23 +1,23 @@
 //! The states between tags, and those that a `<` opens, one function for each.
-#![tactic(auto, using(crate::proofs::Tellings::tells_from_memory), unfolding(html5grammar::specs::Machine::step_at, html5grammar::specs::Machine::data_step, html5grammar::specs::Machine::less_than_step, html5grammar::specs::Machine::solidus_step, html5grammar::specs::Text::plain_text, html5opened::specs::Steps::tokens_of, html5opened::specs::Steps::afterwards, html5ever_interface::specs::Sink::stepped))]
+#![tactic(auto, using(crate::proofs::Tellings::tells_from_memory), unfolding(html5reading::specs::Machine::step_at, html5reading::specs::Machine::data_step, html5reading::specs::Machine::less_than_step, html5reading::specs::Machine::solidus_step, html5reading::specs::Text::plain_text, html5partial::specs::Steps::tokens_of, html5partial::specs::Steps::afterwards, html5ever_interface::specs::Sink::stepped))]
 
 ghost use Rattle.std.specs.Prelude.{◌≡◌, ◌∷◌, [], ◌==◌, codes, encode_utf8, if◌then◌else◌};
-ghost use Rattle.html5grammar.specs.Characters.{null, replacement_character};
+ghost use Rattle.html5reading.specs.Characters.{null, replacement_character};
 ghost use Rattle.html5ever_interface.specs.Token.Told.{Text, Null};
-ghost use Rattle.html5grammar.specs.Machine.{step_at, tag_name_step, data_step};
-ghost use Rattle.html5grammar.specs.ErrorText.{error_in};
-ghost use Rattle.html5grammar.specs.Start.{begun};
-ghost use Rattle.html5grammar.specs.Start.Mode.{Data, Plain};
-ghost use Rattle.html5grammar.specs.Start.Open.{Between, LessThan, LessThanSolidus};
+ghost use Rattle.html5reading.specs.Machine.{step_at, tag_name_step, data_step};
+ghost use Rattle.html5reading.specs.ErrorText.{error_in};
+ghost use Rattle.html5reading.specs.Start.{begun};
+ghost use Rattle.html5reading.specs.Start.Mode.{Data, Plain};
+ghost use Rattle.html5reading.specs.Start.Open.{Between, LessThan, LessThanSolidus};
 ghost use Rattle.html5states.specs.Telling.{Emits, Reads};
 
 use crate::teller::Teller;
 use html5ever_interface::interface::sink::TokenSink;
 use html5ever_interface::interface::token::{TagKind, Token};
 use html5ever_interface::states::State;
-use html5opened::characters::is_letter;
-use html5opened::error::TokenizerError;
-use html5opened::opened::{Opened, Progress, Step};
+use html5partial::characters::is_letter;
+use html5partial::error::TokenizerError;
+use html5partial::opened::{Opened, Progress, Step};
 use std::alloc::Allocator;
 
 impl<S: TokenSink<Token<A>>, A: Allocator + Copy> Teller<'_, S, A> {

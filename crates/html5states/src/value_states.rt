@@ -1,22 +1,22 @@
 //! The states of an attribute's value, one function for each.
-#![tactic(auto, using(crate::proofs::Tellings::tells_from_memory), unfolding(html5grammar::specs::Machine::before_value_step, html5grammar::specs::Machine::quoted_step, html5grammar::specs::Machine::unquoted_step, html5grammar::specs::Machine::part_step, html5grammar::specs::Tag::in_quoted, html5grammar::specs::Tag::in_unquoted, html5grammar::specs::Tag::unquoted_error, html5grammar::specs::Tag::place_error, html5opened::specs::Steps::tokens_of, html5opened::specs::Steps::afterwards, html5ever_interface::specs::Sink::stepped))]
+#![tactic(auto, using(crate::proofs::Tellings::tells_from_memory), unfolding(html5reading::specs::Machine::before_value_step, html5reading::specs::Machine::quoted_step, html5reading::specs::Machine::unquoted_step, html5reading::specs::Machine::part_step, html5reading::specs::Tag::in_quoted, html5reading::specs::Tag::in_unquoted, html5reading::specs::Tag::unquoted_error, html5reading::specs::Tag::place_error, html5partial::specs::Steps::tokens_of, html5partial::specs::Steps::afterwards, html5ever_interface::specs::Sink::stepped))]
 
 ghost use Rattle.std.specs.Prelude.{◌≡◌, ◌∷◌, [], false};
-ghost use Rattle.html5grammar.specs.Machine.{closing_step, before_value_step, quoted_step};
-ghost use Rattle.html5grammar.specs.Machine.{unquoted_step, part_step};
-ghost use Rattle.html5grammar.specs.Characters.{equals_sign};
-ghost use Rattle.html5grammar.specs.ErrorText.{error_in};
-ghost use Rattle.html5grammar.specs.Start.Place.{AfterQuotedValue};
-ghost use Rattle.html5opened.specs.CurrentTag.{open_tag};
+ghost use Rattle.html5reading.specs.Machine.{closing_step, before_value_step, quoted_step};
+ghost use Rattle.html5reading.specs.Machine.{unquoted_step, part_step};
+ghost use Rattle.html5reading.specs.Characters.{equals_sign};
+ghost use Rattle.html5reading.specs.ErrorText.{error_in};
+ghost use Rattle.html5reading.specs.Start.Place.{AfterQuotedValue};
+ghost use Rattle.html5partial.specs.CurrentTag.{open_tag};
 ghost use Rattle.html5states.specs.Telling.{Reads};
 
 use crate::teller::Teller;
 use html5ever_interface::interface::sink::TokenSink;
 use html5ever_interface::interface::token::Token;
 use html5ever_interface::states::{AttrValueKind as Kind, State};
-use html5opened::characters::{is_unquoted_error, is_white_space, quote_of};
-use html5opened::current_tag::push_value;
-use html5opened::opened::{Opened, Progress, Step};
+use html5partial::characters::{is_unquoted_error, is_white_space, quote_of};
+use html5partial::current_tag::push_value;
+use html5partial::opened::{Opened, Progress, Step};
 use std::alloc::Allocator;
 
 impl<S: TokenSink<Token<A>>, A: Allocator + Copy> Teller<'_, S, A> {

@@ -4,11 +4,11 @@ use Rattle.std.specs.Str.{chars}
 use Rattle.html5ever_interface.specs.Options.{OptionsOf, default_options}
 use Rattle.html5ever_interface.specs.Sink.{Means, Message}
 use Rattle.html5ever_interface.specs.Token.{TagOf, Told}
-use Rattle.html5grammar.specs.Start.{start_of}
-use Rattle.html5grammar.specs.Reading.{all_messages}
-use Rattle.html5items.specs.Items.{Items, Composed}
-use Rattle.html5items.proofs.Completeness.{all-composed}
-use Rattle.html5items.proofs.Soundness.{reading-items}
+use Rattle.html5reading.specs.Start.{start_of}
+use Rattle.html5reading.specs.Reading.{all_messages}
+use Rattle.html5grammar.specs.Items.{Items, Composed}
+use Rattle.html5grammar.proofs.Completeness.{all-composed}
+use Rattle.html5grammar.proofs.Soundness.{reading-items}
 use Rattle.html5ever.specs.Tokenizer.{rules_of}
 use Rattle.html5ever.proofs.ByItems.{whole-items}
 use Rattle.html5stream.specs.Pages.{ReadsPage, ReadsPageItems, tags_means, runs_means, tags_start, runs_start, TagsItems, RunsItems, tags_page, runs_page, tags_handed, runs_handed, tags_after, runs_after}

@@ -6,8 +6,8 @@ use Rattle.markup5ever.specs.NamedReferences.{NamedReference}
 use Rattle.html5ever_interface.specs.Options.{OptionsOf, default_options}
 use Rattle.html5ever_interface.specs.Sink.{Means, Message, stepped}
 use Rattle.html5ever_interface.specs.Token.{TagOf, Told}
-use Rattle.html5grammar.specs.Reading.{all_messages}
-use Rattle.html5grammar.specs.Start.{start_of}
+use Rattle.html5reading.specs.Reading.{all_messages}
+use Rattle.html5reading.specs.Start.{start_of}
 use Rattle.html5states.specs.Telling.{StopsWithin}
 use Rattle.html5ever.specs.Tokenizer.{rules_of}
 use Rattle.html5sinks.specs.Tags.{Tagged}

@@ -2,8 +2,8 @@
 use Rattle.std.proofs.Common.{◌≡◌, ◌≢◌, ℕ, List, ap, refl}
 use Rattle.html5ever_interface.specs.Sink.{Means, Message}
 use Rattle.html5ever.specs.Tokenizer.{EndStops}
-use Rattle.html5opened.specs.declared.error.TokenizerError.{TokenizerError}
-use Rattle.html5opened.specs.declared.error.TokenizerError.TheVariants.{Memory, Sink, Failed}
+use Rattle.html5partial.specs.declared.error.TokenizerError.{TokenizerError}
+use Rattle.html5partial.specs.declared.error.TokenizerError.TheVariants.{Memory, Sink, Failed}
 use Rattle.utf8_pieces.specs.declared.error.DecodeError.{DecodeError}
 use Rattle.utf8_pieces.specs.declared.error.DecodeError.TheVariants as decoder
 use Rattle.html5stream.specs.declared.error.StreamError.{StreamError}

@@ -15,10 +15,10 @@ use Rattle.utf8_pieces.proofs.Cuts.{no_text_within}
 use Rattle.utf8_pieces.proofs.Fronts.{IsCutCharacter-nil, IsNeverUtf8-after, IsValidUpTo-after, not_never}
 use Rattle.html5ever_interface.specs.Options.{OptionsOf}
 use Rattle.html5ever_interface.specs.Sink.{Means, Message, stepped}
-use Rattle.html5grammar.specs.Reading.{all_messages, state_after}
-use Rattle.html5grammar.specs.Start.{Start, start_of}
-use Rattle.html5opened.specs.declared.error.TokenizerError.{TokenizerError}
-use Rattle.html5opened.specs.declared.error.TokenizerError.TheVariants as tokenizer
+use Rattle.html5reading.specs.Reading.{all_messages, state_after}
+use Rattle.html5reading.specs.Start.{Start, start_of}
+use Rattle.html5partial.specs.declared.error.TokenizerError.{TokenizerError}
+use Rattle.html5partial.specs.declared.error.TokenizerError.TheVariants as tokenizer
 use Rattle.html5feed.specs.Feed.{told_beyond, told_at_end}
 use Rattle.html5states.specs.Telling.{StopsWithin}
 use Rattle.html5ever.specs.Tokenizer.{Tokenizing, StandsAt, ReadsOn, Finishes, StopsReading, StopsEnding, EndStops, rules_of, state_at_end}

@@ -6,9 +6,9 @@ use Rattle.markup5ever.specs.NamedReferences.{NamedReference}
 use Rattle.html5ever_interface.specs.Options.{default_options}
 use Rattle.html5ever_interface.specs.Sink.{Means, Message, stepped}
 use Rattle.html5ever_interface.specs.Token.{TagOf, Told}
-use Rattle.html5grammar.specs.Reading.{all_messages}
-use Rattle.html5grammar.specs.Start.{start_of}
-use Rattle.html5items.specs.Items.{Items}
+use Rattle.html5reading.specs.Reading.{all_messages}
+use Rattle.html5reading.specs.Start.{start_of}
+use Rattle.html5grammar.specs.Items.{Items}
 use Rattle.html5ever.specs.Tokenizer.{rules_of}
 use Rattle.html5sinks.specs.Replies.{standard_reply}
 use Rattle.html5sinks.specs.Tags.{Tagged, tags_step, tags_reply}

@@ -4,8 +4,8 @@ use Rattle.std.specs.Io.KnownBytes.{Consumes, IsAtEnd}
 use Rattle.std.specs.Str.{IsUtf8, chars}
 use Rattle.html5ever_interface.specs.Options.{OptionsOf}
 use Rattle.html5ever_interface.specs.Sink.{Means, Message, stepped}
-use Rattle.html5grammar.specs.Reading.{all_messages, state_after}
-use Rattle.html5grammar.specs.Start.{start_of}
+use Rattle.html5reading.specs.Reading.{all_messages, state_after}
+use Rattle.html5reading.specs.Start.{start_of}
 use Rattle.html5states.specs.Telling.{StopsWithin, FaultsWithin}
 use Rattle.html5ever.specs.Tokenizer.{rules_of, finished_reading, FinishedByItems}
 use Rattle.markup5ever.specs.NamedReferences.{NamedReference}

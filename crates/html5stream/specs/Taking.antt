@@ -3,8 +3,8 @@ use Rattle.std.specs.Prelude.{◌≡◌, ◌≢◌, ℕ, false, List, ◌++◌, 
 use Rattle.std.specs.Io.KnownBytes.{Consumes, IsAtEnd}
 use Rattle.std.specs.Str.{IsUtf8, chars}
 use Rattle.html5ever_interface.specs.Sink.{Means}
-use Rattle.html5grammar.specs.Reading.{all_messages, state_after}
-use Rattle.html5grammar.specs.Start.{Start}
+use Rattle.html5reading.specs.Reading.{all_messages, state_after}
+use Rattle.html5reading.specs.Start.{Start}
 use Rattle.html5ever.specs.Tokenizer.{Tokenizing, StandsAt, ReadsOn, ReadsWhole}
 use Rattle.utf8_pieces.specs.Pieces.{Decoding, IsCutCharacter, IsFault, IsNeverUtf8, place_after}
 use Rattle.utf8_pieces.specs.declared.error.DecodeError.TheVariants as decoder

@@ -7,22 +7,22 @@ use Rattle.std.proofs.lemmas.Bool.{and_parts, not-true, false≢true, eq-eqb, ne
 use Rattle.std.proofs.lemmas.List.{append_assoc, map-append}
 use Rattle.html5ever_interface.specs.Sink.{Means}
 use Rattle.html5ever_interface.specs.Token.Told.{Comment}
-use Rattle.html5grammar.specs.Characters.{null, carriage_return, hyphen, greater_than, value_bytes}
-use Rattle.html5grammar.specs.Comment.{ends_in, without_last}
-use Rattle.html5grammar.specs.NormalisedText.{input_after}
-use Rattle.html5grammar.specs.Start.{Input, Start, Rules}
-use Rattle.html5grammar.specs.Start.Mode.{Data}
-use Rattle.html5grammar.specs.Start.Open.{Between}
-use Rattle.html5grammar.specs.Tag.{null_error}
-use Rattle.html5grammar.proofs.TextEnds.{ends_in-front, ends_in-append, ends_in-push, ends_in-other}
-use Rattle.html5items.specs.Anywhere.{TellsByItself, start_beyond}
-use Rattle.html5items.specs.Comment.{IsComment, written, is_written, is_content, begins_with, occurs, after_mark_error, null_state, spell_content, messages_of}
-use Rattle.html5items.specs.Comment.Ending.{Dashes}
-use Rattle.html5items.specs.Comment.WrittenComment.{Proper}
-use Rattle.html5items.specs.Spelled.{Spelled, spell_silent, spelled_messages}
-use Rattle.html5items.proofs.ByItself.{trace-by_itself}
-use Rattle.html5items.proofs.Comment.Reading.{reads_comment}
-use Rattle.html5items.proofs.Tag.Values.{both-none}
+use Rattle.html5reading.specs.Characters.{null, carriage_return, hyphen, greater_than, value_bytes}
+use Rattle.html5reading.specs.Comment.{ends_in, without_last}
+use Rattle.html5reading.specs.NormalisedText.{input_after}
+use Rattle.html5reading.specs.Start.{Input, Start, Rules}
+use Rattle.html5reading.specs.Start.Mode.{Data}
+use Rattle.html5reading.specs.Start.Open.{Between}
+use Rattle.html5reading.specs.Tag.{null_error}
+use Rattle.html5reading.proofs.TextEnds.{ends_in-front, ends_in-append, ends_in-push, ends_in-other}
+use Rattle.html5grammar.specs.Anywhere.{TellsByItself, start_beyond}
+use Rattle.html5grammar.specs.Comment.{IsComment, written, is_written, is_content, begins_with, occurs, after_mark_error, null_state, spell_content, messages_of}
+use Rattle.html5grammar.specs.Comment.Ending.{Dashes}
+use Rattle.html5grammar.specs.Comment.WrittenComment.{Proper}
+use Rattle.html5grammar.specs.Spelled.{Spelled, spell_silent, spelled_messages}
+use Rattle.html5grammar.proofs.ByItself.{trace-by_itself}
+use Rattle.html5grammar.proofs.Comment.Reading.{reads_comment}
+use Rattle.html5grammar.proofs.Tag.Values.{both-none}
 use Rattle.html5write.specs.Pieces.{piece_text, is_comment_character, can_follow_dash, has_lone_dashes, can_begin_comment, can_write, has_no_null}
 use Rattle.html5write.specs.Pieces.Piece.{CommentPiece}
 use Rattle.html5write.specs.Told.{has_no_return, IsOpen, spell_end, spell_comment}

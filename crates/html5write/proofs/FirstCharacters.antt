@@ -5,7 +5,7 @@ use Rattle.std.specs.List.{list_all}
 use Rattle.std.specs.Str.{IsUtf8, chars}
 use Rattle.std.proofs.lemmas.Bool.{eq-eqb, ne_eqb}
 use Rattle.std.proofs.lemmas.Str.{chars_past_char, chars-nil}
-use Rattle.html5grammar.specs.Characters.{null, greater_than, hyphen, is_between}
+use Rattle.html5reading.specs.Characters.{null, greater_than, hyphen, is_between}
 use Rattle.html5write.specs.Pieces.{is_tag_name, is_name_character, is_attribute_name, is_attribute_character, can_begin_comment}
 use Rattle.html5write.specs.Refusals.{null_from}
 

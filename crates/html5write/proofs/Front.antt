@@ -3,9 +3,9 @@ use Rattle.std.proofs.Common.{◌≡◌, ℕ, true, false, List, [], ◌∷◌, 
 use Rattle.std.specs.Prelude.{not, ◌==◌}
 use Rattle.std.proofs.Math.Bool.{and-false}
 use Rattle.std.proofs.lemmas.Bool.{and_parts, not-true}
-use Rattle.html5grammar.specs.Characters.{less_than, carriage_return}
-use Rattle.html5grammar.specs.NormalisedText.{normalised, without_dropped_first, with_line_feeds, input_after, ends_with_carriage_return}
-use Rattle.html5grammar.specs.Start.{Input}
+use Rattle.html5reading.specs.Characters.{less_than, carriage_return}
+use Rattle.html5reading.specs.NormalisedText.{normalised, without_dropped_first, with_line_feeds, input_after, ends_with_carriage_return}
+use Rattle.html5reading.specs.Start.{Input}
 use Rattle.html5write.specs.Told.{has_no_return}
 
 with_line_feeds-none : (text : List ℕ) → has_no_return text ≡ true → with_line_feeds false text ≡ text

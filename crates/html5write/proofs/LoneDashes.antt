@@ -1,7 +1,7 @@
 -- Dashes of a text, one character after another.
 use Rattle.std.proofs.Common.{◌≡◌, ℕ, Bool, true, false, List, [], ◌∷◌, refl}
 use Rattle.std.specs.Prelude.{◌==◌, ◌&&◌, ◌||◌, not}
-use Rattle.html5grammar.specs.Characters.{hyphen}
+use Rattle.html5reading.specs.Characters.{hyphen}
 use Rattle.html5write.specs.Pieces.{can_follow_dash, has_lone_dashes}
 
 -- whether the dashes of a text are lone, after a dash or not

@@ -5,10 +5,10 @@ use Rattle.std.specs.Char.{to_ascii_lowercase}
 use Rattle.std.specs.List.{list_all}
 use Rattle.std.proofs.lemmas.Bool.{and_parts, not-true}
 use Rattle.std.proofs.lemmas.Bool.Decides.{nat_tests}
-use Rattle.html5grammar.specs.Characters.{null, carriage_return, quotation_mark, apostrophe, solidus, less_than, equals_sign, greater_than, is_between, is_letter, is_white_space, name_bytes, shown}
-use Rattle.html5grammar.specs.Tag.{in_tag_name, in_attribute_name, is_odd_in_name, is_odd_at_name}
-use Rattle.html5items.specs.Tag.{begins_attribute}
-use Rattle.html5items.proofs.Tag.Values.{both-none}
+use Rattle.html5reading.specs.Characters.{null, carriage_return, quotation_mark, apostrophe, solidus, less_than, equals_sign, greater_than, is_between, is_letter, is_white_space, name_bytes, shown}
+use Rattle.html5reading.specs.Tag.{in_tag_name, in_attribute_name, is_odd_in_name, is_odd_at_name}
+use Rattle.html5grammar.specs.Tag.{begins_attribute}
+use Rattle.html5grammar.proofs.Tag.Values.{both-none}
 use Rattle.html5write.specs.Pieces.{is_capital, is_name_character, is_attribute_character, is_attribute_name}
 use Rattle.html5write.specs.Told.{has_no_return}
 

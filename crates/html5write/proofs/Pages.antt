@@ -4,16 +4,16 @@ use Rattle.std.specs.List.{list_all}
 use Rattle.std.proofs.lemmas.Bool.{and_parts}
 use Rattle.html5ever_interface.specs.Sink.{Means, Message, stepped, on_line}
 use Rattle.html5ever_interface.specs.Token.Told.{End}
-use Rattle.html5grammar.specs.EndOfInput.{late_at_end_of, open_at_end_of, told_at_end_of, tokens_at_end}
-use Rattle.html5grammar.specs.NormalisedText.{normalised, line_after, input_after}
-use Rattle.html5grammar.specs.Reading.{messages, told, all_messages, messages_so_far, start_after}
-use Rattle.html5grammar.specs.Start.{Input, Start, Rules}
-use Rattle.html5grammar.specs.Start.Mode.{Data}
-use Rattle.html5grammar.specs.Start.Open.{Between}
-use Rattle.html5grammar.proofs.InputLemmas.{input_after-append}
-use Rattle.html5grammar.proofs.ReadingLemmas.{reading-events, messages-at_end}
-use Rattle.html5grammar.proofs.Traces.{messages-append}
-use Rattle.html5items.specs.Anywhere.{TellsByItself, start_beyond}
+use Rattle.html5reading.specs.EndOfInput.{late_at_end_of, open_at_end_of, told_at_end_of, tokens_at_end}
+use Rattle.html5reading.specs.NormalisedText.{normalised, line_after, input_after}
+use Rattle.html5reading.specs.Reading.{messages, told, all_messages, messages_so_far, start_after}
+use Rattle.html5reading.specs.Start.{Input, Start, Rules}
+use Rattle.html5reading.specs.Start.Mode.{Data}
+use Rattle.html5reading.specs.Start.Open.{Between}
+use Rattle.html5reading.proofs.InputLemmas.{input_after-append}
+use Rattle.html5reading.proofs.ReadingLemmas.{reading-events, messages-at_end}
+use Rattle.html5reading.proofs.Traces.{messages-append}
+use Rattle.html5grammar.specs.Anywhere.{TellsByItself, start_beyond}
 use Rattle.markup5ever.specs.NamedReferences.{IsTable}
 use Rattle.html5write.specs.Pieces.{Piece, piece_text, page_text, can_write}
 use Rattle.html5write.specs.Pieces.Piece.{TextPiece, StartTagPiece, EndTagPiece, CommentPiece}

@@ -6,11 +6,11 @@ use Rattle.std.proofs.lemmas.List.Concat.{flat_map-append}
 use Rattle.html5ever_interface.specs.Sink.{Message, on_line}
 use Rattle.html5ever_interface.specs.Token.{Told}
 use Rattle.html5ever_interface.specs.Token.Told.{Text, Error, End}
-use Rattle.html5grammar.specs.Characters.{greater_than}
-use Rattle.html5grammar.specs.ErrorText.{where_true, bad_character_error}
-use Rattle.html5grammar.specs.NormalisedText.{line_after, input_after}
-use Rattle.html5grammar.specs.Start.{Input}
-use Rattle.html5items.specs.Spelled.{Spelled, spell_silent, spelled_messages}
+use Rattle.html5reading.specs.Characters.{greater_than}
+use Rattle.html5reading.specs.ErrorText.{where_true, bad_character_error}
+use Rattle.html5reading.specs.NormalisedText.{line_after, input_after}
+use Rattle.html5reading.specs.Start.{Input}
+use Rattle.html5grammar.specs.Spelled.{Spelled, spell_silent, spelled_messages}
 use Rattle.html5write.specs.Escaped.{escaped}
 use Rattle.html5write.specs.Pieces.{NameAndValue, Piece, piece_text}
 use Rattle.html5write.specs.Pieces.Piece.{TextPiece, StartTagPiece, EndTagPiece, CommentPiece}

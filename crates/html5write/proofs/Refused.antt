@@ -3,7 +3,7 @@ use Rattle.std.proofs.Common.{◌≡◌, ℕ, ◌+◌, Bool, true, false, List, 
 use Rattle.std.specs.Prelude.{◌==◌, ◌&&◌, not, encode_utf8, option_map, if◌then◌else◌}
 use Rattle.std.specs.List.{list_all}
 use Rattle.std.specs.Option.{option_or, is_none}
-use Rattle.html5grammar.specs.Characters.{null}
+use Rattle.html5reading.specs.Characters.{null}
 use Rattle.html5write.specs.declared.error.WriteError.{WriteError}
 use Rattle.html5write.specs.declared.error.WriteError.TheVariants.{NullInText, TagName, AttributeName, NullInValue, Repeated, CommentText}
 use Rattle.html5write.specs.Pieces.{NameAndValue, Piece, has_no_null, is_tag_name, is_attribute_name, is_attribute, is_comment_text, differs_from, are_distinct, can_write}

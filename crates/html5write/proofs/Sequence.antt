@@ -3,11 +3,11 @@ use Rattle.std.proofs.Common.{◌≡◌, ℕ, List, [], ◌++◌, ap, sym, ◌�
 use Rattle.std.proofs.lemmas.List.{append_assoc, append-nil}
 use Rattle.html5ever_interface.specs.Sink.{Means, Message, stepped}
 use Rattle.html5ever_interface.proofs.Steppings.{stepped-append}
-use Rattle.html5items.specs.Anywhere.{TellsBefore, TellsByItself}
-use Rattle.html5items.proofs.ByItself.{tells-before}
-use Rattle.html5grammar.specs.Reading.{messages_so_far, start_after}
-use Rattle.html5grammar.specs.Start.{Start, Rules}
-use Rattle.html5grammar.proofs.ReadingLemmas.{told-nil, after-nil}
+use Rattle.html5grammar.specs.Anywhere.{TellsBefore, TellsByItself}
+use Rattle.html5grammar.proofs.ByItself.{tells-before}
+use Rattle.html5reading.specs.Reading.{messages_so_far, start_after}
+use Rattle.html5reading.specs.Start.{Start, Rules}
+use Rattle.html5reading.proofs.ReadingLemmas.{told-nil, after-nil}
 
 module _ {X S H : Type 0} (means : Means X S H) (rules : Rules) where
   -- where no text stands before the item

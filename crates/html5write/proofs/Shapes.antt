@@ -6,13 +6,13 @@ use Rattle.std.proofs.lemmas.Bool.{and_parts, false≢true}
 use Rattle.std.proofs.lemmas.List.{append_assoc}
 use Rattle.html5ever_interface.specs.declared.interface.token.TagKind.{TagKind}
 use Rattle.html5ever_interface.specs.declared.interface.token.TagKind.TheVariants.{StartTag, EndTag}
-use Rattle.html5grammar.specs.Characters.{space, is_white_space}
-use Rattle.html5grammar.specs.Start.{Place}
-use Rattle.html5grammar.specs.Start.Place.{InName, BeforeAttribute, AfterQuotedValue}
-use Rattle.html5items.specs.Tag.{Part, WrittenTag, part_text, written, is_written, can_follow, place_after_parts, end_error}
-use Rattle.html5items.specs.Tag.Part.{Blank, Solidus, Attribute}
-use Rattle.html5items.specs.Tag.Value.{InDoubleQuotes}
-use Rattle.html5grammar.specs.Tag.{is_after_solidus}
+use Rattle.html5reading.specs.Characters.{space, is_white_space}
+use Rattle.html5reading.specs.Start.{Place}
+use Rattle.html5reading.specs.Start.Place.{InName, BeforeAttribute, AfterQuotedValue}
+use Rattle.html5grammar.specs.Tag.{Part, WrittenTag, part_text, written, is_written, can_follow, place_after_parts, end_error}
+use Rattle.html5grammar.specs.Tag.Part.{Blank, Solidus, Attribute}
+use Rattle.html5grammar.specs.Tag.Value.{InDoubleQuotes}
+use Rattle.html5reading.specs.Tag.{is_after_solidus}
 use Rattle.html5write.specs.Escaped.{escaped_text}
 use Rattle.html5write.specs.Pieces.{NameAndValue, piece_text, attribute_text, is_tag_name, is_name_character, is_attribute_name, is_attribute_character, is_attribute, has_no_null}
 use Rattle.html5write.specs.Pieces.Piece.{StartTagPiece, EndTagPiece}

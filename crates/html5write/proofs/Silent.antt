@@ -7,10 +7,10 @@ use Rattle.std.proofs.lemmas.List.{append_assoc, map-append}
 use Rattle.html5ever_interface.specs.Sink.{Message, on_line}
 use Rattle.html5ever_interface.specs.Token.{Told}
 use Rattle.html5ever_interface.specs.Token.Told.{Text, End}
-use Rattle.html5grammar.specs.Characters.{carriage_return}
-use Rattle.html5grammar.specs.NormalisedText.{line_after, input_after}
-use Rattle.html5grammar.specs.Start.{Input}
-use Rattle.html5items.specs.Spelled.{Spelled, spell_silent, spelled_messages}
+use Rattle.html5reading.specs.Characters.{carriage_return}
+use Rattle.html5reading.specs.NormalisedText.{line_after, input_after}
+use Rattle.html5reading.specs.Start.{Input}
+use Rattle.html5grammar.specs.Spelled.{Spelled, spell_silent, spelled_messages}
 use Rattle.html5write.specs.Escaped.{escaped}
 use Rattle.html5write.specs.Pieces.{NameAndValue, Piece, piece_text}
 use Rattle.html5write.specs.Pieces.Piece.{TextPiece, StartTagPiece, EndTagPiece, CommentPiece}

@@ -7,17 +7,17 @@ use Rattle.html5ever_interface.specs.Sink.{Means, Message}
 use Rattle.html5ever_interface.specs.Token.{TagOf}
 use Rattle.html5ever_interface.specs.Token.Reply.{KeepOn}
 use Rattle.html5ever_interface.specs.declared.interface.token.TagKind.TheVariants.{StartTag, EndTag}
-use Rattle.html5grammar.specs.Characters.{greater_than}
-use Rattle.html5grammar.specs.NormalisedText.{input_after}
-use Rattle.html5grammar.specs.Reading.{last_after, open_after_reply}
-use Rattle.html5grammar.specs.Start.{Input, Start, Rules}
-use Rattle.html5grammar.specs.Start.Mode.{Data}
-use Rattle.html5grammar.specs.Start.Open.{Between}
-use Rattle.html5items.specs.Anywhere.{TellsByItself, start_beyond, last_reply}
-use Rattle.html5items.specs.Spelled.{Spelled, spelled_messages}
-use Rattle.html5items.specs.Tag.{WrittenTag, body, end_errors, tag_told, spelled, IsTag}
-use Rattle.html5items.proofs.LastReply.{last_reply-keeps}
-use Rattle.html5items.proofs.Tag.Parts.{tag-by_itself}
+use Rattle.html5reading.specs.Characters.{greater_than}
+use Rattle.html5reading.specs.NormalisedText.{input_after}
+use Rattle.html5reading.specs.Reading.{last_after, open_after_reply}
+use Rattle.html5reading.specs.Start.{Input, Start, Rules}
+use Rattle.html5reading.specs.Start.Mode.{Data}
+use Rattle.html5reading.specs.Start.Open.{Between}
+use Rattle.html5grammar.specs.Anywhere.{TellsByItself, start_beyond, last_reply}
+use Rattle.html5grammar.specs.Spelled.{Spelled, spelled_messages}
+use Rattle.html5grammar.specs.Tag.{WrittenTag, body, end_errors, tag_told, spelled, IsTag}
+use Rattle.html5grammar.proofs.LastReply.{last_reply-keeps}
+use Rattle.html5grammar.proofs.Tag.Parts.{tag-by_itself}
 use Rattle.markup5ever.specs.NamedReferences.{IsTable}
 use Rattle.html5write.specs.Escaped.{escaped_text}
 use Rattle.html5write.specs.Pieces.{NameAndValue, piece_text, attribute_text, is_tag_name, is_attribute_name, is_attribute, has_no_null, are_distinct, can_write}

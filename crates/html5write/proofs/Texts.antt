@@ -6,21 +6,21 @@ use Rattle.std.proofs.lemmas.Bool.{and_parts, not-true}
 use Rattle.std.proofs.lemmas.List.{append-nil}
 use Rattle.html5ever_interface.specs.Sink.{Means, Message, stepped, on_line}
 use Rattle.html5ever_interface.specs.Token.Told.{Text}
-use Rattle.html5items.specs.Anywhere.{TellsByItself, start_beyond, errors_within, messages_within}
-use Rattle.html5items.specs.Reference.{written, IsReference, reference_characters}
-use Rattle.html5items.specs.Reference.WrittenReference.{Number}
-use Rattle.html5items.proofs.ByItself.{trace-by_itself}
-use Rattle.html5items.proofs.Reference.Within.{number-by_itself}
-use Rattle.html5grammar.specs.Characters.{null, is_bad_character, is_no_character}
-use Rattle.html5grammar.specs.ErrorText.{bad_character_error}
-use Rattle.html5grammar.specs.Machine.{brought_at, step_at, data_step}
-use Rattle.html5grammar.specs.NormalisedText.{normalised, without_dropped_first, with_line_feeds, line_after, input_after, ends_with_carriage_return}
-use Rattle.html5grammar.specs.Reference.{character_of_number, is_invalid_number}
-use Rattle.html5grammar.specs.Start.{Input, Start, Rules}
-use Rattle.html5grammar.specs.Start.Mode.{Data}
-use Rattle.html5grammar.specs.Start.Open.{Between}
-use Rattle.html5grammar.proofs.InputLemmas.{line_past, line_after-past, input_after-append}
-use Rattle.html5grammar.proofs.Traces.{trace, trace_brought, trace_here}
+use Rattle.html5grammar.specs.Anywhere.{TellsByItself, start_beyond, errors_within, messages_within}
+use Rattle.html5grammar.specs.Reference.{written, IsReference, reference_characters}
+use Rattle.html5grammar.specs.Reference.WrittenReference.{Number}
+use Rattle.html5grammar.proofs.ByItself.{trace-by_itself}
+use Rattle.html5grammar.proofs.Reference.Within.{number-by_itself}
+use Rattle.html5reading.specs.Characters.{null, is_bad_character, is_no_character}
+use Rattle.html5reading.specs.ErrorText.{bad_character_error}
+use Rattle.html5reading.specs.Machine.{brought_at, step_at, data_step}
+use Rattle.html5reading.specs.NormalisedText.{normalised, without_dropped_first, with_line_feeds, line_after, input_after, ends_with_carriage_return}
+use Rattle.html5reading.specs.Reference.{character_of_number, is_invalid_number}
+use Rattle.html5reading.specs.Start.{Input, Start, Rules}
+use Rattle.html5reading.specs.Start.Mode.{Data}
+use Rattle.html5reading.specs.Start.Open.{Between}
+use Rattle.html5reading.proofs.InputLemmas.{line_past, line_after-past, input_after-append}
+use Rattle.html5reading.proofs.Traces.{trace, trace_brought, trace_here}
 use Rattle.markup5ever.specs.C1.{character_of_c1}
 use Rattle.html5write.specs.Escaped.{reference_of, escaped, escaped_text}
 use Rattle.html5write.specs.Pieces.{has_no_null}

@@ -9,13 +9,13 @@ use Rattle.html5ever_interface.specs.Token.Told.{Tag}
 use Rattle.html5ever_interface.specs.declared.interface.token.TagKind.{TagKind}
 use Rattle.html5ever_interface.specs.declared.interface.token.TagKind.TheVariants.{StartTag, EndTag}
 use Rattle.html5ever_interface.specs.declared.states.State.TheVariants as state
-use Rattle.html5grammar.specs.Characters.{is_white_space, greater_than}
-use Rattle.html5grammar.specs.Start.{Rules}
-use Rattle.html5grammar.specs.Start.Place.{InName, BeforeAttribute, AfterQuotedValue}
-use Rattle.html5grammar.specs.Tag.{attribute, has_attribute, null_error, attribute_name_error, place_error, first_error, end_tag_errors}
-use Rattle.html5items.specs.Spelled.{Spelled, spell, spell_silent}
-use Rattle.html5items.specs.Tag.{Part, WrittenTag, attributes_with, attributes_with_parts, repeats, has_repeated, kept, spell_part, spell_parts, place_after_parts, end_errors, tag_told, opening, spelled}
-use Rattle.html5items.proofs.Tag.Values.{both-none}
+use Rattle.html5reading.specs.Characters.{is_white_space, greater_than}
+use Rattle.html5reading.specs.Start.{Rules}
+use Rattle.html5reading.specs.Start.Place.{InName, BeforeAttribute, AfterQuotedValue}
+use Rattle.html5reading.specs.Tag.{attribute, has_attribute, null_error, attribute_name_error, place_error, first_error, end_tag_errors}
+use Rattle.html5grammar.specs.Spelled.{Spelled, spell, spell_silent}
+use Rattle.html5grammar.specs.Tag.{Part, WrittenTag, attributes_with, attributes_with_parts, repeats, has_repeated, kept, spell_part, spell_parts, place_after_parts, end_errors, tag_told, opening, spelled}
+use Rattle.html5grammar.proofs.Tag.Values.{both-none}
 use Rattle.markup5ever.specs.Names.{AttributeOf}
 use Rattle.html5write.specs.Escaped.{escaped_text}
 use Rattle.html5write.specs.Pieces.{NameAndValue, is_tag_name, is_name_character, is_attribute_name, is_attribute_character, is_attribute, has_no_null, differs_from, are_distinct}

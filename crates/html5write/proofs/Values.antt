@@ -5,11 +5,11 @@ use Rattle.std.specs.List.{list_all}
 use Rattle.std.proofs.lemmas.Bool.{and_parts, not-true}
 use Rattle.std.proofs.lemmas.List.Folds.{list_all-append}
 use Rattle.html5ever_interface.specs.declared.states.AttrValueKind.TheVariants.{DoubleQuoted}
-use Rattle.html5grammar.specs.Characters.{null, carriage_return, is_bad_character, is_no_character, value_bytes, shown}
-use Rattle.html5grammar.specs.Reference.{is_undecided, is_number, reference, number_reference, has_digits, number_value, unended_number, is_invalid_number, character_of_number}
-use Rattle.html5grammar.specs.Slice.{run_while, after_while}
-use Rattle.html5grammar.specs.Start.{Rules}
-use Rattle.html5items.specs.Tag.{decoded, is_in_value, shown_run, spell_run}
+use Rattle.html5reading.specs.Characters.{null, carriage_return, is_bad_character, is_no_character, value_bytes, shown}
+use Rattle.html5reading.specs.Reference.{is_undecided, is_number, reference, number_reference, has_digits, number_value, unended_number, is_invalid_number, character_of_number}
+use Rattle.html5reading.specs.Slice.{run_while, after_while}
+use Rattle.html5reading.specs.Start.{Rules}
+use Rattle.html5grammar.specs.Tag.{decoded, is_in_value, shown_run, spell_run}
 use Rattle.markup5ever.specs.C1.{character_of_c1}
 use Rattle.html5write.specs.Escaped.{reference_of, escaped, escaped_text}
 use Rattle.html5write.specs.Pieces.{has_no_null}

@@ -1,6 +1,6 @@
 -- Characters as they are written, so that they are read again as themselves.
 use Rattle.std.specs.Prelude.{ℕ, List, [], ◌∷◌, ◌==◌, codes, flat_map, Option, None, Some, if◌then◌else◌}
-use Rattle.html5grammar.specs.Characters.{carriage_return, quotation_mark, ampersand, less_than, greater_than, byte_order_mark}
+use Rattle.html5reading.specs.Characters.{carriage_return, quotation_mark, ampersand, less_than, greater_than, byte_order_mark}
 
 -- the reference that is written for a character that can't stand for itself: no table is needed to read it
 unfoldable pub reference_of : ℕ → Option (List ℕ)

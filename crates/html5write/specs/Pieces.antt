@@ -2,7 +2,7 @@
 use Rattle.std.specs.Prelude.{ℕ, Bool, true, false, not, List, [], ◌∷◌, ◌++◌, ◌==◌, ◌||◌, ◌&&◌, flat_map, codes, encode_utf8_all}
 use Rattle.std.specs.List.{list_all}
 use Rattle.std.specs.Str.{bytes_eq}
-use Rattle.html5grammar.specs.Characters.{null, carriage_return, quotation_mark, apostrophe, hyphen, solidus, less_than, equals_sign, greater_than, is_between, is_white_space}
+use Rattle.html5reading.specs.Characters.{null, carriage_return, quotation_mark, apostrophe, hyphen, solidus, less_than, equals_sign, greater_than, is_between, is_white_space}
 use Rattle.html5write.specs.Escaped.{escaped_text}
 
 -- an attribute

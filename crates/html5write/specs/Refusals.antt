@@ -1,7 +1,7 @@
 -- Why a piece can't be written.
 use Rattle.std.specs.Prelude.{ℕ, ◌+◌, List, [], ◌∷◌, ◌==◌, length, encode_utf8, Option, None, Some, option_map, if◌then◌else◌}
 use Rattle.std.specs.Option.{option_or}
-use Rattle.html5grammar.specs.Characters.{null}
+use Rattle.html5reading.specs.Characters.{null}
 use Rattle.html5write.specs.Pieces.{NameAndValue, Piece, is_tag_name, is_attribute_name, is_comment_text, differs_from}
 use Rattle.html5write.specs.Pieces.Piece.{TextPiece, StartTagPiece, EndTagPiece, CommentPiece}
 use Rattle.html5write.specs.declared.error.WriteError.{WriteError}

@@ -6,15 +6,15 @@ use Rattle.html5ever_interface.specs.Token.{Told, TagOf, Reply}
 use Rattle.html5ever_interface.specs.Token.Told.{Text, Error, Tag, Comment}
 use Rattle.html5ever_interface.specs.Token.Reply.{KeepOn}
 use Rattle.html5ever_interface.specs.declared.interface.token.TagKind.TheVariants.{StartTag, EndTag}
-use Rattle.html5grammar.specs.Characters.{carriage_return, greater_than}
-use Rattle.html5grammar.specs.ErrorText.{where_true, bad_character_error}
-use Rattle.html5grammar.specs.NormalisedText.{line_after, input_after}
-use Rattle.html5grammar.specs.Reference.{invalid_number}
-use Rattle.html5grammar.specs.Start.{Input, Start}
-use Rattle.html5grammar.specs.Start.Mode.{Data}
-use Rattle.html5grammar.specs.Start.Open.{Between}
-use Rattle.html5grammar.specs.Tag.{attribute}
-use Rattle.html5items.specs.Spelled.{Spelled, spell_silent, spelled_messages}
+use Rattle.html5reading.specs.Characters.{carriage_return, greater_than}
+use Rattle.html5reading.specs.ErrorText.{where_true, bad_character_error}
+use Rattle.html5reading.specs.NormalisedText.{line_after, input_after}
+use Rattle.html5reading.specs.Reference.{invalid_number}
+use Rattle.html5reading.specs.Start.{Input, Start}
+use Rattle.html5reading.specs.Start.Mode.{Data}
+use Rattle.html5reading.specs.Start.Open.{Between}
+use Rattle.html5reading.specs.Tag.{attribute}
+use Rattle.html5grammar.specs.Spelled.{Spelled, spell_silent, spelled_messages}
 use Rattle.markup5ever.specs.Names.{AttributeOf}
 use Rattle.html5write.specs.Escaped.{escaped}
 use Rattle.html5write.specs.Pieces.{NameAndValue, Piece, piece_text, page_text}

@@ -13,7 +13,7 @@ use crate::error::WriteError;
 use crate::piece::{Attribute, Piece};
 
 // Whether a character can stand in the name of a tag.
-#[tactic(auto, unfolding(crate::specs::Pieces::is_name_character, html5grammar::specs::Characters::is_white_space))]
+#[tactic(auto, unfolding(crate::specs::Pieces::is_name_character, html5reading::specs::Characters::is_white_space))]
 fn is_name_character(c: char) -> bool
     ensures { result ≡ is_name_character c }
 {

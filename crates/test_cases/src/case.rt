@@ -1,7 +1,7 @@
 //! A worked case, as it is written.
 use crate::check::failure_of;
 use std::alloc::{AllocError, Global};
-use test_lines::{Case, CaseError, push_line, push_meant, push_word};
+use testing_lines::{Case, CaseError, push_line, push_meant, push_word};
 
 /// A worked case: the words of the command line and an input, and what is sent.
 #[derive(Drop)]

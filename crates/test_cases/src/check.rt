@@ -12,7 +12,7 @@ use html5cli::run::run;
 use html5ever::tokenizer::Tokenizer;
 use html5table::names_of;
 use std::alloc::{AllocError, Global};
-use test_lines::CaseError;
+use testing_lines::CaseError;
 use token_printer::print_sink::PrintSink;
 
 // What a run left.

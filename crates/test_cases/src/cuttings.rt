@@ -15,7 +15,7 @@ use html5ever_interface::collect::Collector;
 use html5table::names_of;
 use markup5ever::data::NamedReferences;
 use std::alloc::Global;
-use test_lines::{CaseError, push_line};
+use testing_lines::{CaseError, push_line};
 use token_printer::print_sink::PrintSink;
 
 // The lines of the case, with those of pauses or without them. Where the input may go on, a text at their

@@ -15,7 +15,7 @@ use crate::sweep::sweep;
 use devices::{ReadSource, WriteTarget, given_words, read_to_end, write_all};
 use std::alloc::Global;
 use std::process::ExitCode;
-use test_lines::{CaseError, Told, check_cases, push_line};
+use testing_lines::{CaseError, Told, check_cases, push_line};
 
 // Whether the words ask for the sweep.
 fn asks_for_sweep(words: &[String]) -> bool {

@@ -11,7 +11,7 @@ use html5ever_interface::options::TokenizerOpts;
 use markup5ever::buffer_queue::BufferQueue;
 use markup5ever::data::NamedReferences;
 use std::alloc::{AllocError, Global};
-use test_lines::CaseError;
+use testing_lines::CaseError;
 
 /// How an input is cut.
 #[derive(Clone, Copy, Debug, PartialEq, Eq)]

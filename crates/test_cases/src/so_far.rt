@@ -2,8 +2,8 @@
 use html5ever_interface::collect::Collector;
 use html5ever_interface::interface::token::Token;
 use std::alloc::Global;
-use test_lines::CaseError;
-use test_sinks::lines::push_lines;
+use testing_lines::CaseError;
+use testing_sinks::lines::push_lines;
 use token_printer::print_sink::PrintSink;
 
 /// A sink that shows what it was sent so far.

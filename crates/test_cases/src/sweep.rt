@@ -13,7 +13,7 @@ use html5table::names_of;
 use markup5ever::data::NamedReferences;
 use std::alloc::{AllocError, Global};
 use std::collections::BTreeSet;
-use test_lines::{CaseError, cases_of, push_line};
+use testing_lines::{CaseError, cases_of, push_line};
 
 // The characters of the texts after a beginning, of which each has at most two.
 const BEHIND: &str = "a-!</>=&;\" \0";

@@ -4,8 +4,8 @@ use html5policy::Policy;
 use markup5ever::data::NamedReferences;
 use std::alloc::{Allocator, Global};
 use std::process::Abort;
-use test_alloc::Refusing;
-use test_devices::PieceSource;
+use testing_alloc::Refusing;
+use testing_devices::PieceSource;
 
 // The policy of these rules, or else the standard one, unless a growth is refused.
 fn policy_of<A: Allocator + Copy>(alloc: A, rules: Option<&str>) -> Option<Policy<A>> {

@@ -5,7 +5,7 @@ use html5stream::StreamError;
 use markup5ever::data::NamedReferences;
 use std::alloc::Global;
 use std::process::Abort;
-use test_devices::PieceSource;
+use testing_devices::PieceSource;
 
 // Pages, and what is kept of them. References are numbers, since the table is empty.
 const CASES: [(&str, &str); 16] = [

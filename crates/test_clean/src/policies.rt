@@ -3,7 +3,7 @@ use html5policy::{Policy, PolicyError, RuleError};
 use std::alloc::Global;
 use std::process::Abort;
 use std::test::Fail;
-use test_alloc::Refusing;
+use testing_alloc::Refusing;
 
 // What a text keeps that it didn't without this rule.
 #[derive(Clone, Copy)]

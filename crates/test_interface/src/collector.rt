@@ -2,7 +2,7 @@ use crate::made::{tokens_of, told};
 use html5ever_interface::collect::Collector;
 use std::alloc::Allocator;
 use std::process::Abort;
-use test_alloc::Refusing;
+use testing_alloc::Refusing;
 
 // Tokens with adjacent texts, and an empty text by itself.
 const TOKENS: [(&str, &str); 10] = [

@@ -3,7 +3,7 @@ use html5ever_interface::interface::sink::TokenSink;
 use html5ever_interface::interface::token::Token;
 use std::alloc::{AllocError, Allocator, Global};
 use std::process::Abort;
-use test_alloc::Refusing;
+use testing_alloc::Refusing;
 use token_printer::print_sink::PrintSink;
 
 #[test]

@@ -5,7 +5,7 @@ use html5sinks::tags::{ReplyingTagHandler, TagsOnly};
 use markup5ever::interface::LocalName;
 use std::alloc::{Allocator, Global};
 use std::process::Abort;
-use test_alloc::Refusing;
+use testing_alloc::Refusing;
 
 // Keeps the names of tags, and asks for plain text after each.
 #[derive(Drop)]

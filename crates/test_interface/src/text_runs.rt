@@ -5,7 +5,7 @@ use html5ever_interface::states::RawKind;
 use html5sinks::text_runs::{ReplyingTokenHandler, TextRuns, TokenHandler};
 use std::alloc::{AllocError, Allocator, Global};
 use std::process::Abort;
-use test_alloc::Refusing;
+use testing_alloc::Refusing;
 
 // Keeps the last run, with what ended it. It takes no end tag.
 #[derive(Drop)]

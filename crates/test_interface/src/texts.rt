@@ -4,7 +4,7 @@ use html5ever_interface::collect::Collector;
 use html5ever_interface::interface::sink::TokenSink;
 use html5ever_interface::interface::token::TextFault;
 use std::alloc::Global;
-use test_alloc::Refusing;
+use testing_alloc::Refusing;
 use token_printer::print_sink::PrintSink;
 
 #[test]

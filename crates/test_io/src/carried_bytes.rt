@@ -2,7 +2,7 @@
 use devices::{Fault, ReadSource, Source, WriteTarget, read_to_end, write_all};
 use std::alloc::Global;
 use std::process::Abort;
-use test_devices::{FailingSource, FailingTarget, Refusal};
+use testing_devices::{FailingSource, FailingTarget, Refusal};
 
 // Reads a source to its end.
 fn expect_read<R: Source>(rt: &impl Abort, alloc: Global, source: &mut R, bytes: &[u8]) {

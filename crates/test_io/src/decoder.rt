@@ -1,7 +1,7 @@
 //! Texts that are cut anywhere, and bytes that are none.
 use std::alloc::Global;
 use std::process::Abort;
-use test_alloc::Refusing;
+use testing_alloc::Refusing;
 use utf8_pieces::{DecodeError, Decoder, decode_all};
 
 // Characters of one, two, three and four bytes.

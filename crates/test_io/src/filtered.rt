@@ -5,7 +5,7 @@ use html5stream::StreamError;
 use html5table::{names_of, profile};
 use markup5ever::data::{NamedReferences, TableError};
 use std::alloc::Global;
-use test_devices::PieceSource;
+use testing_devices::PieceSource;
 
 // Reads pages that come in pieces of so many bytes, up to one that can't be read.
 fn read_pages<F: Filter<W>, W: Target + Drop>(

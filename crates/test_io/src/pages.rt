@@ -2,7 +2,7 @@
 use devices::{Fault, Printer, WriteTarget};
 use std::alloc::Global;
 use std::process::Abort;
-use test_devices::{FailingTarget, Refusal};
+use testing_devices::{FailingTarget, Refusal};
 
 // How often a text is printed: it fills more than a page.
 const TIMES: u64 = 5000;

@@ -8,8 +8,8 @@ use markup5ever::data::NamedReferences;
 use markup5ever::interface::LocalName;
 use std::alloc::{AllocError, Allocator, Global};
 use std::process::Abort;
-use test_alloc::Refusing;
-use test_devices::FailingSource;
+use testing_alloc::Refusing;
+use testing_devices::FailingSource;
 
 type Outcome = (Collector, Result<(), StreamError>);
 

@@ -3,7 +3,7 @@ use html5table::{entries_of, has_form, profile};
 use markup5ever::data::NamedReferences;
 use std::alloc::Global;
 use std::process::Abort;
-use test_alloc::Refusing;
+use testing_alloc::Refusing;
 
 #[test]
 fn tells_lists_by_their_form(rt: HostRuntime) {

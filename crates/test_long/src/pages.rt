@@ -8,7 +8,7 @@ use html5table::{names_of, profile};
 use std::alloc::Global;
 use std::process::Abort;
 use std::test::Fail;
-use test_devices::{MeasuringTarget, RepeatingSource};
+use testing_devices::{MeasuringTarget, RepeatingSource};
 
 // A part of a page, and how many bytes the programs print for it: its link, its text, and what is kept.
 #[derive(Clone, Copy)]

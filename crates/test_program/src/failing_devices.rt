@@ -5,7 +5,7 @@ use devices::{ReadSource, WriteTarget};
 use std::alloc::{AllocError, Global};
 use std::process::Abort;
 use std::test::Fail;
-use test_devices::{FailingSource, FailingTarget, Refusal};
+use testing_devices::{FailingSource, FailingTarget, Refusal};
 
 // A text, the words by which it is read, and what is printed for it.
 #[derive(Clone, Copy)]

@@ -4,7 +4,7 @@ use devices::{Fault, ReadSource};
 use html5cli::run::{Ending, given_words};
 use std::alloc::Global;
 use std::process::Abort;
-use test_alloc::Refusing;
+use testing_alloc::Refusing;
 
 // Runs the program with each growth refused in turn, until one run has no refusal. Answers how many
 // were refused.

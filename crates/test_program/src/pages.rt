@@ -4,8 +4,8 @@ use devices::{ReadSource, WriteTarget};
 use std::alloc::{AllocError, Global};
 use std::process::Abort;
 use std::test::Fail;
-use test_alloc::Refusing;
-use test_devices::{FailingTarget, MeasuringTarget, Refusal, RepeatingSource};
+use testing_alloc::Refusing;
+use testing_devices::{FailingTarget, MeasuringTarget, Refusal, RepeatingSource};
 
 // So many copies of a text.
 fn repeated(alloc: Global, text: &str, count: usize) -> Result<String, AllocError> {

@@ -10,7 +10,7 @@ mod table;
 use crate::script::Script;
 use std::io;
 use std::process::ExitCode;
-use test_lines::check_cases;
+use testing_lines::check_cases;
 
 fn main(rt: HostRuntime) -> ExitCode {
     let Ok(text) = io::read_to_string(rt.alloc(), rt.stdin()) else {

@@ -5,8 +5,8 @@ use crate::table::{begins, check, control, get};
 use markup5ever::buffer_queue::{BufferQueue, Case};
 use markup5ever::data::NamedReferences;
 use std::alloc::{AllocError, Allocator, Global};
-use test_alloc::Refusing;
-use test_lines::{CaseError, Play, Played, Stop, compare_answer, sweep};
+use testing_alloc::Refusing;
+use testing_lines::{CaseError, Play, Played, Stop, compare_answer, sweep};
 
 // A queue and a table, on a heap, and the entries for the next table.
 #[derive(Drop)]

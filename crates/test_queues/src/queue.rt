@@ -2,7 +2,7 @@
 use markup5ever::buffer_queue::{BufferQueue, Case, SetResult};
 use markup5ever::small_char_set::SmallCharSet;
 use std::alloc::{AllocError, Allocator, Global};
-use test_lines::{Stop, compare};
+use testing_lines::{Stop, compare};
 
 /// Where a text is handed in.
 #[derive(Clone, Copy, Debug, PartialEq, Eq)]

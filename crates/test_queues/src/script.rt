@@ -2,7 +2,7 @@
 use crate::play::failure_of;
 use markup5ever::buffer_queue::Case as Letters;
 use std::alloc::Global;
-use test_lines::{Case, CaseError, Wanted, number_of, push_meant};
+use testing_lines::{Case, CaseError, Wanted, number_of, push_meant};
 
 /// A call of which a script says the answer.
 #[derive(Drop)]

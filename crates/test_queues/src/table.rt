@@ -2,7 +2,7 @@
 use crate::script::Entry;
 use markup5ever::data::{NamedReferences, TableError, c1_replacement};
 use std::alloc::{AllocError, Allocator, Global};
-use test_lines::Stop;
+use testing_lines::Stop;
 
 // The words of what stands first where a table has a fault.
 fn words_of(ample: Global, error: TableError) -> Result<String, AllocError> {

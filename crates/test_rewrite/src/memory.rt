@@ -3,8 +3,8 @@ use crate::links::AbsoluteLinks;
 use html5rewrite::rewrite_page;
 use markup5ever::data::NamedReferences;
 use std::alloc::Global;
-use test_alloc::Refusing;
-use test_devices::PieceSource;
+use testing_alloc::Refusing;
+use testing_devices::PieceSource;
 
 const PAGE: &str =
     "<p id=a>a text of some length &#60;<nav>b</nav><a href=/c target=d>e</a>, so that the page grows</p>";

@@ -4,7 +4,7 @@ use devices::{Printer, WriteTarget};
 use html5rewrite::{rewrite_page, rewrite_text};
 use html5stream::StreamError;
 use markup5ever::data::NamedReferences;
-use test_devices::PieceSource;
+use testing_devices::PieceSource;
 
 const BASE: &str = "https://a.example";
 

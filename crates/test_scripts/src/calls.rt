@@ -15,8 +15,8 @@ use html5ever_interface::states::State;
 use markup5ever::buffer_queue::BufferQueue;
 use markup5ever::data::NamedReferences;
 use std::alloc::{AllocError, Allocator, Global};
-use test_lines::Stop;
-use test_sinks::shown::{Numbered, Shown};
+use testing_lines::Stop;
+use testing_sinks::shown::{Numbered, Shown};
 
 // The state, where a stream can start in it.
 fn starting(state: Option<State>) -> Option<State>

@@ -3,8 +3,8 @@ use crate::play::play;
 use crate::player::Cutting;
 use crate::script::{Cuts, Script, Step};
 use std::alloc::{AllocError, Global};
-use test_alloc::Refusing;
-use test_lines::{CaseError, sweep};
+use testing_alloc::Refusing;
+use testing_lines::{CaseError, sweep};
 
 // How the pieces are cut, in words.
 fn cutting_words(alloc: Global, cutting: Cutting) -> Result<String, AllocError> {

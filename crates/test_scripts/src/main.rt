@@ -12,7 +12,7 @@ mod wholes;
 use crate::script::Script;
 use devices::{ReadSource, WriteTarget, read_to_end, write_all};
 use std::process::ExitCode;
-use test_lines::check_cases;
+use testing_lines::check_cases;
 
 fn main(rt: HostRuntime) -> ExitCode {
     let Ok(bytes) = read_to_end(rt.alloc(), &mut ReadSource::new(rt.stdin())) else {

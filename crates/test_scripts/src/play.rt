@@ -7,12 +7,12 @@ use html5ever_interface::interface::sink::TokenSink;
 use html5ever_interface::interface::token::Token;
 use html5table::names_of;
 use std::alloc::{AllocError, Allocator, Global};
-use test_lines::{Play, Played, Stop};
-use test_sinks::alternating::Alternating;
-use test_sinks::counting::Counting;
-use test_sinks::faulty::FaultySink;
-use test_sinks::shown::{Numbered, Shown};
-use test_sinks::steering::Steering;
+use testing_lines::{Play, Played, Stop};
+use testing_sinks::alternating::Alternating;
+use testing_sinks::counting::Counting;
+use testing_sinks::faulty::FaultySink;
+use testing_sinks::shown::{Numbered, Shown};
+use testing_sinks::steering::Steering;
 use token_printer::print_sink::PrintSink;
 
 // Takes the steps, up to one that stops the play.

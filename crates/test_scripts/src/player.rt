@@ -13,8 +13,8 @@ use markup5ever::buffer_queue::BufferQueue;
 use markup5ever::data::NamedReferences;
 use std::alloc::{AllocError, Allocator, Global};
 use std::mem;
-use test_lines::{Stop, compare, compare_answer, compare_flag};
-use test_sinks::shown::{Numbered, Shown};
+use testing_lines::{Stop, compare, compare_answer, compare_flag};
+use testing_sinks::shown::{Numbered, Shown};
 
 /// How the pieces of a play are cut.
 #[derive(Clone, Copy, Debug, PartialEq, Eq)]

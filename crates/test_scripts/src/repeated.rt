@@ -1,6 +1,6 @@
 //! Texts of many equal parts, which have a name.
 use std::alloc::Global;
-use test_lines::CaseError;
+use testing_lines::CaseError;
 
 /// A text of many parts, and the name that stands for it.
 #[derive(Drop)]

@@ -2,7 +2,7 @@
 use crate::check::failure_of;
 use crate::repeated::{Repeated, expanded, many};
 use std::alloc::Global;
-use test_lines::{Case, CaseError, Wanted, number_of, push_line, push_meant, push_word};
+use testing_lines::{Case, CaseError, Wanted, number_of, push_line, push_meant, push_word};
 
 /// The sink of a script.
 #[derive(Clone, Copy, Debug, PartialEq, Eq)]

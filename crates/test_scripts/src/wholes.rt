@@ -14,7 +14,7 @@ use html5ever_interface::interface::token::Token;
 use html5ever_interface::options::TokenizerOpts;
 use markup5ever::data::NamedReferences;
 use std::alloc::Allocator;
-use test_lines::Stop;
+use testing_lines::Stop;
 
 /// The parts as one text.
 pub fn joined<A: Allocator + Copy>(alloc: A, parts: Vec<Step<A>, A>) -> Result<String<A>, Stop> {

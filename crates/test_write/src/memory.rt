@@ -1,7 +1,7 @@
 //! A growth is refused, and no other.
 use html5write::{Attribute, WriteError, Writer};
 use std::alloc::{Allocator, Global};
-use test_alloc::Refusing;
+use testing_alloc::Refusing;
 
 // Writes a page of three pieces, each of which is tried once more where memory was refused. Answers how
 // often it was.

@@ -1,6 +1,6 @@
 //! Pieces that are fed one after another.
 ghost use Rattle.std.specs.Prelude.{◌≡◌, ◌↔◌, ◌+◌, ◌++◌, false, true, map, Err, IfErr, OnOk, OnErr, string_bytes};
-ghost use Rattle.html5grammar.specs.Start.{held_len};
+ghost use Rattle.html5reading.specs.Start.{held_len};
 ghost use Rattle.html5states.specs.Telling.{IsRefusal, faults_of};
 ghost use Rattle.html5ever.specs.FedPieces.{fed_text, left_of, IsLinearFor, StandsWithin};
 ghost use Rattle.html5ever.specs.Pieces.{text_of};
@@ -10,7 +10,7 @@ use crate::tokenizer::steps::feed_until_done;
 use crate::tokenizer::{Tokenizer, table_laws};
 use html5ever_interface::interface::sink::TokenSink;
 use html5ever_interface::interface::token::Token;
-use html5opened::error::TokenizerError;
+use html5partial::error::TokenizerError;
 use markup5ever::buffer_queue::BufferQueue;
 use std::alloc::Allocator;
 

@@ -2,7 +2,7 @@
 ghost use Rattle.std.specs.Prelude.{◌≡◌, ◌+◌, ◌↔◌, [], true, false, IsOk, OnOk, IfErr, is_err, map};
 ghost use Rattle.html5ever_interface.specs.Options.{options_of};
 ghost use Rattle.html5ever_interface.specs.Token.{Reply};
-ghost use Rattle.html5grammar.specs.Start.{held_len};
+ghost use Rattle.html5reading.specs.Start.{held_len};
 ghost use Rattle.html5feed.specs.Feed.{IsEndOf, IsLinear};
 ghost use Rattle.html5states.specs.Telling.{faults_of};
 ghost use Rattle.html5ever.specs.RunSteps.{step_of, waiting_with, text_of_steps, FinishesRun, StopsRun, RunsItems};
@@ -14,7 +14,7 @@ use crate::tokenizer::{Tokenizer, table_laws};
 use html5ever_interface::interface::sink::TokenSink;
 use html5ever_interface::interface::token::Token;
 use html5ever_interface::options::TokenizerOpts;
-use html5opened::error::TokenizerError;
+use html5partial::error::TokenizerError;
 use markup5ever::buffer_queue::BufferQueue;
 use markup5ever::data::NamedReferences;
 use markup5ever::tokenizer_result::TokenizerResult;

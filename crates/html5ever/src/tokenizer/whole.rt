@@ -12,7 +12,7 @@ use crate::tokenizer::steps::feed_until_done;
 use html5ever_interface::interface::sink::TokenSink;
 use html5ever_interface::interface::token::Token;
 use html5ever_interface::options::TokenizerOpts;
-use html5opened::error::TokenizerError;
+use html5partial::error::TokenizerError;
 use markup5ever::buffer_queue::BufferQueue;
 use markup5ever::data::NamedReferences;
 use std::alloc::Allocator;

@@ -5,7 +5,7 @@ use Rattle.std.specs.Io.KnownBytes.{Appends}
 use Rattle.devices.proofs.KnownBytes.{Appends-append}
 use Rattle.devices.specs.Device.{AppendsBeginning}
 use Rattle.html5ever_interface.specs.Options.{options_of}
-use Rattle.html5grammar.specs.Start.{start_of}
+use Rattle.html5reading.specs.Start.{start_of}
 use Rattle.html5cli.specs.Printing.{page_at_end, printed_reading}
 use Rattle.html5cli.specs.Settings.{said_by}
 use Rattle.html5cli.proofs.Feeding.{AppendsBeginning-nothing, AppendsBeginning-after, on_err-anyway, printed-whole, printed-parts, some-printed}

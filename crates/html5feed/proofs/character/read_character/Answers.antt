@@ -1,10 +1,10 @@
 use Rattle.std.proofs.Common.{◌∙◌, refl, ap, sym, Ok}
 use Rattle.std.proofs.lemmas.Result.{IfOk-weaker}
 use Rattle.html5ever_interface.specs.Sink.{stepped}
-use Rattle.html5grammar.proofs.ReadingLemmas.{told-none, after-none}
-use Rattle.html5grammar.specs.Start.{Start}
-use Rattle.html5opened.specs.CharRef.{with_reference}
-use Rattle.html5opened.specs.CurrentTag.{opened_of, last_name_of}
+use Rattle.html5reading.proofs.ReadingLemmas.{told-none, after-none}
+use Rattle.html5reading.specs.Start.{Start}
+use Rattle.html5partial.specs.CharRef.{with_reference}
+use Rattle.html5partial.specs.CurrentTag.{opened_of, last_name_of}
 use Rattle.html5feed.proofs.Pauses.{first_pause-none}
 use Rattle.html5feed.proofs.UndecidedReading.{last-belongs, last-decides, told-belongs, after-belongs, after-decides, pause-belongs, pause-decides, tells-late, leads-late, tells-decides}
 use Rattle.html5feed.proofs.character.read_character.Goals as goal

@@ -1,11 +1,11 @@
 use Rattle.std.proofs.Common.{◌∙◌, ap, subst, arith, rules}
 use Rattle.std.proofs.lemmas.Result.{IfOk-weaker, on_ok_weaker}
-use Rattle.html5opened.specs.CharRef.{begun_reference}
-use Rattle.html5opened.specs.Steps.{Leads}
+use Rattle.html5partial.specs.CharRef.{begun_reference}
+use Rattle.html5partial.specs.Steps.{Leads}
 use Rattle.html5feed.proofs.CharacterReading.{held_len-after, closes-open, data-any_tag, tells-ended, opened-ended, pause-ended, tells-going, opened-going, pause-going, tells-refused, leads-refused, tells-bad, last-ended, last-going}
-use Rattle.html5grammar.proofs.Holding.{holds_at_most_one}
-use Rattle.html5opened.specs.CurrentTag.{opened_of}
-use Rattle.html5opened.proofs.Decided.{begun-decided, beside-decided, with_reference-none}
+use Rattle.html5reading.proofs.Holding.{holds_at_most_one}
+use Rattle.html5partial.specs.CurrentTag.{opened_of}
+use Rattle.html5partial.proofs.Decided.{begun-decided, beside-decided, with_reference-none}
 use Rattle.html5feed.proofs.character.read_opened.Goals as goal
 
 pub returns-in_err-emit_bad_character-clause-tells : goal.returns-in_err-emit_bad_character-clause-tells

@@ -1,7 +1,7 @@
 use Rattle.std.proofs.Common.{◌≡◌, false, arith, length, subst, take}
 use Rattle.std.specs.Prelude.{All}
 use Rattle.std.specs.Str.{chars}
-use Rattle.html5grammar.specs.Characters.{is_bad_character}
+use Rattle.html5reading.specs.Characters.{is_bad_character}
 use Rattle.markup5ever.specs.SmallCharSet.{BeginsOutside}
 use Rattle.html5feed.proofs.GoodFronts.{IsGoodFront, front-start, front-more, front-begins_outside, front-no_bad}
 use Rattle.html5feed.proofs.good_runs.good_run_len.Goals as goal

@@ -1,7 +1,7 @@
 use Rattle.std.proofs.Common.{◌≡◌, Bool, true, false, cond, refl, ◌∙◌, ap}
 use Rattle.std.specs.Prelude.{◌==◌, count_by}
 use Rattle.std.proofs.lemmas.List.{take_all}
-use Rattle.html5grammar.specs.Characters.{line_feed}
+use Rattle.html5reading.specs.Characters.{line_feed}
 use Rattle.html5feed.proofs.RunInput.{line_feeds-bytes, line_feeds-one}
 use mir.Val.{bool_byte}
 use Rattle.html5feed.proofs.input.line_feeds.Goals as goal

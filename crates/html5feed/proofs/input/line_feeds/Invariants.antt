@@ -1,6 +1,6 @@
 use Rattle.std.proofs.Common.{◌≡◌, ◌-◌, ◌≤◌, length, take}
 use Rattle.std.specs.Prelude.{◌==◌, count_by}
-use Rattle.html5grammar.specs.Characters.{line_feed}
+use Rattle.html5reading.specs.Characters.{line_feed}
 use Rattle.html5feed.proofs.input.line_feeds.Given as goal
 
 abbrev pub invariant-loop-at : goal.invariant-loop-at

@@ -4,7 +4,7 @@ use Rattle.std.proofs.lemmas.List.{drop-take, take-take}
 use Rattle.std.proofs.lemmas.List.Sums.{count_by-le-length, sum_by-take-drop}
 use Rattle.std.proofs.lemmas.Simd.{bitmask_splat, length-chunk, ones-mask_l}
 use lib.Lanes.{chunk}
-use Rattle.html5grammar.specs.Characters.{line_feed}
+use Rattle.html5reading.specs.Characters.{line_feed}
 use Rattle.html5feed.proofs.input.line_feeds_in_block.Goals as goal
 
 -- what the ones of the block's mask count

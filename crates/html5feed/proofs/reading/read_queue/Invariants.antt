@@ -1,5 +1,5 @@
 use Rattle.std.proofs.Common.{◌≡◌, ◌≤◌, ◌+◌, length}
-use Rattle.html5grammar.specs.Start.{held_len}
+use Rattle.html5reading.specs.Start.{held_len}
 use Rattle.html5feed.proofs.QueueReading.{HasRead}
 use Rattle.html5feed.proofs.reading.read_queue.Given as goal
 

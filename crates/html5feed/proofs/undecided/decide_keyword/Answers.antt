@@ -1,6 +1,6 @@
 use Rattle.std.proofs.Common.{rules}
-use Rattle.html5grammar.specs.EndOfInput.{late_at_end_of, open_at_end_of}
-use Rattle.html5opened.proofs.Decided.{doctype_keyword-open}
+use Rattle.html5reading.specs.EndOfInput.{late_at_end_of, open_at_end_of}
+use Rattle.html5partial.proofs.Decided.{doctype_keyword-open}
 use Rattle.html5feed.proofs.undecided.decide_keyword.Goals as goal
 
 pub returns-in-MarkupDeclarationOpen-clause-emits : goal.returns-in-MarkupDeclarationOpen-clause-emits

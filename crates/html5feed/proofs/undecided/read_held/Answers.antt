@@ -1,5 +1,5 @@
 use Rattle.std.proofs.Common.{rules}
-use Rattle.html5opened.proofs.Decided.{undecided-keyword}
+use Rattle.html5partial.proofs.Decided.{undecided-keyword}
 use Rattle.html5feed.proofs.undecided.read_held.Goals as goal
 
 pub read_keyword-requires : goal.read_keyword-requires

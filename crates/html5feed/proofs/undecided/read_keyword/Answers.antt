@@ -1,10 +1,10 @@
 use Rattle.std.proofs.Common.{[], refl, ap, Ok, arith, rules}
 use Rattle.html5ever_interface.specs.Sink.{stepped}
 use Rattle.html5states.proofs.Tellings.{tells_from_memory, tells_stop}
-use Rattle.html5opened.specs.CurrentTag.{opened_of}
-use Rattle.html5opened.proofs.Decided.{held_len-beside}
+use Rattle.html5partial.specs.CurrentTag.{opened_of}
+use Rattle.html5partial.proofs.Decided.{held_len-beside}
 use Rattle.html5feed.specs.Undecided.{rules_with}
-use Rattle.html5opened.proofs.KeywordReading.{beside, goes_on-asked, ends-asked, keyword-opened, no_reference-keyword, end-holds}
+use Rattle.html5partial.proofs.KeywordReading.{beside, goes_on-asked, ends-asked, keyword-opened, no_reference-keyword, end-holds}
 use Rattle.html5feed.proofs.undecided.read_keyword.Goals as goal
 
 pub asked_about_foreign-foreign-requires : goal.asked_about_foreign-foreign-requires

@@ -1,13 +1,13 @@
 use Rattle.std.proofs.Common.{◌≡◌, ◌≤◌, [], ◌∷◌, ◌++◌, ◌+◌, ◌∙◌, refl, ap, sym, subst, Ok, rules, arith}
 use Rattle.html5ever_interface.specs.Sink.{stepped}
-use Rattle.html5grammar.proofs.GoodCharacters.{good_between}
+use Rattle.html5reading.proofs.GoodCharacters.{good_between}
 use Rattle.html5states.proofs.Tellings.{tells_from_memory, tells_stop}
-use Rattle.html5opened.specs.CharRef.{with_reference}
-use Rattle.html5grammar.specs.Start.{held_len}
-use Rattle.html5opened.specs.CurrentTag.{opened_of}
+use Rattle.html5partial.specs.CharRef.{with_reference}
+use Rattle.html5reading.specs.Start.{held_len}
+use Rattle.html5partial.specs.CurrentTag.{opened_of}
 use Rattle.html5feed.specs.Undecided.{rules_with}
 use Rattle.html5feed.proofs.UndecidedReading.{brought-held, brought-decided, belongs-held, belongs-end, decides, held_len-held, held_len-same, answer-is}
-use Rattle.html5opened.proofs.Decided.{is_in, is_decided, begun-decided, state-no_reference, with_reference-out}
+use Rattle.html5partial.proofs.Decided.{is_in, is_decided, begun-decided, state-no_reference, with_reference-out}
 use Rattle.html5feed.proofs.undecided.read_reference.Goals as goal
 
 pub returns-in_err-hold-clause-reads : goal.returns-in_err-hold-clause-reads

@@ -3,7 +3,7 @@ use Rattle.std.specs.Prelude.{◌&&◌, ◌==◌, not}
 use Rattle.std.specs.Str.Iter.{chars_rest}
 use Rattle.std.proofs.lemmas.Bool.{eq-eqb, ne_eqb}
 use Rattle.std.proofs.lemmas.List.{nil_from_length}
-use Rattle.html5grammar.specs.Characters.{greater_than, hyphen}
+use Rattle.html5reading.specs.Characters.{greater_than, hyphen}
 use Rattle.html5write.proofs.FirstCharacters.{comment-first, comment-none}
 use Rattle.html5write.proofs.checks.can_begin_comment.Goals as goal
 

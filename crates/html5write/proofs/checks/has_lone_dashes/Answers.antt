@@ -6,7 +6,7 @@ use Rattle.std.proofs.Math.Bool.{and-false}
 use Rattle.std.proofs.lemmas.Bool.{eq-eqb, ne_eqb}
 use Rattle.std.proofs.lemmas.List.{nil_from_length}
 use Rattle.std.proofs.lemmas.Str.{chars_past_char, IsUtf8-past_char, chars-nil}
-use Rattle.html5grammar.specs.Characters.{hyphen}
+use Rattle.html5reading.specs.Characters.{hyphen}
 use Rattle.html5write.specs.Pieces.{has_lone_dashes}
 use Rattle.html5write.proofs.LoneDashes.{lone_from, lone-next, lone-double, lone-end}
 use Rattle.html5write.proofs.checks.has_lone_dashes.Goals as goal

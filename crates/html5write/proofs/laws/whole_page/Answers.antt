@@ -1,5 +1,5 @@
 use Rattle.std.proofs.Common.{ap, ◌∙◌}
-use Rattle.html5grammar.specs.NormalisedText.{normalised, line_after}
+use Rattle.html5reading.specs.NormalisedText.{normalised, line_after}
 use Rattle.html5write.specs.Pieces.{page_text}
 use Rattle.html5write.specs.Told.{proper, tokens_of}
 use Rattle.html5write.proofs.Pages.{page-reading}

@@ -5,8 +5,8 @@ use Rattle.std.proofs.lemmas.Result.{IfOk-weaker}
 use Rattle.html5ever_interface.specs.Collected.{Collecting, none_collected, collected_step, collected_reply, collected_foreign, collected_finish}
 use Rattle.html5ever_interface.specs.Options.{options_of}
 use Rattle.html5ever_interface.specs.Sink.{Message, stepped}
-use Rattle.html5grammar.specs.Start.{start_of}
-use Rattle.html5items.proofs.Cdata.Reading.{reading-cdata}
+use Rattle.html5reading.specs.Start.{start_of}
+use Rattle.html5grammar.proofs.Cdata.Reading.{reading-cdata}
 use Rattle.html5ever.specs.Tokenizer.{rules_of}
 use Rattle.html5ever.proofs.tokenizer.laws.cdata.Goals as goal
 

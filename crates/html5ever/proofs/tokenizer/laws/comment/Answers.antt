@@ -1,13 +1,13 @@
 use Rattle.html5ever.proofs.ByItems.{holds-unfinished}
-use Rattle.html5items.specs.Items.Unfinished.{OpenComment, OpenBogus, OpenBogusDeclaration}
+use Rattle.html5grammar.specs.Items.Unfinished.{OpenComment, OpenBogus, OpenBogusDeclaration}
 use Rattle.std.proofs.Common.{true}
 use Rattle.std.specs.Str.{chars}
 use Rattle.std.specs.String.{string_bytes}
 use Rattle.html5ever_interface.specs.Collected.{Collecting}
 use Rattle.html5ever_interface.specs.Options.{options_of}
-use Rattle.html5items.proofs.Comment.Collected.{collects-comment}
-use Rattle.html5items.specs.Comment.{IsComment, comment_messages}
-use Rattle.html5grammar.specs.Start.{start_of}
+use Rattle.html5grammar.proofs.Comment.Collected.{collects-comment}
+use Rattle.html5grammar.specs.Comment.{IsComment, comment_messages}
+use Rattle.html5reading.specs.Start.{start_of}
 use Rattle.html5ever.specs.Collecting.{collected_of}
 use Rattle.html5ever.specs.Tokenizer.{rules_of}
 use Rattle.html5ever.proofs.Wholes.{holds-one}

@@ -1,13 +1,13 @@
 use Rattle.html5ever.proofs.ByItems.{holds-unfinished}
-use Rattle.html5items.specs.Items.Unfinished.{OpenDoctype}
+use Rattle.html5grammar.specs.Items.Unfinished.{OpenDoctype}
 use Rattle.std.proofs.Common.{true}
 use Rattle.std.specs.Str.{chars}
 use Rattle.std.specs.String.{string_bytes}
 use Rattle.html5ever_interface.specs.Collected.{Collecting}
 use Rattle.html5ever_interface.specs.Options.{options_of}
-use Rattle.html5items.proofs.Doctype.Collected.{collects-doctype}
-use Rattle.html5items.specs.Doctype.{IsDoctype, doctype_messages}
-use Rattle.html5grammar.specs.Start.{start_of}
+use Rattle.html5grammar.proofs.Doctype.Collected.{collects-doctype}
+use Rattle.html5grammar.specs.Doctype.{IsDoctype, doctype_messages}
+use Rattle.html5reading.specs.Start.{start_of}
 use Rattle.html5ever.specs.Collecting.{collected_of}
 use Rattle.html5ever.specs.Tokenizer.{rules_of}
 use Rattle.html5ever.proofs.Wholes.{holds-one}

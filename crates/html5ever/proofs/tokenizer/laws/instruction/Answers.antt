@@ -3,9 +3,9 @@ use Rattle.std.specs.Str.{chars}
 use Rattle.std.specs.String.{string_bytes}
 use Rattle.html5ever_interface.specs.Collected.{Collecting}
 use Rattle.html5ever_interface.specs.Options.{options_of}
-use Rattle.html5items.proofs.Instruction.Collected.{collects-instruction}
-use Rattle.html5items.specs.Instruction.{IsInstruction, instruction_messages}
-use Rattle.html5grammar.specs.Start.{start_of}
+use Rattle.html5grammar.proofs.Instruction.Collected.{collects-instruction}
+use Rattle.html5grammar.specs.Instruction.{IsInstruction, instruction_messages}
+use Rattle.html5reading.specs.Start.{start_of}
 use Rattle.html5ever.specs.Collecting.{collected_of}
 use Rattle.html5ever.specs.Tokenizer.{rules_of}
 use Rattle.html5ever.proofs.Wholes.{holds-one}

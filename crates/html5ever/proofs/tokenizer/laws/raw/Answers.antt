@@ -5,9 +5,9 @@ use Rattle.std.proofs.lemmas.Result.{IfOk-weaker}
 use Rattle.html5ever_interface.specs.Collected.{Collecting, none_collected, collected_step, collected_finish}
 use Rattle.html5ever_interface.specs.Options.{options_of}
 use Rattle.html5ever_interface.specs.Sink.{Message, stepped}
-use Rattle.html5grammar.specs.Start.{start_of}
-use Rattle.html5items.proofs.RawText.Reading.{reading-raw}
-use Rattle.html5items.proofs.Soundness.{reading-run}
+use Rattle.html5reading.specs.Start.{start_of}
+use Rattle.html5grammar.proofs.RawText.Reading.{reading-raw}
+use Rattle.html5grammar.proofs.Soundness.{reading-run}
 use Rattle.html5ever.specs.Collecting.{collector_means}
 use Rattle.html5ever.specs.Tokenizer.{rules_of}
 use Rattle.html5ever.proofs.tokenizer.laws.raw.Goals as goal

@@ -5,9 +5,9 @@ use Rattle.std.specs.Str.{chars}
 use Rattle.std.specs.String.{string_bytes}
 use Rattle.html5ever_interface.specs.Collected.{Collecting}
 use Rattle.html5ever_interface.specs.Options.{options_of}
-use Rattle.html5grammar.specs.Start.{start_of}
-use Rattle.html5items.specs.Reference.{IsReference, reference_messages}
-use Rattle.html5items.proofs.Reference.Collected.{collects-reference}
+use Rattle.html5reading.specs.Start.{start_of}
+use Rattle.html5grammar.specs.Reference.{IsReference, reference_messages}
+use Rattle.html5grammar.proofs.Reference.Collected.{collects-reference}
 use Rattle.html5ever.proofs.Wholes.{holds-one}
 use Rattle.html5ever.proofs.tokenizer.laws.reference.Goals as goal
 

@@ -5,9 +5,9 @@ use Rattle.std.specs.Str.{chars}
 use Rattle.std.specs.String.{string_bytes}
 use Rattle.html5ever_interface.specs.Collected.{Collecting}
 use Rattle.html5ever_interface.specs.Options.{options_of}
-use Rattle.html5grammar.specs.Start.{start_of}
-use Rattle.html5items.specs.Tag.{IsTag, tag_messages}
-use Rattle.html5items.proofs.Tag.Collected.{collects-tag}
+use Rattle.html5reading.specs.Start.{start_of}
+use Rattle.html5grammar.specs.Tag.{IsTag, tag_messages}
+use Rattle.html5grammar.proofs.Tag.Collected.{collects-tag}
 use Rattle.html5ever.proofs.Wholes.{holds-one}
 use Rattle.html5ever.proofs.tokenizer.laws.tag.Goals as goal
 

@@ -1,8 +1,8 @@
 use Rattle.std.proofs.Common.{◌≡◌, [], subst, map}
 use Rattle.std.proofs.lemmas.Result.{on_ok_weaker, IfErr-weaker}
 use Rattle.html5ever_interface.specs.Options.{options_of}
-use Rattle.html5grammar.specs.Reading.{all_messages}
-use Rattle.html5grammar.specs.Start.{start_of}
+use Rattle.html5reading.specs.Reading.{all_messages}
+use Rattle.html5reading.specs.Start.{start_of}
 use Rattle.html5ever.specs.RunSteps.{step_of, run_text}
 use Rattle.html5ever.specs.Tokenizer.{EndStops, state_at_end}
 use Rattle.html5ever.proofs.ByItems.{whole-items}

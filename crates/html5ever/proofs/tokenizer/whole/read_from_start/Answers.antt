@@ -1,7 +1,7 @@
 use Rattle.std.proofs.Common.{[]}
 use Rattle.std.proofs.lemmas.Result.{on_ok_weaker}
 use Rattle.html5ever_interface.specs.Options.{options_of}
-use Rattle.html5grammar.specs.Start.{start_of}
+use Rattle.html5reading.specs.Start.{start_of}
 use Rattle.html5ever.proofs.ByItems.{whole-items}
 use Rattle.html5ever.proofs.tokenizer.whole.read_from_start.Goals as goal
 

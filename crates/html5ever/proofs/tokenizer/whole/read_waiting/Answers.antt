@@ -1,5 +1,5 @@
 use Rattle.std.proofs.Common.{[], subst}
-use Rattle.html5grammar.specs.Reading.{all_messages}
+use Rattle.html5reading.specs.Reading.{all_messages}
 use Rattle.html5ever.specs.Tokenizer.{EndStops}
 use Rattle.std.proofs.lemmas.Result.{err_from_is_err_and, IfErr-weaker}
 use Rattle.html5ever.proofs.Wholes.{whole-feed_stops, whole-end_stops}

@@ -1,9 +1,9 @@
 use Rattle.std.proofs.Common.{◌≡◌, ◌⊎◌, inl, inr, true, false, sym, ap, ◌∙◌}
-use Rattle.html5grammar.specs.Characters.{carriage_return, line_feed}
-use Rattle.html5grammar.specs.NormalisedText.{drops_first}
-use Rattle.html5grammar.specs.Start.{Input}
+use Rattle.html5reading.specs.Characters.{carriage_return, line_feed}
+use Rattle.html5reading.specs.NormalisedText.{drops_first}
+use Rattle.html5reading.specs.Start.{Input}
 use Rattle.html5feed.specs.contracts.input.Input.{the_view}
-use Rattle.html5grammar.proofs.InputLemmas.{normalised-dropped, advance-dropped, normalised-other, advance-other, normalised-break, advance-break}
+use Rattle.html5reading.proofs.InputLemmas.{normalised-dropped, advance-dropped, normalised-other, advance-other, normalised-break, advance-break}
 use Rattle.html5feed.proofs.input.Input.advance.Goals as goal
 use Rattle.html5feed.proofs.input.Input.advance.Goals.{else-c-ne13-via-then-c-ne13+else-c-ne10, else-c-ne13-via-else-c-ne13}
 

@@ -1,7 +1,7 @@
 use Rattle.std.proofs.Common.{◌≡◌, ◌∙◌, false, ap, sym}
 use Rattle.std.specs.Str.{chars}
-use Rattle.html5grammar.specs.NormalisedText.{line_after}
-use Rattle.html5grammar.specs.Start.{Input}
+use Rattle.html5reading.specs.NormalisedText.{line_after}
+use Rattle.html5reading.specs.Start.{Input}
 use Rattle.html5feed.specs.contracts.input.Input.{the_view}
 use Rattle.html5feed.proofs.RunInput.{input_after-run}
 use Rattle.html5feed.proofs.input.Input.advance_run.Goals as goal

@@ -1,4 +1,4 @@
-use Rattle.html5opened.proofs.Decided.{begun-stands}
+use Rattle.html5partial.proofs.Decided.{begun-stands}
 use Rattle.html5feed.proofs.position.Position.begin_reference.Goals as goal
 
 pub invariant_of-self : goal.invariant_of-self

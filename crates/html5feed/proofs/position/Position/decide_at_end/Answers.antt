@@ -1,12 +1,12 @@
 use Rattle.std.proofs.Common.{◌≡◌, [], ◌∙◌, refl, sym, false, true, rules}
 use Rattle.std.proofs.lemmas.List.{append-nil}
 use Rattle.html5ever_interface.specs.Sink.{stepped}
-use Rattle.html5grammar.specs.Start.{is_undecided_open}
-use Rattle.html5opened.specs.Undecided.{is_keyword_open}
+use Rattle.html5reading.specs.Start.{is_undecided_open}
+use Rattle.html5partial.specs.Undecided.{is_keyword_open}
 use Rattle.html5states.proofs.Tellings.{emits_stop}
-use Rattle.html5opened.specs.CurrentTag.{opened_of}
-use Rattle.html5opened.proofs.Decided.{with_reference-false, with_reference-out, state-keyword, state-undecided}
-use Rattle.html5opened.proofs.KeywordReading.{end-decided}
+use Rattle.html5partial.specs.CurrentTag.{opened_of}
+use Rattle.html5partial.proofs.Decided.{with_reference-false, with_reference-out, state-keyword, state-undecided}
+use Rattle.html5partial.proofs.KeywordReading.{end-decided}
 use Rattle.html5feed.specs.Undecided.{rules_with}
 use Rattle.html5feed.proofs.QueueReading.{on_ok}
 use Rattle.html5feed.proofs.UndecidedReading.{end-none, late-reference, end-reference}

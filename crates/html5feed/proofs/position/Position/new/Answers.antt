@@ -1,6 +1,6 @@
 use Rattle.std.proofs.Common.{◌∙◌, ap}
-use Rattle.html5grammar.specs.Start.{initial_mode}
-use Rattle.html5grammar.specs.Start.Open.{Between}
+use Rattle.html5reading.specs.Start.{initial_mode}
+use Rattle.html5reading.specs.Start.Open.{Between}
 use Rattle.html5feed.proofs.Starting.{starts-in, start-is}
 use Rattle.html5feed.proofs.position.Position.new.Goals as goal
 

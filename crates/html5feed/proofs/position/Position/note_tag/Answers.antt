@@ -1,6 +1,6 @@
 use Rattle.std.proofs.Common.{◌∙◌}
 use Rattle.html5feed.proofs.CharacterReading.{data-any_tag}
-use Rattle.html5opened.proofs.Decided.{beside-data, with_reference-out}
+use Rattle.html5partial.proofs.Decided.{beside-data, with_reference-out}
 use Rattle.html5feed.proofs.position.Position.note_tag.Goals as goal
 
 pub returns-in_err-keep_name-clause-opened : goal.returns-in_err-keep_name-clause-opened

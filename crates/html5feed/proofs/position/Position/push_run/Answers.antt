@@ -1,6 +1,6 @@
 use Rattle.std.proofs.Common.{arith}
-use Rattle.html5opened.specs.CurrentTag.{opened_of}
-use Rattle.html5opened.proofs.Decided.{no_reference-run, with_reference-false}
+use Rattle.html5partial.specs.CurrentTag.{opened_of}
+use Rattle.html5partial.proofs.Decided.{no_reference-run, with_reference-false}
 use Rattle.html5feed.proofs.position.Position.push_run.Goals as goal
 
 pub returns-in_err-push_run-clause-held : goal.returns-in_err-push_run-clause-held

@@ -3,10 +3,10 @@ use Rattle.std.specs.Prelude.{IsTrue}
 use Rattle.std.specs.Str.{chars}
 use Rattle.std.proofs.lemmas.Str.{chars-nil}
 use Rattle.std.proofs.lemmas.Result.{IfOk-weaker, IfErr-weaker}
-use Rattle.html5grammar.specs.Start as grammar
-use Rattle.html5opened.specs.CurrentTag.{opened_of}
-use Rattle.html5opened.proofs.Decided.{with_reference-false}
-use Rattle.html5quiet.proofs.Beginnings.{nothing-read}
+use Rattle.html5reading.specs.Start as grammar
+use Rattle.html5partial.specs.CurrentTag.{opened_of}
+use Rattle.html5partial.proofs.Decided.{with_reference-false}
+use Rattle.html5fast_path.proofs.Beginnings.{nothing-read}
 use Rattle.html5feed.proofs.HeldTexts.{holds-nothing, holds-no_text, stops-held}
 use Rattle.html5feed.proofs.position.Position.read_quietly.Goals as goal
 

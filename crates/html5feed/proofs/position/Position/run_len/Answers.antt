@@ -1,9 +1,9 @@
 use Rattle.std.proofs.Common.{◌∙◌, ap, rules, sym, inl, inr}
 use Rattle.std.specs.Prelude.{IsTrue}
-use Rattle.html5grammar.specs.Start as grammar
-use Rattle.html5opened.specs.CurrentTag.{opened_of, last_name_of}
+use Rattle.html5reading.specs.Start as grammar
+use Rattle.html5partial.specs.CurrentTag.{opened_of, last_name_of}
 use Rattle.html5feed.proofs.RunLemmas.{run-begins, run-found}
-use Rattle.html5opened.proofs.Decided.{with_reference-false}
+use Rattle.html5partial.proofs.Decided.{with_reference-false}
 use Rattle.html5feed.proofs.position.Position.run_len.Goals as goal
 
 pub returns-then-not-rules-clause-run : goal.returns-then-not-rules-clause-run

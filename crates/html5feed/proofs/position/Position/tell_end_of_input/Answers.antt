@@ -1,10 +1,10 @@
 use Rattle.std.proofs.Common.{◌≡◌, ◌++◌, ◌∙◌, refl, sym, ap, rules}
-use Rattle.html5grammar.specs.EndOfInput.{late_at_end_of, open_at_end_of, told_at_end_of}
-use Rattle.html5grammar.specs.Slice.{tokens_of_late}
-use Rattle.html5grammar.specs.Start.{Start, Rules, is_undecided_open}
+use Rattle.html5reading.specs.EndOfInput.{late_at_end_of, open_at_end_of, told_at_end_of}
+use Rattle.html5reading.specs.Slice.{tokens_of_late}
+use Rattle.html5reading.specs.Start.{Start, Rules, is_undecided_open}
 use Rattle.html5states.proofs.Tellings.{emits_then, emits_stop}
-use Rattle.html5opened.specs.CurrentTag.{opened_of}
-use Rattle.html5opened.proofs.Decided.{with_reference-none}
+use Rattle.html5partial.specs.CurrentTag.{opened_of}
+use Rattle.html5partial.proofs.Decided.{with_reference-none}
 use Rattle.html5feed.proofs.position.Position.tell_end_of_input.Goals as goal
 
 pub returns-in_err-decide_at_end-clause-tells : goal.returns-in_err-decide_at_end-clause-tells

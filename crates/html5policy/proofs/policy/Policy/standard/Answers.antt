@@ -1,6 +1,6 @@
 use Rattle.std.proofs.Common.{refl}
 use Rattle.std.specs.Str.{chars}
-use Rattle.html5grammar.specs.Characters.{is_white_space}
+use Rattle.html5reading.specs.Characters.{is_white_space}
 use Rattle.html5write.specs.Pieces.{is_attribute_character, is_attribute_name, is_name_character, is_tag_name}
 use Rattle.html5policy.specs.Names.{always_hides, is_never_kept, is_one_of, is_scheme, runs_address}
 use Rattle.html5policy.specs.Rules.{fault_of, rule_added, with_rule}

@@ -1,7 +1,7 @@
 use Rattle.std.proofs.Common.{sym, ◌∙◌}
 use Rattle.std.proofs.lemmas.Bool.{ne_eqb}
-use Rattle.html5grammar.proofs.Steps.{part-after_quoted}
-use Rattle.html5opened.specs.CurrentTag.{open_tag}
+use Rattle.html5reading.proofs.Steps.{part-after_quoted}
+use Rattle.html5partial.specs.CurrentTag.{open_tag}
 use Rattle.html5states.proofs.teller.Teller.after_attribute_value_quoted_state.Goals as goal
 
 pub returns : goal.returns

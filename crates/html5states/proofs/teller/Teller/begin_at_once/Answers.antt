@@ -1,7 +1,7 @@
 use Rattle.std.proofs.Common.{false, refl}
 use Rattle.html5ever_interface.specs.Token.{doctype_of}
-use Rattle.html5grammar.specs.Machine.{wanted_identifier_step}
-use Rattle.html5grammar.proofs.Steps.{wanted_identifier_step-direct}
+use Rattle.html5reading.specs.Machine.{wanted_identifier_step}
+use Rattle.html5reading.proofs.Steps.{wanted_identifier_step-direct}
 use Rattle.html5states.proofs.Tellings.{reads_then, reads_stop}
 use Rattle.html5states.proofs.teller.Teller.begin_at_once.Goals as goal
 

@@ -1,6 +1,6 @@
 use Rattle.std.proofs.Common.{[], refl}
-use Rattle.html5grammar.specs.Machine.{bogus_comment_step}
-use Rattle.html5grammar.proofs.Steps.{bogus_comment_step-before}
+use Rattle.html5reading.specs.Machine.{bogus_comment_step}
+use Rattle.html5reading.proofs.Steps.{bogus_comment_step-before}
 use Rattle.html5states.proofs.Tellings.{reads_then, reads_stop}
 use Rattle.html5states.proofs.teller.Teller.create_bogus_comment.Goals as goal
 

@@ -1,7 +1,7 @@
 use Rattle.std.proofs.Common.{ap, sym, refl, ◌∙◌, string_bytes}
-use Rattle.html5grammar.specs.Start.{OpenTag}
-use Rattle.html5grammar.specs.Machine.{tag_name_end_step}
-use Rattle.html5opened.proofs.HeldLetters.{tag_name_step-ends}
+use Rattle.html5reading.specs.Start.{OpenTag}
+use Rattle.html5reading.specs.Machine.{tag_name_end_step}
+use Rattle.html5partial.proofs.HeldLetters.{tag_name_step-ends}
 use Rattle.html5states.proofs.Tellings.{reads_as}
 use Rattle.html5states.proofs.teller.Teller.create_end_tag.Goals as goal
 

@@ -1,9 +1,9 @@
 use Rattle.std.proofs.Common.{[], refl, ap, ◌∙◌, ◌≡◌, string_bytes}
 use Rattle.std.specs.Str.{chars}
 use Rattle.std.proofs.lemmas.Str.{chars-nil}
-use Rattle.html5grammar.specs.Cdata.{open_cdata}
-use Rattle.html5opened.specs.Steps.{afterwards, tokens_of}
-use Rattle.html5opened.specs.Steps.Next.{Opens}
+use Rattle.html5reading.specs.Cdata.{open_cdata}
+use Rattle.html5partial.specs.Steps.{afterwards, tokens_of}
+use Rattle.html5partial.specs.Steps.Next.{Opens}
 use Rattle.html5states.proofs.teller.Teller.cut_section.Goals as goal
 
 pub returns : goal.returns

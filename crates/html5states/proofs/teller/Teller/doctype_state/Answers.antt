@@ -1,6 +1,6 @@
 use Rattle.std.proofs.Common.{refl, sym, ◌∙◌}
-use Rattle.html5grammar.specs.Machine.{doctype_step, space_step}
-use Rattle.html5grammar.proofs.Steps.{wanted_name_step-before}
+use Rattle.html5reading.specs.Machine.{doctype_step, space_step}
+use Rattle.html5reading.proofs.Steps.{wanted_name_step-before}
 use Rattle.html5states.proofs.Tellings.{reads_then}
 use Rattle.html5states.proofs.teller.Teller.doctype_state.Goals as goal
 

@@ -1,5 +1,5 @@
 use Rattle.std.proofs.Common.{refl}
-use Rattle.html5grammar.specs.Comment.{comment_errors, mark_error}
+use Rattle.html5reading.specs.Comment.{comment_errors, mark_error}
 use Rattle.html5states.proofs.Tellings.{emits_then, emits_stop}
 use Rattle.html5states.proofs.teller.Teller.emit_comment_errors.Goals as goal
 

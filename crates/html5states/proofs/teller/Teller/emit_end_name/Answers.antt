@@ -1,9 +1,9 @@
 use Rattle.std.proofs.Common.{◌≡◌, ◌∷◌, ◌++◌, ap, ◌∙◌, string_bytes}
 use Rattle.std.specs.Str.{chars}
-use Rattle.html5grammar.specs.Characters.{less_than, solidus}
-use Rattle.html5grammar.specs.RawText.{texts}
-use Rattle.html5opened.proofs.HeldLetters.{chars-end_name}
-use Rattle.html5opened.proofs.Keywords.{cons≢nil}
+use Rattle.html5reading.specs.Characters.{less_than, solidus}
+use Rattle.html5reading.specs.RawText.{texts}
+use Rattle.html5partial.proofs.HeldLetters.{chars-end_name}
+use Rattle.html5partial.proofs.Keywords.{cons≢nil}
 use Rattle.html5states.proofs.teller.Teller.emit_end_name.Goals as goal
 
 pub tell-requires-clause-filled : goal.tell-requires-clause-filled

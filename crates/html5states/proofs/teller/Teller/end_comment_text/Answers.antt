@@ -1,5 +1,5 @@
 use Rattle.std.proofs.Common.{◌≡◌, refl, ◌∙◌}
-use Rattle.html5grammar.specs.Comment.{comment_content}
+use Rattle.html5reading.specs.Comment.{comment_content}
 use Rattle.markup5ever.proofs.BufferQueueLemmas.{range_from_start}
 use Rattle.html5states.proofs.Tellings.{emits_then, emits_stop}
 use Rattle.html5states.proofs.teller.Teller.end_comment_text.Goals as goal

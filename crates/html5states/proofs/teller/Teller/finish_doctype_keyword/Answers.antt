@@ -1,7 +1,7 @@
 use Rattle.std.proofs.Common.{◌≡◌, [], sym, ◌∙◌, rules, string_bytes}
-use Rattle.html5grammar.specs.Doctype.{keyword_error}
+use Rattle.html5reading.specs.Doctype.{keyword_error}
 use Rattle.html5ever_interface.specs.Sink.{stepped}
-use Rattle.html5opened.proofs.Keywords.{none-first}
+use Rattle.html5partial.proofs.Keywords.{none-first}
 use Rattle.html5states.proofs.teller.Teller.finish_doctype_keyword.Goals as goal
 
 pub returns-in-None-clause-emits : goal.returns-in-None-clause-emits

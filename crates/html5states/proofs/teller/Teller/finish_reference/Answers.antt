@@ -1,8 +1,8 @@
 use Rattle.std.proofs.Common.{[], length, refl, sym, ap, ◌∙◌}
 use Rattle.std.specs.Prelude.{nat_lt}
 use Rattle.std.proofs.lemmas.List.{append-nil}
-use Rattle.html5opened.specs.CharRef.{stand_of}
-use Rattle.html5opened.specs.CurrentTag.{opened_of}
+use Rattle.html5partial.specs.CharRef.{stand_of}
+use Rattle.html5partial.specs.CurrentTag.{opened_of}
 use Rattle.html5states.proofs.Late.{late-decided, told-found, leads-found}
 use Rattle.html5states.proofs.Resolving.{emits_ok}
 use Rattle.html5states.proofs.Tellings.{emits_then, emits_stop}

@@ -1,11 +1,11 @@
 use Rattle.std.proofs.Common.{[], ◌∷◌, refl, ap, sym, ◌∙◌}
 use Rattle.std.specs.Str.{chars}
-use Rattle.html5grammar.specs.Characters.{less_than, solidus}
-use Rattle.html5grammar.specs.RawText.{texts}
-use Rattle.html5grammar.specs.Start.{raw_of}
-use Rattle.html5grammar.specs.Machine.{raw_step}
-use Rattle.html5grammar.proofs.Steps.{raw_step-before}
-use Rattle.html5opened.specs.CurrentTag.{last_name_of}
+use Rattle.html5reading.specs.Characters.{less_than, solidus}
+use Rattle.html5reading.specs.RawText.{texts}
+use Rattle.html5reading.specs.Start.{raw_of}
+use Rattle.html5reading.specs.Machine.{raw_step}
+use Rattle.html5reading.proofs.Steps.{raw_step-before}
+use Rattle.html5partial.specs.CurrentTag.{last_name_of}
 use Rattle.html5states.proofs.Tellings.{reads_then, reads_stop}
 use Rattle.html5states.proofs.teller.Teller.read_after_end_name.Goals as goal
 

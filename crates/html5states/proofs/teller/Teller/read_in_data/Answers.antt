@@ -1,6 +1,6 @@
 use Rattle.std.proofs.Common.{[], refl}
-use Rattle.html5grammar.specs.Machine.{data_step}
-use Rattle.html5grammar.proofs.Steps.{data_step-before}
+use Rattle.html5reading.specs.Machine.{data_step}
+use Rattle.html5reading.proofs.Steps.{data_step-before}
 use Rattle.html5states.proofs.Tellings.{reads_then, reads_stop}
 use Rattle.html5states.proofs.teller.Teller.read_in_data.Goals as goal
 
@@ -10,5 +10,5 @@ returns-in_err-emit_unexpected_then g c =
     reads_stop _ c.from_residual.ensures.1 c.in_err-emit_unexpected_then.ensures (data_step c.args.self.now.exact_errors [] c.args.c) (data_step-before _ _ _) refl
 
 pub returns : goal.returns
-unfolding lib.Utf8.encode Rattle.html5grammar.specs.Machine.step_at
+unfolding lib.Utf8.encode Rattle.html5reading.specs.Machine.step_at
 returns g c = reads_then c.in_ok-emit_unexpected_then.ensures c.data_state.ensures (rw c.in_ok-emit_unexpected_then.ensures.kept.exact_errors (data_step-before _ _ _)) refl

@@ -1,9 +1,9 @@
 use Rattle.std.proofs.Common.{◌≡◌, ◌≤◌, ℕ, Some, length, sym, ap, ◌∙◌, subst}
 use Rattle.std.specs.Prelude.{nat_lt}
 use Rattle.std.proofs.lemmas.Result.{IfOk-weaker}
-use Rattle.html5grammar.specs.Reference.{number_reference, named_reference, longest_name, ends_number}
-use Rattle.html5opened.specs.CharRef.{IsFound}
-use Rattle.html5opened.specs.declared.char_ref.Found.{Found}
+use Rattle.html5reading.specs.Reference.{number_reference, named_reference, longest_name, ends_number}
+use Rattle.html5partial.specs.CharRef.{IsFound}
+use Rattle.html5partial.specs.declared.char_ref.Found.{Found}
 use Rattle.html5states.proofs.Late.{decided-number, decided-name, ends-number, ends-name}
 use Rattle.html5states.proofs.teller.Teller.resolve.Goals as goal
 

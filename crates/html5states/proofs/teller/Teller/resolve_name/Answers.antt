@@ -1,6 +1,6 @@
 use Rattle.std.proofs.Common.{◌≡◌, false, ◌&&◌, drop, refl, ap, ◌∙◌}
-use Rattle.html5grammar.specs.Reference as grammar
-use Rattle.html5grammar.specs.Reference.{goes_on, first_or, longest_name}
+use Rattle.html5reading.specs.Reference as grammar
+use Rattle.html5reading.specs.Reference.{goes_on, first_or, longest_name}
 use Rattle.html5states.proofs.Resolving.{name-none, name-some, unended-is, found_nothing, unended-cut, goes_on-cut, emits_ok}
 use Rattle.html5states.proofs.teller.Teller.resolve_name.Goals as goal
 use Rattle.html5states.proofs.teller.Teller.resolve_name.Goals.{else-in_value-via-then-in_value+else-goes_on_with, else-in_value-via-else-in_value}

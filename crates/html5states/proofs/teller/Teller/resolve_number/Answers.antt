@@ -1,8 +1,8 @@
 use Rattle.std.proofs.Common.{[], ◌++◌, refl, sym, ap, ◌∙◌, arith}
 use Rattle.std.proofs.lemmas.List.{append-nil}
 use Rattle.html5ever_interface.specs.Token.Told.{Error}
-use Rattle.html5grammar.specs.ErrorText.{where_true}
-use Rattle.html5grammar.specs.Reference.{unended_number, invalid_number}
+use Rattle.html5reading.specs.ErrorText.{where_true}
+use Rattle.html5reading.specs.Reference.{unended_number, invalid_number}
 use Rattle.html5states.proofs.Tellings.{emits_then, emits_stop}
 use Rattle.html5states.proofs.Resolving.{number-errors, number-found, emits_ok}
 use Rattle.html5states.proofs.teller.Teller.resolve_number.Goals as goal

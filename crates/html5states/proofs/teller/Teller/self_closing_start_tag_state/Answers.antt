@@ -1,6 +1,6 @@
 use Rattle.std.proofs.lemmas.Bool.{ne_eqb}
-use Rattle.html5grammar.proofs.Steps.{part-after_solidus}
-use Rattle.html5opened.specs.CurrentTag.{open_tag}
+use Rattle.html5reading.proofs.Steps.{part-after_solidus}
+use Rattle.html5partial.specs.CurrentTag.{open_tag}
 use Rattle.html5states.proofs.teller.Teller.self_closing_start_tag_state.Goals as goal
 
 pub returns : goal.returns

@@ -1,7 +1,7 @@
 use Rattle.std.proofs.Common.{[], refl}
 use Rattle.html5ever_interface.specs.Token.{doctype_of}
-use Rattle.html5grammar.specs.Machine.{skipped_step}
-use Rattle.html5grammar.proofs.Steps.{skipped_step-before}
+use Rattle.html5reading.specs.Machine.{skipped_step}
+use Rattle.html5reading.proofs.Steps.{skipped_step-before}
 use Rattle.html5states.proofs.Tellings.{reads_then, reads_stop}
 use Rattle.html5states.proofs.teller.Teller.skip_doctype.Goals as goal
 

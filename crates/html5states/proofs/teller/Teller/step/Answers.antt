@@ -1,10 +1,10 @@
 use Rattle.std.proofs.Common.{◌≡◌, true, refl, ap, sym, ◌∙◌}
 use Rattle.std.proofs.lemmas.Bool.{false≢true}
 use Rattle.html5ever_interface.specs.declared.states.State.TheVariants as state
-use Rattle.html5grammar.specs.Machine.{step_at}
-use Rattle.html5grammar.specs.Start.{is_undecided_open}
-use Rattle.html5opened.proofs.CommentStates.{open-comment}
-use Rattle.html5opened.specs.CurrentTag.{open_of, is_comment_state, is_doctype_state}
+use Rattle.html5reading.specs.Machine.{step_at}
+use Rattle.html5reading.specs.Start.{is_undecided_open}
+use Rattle.html5partial.proofs.CommentStates.{open-comment}
+use Rattle.html5partial.specs.CurrentTag.{open_of, is_comment_state, is_doctype_state}
 use Rattle.html5states.proofs.Tellings.{reads_as}
 use Rattle.html5states.proofs.teller.Teller.step.Goals as goal
 

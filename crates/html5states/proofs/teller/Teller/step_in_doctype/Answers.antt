@@ -1,10 +1,10 @@
 use Rattle.std.proofs.Common.{◌≡◌, Bool, false, List, [], ◌∷◌, refl, ℕ, sym, string_bytes}
 use Rattle.std.proofs.lemmas.Bool.{false≢true}
 use Rattle.html5ever_interface.specs.Token.{DoctypeOf, doctype_of}
-use Rattle.html5grammar.specs.Machine.{step_at, doctype_step}
-use Rattle.html5grammar.specs.Start.{is_undecided_open}
-use Rattle.html5grammar.specs.Start.DoctypePlace.{AfterName}
-use Rattle.html5opened.specs.CurrentTag.{after_doctype_name}
+use Rattle.html5reading.specs.Machine.{step_at, doctype_step}
+use Rattle.html5reading.specs.Start.{is_undecided_open}
+use Rattle.html5reading.specs.Start.DoctypePlace.{AfterName}
+use Rattle.html5partial.specs.CurrentTag.{after_doctype_name}
 use Rattle.html5states.proofs.Tellings.{reads_as}
 use Rattle.html5states.proofs.teller.Teller.step_in_doctype.Goals as goal
 

@@ -1,7 +1,7 @@
 use Rattle.std.proofs.lemmas.Str.{chars-nil}
-use Rattle.html5grammar.specs.EndOfInput.{told_at_end_of, told_at_raw_end}
-use Rattle.html5grammar.specs.RawText.{escaped_state}
-use Rattle.html5grammar.specs.Start.Dashes.{OneDash, TwoDashes}
+use Rattle.html5reading.specs.EndOfInput.{told_at_end_of, told_at_raw_end}
+use Rattle.html5reading.specs.RawText.{escaped_state}
+use Rattle.html5reading.specs.Start.Dashes.{OneDash, TwoDashes}
 use Rattle.html5states.proofs.RawEnds.{raw_end_error-escaped}
 use Rattle.html5states.proofs.teller.Teller.tell_end_of_input.Goals as goal
 

@@ -1,0 +1,8 @@
+use Rattle.html5partial.specs.CurrentTag.{opened_of}
+use Rattle.html5fast_path.proofs.Beginnings.{front-same}
+use Rattle.html5fast_path.proofs.texts.read_next.Goals as goal
+
+pub returns-in-0-clause-reads : goal.returns-in-0-clause-reads
+returns-in-0-clause-reads g c =
+    let same = front-same c.args.text.now (opened_of c.args.at.now) (opened_of c.read_value.new.at) (rw c.in-0.is at c.in_ok-bytes.ensures.reads) in
+    rw same c.read_but_value.ensures.reads

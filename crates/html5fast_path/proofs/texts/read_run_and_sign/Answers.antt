@@ -1,0 +1,12 @@
+use Rattle.std.proofs.lemmas.Str.{IsCharBoundary-from_drop}
+use Rattle.html5partial.specs.CurrentTag.{opened_of}
+use Rattle.html5fast_path.proofs.Beginnings.{front-append}
+use Rattle.html5fast_path.proofs.texts.read_run_and_sign.Goals as goal
+
+pub range_from-requires : goal.range_from-requires
+range_from-requires g c = let run = c.in_ok-run.ensures.reads in λ some. IsCharBoundary-from_drop c.args.text.now c.in_ok-run.run' run.within run.rest_utf8
+
+pub returns-clause-reads : goal.returns-clause-reads
+returns-clause-reads g c =
+    front-append c.args.text.now c.in_ok-run.run' c.read_first_sign-sign.result _ (opened_of c.read_run.new.at) _ c.utf8.text c.in_ok-run.ensures.reads
+    (rw c.range_from.ensures.value at c.read_first_sign-sign.ensures.reads)

@@ -1,5 +1,0 @@
-use Rattle.html5grammar.proofs.NoTagsAtEnd.{cut_off_tags}
-use Rattle.html5grammar.proofs.tags_cut_off.Goals as goal
-
-pub returns : goal.returns
-returns g c = λ rules K s text. cut_off_tags g.S.TokenSink.means.step g.S.TokenSink.means.reply g.S.TokenSink.means.foreign rules K s text

@@ -1,6 +1,0 @@
-use Rattle.html5items.proofs.Tag.Parts.{tag-by_itself}
-use Rattle.html5items.proofs.anywhere.tag.Goals as goal
-
-pub returns : goal.returns
-returns g c = λ rules K s Y tag table one.
-    tag-by_itself g.S.TokenSink.means rules K s Y tag table one

@@ -1,5 +1,0 @@
-use Rattle.html5items.proofs.Completeness.{all-composed}
-use Rattle.html5items.proofs.each_text.Goals as goal
-
-pub returns : goal.returns
-returns g c = λ rules K s text clean. all-composed g.S.TokenSink.means rules K s text clean

@@ -1,8 +1,0 @@
-use Rattle.std.proofs.Common.{◌≡◌, map, drop}
-use Rattle.html5grammar.specs.Tag.{has_attribute}
-use Rattle.markup5ever.specs.Names.{attribute_of}
-use Rattle.html5opened.proofs.attribute_list.is_among.Given as goal
-
-abbrev pub invariant-loop-attribute : goal.invariant-loop-attribute
-invariant-loop-attribute g l =
-    has_attribute (map attribute_of l.attributes) l.name ≡ has_attribute (map attribute_of (drop l.attribute-index l.attributes)) l.name

@@ -1,5 +1,0 @@
-use Rattle.html5opened.proofs.LongestName.{named-all}
-use Rattle.html5opened.proofs.char_ref.longest_name.Goals as goal
-
-pub returns-in-Some : goal.returns-in-Some
-returns-in-Some g c = named-all c.args.names.now c.args.text.now c.in-Some.first c.in-Some.second c.in-Some.ensures.characters

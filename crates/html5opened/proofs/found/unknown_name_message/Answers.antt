@@ -1,7 +1,0 @@
-use Rattle.std.proofs.lemmas.Str.{encodes-IsAscii}
-use Rattle.html5opened.proofs.found.unknown_name_message.Goals as goal
-
-pub returns : goal.returns
-unfolding Rattle.html5grammar.specs.Reference.unknown_name
-returns g c =
-    rw (c.if-not-exact_errors.false, encodes-IsAscii c.args.held.now c.requires) c.in_ok-text.ensures.ok

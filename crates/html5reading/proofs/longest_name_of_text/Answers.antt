@@ -1,0 +1,9 @@
+use Rattle.std.specs.Prelude.{[]}
+use Rattle.html5reading.proofs.NameRuns.{longest-run, held-of_text}
+use Rattle.html5reading.proofs.longest_name_of_text.Goals as goal
+
+pub returns-clause-name : goal.returns-clause-name
+returns-clause-name c = λ names text other. longest-run names [] text other
+
+pub returns-clause-held : goal.returns-clause-held
+returns-clause-held c = λ names text table other. held-of_text names text table other

@@ -1,0 +1,73 @@
+-- What is written, one thing after the other.
+use Rattle.std.proofs.Common.{◌≡◌, ℕ, ◌+◌, ◌<◌, ◌≤◌, Bool, false, List, [], ◌∷◌, ◌++◌, map, length, take, drop, get_or, Result, OnOk, refl, ap, sym, ◌∙◌}
+use Rattle.std.proofs.lemmas.List.{append-nil, append_assoc, map_more, drop-append-le, take-append-drop, length-append, length-take-le}
+use Rattle.std.proofs.lemmas.List.Concat.{flat_map-append}
+use Rattle.std.proofs.lemmas.Result.{on_ok_weaker}
+use Rattle.std.specs.List.{flat_map}
+use Rattle.markup5ever.specs.Names.{AttributeOf, attribute_of}
+use Rattle.markup5ever.specs.declared.interface.Attribute.{Attribute}
+use Rattle.html5ever_interface.specs.Token.{Told, is_text}
+use Rattle.html5ever_interface.specs.Token.Told.{Text}
+use Rattle.html5records.specs.Events.{text_closing, added_by}
+use Rattle.html5records.specs.Records.{attribute_record, heading, heading_of, code_of, record_of, BeginsWith}
+
+-- what is written for one thing more
+pub flat_map-push : {X : Type 0} (f : X → List ℕ) (xs : List X) (x : X) → flat_map f (xs ++ x ∷ []) ≡ flat_map f xs ++ f x
+flat_map-push f xs x = flat_map-append f xs (x ∷ []) ∙ ap (λ l. flat_map f xs ++ l) (append-nil (f x))
+
+-- a page that has the first `i` attributes, and then one more
+pub attributes-more : {Z : Type 0} (old page next : List ℕ) (attributes : List (Attribute Z)) (i : ℕ) (attribute : Attribute Z)
+    → page ≡ old ++ flat_map attribute_record (map attribute_of (take i attributes))
+    → attribute ≡ get_or attributes i attribute
+    → i < length attributes
+    → next ≡ page ++ attribute_record (attribute_of attribute)
+    → next ≡ old ++ flat_map attribute_record (map attribute_of (take (i + 1) attributes))
+attributes-more old page next attributes i attribute before here within written =
+    let front : List AttributeOf = map attribute_of (take i attributes) in
+    let more : map attribute_of (take (i + 1) attributes) ≡ front ++ attribute_of attribute ∷ [] =
+    map_more attribute_of attributes i attribute within ∙ ap (λ a. front ++ attribute_of a ∷ []) (sym here) in
+    written
+    ∙ ap (λ l. l ++ attribute_record (attribute_of attribute)) before
+    ∙ append_assoc old (flat_map attribute_record front) (attribute_record (attribute_of attribute))
+    ∙ ap (λ l. old ++ l) (sym (ap (flat_map attribute_record) more ∙ flat_map-push attribute_record front (attribute_of attribute)))
+
+-- a list that begins with another and more begins with the other
+pub BeginsWith-less : (xs ys zs ws : List ℕ) → ys ≡ zs ++ ws → BeginsWith xs ys → BeginsWith xs zs
+BeginsWith-less xs ys zs ws e b = record { rest = ws ++ b.rest; parts = b.parts ∙ ap (λ l. l ++ b.rest) e ∙ append_assoc zs ws b.rest }
+
+-- two pieces, of which the last could fail
+pub pieces-two : {T E : Type 0} (r : Result T E) (old page next a b : List ℕ) → page ≡ old ++ a → OnOk r (next ≡ page ++ b) → OnOk r (next ≡ old ++ (a ++ b))
+pieces-two r old page next a b before written =
+    on_ok_weaker r (λ (e : next ≡ page ++ b). e ∙ ap (λ l. l ++ b) before ∙ append_assoc old a b) written
+
+-- a token that is no text
+
+pub heading_of-other : (told : Told) (line : ℕ) → is_text told ≡ false → heading_of told line ≡ heading (code_of told) line
+unfolding heading_of
+heading_of-other (Text text) line other = absurd cc
+heading_of-other told line other = refl
+
+pub added_by-other : (in_text : Bool) (told : Told) (line : ℕ) → is_text told ≡ false → added_by in_text told line ≡ text_closing in_text ++ record_of told line
+unfolding added_by
+added_by-other in_text (Text text) line other = absurd cc
+added_by-other in_text told line other = refl
+
+-- bytes that were taken, and those that wait
+
+pub bytes-more : (taken page added next : List ℕ) (skipped : ℕ) → skipped ≤ length page → next ≡ page ++ added
+    → taken ++ drop skipped next ≡ (taken ++ drop skipped page) ++ added
+bytes-more taken page added next skipped within more =
+    ap (λ l. taken ++ drop skipped l) more
+    ∙ ap (λ l. taken ++ l) (drop-append-le skipped page added within)
+    ∙ sym (append_assoc taken (drop skipped page) added)
+
+pub bytes-taken : (taken more front rest : List ℕ) (count : ℕ) → more ≡ taken ++ take count front → rest ≡ drop count front → more ++ rest ≡ taken ++ front
+bytes-taken taken more front rest count more_is rest_is =
+    ap (λ l. l ++ rest) more_is
+    ∙ append_assoc taken (take count front) rest
+    ∙ ap (λ l. taken ++ (take count front ++ l)) rest_is
+    ∙ ap (λ l. taken ++ l) (take-append-drop count front)
+
+pub count-taken : (taken more front : List ℕ) (count : ℕ) → more ≡ taken ++ take count front → count ≤ length front → length more ≡ length taken + count
+count-taken taken more front count more_is within =
+    ap length more_is ∙ length-append taken (take count front) ∙ ap (λ n. length taken + n) (length-take-le count front within)

@@ -1,0 +1,296 @@
+//! Writing records.
+ghost use Rattle.std.specs.Prelude.{◌≡◌, ◌+◌, ◌++◌, false, ◌∷◌, [], map, option_map, is_some, string_bytes, OnOk, OnErr};
+ghost use Rattle.std.specs.List.{flat_map};
+ghost use Rattle.html5records.specs.Records.{BeginsWith, number, counted, flag, attribute_record, attribute_records, optional, tag_flags, tag_parts, tag_code, code_of, doctype_flags, doctype_parts, heading, parts, record_of};
+ghost use Rattle.html5records.specs.Events.{text_closing, added_by_text, added_by, open_after};
+ghost use Rattle.html5ever_interface.specs.Token.{told_by, tag_of, doctype_of, is_text};
+ghost use Rattle.html5ever_interface.specs.Token.Told.{Text};
+ghost use Rattle.markup5ever.specs.Names.{attribute_of};
+
+use crate::kinds;
+use html5ever_interface::interface::token::{Doctype, Tag, TagKind, Token};
+use markup5ever::interface::Attribute;
+use std::alloc::{AllocError, Allocator};
+
+#[tactic(auto, unfolding(crate::specs::Records::number))]
+fn push_number<A: Allocator>(page: &mut Vec<u8, A>, value: u64) -> Result<(), AllocError>
+    ensures ok { OnOk result (page.new.items ≡ page.old.items ++ number value) }
+    ensures err { OnErr result (BeginsWith page.new.items page.old.items) }
+{
+    page.extend_from_slice(&value.to_le_bytes())
+}
+
+// Appends a text with its length.
+#[tactic(auto, unfolding(crate::specs::Records::counted))]
+fn push_counted<A: Allocator>(page: &mut Vec<u8, A>, text: &[u8]) -> Result<(), AllocError>
+    ensures ok { OnOk result (page.new.items ≡ page.old.items ++ counted text.now) }
+    ensures err { OnErr result (BeginsWith page.new.items page.old.items) }
+{
+    push_number(page, text.len() as u64)?;
+    page.extend_from_slice(text)
+}
+
+#[tactic(auto, unfolding(crate::specs::Records::attribute_record))]
+fn push_attribute<A: Allocator>(
+    page: &mut Vec<u8, A>,
+    attribute: &Attribute<A>,
+) -> Result<(), AllocError>
+    ensures ok { OnOk result
+        (page.new.items ≡ page.old.items ++ attribute_record (attribute_of attribute.now)) }
+    ensures err { OnErr result (BeginsWith page.new.items page.old.items) }
+{
+    push_counted(page, attribute.name.local.0.as_bytes())?;
+    push_counted(page, attribute.value.as_bytes())
+}
+
+// The flag, where it is set.
+fn flag_where(is_set: bool, weight: u8) -> u8
+    ensures { result ≡ flag is_set weight }
+{
+    if is_set { weight } else { 0 }
+}
+
+// Appends the kind of a record and its line.
+#[tactic(auto, unfolding(crate::specs::Records::heading))]
+fn push_heading<A: Allocator>(page: &mut Vec<u8, A>, kind: u8, line: u64) -> Result<(), AllocError>
+    ensures ok { OnOk result (page.new.items ≡ page.old.items ++ heading kind line) }
+    ensures err { OnErr result (BeginsWith page.new.items page.old.items) }
+{
+    page.push(kind)?;
+    push_number(page, line)
+}
+
+// Appends attributes, one after the other.
+fn push_each_attribute<A: Allocator>(
+    page: &mut Vec<u8, A>,
+    attributes: &[Attribute<A>],
+) -> Result<(), AllocError>
+    ensures ok { OnOk result
+        (page.new.items ≡ page.old.items
+        ++ flat_map attribute_record (map attribute_of attributes.now)) }
+    ensures err { OnErr result (BeginsWith page.new.items page.old.items) }
+{
+    for attribute in attributes {
+        push_attribute(page, attribute)?;
+    }
+    Ok(())
+}
+
+// Appends attributes with their number.
+#[tactic(auto, unfolding(crate::specs::Records::attribute_records))]
+fn push_attributes<A: Allocator>(
+    page: &mut Vec<u8, A>,
+    attributes: &[Attribute<A>],
+) -> Result<(), AllocError>
+    ensures ok { OnOk result
+        (page.new.items ≡ page.old.items ++ attribute_records (map attribute_of attributes.now)) }
+    ensures err { OnErr result (BeginsWith page.new.items page.old.items) }
+{
+    push_number(page, attributes.len() as u64)?;
+    push_each_attribute(page, attributes)
+}
+
+// The flags of a tag.
+fn tag_flags<A: Allocator>(tag: &Tag<A>) -> u8
+    ensures { result ≡ tag_flags (tag_of tag.now) }
+{
+    flag_where(tag.self_closing, kinds::SELF_CLOSING)
+        + flag_where(tag.had_duplicate_attributes, kinds::DUPLICATE_ATTRIBUTES)
+}
+
+// Appends what comes after the line of a tag.
+#[tactic(auto, unfolding(crate::specs::Records::tag_parts))]
+fn push_tag_parts<A: Allocator>(page: &mut Vec<u8, A>, tag: &Tag<A>) -> Result<(), AllocError>
+    ensures ok { OnOk result (page.new.items ≡ page.old.items ++ tag_parts (tag_of tag.now)) }
+    ensures err { OnErr result (BeginsWith page.new.items page.old.items) }
+{
+    page.push(tag_flags(tag))?;
+    push_counted(page, tag.name.0.as_bytes())?;
+    push_attributes(page, &tag.attrs)
+}
+
+// The kind of a tag's record.
+fn tag_kind(kind: TagKind) -> u8
+    ensures { result ≡ tag_code kind }
+{
+    match kind {
+        TagKind::StartTag => kinds::START_TAG,
+        TagKind::EndTag => kinds::END_TAG,
+    }
+}
+
+// The flags of a DOCTYPE.
+fn doctype_flags<A: Allocator>(doctype: &Doctype<A>) -> u8
+    ensures { result ≡ doctype_flags (doctype_of doctype.now) }
+{
+    flag_where(doctype.name.is_some(), kinds::HAS_NAME)
+        + flag_where(doctype.public_id.is_some(), kinds::HAS_PUBLIC_ID)
+        + flag_where(doctype.system_id.is_some(), kinds::HAS_SYSTEM_ID)
+        + flag_where(doctype.force_quirks, kinds::FORCE_QUIRKS)
+}
+
+// Appends a text that may be missing.
+#[tactic(auto, unfolding(crate::specs::Records::optional))]
+fn push_optional<A: Allocator>(
+    page: &mut Vec<u8, A>,
+    text: &Option<String<A>>,
+) -> Result<(), AllocError>
+    ensures ok { OnOk result
+        (page.new.items ≡ page.old.items ++ optional (option_map string_bytes text.now)) }
+    ensures err { OnErr result (BeginsWith page.new.items page.old.items) }
+{
+    match text {
+        None => Ok(()),
+        Some(text) => push_counted(page, text.as_bytes()),
+    }
+}
+
+// Appends what comes after the line of a DOCTYPE.
+#[tactic(auto, unfolding(crate::specs::Records::doctype_parts))]
+fn push_doctype_parts<A: Allocator>(
+    page: &mut Vec<u8, A>,
+    doctype: &Doctype<A>,
+) -> Result<(), AllocError>
+    ensures ok { OnOk result
+        (page.new.items ≡ page.old.items ++ doctype_parts (doctype_of doctype.now)) }
+    ensures err { OnErr result (BeginsWith page.new.items page.old.items) }
+{
+    page.push(doctype_flags(doctype))?;
+    push_optional(page, &doctype.name)?;
+    push_optional(page, &doctype.public_id)?;
+    push_optional(page, &doctype.system_id)
+}
+
+// The first byte of a token's record.
+fn kind_of<A: Allocator>(token: &Token<A>) -> u8
+    ensures { result ≡ code_of (told_by token.now) }
+{
+    match token {
+        Token::DoctypeToken(_) => kinds::DOCTYPE,
+        Token::TagToken(tag) => tag_kind(tag.kind),
+        Token::CommentToken(_) => kinds::COMMENT,
+        Token::ProcessingInstructionToken(_) => kinds::PROCESSING_INSTRUCTION,
+        Token::CharacterTokens(_) => kinds::TEXT,
+        Token::NullCharacterToken => kinds::NULL_CHARACTER,
+        Token::EOFToken => kinds::END,
+        Token::ParseError(_) => kinds::PARSE_ERROR,
+    }
+}
+
+// Appends what comes after the line.
+#[tactic(auto, unfolding(crate::specs::Records::parts))]
+fn push_parts<A: Allocator>(page: &mut Vec<u8, A>, token: &Token<A>) -> Result<(), AllocError>
+    requires { is_text (told_by token.now) ≡ false }
+    ensures ok { OnOk result (page.new.items ≡ page.old.items ++ parts (told_by token.now)) }
+    ensures err { OnErr result (BeginsWith page.new.items page.old.items) }
+{
+    match token {
+        Token::DoctypeToken(doctype) => push_doctype_parts(page, doctype),
+        Token::TagToken(tag) => push_tag_parts(page, tag),
+        Token::CommentToken(text) => push_counted(page, text.as_bytes()),
+        Token::ProcessingInstructionToken(content) => push_counted(page, content.as_bytes()),
+        Token::CharacterTokens(_) => unreachable!(),
+        Token::NullCharacterToken => Ok(()),
+        Token::EOFToken => Ok(()),
+        Token::ParseError(message) => push_counted(page, message.as_bytes()),
+    }
+}
+
+// Appends the record of a token that is no text.
+#[tactic(auto, unfolding(crate::specs::Records::record_of))]
+fn push_record<A: Allocator>(
+    page: &mut Vec<u8, A>,
+    token: &Token<A>,
+    line: u64,
+) -> Result<(), AllocError>
+    requires { is_text (told_by token.now) ≡ false }
+    ensures ok { OnOk result
+        (page.new.items ≡ page.old.items ++ record_of (told_by token.now) line) }
+    ensures err { OnErr result (BeginsWith page.new.items page.old.items) }
+{
+    push_heading(page, kind_of(token), line)?;
+    push_parts(page, token)
+}
+
+/// Appends a text, or a piece of it. An empty one opens no record.
+#[tactic(auto, unfolding(crate::specs::Events::added_by_text))]
+pub fn push_text<A: Allocator>(
+    page: &mut Vec<u8, A>,
+    in_text: bool,
+    text: &[u8],
+) -> Result<(), AllocError>
+    ensures ok { OnOk result (page.new.items ≡ page.old.items ++ added_by_text in_text text.now) }
+    ensures err { OnErr result (BeginsWith page.new.items page.old.items) }
+{
+    if text.is_empty() {
+        return Ok(());
+    }
+    if !in_text {
+        page.push(kinds::TEXT)?;
+    }
+    page.extend_from_slice(text)
+}
+
+// Ends an open text.
+fn push_text_end<A: Allocator>(page: &mut Vec<u8, A>, in_text: bool) -> Result<(), AllocError>
+    ensures ok { OnOk result (page.new.items ≡ page.old.items ++ text_closing in_text) }
+    ensures err { OnErr result (BeginsWith page.new.items page.old.items) }
+{
+    if in_text {
+        page.push(kinds::TEXT_END)?;
+    }
+    Ok(())
+}
+
+// Ends an open text, and appends the record of a token that is no text.
+fn push_other<A: Allocator>(
+    page: &mut Vec<u8, A>,
+    in_text: bool,
+    token: &Token<A>,
+    line: u64,
+) -> Result<(), AllocError>
+    requires { is_text (told_by token.now) ≡ false }
+    ensures ok { OnOk result
+        (page.new.items ≡ page.old.items ++ added_by in_text (told_by token.now) line) }
+    ensures err { OnErr result (BeginsWith page.new.items page.old.items) }
+{
+    push_text_end(page, in_text)?;
+    push_record(page, token, line)
+}
+
+/// Appends what a token adds, where `in_text` says whether a text is open.
+#[tactic(auto, unfolding(crate::specs::Events::added_by))]
+pub fn push_token<A: Allocator>(
+    page: &mut Vec<u8, A>,
+    in_text: bool,
+    token: &Token<A>,
+    line: u64,
+) -> Result<(), AllocError>
+    ensures ok { OnOk result
+        (page.new.items ≡ page.old.items ++ added_by in_text (told_by token.now) line) }
+    ensures err { OnErr result (BeginsWith page.new.items page.old.items) }
+{
+    match token {
+        Token::CharacterTokens(text) => push_text(page, in_text, text.as_bytes()),
+        _ => push_other(page, in_text, token, line),
+    }
+}
+
+/// Whether a text is open after a text.
+#[tactic(auto, unfolding(crate::specs::Events::open_after))]
+pub fn is_open_after_text(in_text: bool, text: &[u8]) -> bool
+    ensures { result ≡ open_after in_text (Text text.now) }
+{
+    in_text || !text.is_empty()
+}
+
+/// Whether a text is open after a token.
+#[tactic(auto, unfolding(crate::specs::Events::open_after))]
+pub fn is_open_after<A: Allocator>(in_text: bool, token: &Token<A>) -> bool
+    ensures { result ≡ open_after in_text (told_by token.now) }
+{
+    match token {
+        Token::CharacterTokens(text) => is_open_after_text(in_text, text.as_bytes()),
+        _ => false,
+    }
+}
