@@ -25,7 +25,7 @@ BINDINGS = pathlib.Path(__file__).resolve().parent.parent / "bindings"
 def built_in_c(folder):
     """The example in C."""
     program = folder / "count-c"
-    words = ["gcc", "-std=c99", "-O2", str(BINDINGS / "c/examples/count.c"), str(BINDINGS / "out/libhtml5c.a")]
+    words = ["gcc", "-std=c99", "-O2", str(BINDINGS / "c/examples/count.c"), str(BINDINGS / "out/libfirnuubal.a")]
     subprocess.run([*words, "-o", str(program)], check=True)
     return program
 

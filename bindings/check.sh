@@ -38,19 +38,19 @@ archive() {
         tail -20 "$out/rt.log"
         return 1
     }
-    rm -rf "$out/objects" "$out/libhtml5c.a"
+    rm -rf "$out/objects" "$out/libfirnuubal.a"
     mkdir "$out/objects"
-    (cd "$out/objects" && ar x "$here/../crates/html5c/out/libhtml5c.a" && ar x "$kit/c/liblibc_c.a" && ar rcs ../libhtml5c.a ./*)
+    (cd "$out/objects" && ar x "$here/../crates/html5c/out/libhtml5c.a" && ar x "$kit/c/liblibc_c.a" && ar rcs ../libfirnuubal.a ./*)
     rm -r "$out/objects"
 }
 
 shared() {
-    gcc -shared -o "$out/libfirnuubal.so" -Wl,--whole-archive "$out/libhtml5c.a" -Wl,--no-whole-archive
+    gcc -shared -o "$out/libfirnuubal.so" -Wl,--whole-archive "$out/libfirnuubal.a" -Wl,--no-whole-archive
 }
 
 # Builds a program in C, which is a file of c/, and names it.
 built_in_c() {
-    gcc -std=c99 -Wall -Wextra -Werror -O2 "c/$1" "$out/libhtml5c.a" -o "$out/$2"
+    gcc -std=c99 -Wall -Wextra -Werror -O2 "c/$1" "$out/libfirnuubal.a" -o "$out/$2"
 }
 
 # The examples are built in out/, so that no file of cargo's stands beside the sources.
@@ -86,7 +86,7 @@ pages() {
     cp page.html "$out/page.html"
     printf 'a\0b\1\177<a href="x\ny">\r\n<p\0><!--\0' >"$out/odd.html"
     for page in "$out/page.html" "$out/odd.html"; do
-        ../crates/html5tok/out/html5tok --table "$(python3 ../tools/names.py)" <"$page" >"$page.lines"
+        ../crates/html5tok/out/html5tok --table "$(python3 ../tools/entities.py)" <"$page" >"$page.lines"
     done
 }
 

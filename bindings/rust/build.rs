@@ -8,7 +8,7 @@ fn main() {
     let beside = PathBuf::from(env::var_os("CARGO_MANIFEST_DIR").unwrap()).join("../out");
     let folder = env::var_os("FIRNUUBAL_LIB").map_or(beside, PathBuf::from);
     println!("cargo:rustc-link-search=native={}", folder.display());
-    println!("cargo:rustc-link-lib=static=html5c");
+    println!("cargo:rustc-link-lib=static=firnuubal");
     println!("cargo:rerun-if-env-changed=FIRNUUBAL_LIB");
-    println!("cargo:rerun-if-changed={}", folder.join("libhtml5c.a").display());
+    println!("cargo:rerun-if-changed={}", folder.join("libfirnuubal.a").display());
 }

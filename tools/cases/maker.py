@@ -7,7 +7,7 @@ import html.entities
 import random
 from dataclasses import dataclass
 
-import names
+import entities
 
 # the first and last of each kind of bad character, and characters beside them
 BAD = "\x01\x08\x0b\x0e\x1f\x7f\x80\x9f\ufdd0\ufdef\ufffe\uffff\U0001fffe\U0010ffff"
@@ -49,7 +49,7 @@ class Case:
 
 @functools.lru_cache
 def standard_table() -> str:
-    return names.standard_list()
+    return entities.standard_list()
 
 
 def case_of(seed: str, number: int) -> Case:

@@ -70,7 +70,7 @@ def printf_format(text: str) -> str:
 
 
 def shell_word(word: str) -> str:
-    return '"$(python3 tools/names.py)"' if word == standard_table() else shlex.quote(word)
+    return '"$(python3 tools/entities.py)"' if word == standard_table() else shlex.quote(word)
 
 
 def command_line(program: str, case: Case) -> str:

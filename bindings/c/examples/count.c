@@ -3,7 +3,7 @@
  *
  *     count < PAGE
  */
-#include "../html5.h"
+#include "../firnuubal.h"
 
 #include <inttypes.h>
 #include <stdio.h>

@@ -5,7 +5,7 @@
  *
  * The page is fed in pieces of PIECE bytes, or 4096.
  */
-#include "../html5.h"
+#include "../firnuubal.h"
 
 #include <inttypes.h>
 #include <stdio.h>

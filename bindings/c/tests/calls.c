@@ -1,7 +1,7 @@
 /*
  * Calls of the library, what each answers, and the very bytes of the records. `bindings/check.sh` runs it.
  */
-#include "../html5.h"
+#include "../firnuubal.h"
 
 #include <stdio.h>
 

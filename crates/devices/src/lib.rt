@@ -1,4 +1,4 @@
-//! What a program reads from and writes to, at once or a page at a time, and its words. Contracts see
+//! What a program reads from and writes to, at once or a buffer at a time, and its words. Contracts see
 //! how often a device failed.
 #![tactic(auto)]
 

@@ -1,4 +1,4 @@
-//! A target after a page.
+//! A target after a buffer.
 ghost use Rattle.std.specs.Prelude.{◌≡◌, ◌↔◌, ◌+◌, [], ◌++◌, false, true, Err, IfErr, IsErr, OnOk, OnErr, is_err};
 ghost use Rattle.devices.specs.Device.{IsReadFault, reported_failures};
 
@@ -9,14 +9,14 @@ use ghost_counts::Log;
 use std::alloc::{Allocator, Global};
 use std::marker::Model;
 
-/// How many bytes wait on a page before it is written.
-const PAGE: usize = 4096;
+/// How many bytes wait on a buffer before it is written.
+const BUFFER: usize = 4096;
 
-/// Prints to a target by pages: what is printed is written once a page is full, and at the end.
+/// Prints to a target by buffers: what is printed is written once a buffer is full, and at the end.
 #[derive(Drop)]
 pub struct Printer<W, A: Allocator = Global> {
     target: Logged<W>,
-    page: Vec<u8, A>,
+    buffer: Vec<u8, A>,
     log: Log,
     failed: bool,
 }
@@ -29,7 +29,7 @@ impl<W, A: Allocator> Model for Printer<W, A> {
 
     ghost view = { λ p. record { target = p.target; printed = p.log.bytes; failed = p.failed } };
 
-    ghost invariant = { λ p. p.failed ≡ false → p.log.bytes ≡ p.target.taken ++ p.page.items };
+    ghost invariant = { λ p. p.failed ≡ false → p.log.bytes ≡ p.target.taken ++ p.buffer.items };
 }
 
 impl<W: Target, A: Allocator> Printer<W, A> {
@@ -41,14 +41,14 @@ impl<W: Target, A: Allocator> Printer<W, A> {
     {
         Printer {
             target: Logged::new(target),
-            page: Vec::new(alloc),
+            buffer: Vec::new(alloc),
             log: Log::new(),
             failed: false,
         }
     }
 
-    // Writes the page, and begins another.
-    fn write_page(&mut self) -> Result<(), Fault>
+    // Writes the buffer, and begins another.
+    fn write_buffer(&mut self) -> Result<(), Fault>
         requires { self.old.failed ≡ false }
         ensures printed { self.new.printed ≡ self.old.printed }
         ensures written { OnOk result (self.new.target.taken ≡ self.old.printed) }
@@ -57,13 +57,13 @@ impl<W: Target, A: Allocator> Printer<W, A> {
         ensures failed { self.new.failed ≡ is_err result }
         ensures fault { IfErr result (λ fault. fault ≡ Fault.Device) }
     {
-        let written = write_all(&mut self.target, self.page.as_slice());
-        self.page.clear();
+        let written = write_all(&mut self.target, self.buffer.as_slice());
+        self.buffer.clear();
         self.failed = written.is_err();
         written
     }
 
-    /// Prints bytes. Where there is no memory for it nothing was printed; where a full page can't be
+    /// Prints bytes. Where there is no memory for it nothing was printed; where a full buffer can't be
     /// written the printer has failed, and prints nothing more.
     pub fn print(&mut self, bytes: &[u8]) -> Result<(), Fault>
         ensures ok { OnOk result (self.new.printed ≡ self.old.printed ++ bytes.now) }
@@ -77,10 +77,10 @@ impl<W: Target, A: Allocator> Printer<W, A> {
         if self.failed {
             return Err(Fault::Device);
         }
-        if self.page.len() >= PAGE {
-            self.write_page()?;
+        if self.buffer.len() >= BUFFER {
+            self.write_buffer()?;
         }
-        self.page.extend_from_slice(bytes)?;
+        self.buffer.extend_from_slice(bytes)?;
         self.log.add(bytes);
         Ok(())
     }
@@ -96,7 +96,7 @@ impl<W: Target, A: Allocator> Printer<W, A> {
         if self.failed {
             return (self.target, Err(Fault::Device));
         }
-        let written = self.write_page();
+        let written = self.write_buffer();
         (self.target, written)
     }
 }

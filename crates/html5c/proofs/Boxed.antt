@@ -6,18 +6,18 @@ use Rattle.std_alloc.proofs.BoxSteps.Form.{Bx}
 use Rattle.std_heap.specs.contracts.Global as Heap
 use Rattle.std_heap.specs.contracts.GlobalAllocator.TheImpl.{ghosts, dict}
 use Rattle.std_heap.proofs.Global.TheLaws as heap
-use Rattle.html5c.specs.contracts.page.Page as Page
-use Rattle.html5c.proofs.page.Page.TheLaws as page
+use Rattle.html5c.specs.contracts.slot.SessionSlot as SessionSlot
+use Rattle.html5c.proofs.slot.SessionSlot.TheLaws as slot
 use Rattle.html5c.specs.contracts.handle.parts.Parts as Parts
 use Rattle.html5c.specs.contracts.handle.Owned as Owned
 
 -- the box, over C's memory
 abbrev pub E : Bx
-E = record { row = Page.the_row; laws = page.the_row_laws; al = record { row = Heap.the_row; laws = heap.the_row_laws; g = ghosts; d = dict; drops = impl [] tnil dnil } }
+E = record { row = SessionSlot.the_row; laws = slot.the_row_laws; al = record { row = Heap.the_row; laws = heap.the_row_laws; g = ghosts; d = dict; drops = impl [] tnil dnil } }
 
 -- a parameter that is the parts of the box, what may own it, or its allocator
 abbrev pub Taken : Slot 0
-Taken = plain (λ _. Parts.the_row Page.the_row Heap.the_row ghosts)
+Taken = plain (λ _. Parts.the_row SessionSlot.the_row Heap.the_row ghosts)
 
 abbrev pub Keeper : Slot 0
 Keeper = plain (λ _. Owned.the_row)

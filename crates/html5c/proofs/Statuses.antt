@@ -3,7 +3,7 @@ use Rattle.std.proofs.Common.{◌≡◌, ◌↔◌, ℕ, Bool, true, false, List
 use Rattle.std.proofs.lemmas.Bool.{false≢true}
 use Rattle.std.specs.Str.{IsUtf8, chars}
 use Rattle.utf8_pieces.specs.Pieces.{IsNeverUtf8}
-use Rattle.html5c.specs.Pages.{fed_status, error_status, open_status, OpenFails, IsStart, NewSays, FeedSays, InsertSays, EndSays}
+use Rattle.html5c.specs.Calls.{fed_status, error_status, open_status, OpenFails, IsStart, NewSays, FeedSays, InsertSays, EndSays}
 use Rattle.html5c.specs.declared.opening.OpenError.{OpenError}
 use Rattle.html5c.specs.declared.opening.OpenError.TheVariants as opening
 use Rattle.html5c.specs.declared.options.Options.{Options}

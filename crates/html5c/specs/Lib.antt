@@ -1,3 +1,3 @@
 pub mod Held
 pub mod Said
-pub mod Pages
+pub mod Calls

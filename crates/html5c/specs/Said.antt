@@ -1,8 +1,8 @@
 -- What the numbers of the options say.
 use Rattle.std.specs.Prelude.{◌==◌, ℕ, not, List, [], ◌∷◌, Option, None, Some, if◌then◌else◌}
 use Rattle.html5c.specs.declared.options.Options.{Options}
-use Rattle.html5records.specs.declared.event_sink.Replies.{Replies}
-use Rattle.html5records.specs.declared.event_sink.Replies.TheVariants as reply
+use Rattle.html5records.specs.declared.record_sink.Replies.{Replies}
+use Rattle.html5records.specs.declared.record_sink.Replies.TheVariants as reply
 use Rattle.html5ever_interface.specs.Options.{OptionsOf}
 use Rattle.html5ever_interface.specs.declared.states.RawKind.TheVariants.{Rcdata, Rawtext, ScriptData}
 use Rattle.html5ever_interface.specs.declared.states.State.{State}

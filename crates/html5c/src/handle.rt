@@ -1,12 +1,12 @@
 //! A handle that C keeps: a boxed session as a pointer, or nothing.
 ghost use Rattle.std.specs.Prelude.{◌≡◌, Option, Some, None, IsSome, MatchOption};
 ghost use Rattle.std.specs.Option.{is_some};
-ghost use Rattle.html5c.specs.declared.page.Page.{Page};
+ghost use Rattle.html5c.specs.declared.slot.SessionSlot.{SessionSlot};
 ghost use Rattle.html5c.specs.Held.{held};
 
 mod parts;
 
-use crate::page::Page;
+use crate::slot::SessionSlot;
 use parts::Parts;
 use std::alloc::Global;
 use std::marker::Model;
@@ -18,7 +18,7 @@ use std::mem;
 pub struct Owned {
     at: *mut u8,
     alloc: Global,
-    pub ghost value: { Option Page },
+    pub ghost value: { Option SessionSlot },
 }
 
 impl Model for Owned {
@@ -37,7 +37,7 @@ impl Owned {
     }
 
     // Owns what the parts of a box own.
-    fn of_parts(parts: Parts<Page, Global>) -> Owned
+    fn of_parts(parts: Parts<SessionSlot, Global>) -> Owned
         ensures { result.value ≡ Some parts.value }
     {
         let Parts { ptr, alloc } = parts;
@@ -48,13 +48,13 @@ impl Owned {
     }
 
     // The parts of the box that it owns.
-    fn into_parts(self) -> Parts<Page, Global>
+    fn into_parts(self) -> Parts<SessionSlot, Global>
         requires { IsSome self.value }
         ensures { self.value ≡ Some result.value }
     {
         let Owned { at, alloc } = self;
         Parts {
-            ptr: at as *mut Page,
+            ptr: at as *mut SessionSlot,
             alloc,
         }
     }
@@ -84,7 +84,7 @@ impl Handle {
     }
 
     /// Holds a session. One that it held before would be lost, so there is none.
-    pub fn put(&mut self, held: Box<Page, Global>)
+    pub fn put(&mut self, held: Box<SessionSlot, Global>)
         requires { self.old.owned.value ≡ None }
         ensures { self.new.owned.value ≡ Some held.value }
     {
@@ -93,7 +93,7 @@ impl Handle {
     }
 
     /// Gives out what it holds, and is closed.
-    pub fn take(&mut self, alloc: Global) -> Option<Box<Page, Global>>
+    pub fn take(&mut self, alloc: Global) -> Option<Box<SessionSlot, Global>>
         ensures held { MatchOption result (self.old.owned.value ≡ None) (λ b. self.old.owned.value ≡ Some b.value) }
         ensures after { self.new.owned.value ≡ None }
     {

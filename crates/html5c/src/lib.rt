@@ -2,16 +2,16 @@
 #![tactic(auto)]
 
 ghost use Rattle.std.specs.Prelude.{◌≡◌, None};
-ghost use Rattle.html5c.specs.Pages.{session_of, NewSays, Feeds, Inserts, Ends, Takes, error_place, over_in};
+ghost use Rattle.html5c.specs.Calls.{session_of, NewSays, Feeds, Inserts, Ends, Takes, error_place, over_in};
 
 mod handle;
 mod opening;
 mod options;
-mod page;
+mod slot;
 pub mod status;
 
 pub use handle::Handle;
-use opening::page_of;
+use opening::slot_of;
 pub use options::Options;
 use std::alloc::Global;
 
@@ -27,9 +27,9 @@ pub extern "C" fn html5_new(
     ensures { NewSays (session_of h.new.owned.value) last_start_tag.now options.now result }
 {
     html5_free(alloc, h);
-    match page_of(alloc, last_start_tag, options) {
-        Ok(page) => {
-            h.put(page);
+    match slot_of(alloc, last_start_tag, options) {
+        Ok(slot) => {
+            h.put(slot);
             status::DONE
         }
         Err(error) => error.status(),
@@ -42,11 +42,11 @@ pub extern "C" fn html5_new(
 pub extern "C" fn html5_feed(alloc: Global, h: &mut Handle, bytes: &[u8]) -> u32
     ensures { Feeds (session_of h.old.owned.value) (session_of h.new.owned.value) bytes.now result }
 {
-    let Some(mut page) = h.take(alloc) else {
+    let Some(mut slot) = h.take(alloc) else {
         return status::CLOSED;
     };
-    let status = page.feed(bytes);
-    h.put(page);
+    let status = slot.feed(bytes);
+    h.put(slot);
     status
 }
 
@@ -56,11 +56,11 @@ pub extern "C" fn html5_feed(alloc: Global, h: &mut Handle, bytes: &[u8]) -> u32
 pub extern "C" fn html5_insert(alloc: Global, h: &mut Handle, text: &[u8]) -> u32
     ensures { Inserts (session_of h.old.owned.value) (session_of h.new.owned.value) text.now result }
 {
-    let Some(mut page) = h.take(alloc) else {
+    let Some(mut slot) = h.take(alloc) else {
         return status::CLOSED;
     };
-    let status = page.insert(text);
-    h.put(page);
+    let status = slot.insert(text);
+    h.put(slot);
     status
 }
 
@@ -69,11 +69,11 @@ pub extern "C" fn html5_insert(alloc: Global, h: &mut Handle, text: &[u8]) -> u3
 pub extern "C" fn html5_end(alloc: Global, h: &mut Handle) -> u32
     ensures { Ends (session_of h.old.owned.value) (session_of h.new.owned.value) result }
 {
-    let Some(mut page) = h.take(alloc) else {
+    let Some(mut slot) = h.take(alloc) else {
         return status::CLOSED;
     };
-    let status = page.end();
-    h.put(page);
+    let status = slot.end();
+    h.put(slot);
     status
 }
 
@@ -83,11 +83,11 @@ pub extern "C" fn html5_end(alloc: Global, h: &mut Handle) -> u32
 pub extern "C" fn html5_take(alloc: Global, h: &mut Handle, out: &mut [u8]) -> usize
     ensures { Takes (session_of h.old.owned.value) (session_of h.new.owned.value) out.old out.new result }
 {
-    let Some(mut page) = h.take(alloc) else {
+    let Some(mut slot) = h.take(alloc) else {
         return 0;
     };
-    let count = page.take(out);
-    h.put(page);
+    let count = slot.take(out);
+    h.put(slot);
     count
 }
 
@@ -98,11 +98,11 @@ pub extern "C" fn html5_error_at(alloc: Global, h: &mut Handle) -> u64
     ensures place { result ≡ error_place (session_of h.old.owned.value) }
     ensures kept { h.new.owned.value ≡ h.old.owned.value }
 {
-    let Some(page) = h.take(alloc) else {
+    let Some(slot) = h.take(alloc) else {
         return 0;
     };
-    let place = page.error_at();
-    h.put(page);
+    let place = slot.error_at();
+    h.put(slot);
     place
 }
 
@@ -113,11 +113,11 @@ pub extern "C" fn html5_is_over(alloc: Global, h: &mut Handle) -> bool
     ensures over { result ≡ over_in (session_of h.old.owned.value) }
     ensures kept { h.new.owned.value ≡ h.old.owned.value }
 {
-    let Some(page) = h.take(alloc) else {
+    let Some(slot) = h.take(alloc) else {
         return false;
     };
-    let is_over = page.is_over();
-    h.put(page);
+    let is_over = slot.is_over();
+    h.put(slot);
     is_over
 }
 

@@ -1,13 +1,13 @@
 //! A page at its start.
 ghost use Rattle.std.specs.Prelude.{◌≡◌, option_map, string_bytes, OnOk, IfOk, IfErr};
 ghost use Rattle.std.specs.Str.{IsUtf8};
-ghost use Rattle.html5c.specs.Pages.{Starts, IsStart, IsNameRefused, OpenFails, open_status};
+ghost use Rattle.html5c.specs.Calls.{Starts, IsStart, IsNameRefused, OpenFails, open_status};
 ghost use Rattle.html5c.specs.Said.{name_said};
 
 use crate::options::Options;
-use crate::page::Page;
+use crate::slot::SessionSlot;
 use crate::status;
-use html5entities::standard_names;
+use html5entities::standard_references;
 use html5session::Session;
 use std::alloc::Global;
 use std::str;
@@ -73,28 +73,28 @@ fn session_at_start(
         Ok(name) => name,
         Err(error) => return Err(error),
     };
-    let Ok(names) = standard_names(alloc) else {
+    let Ok(references) = standard_references(alloc) else {
         return Err(OpenError::Memory);
     };
     let opts = options.opts(start, name);
-    Ok(Session::new(alloc, names, opts, events))
+    Ok(Session::new(alloc, references, opts, events))
 }
 
 /// A page at its start, in its box.
-pub fn page_of(
+pub fn slot_of(
     alloc: Global,
     last_start_tag: &[u8],
     options: &Options,
-) -> Result<Box<Page, Global>, OpenError>
-    ensures starts { IfOk result (λ page. IsStart page.value.session last_start_tag.now options.now) }
+) -> Result<Box<SessionSlot, Global>, OpenError>
+    ensures starts { IfOk result (λ slot. IsStart slot.value.session last_start_tag.now options.now) }
     ensures refused { IfErr result (λ error. OpenFails last_start_tag.now options.now error) }
 {
     let session = match session_at_start(alloc, last_start_tag, options) {
         Ok(session) => Some(session),
         Err(error) => return Err(error),
     };
-    match Box::new(alloc, Page { session }) {
-        Ok(page) => Ok(page),
+    match Box::new(alloc, SessionSlot { session }) {
+        Ok(slot) => Ok(slot),
         Err(_) => Err(OpenError::Memory),
     }
 }

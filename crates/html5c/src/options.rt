@@ -4,7 +4,7 @@ ghost use Rattle.html5c.specs.Said.{state_said, replies_said, options_by};
 ghost use Rattle.html5ever_interface.specs.Options.{options_of};
 ghost use Rattle.html5feed.specs.Starting.{CanStart};
 
-use html5records::event_sink::{EventOptions, Replies};
+use html5records::record_sink::{RecordOptions, Replies};
 use html5ever::tokenizer::TokenizerOpts;
 use html5ever_interface::states::{RawKind, State};
 use std::alloc::Global;
@@ -41,13 +41,13 @@ fn replies_of(number: u32) -> Option<Replies>
 
 impl Options {
     /// What the sink answers, if the number of the replies names some.
-    pub fn events(&self) -> Option<EventOptions>
+    pub fn events(&self) -> Option<RecordOptions>
         ensures said { IfSome result (λ events. replies_said self.now.replies ≡ Some events.replies) }
         ensures foreign { IfSome result (λ events. events.foreign ≡ self.now.foreign) }
         ensures none { IsNone result → replies_said self.now.replies ≡ None }
     {
         match replies_of(self.replies) {
-            Some(replies) => Some(EventOptions {
+            Some(replies) => Some(RecordOptions {
                 replies,
                 foreign: self.foreign,
             }),

@@ -5,21 +5,21 @@ use html5cleaner::CleanPrinter;
 use html5programs::{Program, run};
 use std::process::ExitCode;
 
-const HELP: &str = "usage: html5clean [--names FILE] [FILE...]
+const HELP: &str = "usage: html5clean [--references FILE] [FILE...]
 Prints HTML pages with only allowed elements and attributes in them, and addresses that are
 relative or of allowed schemes. The text is kept, but for that of scripts, styles and their
 like; comments are not. A page is printed as it arrives. Without a FILE, or where it is -,
 standard input is read.
-  --policy FILE  what is allowed, in place of the program's own: a rule a line, of
-                   allow ELEMENT [ATTRIBUTE..]   an element, and attributes of it
-                   everywhere ATTRIBUTE..        attributes of each element
-                   schemes SCHEME..              schemes of addresses
-                   hide ELEMENT..                elements dropped with what stands in them
-                   noopener                      each link gets rel=noopener
-                   balance                       end tags close what is open, and no more
-                 empty lines, and lines that begin with #, say nothing
-  --names FILE   the table of named character references, in place of the standard's
-  --help         this text
+  --policy FILE      what is allowed, in place of the program's own: a rule a line, of
+                       allow ELEMENT [ATTRIBUTE..]   an element, and attributes of it
+                       everywhere ATTRIBUTE..        attributes of each element
+                       schemes SCHEME..              schemes of addresses
+                       hide ELEMENT..                elements dropped with what stands in them
+                       noopener                      each link gets rel=noopener
+                       balance                       end tags close what is open, and no more
+                     empty lines, and lines that begin with #, say nothing
+  --references FILE  the table of named character references, in place of the standard's
+  --help             this text
 ";
 
 fn main(rt: HostRuntime) -> ExitCode {

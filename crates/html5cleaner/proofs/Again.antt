@@ -13,9 +13,9 @@ use Rattle.html5reading.specs.Characters.{null}
 use Rattle.html5sinks.specs.Runs.{Joined, Running, joined_step, runs_step}
 use Rattle.html5policy.specs.Policy.{PolicyOf}
 use Rattle.html5write.specs.Escaped.{escaped, escaped_text}
-use Rattle.html5write.specs.Pieces.{Piece, has_no_null, page_text, piece_text}
+use Rattle.html5write.specs.Pieces.{Piece, has_no_null, pieces_text, piece_text}
 use Rattle.html5write.specs.Pieces.Piece.{TextPiece, StartTagPiece, EndTagPiece, CommentPiece}
-use Rattle.html5write.specs.Told.{end_tag_told, page_tokens, piece_tokens, proper, proper_token, start_tag_told}
+use Rattle.html5write.specs.Told.{end_tag_told, pieces_tokens, piece_tokens, proper, proper_token, start_tag_told}
 use Rattle.html5cleaner.specs.Balance.{is_end, open_by, written_by}
 use Rattle.html5cleaner.specs.Clean.{Cleaned, clean_step, count_of, depth_by_kind, kept, kept_of_run, kept_of_tag, kept_of_token, kept_where, opens, where_writable}
 use Rattle.html5cleaner.proofs.Encoded.{chars-encoded}
@@ -26,12 +26,12 @@ use Rattle.html5cleaner.proofs.WrittenRuns.{goes-text, nothing-opened, nothing-w
 
 -- ---- a run of text
 
-kept-run : (run text : List ℕ) → run ≡ encode_utf8_all text → has_no_null text ≡ true → page_text (kept_of_run run) ≡ escaped_text text
+kept-run : (run text : List ℕ) → run ≡ encode_utf8_all text → has_no_null text ≡ true → pieces_text (kept_of_run run) ≡ escaped_text text
 unfolding kept_of_run
 kept-run [] text is whole = ap escaped_text (encodes_same [] text is)
 kept-run (byte ∷ run) text is whole =
-    ap (λ t. page_text (where_writable (TextPiece t))) (ap chars is ∙ chars-encoded text)
-    ∙ ap (λ writable. page_text (if writable then TextPiece text ∷ [] else [])) whole
+    ap (λ t. pieces_text (where_writable (TextPiece t))) (ap chars is ∙ chars-encoded text)
+    ∙ ap (λ writable. pieces_text (if writable then TextPiece text ∷ [] else [])) whole
     ∙ append-nil (escaped_text text)
 
 -- ---- the fold over tokens
@@ -55,20 +55,20 @@ pub record Stands (policy : PolicyOf) (elements : List (List ℕ)) (done : List 
   pub whole : has_no_null text ≡ true
   pub shown : j.handler.hidden.depth ≡ 0
   pub stays : j.handler.opened ≡ elements
-  pub written : page_text j.handler.pieces ++ escaped_text text ≡ done
+  pub written : pieces_text j.handler.pieces ++ escaped_text text ≡ done
 
 module _ (policy : PolicyOf) where
   -- a token is handed on with the text that waits
   pub kept-with_run : (opened : List (List ℕ)) (done : List ℕ) (j : Joined Cleaned) → Stands policy opened done j → (told : Told) (more : List ℕ)
-      → page_text (written_by policy.balance (is_end told) opened (kept_of_token policy told)) ≡ more
-      → page_text (clean_step j.handler j.run told 0).pieces ≡ done ++ more
+      → pieces_text (written_by policy.balance (is_end told) opened (kept_of_token policy told)) ≡ more
+      → pieces_text (clean_step j.handler j.run told 0).pieces ≡ done ++ more
   kept-with_run opened done j s told more is =
       let later : List Piece = written_by policy.balance (is_end told) opened (kept_of_token policy told) in
-      (λ i. page_text (j.handler.pieces ++ written_by (s.keeps i).balance (is_end told) (s.stays i) (kept_where (s.keeps i) (s.shown i) j.run told)))
-      ∙ ap (λ l. page_text (j.handler.pieces ++ l)) (written-run policy.balance (is_end told) opened j.run (kept_of_token policy told))
+      (λ i. pieces_text (j.handler.pieces ++ written_by (s.keeps i).balance (is_end told) (s.stays i) (kept_where (s.keeps i) (s.shown i) j.run told)))
+      ∙ ap (λ l. pieces_text (j.handler.pieces ++ l)) (written-run policy.balance (is_end told) opened j.run (kept_of_token policy told))
       ∙ flat_map-append piece_text j.handler.pieces (kept_of_run j.run ++ later)
-      ∙ ap (λ l. page_text j.handler.pieces ++ l) (flat_map-append piece_text (kept_of_run j.run) later ∙ (λ i. kept-run j.run s.text s.waits s.whole i ++ is i))
-      ∙ sym (append_assoc (page_text j.handler.pieces) (escaped_text s.text) more)
+      ∙ ap (λ l. pieces_text j.handler.pieces ++ l) (flat_map-append piece_text (kept_of_run j.run) later ∙ (λ i. kept-run j.run s.text s.waits s.whole i ++ is i))
+      ∙ sym (append_assoc (pieces_text j.handler.pieces) (escaped_text s.text) more)
       ∙ ap (λ l. l ++ more) s.written
 
   stands-tag : (opened after : List (List ℕ)) (done : List ℕ) (j : Joined Cleaned) → Stands policy opened done j → (tag : TagOf) (piece : Piece) → kept_of_tag policy tag ≡ piece ∷ []
@@ -89,9 +89,9 @@ module _ (policy : PolicyOf) where
         ∙ ap (open_by policy.balance false opened) is
         ∙ open-alone policy.balance opened after piece goes;
     written =
-        append-nil (page_text (clean_step j.handler j.run (Tag tag) 0).pieces)
+        append-nil (pieces_text (clean_step j.handler j.run (Tag tag) 0).pieces)
         ∙ kept-with_run opened done j s (Tag tag) (piece_text piece)
-        (ap page_text (ap (written_by policy.balance false opened) is ∙ written-alone policy.balance opened after piece goes) ∙ append-nil (piece_text piece));
+        (ap pieces_text (ap (written_by policy.balance false opened) is ∙ written-alone policy.balance opened after piece goes) ∙ append-nil (piece_text piece));
   }
 
   stands-character : (opened : List (List ℕ)) (done : List ℕ) (j : Joined Cleaned) → Stands policy opened done j → (c : ℕ) → has_no_null (c ∷ []) ≡ true
@@ -107,8 +107,8 @@ module _ (policy : PolicyOf) where
     shown = s.shown;
     stays = s.stays;
     written =
-        ap (λ l. page_text j.handler.pieces ++ l) (flat_map-append escaped s.text (c ∷ []) ∙ ap (λ l. escaped_text s.text ++ l) (append-nil (escaped c)))
-        ∙ sym (append_assoc (page_text j.handler.pieces) (escaped_text s.text) (escaped c))
+        ap (λ l. pieces_text j.handler.pieces ++ l) (flat_map-append escaped s.text (c ∷ []) ∙ ap (λ l. escaped_text s.text ++ l) (append-nil (escaped c)))
+        ∙ sym (append_assoc (pieces_text j.handler.pieces) (escaped_text s.text) (escaped c))
         ∙ ap (λ l. l ++ escaped c) s.written;
   }
 
@@ -134,13 +134,13 @@ module _ (policy : PolicyOf) where
   stands-piece opened after done j s (CommentPiece text) steady goes = absurd steady
 
   pub stands-page : (opened after : List (List ℕ)) (done : List ℕ) (j : Joined Cleaned) → Stands policy opened done j → (pieces : List Piece) → AreSteady policy pieces
-      → AllGo policy.balance opened pieces after → Stands policy after (done ++ page_text pieces) (after_tokens j (page_tokens pieces))
+      → AllGo policy.balance opened pieces after → Stands policy after (done ++ pieces_text pieces) (after_tokens j (pieces_tokens pieces))
   unfolding after_tokens
   stands-page opened after done j s [] steady go =
       subst (λ (o : List (List ℕ)). Stands policy o (done ++ []) j) go (subst (λ l. Stands policy opened l j) (sym (append-nil done)) s)
   stands-page opened after done j s (piece ∷ pieces) steady go =
-      subst (λ k. Stands policy after (done ++ (piece_text piece ++ page_text pieces)) k) (sym (after_tokens-append j (piece_tokens piece) (page_tokens pieces)))
-      (subst (λ l. Stands policy after l (after_tokens (after_tokens j (piece_tokens piece)) (page_tokens pieces))) (append_assoc done (piece_text piece) (page_text pieces))
+      subst (λ k. Stands policy after (done ++ (piece_text piece ++ pieces_text pieces)) k) (sym (after_tokens-append j (piece_tokens piece) (pieces_tokens pieces)))
+      (subst (λ l. Stands policy after l (after_tokens (after_tokens j (piece_tokens piece)) (pieces_tokens pieces))) (append_assoc done (piece_text piece) (pieces_text pieces))
       (stands-page go.0 after (done ++ piece_text piece) (after_tokens j (piece_tokens piece)) (stands-piece opened go.0 done j s piece steady.0 go.1.0) pieces steady.1 go.1.1))
 
 -- ---- the fold over messages

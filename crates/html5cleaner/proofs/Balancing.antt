@@ -108,9 +108,9 @@ nested-is opened (CommentPiece text ∷ pieces) go = ap (λ (o : List (List ℕ)
 
 -- ---- only end tags come and go
 
-no-others : (names : List (List ℕ)) → filter is_no_end_tag (end_tags names) ≡ []
+no-others : (references : List (List ℕ)) → filter is_no_end_tag (end_tags references) ≡ []
 no-others [] = refl
-no-others (name ∷ names) = no-others names
+no-others (name ∷ references) = no-others references
 
 same-others : (opened : List (List ℕ)) (piece : Piece) → filter is_no_end_tag (balanced opened piece) ≡ filter is_no_end_tag (piece ∷ [])
 unfolding balanced

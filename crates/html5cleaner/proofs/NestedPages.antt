@@ -75,19 +75,19 @@ closed-after policy M last =
     ∙ closed-at_end (stepped (runs_step clean_step) start last.before) last.line (goes-stepped start last.before refl)
 
 -- after a whole page nothing is open
-pub closed-page : (policy : PolicyOf) (names : List NamedReference) (bytes : List ℕ) → (runs_handed clean_step (at_start policy) (runs_page clean_step names (at_start policy) bytes)).opened ≡ []
+pub closed-page : (policy : PolicyOf) (references : List NamedReference) (bytes : List ℕ) → (runs_handed clean_step (at_start policy) (runs_page clean_step references (at_start policy) bytes)).opened ≡ []
 unfolding runs_page
-closed-page policy names bytes =
-    let rules : Rules = record { exact = false; names = names } in
+closed-page policy references bytes =
+    let rules : Rules = record { exact = false; references = references } in
     let means = runs_means {X = Running Cleaned} (λ t. t) clean_step in
-    closed-after policy (runs_page clean_step names (at_start policy) bytes)
+    closed-after policy (runs_page clean_step references (at_start policy) bytes)
     (last-is_end means.step means.reply means.foreign rules (start_of default_options) (runs_start (at_start policy)) (chars bytes))
 
 -- a page of a balancing policy is nested
-pub nested-page : (policy : PolicyOf) (names : List NamedReference) (bytes : List ℕ) → policy.balance ≡ true
-    → is_nested [] (runs_handed clean_step (at_start policy) (runs_page clean_step names (at_start policy) bytes)).pieces ≡ true
-nested-page policy names bytes is =
-    let c : Cleaned = runs_handed clean_step (at_start policy) (runs_page clean_step names (at_start policy) bytes) in
+pub nested-page : (policy : PolicyOf) (references : List NamedReference) (bytes : List ℕ) → policy.balance ≡ true
+    → is_nested [] (runs_handed clean_step (at_start policy) (runs_page clean_step references (at_start policy) bytes)).pieces ≡ true
+nested-page policy references bytes is =
+    let c : Cleaned = runs_handed clean_step (at_start policy) (runs_page clean_step references (at_start policy) bytes) in
     nested-is [] c.pieces
-    (subst (λ (o : List (List ℕ)). AllGo true [] c.pieces o) (closed-page policy names bytes)
-    (subst (λ (b : Bool). AllGo b [] c.pieces c.opened) is (goes-handed policy (runs_page clean_step names (at_start policy) bytes))))
+    (subst (λ (o : List (List ℕ)). AllGo true [] c.pieces o) (closed-page policy references bytes)
+    (subst (λ (b : Bool). AllGo b [] c.pieces c.opened) is (goes-handed policy (runs_page clean_step references (at_start policy) bytes))))

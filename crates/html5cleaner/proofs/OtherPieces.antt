@@ -87,10 +87,10 @@ twins-handed policy M =
     (record { run = refl; handler = record { keeps = refl; plain = refl; hidden = refl; others = refl } })).handler.others
 
 -- of a page whose bytes are given
-pub same-others : (policy : PolicyOf) (names : List NamedReference) (bytes : List ℕ)
-    → filter is_no_end_tag (runs_handed clean_step (at_start policy) (runs_page clean_step names (at_start policy) bytes)).pieces
-    ≡ filter is_no_end_tag (runs_handed clean_step (at_start (without_balance policy)) (runs_page clean_step names (at_start (without_balance policy)) bytes)).pieces
-same-others policy names bytes =
-    twins-handed policy (runs_page clean_step names (at_start policy) bytes)
+pub same-others : (policy : PolicyOf) (references : List NamedReference) (bytes : List ℕ)
+    → filter is_no_end_tag (runs_handed clean_step (at_start policy) (runs_page clean_step references (at_start policy) bytes)).pieces
+    ≡ filter is_no_end_tag (runs_handed clean_step (at_start (without_balance policy)) (runs_page clean_step references (at_start (without_balance policy)) bytes)).pieces
+same-others policy references bytes =
+    twins-handed policy (runs_page clean_step references (at_start policy) bytes)
     ∙ ap (λ M. filter is_no_end_tag (runs_handed clean_step (at_start (without_balance policy)) M).pieces)
-    (page-same clean_step clean_step names (at_start policy) (at_start (without_balance policy)) bytes)
+    (page-same clean_step clean_step references (at_start policy) (at_start (without_balance policy)) bytes)

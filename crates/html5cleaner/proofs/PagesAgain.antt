@@ -14,8 +14,8 @@ use Rattle.html5policy.specs.Rules.{IsSound}
 use Rattle.html5sinks.specs.Runs.{Joined, Running}
 use Rattle.html5stream.specs.Pages.{runs_handed, runs_means, runs_page, runs_start}
 use Rattle.markup5ever.specs.NamedReferences.{NamedReference, IsTable}
-use Rattle.html5write.specs.Pieces.{Piece, page_text}
-use Rattle.html5write.specs.Told.{page_tokens, proper}
+use Rattle.html5write.specs.Pieces.{Piece, pieces_text}
+use Rattle.html5write.specs.Told.{pieces_tokens, proper}
 use Rattle.html5write.proofs.Pages.{page-reading}
 use Rattle.html5write.proofs.ProperTokens.{proper-whole}
 use Rattle.html5cleaner.specs.Allowed.{is_clean}
@@ -32,46 +32,46 @@ use Rattle.html5cleaner.proofs.Replies.{keeps_on-page}
 use Rattle.html5cleaner.proofs.Tokens.{can-clean}
 
 -- a page of clean pieces is read, but for errors, as these
-proper-page : (policy : PolicyOf) (names : List NamedReference) (pieces : List Piece) → IsSound policy → IsTable names → list_all (is_clean policy) pieces ≡ true
-    → proper (runs_page clean_step names (at_start policy) (encode_utf8_all (page_text pieces))) ≡ page_tokens pieces ++ End ∷ []
+proper-page : (policy : PolicyOf) (references : List NamedReference) (pieces : List Piece) → IsSound policy → IsTable references → list_all (is_clean policy) pieces ≡ true
+    → proper (runs_page clean_step references (at_start policy) (encode_utf8_all (pieces_text pieces))) ≡ pieces_tokens pieces ++ End ∷ []
 unfolding runs_page
-proper-page policy names pieces sound table clean =
-    let rules : Rules = record { exact = false; names = names } in
+proper-page policy references pieces sound table clean =
+    let rules : Rules = record { exact = false; references = references } in
     let K : Start = start_of default_options in
     let means = runs_means {X = Running Cleaned} (λ t. t) clean_step in
-    ap (λ text. proper (all_messages means rules K (runs_start (at_start policy)) text)) (chars-encoded (page_text pieces))
+    ap (λ text. proper (all_messages means rules K (runs_start (at_start policy)) text)) (chars-encoded (pieces_text pieces))
     ∙ ap proper
     (page-reading means rules K (runs_start (at_start policy)) pieces table (record { starts = refl; no_break = refl }) (can-clean policy pieces clean)
     (keeps_on-page policy sound means.reply (λ s tag line keeps. keeps) pieces clean))
-    ∙ proper-whole rules.exact K.input pieces (line_after K.input (normalised K.input (page_text pieces)))
+    ∙ proper-whole rules.exact K.input pieces (line_after K.input (normalised K.input (pieces_text pieces)))
 
-kept-again : (policy : PolicyOf) (names : List NamedReference) (pieces : List Piece) (opened : List (List ℕ)) → IsSound policy → IsTable names
+kept-again : (policy : PolicyOf) (references : List NamedReference) (pieces : List Piece) (opened : List (List ℕ)) → IsSound policy → IsTable references
     → list_all (is_clean policy) pieces ≡ true → AreSteady policy pieces → AllGo policy.balance [] pieces opened
-    → page_text (runs_handed clean_step (at_start policy) (runs_page clean_step names (at_start policy) (encode_utf8_all (page_text pieces)))).pieces
-    ≡ page_text pieces ++ page_text (end_tags opened)
+    → pieces_text (runs_handed clean_step (at_start policy) (runs_page clean_step references (at_start policy) (encode_utf8_all (pieces_text pieces)))).pieces
+    ≡ pieces_text pieces ++ pieces_text (end_tags opened)
 unfolding runs_handed after_tokens
-kept-again policy names pieces opened sound table clean steady go =
-    let M : List Message = runs_page clean_step names (at_start policy) (encode_utf8_all (page_text pieces)) in
+kept-again policy references pieces opened sound table clean steady go =
+    let M : List Message = runs_page clean_step references (at_start policy) (encode_utf8_all (pieces_text pieces)) in
     let start : Joined Cleaned = (runs_start (at_start policy)).joined in
-    let before : Joined Cleaned = after_tokens start (page_tokens pieces) in
+    let before : Joined Cleaned = after_tokens start (pieces_tokens pieces) in
     let stands = stands-page policy [] opened [] start (record { keeps = refl; text = []; waits = refl; whole = refl; shown = refl; stays = refl; written = refl }) pieces steady go in
-    ap (λ j. page_text j.handler.pieces)
-    (after-messages (runs_start (at_start policy)) M ∙ ap (after_tokens start) (proper-page policy names pieces sound table clean) ∙ after_tokens-append start (page_tokens pieces) (End ∷ []))
-    ∙ kept-with_run policy opened (page_text pieces) before stands End (page_text (end_tags opened)) (ap page_text (written-at_end policy.balance opened pieces go))
+    ap (λ j. pieces_text j.handler.pieces)
+    (after-messages (runs_start (at_start policy)) M ∙ ap (after_tokens start) (proper-page policy references pieces sound table clean) ∙ after_tokens-append start (pieces_tokens pieces) (End ∷ []))
+    ∙ kept-with_run policy opened (pieces_text pieces) before stands End (pieces_text (end_tags opened)) (ap pieces_text (written-at_end policy.balance opened pieces go))
 
 -- what was written of any messages, and then the end tags of what is open after them
-pub kept-twice : (policy : PolicyOf) (names : List NamedReference) (M : List Message) → IsSound policy → IsTable names
-    → page_text (runs_handed clean_step (at_start policy) (runs_page clean_step names (at_start policy) (encode_utf8_all (page_text (runs_handed clean_step (at_start policy) M).pieces)))).pieces
-    ≡ page_text (runs_handed clean_step (at_start policy) M).pieces ++ page_text (end_tags (runs_handed clean_step (at_start policy) M).opened)
-kept-twice policy names M sound table =
+pub kept-twice : (policy : PolicyOf) (references : List NamedReference) (M : List Message) → IsSound policy → IsTable references
+    → pieces_text (runs_handed clean_step (at_start policy) (runs_page clean_step references (at_start policy) (encode_utf8_all (pieces_text (runs_handed clean_step (at_start policy) M).pieces)))).pieces
+    ≡ pieces_text (runs_handed clean_step (at_start policy) M).pieces ++ pieces_text (end_tags (runs_handed clean_step (at_start policy) M).opened)
+kept-twice policy references M sound table =
     let c : Cleaned = runs_handed clean_step (at_start policy) M in
-    kept-again policy names c.pieces c.opened sound table (clean-handed policy M) (steady-handed policy sound M) (goes-handed policy M)
+    kept-again policy references c.pieces c.opened sound table (clean-handed policy M) (steady-handed policy sound M) (goes-handed policy M)
 
 -- where nothing is open after them, they are kept again as they are
-pub kept-whole : (policy : PolicyOf) (names : List NamedReference) (M : List Message) → IsSound policy → IsTable names → (runs_handed clean_step (at_start policy) M).opened ≡ []
-    → page_text (runs_handed clean_step (at_start policy) (runs_page clean_step names (at_start policy) (encode_utf8_all (page_text (runs_handed clean_step (at_start policy) M).pieces)))).pieces
-    ≡ page_text (runs_handed clean_step (at_start policy) M).pieces
-kept-whole policy names M sound table none =
-    kept-twice policy names M sound table
-    ∙ ap (λ (o : List (List ℕ)). page_text (runs_handed clean_step (at_start policy) M).pieces ++ page_text (end_tags o)) none
-    ∙ append-nil (page_text (runs_handed clean_step (at_start policy) M).pieces)
+pub kept-whole : (policy : PolicyOf) (references : List NamedReference) (M : List Message) → IsSound policy → IsTable references → (runs_handed clean_step (at_start policy) M).opened ≡ []
+    → pieces_text (runs_handed clean_step (at_start policy) (runs_page clean_step references (at_start policy) (encode_utf8_all (pieces_text (runs_handed clean_step (at_start policy) M).pieces)))).pieces
+    ≡ pieces_text (runs_handed clean_step (at_start policy) M).pieces
+kept-whole policy references M sound table none =
+    kept-twice policy references M sound table
+    ∙ ap (λ (o : List (List ℕ)). pieces_text (runs_handed clean_step (at_start policy) M).pieces ++ pieces_text (end_tags o)) none
+    ∙ append-nil (pieces_text (runs_handed clean_step (at_start policy) M).pieces)

@@ -11,7 +11,7 @@ use Rattle.html5stream.specs.Pages.{ReadsPage, ReadsPageItems, StopsPage, runs_a
 use Rattle.html5stream.proofs.ByItems.{page-items, runs-composed}
 use Rattle.markup5ever.specs.NamedReferences.{NamedReference, IsTable}
 use Rattle.html5cleaner.proofs.SameReadings.{page-same}
-use Rattle.html5write.specs.Pieces.{Piece, page_text, piece_text}
+use Rattle.html5write.specs.Pieces.{Piece, pieces_text, piece_text}
 use Rattle.std.specs.List.{list_all}
 use Rattle.html5policy.specs.Policy.{PolicyOf}
 use Rattle.html5cleaner.specs.Allowed.{is_clean}
@@ -25,7 +25,7 @@ abbrev pub printed_after : List ℕ → Cleaned → Cleaning
 printed_after before c = record { policy = c.policy; printed = before ++ page_bytes c.pieces; hidden = c.hidden; opened = c.opened }
 
 page_bytes-append : (first second : List Piece) → page_bytes (first ++ second) ≡ page_bytes first ++ page_bytes second
-page_bytes-append first second = ap encode_utf8_all (flat_map-append piece_text first second) ∙ encodes-append (page_text first) (page_text second)
+page_bytes-append first second = ap encode_utf8_all (flat_map-append piece_text first second) ∙ encodes-append (pieces_text first) (pieces_text second)
 
 printed-step : (before : List ℕ) (c : Cleaned) (run : List ℕ) (told : Told) (line : ℕ)
     → cleaning_step (printed_after before c) run told line ≡ printed_after before (clean_step c run told line)
@@ -131,37 +131,37 @@ standing-handed s M =
     ∙ ap (λ (p : PolicyOf). record { policy = p; printed = s.printed ++ page_bytes (runs_handed clean_step (at_start s.policy) M).pieces }) (policy-handed s.policy M)
 
 -- a page that was read is printed as it is kept
-pub reads_printed : (names : List NamedReference) (unread left : Option (List ℕ)) (before : Standing) (after : Cleaning)
-    → ReadsPage (runs_after cleaning_step names) unread left (page_start before) after
-    → ReadsPage (λ s bytes. printed_of s (page_messages names s bytes)) unread left before (standing after)
-reads_printed names unread left before after read = record {
+pub reads_printed : (references : List NamedReference) (unread left : Option (List ℕ)) (before : Standing) (after : Cleaning)
+    → ReadsPage (runs_after cleaning_step references) unread left (page_start before) after
+    → ReadsPage (λ s bytes. printed_of s (page_messages references s bytes)) unread left before (standing after)
+reads_printed references unread left before after read = record {
   bytes = read.bytes;
   consumed = read.consumed;
   at_end = read.at_end;
   utf8 = read.utf8;
   told = ap standing (read.told
-      ∙ ap (runs_handed cleaning_step (page_start before)) (page-same cleaning_step clean_step names (page_start before) (at_start before.policy) read.bytes))
-      ∙ standing-handed before (page_messages names before read.bytes);
+      ∙ ap (runs_handed cleaning_step (page_start before)) (page-same cleaning_step clean_step references (page_start before) (at_start before.policy) read.bytes))
+      ∙ standing-handed before (page_messages references before read.bytes);
 }
 
 -- and as the messages of its items say
-pub items_printed : (names : List NamedReference) (unread left : Option (List ℕ)) (before after : Standing) → IsTable names
-    → ReadsPage (λ s bytes. printed_of s (page_messages names s bytes)) unread left before after
-    → ReadsPageItems (PageItems names) printed_of unread left before after
-items_printed names unread left before after table =
-    page-items (page_messages names) printed_of (PageItems names) unread left before after
-    (λ bytes. runs-composed clean_step names (at_start before.policy) bytes table)
+pub items_printed : (references : List NamedReference) (unread left : Option (List ℕ)) (before after : Standing) → IsTable references
+    → ReadsPage (λ s bytes. printed_of s (page_messages references s bytes)) unread left before after
+    → ReadsPageItems (PageItems references) printed_of unread left before after
+items_printed references unread left before after table =
+    page-items (page_messages references) printed_of (PageItems references) unread left before after
+    (λ bytes. runs-composed clean_step references (at_start before.policy) bytes table)
 
-pub stops_printed : (names : List NamedReference) (unread left : Option (List ℕ)) (before : Standing) (after : Cleaning)
-    → StopsPage (runs_page cleaning_step names) (runs_handed cleaning_step) unread left (page_start before) after
-    → StopsPage (page_messages names) printed_of unread left before (standing after)
-stops_printed names unread left before after read = record {
+pub stops_printed : (references : List NamedReference) (unread left : Option (List ℕ)) (before : Standing) (after : Cleaning)
+    → StopsPage (runs_page cleaning_step references) (runs_handed cleaning_step) unread left (page_start before) after
+    → StopsPage (page_messages references) printed_of unread left before (standing after)
+stops_printed references unread left before after read = record {
   text = read.text;
   rest = read.rest;
   consumed = read.consumed;
   utf8 = read.utf8;
   told = read.told;
   untold = read.untold;
-  parts = page-same clean_step cleaning_step names (at_start before.policy) (page_start before) read.text ∙ read.parts;
+  parts = page-same clean_step cleaning_step references (at_start before.policy) (page_start before) read.text ∙ read.parts;
   state = ap standing read.state ∙ standing-handed before read.told;
 }

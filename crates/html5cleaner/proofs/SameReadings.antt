@@ -97,7 +97,7 @@ reading-same first second rules K s t text same =
     (read-same first second rules K s t K.last_start_tag [] (rest_of rules K.opened Y) Y same)
 
 -- the messages of a page are the same for each handler
-pub page-same : {S T : Type 0} (first : Steps S) (second : Steps T) (names : List NamedReference) (s : S) (t : T) (bytes : List ℕ) → runs_page first names s bytes ≡ runs_page second names t bytes
+pub page-same : {S T : Type 0} (first : Steps S) (second : Steps T) (references : List NamedReference) (s : S) (t : T) (bytes : List ℕ) → runs_page first references s bytes ≡ runs_page second references t bytes
 unfolding runs_page
-page-same first second names s t bytes =
+page-same first second references s t bytes =
     ap messages (reading-same first second _ (start_of default_options) (runs_start s) (runs_start t) (chars bytes) refl)

@@ -196,11 +196,11 @@ steady-end_tag policy sound name clean =
     (and-left (is_allowed_piece policy (EndTagPiece name)) (can_write (EndTagPiece name)) clean)
     (and-right (is_allowed_piece policy (EndTagPiece name)) (can_write (EndTagPiece name)) clean)
 
-steady-end_tags : (policy : PolicyOf) → IsSound policy → (names : List (List ℕ)) → CanClose policy names → AreSteady policy (end_tags names)
+steady-end_tags : (policy : PolicyOf) → IsSound policy → (references : List (List ℕ)) → CanClose policy references → AreSteady policy (end_tags references)
 steady-end_tags policy sound [] can = tt
-steady-end_tags policy sound (name ∷ names) can = (
-  steady-end_tag policy sound name (and-left (is_clean policy (EndTagPiece name)) (list_all (is_clean policy) (end_tags names)) can),
-  steady-end_tags policy sound names (and-right (is_clean policy (EndTagPiece name)) (list_all (is_clean policy) (end_tags names)) can),
+steady-end_tags policy sound (name ∷ references) can = (
+  steady-end_tag policy sound name (and-left (is_clean policy (EndTagPiece name)) (list_all (is_clean policy) (end_tags references)) can),
+  steady-end_tags policy sound references (and-right (is_clean policy (EndTagPiece name)) (list_all (is_clean policy) (end_tags references)) can),
 )
 
 steady-taken : (policy : PolicyOf) (count : ℕ) (pieces : List Piece) → AreSteady policy pieces → AreSteady policy (take count pieces)

@@ -7,7 +7,7 @@ use Rattle.html5ever_interface.specs.Token.Told.{Text, End}
 use Rattle.markup5ever.specs.Names.{AttributeOf}
 use Rattle.html5write.specs.Pieces.{NameAndValue, Piece, can_write}
 use Rattle.html5write.specs.Pieces.Piece.{TextPiece, StartTagPiece, EndTagPiece, CommentPiece}
-use Rattle.html5write.specs.Told.{attribute_told, page_tokens, piece_tokens}
+use Rattle.html5write.specs.Told.{attribute_told, pieces_tokens, piece_tokens}
 use Rattle.html5policy.specs.Policy.{PolicyOf, is_allowed, is_written}
 use Rattle.html5cleaner.specs.Allowed.{is_allowed_piece, is_clean, is_written_attribute}
 use Rattle.html5cleaner.specs.Reading.{has_written_attributes, is_allowed_token}
@@ -31,19 +31,19 @@ module _ (policy : PolicyOf) where
   allowed-piece_tokens (EndTagPiece name) allowed = ap (λ b. b && true) allowed
   allowed-piece_tokens (CommentPiece text) allowed = allowed
 
-  pub allowed-page_tokens : (pieces : List Piece) → list_all (is_clean policy) pieces ≡ true → list_all (is_allowed_token policy) (page_tokens pieces) ≡ true
-  allowed-page_tokens [] clean = refl
-  allowed-page_tokens (piece ∷ pieces) clean =
-      list_all-append (is_allowed_token policy) (piece_tokens piece) (page_tokens pieces)
+  pub allowed-pieces_tokens : (pieces : List Piece) → list_all (is_clean policy) pieces ≡ true → list_all (is_allowed_token policy) (pieces_tokens pieces) ≡ true
+  allowed-pieces_tokens [] clean = refl
+  allowed-pieces_tokens (piece ∷ pieces) clean =
+      list_all-append (is_allowed_token policy) (piece_tokens piece) (pieces_tokens pieces)
       ∙ rw (
         allowed-piece_tokens piece (and-left (is_allowed_piece policy piece) (can_write piece) (and-left (is_clean policy piece) (list_all (is_clean policy) pieces) clean)),
-        allowed-page_tokens pieces (and-right (is_clean policy piece) (list_all (is_clean policy) pieces) clean),
+        allowed-pieces_tokens pieces (and-right (is_clean policy piece) (list_all (is_clean policy) pieces) clean),
       ) refl
 
   -- with the end after them
-  pub allowed-whole : (pieces : List Piece) → list_all (is_clean policy) pieces ≡ true → list_all (is_allowed_token policy) (page_tokens pieces ++ End ∷ []) ≡ true
+  pub allowed-whole : (pieces : List Piece) → list_all (is_clean policy) pieces ≡ true → list_all (is_allowed_token policy) (pieces_tokens pieces ++ End ∷ []) ≡ true
   unfolding is_allowed_token
-  allowed-whole pieces clean = list_all-append (is_allowed_token policy) (page_tokens pieces) (End ∷ []) ∙ rw (allowed-page_tokens pieces clean) refl
+  allowed-whole pieces clean = list_all-append (is_allowed_token policy) (pieces_tokens pieces) (End ∷ []) ∙ rw (allowed-pieces_tokens pieces clean) refl
 
   -- what can be written of it is all of it
   pub can-clean : (pieces : List Piece) → list_all (is_clean policy) pieces ≡ true → list_all can_write pieces ≡ true

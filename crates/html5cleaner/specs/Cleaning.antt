@@ -6,7 +6,7 @@ use Rattle.html5ever_interface.specs.Token.{Told}
 use Rattle.html5stream.specs.Pages.{RunsItems, runs_after, runs_handed, runs_page}
 use Rattle.html5policy.specs.Policy.{PolicyOf}
 use Rattle.html5policy.specs.declared.error.PolicyError.{PolicyError}
-use Rattle.html5write.specs.Pieces.{Piece, page_text}
+use Rattle.html5write.specs.Pieces.{Piece, pieces_text}
 use Rattle.html5cleaner.specs.Balance.{end_tags, is_end, open_by, written_by}
 use Rattle.html5cleaner.specs.Clean.{Hidden, at_start, clean_step, hidden_after, kept_where}
 use Rattle.markup5ever.specs.NamedReferences.{NamedReference}
@@ -48,11 +48,11 @@ standing_of p = record { policy = p.policy; printed = p.printer.printed }
 
 -- the bytes of pieces
 abbrev pub page_bytes : List Piece → List ℕ
-page_bytes pieces = encode_utf8_all (page_text pieces)
+page_bytes pieces = encode_utf8_all (pieces_text pieces)
 
 -- the pieces that a policy keeps of a page whose bytes are given
 abbrev pub kept_of_page : PolicyOf → List NamedReference → List ℕ → List Piece
-kept_of_page policy names bytes = (runs_after clean_step names (at_start policy) bytes).pieces
+kept_of_page policy references bytes = (runs_after clean_step references (at_start policy) bytes).pieces
 
 -- a run of text and the token after it: what is written of them is printed
 abbrev pub cleaning_step : Cleaning → List ℕ → Told → ℕ → Cleaning
@@ -65,11 +65,11 @@ cleaning_step s run told line = record {
 
 -- the messages of a page, which don't depend on what was printed before it
 abbrev pub page_messages : List NamedReference → Standing → List ℕ → List Message
-page_messages names s bytes = runs_page clean_step names (at_start s.policy) bytes
+page_messages references s bytes = runs_page clean_step references (at_start s.policy) bytes
 
 -- the items of a page, which tell these messages, and its end those
 abbrev pub PageItems : List NamedReference → Standing → List ℕ → List Message → List Message → Type 0
-PageItems names s bytes tells ends = RunsItems clean_step names (at_start s.policy) bytes tells ends
+PageItems references s bytes tells ends = RunsItems clean_step references (at_start s.policy) bytes tells ends
 
 -- what was printed after some messages of a page: what was printed before, and the text of the pieces that are kept of them
 abbrev pub printed_of : Standing → List Message → Standing

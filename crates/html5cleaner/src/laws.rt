@@ -7,9 +7,9 @@ ghost use Rattle.html5ever_interface.specs.Token.Told.{End};
 ghost use Rattle.html5reading.specs.Reading.{all_messages};
 ghost use Rattle.html5reading.specs.Start.{Start, Rules};
 ghost use Rattle.markup5ever.specs.NamedReferences.{IsTable, NamedReference};
-ghost use Rattle.html5write.specs.Pieces.{Piece, page_text};
+ghost use Rattle.html5write.specs.Pieces.{Piece, pieces_text};
 ghost use Rattle.html5grammar.specs.Anywhere.{TellsByItself};
-ghost use Rattle.html5write.specs.Told.{IsOpen, page_messages, page_tokens, proper, start_after_page};
+ghost use Rattle.html5write.specs.Told.{IsOpen, pieces_messages, pieces_tokens, proper, start_after_pieces};
 ghost use Rattle.html5policy.specs.Addresses.{is_safe_address};
 ghost use Rattle.html5policy.specs.Names.{runs_address};
 ghost use Rattle.html5policy.specs.Policy.{PolicyOf};
@@ -25,7 +25,7 @@ ghost use Rattle.html5cleaner.specs.Reading.{FollowsStandard, is_allowed_token};
 use html5ever_interface::interface::sink::TokenSink;
 use html5ever_interface::interface::token::Token;
 use html5sinks::text_runs::{TextRuns, TokenHandler};
-use html5write::laws::{page, whole_page};
+use html5write::laws::{all_pieces, whole_text};
 use std::alloc::Allocator;
 
 /// By each policy a page of clean pieces, read by any sink that follows the standard and with any table, is read but
@@ -33,24 +33,24 @@ use std::alloc::Allocator;
 /// allowed element, with attributes that are kept and addresses that are safe.
 pub fn cleaned_page<S: TokenSink<Token<A>>, A: Allocator>()
     ensures tokens { (policy : PolicyOf) (rules : Rules) (K : Start) (s : S.State) (pieces : List Piece) → IsSound policy
-        → IsTable rules.names → IsOpen K → list_all (is_clean policy) pieces ≡ true → FollowsStandard {S = S.State} S.means.reply
-        → proper (all_messages S.means rules K s (page_text pieces)) ≡ page_tokens pieces ++ End ∷ [] }
+        → IsTable rules.references → IsOpen K → list_all (is_clean policy) pieces ≡ true → FollowsStandard {S = S.State} S.means.reply
+        → proper (all_messages S.means rules K s (pieces_text pieces)) ≡ pieces_tokens pieces ++ End ∷ [] }
     ensures allowed { (policy : PolicyOf) (rules : Rules) (K : Start) (s : S.State) (pieces : List Piece) → IsSound policy
-        → IsTable rules.names → IsOpen K → list_all (is_clean policy) pieces ≡ true → FollowsStandard {S = S.State} S.means.reply
-        → list_all (is_allowed_token policy) (proper (all_messages S.means rules K s (page_text pieces))) ≡ true }
+        → IsTable rules.references → IsOpen K → list_all (is_clean policy) pieces ≡ true → FollowsStandard {S = S.State} S.means.reply
+        → list_all (is_allowed_token policy) (proper (all_messages S.means rules K s (pieces_text pieces))) ≡ true }
 {
-    whole_page::<S, A>();
+    whole_text::<S, A>();
 }
 
 /// Wherever it is put in a page, in Data and with no CR directly before it, such a page tells its pieces,
 /// and is read to where nothing is open: what follows it is read as it would be without it.
 pub fn cleaned_part<S: TokenSink<Token<A>>, A: Allocator>()
     ensures { (policy : PolicyOf) (rules : Rules) (K : Start) (s : S.State) (pieces : List Piece) → IsSound policy
-        → IsTable rules.names → IsOpen K → list_all (is_clean policy) pieces ≡ true → FollowsStandard {S = S.State} S.means.reply
-        → TellsByItself S.means rules K s (page_text pieces) (page_messages rules.exact K.input pieces)
-        (start_after_page K pieces) }
+        → IsTable rules.references → IsOpen K → list_all (is_clean policy) pieces ≡ true → FollowsStandard {S = S.State} S.means.reply
+        → TellsByItself S.means rules K s (pieces_text pieces) (pieces_messages rules.exact K.input pieces)
+        (start_after_pieces K pieces) }
 {
-    page::<S, A>();
+    all_pieces::<S, A>();
 }
 
 /// The pieces that were written are clean, after each run of text and token, and so are the end tags of
@@ -64,11 +64,11 @@ pub fn kept_pieces_are_clean()
 /// By a policy that balances, each end tag of a page closes the innermost open element, and at the end of
 /// the page none is open. It writes what the same policy without the rule writes, but for end tags.
 pub fn balanced_page()
-    ensures nested { (policy : PolicyOf) (names : List NamedReference) (text : List ℕ) → policy.balance ≡ true
-        → is_nested [] (kept_of_page policy names text) ≡ true }
-    ensures others { (policy : PolicyOf) (names : List NamedReference) (text : List ℕ) →
-        filter is_no_end_tag (kept_of_page policy names text)
-        ≡ filter is_no_end_tag (kept_of_page (without_balance policy) names text) }
+    ensures nested { (policy : PolicyOf) (references : List NamedReference) (text : List ℕ) → policy.balance ≡ true
+        → is_nested [] (kept_of_page policy references text) ≡ true }
+    ensures others { (policy : PolicyOf) (references : List NamedReference) (text : List ℕ) →
+        filter is_no_end_tag (kept_of_page policy references text)
+        ≡ filter is_no_end_tag (kept_of_page (without_balance policy) references text) }
 {}
 
 /// Cleaning twice by a policy changes nothing, whatever the table of each reading: what was kept of a text
@@ -76,14 +76,14 @@ pub fn balanced_page()
 /// again, and then the end tags of what is still open there: of a whole page, and by a policy that doesn't
 /// balance, that is nothing.
 pub fn cleaning_twice()
-    ensures text { (policy : PolicyOf) (names others : List NamedReference) (text : List ℕ) → IsSound policy
-        → IsTable others → page_bytes (kept_of_page policy others (page_bytes (kept_of_page policy names text)))
-        ≡ page_bytes (kept_of_page policy names text) }
-    ensures printed { (s : Standing) (names : List NamedReference) (M : List Message) → IsSound s.policy
-        → IsTable names → printed_of s (cleaning.page_messages names s
+    ensures text { (policy : PolicyOf) (references others : List NamedReference) (text : List ℕ) → IsSound policy
+        → IsTable others → page_bytes (kept_of_page policy others (page_bytes (kept_of_page policy references text)))
+        ≡ page_bytes (kept_of_page policy references text) }
+    ensures printed { (s : Standing) (references : List NamedReference) (M : List Message) → IsSound s.policy
+        → IsTable references → printed_of s (cleaning.pieces_messages references s
         (printed_of (record { policy = s.policy; printed = [] }) M).printed) ≡ printed_and_closed s M }
-    ensures whole { (s : Standing) (names : List NamedReference) (bytes : List ℕ) →
-        printed_and_closed s (cleaning.page_messages names s bytes) ≡ printed_of s (cleaning.page_messages names s bytes) }
+    ensures whole { (s : Standing) (references : List NamedReference) (bytes : List ℕ) →
+        printed_and_closed s (cleaning.pieces_messages references s bytes) ≡ printed_of s (cleaning.pieces_messages references s bytes) }
     ensures not_balanced { (s : Standing) (M : List Message) → s.policy.balance ≡ false
         → printed_and_closed s M ≡ printed_of s M }
 {}

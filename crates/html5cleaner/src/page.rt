@@ -19,14 +19,14 @@ use std::alloc::Allocator;
 pub fn clean_page<'p, R: Source, A: Allocator + Copy>(
     alloc: A,
     source: &mut R,
-    names: &NamedReferences<A>,
+    references: &NamedReferences<A>,
     policy: &'p Policy<A>,
 ) -> (Cleaner<'p, A>, Result<(), StreamError>)
-    ensures finishes { OnOk result.1 (ReadsPage (runs_after clean_step names.now)
+    ensures finishes { OnOk result.1 (ReadsPage (runs_after clean_step references.now)
         (R.remaining source.old) (R.remaining source.new) (at_start policy.now) result.0) }
-    ensures items { OnOk result.1 (ReadsPageItems (RunsItems clean_step names.now) (runs_handed clean_step)
+    ensures items { OnOk result.1 (ReadsPageItems (RunsItems clean_step references.now) (runs_handed clean_step)
         (R.remaining source.old) (R.remaining source.new) (at_start policy.now) result.0) }
-    ensures beginning { OnErr result.1 (StopsPage (runs_page clean_step names.now) (runs_handed clean_step)
+    ensures beginning { OnErr result.1 (StopsPage (runs_page clean_step references.now) (runs_handed clean_step)
         (R.remaining source.old) (R.remaining source.new) (at_start policy.now) result.0) }
     ensures not_utf8 { (place : ℕ) → result.1 ≡ Err (StreamError.NotUtf8 place)
         → GivesNoText place (R.remaining source.old) (R.remaining source.new) }
@@ -36,22 +36,22 @@ pub fn clean_page<'p, R: Source, A: Allocator + Copy>(
         → GivesAtLeast (2 ^ 64 - 1) (R.remaining source.old) (R.remaining source.new) }
     ensures read { R.failures source.new ≡ R.failures source.old + failed_reads result.1 }
 {
-    read_tokens(alloc, source, Cleaner::new(alloc, policy), names)
+    read_tokens(alloc, source, Cleaner::new(alloc, policy), references)
 }
 
 /// What a policy keeps of a text.
 pub fn clean_text<A: Allocator + Copy>(
     alloc: A,
     text: &str,
-    names: &NamedReferences<A>,
+    references: &NamedReferences<A>,
     policy: &Policy<A>,
 ) -> Result<Writer<A>, StreamError>
     ensures kept { IfOk result (λ page. page
-        ≡ (runs_after clean_step names.now (at_start policy.now) text.now).pieces) }
+        ≡ (runs_after clean_step references.now (at_start policy.now) text.now).pieces) }
     ensures clean { IfOk result (λ page. list_all (is_clean policy.now) page ≡ true) }
 {
     let mut source = ReadSource::new(text.as_bytes());
-    let (cleaner, read) = clean_page(alloc, &mut source, names, policy);
+    let (cleaner, read) = clean_page(alloc, &mut source, references, policy);
     match read {
         Ok(()) => Ok(cleaner.into_page()),
         Err(error) => Err(error),

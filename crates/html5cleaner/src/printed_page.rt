@@ -29,12 +29,12 @@ fn read_printed<R: Source, W: Target, A: Allocator + Copy>(
     alloc: A,
     source: &mut R,
     cleaner: CleanPrinter<W, A>,
-    names: &NamedReferences<A>,
+    references: &NamedReferences<A>,
 ) -> (CleanPrinter<W, A>, Result<(), StreamError>)
-    ensures finishes { OnOk result.1 (ReadsPage (runs_after cleaning_step names.now)
+    ensures finishes { OnOk result.1 (ReadsPage (runs_after cleaning_step references.now)
         (R.remaining source.old) (R.remaining source.new)
         (page_start (standing_of cleaner)) (cleaning_of result.0)) }
-    ensures beginning { OnErr result.1 (StopsPage (runs_page cleaning_step names.now) (runs_handed cleaning_step)
+    ensures beginning { OnErr result.1 (StopsPage (runs_page cleaning_step references.now) (runs_handed cleaning_step)
         (R.remaining source.old) (R.remaining source.new)
         (page_start (standing_of cleaner)) (cleaning_of result.0)) }
     ensures not_utf8 { (place : ℕ) → result.1 ≡ Err (StreamError.NotUtf8 place)
@@ -45,7 +45,7 @@ fn read_printed<R: Source, W: Target, A: Allocator + Copy>(
         → GivesAtLeast (2 ^ 64 - 1) (R.remaining source.old) (R.remaining source.new) }
     ensures read { R.failures source.new ≡ R.failures source.old + failed_reads result.1 }
 {
-    read_tokens(alloc, source, cleaner.at_start(), names)
+    read_tokens(alloc, source, cleaner.at_start(), references)
 }
 
 /// Reads a page, and prints as it arrives what is kept of it, after what was printed before.
@@ -53,13 +53,13 @@ pub fn print_cleaned<R: Source, W: Target, A: Allocator + Copy>(
     alloc: A,
     source: &mut R,
     cleaner: CleanPrinter<W, A>,
-    names: &NamedReferences<A>,
+    references: &NamedReferences<A>,
 ) -> (CleanPrinter<W, A>, Result<(), StreamError>)
-    ensures finishes { OnOk result.1 (ReadsPage (λ s bytes. printed_of s (page_messages names.now s bytes))
+    ensures finishes { OnOk result.1 (ReadsPage (λ s bytes. printed_of s (page_messages references.now s bytes))
         (R.remaining source.old) (R.remaining source.new) (standing_of cleaner) (standing_of result.0)) }
-    ensures items { OnOk result.1 (ReadsPageItems (PageItems names.now) printed_of
+    ensures items { OnOk result.1 (ReadsPageItems (PageItems references.now) printed_of
         (R.remaining source.old) (R.remaining source.new) (standing_of cleaner) (standing_of result.0)) }
-    ensures beginning { OnErr result.1 (StopsPage (page_messages names.now) printed_of
+    ensures beginning { OnErr result.1 (StopsPage (page_messages references.now) printed_of
         (R.remaining source.old) (R.remaining source.new) (standing_of cleaner) (standing_of result.0)) }
     ensures not_utf8 { (place : ℕ) → result.1 ≡ Err (StreamError.NotUtf8 place)
         → GivesNoText place (R.remaining source.old) (R.remaining source.new) }
@@ -69,8 +69,8 @@ pub fn print_cleaned<R: Source, W: Target, A: Allocator + Copy>(
         → GivesAtLeast (2 ^ 64 - 1) (R.remaining source.old) (R.remaining source.new) }
     ensures read { R.failures source.new ≡ R.failures source.old + failed_reads result.1 }
 {
-    names.table_laws();
-    let (cleaner, read) = read_printed(alloc, source, cleaner, names);
+    references.table_laws();
+    let (cleaner, read) = read_printed(alloc, source, cleaner, references);
     match read {
         Ok(()) => (cleaner, Ok(())),
         Err(error) => (cleaner, Err(error)),
@@ -117,9 +117,9 @@ impl<W: Target + Drop> Filter<W> for CleanPrinter<W> {
         self,
         alloc: Global,
         source: &mut R,
-        names: &NamedReferences,
+        references: &NamedReferences,
     ) -> (CleanPrinter<W>, Result<(), StreamError>) {
-        print_cleaned(alloc, source, self, names)
+        print_cleaned(alloc, source, self, references)
     }
 
     fn into_printer(self) -> Printer<W>

@@ -1,7 +1,7 @@
 pub mod Cuts
 pub mod Feeding
-pub mod PrintedPages
+pub mod PrintedOutput
 pub mod SettingsLemmas
 pub mod PrintedItems
 pub mod SameReadings
-pub mod WrittenPages
+pub mod WrittenOutput

@@ -10,15 +10,15 @@ use Rattle.html5grammar.proofs.Soundness.{reading-items}
 use Rattle.html5cli.specs.Printing.{printer_means, printed_reading, Traffic, PrintsReading, PrintsItems}
 use Rattle.html5cli.specs.Settings.{SettingsOf}
 use Rattle.markup5ever.specs.NamedReferences.{NamedReference, IsTable}
-use Rattle.token_printer.specs.Page.{blank_page}
+use Rattle.token_printer.specs.Output.{blank_output}
 use Rattle.token_printer.specs.Printed.{printed}
 
 -- what is printed of a reading is printed of its items
-pub prints-items : (settings : SettingsOf) (names : List NamedReference) (known : Traffic) → IsTable names → PrintsReading settings names known → PrintsItems settings names known
+pub prints-items : (settings : SettingsOf) (references : List NamedReference) (known : Traffic) → IsTable references → PrintsReading settings references known → PrintsItems settings references known
 unfolding printed_reading
-prints-items settings names known table p =
-    let c : Composed printer_means (rules_of settings.opts names) (start_of settings.opts) (blank_page settings.foreign) (chars p.bytes) =
-    all-composed printer_means (rules_of settings.opts names) (start_of settings.opts) (blank_page settings.foreign) (chars p.bytes) refl in
+prints-items settings references known table p =
+    let c : Composed printer_means (rules_of settings.opts references) (start_of settings.opts) (blank_output settings.foreign) (chars p.bytes) =
+    all-composed printer_means (rules_of settings.opts references) (start_of settings.opts) (blank_output settings.foreign) (chars p.bytes) refl in
     record {
       bytes = p.bytes;
       consumed = p.consumed;
@@ -29,5 +29,5 @@ prints-items settings names known table p =
       items = c.items;
       printed =
           subst (λ M. Appends known.written known.after (printed M))
-          (reading-items printer_means (rules_of settings.opts names) (start_of settings.opts) (blank_page settings.foreign) (chars p.bytes) c.tells c.ends table c.items) p.printed;
+          (reading-items printer_means (rules_of settings.opts references) (start_of settings.opts) (blank_output settings.foreign) (chars p.bytes) c.tells c.ends table c.items) p.printed;
     }

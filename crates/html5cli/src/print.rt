@@ -4,10 +4,10 @@ ghost use Rattle.std.specs.Str.{IsUtf8, chars};
 ghost use Rattle.devices.specs.Device.{AppendsBeginning, IsReadFault, IsRefusal, reported_failures};
 ghost use Rattle.html5ever_interface.specs.Options.{options_of};
 ghost use Rattle.html5cli.specs.Settings.{options_said, said_by};
-ghost use Rattle.html5cli.specs.Printing.{printer_means, printed_reading, page_at_end, traffic_of, PrintsReading, PrintsItems, PrintsBeginning, PrintsNothing, PrintsOn, PrintsShort, WritesFront};
+ghost use Rattle.html5cli.specs.Printing.{printer_means, printed_reading, output_at_end, traffic_of, PrintsReading, PrintsItems, PrintsBeginning, PrintsNothing, PrintsOn, PrintsShort, WritesFront};
 ghost use Rattle.html5feed.specs.Starting.{CanStart};
 ghost use Rattle.html5ever.specs.Tokenizer.{ReadsOn};
-ghost use Rattle.token_printer.specs.Page.{without_lines};
+ghost use Rattle.token_printer.specs.Output.{without_lines};
 
 use devices::{Fault, Source, Target, read_to_end, write_all};
 use html5ever::TokenizerError;
@@ -157,41 +157,41 @@ fn piece_len(text: &str, cut: usize) -> usize
     prefix_len(text, cut)
 }
 
-// Writes the page, and clears it.
-fn write_page<W: Target, A: Allocator>(writer: &mut W, sink: &mut PrintSink<A>) -> Result<(), Fault>
-    ensures ok { OnOk result (Appends (W.contents writer.old) (W.contents writer.new) sink.old.page.lines) }
-    ensures err { OnErr result (AppendsBeginning (W.contents writer.old) (W.contents writer.new) sink.old.page.lines) }
-    ensures cleared { OnOk result (sink.new.page ≡ without_lines sink.old.page) }
+// Writes the output, and clears it.
+fn write_output<W: Target, A: Allocator>(writer: &mut W, sink: &mut PrintSink<A>) -> Result<(), Fault>
+    ensures ok { OnOk result (Appends (W.contents writer.old) (W.contents writer.new) sink.old.output.lines) }
+    ensures err { OnErr result (AppendsBeginning (W.contents writer.old) (W.contents writer.new) sink.old.output.lines) }
+    ensures cleared { OnOk result (sink.new.output ≡ without_lines sink.old.output) }
     ensures only_device { IfErr result (λ fault. fault ≡ Fault.Device) }
     ensures failures { W.failures writer.new ≡ W.failures writer.old + reported_failures result }
 {
-    write_all(writer, sink.page())?;
+    write_all(writer, sink.output())?;
     sink.clear();
     Ok(())
 }
 
-// How many bytes wait on a page before it is written.
-const PAGE: usize = 65_536;
+// How many bytes wait on a output before it is written.
+const OUTPUT: usize = 65_536;
 
-// Writes the page and clears it, where it is full.
-fn write_full_page<W: Target, A: Allocator>(
+// Writes the output and clears it, where it is full.
+fn write_full_output<W: Target, A: Allocator>(
     writer: &mut W,
     sink: &mut PrintSink<A>,
 ) -> Result<(), Fault>
     ensures ok { OnOk result
-        (WritesFront (W.contents writer.old) (W.contents writer.new) sink.old.page sink.new.page) }
-    ensures err { OnErr result (AppendsBeginning (W.contents writer.old) (W.contents writer.new) sink.old.page.lines) }
+        (WritesFront (W.contents writer.old) (W.contents writer.new) sink.old.output sink.new.output) }
+    ensures err { OnErr result (AppendsBeginning (W.contents writer.old) (W.contents writer.new) sink.old.output.lines) }
     ensures only_device { IfErr result (λ fault. fault ≡ Fault.Device) }
     ensures failures { W.failures writer.new ≡ W.failures writer.old + reported_failures result }
 {
-    if sink.page().len() < PAGE {
+    if sink.output().len() < OUTPUT {
         return Ok(());
     }
-    write_page(writer, sink)
+    write_output(writer, sink)
 }
 
 /// Feeds the text, cut into pieces of so many characters, and 0 stands for a number of its own. After a piece the
-/// page is written if it is full. What is left on it at the end is the caller's to write.
+/// output is written if it is full. What is left on it at the end is the caller's to write.
 pub fn feed_text<W: Target, A: Allocator + Copy>(
     alloc: A,
     tokenizer: &mut Tokenizer<'_, PrintSink<A>, A>,
@@ -216,7 +216,7 @@ pub fn feed_text<W: Target, A: Allocator + Copy>(
     while start < text.len() {
         let end = start + piece_len(&text[start..], cut);
         feed_piece(tokenizer, &mut queue, &text[start..end])?;
-        write_full_page(writer, &mut tokenizer.sink)?;
+        write_full_output(writer, &mut tokenizer.sink)?;
         start = end;
     }
     Ok(())
@@ -248,21 +248,21 @@ pub fn options_of<A: Allocator>(
     })
 }
 
-// Sends the end of the input, and writes what the page has then.
+// Sends the end of the input, and writes what the output has then.
 fn print_end<W: Target, A: Allocator + Copy>(
     tokenizer: &mut Tokenizer<'_, PrintSink<A>, A>,
     writer: &mut W,
 ) -> Result<(), Fault>
     requires going_on { tokenizer.old.ended ≡ false }
     requires not_failed { tokenizer.old.failed ≡ false }
-    ensures ok { OnOk result (Appends (W.contents writer.old) (W.contents writer.new) (page_at_end tokenizer.old).lines) }
+    ensures ok { OnOk result (Appends (W.contents writer.old) (W.contents writer.new) (output_at_end tokenizer.old).lines) }
     ensures err { OnErr result
-        (AppendsBeginning (W.contents writer.old) (W.contents writer.new) (page_at_end tokenizer.old).lines) }
+        (AppendsBeginning (W.contents writer.old) (W.contents writer.new) (output_at_end tokenizer.old).lines) }
     ensures fault { IfErr result IsReadFault }
     ensures failures { W.failures writer.new ≡ W.failures writer.old + reported_failures result }
 {
     match tokenizer.end() {
-        Ok(()) => write_page(writer, &mut tokenizer.sink),
+        Ok(()) => write_output(writer, &mut tokenizer.sink),
         Err(error) => Err(fault_of(error)),
     }
 }
@@ -272,20 +272,20 @@ fn print_text<W: Target, A: Allocator + Copy>(
     alloc: A,
     text: &str,
     settings: &Settings<'_>,
-    names: &NamedReferences<A>,
+    references: &NamedReferences<A>,
     writer: &mut W,
 ) -> Result<(), Fault>
     requires start { CanStart settings.now.initial_state }
     ensures ok { OnOk result (Appends (W.contents writer.old) (W.contents writer.new)
-        (printed_reading (said_by settings.now) names.now text.now)) }
+        (printed_reading (said_by settings.now) references.now text.now)) }
     ensures err { OnErr result (AppendsBeginning (W.contents writer.old) (W.contents writer.new)
-        (printed_reading (said_by settings.now) names.now text.now)) }
+        (printed_reading (said_by settings.now) references.now text.now)) }
     ensures fault { IfErr result IsReadFault }
     ensures failures { W.failures writer.new ≡ W.failures writer.old + reported_failures result }
 {
     let sink = PrintSink::new(alloc, settings.foreign);
     let opts = options_of(alloc, settings)?;
-    let mut tokenizer = Tokenizer::new(alloc, sink, opts, names);
+    let mut tokenizer = Tokenizer::new(alloc, sink, opts, references);
     feed_text(alloc, &mut tokenizer, text, settings.cut, writer)?;
     print_end(&mut tokenizer, writer)
 }
@@ -309,27 +309,27 @@ pub fn print_tokens<R: Source, W: Target, A: Allocator + Copy>(
     reader: &mut R,
     writer: &mut W,
     settings: &Settings<'_>,
-    names: &NamedReferences<A>,
+    references: &NamedReferences<A>,
 ) -> Result<(), Fault>
     requires start { CanStart settings.now.initial_state }
-    ensures ok { OnOk result (PrintsReading (said_by settings.now) names.now
+    ensures ok { OnOk result (PrintsReading (said_by settings.now) references.now
         (traffic_of R.remaining W.contents reader.old reader.new writer.old writer.new)) }
-    ensures items { OnOk result (PrintsItems (said_by settings.now) names.now
+    ensures items { OnOk result (PrintsItems (said_by settings.now) references.now
         (traffic_of R.remaining W.contents reader.old reader.new writer.old writer.new)) }
 
     // When each fault comes, and what it leaves.
     ensures not_utf8 { result ≡ Err Fault.NotUtf8
         → PrintsNothing (traffic_of R.remaining W.contents reader.old reader.new writer.old writer.new) }
     ensures beginning { OnErr result (Keeps (W.contents writer.old) (W.contents writer.new)
-        ⊎ PrintsBeginning (said_by settings.now) names.now
+        ⊎ PrintsBeginning (said_by settings.now) references.now
         (traffic_of R.remaining W.contents reader.old reader.new writer.old writer.new)) }
     ensures failed_read { R.failures reader.new ≢ R.failures reader.old
         → Keeps (W.contents writer.old) (W.contents writer.new) }
     ensures device { R.failures reader.new + W.failures writer.new
         ≡ R.failures reader.old + W.failures writer.old + reported_failures result }
 {
-    names.table_laws();
+    references.table_laws();
     let bytes = read_to_end(alloc, reader)?;
     let text = text_of(&bytes)?;
-    print_text(alloc, text, settings, names, writer)
+    print_text(alloc, text, settings, references, writer)
 }

@@ -12,7 +12,7 @@ use crate::arguments::settings_of;
 use crate::print::print_tokens;
 use arrayvec::ArrayString;
 use devices::{Fault, Source, Target, write_all};
-use html5table::names_of;
+use html5table::references_of;
 use itoa::Buffer;
 use markup5ever::data::TableError;
 use std::alloc::Allocator;
@@ -150,11 +150,11 @@ fn print_by_words<R: Source, W: Target, A: Allocator + Copy>(
     let Some(settings) = settings_of(words) else {
         return Ending::Usage;
     };
-    let names = match names_of(alloc, settings.table) {
-        Ok(names) => names,
+    let references = match references_of(alloc, settings.table) {
+        Ok(references) => references,
         Err(error) => return Ending::NoTable(error),
     };
-    match print_tokens(alloc, reader, writer, &settings, &names) {
+    match print_tokens(alloc, reader, writer, &settings, &references) {
         Ok(()) => Ending::Printed,
         Err(fault) => Ending::Faulted(fault),
     }

@@ -5,4 +5,4 @@ mod list;
 mod table;
 
 pub use crate::list::standard_list;
-pub use crate::table::standard_names;
+pub use crate::table::standard_references;

@@ -1,4 +1,4 @@
-//! The list of the standard's names.
+//! The list of the standard's named references.
 ghost use Rattle.std.specs.Prelude.{◌≡◌};
 ghost use Rattle.html5entities.specs.Standard.{standard_list};
 

@@ -20,13 +20,13 @@ use Rattle.html5grammar.proofs.Completeness.{told-items, finished-items}
 use Rattle.markup5ever.specs.NamedReferences.{NamedReference, IsTable}
 
 module _ {X S H : Type 0} (means : Means X S H) where
-  pub reads-items : (old new : Tokenizing X) (more : List ℕ) → IsTable old.rules.names → new.rules ≡ old.rules → ReadsOn means old new more → ReadsItems means old new more
+  pub reads-items : (old new : Tokenizing X) (more : List ℕ) → IsTable old.rules.references → new.rules ≡ old.rules → ReadsOn means old new more → ReadsItems means old new more
   reads-items old new more table same reads = λ K s text clean stands.
       told-items means old.rules K s (text ++ more) (means.state new.sink) table clean
       (subst (λ r. means.state new.sink ≡ state_after means r K s (text ++ more)) same (reads K s text stands).told)
 
   pub feeds-items : ((s : S) (told : Told) (line : ℕ) → is_tag told ≡ false → means.reply s told line ≡ KeepOn)
-      → (old new : Tokenizing X) (queue left : List ℕ) (reply : Reply H) → IsTable old.rules.names → new.rules ≡ old.rules → Feeds means old new queue left reply
+      → (old new : Tokenizing X) (queue left : List ℕ) (reply : Reply H) → IsTable old.rules.references → new.rules ≡ old.rules → Feeds means old new queue left reply
       → FeedsItems means old new queue left reply
   feeds-items keeps_on old new queue left reply table same feeds = λ K s text clean stands.
       let fed : Feed H = feed means old.rules K s text queue in
@@ -43,21 +43,21 @@ module _ {X S H : Type 0} (means : Means X S H) where
         stands = after.stands;
       }
 
-  pub finishes-items : (old : Tokenizing X) (t : S) → IsTable old.rules.names → Finishes means old t → FinishesItems means old t
+  pub finishes-items : (old : Tokenizing X) (t : S) → IsTable old.rules.references → Finishes means old t → FinishesItems means old t
   finishes-items old t table finishes = λ K s text clean stands. finished-items means old.rules K s text t table clean (finishes K s text stands)
 
   -- where a feed answers
   pub answered-items : {T E : Type 0} → ((s : S) (told : Told) (line : ℕ) → is_tag told ≡ false → means.reply s told line ≡ KeepOn)
-      → (result : Result T E) (reply : T → Reply H) (old new : Tokenizing X) (queue left : List ℕ) → IsTable old.rules.names → new.rules ≡ old.rules
+      → (result : Result T E) (reply : T → Reply H) (old new : Tokenizing X) (queue left : List ℕ) → IsTable old.rules.references → new.rules ≡ old.rules
       → IfOk result (λ answer. Feeds means old new queue left (reply answer)) → IfOk result (λ answer. FeedsItems means old new queue left (reply answer))
   answered-items keeps_on (Ok answer) reply old new queue left table same feeds = feeds-items keeps_on old new queue left (reply answer) table same feeds
   answered-items keeps_on (Err error) reply old new queue left table same feeds = tt
 
   -- a whole text
-  pub whole-items : (opts : OptionsOf) (names : List NamedReference) (state : S) (text : List ℕ) (t : S) (rules : Rules) → IsTable names → rules ≡ rules_of opts names
-      → t ≡ state_at_end means rules (start_of opts) state text → FinishedByItems means opts names state text t
-  whole-items opts names state text t rules table same e =
-      finished-items means (rules_of opts names) (start_of opts) state text t table refl (subst (λ r. t ≡ state_at_end means r (start_of opts) state text) same e)
+  pub whole-items : (opts : OptionsOf) (references : List NamedReference) (state : S) (text : List ℕ) (t : S) (rules : Rules) → IsTable references → rules ≡ rules_of opts references
+      → t ≡ state_at_end means rules (start_of opts) state text → FinishedByItems means opts references state text t
+  whole-items opts references state text t rules table same e =
+      finished-items means (rules_of opts references) (start_of opts) state text t table refl (subst (λ r. t ≡ state_at_end means r (start_of opts) state text) same e)
 
 -- ---- a collector
 
@@ -66,21 +66,21 @@ pub holds-each : {T E A B : Type 0} (result : Result T E) (f : T → B) (v : B) 
 holds-each (Ok x) f v expected holds each = λ a. holds ∙ each a
 holds-each (Err e) f v expected holds each = tt
 
-pub collected-items : (opts : OptionsOf) (names : List NamedReference) (foreign : Bool) (text : List ℕ) → IsTable names → (one : ComposedOf opts names foreign text)
-    → collected_of opts names foreign text ≡ collected_finish (stepped collected_step (none_collected foreign) (one.tells ++ one.ends))
-collected-items opts names foreign text table one =
+pub collected-items : (opts : OptionsOf) (references : List NamedReference) (foreign : Bool) (text : List ℕ) → IsTable references → (one : ComposedOf opts references foreign text)
+    → collected_of opts references foreign text ≡ collected_finish (stepped collected_step (none_collected foreign) (one.tells ++ one.ends))
+collected-items opts references foreign text table one =
     ap (λ M. collected_finish (stepped collected_step (none_collected foreign) M))
-    (reading-items collector_means (rules_of opts names) (start_of opts) (none_collected foreign) text one.tells one.ends table one.items)
+    (reading-items collector_means (rules_of opts references) (start_of opts) (none_collected foreign) text one.tells one.ends table one.items)
 
 -- a text that is one unfinished item
-pub holds-unfinished : {E W : Type 0} (result : Result Collecting E) (opts : OptionsOf) (names : List NamedReference) (foreign : Bool) (text : List ℕ) (IsOne : W → Type 0) (tells ends : W → List Message)
-    → IsTable names → IfOk result (λ sink. sink.collected ≡ collected_of opts names foreign text)
-    → ((w : W) → IsOne w → Unfinished collector_means (rules_of opts names) (start_of opts) (none_collected foreign) text (tells w) (ends w))
+pub holds-unfinished : {E W : Type 0} (result : Result Collecting E) (opts : OptionsOf) (references : List NamedReference) (foreign : Bool) (text : List ℕ) (IsOne : W → Type 0) (tells ends : W → List Message)
+    → IsTable references → IfOk result (λ sink. sink.collected ≡ collected_of opts references foreign text)
+    → ((w : W) → IsOne w → Unfinished collector_means (rules_of opts references) (start_of opts) (none_collected foreign) text (tells w) (ends w))
     → IfOk result (λ sink. (w : W) → IsOne w → Collects sink foreign (tells w ++ ends w))
-holds-unfinished result opts names foreign text IsOne tells ends table holds one =
+holds-unfinished result opts references foreign text IsOne tells ends table holds one =
     IfOk-weaker result _ _
     (λ (sink : Collecting) is w is_one.
     is
     ∙ ap (λ (M : List Message). collected_finish (stepped collected_step (none_collected foreign) M))
-    (reading-unfinished collector_means (rules_of opts names) (start_of opts) (none_collected foreign) text (tells w) (ends w) table (one w is_one)))
+    (reading-unfinished collector_means (rules_of opts references) (start_of opts) (none_collected foreign) text (tells w) (ends w) table (one w is_one)))
     holds

@@ -24,7 +24,7 @@ collector_means = record {
 
 -- what a collector holds after a whole text
 abbrev pub collected_of : OptionsOf → List NamedReference → Bool → List ℕ → Collected
-collected_of opts names foreign text = finished_reading collector_means opts names (none_collected foreign) text
+collected_of opts references foreign text = finished_reading collector_means opts references (none_collected foreign) text
 
 -- a collector holds these messages, adjacent texts joined, and has finished
 abbrev pub Collects : Collecting → Bool → List Message → Type 0
@@ -32,13 +32,13 @@ Collects sink foreign M = sink.collected ≡ collected_finish (stepped collected
 
 -- a whole text as items, which a collector is sent
 abbrev pub ComposedOf : OptionsOf → List NamedReference → Bool → List ℕ → Type 0
-ComposedOf opts names foreign text = Composed collector_means (rules_of opts names) (start_of opts) (none_collected foreign) text
+ComposedOf opts references foreign text = Composed collector_means (rules_of opts references) (start_of opts) (none_collected foreign) text
 
 -- what reading a whole text by a collector answers
-pub record CollectsText (result : Result Collecting TokenizerError) (opts : OptionsOf) (names : List NamedReference) (foreign : Bool)
+pub record CollectsText (result : Result Collecting TokenizerError) (opts : OptionsOf) (references : List NamedReference) (foreign : Bool)
     (text : List ℕ) : Type 0 where
   -- a collector that holds the finished reading, and has not faulted
-  pub holds : IfOk result (λ sink. sink.collected ≡ collected_of opts names foreign text)
+  pub holds : IfOk result (λ sink. sink.collected ≡ collected_of opts references foreign text)
   pub no_fault : IfOk result (λ sink. sink.faults ≡ 0)
   -- or an error, for want of memory or a fault of the collector
   pub refusal : IfErr result IsRefusal

@@ -1,5 +1,5 @@
 pub mod Tokenizer
-pub mod Resting
+pub mod Detached
 pub mod Collecting
 pub mod RunSteps
 pub mod Pieces

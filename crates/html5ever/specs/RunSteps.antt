@@ -41,7 +41,7 @@ module _ {X S H : Type 0} (means : Means X S H) where
 
   -- the same from the start of a stream, by these options and this table
   abbrev pub text_of_steps : OptionsOf → List NamedReference → S → List StepOf → List ℕ
-  text_of_steps opts names state steps = run_text (rules_of opts names) (start_of opts) state [] [] steps
+  text_of_steps opts references state steps = run_text (rules_of opts references) (start_of opts) state [] [] steps
 
   -- from the start of a text, the sink was sent the reading of what the steps make the tokenizer take, and then finished
   abbrev pub FinishesRun : Tokenizing X → List StepOf → S → Type 0
@@ -67,7 +67,7 @@ module _ {X S H : Type 0} (means : Means X S H) where
 
   -- from the start of a stream, by these options and this table, the sink was sent what the items and the end of the text taken tell,
   -- and then finished
-  pub record RunsItems (opts : OptionsOf) (names : List NamedReference) (state : S) (steps : List StepOf) (t : S) : Type 0 where
+  pub record RunsItems (opts : OptionsOf) (references : List NamedReference) (state : S) (steps : List StepOf) (t : S) : Type 0 where
     pub whole : List ℕ
-    pub takes : RunTakes (rules_of opts names) (start_of opts) state [] [] steps whole
-    pub finished : FinishedItems means (rules_of opts names) (start_of opts) state whole t
+    pub takes : RunTakes (rules_of opts references) (start_of opts) state [] [] steps whole
+    pub finished : FinishedItems means (rules_of opts references) (start_of opts) state whole t

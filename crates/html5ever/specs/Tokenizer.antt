@@ -4,7 +4,7 @@ use Rattle.html5ever_interface.specs.Options.{OptionsOf}
 use Rattle.html5ever_interface.specs.Sink.{Means, Message, stepped}
 use Rattle.html5ever_interface.specs.Token.{Reply}
 use Rattle.html5reading.specs.Reading.{all_messages, state_after, start_after}
-use Rattle.html5reading.specs.Start.{Start, Rules, start_of, is_clean}
+use Rattle.html5reading.specs.Start.{Start, Rules, start_of, is_between}
 use Rattle.html5grammar.specs.Items.{ToldItems, FinishedItems}
 use Rattle.html5ever.specs.Pauses.{TakesByItems}
 use Rattle.html5feed.specs.Feed.{Feed, told_beyond, told_at_end, feed}
@@ -28,7 +28,7 @@ pub record Tokenizing (X : Type 0) : Type 0 where
 
 -- what a tokenizer with these options and this table reads by
 abbrev pub rules_of : OptionsOf → List NamedReference → Rules
-rules_of opts names = record { exact = opts.exact_errors; names = names }
+rules_of opts references = record { exact = opts.exact_errors; references = references }
 
 -- ---- whole readings
 
@@ -39,12 +39,12 @@ module _ {X S H : Type 0} (means : Means X S H) where
 
   -- the same from the start of a stream, by these options and this table
   abbrev pub finished_reading : OptionsOf → List NamedReference → S → List ℕ → S
-  finished_reading opts names state text = state_at_end (rules_of opts names) (start_of opts) state text
+  finished_reading opts references state text = state_at_end (rules_of opts references) (start_of opts) state text
 
   -- from the start of a stream, by these options and this table, the sink was sent exactly what a text's items and its end tell,
   -- and then finished
   abbrev pub FinishedByItems : OptionsOf → List NamedReference → S → List ℕ → S → Type 0
-  FinishedByItems opts names state text t = FinishedItems means (rules_of opts names) (start_of opts) state text t
+  FinishedByItems opts references state text t = FinishedItems means (rules_of opts references) (start_of opts) state text t
 
   -- what a refused end leaves of the messages that it tells, or a refused reading of a whole text. The sink may also fault at its
   -- own end.
@@ -55,7 +55,7 @@ module _ {X S H : Type 0} (means : Means X S H) where
 
   -- from the start of a stream, by these options and this table, the reading of a text stopped so
   abbrev pub StoppedReading : OptionsOf → List NamedReference → TokenizerError → S → List ℕ → S → Type 0
-  StoppedReading opts names e state text t = EndStops e state (all_messages means (rules_of opts names) (start_of opts) state text) t
+  StoppedReading opts references e state text t = EndStops e state (all_messages means (rules_of opts references) (start_of opts) state text) t
 
 -- ---- where a tokenizer stands
 
@@ -99,7 +99,7 @@ module _ {X S H : Type 0} (means : Means X S H) where
   -- after `more`, the sink was sent exactly what the items tell
   abbrev pub ReadsItems : Tokenizing X → Tokenizing X → List ℕ → Type 0
   ReadsItems old new more =
-      (K : Start) (s : S) (text : List ℕ) → is_clean K.opened ≡ true → StandsAt old K s text
+      (K : Start) (s : S) (text : List ℕ) → is_between K.opened ≡ true → StandsAt old K s text
       → ToldItems means old.rules K s (text ++ more) (means.state new.sink)
 
   -- after `text` the tokenizer took the beginning of the queue's text that its items say, `left` waits, and that reply was handed on.
@@ -113,12 +113,12 @@ module _ {X S H : Type 0} (means : Means X S H) where
   -- a feed of a queue's text, likewise
   abbrev pub FeedsItems : Tokenizing X → Tokenizing X → List ℕ → List ℕ → Reply H → Type 0
   FeedsItems old new queue left reply =
-      (K : Start) (s : S) (text : List ℕ) → is_clean K.opened ≡ true → StandsAt old K s text → FedByItems old new K s text queue left reply
+      (K : Start) (s : S) (text : List ℕ) → is_between K.opened ≡ true → StandsAt old K s text → FedByItems old new K s text queue left reply
 
   -- the sink was sent what the items and the end tell, and then finished
   abbrev pub FinishesItems : Tokenizing X → S → Type 0
   FinishesItems old t =
-      (K : Start) (s : S) (text : List ℕ) → is_clean K.opened ≡ true → StandsAt old K s text → FinishedItems means old.rules K s text t
+      (K : Start) (s : S) (text : List ℕ) → is_between K.opened ≡ true → StandsAt old K s text → FinishedItems means old.rules K s text t
 
   -- ---- refused calls
 

@@ -3,7 +3,7 @@ ghost use Rattle.std.specs.Prelude.{◌≡◌, ◌≢◌, ◌^◌, ◌<◌, ◌+
 ghost use Rattle.html5ever_interface.specs.Options.{options_of};
 ghost use Rattle.html5ever_interface.specs.Sink.{stepped, on_line};
 ghost use Rattle.html5reading.specs.EndOfInput.{tokens_at_end};
-ghost use Rattle.html5reading.specs.Start.{start_of, is_clean, held_len};
+ghost use Rattle.html5reading.specs.Start.{start_of, is_between, held_len};
 ghost use Rattle.html5reading.specs.Start.Mode.{Plain};
 ghost use Rattle.html5reading.specs.Start.Open.{Between};
 ghost use Rattle.html5feed.specs.Feed.{reply_in, IsEndOf, IsLinear};
@@ -22,13 +22,13 @@ use std::marker::Model;
 pub mod collect;
 pub mod laws;
 pub mod pieces;
-pub mod resting;
+pub mod detached;
 pub mod states;
 pub mod steps;
 pub mod whole;
 
 pub use crate::tokenizer::pieces::feed_pieces;
-pub use crate::tokenizer::resting::Resting;
+pub use crate::tokenizer::detached::DetachedTokenizer;
 pub use crate::tokenizer::steps::{Step, feed_until_done, run_steps};
 pub use crate::tokenizer::whole::{read_pieces, read_whole};
 pub use html5ever_interface::interface::message::{ErrorMessage, FixedMessage};
@@ -84,11 +84,11 @@ impl<'t, Sink: TokenSink<Token<A>>, A: Allocator + Copy> Tokenizer<'t, Sink, A> 
         alloc: A,
         sink: Sink,
         opts: TokenizerOpts<A>,
-        names: &'t NamedReferences<A>,
+        references: &'t NamedReferences<A>,
     ) -> Tokenizer<'t, Sink, A>
         requires { CanStart opts.initial_state }
         ensures stands { StandsAt Sink.means result (start_of (options_of opts)) (Sink.means.state sink) [] }
-        ensures rules { result.rules ≡ rules_of (options_of opts) names.now }
+        ensures rules { result.rules ≡ rules_of (options_of opts) references.now }
         ensures sink { result.sink ≡ sink }
     {
         Tokenizer {
@@ -96,7 +96,7 @@ impl<'t, Sink: TokenSink<Token<A>>, A: Allocator + Copy> Tokenizer<'t, Sink, A> 
             alloc,
             rules: Rules {
                 exact_errors: opts.exact_errors,
-                names,
+                references,
             },
             position: Position::new(alloc, opts),
             failed: false,
@@ -179,7 +179,7 @@ impl<'t, Sink: TokenSink<Token<A>>, A: Allocator + Copy> Tokenizer<'t, Sink, A> 
             return Err(TokenizerError::Failed);
         }
         table_laws(&self.rules);
-        let result = tell_end(self.alloc, &mut self.sink, &self.rules, &mut self.position);
+        let result = emit_end(self.alloc, &mut self.sink, &self.rules, &mut self.position);
         self.failed = result.is_err();
         self.ended = result.is_ok();
         result
@@ -203,19 +203,19 @@ impl<'t, Sink: TokenSink<Token<A>>, A: Allocator + Copy> Tokenizer<'t, Sink, A> 
     /// CR whose LF may still follow is no bar. Then what follows can be sent to another sink, which
     /// the caller puts in the field `sink`.
     pub fn nothing_pending(&self) -> bool
-        ensures exact { result ≡ (is_clean self.now.position.opened && not self.now.failed && not self.now.ended) }
+        ensures exact { result ≡ (is_between self.now.position.opened && not self.now.failed && not self.now.ended) }
         ensures anew { result ≡ true → (x : Sink)
             → StandsAt Sink.means (record self.now { sink = x }) self.now.position (Sink.means.state x) [] }
     {
         if self.failed || self.ended {
             return false;
         }
-        self.position.is_clean()
+        self.position.is_between()
     }
 
     /// Reads the rest of the stream as plain text, where nothing is pending.
     pub fn set_plaintext_state(&mut self)
-        requires clean { is_clean self.old.position.opened ≡ true }
+        requires clean { is_between self.old.position.opened ≡ true }
         requires not_failed { self.old.failed ≡ false }
         requires going_on { self.old.ended ≡ false }
         ensures anew { (x : Sink) → StandsAt Sink.means (record self.new { sink = x })
@@ -250,14 +250,14 @@ impl<'t, Sink: TokenSink<Token<A>>, A: Allocator + Copy> Tokenizer<'t, Sink, A> 
 
 // The laws of the table that a reading goes by.
 fn table_laws<A: Allocator>(rules: &Rules<'_, A>)
-    ensures { IsTable rules.now.names }
+    ensures { IsTable rules.now.references }
 {
-    let names = rules.names;
-    names.table_laws();
+    let references = rules.references;
+    references.table_laws();
 }
 
 // Sends the end of the input, and has the sink finish.
-fn tell_end<S: TokenSink<Token<A>>, A: Allocator + Copy>(
+fn emit_end<S: TokenSink<Token<A>>, A: Allocator + Copy>(
     alloc: A,
     sink: &mut S,
     rules: &Rules<'_, A>,
@@ -270,7 +270,7 @@ fn tell_end<S: TokenSink<Token<A>>, A: Allocator + Copy>(
     ensures faults { S.faults sink.new ≡ S.faults sink.old + faults_of result }
     ensures fits { position.old.input.line < 2 ^ 64 }
 {
-    position.tell_end_of_input(alloc, sink, rules)?;
+    position.emit_end_of_input(alloc, sink, rules)?;
     match sink.end() {
         Ok(()) => Ok(()),
         Err(SinkFault) => Err(TokenizerError::Sink),

@@ -26,11 +26,11 @@ pub fn few_names<A: Allocator + Copy>(alloc: A) -> Result<NamedReferences<A>, Ta
 /// The tokens of a text.
 pub fn tokens_of_text<A: Allocator + Copy>(
     alloc: A,
-    names: &NamedReferences<A>,
+    references: &NamedReferences<A>,
     text: String<A>,
 ) -> Result<Collector<A>, TokenizerError> {
     let sink = Collector::new(alloc, false); // or any lawful sink
-    let (sink, read) = read_whole(alloc, sink, TokenizerOpts::default(), names, text);
+    let (sink, read) = read_whole(alloc, sink, TokenizerOpts::default(), references, text);
     read?; // or why it stopped; then the sink was sent a beginning
     Ok(sink)
 }
@@ -38,12 +38,12 @@ pub fn tokens_of_text<A: Allocator + Copy>(
 /// What a text tells that arrives in two pieces.
 pub fn tokens_of<A: Allocator + Copy>(
     alloc: A,
-    names: &NamedReferences<A>,
+    references: &NamedReferences<A>,
     first: String<A>,
     second: String<A>,
 ) -> Result<Collector<A>, TokenizerError> {
     let sink = Collector::new(alloc, false); // or any lawful sink
-    let mut tokenizer = Tokenizer::new(alloc, sink, TokenizerOpts::default(), names);
+    let mut tokenizer = Tokenizer::new(alloc, sink, TokenizerOpts::default(), references);
     let mut queue = BufferQueue::new(alloc);
     if queue.push_back(first).is_err() {
         return Err(TokenizerError::Memory); // a refused text comes back
@@ -61,11 +61,11 @@ pub fn tokens_of<A: Allocator + Copy>(
 pub fn read_with_script<S: TokenSink<Token<A>> + Drop, A: Allocator + Copy>(
     alloc: A,
     sink: S,
-    names: &NamedReferences<A>,
+    references: &NamedReferences<A>,
     text: String<A>,
     written: String<A>,
 ) -> Result<S, TokenizerError> {
-    let mut tokenizer = Tokenizer::new(alloc, sink, TokenizerOpts::default(), names);
+    let mut tokenizer = Tokenizer::new(alloc, sink, TokenizerOpts::default(), references);
     let mut queue = BufferQueue::new(alloc);
     if queue.push_back(text).is_err() {
         return Err(TokenizerError::Memory);

@@ -16,15 +16,15 @@ pub fn read_links<R: Source, W: Target, A: Allocator + Copy>(
     alloc: A,
     source: &mut R,
     links: Links<W, A>,
-    names: &NamedReferences<A>,
+    references: &NamedReferences<A>,
 ) -> (Links<W, A>, Result<(), StreamError>)
-    ensures finishes { OnOk result.1 (ReadsPage (tags_after links_step names.now)
+    ensures finishes { OnOk result.1 (ReadsPage (tags_after links_step references.now)
         (R.remaining source.old) (R.remaining source.new)
         links.printer.printed result.0.printer.printed) }
-    ensures items { OnOk result.1 (ReadsPageItems (TagsItems links_step names.now) (tags_handed links_step)
+    ensures items { OnOk result.1 (ReadsPageItems (TagsItems links_step references.now) (tags_handed links_step)
         (R.remaining source.old) (R.remaining source.new)
         links.printer.printed result.0.printer.printed) }
-    ensures beginning { OnErr result.1 (StopsPage (tags_page links_step names.now) (tags_handed links_step)
+    ensures beginning { OnErr result.1 (StopsPage (tags_page links_step references.now) (tags_handed links_step)
         (R.remaining source.old) (R.remaining source.new)
         links.printer.printed result.0.printer.printed) }
     ensures not_utf8 { (place : ℕ) → result.1 ≡ Err (StreamError.NotUtf8 place)
@@ -35,7 +35,7 @@ pub fn read_links<R: Source, W: Target, A: Allocator + Copy>(
         → GivesAtLeast (2 ^ 64 - 1) (R.remaining source.old) (R.remaining source.new) }
     ensures read { R.failures source.new ≡ R.failures source.old + failed_reads result.1 }
 {
-    read_tags(alloc, source, links, names)
+    read_tags(alloc, source, links, references)
 }
 
 impl<W: Target + Drop> Filter<W> for Links<W> {
@@ -78,9 +78,9 @@ impl<W: Target + Drop> Filter<W> for Links<W> {
         self,
         alloc: Global,
         source: &mut R,
-        names: &NamedReferences,
+        references: &NamedReferences,
     ) -> (Links<W>, Result<(), StreamError>) {
-        read_links(alloc, source, self, names)
+        read_links(alloc, source, self, references)
     }
 
     fn into_printer(self) -> Printer<W>

@@ -16,15 +16,15 @@ pub fn read_text<R: Source, W: Target, A: Allocator + Copy>(
     alloc: A,
     source: &mut R,
     text: PageText<W, A>,
-    names: &NamedReferences<A>,
+    references: &NamedReferences<A>,
 ) -> (PageText<W, A>, Result<(), StreamError>)
-    ensures finishes { OnOk result.1 (ReadsPage (runs_after text_step names.now)
+    ensures finishes { OnOk result.1 (ReadsPage (runs_after text_step references.now)
         (R.remaining source.old) (R.remaining source.new)
         (at_start text.printer.printed) (reading_of result.0)) }
-    ensures items { OnOk result.1 (ReadsPageItems (RunsItems text_step names.now) (runs_handed text_step)
+    ensures items { OnOk result.1 (ReadsPageItems (RunsItems text_step references.now) (runs_handed text_step)
         (R.remaining source.old) (R.remaining source.new)
         (at_start text.printer.printed) (reading_of result.0)) }
-    ensures beginning { OnErr result.1 (StopsPage (runs_page text_step names.now) (runs_handed text_step)
+    ensures beginning { OnErr result.1 (StopsPage (runs_page text_step references.now) (runs_handed text_step)
         (R.remaining source.old) (R.remaining source.new)
         (at_start text.printer.printed) (reading_of result.0)) }
     ensures not_utf8 { (place : ℕ) → result.1 ≡ Err (StreamError.NotUtf8 place)
@@ -35,7 +35,7 @@ pub fn read_text<R: Source, W: Target, A: Allocator + Copy>(
         → GivesAtLeast (2 ^ 64 - 1) (R.remaining source.old) (R.remaining source.new) }
     ensures read { R.failures source.new ≡ R.failures source.old + failed_reads result.1 }
 {
-    read_tokens(alloc, source, text.at_start(), names)
+    read_tokens(alloc, source, text.at_start(), references)
 }
 
 impl<W: Target + Drop> Filter<W> for PageText<W> {
@@ -78,9 +78,9 @@ impl<W: Target + Drop> Filter<W> for PageText<W> {
         self,
         alloc: Global,
         source: &mut R,
-        names: &NamedReferences,
+        references: &NamedReferences,
     ) -> (PageText<W>, Result<(), StreamError>) {
-        read_text(alloc, source, self, names)
+        read_text(alloc, source, self, references)
     }
 
     fn into_printer(self) -> Printer<W>

@@ -10,15 +10,15 @@ use Rattle.html5feed.specs.Quiet.{HoldsText, StopsAtCharacter}
 use Rattle.markup5ever.specs.NamedReferences.{NamedReference}
 
 -- where the text is nothing, nothing more is held
-pub holds-nothing : (names : List NamedReference) (opened later : Open) (text : List ℕ) → text ≡ [] → HoldsText names opened text later → later ≡ opened
-holds-nothing names opened later text none holds =
+pub holds-nothing : (references : List NamedReference) (opened later : Open) (text : List ℕ) → text ≡ [] → HoldsText references opened text later → later ≡ opened
+holds-nothing references opened later text none holds =
     holds.after ∙ ap (InReference holds.stand) (ap (λ l. holds.held ++ l) none ∙ append-nil holds.held) ∙ sym holds.before
 
 -- the reference is the one that is kept beside what is open
-pub holds-no_text : (names : List NamedReference) (is_in : Bool) (held : List ℕ) (opened : Open) → is_in ≡ true
-    → HoldsText names (with_reference is_in held opened) [] (with_reference is_in held opened)
+pub holds-no_text : (references : List NamedReference) (is_in : Bool) (held : List ℕ) (opened : Open) → is_in ≡ true
+    → HoldsText references (with_reference is_in held opened) [] (with_reference is_in held opened)
 unfolding with_reference HoldsEach
-holds-no_text names is_in held opened inside = record {
+holds-no_text references is_in held opened inside = record {
   stand = stand_of opened;
   held = held;
   before = rw inside refl;
@@ -28,7 +28,7 @@ holds-no_text names is_in held opened inside = record {
 
 -- where memory is refused, nothing is held of the first character
 pub stops-held : (rules : Rules) (K : Start) (text : List ℕ) (bytes : ℕ) → K.input.after_carriage_return ≡ false → K.input.drops_byte_order_mark ≡ false → K.input.line < 2 ^ 64
-    → bytes ≡ 1 → BeginsInAscii text → HoldsText rules.names K.opened [] K.opened → StopsAtCharacter rules K (chars (take bytes text))
+    → bytes ≡ 1 → BeginsInAscii text → HoldsText rules.references K.opened [] K.opened → StopsAtCharacter rules K (chars (take bytes text))
 stops-held rules K text bytes past_line_break past_stream_start fits one begins holds =
     let item : chars (take 1 text) ≡ take 1 text = chars-IsAscii (take 1 text) begins.ascii in
     record {

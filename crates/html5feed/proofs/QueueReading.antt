@@ -6,7 +6,7 @@ use Rattle.markup5ever.specs.BufferQueue.{TextQueue, Takes}
 use Rattle.html5reading.specs.Reading.{messages_so_far, state_after, start_after}
 use Rattle.html5feed.specs.Runs.{ReadsRun}
 use Rattle.html5ever_interface.specs.Sink.{Means, Message, stepped}
-use Rattle.html5reading.specs.Start.{Start, Open, is_clean, Rules}
+use Rattle.html5reading.specs.Start.{Start, Open, is_between, Rules}
 use Rattle.html5states.specs.Telling.{Stops, IsRefusal}
 use Rattle.html5reading.specs.NormalisedText.{input_after}
 use Rattle.std.specs.Result.{IsErrAnd}
@@ -23,13 +23,13 @@ use Rattle.std.specs.Prelude.{OnOk, IsNone}
 use Rattle.html5feed.proofs.Pauses.{told_beyond-after, state_beyond-append, pause_here, feed-goes_on, feed-takes, feed-pauses}
 use Rattle.html5partial.specs.declared.error.TokenizerError.{TokenizerError}
 use Rattle.html5partial.specs.declared.error.TokenizerError.TheVariants.{Memory, Sink, Failed}
-use Rattle.html5reading.proofs.ReadingLemmas.{clean-mode, told-nil, told-append, after-nil, after-append}
+use Rattle.html5reading.proofs.ReadingLemmas.{between-mode, told-nil, told-append, after-nil, after-append}
 use Rattle.html5partial.proofs.Keywords.{cons≢nil}
 use Rattle.html5states.proofs.Tellings.{Memory-at_once, stops_before, stops_after}
 
 -- between tags a run opens nothing
-opened_after_run-clean : (opened : Open) (run : List ℕ) → is_clean opened ≡ true → opened_after_run opened run ≡ opened
-opened_after_run-clean opened run clean = let is = clean-mode opened clean in rw is.1 refl
+opened_after_run-clean : (opened : Open) (run : List ℕ) → is_between opened ≡ true → opened_after_run opened run ≡ opened
+opened_after_run-clean opened run clean = let is = between-mode opened clean in rw is.1 refl
 
 pub on_ok : {T E : Type 0} {P : Type 0} (r : Result T E) → P → OnOk r P
 on_ok (Ok x) p = p
@@ -176,7 +176,7 @@ module _ {X S H : Type 0} (means : Means X S H) (rules : Rules) where
   -- a run of text was sent on the line that is reached after it, or refused
   pub ReadsRun-text : {T : Type 0} (r : Result T TokenizerError)
       → ((s : S) (told : Told) (line : ℕ) → is_tag told ≡ false → means.reply s told line ≡ KeepOn)
-      → (K L : Start) (old new : TextQueue) (s t : S) (run bytes : List ℕ) → IsRun rules K run → is_clean K.opened ≡ true → K.input.line < 2 ^ 64 → Takes old new run
+      → (K L : Start) (old new : TextQueue) (s t : S) (run bytes : List ℕ) → IsRun rules K run → is_between K.opened ≡ true → K.input.line < 2 ^ 64 → Takes old new run
       → bytes ≡ encode_utf8_all run
       → ((M : List Message) → IsToldAs (Text bytes) L.input.line M → Tells means.step means.faulted r s M t)
       → L.opened ≡ K.opened → L.last_start_tag ≡ K.last_start_tag → L.input ≡ input_after K.input run
@@ -189,7 +189,7 @@ module _ {X S H : Type 0} (means : Means X S H) (rules : Rules) where
   -- a run was put to the open name or value, or there was no memory for it
   pub ReadsRun-open : {T : Type 0} (r : Result T TokenizerError)
       → ((s : S) (told : Told) (line : ℕ) → is_tag told ≡ false → means.reply s told line ≡ KeepOn)
-      → (K L : Start) (old new : TextQueue) (s : S) (run : List ℕ) → IsRun rules K run → is_clean K.opened ≡ false → K.input.line < 2 ^ 64 → Takes old new run
+      → (K L : Start) (old new : TextQueue) (s : S) (run : List ℕ) → IsRun rules K run → is_between K.opened ≡ false → K.input.line < 2 ^ 64 → Takes old new run
       → IfErr r (λ e. e ≡ Memory) → OnOk r (L.opened ≡ opened_after_run K.opened run) → L.last_start_tag ≡ K.last_start_tag → L.input ≡ K.input
       → ReadsRun means rules r K L old new s s
   ReadsRun-open r keeps_on K L old new s run is_run not_clean fits takes memory opened last input =

@@ -38,17 +38,17 @@ all_ordinary opened [] later reads = All-nil IsOrdinary
 all_ordinary opened (c ∷ text) later reads =
     All-cons IsOrdinary c text (record { no_line_feed = reads.1.0.no_line_feed; no_carriage_return = reads.1.0.no_carriage_return }) (all_ordinary reads.0 text later reads.1.1)
 
-held_ordinary : (names : List NamedReference) (held text : List ℕ) → HoldsEach names held text → All IsOrdinary text
+held_ordinary : (references : List NamedReference) (held text : List ℕ) → HoldsEach references held text → All IsOrdinary text
 unfolding HoldsEach
-held_ordinary names held [] holds = All-nil IsOrdinary
-held_ordinary names held (c ∷ text) holds =
+held_ordinary references held [] holds = All-nil IsOrdinary
+held_ordinary references held (c ∷ text) holds =
     All-cons IsOrdinary c text
     (record { no_line_feed = λ e. omega (arith, holds.1, e); no_carriage_return = λ e. omega (arith, holds.1, e) })
-    (held_ordinary names (held ++ c ∷ []) text holds.3)
+    (held_ordinary references (held ++ c ∷ []) text holds.3)
 
 text_ordinary : (rules : Rules) (opened : Open) (text : List ℕ) (later : Open) → TellsNothing rules opened text later → All IsOrdinary text
 text_ordinary rules opened text later (inl quiet) = all_ordinary opened text later quiet.1
-text_ordinary rules opened text later (inr held) = held_ordinary rules.names held.held text held.holds
+text_ordinary rules opened text later (inr held) = held_ordinary rules.references held.held text held.holds
 
 -- nothing was taken
 pub takes-nothing : {T : Type 0} (x : T) (rules : Rules) (K L : Start) (old : TextQueue) → L.opened ≡ K.opened → L.last_start_tag ≡ K.last_start_tag → L.input ≡ K.input
@@ -116,7 +116,7 @@ module _ {X S H : Type 0} (means : Means X S H) (rules : Rules) where
       (ap (with_messages []) (trace-quietly s line last reads.0 text later not_exact h reads.1.1))
 
   -- each character of a text is held of a reference
-  trace-held : (s : S) (line : ℕ) (last : List ℕ) (stand : Stand) (held text : List ℕ) → line < 2 ^ 64 → HoldsEach rules.names held text
+  trace-held : (s : S) (line : ℕ) (last : List ℕ) (stand : Stand) (held text : List ℕ) → line < 2 ^ 64 → HoldsEach rules.references held text
       → trace means.step means.reply means.foreign rules s line last (InReference stand held) text ≡ record { messages = []; opened = InReference stand (held ++ text); last_start_tag = last }
   unfolding trace trace_brought trace_here stepped HoldsEach line_past brought_at reference_step
   trace-held s line last stand held [] h holds = rw (append-nil held) refl

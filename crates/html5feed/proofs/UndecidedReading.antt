@@ -67,12 +67,12 @@ module _ (rules : Rules) (foreign is_in : Bool) (held : List ℕ) (opened : Open
   if-record true = refl
   if-record false = refl
 
-  pub brought-held : is_undecided rules.names (held ++ c ∷ []) ≡ true
+  pub brought-held : is_undecided rules.references (held ++ c ∷ []) ≡ true
       → brought_at rules foreign (with_reference is_in held opened) c ≡ record { settled = []; here = Tells [] (InReference stand (held ++ c ∷ [])) }
   unfolding with_reference brought_at reference_step
   brought-held h = rw (inside, h) refl
 
-  pub brought-decided : is_undecided rules.names (held ++ c ∷ []) ≡ false
+  pub brought-decided : is_undecided rules.references (held ++ c ∷ []) ≡ false
       → brought_at rules foreign (with_reference is_in held opened) c
       ≡ record {
         settled = late_tokens stand (reference rules (in_value stand) held (Some c)) held;
@@ -82,7 +82,7 @@ module _ (rules : Rules) (foreign is_in : Bool) (held : List ℕ) (opened : Open
   brought-decided h = rw (inside, h) (if-record (ends_number held c))
 
   -- the character is held too
-  pub belongs-held : is_undecided rules.names (held ++ c ∷ []) ≡ true → is_bad_character c ≡ false
+  pub belongs-held : is_undecided rules.references (held ++ c ∷ []) ≡ true → is_bad_character c ≡ false
       → BelongsTo rules foreign (with_reference is_in held opened) c (with_reference is_in (held ++ c ∷ []) opened)
   unfolding with_reference
   belongs-held h good = record {
@@ -91,14 +91,14 @@ module _ (rules : Rules) (foreign is_in : Bool) (held : List ℕ) (opened : Open
   }
 
   -- the character decides, and is the semicolon of a number or is read on
-  pub belongs-end : (later : Open) → is_undecided rules.names (held ++ c ∷ []) ≡ false → ends_number held c ≡ true → later ≡ afterwards
+  pub belongs-end : (later : Open) → is_undecided rules.references (held ++ c ∷ []) ≡ false → ends_number held c ≡ true → later ≡ afterwards
       → BelongsTo rules foreign (with_reference is_in held opened) c later
   belongs-end later h ends is = record {
     here = ap (λ (b : Brought Open). b.here) (brought-decided h) ∙ rw (ends, is) refl;
     good = ends-good held c ends;
   }
 
-  pub decides : (later : Open) → is_undecided rules.names (held ++ c ∷ []) ≡ false → ends_number held c ≡ false → later ≡ afterwards
+  pub decides : (later : Open) → is_undecided rules.references (held ++ c ∷ []) ≡ false → ends_number held c ≡ false → later ≡ afterwards
       → Decides rules foreign (with_reference is_in held opened) c later
   decides later h ends is = record {
     here = ap (λ (b : Brought Open). b.here) (brought-decided h) ∙ rw (ends, is) refl;

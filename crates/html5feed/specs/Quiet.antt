@@ -9,16 +9,16 @@ use Rattle.markup5ever.specs.BufferQueue.{TextQueue, Takes}
 use Rattle.markup5ever.specs.NamedReferences.{NamedReference}
 
 -- "Character reference state": where `opened` is a reference, each character of the text is held, and leads to `later`
-pub record HoldsText (names : List NamedReference) (opened : Open) (text : List ℕ) (later : Open) : Type 0 where
+pub record HoldsText (references : List NamedReference) (opened : Open) (text : List ℕ) (later : Open) : Type 0 where
   pub stand : Stand
   pub held : List ℕ
   pub before : opened ≡ InReference stand held
-  pub holds : HoldsEach names held text
+  pub holds : HoldsEach references held text
   pub after : later ≡ InReference stand (held ++ text)
 
 -- the text tells nothing after `opened`, and leads to `later`: errors are not exact, or the text is held of a reference
 abbrev pub TellsNothing : Rules → Open → List ℕ → Open → Type 0
-TellsNothing rules opened text later = ((rules.exact ≡ false) × ReadsQuietly opened text later) ⊎ HoldsText rules.names opened text later
+TellsNothing rules opened text later = ((rules.exact ≡ false) × ReadsQuietly opened text later) ⊎ HoldsText rules.references opened text later
 
 -- from K on the text tells nothing, and `later` is open after it. No first character may be dropped.
 pub record IsQuietText (rules : Rules) (K : Start) (text : List ℕ) (later : Open) : Type 0 where

@@ -13,7 +13,7 @@ use Rattle.markup5ever.specs.NamedReferences.{NamedReference}
 
 -- what a teller reads by, with these names
 abbrev pub rules_with : {Q Z : Type 0} → Teller Q Z → List NamedReference → Rules
-rules_with teller names = record { exact = teller.exact_errors; names = names }
+rules_with teller references = record { exact = teller.exact_errors; references = references }
 
 module _ {X S H : Type 0} (means : Means X S H) (count : X → ℕ) where
   -- the character c, read where `old` stands and `before` is the sink. The answer is `Ok true` where c belongs to what is held,

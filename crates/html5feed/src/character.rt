@@ -48,7 +48,7 @@ fn step<S: TokenSink<Token<A>>, A: Allocator + Copy>(
 // Sends the sink a tag, and goes on as it replies.
 #[tactic(auto, using(html5states::proofs::Tellings::tells_from_memory), unfolding(html5ever_interface::specs::Sink::stepped, crate::specs::Feed::first_pause))]
 #[inline(always)]
-fn tell_tag<S: TokenSink<Token<A>>, A: Allocator + Copy>(
+fn emit_tag<S: TokenSink<Token<A>>, A: Allocator + Copy>(
     teller: &mut Teller<'_, S, A>,
     position: &mut Position<A>,
     tag: Tag<A>,
@@ -67,7 +67,7 @@ fn tell_tag<S: TokenSink<Token<A>>, A: Allocator + Copy>(
     ensures held { held_len position.new.opened ≡ 0 }
 {
     position.note_tag(&tag)?;
-    match teller.tell_tag(tag)? {
+    match teller.emit_tag(tag)? {
         TokenSinkResult::Continue => Ok(TokenizerResult::Done),
         TokenSinkResult::Plaintext => {
             position.set_plaintext();
@@ -124,7 +124,7 @@ fn read_opened<S: TokenSink<Token<A>>, A: Allocator + Copy>(
         }
         Progress::EndsTag => {
             let tag = position.opened.tag.end(alloc);
-            tell_tag(&mut teller, position, tag)
+            emit_tag(&mut teller, position, tag)
         }
     }
 }

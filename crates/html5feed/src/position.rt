@@ -11,7 +11,7 @@ ghost use Rattle.html5reading.specs.EndOfInput.{late_at_end_of, open_at_end_of, 
 ghost use Rattle.html5reading.specs.NormalisedText.{input_after};
 ghost use Rattle.html5reading.specs.Reading.{last_after};
 ghost use Rattle.html5reading.specs.Slice.{tokens_of_late};
-ghost use Rattle.html5reading.specs.Start.{start_of, initial_name, raw_of, is_clean, is_undecided_open, held_len};
+ghost use Rattle.html5reading.specs.Start.{start_of, initial_name, raw_of, is_between, is_undecided_open, held_len};
 ghost use Rattle.html5partial.specs.CharRef.{BeginsInAscii, HasStand, begun_reference};
 ghost use Rattle.html5partial.specs.Undecided.{is_reference};
 ghost use Rattle.html5reading.specs.Start.Mode.{Data, Plain, RawText};
@@ -123,7 +123,7 @@ impl<A: Allocator + Copy> Position<A> {
     }
 
     /// Sends what the end of input tells of what is open.
-    pub fn tell_end_of_input<S: TokenSink<Token<A>>>(
+    pub fn emit_end_of_input<S: TokenSink<Token<A>>>(
         &mut self,
         alloc: A,
         sink: &mut S,
@@ -142,24 +142,24 @@ impl<A: Allocator + Copy> Position<A> {
             exact_errors: rules.exact_errors,
             line,
         };
-        self.decide_at_end(&mut teller, rules.names)?;
-        teller.tell_end_of_input(&self.opened)
+        self.decide_at_end(&mut teller, rules.references)?;
+        teller.emit_end_of_input(&self.opened)
     }
 
     // Sends what the end of input decides of a reference or a keyword.
     fn decide_at_end<S: TokenSink<Token<A>>>(
         &mut self,
         teller: &mut Teller<'_, S, A>,
-        names: &NamedReferences<A>,
+        references: &NamedReferences<A>,
     ) -> Result<(), TokenizerError>
         ensures emits { Emits S.means S.faults result teller.old teller.new
-            (tokens_of_late (late_at_end_of (rules_with teller.old names.now) self.old.opened)) }
+            (tokens_of_late (late_at_end_of (rules_with teller.old references.now) self.old.opened)) }
         ensures opened { OnOk result
-            (self.new.opened ≡ open_at_end_of (rules_with teller.old names.now) self.old.opened) }
+            (self.new.opened ≡ open_at_end_of (rules_with teller.old references.now) self.old.opened) }
         ensures decided { OnOk result (is_undecided_open self.new.opened ≡ false) }
     {
         if self.in_reference {
-            teller.finish_reference(names, &mut self.opened, &self.held, None)?;
+            teller.finish_reference(references, &mut self.opened, &self.held, None)?;
             self.in_reference = false;
             return Ok(());
         }
@@ -179,8 +179,8 @@ impl<A: Allocator + Copy> Position<A> {
 
     /// Whether nothing is open.
     #[inline(always)]
-    pub fn is_clean(&self) -> bool
-        ensures { result ≡ is_clean self.now.opened }
+    pub fn is_between(&self) -> bool
+        ensures { result ≡ is_between self.now.opened }
     {
         !self.in_reference && is_between(self.opened.state, &self.opened.comment)
     }
@@ -260,7 +260,7 @@ impl<A: Allocator + Copy> Position<A> {
 
     /// Sends a run of text at once, on the line that is reached after it.
     #[inline(always)]
-    pub fn tell_run<S: TokenSink<Token<A>>>(
+    pub fn emit_run<S: TokenSink<Token<A>>>(
         &mut self,
         alloc: A,
         sink: &mut S,
@@ -317,7 +317,7 @@ impl<A: Allocator + Copy> Position<A> {
             return Ok(0);
         }
         if self.in_reference {
-            return self.hold_front(rules.names, text);
+            return self.hold_front(rules.references, text);
         }
         if rules.exact_errors {
             return Ok(0);
@@ -328,18 +328,18 @@ impl<A: Allocator + Copy> Position<A> {
     // Holds the letters and digits with which a text begins, where a reference is open. Answers how many
     // bytes it holds.
     #[inline(always)]
-    fn hold_front(&mut self, names: &NamedReferences<A>, text: &str) -> Result<usize, Refused>
+    fn hold_front(&mut self, references: &NamedReferences<A>, text: &str) -> Result<usize, Refused>
         requires { is_reference self.old.opened ≡ true }
         ensures within { IfOk result (λ bytes. bytes ≤ length text.now) }
         ensures rest_utf8 { IfOk result (λ bytes. IsUtf8 (drop bytes text.now)) }
         ensures holds { IfOk result (λ bytes.
-            HoldsText names.now self.old.opened (chars (take bytes text.now)) self.new.opened) }
+            HoldsText references.now self.old.opened (chars (take bytes text.now)) self.new.opened) }
         ensures kept { IfErr result (λ refused. self.new.opened ≡ self.old.opened) }
         ensures refused { IfErr result (λ refused. (refused.bytes ≡ 1) × BeginsInAscii text.now) }
         ensures last { self.new.last_start_tag ≡ self.old.last_start_tag }
         ensures input { self.new.input ≡ self.old.input }
     {
-        match self.held.hold_front(names, text) {
+        match self.held.hold_front(references, text) {
             Ok(bytes) => Ok(bytes),
             Err(AllocError) => Err(Refused { bytes: 1 }),
         }
@@ -349,7 +349,7 @@ impl<A: Allocator + Copy> Position<A> {
     #[inline(always)]
     pub fn push_run(&mut self, run: &str) -> Result<(), TokenizerError>
         requires is_run { IsRunAt self.old.opened (chars run.now) }
-        requires not_clean { is_clean self.old.opened ≡ false }
+        requires not_clean { is_between self.old.opened ≡ false }
         ensures opened { OnOk result
             (self.new.opened ≡ opened_after_run self.old.opened (chars run.now)) }
         ensures last { self.new.last_start_tag ≡ self.old.last_start_tag }

@@ -2,7 +2,7 @@
 ghost use Rattle.std.specs.Prelude.{◌≡◌, ◌≢◌, ◌^◌, ◌+◌, ◌<◌, ◌≤◌, [], true, IsOk, IfOk, IfErr, OnOk, length, take, drop, encode_utf8_all, string_bytes};
 ghost use Rattle.std.specs.Str.{IsUtf8, chars};
 ghost use Rattle.html5reading.specs.Reading.{messages_so_far, start_after};
-ghost use Rattle.html5reading.specs.Start.{is_clean, held_len};
+ghost use Rattle.html5reading.specs.Start.{is_between, held_len};
 ghost use Rattle.html5feed.specs.Feed.{IsEndOf, reply_in, feed};
 ghost use Rattle.html5feed.specs.Quiet.{TakesQuietly};
 ghost use Rattle.html5feed.specs.Refused.{IsRun, RefusedAfter};
@@ -22,7 +22,7 @@ use std::alloc::Allocator;
 // Sends the run of text with which the queue's text begins, and that takes so many bytes. The run leaves
 // the queue even after a refusal.
 #[inline(always)]
-fn tell_waiting_run<S: TokenSink<Token<A>>, A: Allocator + Copy>(
+fn emit_waiting_run<S: TokenSink<Token<A>>, A: Allocator + Copy>(
     alloc: A,
     sink: &mut S,
     rules: &Rules<'_, A>,
@@ -30,7 +30,7 @@ fn tell_waiting_run<S: TokenSink<Token<A>>, A: Allocator + Copy>(
     queue: &mut BufferQueue<A>,
     bytes: usize,
 ) -> Result<(), TokenizerError>
-    requires clean { is_clean position.old.opened ≡ true }
+    requires clean { is_between position.old.opened ≡ true }
     requires within { bytes ≤ length (encode_utf8_all queue.old.text) }
     requires rest_utf8 { IsUtf8 (drop bytes (encode_utf8_all queue.old.text)) }
     requires is_run { IsRun rules.now position.old (chars (take bytes (encode_utf8_all queue.old.text))) }
@@ -41,7 +41,7 @@ fn tell_waiting_run<S: TokenSink<Token<A>>, A: Allocator + Copy>(
     ensures faults { S.faults sink.new ≡ S.faults sink.old + faults_of result }
     ensures held { held_len position.new.opened ≡ held_len position.old.opened }
 {
-    let told = position.tell_run(alloc, sink, &queue.front_text()[..bytes]);
+    let told = position.emit_run(alloc, sink, &queue.front_text()[..bytes]);
     queue.skip(bytes);
     told
 }
@@ -68,8 +68,8 @@ fn read_waiting_run<S: TokenSink<Token<A>>, A: Allocator + Copy>(
     if bytes == 0 {
         return Ok(());
     }
-    if position.is_clean() {
-        return tell_waiting_run(alloc, sink, rules, position, queue, bytes);
+    if position.is_between() {
+        return emit_waiting_run(alloc, sink, rules, position, queue, bytes);
     }
     let read = position.push_run(&queue.front_text()[..bytes]);
     queue.skip(bytes);

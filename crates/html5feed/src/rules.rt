@@ -7,7 +7,7 @@ use std::marker::Model;
 #[derive(Drop)]
 pub struct Rules<'t, A: Allocator = Global> {
     pub exact_errors: bool,
-    pub names: &'t NamedReferences<A>,
+    pub references: &'t NamedReferences<A>,
 }
 
 impl<'t, A: Allocator> Model for Rules<'t, A> {
@@ -15,5 +15,5 @@ impl<'t, A: Allocator> Model for Rules<'t, A> {
 
     ghost Value = { grammar.Rules };
 
-    ghost view = { λ r. record { exact = r.exact_errors; names = r.names.now } };
+    ghost view = { λ r. record { exact = r.exact_errors; references = r.references.now } };
 }

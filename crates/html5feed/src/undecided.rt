@@ -50,10 +50,10 @@ pub fn decide_keyword<S: TokenSink<Token<A>>, A: Allocator + Copy>(
     opened: &mut Opened<A>,
 ) -> Result<(), TokenizerError>
     requires { is_keyword_open (opened_of opened.old) ≡ true }
-    ensures emits { (names : List NamedReference) → Emits S.means S.faults result teller.old teller.new
-        (tokens_of_late (late_at_end_of (rules_with teller.old names) (opened_of opened.old))) }
-    ensures opened { (names : List NamedReference) →
-        opened_of opened.new ≡ open_at_end_of (rules_with teller.old names) (opened_of opened.old) }
+    ensures emits { (references : List NamedReference) → Emits S.means S.faults result teller.old teller.new
+        (tokens_of_late (late_at_end_of (rules_with teller.old references) (opened_of opened.old))) }
+    ensures opened { (references : List NamedReference) →
+        opened_of opened.new ≡ open_at_end_of (rules_with teller.old references) (opened_of opened.old) }
     ensures last { last_name_of opened.new ≡ last_name_of opened.old }
 {
     match opened.state {
@@ -66,20 +66,20 @@ pub fn decide_keyword<S: TokenSink<Token<A>>, A: Allocator + Copy>(
 // reference. Else the reference is decided, and the character is still to be read.
 fn read_reference<S: TokenSink<Token<A>>, A: Allocator + Copy>(
     teller: &mut Teller<'_, S, A>,
-    names: &NamedReferences<A>,
+    references: &NamedReferences<A>,
     position: &mut Position<A>,
     c: char,
 ) -> Result<bool, TokenizerError>
     requires { is_reference position.old.opened ≡ true }
-    ensures reads { ReadsUndecided S.means S.faults (rules_with teller.old names.now) teller.old.line c result
+    ensures reads { ReadsUndecided S.means S.faults (rules_with teller.old references.now) teller.old.line c result
         teller.old.sink.now teller.new.sink.now position.old position.new }
     ensures kept { IsKept teller.old teller.new }
 {
-    if position.held.hold(names, c)? {
+    if position.held.hold(references, c)? {
         return Ok(true);
     }
     let opened = &mut position.opened;
-    let ends = teller.finish_reference(names, opened, &position.held, Some(c))?;
+    let ends = teller.finish_reference(references, opened, &position.held, Some(c))?;
     position.in_reference = false;
     Ok(ends)
 }
@@ -92,8 +92,8 @@ fn read_keyword<S: TokenSink<Token<A>>, A: Allocator + Copy>(
     c: char,
 ) -> Result<bool, TokenizerError>
     requires { is_keyword_open position.old.opened ≡ true }
-    ensures reads { (names : List NamedReference) →
-        ReadsUndecided S.means S.faults (rules_with teller.old names) teller.old.line c result
+    ensures reads { (references : List NamedReference) →
+        ReadsUndecided S.means S.faults (rules_with teller.old references) teller.old.line c result
         teller.old.sink.now teller.new.sink.now position.old position.new }
     ensures kept { IsKept teller.old teller.new }
 {
@@ -125,7 +125,7 @@ fn read_held<S: TokenSink<Token<A>>, A: Allocator + Copy>(
         line,
     };
     if position.in_reference {
-        return read_reference(&mut teller, rules.names, position, c);
+        return read_reference(&mut teller, rules.references, position, c);
     }
     read_keyword(&mut teller, position, c)
 }

@@ -62,8 +62,8 @@ sink foreign = record {
   end_faulted = λ s. s;
 }
 
-abbrev names : List NamedReference
-names = record { name = codes "amp;"; first = 38; second = None } ∷ record { name = codes "not"; first = 0xAC; second = None } ∷ []
+abbrev references : List NamedReference
+references = record { name = codes "amp;"; first = 38; second = None } ∷ record { name = codes "not"; first = 0xAC; second = None } ∷ []
 
 abbrev start : Mode → Start
 start mode = record { opened = Between mode; last_start_tag = codes "title"; input = record { line = 1; after_carriage_return = false; drops_byte_order_mark = false } }
@@ -80,12 +80,12 @@ escaped = RawText (Escaped NoDash) (codes "script")
 -- the text Y before Z is an item, which tells these tokens on line 1, and then text is read in this mode
 abbrev Tells : Bool → Mode → List ℕ → List ℕ → List Told → Mode → Type 0
 Tells foreign mode Y Z tokens later =
-    Item (sink foreign) (record { exact = true; names = names }) Z (start mode) tt Y (on_line 1 tokens) (start_beyond (start mode) Y (Between later) (codes "title"))
+    Item (sink foreign) (record { exact = true; references = references }) Z (start mode) tt Y (on_line 1 tokens) (start_beyond (start mode) Y (Between later) (codes "title"))
 
 -- the text Y is an unfinished item, which tells these tokens on line 1, and its end those
 abbrev TellsOpen : Bool → Mode → List ℕ → List Told → List Told → Type 0
 TellsOpen foreign mode Y tokens ends =
-    Unfinished (sink foreign) (record { exact = true; names = names }) (start mode) tt Y (on_line 1 tokens) (on_line 1 ends)
+    Unfinished (sink foreign) (record { exact = true; references = references }) (start mode) tt Y (on_line 1 tokens) (on_line 1 ends)
 
 character : Tells false Data (codes "a") [] (Text (codes "a") ∷ []) Data
 unfolding encode normalised_text.normalised normalised_text.with_line_feeds normalised_text.without_dropped_first spelled.spelled_messages characters.is_bad_character normalised_text.line_after

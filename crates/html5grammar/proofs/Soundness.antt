@@ -192,7 +192,7 @@ module _ {X S H : Type 0} (means : Means X S H) (rules : Rules) where
       ∙ rw (← afterwards) refl))
 
   -- each item tells its messages before the text after it: a case for each form
-  pub item-tells : (Z : List ℕ) (K : Start) (s : S) (Y : List ℕ) (M : List Message) (later : Start) → IsTable rules.names
+  pub item-tells : (Z : List ℕ) (K : Start) (s : S) (Y : List ℕ) (M : List Message) (later : Start) → IsTable rules.references
       → Item means rules Z K s Y M later → TellsWith means rules Z K s Y M later
   item-tells Z K s Y M later table (OneCharacter mode c one) =
       let N : List Message = spelled_messages rules.exact K.input [] (record { character = c; told = text_told rules.exact mode c } ∷ []) in
@@ -297,14 +297,14 @@ module _ {X S H : Type 0} (means : Means X S H) (rules : Rules) where
   nothing-end Cdata = refl
 
   -- what is held of an undecided reference is all of the text
-  found-open : (F : List ℕ) → is_none (deciding_in rules.names F) ≡ true → found_in rules false F ≡ reference rules false F None
+  found-open : (F : List ℕ) → is_none (deciding_in rules.references F) ≡ true → found_in rules false F ≡ reference rules false F None
   found-open F undecided =
-      let none : after_while (is_undecided rules.names) [] F ≡ [] = first_none (after_while (is_undecided rules.names) [] F) undecided in
-      let whole : held_in rules.names F ≡ F =
-      sym (append-nil (held_in rules.names F)) ∙ ap (λ l. held_in rules.names F ++ l) (sym none) ∙ while-parts (is_undecided rules.names) [] F in
-      ap (λ l. reference rules false l (deciding_in rules.names F)) whole ∙ ap (λ l. reference rules false F (first_or l None)) none
+      let none : after_while (is_undecided rules.references) [] F ≡ [] = first_none (after_while (is_undecided rules.references) [] F) undecided in
+      let whole : held_in rules.references F ≡ F =
+      sym (append-nil (held_in rules.references F)) ∙ ap (λ l. held_in rules.references F ++ l) (sym none) ∙ while-parts (is_undecided rules.references) [] F in
+      ap (λ l. reference rules false l (deciding_in rules.references F)) whole ∙ ap (λ l. reference rules false F (first_or l None)) none
 
-  reference-end : (mode : Mode) (F : List ℕ) → is_none (deciding_in rules.names F) ≡ true → tokens_at_end rules (InReference (InText mode) F) ≡ reference_at_end rules mode F
+  reference-end : (mode : Mode) (F : List ℕ) → is_none (deciding_in rules.references F) ≡ true → tokens_at_end rules (InReference (InText mode) F) ≡ reference_at_end rules mode F
   unfolding late_at_end_of open_at_end_of told_at_end_of
   reference-end mode F undecided =
       let found : Found = reference rules false F None in
@@ -313,7 +313,7 @@ module _ {X S H : Type 0} (means : Means X S H) (rules : Rules) where
       ∙ ap (λ (f : Found). (told_of (InText mode) f ++ texts (drop f.taken F)) ++ nothing_at_end rules.exact mode) (sym (found-open F undecided))
 
   -- each unfinished item tells its messages, and its end the rest: a case for each form
-  tells-unfinished : (K : Start) (s : S) (X : List ℕ) (M E : List Message) → IsTable rules.names → Unfinished means rules K s X M E → TellsAll means rules K s X M E
+  tells-unfinished : (K : Start) (s : S) (X : List ℕ) (M E : List Message) → IsTable rules.references → Unfinished means rules K s X M E → TellsAll means rules K s X M E
   unfolding late_at_end_of open_at_end_of told_at_end_of Leads brought_at step_at data_step less_than_step is_letter
   tells-unfinished K s X M E table (OpenLessThan starts text) =
       tells-trace means rules K s X [] LessThan K.last_start_tag
@@ -370,7 +370,7 @@ module _ {X S H : Type 0} (means : Means X S H) (rules : Rules) where
       (characters-two (spell_silent (codes "<!--")) (spell_content rules.exact [] content) (codes "<!--") content (characters-spell silent (codes "<!--")) (characters-content rules.exact [] content))
       (leads-open_comment content one.is_content)))
 
-  pub tells-items : (K : Start) (s : S) (X : List ℕ) (M E : List Message) → IsTable rules.names → Items means rules K s X M E → TellsAll means rules K s X M E
+  pub tells-items : (K : Start) (s : S) (X : List ℕ) (M E : List Message) → IsTable rules.references → Items means rules K s X M E → TellsAll means rules K s X M E
   unfolding trace
   tells-items _ _ _ _ _ table (Nothing K s X mode starts none) =
       subst (λ tokens. TellsAll means rules K s X [] (on_line (line_after (input_after K.input X) []) tokens)) (nothing-end mode)
@@ -388,11 +388,11 @@ module _ {X S H : Type 0} (means : Means X S H) (rules : Rules) where
       ∙ messages-append (told means.step means.reply means.foreign rules K s X) _
       ∙ rw (all.told, messages-at_end means.step means.reply means.foreign rules K s X, ← line) (ap (λ l. M ++ l) all.at_end)
 
-  pub reading-items : (K : Start) (s : S) (X : List ℕ) (M E : List Message) → IsTable rules.names → Items means rules K s X M E
+  pub reading-items : (K : Start) (s : S) (X : List ℕ) (M E : List Message) → IsTable rules.references → Items means rules K s X M E
       → all_messages means rules K s X ≡ M ++ E
   reading-items K s X M E table items = reading-all K s X M E (tells-items K s X M E table items)
 
-  pub reading-unfinished : (K : Start) (s : S) (X : List ℕ) (M E : List Message) → IsTable rules.names → Unfinished means rules K s X M E
+  pub reading-unfinished : (K : Start) (s : S) (X : List ℕ) (M E : List Message) → IsTable rules.references → Unfinished means rules K s X M E
       → all_messages means rules K s X ≡ M ++ E
   reading-unfinished K s X M E table one = reading-all K s X M E (tells-unfinished K s X M E table one)
 

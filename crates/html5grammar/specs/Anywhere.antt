@@ -51,10 +51,10 @@ module _ {X S H : Type 0} (means : Means X S H) where
 -- "Character reference state": whether c after a reference decides it, and is no part of it. A number that has its semicolon is
 -- decided.
 unfoldable pub is_decided_by : List NamedReference → WrittenReference → ℕ → Bool
-is_decided_by names Ampersand c = not (is_undecided names (c ∷ []))
-is_decided_by names (Number x digits true) c = true
-is_decided_by names (Number x digits false) c = not (is_undecided names (number_sign ∷ (x_text x ++ digits) ++ c ∷ [])) && not (c == semicolon)
-is_decided_by names (Named entry) c = not (is_undecided names (entry.name ++ c ∷ []))
+is_decided_by references Ampersand c = not (is_undecided references (c ∷ []))
+is_decided_by references (Number x digits true) c = true
+is_decided_by references (Number x digits false) c = not (is_undecided references (number_sign ∷ (x_text x ++ digits) ++ c ∷ [])) && not (c == semicolon)
+is_decided_by references (Named entry) c = not (is_undecided references (entry.name ++ c ∷ []))
 
 -- "Numeric character reference end state" and "Named character reference state": what is wrong with a reference after which the
 -- text goes on

@@ -157,7 +157,7 @@ spell_empty_end exact = spell_silent (codes "</") ++ record { character = greate
 pub record IsReferenceIn (rules : Rules) (K : Start) (Y Z : List ℕ) (mode : Mode) (F : List ℕ) : Type 0 where
   pub starts : K.opened ≡ Between mode
   pub has : has_references mode ≡ true
-  pub decided : is_none (deciding_in rules.names F) ≡ false
+  pub decided : is_none (deciding_in rules.references F) ≡ false
   pub text : normalised K.input Y ≡ ampersand ∷ take (found_in rules false F).taken F
   pub next : normalised (input_after K.input Y) Z ≡ drop (found_in rules false F).taken F
 
@@ -165,7 +165,7 @@ pub record IsReferenceIn (rules : Rules) (K : Start) (Y Z : List ℕ) (mode : Mo
 pub record IsOpenReference (rules : Rules) (K : Start) (Y : List ℕ) (mode : Mode) (F : List ℕ) : Type 0 where
   pub starts : K.opened ≡ Between mode
   pub has : has_references mode ≡ true
-  pub undecided : is_none (deciding_in rules.names F) ≡ true
+  pub undecided : is_none (deciding_in rules.references F) ≡ true
   pub text : normalised K.input Y ≡ ampersand ∷ F
 
 -- "Character reference state", at the end: what the reference comes to, and the rest of the text. Then nothing is open.

@@ -60,9 +60,9 @@ is_base_digit (Some x) d = is_ascii_hexdigit d
 
 -- whether this is a reference, written out. A number has a digit, and the table has the name with these characters.
 abbrev pub IsWritten : List NamedReference → WrittenReference → Type 0
-IsWritten names Ampersand = Unit {0}
-IsWritten names (Number x digits ends) = is_base x && (not (nat_eq (length digits) 0) && list_all (is_base_digit x) digits) ≡ true
-IsWritten names (Named entry) = characters_of_name names entry.name ≡ Some (entry.first, entry.second)
+IsWritten references Ampersand = Unit {0}
+IsWritten references (Number x digits ends) = is_base x && (not (nat_eq (length digits) 0) && list_all (is_base_digit x) digits) ≡ true
+IsWritten references (Named entry) = characters_of_name references entry.name ≡ Some (entry.first, entry.second)
 
 -- ---- what it tells
 
@@ -106,9 +106,9 @@ has_references (RawText Rcdata name) = true
 has_references mode = false
 
 -- the text X, read from the start K by this table, in a mode with references, is this reference, written out
-pub record IsReference (names : List NamedReference) (K : Start) (X : List ℕ) (reference : WrittenReference) : Type 0 where
+pub record IsReference (references : List NamedReference) (K : Start) (X : List ℕ) (reference : WrittenReference) : Type 0 where
   pub mode : Mode
   pub starts : K.opened ≡ Between mode
   pub has : has_references mode ≡ true
-  pub is_reference : IsWritten names reference
+  pub is_reference : IsWritten references reference
   pub text : normalised K.input X ≡ written reference

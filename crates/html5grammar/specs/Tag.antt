@@ -159,15 +159,15 @@ is_written tag = is_letter tag.first && (list_all in_tag_name tag.rest && can_fo
 
 -- "Character reference state": what is held of the text F
 abbrev pub held_in : List NamedReference → List ℕ → List ℕ
-held_in names F = run_while (is_undecided names) [] F
+held_in references F = run_while (is_undecided references) [] F
 
 -- "Character reference state": the character that decides F
 abbrev pub deciding_in : List NamedReference → List ℕ → Option ℕ
-deciding_in names F = first_or (after_while (is_undecided names) [] F) None
+deciding_in references F = first_or (after_while (is_undecided references) [] F) None
 
 -- "Character reference state": what the `&` before F comes to, in a value or not
 abbrev pub found_in : Rules → Bool → List ℕ → Found
-found_in rules v F = reference rules v (held_in rules.names F) (deciding_in rules.names F)
+found_in rules v F = reference rules v (held_in rules.references F) (deciding_in rules.references F)
 
 -- ---- its attributes: lists of them have the last one first
 
@@ -355,7 +355,7 @@ unfoldable pub spell_open_run : Rules → AttrValueKind → ℕ → List ℕ →
 spell_open_run rules kind taken [] = []
 spell_open_run rules kind (suc taken) (c ∷ run) = record { character = c; told = [] } ∷ spell_open_run rules kind taken run
 spell_open_run rules kind zero (c ∷ run) =
-    if c == ampersand then (if is_none (deciding_in rules.names run) then spell_silent (c ∷ run)
+    if c == ampersand then (if is_none (deciding_in rules.references run) then spell_silent (c ∷ run)
     else record { character = c; told = (found_in rules true run).errors } ∷ spell_open_run rules kind (found_in rules true run).taken run)
     else record { character = c; told = value_error rules.exact kind c } ∷ spell_open_run rules kind zero run
 
@@ -364,7 +364,7 @@ unfoldable pub errors_at_end : Rules → ℕ → List ℕ → List Told
 errors_at_end rules taken [] = []
 errors_at_end rules (suc taken) (c ∷ run) = errors_at_end rules taken run
 errors_at_end rules zero (c ∷ run) =
-    if c == ampersand then (if is_none (deciding_in rules.names run) then (found_in rules true run).errors
+    if c == ampersand then (if is_none (deciding_in rules.references run) then (found_in rules true run).errors
     else errors_at_end rules (found_in rules true run).taken run)
     else errors_at_end rules zero run
 

@@ -35,7 +35,7 @@ use std::alloc::Allocator;
 
 /// A tag, with references in its values. The sink's reply to it says what is open after it.
 pub fn tag<S: TokenSink<Token<A>>, A: Allocator>()
-    ensures { (rules : Rules) (K : Start) (s : S.State) (Y : List ℕ) (tag : WrittenTag) → IsTable rules.names
+    ensures { (rules : Rules) (K : Start) (s : S.State) (Y : List ℕ) (tag : WrittenTag) → IsTable rules.references
         → IsTag K Y tag
         → let M : List Message = spelled_messages rules.exact K.input [] (spelled rules tag) in
         TellsByItself S.means rules K s Y M (start_after_tag S.means K s Y (tag_told rules tag) M) }
@@ -46,17 +46,17 @@ pub fn tag<S: TokenSink<Token<A>>, A: Allocator>()
 /// reference that the text after it decides: it tells what it comes to by that text.
 pub fn reference<S: TokenSink<Token<A>>, A: Allocator>()
     ensures number { (rules : Rules) (K : Start) (s : S.State) (Y : List ℕ) (x : Option ℕ) (digits : List ℕ)
-        → IsReference rules.names K Y (Number x digits true)
+        → IsReference rules.references K Y (Number x digits true)
         → TellsByItself S.means rules K s Y (messages_within rules.exact K.input (Number x digits true))
         (start_beyond K Y K.opened K.last_start_tag) }
     ensures decided { (rules : Rules) (K : Start) (s : S.State) (Y Z : List ℕ) (reference : WrittenReference) (c : ℕ)
         (rest : List ℕ)
-        → IsTable rules.names → IsReference rules.names K Y reference
-        → normalised (input_after K.input Y) Z ≡ c ∷ rest → is_decided_by rules.names reference c ≡ true
+        → IsTable rules.references → IsReference rules.references K Y reference
+        → normalised (input_after K.input Y) Z ≡ c ∷ rest → is_decided_by rules.references reference c ≡ true
         → TellsBefore S.means rules Z K s Y (messages_within rules.exact K.input reference)
         (start_beyond K Y K.opened K.last_start_tag) }
     ensures whole { (rules : Rules) (K : Start) (s : S.State) (Y Z : List ℕ) (mode : Mode) (F : List ℕ)
-        → IsTable rules.names → IsReferenceIn rules K Y Z mode F
+        → IsTable rules.references → IsReferenceIn rules K Y Z mode F
         → TellsBefore S.means rules Z K s Y
         (on_line (line_after K.input (ampersand ∷ [])) (told_of (InText mode) (found_in rules false F)))
         (start_beyond K Y (Between mode) K.last_start_tag) }
@@ -67,7 +67,7 @@ pub fn reference<S: TokenSink<Token<A>>, A: Allocator>()
 pub fn raw<S: TokenSink<Token<A>>, A: Allocator>()
     ensures ended { (rules : Rules) (K : Start) (s : S.State) (Y : List ℕ) (raw : Raw) (name : List ℕ)
         (written_as : WrittenRaw) (tag : WrittenTag)
-        → written_as.end_tag ≡ Some tag → IsTable rules.names → IsRawText K Y raw name written_as
+        → written_as.end_tag ≡ Some tag → IsTable rules.references → IsRawText K Y raw name written_as
         → let M : List Message = spelled_messages rules.exact K.input [] (spell_raw rules raw written_as) in
         TellsByItself S.means rules K s Y M (start_after_tag S.means K s Y (tag_told rules tag) M) }
     ensures open { (rules : Rules) (K : Start) (s : S.State) (Y : List ℕ) (raw : Raw) (name : List ℕ)

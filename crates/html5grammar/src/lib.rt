@@ -5,7 +5,7 @@
 ghost use Rattle.std.specs.Prelude.{◌≡◌, ℕ, Bool, List, ◌++◌, true, false, codes};
 ghost use Rattle.html5ever_interface.specs.Sink.{Message};
 ghost use Rattle.html5reading.specs.Reading.{all_messages, messages_so_far};
-ghost use Rattle.html5reading.specs.Start.{Start, Rules, is_clean};
+ghost use Rattle.html5reading.specs.Start.{Start, Rules, is_between};
 ghost use Rattle.html5grammar.specs.Items.{Items, Composed};
 ghost use Rattle.markup5ever.specs.NamedReferences.{IsTable};
 ghost use Rattle.std.specs.List.{list_all};
@@ -25,19 +25,19 @@ use std::alloc::Allocator;
 /// A text that is items, and at most one unfinished one after them, tells their messages, and its
 /// end tells the others. So what it tells is the same however it is taken as items.
 pub fn sound<S: TokenSink<Token<A>>, A: Allocator>()
-    ensures told { (rules : Rules) (K : Start) (s : S.State) (text : List ℕ) (M E : List Message) → IsTable rules.names
+    ensures told { (rules : Rules) (K : Start) (s : S.State) (text : List ℕ) (M E : List Message) → IsTable rules.references
         → Items S.means rules K s text M E → messages_so_far S.means rules K s text ≡ M }
-    ensures whole { (rules : Rules) (K : Start) (s : S.State) (text : List ℕ) (M E : List Message) → IsTable rules.names
+    ensures whole { (rules : Rules) (K : Start) (s : S.State) (text : List ℕ) (M E : List Message) → IsTable rules.references
         → Items S.means rules K s text M E → all_messages S.means rules K s text ≡ M ++ E }
     ensures only { (rules : Rules) (K : Start) (s : S.State) (text : List ℕ) (M E N F : List Message)
-        → IsTable rules.names
+        → IsTable rules.references
         → Items S.means rules K s text M E → Items S.means rules K s text N F → (M ≡ N) × (E ≡ F) }
 {}
 
 /// Each text is items, and at most one unfinished one after them, from each start at which nothing
 /// is open.
 pub fn each_text<S: TokenSink<Token<A>>, A: Allocator>()
-    ensures { (rules : Rules) (K : Start) (s : S.State) (text : List ℕ) → is_clean K.opened ≡ true
+    ensures { (rules : Rules) (K : Start) (s : S.State) (text : List ℕ) → is_between K.opened ≡ true
         → Composed S.means rules K s text }
 {}
 

@@ -5,13 +5,13 @@ use html5extract::links::Links;
 use html5programs::{Program, run};
 use std::process::ExitCode;
 
-const HELP: &str = "usage: html5links [--names FILE] [FILE...]
+const HELP: &str = "usage: html5links [--references FILE] [FILE...]
 Prints the links of HTML pages as they arrive, a line each: the number of the line on which
 the tag ends, a space, and the link. Links are the href of a, area and link, and the src of
 img, script and iframe, as they are written: <base> is neglected. Without a FILE, or where
 it is -, standard input is read.
-  --names FILE  the table of named character references, in place of the standard's
-  --help        this text
+  --references FILE  the table of named character references, in place of the standard's
+  --help             this text
 ";
 
 fn main(rt: HostRuntime) -> ExitCode {

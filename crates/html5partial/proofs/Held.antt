@@ -44,9 +44,9 @@ held-number (d ∷ held) c is ok plain number first =
     let same : d ≡ number_sign = cc in
     record { plain = All-push IsPlain (d ∷ held) c ok.plain plain; number = number; alphanumeric = rw same refl }
 
-pub undecided-number : (names : List NamedReference) (held number : List ℕ) (c : ℕ) → held ≡ number_sign ∷ number → is_undecided names (held ++ c ∷ []) ≡ is_number (number ++ c ∷ [])
+pub undecided-number : (references : List NamedReference) (held number : List ℕ) (c : ℕ) → held ≡ number_sign ∷ number → is_undecided references (held ++ c ∷ []) ≡ is_number (number ++ c ∷ [])
 unfolding is_undecided
-undecided-number names held number c is = rw is refl
+undecided-number references held number c is = rw is refl
 
 -- ---- names
 
@@ -85,18 +85,18 @@ no_number-push (d ∷ held) c other wrong = other
 -- ---- a character that no name has
 
 -- a character that no name has decides a reference
-pub undecided-odd : (names : List NamedReference) (held : List ℕ) (c : ℕ) → IsTable names → first_or held None ≢ Some number_sign → ((length held == 0) && (c == number_sign)) ≡ false
-    → (is_ascii_alphanumeric c || (c == semicolon)) ≡ false → is_undecided names (held ++ c ∷ []) ≡ false
+pub undecided-odd : (references : List NamedReference) (held : List ℕ) (c : ℕ) → IsTable references → first_or held None ≢ Some number_sign → ((length held == 0) && (c == number_sign)) ≡ false
+    → (is_ascii_alphanumeric c || (c == semicolon)) ≡ false → is_undecided references (held ++ c ∷ []) ≡ false
 unfolding is_undecided is_name_character
-undecided-odd names [] c table other wrong odd =
+undecided-odd references [] c table other wrong odd =
     let first : (c == number_sign) ≡ false = wrong in
     let letter : is_ascii_alphanumeric c ≡ false = grind (arith, nat_tests) in
-    let none : begins_name names (c ∷ []) ≡ false = none_begins names (c ∷ []) table.plain (odd-within is_name_character [] c [] odd) in
+    let none : begins_name references (c ∷ []) ≡ false = none_begins references (c ∷ []) table.plain (odd-within is_name_character [] c [] odd) in
     rw (first, none, letter) refl
-undecided-odd names (d ∷ held) c table other wrong odd =
+undecided-odd references (d ∷ held) c table other wrong odd =
     let first : d ≢ number_sign = λ e. other (ap Some e) in
     let letter : is_ascii_alphanumeric c ≡ false = grind (arith, nat_tests) in
-    let none : begins_name names (d ∷ (held ++ c ∷ [])) ≡ false = none_begins names (d ∷ (held ++ c ∷ [])) table.plain (odd-within is_name_character (d ∷ held) c [] odd) in
+    let none : begins_name references (d ∷ (held ++ c ∷ [])) ≡ false = none_begins references (d ∷ (held ++ c ∷ [])) table.plain (odd-within is_name_character (d ∷ held) c [] odd) in
     rw (ne_eqb d number_sign first, none, odd-within is_ascii_alphanumeric (d ∷ held) c [] letter) refl
 
 -- ---- as functions find them: the bytes that are held before and after a call
@@ -114,21 +114,21 @@ pub held-name_pushed : (held now pushed : List ℕ) (c : ℕ) (is all : Bool) �
 held-name_pushed held now pushed c is all view push ok other name same =
     rw push (held-name held c is all ok (subst (λ h. first_or h None ≢ Some number_sign) (sym view) other) name same)
 
-pub undecided-name_pushed : (names : List NamedReference) (held now pushed : List ℕ) (c : ℕ) (is all undecided : Bool) → held ≡ now → pushed ≡ held ++ c ∷ [] → IsHeld held is
+pub undecided-name_pushed : (references : List NamedReference) (held now pushed : List ℕ) (c : ℕ) (is all undecided : Bool) → held ≡ now → pushed ≡ held ++ c ∷ [] → IsHeld held is
     → first_or now None ≢ Some number_sign → (is_ascii_alphanumeric c || (c == semicolon)) ≡ true → all ≡ (is && is_ascii_alphanumeric c)
-    → undecided ≡ (begins_name names pushed || (all && is_none (longest_name names pushed))) → undecided ≡ is_undecided names (now ++ c ∷ [])
-undecided-name_pushed names held now pushed c is all undecided view push ok other name same decides =
+    → undecided ≡ (begins_name references pushed || (all && is_none (longest_name references pushed))) → undecided ≡ is_undecided references (now ++ c ∷ [])
+undecided-name_pushed references held now pushed c is all undecided view push ok other name same decides =
     let here : first_or held None ≢ Some number_sign = subst (λ h. first_or h None ≢ Some number_sign) (sym view) other in
     decides
-    ∙ ap (λ text. begins_name names text || (all && is_none (longest_name names text))) push
-    ∙ ap (λ b. begins_name names (held ++ c ∷ []) || (b && is_none (longest_name names (held ++ c ∷ [])))) (same ∙ alphanumeric-push held c is ok)
-    ∙ sym (undecided-name names held c (no_number-push held c here (plain-name c name).1))
-    ∙ ap (λ h. is_undecided names (h ++ c ∷ [])) view
+    ∙ ap (λ text. begins_name references text || (all && is_none (longest_name references text))) push
+    ∙ ap (λ b. begins_name references (held ++ c ∷ []) || (b && is_none (longest_name references (held ++ c ∷ [])))) (same ∙ alphanumeric-push held c is ok)
+    ∙ sym (undecided-name references held c (no_number-push held c here (plain-name c name).1))
+    ∙ ap (λ h. is_undecided references (h ++ c ∷ [])) view
 
 -- a `#` after nothing
-pub begun-number : (names : List NamedReference) (held : List ℕ) (c : ℕ) → ((length held == 0) && (c == number_sign)) ≡ true → IsNumberHeld (held ++ c ∷ []) × (is_undecided names (held ++ c ∷ []) ≡ true)
+pub begun-number : (references : List NamedReference) (held : List ℕ) (c : ℕ) → ((length held == 0) && (c == number_sign)) ≡ true → IsNumberHeld (held ++ c ∷ []) × (is_undecided references (held ++ c ∷ []) ≡ true)
 unfolding is_undecided
-begun-number names [] c begins =
+begun-number references [] c begins =
     let same : c ≡ number_sign = grind (arith, nat_tests) in
     ((λ e. is_number-nil), rw same is_number-nil)
-begun-number names (d ∷ held) c begins = absurd (grind (arith, nat_tests))
+begun-number references (d ∷ held) c begins = absurd (grind (arith, nat_tests))

@@ -32,13 +32,13 @@ starts-front name text rest starts =
     let parts : name ≡ (text ++ rest) ++ after = (starts_is Decides-eqb name (text ++ rest) (starts_with nat_eq name (text ++ rest)) refl).0 starts in
     (starts_is Decides-eqb name text (starts_with nat_eq name text) refl).1 (rest ++ after) (parts ∙ append_assoc text rest after)
 
-begins-front : (names : List NamedReference) (text rest : List ℕ) → begins_name names (text ++ rest) ≡ true → begins_name names text ≡ true
+begins-front : (references : List NamedReference) (text rest : List ℕ) → begins_name references (text ++ rest) ≡ true → begins_name references text ≡ true
 unfolding begins_name
 begins-front [] text rest begins = begins
-begins-front (x ∷ names) text rest begins =
-    elim (starts_with nat_eq x.name (text ++ rest)) as (λ b. starts_with nat_eq x.name (text ++ rest) ≡ b → b || begins_name names (text ++ rest) ≡ true → starts_with nat_eq x.name text || begins_name names text ≡ true) [
+begins-front (x ∷ references) text rest begins =
+    elim (starts_with nat_eq x.name (text ++ rest)) as (λ b. starts_with nat_eq x.name (text ++ rest) ≡ b → b || begins_name references (text ++ rest) ≡ true → starts_with nat_eq x.name text || begins_name references text ≡ true) [
       | true ↦ λ starts is. rw (starts-front x.name text rest starts) refl
-      | false ↦ λ starts is. rw (begins-front names text rest is) (or-true (starts_with nat_eq x.name text))
+      | false ↦ λ starts is. rw (begins-front references text rest is) (or-true (starts_with nat_eq x.name text))
     ] refl begins
 
 no_number-front : (held : List ℕ) (c : ℕ) (text : List ℕ) → IsNoNumber (held ++ c ∷ text) → IsNoNumber (held ++ c ∷ [])
@@ -46,17 +46,17 @@ no_number-front [] c text other = other
 no_number-front (d ∷ held) c text other = other
 
 -- where a name begins with what is held and a text, each character of the text is held, too
-pub holds-each : (names : List NamedReference) (held text : List ℕ) → IsNoNumber (held ++ text) → begins_name names (held ++ text) ≡ true → All IsPlain text
-    → HoldsEach names held text
+pub holds-each : (references : List NamedReference) (held text : List ℕ) → IsNoNumber (held ++ text) → begins_name references (held ++ text) ≡ true → All IsPlain text
+    → HoldsEach references held text
 unfolding HoldsEach
-holds-each names held [] other begins plain = tt
-holds-each names held (c ∷ text) other begins plain =
+holds-each references held [] other begins plain = tt
+holds-each references held (c ∷ text) other begins plain =
     let front : List ℕ = held ++ c ∷ [] in
     let parts : front ++ text ≡ held ++ c ∷ text = append_assoc held (c ∷ []) text in
-    let whole : begins_name names (front ++ text) ≡ true = ap (begins_name names) parts ∙ begins in
-    let here : is_undecided names front ≡ true = undecided-name names held c (no_number-front held c text other) ∙ rw (begins-front names front text whole) refl in
+    let whole : begins_name references (front ++ text) ≡ true = ap (begins_name references) parts ∙ begins in
+    let here : is_undecided references front ≡ true = undecided-name references held c (no_number-front held c text other) ∙ rw (begins-front references front text whole) refl in
     let is = All-head IsPlain c text plain in
-    (here, is.0, is.1, holds-each names front text (subst IsNoNumber (sym parts) other) whole (All-tail IsPlain c text plain))
+    (here, is.0, is.1, holds-each references front text (subst IsNoNumber (sym parts) other) whole (All-tail IsPlain c text plain))
 
 -- ---- letters and digits, with a semicolon after them or with none
 
@@ -112,7 +112,7 @@ pub semicolon-parts : (text : List ℕ) (at : ℕ) → at < length text → slic
 semicolon-parts text at within is = take_more text at 0 within ∙ ap (λ c. take at text ++ c ∷ []) is
 
 -- what begins so is held, and each of its characters leaves the reference undecided
-module _ (names : List NamedReference) (text : List ℕ) (letters bytes : ℕ) (front : IsNameFront names text letters bytes) (some : bytes ≢ 0)
+module _ (references : List NamedReference) (text : List ℕ) (letters bytes : ℕ) (front : IsNameFront references text letters bytes) (some : bytes ≢ 0)
     (all : list_all is_ascii_alphanumeric (take letters text) ≡ true) where
   abbrev alone : Bool
   alone = bytes == letters
@@ -142,8 +142,8 @@ module _ (names : List NamedReference) (text : List ℕ) (letters bytes : ℕ) (
     alphanumeric = sym (ap (list_all is_ascii_alphanumeric) (front.parts some) ∙ named-alphanumeric letters_there all alone);
   }
 
-  pub front-holds : HoldsEach names [] (chars (take bytes text))
-  front-holds = rw front-chars (holds-each names [] (take bytes text) front-no_number (front.begins some) front-plain)
+  pub front-holds : HoldsEach references [] (chars (take bytes text))
+  front-holds = rw front-chars (holds-each references [] (take bytes text) front-no_number (front.begins some) front-plain)
 
   pub front-begins : IsUtf8 text → BeginsInAscii text
   front-begins utf8 =
@@ -166,9 +166,9 @@ pub nothing-held : (held : List ℕ) → length held ≡ 0 → held ≡ []
 nothing-held [] empty = refl
 nothing-held (c ∷ held) empty = absurd (omega (arith, empty))
 
-pub holds-none : (names : List NamedReference) (held : List ℕ) → HoldsEach names held (chars [])
+pub holds-none : (references : List NamedReference) (held : List ℕ) → HoldsEach references held (chars [])
 unfolding HoldsEach
-holds-none names held = rw chars-nil tt
+holds-none references held = rw chars-nil tt
 
 pub held-none : (held : List ℕ) → held ≡ held ++ chars []
 held-none held = sym (ap (λ l. held ++ l) chars-nil ∙ append-nil held)

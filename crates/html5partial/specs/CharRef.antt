@@ -45,9 +45,9 @@ pub record IsHeld (held : List ℕ) (is_alphanumeric : Bool) : Type 0 where
 -- "Named character reference state": each of these characters leaves the reference undecided of which so much is held, and is held,
 -- too
 unfoldable pub HoldsEach : List NamedReference → List ℕ → List ℕ → Type 0
-HoldsEach names held [] = Unit {0}
-HoldsEach names held (c ∷ text) =
-    (is_undecided names (held ++ c ∷ []) ≡ true) × (number_sign ≤ c) × (c ≤ 0x7A) × HoldsEach names (held ++ c ∷ []) text
+HoldsEach references held [] = Unit {0}
+HoldsEach references held (c ∷ text) =
+    (is_undecided references (held ++ c ∷ []) ≡ true) × (number_sign ≤ c) × (c ≤ 0x7A) × HoldsEach references (held ++ c ∷ []) text
 
 -- a text begins with a character of ASCII
 pub record BeginsInAscii (text : List ℕ) : Type 0 where
@@ -57,10 +57,10 @@ pub record BeginsInAscii (text : List ℕ) : Type 0 where
 
 -- "Named character reference state": a text begins with so many letters and digits, and so many bytes of it are these with a
 -- semicolon after them or with none, where a name of the table begins so. They are none where no name does.
-pub record IsNameFront (names : List NamedReference) (text : List ℕ) (letters bytes : ℕ) : Type 0 where
+pub record IsNameFront (references : List NamedReference) (text : List ℕ) (letters bytes : ℕ) : Type 0 where
   pub within : bytes ≤ length text
   pub parts : bytes ≢ 0 → take bytes text ≡ take letters text ++ (if bytes == letters then [] else semicolon ∷ [])
-  pub begins : bytes ≢ 0 → begins_name names (take bytes text) ≡ true
+  pub begins : bytes ≢ 0 → begins_name references (take bytes text) ≡ true
 
 -- the second character, if there is one
 abbrev pub more_of : Option ℕ → List ℕ
@@ -90,8 +90,8 @@ begun_reference opened = InReference (stand_of opened) []
 
 -- the reference of which so much is held, in a value or not, where that follows
 abbrev pub decided : Bool → List NamedReference → Bool → List ℕ → Option ℕ → grammar.Found
-decided exact names in_value held next = grammar.reference (record { exact = exact; names = names }) in_value held next
+decided exact references in_value held next = grammar.reference (record { exact = exact; references = references }) in_value held next
 
 -- the reference that stands there, where so much is held and that follows
 abbrev pub found_at : Bool → List NamedReference → Stand → List ℕ → Option ℕ → grammar.Found
-found_at exact names stand held next = grammar.reference (record { exact = exact; names = names }) (grammar.in_value stand) held next
+found_at exact references stand held next = grammar.reference (record { exact = exact; references = references }) (grammar.in_value stand) held next

@@ -87,8 +87,8 @@ impl<A: Allocator> CharRef<A> {
     }
 
     /// Holds the character, too, where that leaves the reference undecided. Answers whether it does.
-    pub fn hold(&mut self, names: &NamedReferences<A>, c: char) -> Result<bool, AllocError>
-        ensures undecided { IfOk result (λ undecided. undecided ≡ is_undecided names.now (self.old ++ c ∷ [])) }
+    pub fn hold(&mut self, references: &NamedReferences<A>, c: char) -> Result<bool, AllocError>
+        ensures undecided { IfOk result (λ undecided. undecided ≡ is_undecided references.now (self.old ++ c ∷ [])) }
         ensures held { IfOk result (λ undecided. self.new ≡ (if undecided then self.old ++ c ∷ [] else self.old)) }
         ensures plain { result ≡ Ok true → (number_sign ≤ c) × (c ≤ 0x7A) }
         ensures kept { IfErr result (λ e. self.new ≡ self.old) }
@@ -105,10 +105,10 @@ impl<A: Allocator> CharRef<A> {
             return Ok(true);
         }
         if !is_in_names(c) {
-            names.table_laws();
+            references.table_laws();
             return Ok(false);
         }
-        self.hold_name(names, c)
+        self.hold_name(references, c)
     }
 
     /// Right after the `&`, holds all the letters and digits with which a text begins, where a name of the
@@ -117,12 +117,12 @@ impl<A: Allocator> CharRef<A> {
     #[inline(never)]
     pub fn hold_front(
         &mut self,
-        names: &NamedReferences<A>,
+        references: &NamedReferences<A>,
         text: &str,
     ) -> Result<usize, AllocError>
         ensures within { IfOk result (λ bytes. bytes ≤ length text.now) }
         ensures rest_utf8 { IfOk result (λ bytes. IsUtf8 (drop bytes text.now)) }
-        ensures holds { IfOk result (λ bytes. HoldsEach names.now self.old (chars (take bytes text.now))) }
+        ensures holds { IfOk result (λ bytes. HoldsEach references.now self.old (chars (take bytes text.now))) }
         ensures held { IfOk result (λ bytes. self.new ≡ self.old ++ chars (take bytes text.now)) }
         ensures kept { IfErr result (λ e. self.new ≡ self.old) }
         ensures refused { IfErr result (λ e. BeginsInAscii text.now) }
@@ -131,7 +131,7 @@ impl<A: Allocator> CharRef<A> {
             return Ok(0);
         }
         let letters = letters_len(text);
-        let bytes = front_len(names, text, letters);
+        let bytes = front_len(references, text, letters);
         if bytes == 0 {
             return Ok(0);
         }
@@ -161,17 +161,17 @@ impl<A: Allocator> CharRef<A> {
     }
 
     // Holds a letter, a digit or a semicolon of a name, where that leaves it undecided.
-    fn hold_name(&mut self, names: &NamedReferences<A>, c: char) -> Result<bool, AllocError>
+    fn hold_name(&mut self, references: &NamedReferences<A>, c: char) -> Result<bool, AllocError>
         requires plain { (is_ascii_alphanumeric c || (c == semicolon)) ≡ true }
         requires no_number { first_or self.old None ≢ Some number_sign }
-        ensures undecided { IfOk result (λ undecided. undecided ≡ is_undecided names.now (self.old ++ c ∷ [])) }
+        ensures undecided { IfOk result (λ undecided. undecided ≡ is_undecided references.now (self.old ++ c ∷ [])) }
         ensures held { IfOk result (λ undecided. self.new ≡ (if undecided then self.old ++ c ∷ [] else self.old)) }
         ensures kept { IfErr result (λ e. self.new ≡ self.old) }
     {
         let len = self.held.len();
         self.held.push(c)?;
         let is_alphanumeric = self.is_alphanumeric & c.is_ascii_alphanumeric();
-        let undecided = is_undecided_name(names, &self.held, is_alphanumeric);
+        let undecided = is_undecided_name(references, &self.held, is_alphanumeric);
         if undecided {
             self.is_alphanumeric = is_alphanumeric;
         } else {
@@ -203,18 +203,18 @@ fn is_semicolon_at(text: &str, at: usize) -> bool
 }
 
 // How many bytes of a text are held at once, where it begins with so many letters and digits.
-fn front_len<A: Allocator>(names: &NamedReferences<A>, text: &str, letters: usize) -> usize
+fn front_len<A: Allocator>(references: &NamedReferences<A>, text: &str, letters: usize) -> usize
     requires within { letters ≤ length text.now }
     requires letters { list_all is_ascii_alphanumeric (take letters text.now) ≡ true }
-    ensures { IsNameFront names.now text.now letters result }
+    ensures { IsNameFront references.now text.now letters result }
 {
     if letters == 0 {
         return 0;
     }
-    if is_semicolon_at(text, letters) && names.is_prefix(&text[..letters + 1]) {
+    if is_semicolon_at(text, letters) && references.is_prefix(&text[..letters + 1]) {
         return letters + 1;
     }
-    if names.is_prefix(&text[..letters]) {
+    if references.is_prefix(&text[..letters]) {
         return letters;
     }
     0
@@ -229,15 +229,15 @@ fn is_in_names(c: char) -> bool
 
 // Whether a name begins with the text, or the text is letters and digits that no name begins.
 fn is_undecided_name<A: Allocator>(
-    names: &NamedReferences<A>,
+    references: &NamedReferences<A>,
     text: &str,
     is_alphanumeric: bool,
 ) -> bool
     requires { IsAscii text.now }
-    ensures { result ≡ (begins_name names.now text.now || (is_alphanumeric && is_none
-        (longest_name names.now text.now))) }
+    ensures { result ≡ (begins_name references.now text.now || (is_alphanumeric && is_none
+        (longest_name references.now text.now))) }
 {
-    names.is_prefix(text) || is_alphanumeric && longest_name(names, text).is_none()
+    references.is_prefix(text) || is_alphanumeric && longest_name(references, text).is_none()
 }
 
 // The base of what stands after a number's `#`.
@@ -354,31 +354,31 @@ impl Number {
 
 /// The longest name of the table with which the text begins. Most texts are a name, which one search
 /// finds.
-pub fn longest_name<A: Allocator>(names: &NamedReferences<A>, text: &str) -> Option<Named>
+pub fn longest_name<A: Allocator>(references: &NamedReferences<A>, text: &str) -> Option<Named>
     requires { IsAscii text.now }
-    ensures { IsNamed text.now result (longest_name names.now text.now) }
+    ensures { IsNamed text.now result (longest_name references.now text.now) }
 {
-    if let Some((first, second)) = names.get(text) {
+    if let Some((first, second)) = references.get(text) {
         return Some(Named {
             len: text.len(),
             first,
             second,
         });
     }
-    longest_by_beginnings(names, text)
+    longest_by_beginnings(references, text)
 }
 
 // The longest name with which the text begins, by its beginnings, as long as a name begins so.
-fn longest_by_beginnings<A: Allocator>(names: &NamedReferences<A>, text: &str) -> Option<Named>
+fn longest_by_beginnings<A: Allocator>(references: &NamedReferences<A>, text: &str) -> Option<Named>
     requires { IsAscii text.now }
-    ensures { IsNamed text.now result (longest_name names.now text.now) }
+    ensures { IsNamed text.now result (longest_name references.now text.now) }
 {
-    names.table_laws();
+    references.table_laws();
     let mut found = None;
     let mut len = 0;
-    while len < text.len() && names.is_prefix(&text[..len + 1]) {
+    while len < text.len() && references.is_prefix(&text[..len + 1]) {
         len += 1;
-        if let Some((first, second)) = names.get(&text[..len]) {
+        if let Some((first, second)) = references.get(&text[..len]) {
             found = Some(Named { len, first, second });
         }
     }

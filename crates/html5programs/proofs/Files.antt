@@ -7,11 +7,11 @@ use Rattle.html5stream.specs.Pages.{ReadsPage}
 use Rattle.html5programs.specs.Filtering.{Filtering, IsInput, ReadsFile, ReadsFiles}
 use Rattle.markup5ever.specs.NamedReferences.{NamedReference}
 
-module _ {F T S : Type 0} (means : Filtering F T S) (names : List NamedReference) where
+module _ {F T S : Type 0} (means : Filtering F T S) (references : List NamedReference) where
   -- standard input was read
   pub reads-input : (file : List ℕ) (unread left : Option (List ℕ)) (before after : S) → IsInput file
-      → ReadsPage (λ s bytes. means.handed s (means.page names s bytes)) unread left (means.begun before) after
-      → ReadsFile means names file unread left before after
+      → ReadsPage (λ s bytes. means.handed s (means.page references s bytes)) unread left (means.begun before) after
+      → ReadsFile means references file unread left before after
   reads-input file unread left before after is read = record {
     bytes = read.bytes;
     utf8 = read.utf8;
@@ -22,8 +22,8 @@ module _ {F T S : Type 0} (means : Filtering F T S) (names : List NamedReference
 
   -- another file was, and standard input is as it was
   pub reads-other : (file : List ℕ) (known unread left : Option (List ℕ)) (before after : S) → ¬ (IsInput file)
-      → ReadsPage (λ s bytes. means.handed s (means.page names s bytes)) unread left (means.begun before) after
-      → ReadsFile means names file known known before after
+      → ReadsPage (λ s bytes. means.handed s (means.page references s bytes)) unread left (means.begun before) after
+      → ReadsFile means references file known known before after
   reads-other file known unread left before after another read = record {
     bytes = read.bytes;
     utf8 = read.utf8;
@@ -32,18 +32,18 @@ module _ {F T S : Type 0} (means : Filtering F T S) (names : List NamedReference
     other = λ _. refl;
   }
 
-  pub reads-none : (known : Option (List ℕ)) (s : S) → ReadsFiles means names [] known known s s
+  pub reads-none : (known : Option (List ℕ)) (s : S) → ReadsFiles means references [] known known s s
   unfolding ReadsFiles
   reads-none known s = (refl, refl)
 
   pub reads-last : (files : List (List ℕ)) (file : List ℕ) (unread now left : Option (List ℕ)) (before between after : S)
-      → ReadsFiles means names files unread now before between → ReadsFile means names file now left between after
-      → ReadsFiles means names (files ++ file ∷ []) unread left before after
+      → ReadsFiles means references files unread now before between → ReadsFile means references file now left between after
+      → ReadsFiles means references (files ++ file ∷ []) unread left before after
   unfolding ReadsFiles
   reads-last [] file unread now left before between after (same, still) read = (
     left,
     after,
-    subst (λ s. ReadsFile means names file unread left s after) still (subst (λ k. ReadsFile means names file k left between after) same read),
+    subst (λ s. ReadsFile means references file unread left s after) still (subst (λ k. ReadsFile means references file k left between after) same read),
     (refl, refl),
   )
   reads-last (first ∷ files) file unread now left before between after (known, s, one, others) read =
@@ -51,12 +51,12 @@ module _ {F T S : Type 0} (means : Filtering F T S) (names : List NamedReference
 
   -- the file at a place was read after those before it
   pub reads-more : (files : List (Bor (List ℕ))) (i : ℕ) (other : Bor (List ℕ)) (unread now left : Option (List ℕ)) (before between after : S) → i < length files
-      → ReadsFiles means names (map (λ file. file.now) (take i files)) unread now before between
-      → ReadsFile means names (get_or files i other).now now left between after
-      → ReadsFiles means names (map (λ file. file.now) (take (i + 1) files)) unread left before after
+      → ReadsFiles means references (map (λ file. file.now) (take i files)) unread now before between
+      → ReadsFile means references (get_or files i other).now now left between after
+      → ReadsFiles means references (map (λ file. file.now) (take (i + 1) files)) unread left before after
   reads-more files i other unread now left before between after inside had read =
       let more : map (λ (file : Bor (List ℕ)). file.now) (take (i + 1) files) ≡ map (λ (file : Bor (List ℕ)). file.now) (take i files) ++ (get_or files i other).now ∷ [] =
       ap (map (λ (file : Bor (List ℕ)). file.now)) (take_more files i other inside)
       ∙ map-append (λ (file : Bor (List ℕ)). file.now) (take i files) (get_or files i other ∷ []) in
-      subst (λ l. ReadsFiles means names l unread left before after) (sym more)
+      subst (λ l. ReadsFiles means references l unread left before after) (sym more)
       (reads-last (map (λ file. file.now) (take i files)) (get_or files i other).now unread now left before between after had read)

@@ -1,7 +1,7 @@
 -- How a run ends: its status, and what was read and printed.
 use Rattle.std.specs.Prelude.{◌≡◌, ℕ, List, [], ◌∷◌, Option, option_map, IsSome, true, false}
 use Rattle.html5programs.specs.Filtering.{AreSettingsAsked, Filtering, ReadsFiles}
-use Rattle.html5programs.specs.Names.{IsTableAsked}
+use Rattle.html5programs.specs.References.{IsTableAsked}
 use Rattle.html5programs.specs.Words.{Asked, files_asked, words_asked}
 use Rattle.html5programs.specs.declared.running.Program.{Program}
 use Rattle.html5programs.specs.declared.ending.Ending.{Ending}
@@ -34,15 +34,15 @@ pub record HasWrongWord (asked : Asked) : Type 0 where
 
 module _ {F T S : Type 0} (means : Filtering F T S) where
   -- these files were read by a table and by settings, and what was written is what the filter printed of them
-  pub record PrintsFiles (names : List NamedReference) (settings : T) (files : List (List ℕ)) (unread left : Option (List ℕ)) (written : List ℕ) : Type 0 where
+  pub record PrintsFiles (references : List NamedReference) (settings : T) (files : List (List ℕ)) (unread left : Option (List ℕ)) (written : List ℕ) : Type 0 where
     pub after : S
-    pub read : ReadsFiles means names files unread left (means.started settings []) after
+    pub read : ReadsFiles means references files unread left (means.started settings []) after
     pub printed : written ≡ means.printed after
 
   -- those that the words ask for were, by the table and the settings that they ask for
   pub record PrintsAsked (asked : Asked) (unread left : Option (List ℕ)) (written : List ℕ) : Type 0 where
-    pub names : List NamedReference
+    pub references : List NamedReference
     pub settings : T
-    pub table : IsTableAsked asked.names names
+    pub table : IsTableAsked asked.references references
     pub said : AreSettingsAsked means asked.settings settings
-    pub prints : PrintsFiles names settings (files_asked asked) unread left written
+    pub prints : PrintsFiles references settings (files_asked asked) unread left written

@@ -27,13 +27,13 @@ pub record Filtering (F T S : Type 0) : Type 0 where
 abbrev pub IsInput : List ℕ → Type 0
 IsInput file = file ≡ codes "-"
 
-module _ {F T S : Type 0} (means : Filtering F T S) (names : List NamedReference) where
+module _ {F T S : Type 0} (means : Filtering F T S) (references : List NamedReference) where
   -- a file was read to its end, its bytes are UTF-8, and the filter was handed all of their messages. Of standard input they are all that
   -- it had left. Which bytes another file holds no contract says.
   pub record ReadsFile (file : List ℕ) (unread left : Option (List ℕ)) (before after : S) : Type 0 where
     pub bytes : List ℕ
     pub utf8 : IsUtf8 bytes
-    pub told : after ≡ means.handed (means.begun before) (means.page names (means.begun before) bytes)
+    pub told : after ≡ means.handed (means.begun before) (means.page references (means.begun before) bytes)
     pub input : IsInput file → Consumes unread left bytes × IsAtEnd left
     pub other : ¬ (IsInput file) → left ≡ unread
 

@@ -1,5 +1,5 @@
 pub mod Words
-pub mod Names
+pub mod References
 pub mod Messages
 pub mod Filtering
 pub mod Ending

@@ -7,8 +7,8 @@ use Rattle.html5programs.specs.declared.words.Words.{Words}
 pub record Asked : Type 0 where
   -- that the program says how it is used
   pub help : Bool
-  -- the file of the table of names, and that of the program's settings, where they are given
-  pub names : Option (List ℕ)
+  -- the file of the table of named references, and that of the program's settings, where they are given
+  pub references : Option (List ℕ)
   pub settings : Option (List ℕ)
   -- the files to read, in order
   pub files : List (List ℕ)
@@ -19,7 +19,7 @@ pub record Asked : Type 0 where
 abbrev pub asked_by : {Z : Type 0} → Words Z → Asked
 asked_by asked = record {
   help = asked.help;
-  names = option_map (λ path. path.now) asked.names;
+  references = option_map (λ path. path.now) asked.references;
   settings = option_map (λ path. path.now) asked.settings;
   files = map (λ file. file.now) asked.files.items;
   wrong = option_map (λ word. word.now) asked.wrong;
@@ -27,7 +27,7 @@ asked_by asked = record {
 
 -- what no word asks for
 abbrev pub nothing_asked : Asked
-nothing_asked = record { help = false; names = None; settings = None; files = []; wrong = None }
+nothing_asked = record { help = false; references = None; settings = None; files = []; wrong = None }
 
 -- the first wrong word is told
 abbrev pub with_wrong : Asked → List ℕ → Asked
@@ -52,11 +52,11 @@ is_option (Some option) word = bytes_eq word option
 
 -- whether a path stands after a word, by the option for settings, where the program has one
 unfoldable pub takes_path : Option (List ℕ) → List ℕ → Bool
-takes_path option word = is_option option word || bytes_eq word (codes "--names")
+takes_path option word = is_option option word || bytes_eq word (codes "--references")
 
 -- after such a word and its path
 unfoldable pub with_path : Asked → List ℕ → List ℕ → Asked
-with_path s word path = if bytes_eq word (codes "--names") then record s { names = Some path } else record s { settings = Some path }
+with_path s word path = if bytes_eq word (codes "--references") then record s { references = Some path } else record s { settings = Some path }
 
 -- what words ask for after those that asked for s
 unfoldable pub asked_after : Option (List ℕ) → Asked → List (List ℕ) → Asked

@@ -17,7 +17,7 @@ pub enum Ending {
     NoMemory,
     /// A word is unknown, or a word is missing after it.
     WrongWord,
-    /// There is no table of names.
+    /// There is no table of named references.
     NoTable,
     /// There are no settings.
     NoSettings,

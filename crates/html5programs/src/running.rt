@@ -6,7 +6,7 @@ ghost use Rattle.html5programs.specs.Words.{asked_by};
 
 use crate::ending::Ending;
 use crate::messages::Messages;
-use crate::names::read_names;
+use crate::references::read_references;
 use crate::output::Output;
 use crate::words::{Words, words_of};
 use devices::{Logged, Printer, ReadSource, Source, Target, WriteTarget, given_words, write_all};
@@ -55,12 +55,12 @@ pub trait Filter<W: Target + Drop>: Drop {
         self,
         alloc: Global,
         source: &mut R,
-        names: &NamedReferences,
+        references: &NamedReferences,
     ) -> (Self, Result<(), StreamError>)
-        ensures finishes { OnOk result.1 (ReadsPage (λ s bytes. means.handed s (means.page names.now s bytes))
+        ensures finishes { OnOk result.1 (ReadsPage (λ s bytes. means.handed s (means.page references.now s bytes))
             (R.remaining source.old) (R.remaining source.new)
             (means.begun (means.state self)) (means.state result.0)) }
-        ensures beginning { OnErr result.1 (StopsPage (means.page names.now) means.handed
+        ensures beginning { OnErr result.1 (StopsPage (means.page references.now) means.handed
             (R.remaining source.old) (R.remaining source.new)
             (means.begun (means.state self)) (means.state result.0)) }
         ensures read { R.failures source.new ≡ R.failures source.old + failed_reads result.1 };
@@ -112,21 +112,21 @@ fn read_or_error(read: Result<(), StreamError>) -> Result<(), FileError>
 fn read_file<F: Filter<W>, W: Target + Drop, R: Files + Alloc<A = Global>, I: Source>(
     rt: &R,
     filter: F,
-    names: &NamedReferences,
+    references: &NamedReferences,
     stdin: &mut I,
     file: &str,
 ) -> (F, Result<(), FileError>)
-    ensures file { OnOk result.1 (ReadsFile F.means names.now file.now
+    ensures file { OnOk result.1 (ReadsFile F.means references.now file.now
         (I.remaining stdin.old) (I.remaining stdin.new) (F.means.state filter) (F.means.state result.0)) }
     ensures read { OnOk result.1 (I.failures stdin.new ≡ I.failures stdin.old) }
 {
     if file == "-" {
-        let (filter, read) = filter.read_page(rt.alloc(), stdin, names);
+        let (filter, read) = filter.read_page(rt.alloc(), stdin, references);
         return (filter, read_or_error(read));
     }
     match File::open(rt, file) {
         Ok(opened) => {
-            let (filter, read) = filter.read_page(rt.alloc(), &mut ReadSource::new(opened), names);
+            let (filter, read) = filter.read_page(rt.alloc(), &mut ReadSource::new(opened), references);
             (filter, read_or_error(read))
         }
         Err(_) => (filter, Err(FileError::Open)),
@@ -137,19 +137,19 @@ fn read_file<F: Filter<W>, W: Target + Drop, R: Files + Alloc<A = Global>, I: So
 fn read_files<F: Filter<W>, W: Target + Drop, R: Files + Alloc<A = Global>, I: Source, E: Target>(
     rt: &R,
     filter: F,
-    names: &NamedReferences,
+    references: &NamedReferences,
     stdin: &mut I,
     files: &[&str],
     messages: &mut Messages<'_, E>,
 ) -> (F, Outcome)
-    ensures files { result.1 ≡ Outcome.Read → ReadsFiles F.means names.now (map (λ file. file.now) files.now)
+    ensures files { result.1 ≡ Outcome.Read → ReadsFiles F.means references.now (map (λ file. file.now) files.now)
         (I.remaining stdin.old) (I.remaining stdin.new) (F.means.state filter) (F.means.state result.0) }
     ensures read { result.1 ≡ Outcome.Read → I.failures stdin.new ≡ I.failures stdin.old }
 {
     let mut filter = filter;
     let mut outcome = Outcome::Read;
     for file in files {
-        let (afterwards, read) = read_file(rt, filter, names, stdin, file);
+        let (afterwards, read) = read_file(rt, filter, references, stdin, file);
         filter = afterwards;
         match read {
             Ok(()) => {}
@@ -188,21 +188,21 @@ fn filter_files<
     E: Target,
 >(
     rt: &R,
-    names: &NamedReferences,
+    references: &NamedReferences,
     settings: F::Settings,
     files: &[&str],
     stdin: &mut I,
     stdout: O,
     messages: &mut Messages<'_, E>,
 ) -> (Logged<Output<O>>, Ending)
-    ensures done { result.1 ≡ Ending.Done → PrintsFiles F.means names.now settings (map (λ file. file.now) files.now)
+    ensures done { result.1 ≡ Ending.Done → PrintsFiles F.means references.now settings (map (λ file. file.now) files.now)
         (I.remaining stdin.old) (I.remaining stdin.new) result.0.taken }
     ensures closed { result.1 ≡ Ending.Closed → result.0.inner.is_closed ≡ true }
     ensures words { (result.1 ≢ Ending.WrongWord) × (result.1 ≢ Ending.NoMemory) }
 {
     let printer = Printer::new(rt.alloc(), Output::new(stdout));
     let filter = F::new(rt.alloc(), printer, settings);
-    let (filter, outcome) = read_files(rt, filter, names, stdin, files, messages);
+    let (filter, outcome) = read_files(rt, filter, references, stdin, files, messages);
     let (target, written) = filter.into_printer().finish();
     let ending = ending_of(outcome, written.is_ok(), target.inner().is_closed());
     if ending == Ending::Unprinted {
@@ -259,10 +259,10 @@ fn filter_asked<
     ensures closed { result.1 ≡ Ending.Closed → result.0.inner.is_closed ≡ true }
     ensures words { (result.1 ≢ Ending.WrongWord) × (result.1 ≢ Ending.NoMemory) }
 {
-    let names = match read_names(rt, asked.names) {
-        Ok(names) => names,
+    let references = match read_references(rt, asked.references) {
+        Ok(references) => references,
         Err(error) => {
-            messages.say("names", error);
+            messages.say("references", error);
             return (Logged::new(Output::new(stdout)), Ending::NoTable);
         }
     };
@@ -270,9 +270,9 @@ fn filter_asked<
         return (Logged::new(Output::new(stdout)), Ending::NoSettings);
     };
     if asked.files.is_empty() {
-        return filter_files::<F, R, I, O, E>(rt, &names, settings, &["-"], stdin, stdout, messages);
+        return filter_files::<F, R, I, O, E>(rt, &references, settings, &["-"], stdin, stdout, messages);
     }
-    filter_files::<F, R, I, O, E>(rt, &names, settings, &asked.files, stdin, stdout, messages)
+    filter_files::<F, R, I, O, E>(rt, &references, settings, &asked.files, stdin, stdout, messages)
 }
 
 // Prints how a program is used.

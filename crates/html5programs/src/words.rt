@@ -10,8 +10,8 @@ use std::alloc::{AllocError, Allocator, Global};
 pub struct Words<'w, A: Allocator = Global> {
     /// That the program says how it is used.
     pub help: bool,
-    /// The file of the table of names, where one is given.
-    pub names: Option<&'w str>,
+    /// The file of the table of named references, where one is given.
+    pub references: Option<&'w str>,
     /// The file of the program's settings, where one is given.
     pub settings: Option<&'w str>,
     /// The files to read, in order. `-` is standard input.
@@ -37,7 +37,7 @@ impl<'w, A: Allocator + Copy> Words<'w, A> {
     {
         Words {
             help: false,
-            names: None,
+            references: None,
             settings: None,
             files: Vec::new(alloc),
             wrong: None,
@@ -73,8 +73,8 @@ impl<'w, A: Allocator + Copy> Words<'w, A> {
     fn take_path(&mut self, option: &str, path: &'w str)
         ensures { asked_by self.new ≡ with_path (asked_by self.old) option.now path.now }
     {
-        if option == "--names" {
-            self.names = Some(path);
+        if option == "--references" {
+            self.references = Some(path);
         } else {
             self.settings = Some(path);
         }
@@ -87,8 +87,8 @@ fn takes_path(word: &str, settings: Option<&str>) -> bool
     ensures { result ≡ takes_path (option_map (λ option. option.now) settings.entry) word.now }
 {
     match settings {
-        Some(option) => word == option || word == "--names",
-        None => word == "--names",
+        Some(option) => word == option || word == "--references",
+        None => word == "--references",
     }
 }
 

@@ -28,7 +28,7 @@ abbrev start : Start
 start = record { opened = Between Data; last_start_tag = []; input = record { line = 1; after_carriage_return = false; drops_byte_order_mark = true } }
 
 abbrev rules : Bool → Rules
-rules exact = record { exact = exact; names = [] }
+rules exact = record { exact = exact; references = [] }
 
 abbrev told : List ℕ → List Told
 told text = map (λ (m : Message). m.token) (messages (reading {S = ℕ} {H = ℕ} (λ s t l. s) (λ s t l. KeepOn) (λ s. false) (rules false) start 0 text))

@@ -27,13 +27,13 @@ start_in mode = record { opened = Between mode; last_start_tag = []; input = rec
 
 -- what a text tells a sink that gives always the same answer, and one that counts what it was sent
 abbrev events : Bool → Bool → List ℕ → List Event
-events exact foreign text = reading {S = ℕ} {H = ℕ} (λ s t l. s) (λ s t l. KeepOn) (λ s. foreign) (record { exact = exact; names = [] }) (start_in Data) 0 text
+events exact foreign text = reading {S = ℕ} {H = ℕ} (λ s t l. s) (λ s t l. KeepOn) (λ s. foreign) (record { exact = exact; references = [] }) (start_in Data) 0 text
 
 abbrev inside : List ℕ → List Event
-inside text = reading {S = ℕ} {H = ℕ} (λ s t l. s) (λ s t l. KeepOn) (λ s. false) (record { exact = false; names = [] }) (start_in Cdata) 0 text
+inside text = reading {S = ℕ} {H = ℕ} (λ s t l. s) (λ s t l. KeepOn) (λ s. false) (record { exact = false; references = [] }) (start_in Cdata) 0 text
 
 abbrev counted : List ℕ → List Event
-counted text = reading {S = ℕ} {H = ℕ} (λ s t l. suc s) (λ s t l. KeepOn) (λ s. nat_eq s 1) (record { exact = false; names = [] }) (start_in Data) 0 text
+counted text = reading {S = ℕ} {H = ℕ} (λ s t l. suc s) (λ s t l. KeepOn) (λ s. nat_eq s 1) (record { exact = false; references = [] }) (start_in Data) 0 text
 
 abbrev event : Told → TextPlace → TextPlace → ℕ → Event
 event token stands decided_by line = record { message = record { token = token; line = line }; stands = stands; decided_by = decided_by }

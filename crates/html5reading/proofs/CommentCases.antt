@@ -27,7 +27,7 @@ abbrev start : Start
 start = record { opened = Between Data; last_start_tag = []; input = record { line = 1; after_carriage_return = false; drops_byte_order_mark = true } }
 
 abbrev events : Bool → List ℕ → List Event
-events exact text = reading {S = ℕ} {H = ℕ} (λ s t l. s) (λ s t l. KeepOn) (λ s. false) (record { exact = exact; names = [] }) start 0 text
+events exact text = reading {S = ℕ} {H = ℕ} (λ s t l. s) (λ s t l. KeepOn) (λ s. false) (record { exact = exact; references = [] }) start 0 text
 
 abbrev event : Told → TextPlace → TextPlace → ℕ → Event
 event token stands decided_by line = record { message = record { token = token; line = line }; stands = stands; decided_by = decided_by }

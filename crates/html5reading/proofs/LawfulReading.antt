@@ -16,12 +16,12 @@ use Rattle.html5reading.specs.ErrorText.{bad_character_error}
 use Rattle.html5reading.specs.Lawful.{has_no_null, IsLawful, IsLawfulTag}
 use Rattle.html5reading.specs.NormalisedText.{normalised, line_after}
 use Rattle.html5reading.specs.RawText.{texts}
-use Rattle.html5reading.proofs.ReadingLemmas.{clean-mode}
+use Rattle.html5reading.proofs.ReadingLemmas.{between-mode}
 use Rattle.html5reading.specs.Reading.{Here, Brought, reading, told, messages, after, open_after_reply}
 use Rattle.html5reading.specs.Reading.Here.{Tells, TellsTag}
 use Rattle.html5reading.specs.Reference.{Found, in_value, reference, is_undecided, ends_number, late_tokens, opened_in, opened_after}
 use Rattle.html5reading.specs.Slice.{tokens_of_late}
-use Rattle.html5reading.specs.Start.{Raw, RawPlace, Stand, Open, Rules, Start, raw_of, is_clean}
+use Rattle.html5reading.specs.Start.{Raw, RawPlace, Stand, Open, Rules, Start, raw_of, is_between}
 use Rattle.html5reading.specs.Start.Stand.{InText, InAttribute}
 use Rattle.html5reading.specs.Start.Raw.{Rcdata, Rawtext, ScriptData, Escaped, DoubleEscaped}
 use Rattle.html5reading.specs.Start.Mode.{Data, Plain, RawText, Cdata}
@@ -60,15 +60,15 @@ lawful-declaration_error : (exact : Bool) (held : List ℕ) → AllLawful (token
 unfolding AllLawful
 lawful-declaration_error exact held = (tt, tt)
 
-module _ (rules : Rules) (table : IsTable rules.names) where
+module _ (rules : Rules) (table : IsTable rules.references) where
   lawful-reference : (stand : Stand) (held : List ℕ) (c : ℕ) → IsFitStand stand → has_no_null held ≡ true → LawfulBrought (reference_step rules stand held c)
   unfolding reference_step LawfulHere IsFit AllLawful
   lawful-reference stand held c fit no_null =
       let found : Found = reference rules (in_value stand) held (Some c) in
       let late : AllLawful (tokens_of_late (late_tokens stand found held)) = lawful-late_tokens rules stand held (Some c) table no_null in
       let afterwards : IsFit (opened_after stand found held) = fit-after stand _ fit in
-      lawful-brought_if (is_undecided rules.names (held ++ c ∷ [])) _ _
-      (λ undecided. (tt, (tt, (fit, no_null-undecided rules.names (held ++ c ∷ []) table.plain undecided))))
+      lawful-brought_if (is_undecided rules.references (held ++ c ∷ [])) _ _
+      (λ undecided. (tt, (tt, (fit, no_null-undecided rules.references (held ++ c ∷ []) table.plain undecided))))
       (λ decided. lawful-brought_if (ends_number held c) _ _ (λ ends. (late, (tt, afterwards)))
       (λ goes_on. (late, lawful-step_at rules.exact c (opened_after stand found held) afterwards)))
 
@@ -163,7 +163,7 @@ lawful-told_at_end exact (InDoctypeKeyword held d) fit = tt
 lawful-told_at_end exact (InCdata held) fit = lawful-append (texts held) _ (lawful-texts held fit) (tt, (tt, tt))
 lawful-told_at_end exact (InReference stand held) fit = tt
 
-module _ (rules : Rules) (table : IsTable rules.names) where
+module _ (rules : Rules) (table : IsTable rules.references) where
   lawful-late_at_end : (opened : Open) → IsFit opened → AllLawful (tokens_of_late (late_at_end_of rules opened))
   unfolding late_at_end_of IsFit
   lawful-late_at_end (InReference stand held) fit = lawful-late_tokens rules stand held None table fit.1
@@ -211,9 +211,9 @@ fit-reply last (ReadRawData kind) = tt
 fit-reply last (RunScript handle) = tt
 fit-reply last (SwitchEncoding bytes) = tt
 
-fit-clean : (opened : Open) → is_clean opened ≡ true → IsFit opened
+fit-between : (opened : Open) → is_between opened ≡ true → IsFit opened
 unfolding IsFit
-fit-clean opened h = let clean = clean-mode opened h in subst IsFit (sym clean.1) tt
+fit-between opened h = let clean = between-mode opened h in subst IsFit (sym clean.1) tt
 
 module _ {S H : Type 0} (step : S → Told → ℕ → S) (reply : S → Told → ℕ → Reply H) (foreign : S → Bool) (rules : Rules) where
   lawful-tag_last : (tokens : List Told) (tag : TagOf) → AllLawful tokens → IsLawfulTag tag → AllLawful (tokens ++ Tag tag ∷ [])
@@ -236,7 +236,7 @@ module _ {S H : Type 0} (step : S → Told → ℕ → S) (reply : S → Told �
   lawful-trace_brought rest lawful s line last c next brought =
       lawful-with _ _ (lawful-on_line line (tokens_of_late next.settled) brought.0) (lawful-trace_here rest lawful _ _ last c next.here brought.1)
 
-  lawful-trace : IsTable rules.names → (s : S) (line : ℕ) (last : List ℕ) (opened : Open) (text : List ℕ) → IsFit opened
+  lawful-trace : IsTable rules.references → (s : S) (line : ℕ) (last : List ℕ) (opened : Open) (text : List ℕ) → IsFit opened
       → LawfulTrace (trace step reply foreign rules s line last opened text)
   unfolding trace
   lawful-trace table s line last opened [] fit = record { messages = All-nil (λ (m : Message). IsLawful m.token); opened = fit }
@@ -246,11 +246,11 @@ module _ {S H : Type 0} (step : S → Told → ℕ → S) (reply : S → Told �
       s line last c (brought_at rules (foreign s) opened c) (lawful-brought rules table (foreign s) opened c fit)
 
   -- each token of a reading is lawful: the statement of `lawful_tokens`
-  pub lawful-reading : (K : Start) (s : S) (X : List ℕ) → IsTable rules.names → is_clean K.opened ≡ true
+  pub lawful-reading : (K : Start) (s : S) (X : List ℕ) → IsTable rules.references → is_between K.opened ≡ true
       → All (λ m. IsLawful m.token) (messages (reading step reply foreign rules K s X))
   lawful-reading K s X table clean =
       let whole : Trace = trace step reply foreign rules s (line_after K.input []) K.last_start_tag K.opened (normalised K.input X) in
-      let lawful : LawfulTrace whole = lawful-trace table s _ K.last_start_tag K.opened (normalised K.input X) (fit-clean K.opened clean) in
+      let lawful : LawfulTrace whole = lawful-trace table s _ K.last_start_tag K.opened (normalised K.input X) (fit-between K.opened clean) in
       let line : ℕ = line_after K.input (normalised K.input X) in
       let opened : Open = (after step reply foreign rules K s X).opened in
       let fit : IsFit opened = subst IsFit (sym (after-opened step reply foreign rules K s X)) lawful.opened in

@@ -109,26 +109,26 @@ or_parts : (p q : Bool) (R : Type 0) → (p ≡ true → R) → (q ≡ true → 
 or_parts true q R f g h = f refl
 or_parts false q R f g h = g h
 
-begun-no_null : (names : List NamedReference) (text : List ℕ) → All (λ entry. IsTrue (is_plain_name entry.name)) names → begins_name names text ≡ true → has_no_null text ≡ true
-begun-no_null names text plain begins =
+begun-no_null : (references : List NamedReference) (text : List ℕ) → All (λ entry. IsTrue (is_plain_name entry.name)) references → begins_name references text ≡ true → has_no_null text ≡ true
+begun-no_null references text plain begins =
     elim (list_all is_name_character text) as (λ b. list_all is_name_character text ≡ b → has_no_null text ≡ true) [
       | true ↦ λ named. no_null-all is_name_character name-other text named
-      | false ↦ λ odd. absurd (false≢true (sym (none_begins names text plain odd) ∙ begins))
+      | false ↦ λ odd. absurd (false≢true (sym (none_begins references text plain odd) ∙ begins))
     ] refl
 
 -- what leaves a reference undecided has no NUL
-pub no_null-undecided : (names : List NamedReference) (held : List ℕ) → All (λ entry. IsTrue (is_plain_name entry.name)) names
-    → is_undecided names held ≡ true → has_no_null held ≡ true
+pub no_null-undecided : (references : List NamedReference) (held : List ℕ) → All (λ entry. IsTrue (is_plain_name entry.name)) references
+    → is_undecided references held ≡ true → has_no_null held ≡ true
 unfolding is_undecided
-no_null-undecided names [] plain h = no_null-nil
-no_null-undecided names (c ∷ held) plain h =
+no_null-undecided references [] plain h = no_null-nil
+no_null-undecided references (c ∷ held) plain h =
     elim (c == number_sign) as (λ b. (c == number_sign) ≡ b
-    → (if b then is_number held else begins_name names (c ∷ held) || (list_all is_ascii_alphanumeric (c ∷ held) && is_none (longest_name names (c ∷ held)))) ≡ true
+    → (if b then is_number held else begins_name references (c ∷ held) || (list_all is_ascii_alphanumeric (c ∷ held) && is_none (longest_name references (c ∷ held)))) ≡ true
     → has_no_null (c ∷ held) ≡ true) [
       | true ↦ λ sign number. no_null-cons c held (sign-other c sign) (no_null-number held number)
-      | false ↦ λ other named. or_parts (begins_name names (c ∷ held)) _ (has_no_null (c ∷ held) ≡ true)
-          (begun-no_null names (c ∷ held) plain)
-          (λ unknown. no_null-all is_ascii_alphanumeric alphanumeric-other (c ∷ held) (and_parts (list_all is_ascii_alphanumeric (c ∷ held)) (is_none (longest_name names (c ∷ held))) unknown).0)
+      | false ↦ λ other named. or_parts (begins_name references (c ∷ held)) _ (has_no_null (c ∷ held) ≡ true)
+          (begun-no_null references (c ∷ held) plain)
+          (λ unknown. no_null-all is_ascii_alphanumeric alphanumeric-other (c ∷ held) (and_parts (list_all is_ascii_alphanumeric (c ∷ held)) (is_none (longest_name references (c ∷ held))) unknown).0)
           named
     ] refl h
 
@@ -215,14 +215,14 @@ plain-named exact in_value held next (Some entry) nonzero =
     (λ open_name. plain-if (in_value && goes_on (first_or (drop (length entry.name) held) next)) _ _ (λ going. (tt, no_null-ampersand)) (λ ends. ((tt, tt), no_null-entry entry nonzero)))
 
 -- the longest name of a table stands for a character other than NUL
-longest-nonzero : (names : List NamedReference) (text : List ℕ) → All (λ entry. has_zero entry ≡ false) names → IfSome (longest_name names text) (λ e. has_zero e ≡ false)
+longest-nonzero : (references : List NamedReference) (text : List ℕ) → All (λ entry. has_zero entry ≡ false) references → IfSome (longest_name references text) (λ e. has_zero e ≡ false)
 unfolding longest_name
 longest-nonzero [] text nonzero = tt
-longest-nonzero (entry ∷ names) text nonzero =
-    let first : has_zero entry ≡ false = All-head (λ e. has_zero e ≡ false) entry names nonzero in
-    let rest : IfSome (longest_name names text) (λ e. has_zero e ≡ false) = longest-nonzero names text (All-tail (λ e. has_zero e ≡ false) entry names nonzero) in
-    elim (starts_with nat_eq text entry.name) as (λ b. IfSome (if b then Some (longer entry (longest_name names text)) else longest_name names text) (λ e. has_zero e ≡ false)) [
-      | true ↦ longer-nonzero entry (longest_name names text) first rest
+longest-nonzero (entry ∷ references) text nonzero =
+    let first : has_zero entry ≡ false = All-head (λ e. has_zero e ≡ false) entry references nonzero in
+    let rest : IfSome (longest_name references text) (λ e. has_zero e ≡ false) = longest-nonzero references text (All-tail (λ e. has_zero e ≡ false) entry references nonzero) in
+    elim (starts_with nat_eq text entry.name) as (λ b. IfSome (if b then Some (longer entry (longest_name references text)) else longest_name references text) (λ e. has_zero e ≡ false)) [
+      | true ↦ longer-nonzero entry (longest_name references text) first rest
       | false ↦ rest
     ]
   where
@@ -233,12 +233,12 @@ longest-nonzero (entry ∷ names) text nonzero =
       | false ↦ f
     ]
 
-plain-reference : (rules : Rules) (in_value : Bool) (held : List ℕ) (next : Option ℕ) → IsTable rules.names → IsPlain (reference rules in_value held next)
+plain-reference : (rules : Rules) (in_value : Bool) (held : List ℕ) (next : Option ℕ) → IsTable rules.references → IsPlain (reference rules in_value held next)
 unfolding reference AllLawful
 plain-reference rules in_value [] next table = (tt, no_null-ampersand)
 plain-reference rules in_value (c ∷ held) next table =
     plain-if (c == number_sign) _ _ (λ sign. plain-number rules.exact held next)
-    (λ name. plain-named rules.exact in_value (c ∷ held) next (longest_name rules.names (c ∷ held)) (longest-nonzero rules.names (c ∷ held) table.nonzero))
+    (λ name. plain-named rules.exact in_value (c ∷ held) next (longest_name rules.references (c ∷ held)) (longest-nonzero rules.references (c ∷ held) table.nonzero))
 
 -- ---- what is sent of it
 
@@ -267,7 +267,7 @@ lawful-held_text stand (c ∷ held) h =
     (lawful-late_map _ _ _ (text_in stand (c ∷ [])) (lawful-text_in stand (c ∷ []) (no_null-cons c [] parts.0 no_null-nil)))
     (lawful-held_text stand held parts.1)
 
-pub lawful-late_tokens : (rules : Rules) (stand : Stand) (held : List ℕ) (next : Option ℕ) → IsTable rules.names → has_no_null held ≡ true
+pub lawful-late_tokens : (rules : Rules) (stand : Stand) (held : List ℕ) (next : Option ℕ) → IsTable rules.references → has_no_null held ≡ true
     → AllLawful (tokens_of_late (late_tokens stand (reference rules (in_value stand) held next) held))
 lawful-late_tokens rules stand held next table h =
     let found : Found = reference rules (in_value stand) held next in

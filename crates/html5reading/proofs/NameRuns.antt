@@ -26,11 +26,11 @@ use Rattle.markup5ever.proofs.NameOrder.{begins-itself}
 abbrev pub IsNoNumber : List ℕ → Type 0
 IsNoNumber text = first_or text None ≢ Some number_sign
 
-pub undecided-name : (names : List NamedReference) (held : List ℕ) (c : ℕ) → IsNoNumber (held ++ c ∷ [])
-    → is_undecided names (held ++ c ∷ []) ≡ (begins_name names (held ++ c ∷ []) || (list_all is_ascii_alphanumeric (held ++ c ∷ []) && is_none (longest_name names (held ++ c ∷ []))))
+pub undecided-name : (references : List NamedReference) (held : List ℕ) (c : ℕ) → IsNoNumber (held ++ c ∷ [])
+    → is_undecided references (held ++ c ∷ []) ≡ (begins_name references (held ++ c ∷ []) || (list_all is_ascii_alphanumeric (held ++ c ∷ []) && is_none (longest_name references (held ++ c ∷ []))))
 unfolding is_undecided
-undecided-name names [] c other = rw (ne_eqb c number_sign (λ e. other (ap Some e))) refl
-undecided-name names (d ∷ held) c other = rw (ne_eqb d number_sign (λ e. other (ap Some e))) refl
+undecided-name references [] c other = rw (ne_eqb c number_sign (λ e. other (ap Some e))) refl
+undecided-name references (d ∷ held) c other = rw (ne_eqb d number_sign (λ e. other (ap Some e))) refl
 
 no_number-front : (held : List ℕ) (c : ℕ) (text : List ℕ) → IsNoNumber (held ++ c ∷ text) → IsNoNumber (held ++ c ∷ [])
 no_number-front [] c text other = other
@@ -48,29 +48,29 @@ or-left_false true b h = h
 or-left_false false b h = refl
 
 -- where no name begins with one character more, the longest name stands before it
-longest-after : (names : List NamedReference) (held : List ℕ) (c : ℕ) (text : List ℕ) → begins_name names (held ++ c ∷ []) ≡ false
-    → longest_name names (held ++ c ∷ text) ≡ longest_name names held
-longest-after names held c text none =
+longest-after : (references : List NamedReference) (held : List ℕ) (c : ℕ) (text : List ℕ) → begins_name references (held ++ c ∷ []) ≡ false
+    → longest_name references (held ++ c ∷ text) ≡ longest_name references held
+longest-after references held c text none =
     let within : length held < length (held ++ c ∷ text) = omega (arith, length-append held (c ∷ text)) in
     let cut : take (suc (length held)) (held ++ c ∷ text) ≡ held ++ c ∷ [] = ap (λ n. take n (held ++ c ∷ text)) (sym (add-one (length held))) ∙ take-append-add held (c ∷ text) 1 in
-    longest-cut names (held ++ c ∷ text) (length held) within (ap (begins_name names) cut ∙ none)
-    ∙ ap (longest_name names) (take-append_seam held (c ∷ text))
+    longest-cut references (held ++ c ∷ text) (length held) within (ap (begins_name references) cut ∙ none)
+    ∙ ap (longest_name references) (take-append_seam held (c ∷ text))
 
 -- the longest name that begins what is held is the longest that begins the whole text
-pub longest-run : (names : List NamedReference) (held text : List ℕ) → IsNoNumber (held ++ text)
-    → longest_name names (held ++ run_while (is_undecided names) held text) ≡ longest_name names (held ++ text)
+pub longest-run : (references : List NamedReference) (held text : List ℕ) → IsNoNumber (held ++ text)
+    → longest_name references (held ++ run_while (is_undecided references) held text) ≡ longest_name references (held ++ text)
 unfolding run_while
-longest-run names held [] other = refl
-longest-run names held (c ∷ text) other =
-    let more : List ℕ = run_while (is_undecided names) (held ++ c ∷ []) text in
-    elim (is_undecided names (held ++ c ∷ [])) as (λ b. is_undecided names (held ++ c ∷ []) ≡ b → longest_name names (held ++ (if b then c ∷ more else [])) ≡ longest_name names (held ++ c ∷ text)) [
+longest-run references held [] other = refl
+longest-run references held (c ∷ text) other =
+    let more : List ℕ = run_while (is_undecided references) (held ++ c ∷ []) text in
+    elim (is_undecided references (held ++ c ∷ [])) as (λ b. is_undecided references (held ++ c ∷ []) ≡ b → longest_name references (held ++ (if b then c ∷ more else [])) ≡ longest_name references (held ++ c ∷ text)) [
       | true ↦ λ same.
-          ap (longest_name names) (sym (append_assoc held (c ∷ []) more))
-          ∙ longest-run names (held ++ c ∷ []) text (pushed IsNoNumber held c text other)
-          ∙ ap (longest_name names) (append_assoc held (c ∷ []) text)
+          ap (longest_name references) (sym (append_assoc held (c ∷ []) more))
+          ∙ longest-run references (held ++ c ∷ []) text (pushed IsNoNumber held c text other)
+          ∙ ap (longest_name references) (append_assoc held (c ∷ []) text)
       | false ↦ λ decides.
-          ap (longest_name names) (append-nil held)
-          ∙ sym (longest-after names held c text (or-left_false (begins_name names (held ++ c ∷ [])) _ (sym (undecided-name names held c (no_number-front held c text other)) ∙ decides)))
+          ap (longest_name references) (append-nil held)
+          ∙ sym (longest-after references held c text (or-left_false (begins_name references (held ++ c ∷ [])) _ (sym (undecided-name references held c (no_number-front held c text other)) ∙ decides)))
     ] refl
 
 -- ---- beginnings of a text that a name begins, or none
@@ -92,36 +92,36 @@ starts-either (a ∷ text) more (x ∷ name) starts other =
     grind (arith, nat_tests)
 
 -- a text that no name begins
-unnamed-parts : (x : NamedReference) (names : List NamedReference) (text : List ℕ) → longest_name (x ∷ names) text ≡ None
-    → (starts_with nat_eq text x.name ≡ false) × (longest_name names text ≡ None)
+unnamed-parts : (x : NamedReference) (references : List NamedReference) (text : List ℕ) → longest_name (x ∷ references) text ≡ None
+    → (starts_with nat_eq text x.name ≡ false) × (longest_name references text ≡ None)
 unfolding longest_name
-unnamed-parts x names text e =
-    elim (starts_with nat_eq text x.name) as (λ b. (if b then Some (longer x (longest_name names text)) else longest_name names text) ≡ None → (b ≡ false) × (longest_name names text ≡ None)) [
+unnamed-parts x references text e =
+    elim (starts_with nat_eq text x.name) as (λ b. (if b then Some (longer x (longest_name references text)) else longest_name references text) ≡ None → (b ≡ false) × (longest_name references text ≡ None)) [
       | true ↦ λ is. absurd cc
       | false ↦ λ is. (refl, is)
     ] e
 
-unnamed-front : (names : List NamedReference) (text more : List ℕ) → longest_name names (text ++ more) ≡ None → longest_name names text ≡ None
+unnamed-front : (references : List NamedReference) (text more : List ℕ) → longest_name references (text ++ more) ≡ None → longest_name references text ≡ None
 unfolding longest_name
 unnamed-front [] text more e = refl
-unnamed-front (x ∷ names) text more e =
-    let p = unnamed-parts x names (text ++ more) e in
-    elim (starts_with nat_eq text x.name) as (λ b. starts_with nat_eq text x.name ≡ b → (if b then Some (longer x (longest_name names text)) else longest_name names text) ≡ None) [
+unnamed-front (x ∷ references) text more e =
+    let p = unnamed-parts x references (text ++ more) e in
+    elim (starts_with nat_eq text x.name) as (λ b. starts_with nat_eq text x.name ≡ b → (if b then Some (longer x (longest_name references text)) else longest_name references text) ≡ None) [
       | true ↦ λ starts. absurd (false≢true (sym p.0 ∙ starts-longer text more x.name starts))
-      | false ↦ λ starts. unnamed-front names text more p.1
+      | false ↦ λ starts. unnamed-front references text more p.1
     ] refl
 
 -- where a name begins a text and more, but none begins the text, the text begins a name
-named-front : (names : List NamedReference) (text more : List ℕ) → is_none (longest_name names (text ++ more)) ≡ false → is_none (longest_name names text) ≡ true → begins_name names text ≡ true
+named-front : (references : List NamedReference) (text more : List ℕ) → is_none (longest_name references (text ++ more)) ≡ false → is_none (longest_name references text) ≡ true → begins_name references text ≡ true
 unfolding longest_name begins_name
 named-front [] text more some none = absurd (false≢true (sym some))
-named-front (x ∷ names) text more some none =
-    elim (starts_with nat_eq text x.name) as (λ b. starts_with nat_eq text x.name ≡ b → is_none (if b then Some (longer x (longest_name names text)) else longest_name names text) ≡ true → starts_with nat_eq x.name text || begins_name names text ≡ true) [
+named-front (x ∷ references) text more some none =
+    elim (starts_with nat_eq text x.name) as (λ b. starts_with nat_eq text x.name ≡ b → is_none (if b then Some (longer x (longest_name references text)) else longest_name references text) ≡ true → starts_with nat_eq x.name text || begins_name references text ≡ true) [
       | true ↦ λ starts is. absurd (false≢true is)
       | false ↦ λ starts is.
-          elim (starts_with nat_eq (text ++ more) x.name) as (λ b. starts_with nat_eq (text ++ more) x.name ≡ b → is_none (if b then Some (longer x (longest_name names (text ++ more))) else longest_name names (text ++ more)) ≡ false → starts_with nat_eq x.name text || begins_name names text ≡ true) [
+          elim (starts_with nat_eq (text ++ more) x.name) as (λ b. starts_with nat_eq (text ++ more) x.name ≡ b → is_none (if b then Some (longer x (longest_name references (text ++ more))) else longest_name references (text ++ more)) ≡ false → starts_with nat_eq x.name text || begins_name references text ≡ true) [
             | true ↦ λ whole same. rw (starts-either text more x.name whole starts) refl
-            | false ↦ λ whole same. rw (named-front names text more same is) (or-true (starts_with nat_eq x.name text))
+            | false ↦ λ whole same. rw (named-front references text more same is) (or-true (starts_with nat_eq x.name text))
           ] refl some
     ] refl none
 
@@ -133,17 +133,17 @@ absorbed false a true h = absurd (false≢true (h refl))
 absorbed false a false h = and-false a
 
 -- where a name begins the text, what is held is the longest beginning of the text that begins a name
-pub held-named : (names : List NamedReference) (held text : List ℕ) → IsNoNumber (held ++ text) → is_none (longest_name names (held ++ text)) ≡ false
-    → run_while (is_undecided names) held text ≡ run_while (begins_name names) held text
+pub held-named : (references : List NamedReference) (held text : List ℕ) → IsNoNumber (held ++ text) → is_none (longest_name references (held ++ text)) ≡ false
+    → run_while (is_undecided references) held text ≡ run_while (begins_name references) held text
 unfolding run_while
-held-named names held [] other some = refl
-held-named names held (c ∷ text) other some =
+held-named references held [] other some = refl
+held-named references held (c ∷ text) other some =
     let front : List ℕ = held ++ c ∷ [] in
-    let whole : is_none (longest_name names (front ++ text)) ≡ false = pushed (λ l. is_none (longest_name names l) ≡ false) held c text some in
-    let same : is_undecided names front ≡ begins_name names front =
-    undecided-name names held c (no_number-front held c text other)
-    ∙ absorbed (begins_name names front) (list_all is_ascii_alphanumeric front) (is_none (longest_name names front)) (named-front names front text whole) in
-    rw (same, held-named names front text (pushed IsNoNumber held c text other) whole) refl
+    let whole : is_none (longest_name references (front ++ text)) ≡ false = pushed (λ l. is_none (longest_name references l) ≡ false) held c text some in
+    let same : is_undecided references front ≡ begins_name references front =
+    undecided-name references held c (no_number-front held c text other)
+    ∙ absorbed (begins_name references front) (list_all is_ascii_alphanumeric front) (is_none (longest_name references front)) (named-front references front text whole) in
+    rw (same, held-named references front text (pushed IsNoNumber held c text other) whole) refl
 
 -- a plain name goes on after letters and digits alone
 pub odd-within : (p : ℕ → Bool) (before : List ℕ) (c : ℕ) (afterwards : List ℕ) → p c ≡ false → list_all p (before ++ c ∷ afterwards) ≡ false
@@ -163,7 +163,7 @@ plain-end before c (d ∷ afterwards) plain odd =
     ] (and_parts _ _ plain).1)
 
 abbrev ArePlain : List NamedReference → Type 0
-ArePlain names = All (λ entry. IsTrue (is_plain_name entry.name)) names
+ArePlain references = All (λ entry. IsTrue (is_plain_name entry.name)) references
 
 -- so a text that ends with another character begins no name but itself
 whole-name : (name held : List ℕ) (c : ℕ) → is_plain_name name ≡ true → is_ascii_alphanumeric c ≡ false → starts_with nat_eq name (held ++ c ∷ []) ≡ true
@@ -177,44 +177,44 @@ whole-name name held c plain odd begins =
     ap (starts_with nat_eq front) same ∙ begins-itself front
 
 -- where a text ends with such a character, and no name begins the text, the text begins no name
-unnamed-begins : (names : List NamedReference) (held : List ℕ) (c : ℕ) → ArePlain names → is_ascii_alphanumeric c ≡ false → longest_name names (held ++ c ∷ []) ≡ None
-    → begins_name names (held ++ c ∷ []) ≡ false
+unnamed-begins : (references : List NamedReference) (held : List ℕ) (c : ℕ) → ArePlain references → is_ascii_alphanumeric c ≡ false → longest_name references (held ++ c ∷ []) ≡ None
+    → begins_name references (held ++ c ∷ []) ≡ false
 unfolding begins_name
 unnamed-begins [] held c plain odd e = refl
-unnamed-begins (x ∷ names) held c plain odd e =
-    let p = unnamed-parts x names (held ++ c ∷ []) e in
-    or_from (starts_with nat_eq x.name (held ++ c ∷ [])) (begins_name names (held ++ c ∷ []))
+unnamed-begins (x ∷ references) held c plain odd e =
+    let p = unnamed-parts x references (held ++ c ∷ []) e in
+    or_from (starts_with nat_eq x.name (held ++ c ∷ [])) (begins_name references (held ++ c ∷ []))
     (elim (starts_with nat_eq x.name (held ++ c ∷ [])) as (λ b. starts_with nat_eq x.name (held ++ c ∷ []) ≡ b → b ≡ false) [
-      | true ↦ λ begins. sym (whole-name x.name held c (All-head (λ entry. IsTrue (is_plain_name entry.name)) x names plain) odd begins) ∙ p.0
+      | true ↦ λ begins. sym (whole-name x.name held c (All-head (λ entry. IsTrue (is_plain_name entry.name)) x references plain) odd begins) ∙ p.0
       | false ↦ λ begins. refl
     ] refl)
-    (unnamed-begins names held c (All-tail (λ entry. IsTrue (is_plain_name entry.name)) x names plain) odd p.1)
+    (unnamed-begins references held c (All-tail (λ entry. IsTrue (is_plain_name entry.name)) x references plain) odd p.1)
 
 -- where no name begins the text, what is held is its letters and digits
-pub held-unnamed : (names : List NamedReference) (held text : List ℕ) → ArePlain names → IsNoNumber (held ++ text) → longest_name names (held ++ text) ≡ None
-    → list_all is_ascii_alphanumeric held ≡ true → run_while (is_undecided names) held text ≡ run_of is_ascii_alphanumeric text
+pub held-unnamed : (references : List NamedReference) (held text : List ℕ) → ArePlain references → IsNoNumber (held ++ text) → longest_name references (held ++ text) ≡ None
+    → list_all is_ascii_alphanumeric held ≡ true → run_while (is_undecided references) held text ≡ run_of is_ascii_alphanumeric text
 unfolding run_while run_of
-held-unnamed names held [] plain other none all = refl
-held-unnamed names held (c ∷ text) plain other none all =
+held-unnamed references held [] plain other none all = refl
+held-unnamed references held (c ∷ text) plain other none all =
     let front : List ℕ = held ++ c ∷ [] in
-    let whole : longest_name names (front ++ text) ≡ None = pushed (λ l. longest_name names l ≡ None) held c text none in
-    let unnamed : longest_name names front ≡ None = unnamed-front names front text whole in
-    let named = undecided-name names held c (no_number-front held c text other) in
-    elim (is_ascii_alphanumeric c) as (λ b. is_ascii_alphanumeric c ≡ b → (if is_undecided names front then c ∷ run_while (is_undecided names) front text else []) ≡ (if b then c ∷ run_of is_ascii_alphanumeric text else [])) [
+    let whole : longest_name references (front ++ text) ≡ None = pushed (λ l. longest_name references l ≡ None) held c text none in
+    let unnamed : longest_name references front ≡ None = unnamed-front references front text whole in
+    let named = undecided-name references held c (no_number-front held c text other) in
+    elim (is_ascii_alphanumeric c) as (λ b. is_ascii_alphanumeric c ≡ b → (if is_undecided references front then c ∷ run_while (is_undecided references) front text else []) ≡ (if b then c ∷ run_of is_ascii_alphanumeric text else [])) [
       | true ↦ λ letter.
           let longer_all : list_all is_ascii_alphanumeric front ≡ true = list_all-append is_ascii_alphanumeric held (c ∷ []) ∙ rw (all, letter) refl in
-          let goes : is_undecided names front ≡ true = named ∙ rw (longer_all, unnamed) (or-true (begins_name names front)) in
-          rw goes (ap (λ l. c ∷ l) (held-unnamed names front text plain (pushed IsNoNumber held c text other) whole longer_all))
+          let goes : is_undecided references front ≡ true = named ∙ rw (longer_all, unnamed) (or-true (begins_name references front)) in
+          rw goes (ap (λ l. c ∷ l) (held-unnamed references front text plain (pushed IsNoNumber held c text other) whole longer_all))
       | false ↦ λ odd.
-          let ends : is_undecided names front ≡ false = named ∙ rw (unnamed-begins names held c plain odd unnamed, odd-within is_ascii_alphanumeric held c [] odd) refl in
+          let ends : is_undecided references front ≡ false = named ∙ rw (unnamed-begins references held c plain odd unnamed, odd-within is_ascii_alphanumeric held c [] odd) refl in
           rw ends refl
     ] refl
 
 -- both in one
-pub held-of_text : (names : List NamedReference) (text : List ℕ) → IsTable names → IsNoNumber text
-    → run_while (is_undecided names) [] text ≡ (if is_none (longest_name names text) then run_of is_ascii_alphanumeric text else run_while (begins_name names) [] text)
-held-of_text names text table other =
-    elim (longest_name names text) as (λ o. longest_name names text ≡ o → run_while (is_undecided names) [] text ≡ (if is_none o then run_of is_ascii_alphanumeric text else run_while (begins_name names) [] text)) [
-      | None ↦ λ none. held-unnamed names [] text table.plain other none refl
-      | Some entry ↦ λ some. held-named names [] text other (ap is_none some)
+pub held-of_text : (references : List NamedReference) (text : List ℕ) → IsTable references → IsNoNumber text
+    → run_while (is_undecided references) [] text ≡ (if is_none (longest_name references text) then run_of is_ascii_alphanumeric text else run_while (begins_name references) [] text)
+held-of_text references text table other =
+    elim (longest_name references text) as (λ o. longest_name references text ≡ o → run_while (is_undecided references) [] text ≡ (if is_none o then run_of is_ascii_alphanumeric text else run_while (begins_name references) [] text)) [
+      | None ↦ λ none. held-unnamed references [] text table.plain other none refl
+      | Some entry ↦ λ some. held-named references [] text other (ap is_none some)
     ] refl

@@ -333,7 +333,7 @@ unfolding reference NoTags
 no_tags-reference rules in_value [] next = tt
 no_tags-reference rules in_value (c ∷ held) next =
     no_tags-found (c == number_sign) _ _ (no_tags-number rules.exact held next)
-    (no_tags-named rules.exact in_value (c ∷ held) next (longest_name rules.names (c ∷ held)))
+    (no_tags-named rules.exact in_value (c ∷ held) next (longest_name rules.references (c ∷ held)))
 
 no_tags-text_in : (stand : Stand) (characters : List ℕ) → NoTags (text_in stand characters)
 unfolding NoTags
@@ -411,5 +411,5 @@ no_tags-settled rules foreign (InDoctype place d) c = tt
 no_tags-settled rules foreign (InDoctypeKeyword held d) c = no_tags-doctype_keyword rules.exact held d c
 no_tags-settled rules foreign (InCdata held) c = tt
 no_tags-settled rules foreign (InReference stand held) c =
-    no_tags-brought (is_undecided rules.names (held ++ c ∷ [])) _ _ tt
+    no_tags-brought (is_undecided rules.references (held ++ c ∷ [])) _ _ tt
     (no_tags-brought (ends_number held c) _ _ (no_tags-late_tokens rules stand held (Some c)) (no_tags-late_tokens rules stand held (Some c)))

@@ -19,7 +19,7 @@ use Rattle.html5reading.specs.Reference.{Found, in_value, reference, held_text, 
 use Rattle.html5ever_interface.specs.declared.states.AttrValueKind.{AttrValueKind}
 use Rattle.html5reading.specs.Reading.Here.{Tells, TellsTag}
 use Rattle.html5reading.specs.Slice.{Slice, Late, cut_off, tokens_of_late}
-use Rattle.html5reading.specs.Start.{Input, OpenTag, Stand, Start, Open, Mode, Rules, is_clean}
+use Rattle.html5reading.specs.Start.{Input, OpenTag, Stand, Start, Open, Mode, Rules, is_between}
 use Rattle.html5reading.specs.Start.Mode.{Data, Plain, RawText, Cdata}
 use Rattle.html5reading.specs.Start.Stand.{InText, InAttribute}
 use Rattle.html5reading.specs.Start.Open.{Between, LessThan, LessThanSolidus, InTag, InRaw, InDeclaration, InComment, InBogusComment, InInstruction, InDoctype, InDoctypeKeyword, InReference, InCdata}
@@ -28,20 +28,20 @@ use Rattle.html5reading.proofs.InputLemmas.{line_past, lines_past, normalised-ap
 use Rattle.html5reading.proofs.Traces.{Trace, Traces, with_messages, trace, trace_here, trace_brought, traces, messages-append, messages-map, messages-late}
 
 -- where nothing is open there is a mode
-pub clean-mode : (opened : Open) → is_clean opened ≡ true → (mode : Mode) × (opened ≡ Between mode)
-clean-mode (Between mode) h = (mode, refl)
-clean-mode LessThan h = absurd (false≢true h)
-clean-mode LessThanSolidus h = absurd (false≢true h)
-clean-mode (InTag place tag) h = absurd (false≢true h)
-clean-mode (InRaw place name) h = absurd (false≢true h)
-clean-mode (InDeclaration held) h = absurd (false≢true h)
-clean-mode (InComment before) h = absurd (false≢true h)
-clean-mode (InBogusComment before) h = absurd (false≢true h)
-clean-mode (InInstruction text) h = absurd (false≢true h)
-clean-mode (InDoctype place d) h = absurd (false≢true h)
-clean-mode (InDoctypeKeyword held d) h = absurd (false≢true h)
-clean-mode (InCdata held) h = absurd (false≢true h)
-clean-mode (InReference stand held) h = absurd (false≢true h)
+pub between-mode : (opened : Open) → is_between opened ≡ true → (mode : Mode) × (opened ≡ Between mode)
+between-mode (Between mode) h = (mode, refl)
+between-mode LessThan h = absurd (false≢true h)
+between-mode LessThanSolidus h = absurd (false≢true h)
+between-mode (InTag place tag) h = absurd (false≢true h)
+between-mode (InRaw place name) h = absurd (false≢true h)
+between-mode (InDeclaration held) h = absurd (false≢true h)
+between-mode (InComment before) h = absurd (false≢true h)
+between-mode (InBogusComment before) h = absurd (false≢true h)
+between-mode (InInstruction text) h = absurd (false≢true h)
+between-mode (InDoctype place d) h = absurd (false≢true h)
+between-mode (InDoctypeKeyword held d) h = absurd (false≢true h)
+between-mode (InCdata held) h = absurd (false≢true h)
+between-mode (InReference stand held) h = absurd (false≢true h)
 
 pub take_while-cons : {X : Type 0} → (p : X → Bool) (x : X) (xs : List X) → p x ≡ true → take_while p (x ∷ xs) ≡ x ∷ take_while p xs
 take_while-cons p x xs h = rw (h, one-add) refl

@@ -35,15 +35,15 @@ abbrev entry : List ℕ → ℕ → NamedReference
 entry name c = record { name = name; first = c; second = None }
 
 -- the profile table
-abbrev names : List NamedReference
-names =
+abbrev references : List NamedReference
+references =
     entry (codes "amp") 0x26 ∷ entry (codes "amp;") 0x26 ∷ entry (codes "gt") 0x3E ∷ entry (codes "gt;") 0x3E
     ∷ entry (codes "lt") 0x3C ∷ entry (codes "lt;") 0x3C ∷ record { name = codes "nGt;"; first = 0x226B; second = Some 0x20D2 }
     ∷ entry (codes "not") 0xAC ∷ entry (codes "not;") 0xAC ∷ entry (codes "notin;") 0x2209
     ∷ entry (codes "quot") 0x22 ∷ entry (codes "quot;") 0x22 ∷ []
 
 abbrev events : Bool → List ℕ → List Event
-events exact text = reading {S = ℕ} {H = ℕ} (λ s t l. s) (λ s t l. KeepOn) (λ s. false) (record { exact = exact; names = names }) start 0 text
+events exact text = reading {S = ℕ} {H = ℕ} (λ s t l. s) (λ s t l. KeepOn) (λ s. false) (record { exact = exact; references = references }) start 0 text
 
 abbrev event : Told → TextPlace → TextPlace → ℕ → Event
 event token stands decided_by line = record { message = record { token = token; line = line }; stands = stands; decided_by = decided_by }

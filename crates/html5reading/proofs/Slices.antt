@@ -637,13 +637,13 @@ module _ (rules : Rules) (foreign : Bool) (c : ℕ) (text : List ℕ) where
       (ap (λ h. record { settled = late_tokens stand (reference rules (in_value stand) held (Some c)) held; here = h })
       (here-opened_in stand (characters_in (reference rules (in_value stand) held (Some c)) ++ drop (reference rules (in_value stand) held (Some c)).taken held)))
 
-  brings-reference : (stand : Stand) (held : List ℕ) (undecided : Bool) → is_undecided rules.names (held ++ c ∷ []) ≡ undecided
+  brings-reference : (stand : Stand) (held : List ℕ) (undecided : Bool) → is_undecided rules.references (held ++ c ∷ []) ≡ undecided
       → brings (reference_text rules stand held (c ∷ text)) (reference_step rules stand held c)
   unfolding reference_text reference_step rest_of here slice_at brought
   brings-reference stand held true h =
-      ap (λ (s : Slice). brought rules foreign s c text) (with_while-member (is_undecided rules.names) (after_held rules stand) held c text h) ∙ rw h refl
+      ap (λ (s : Slice). brought rules foreign s c text) (with_while-member (is_undecided rules.references) (after_held rules stand) held c text h) ∙ rw h refl
   brings-reference stand held false h =
-      ap (λ (s : Slice). brought rules foreign s c text) (with_while-none (is_undecided rules.names) (after_held rules stand) held c text h) ∙ rw h (brings-after_held stand held)
+      ap (λ (s : Slice). brought rules foreign s c text) (with_while-none (is_undecided rules.references) (after_held rules stand) held c text h) ∙ rw h (brings-after_held stand held)
 
   -- after `<!`
 
@@ -692,4 +692,4 @@ module _ (rules : Rules) (foreign : Bool) (c : ℕ) (text : List ℕ) where
   rest_of-brought_at (InDoctype place d) = brings-from (rest_of rules (InDoctype place d) (c ∷ text)) _ (follows-doctype place d)
   rest_of-brought_at (InDoctypeKeyword held d) = brings-doctype_keyword held d
   rest_of-brought_at (InCdata held) = brings-from (rest_of rules (InCdata held) (c ∷ text)) _ (follows-cdata held)
-  rest_of-brought_at (InReference stand held) = brings-reference stand held (is_undecided rules.names (held ++ c ∷ [])) refl
+  rest_of-brought_at (InReference stand held) = brings-reference stand held (is_undecided rules.references (held ++ c ∷ [])) refl

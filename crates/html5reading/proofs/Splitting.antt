@@ -196,7 +196,7 @@ settles-reference : (rules : Rules) (stand : Stand) (held : List ℕ) (c : ℕ) 
 unfolding reference_step
 settles-reference rules stand held c =
     let found : Found = reference rules (in_value stand) held (Some c) in
-    settles-if (is_undecided rules.names (held ++ c ∷ [])) _ _ (settles-nothing _)
+    settles-if (is_undecided rules.references (held ++ c ∷ [])) _ _ (settles-nothing _)
     (settles-if (ends_number held c) _ _
     (settles-late (late_tokens stand found held) (Tells [] (opened_after stand found held)) (decided-late_tokens stand found held))
     (settles-late (late_tokens stand found held) (step_at rules.exact (opened_after stand found held) c) (decided-late_tokens stand found held)))

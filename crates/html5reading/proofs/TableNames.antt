@@ -63,21 +63,21 @@ starts-shorter (a ∷ text) (x ∷ n) starts other =
 -- ---- the longest of a table
 
 -- the longest name begins the text
-longest-starts : (names : List NamedReference) (text : List ℕ) (found : NamedReference) → longest_name names text ≡ Some found → starts_with nat_eq text found.name ≡ true
+longest-starts : (references : List NamedReference) (text : List ℕ) (found : NamedReference) → longest_name references text ≡ Some found → starts_with nat_eq text found.name ≡ true
 unfolding longest_name
 longest-starts [] text found e = absurd cc
-longest-starts (x ∷ names) text found e =
-    elim (starts_with nat_eq text x.name) as (λ b. starts_with nat_eq text x.name ≡ b → (if b then Some (longer x (longest_name names text)) else longest_name names text) ≡ Some found → starts_with nat_eq text found.name ≡ true) [
+longest-starts (x ∷ references) text found e =
+    elim (starts_with nat_eq text x.name) as (λ b. starts_with nat_eq text x.name ≡ b → (if b then Some (longer x (longest_name references text)) else longest_name references text) ≡ Some found → starts_with nat_eq text found.name ≡ true) [
       | true ↦ λ starts same.
-          elim (longest_name names text) as (λ o. longest_name names text ≡ o → Some (longer x o) ≡ Some found → starts_with nat_eq text found.name ≡ true) [
+          elim (longest_name references text) as (λ o. longest_name references text ≡ o → Some (longer x o) ≡ Some found → starts_with nat_eq text found.name ≡ true) [
             | None ↦ λ none is. let same : x ≡ found = cc in rw same at starts
             | Some other ↦ λ some is.
                 elim (nat_lt (length x.name) (length other.name)) as (λ b. Some (if b then other else x) ≡ Some found → starts_with nat_eq text found.name ≡ true) [
-                  | true ↦ λ is. let same : other ≡ found = cc in rw same at (longest-starts names text other some)
+                  | true ↦ λ is. let same : other ≡ found = cc in rw same at (longest-starts references text other some)
                   | false ↦ λ is. let same : x ≡ found = cc in rw same at starts
                 ] is
           ] refl same
-      | false ↦ λ starts same. longest-starts names text found same
+      | false ↦ λ starts same. longest-starts references text found same
     ] refl e
 
 -- the entry of a name
@@ -89,26 +89,26 @@ pub record IsEntryOf (found : Option NamedReference) (name : List ℕ) (first : 
   pub second_is : entry.second ≡ second
 
 -- a text that is a name itself
-pub longest-found : (names : List NamedReference) (name : List ℕ) (first : ℕ) (second : Option ℕ) → characters_of_name names name ≡ Some (first, second) → IsEntryOf (longest_name names name) name first second
+pub longest-found : (references : List NamedReference) (name : List ℕ) (first : ℕ) (second : Option ℕ) → characters_of_name references name ≡ Some (first, second) → IsEntryOf (longest_name references name) name first second
 unfolding longest_name characters_of_name
 longest-found [] name first second e = absurd cc
-longest-found (x ∷ names) name first second e =
-    elim (bytes_eq x.name name) as (λ b. bytes_eq x.name name ≡ b → (if b then Some (x.first, x.second) else characters_of_name names name) ≡ Some (first, second) → IsEntryOf (longest_name (x ∷ names) name) name first second) [
+longest-found (x ∷ references) name first second e =
+    elim (bytes_eq x.name name) as (λ b. bytes_eq x.name name ≡ b → (if b then Some (x.first, x.second) else characters_of_name references name) ≡ Some (first, second) → IsEntryOf (longest_name (x ∷ references) name) name first second) [
       | true ↦ λ same is.
           let parts = some_pair_parts x.first first x.second second is in
           let whole : x.name ≡ name = bytes_eq-same x.name name same in
           let starts : starts_with nat_eq name x.name ≡ true = rw whole (begins-itself name) in
           rw starts (
-          elim (longest_name names name) as (λ o. longest_name names name ≡ o → IsEntryOf (Some (longer x o)) name first second) [
+          elim (longest_name references name) as (λ o. longest_name references name ≡ o → IsEntryOf (Some (longer x o)) name first second) [
             | None ↦ λ none. record { entry = x; is = refl; name_is = whole; first_is = parts.0; second_is = parts.1 }
             | Some other ↦ λ some.
-                let within : length other.name ≤ length name = starts-length name other.name (longest-starts names name other some) in
+                let within : length other.name ≤ length name = starts-length name other.name (longest-starts references name other some) in
                 let long : length x.name ≡ length name = ap length whole in
                 let no : nat_lt (length x.name) (length other.name) ≡ false = grind (arith, nat_tests) in
                 rw no (record { entry = x; is = refl; name_is = whole; first_is = parts.0; second_is = parts.1 })
           ] refl)
       | false ↦ λ other is.
-          let rest = longest-found names name first second is in
+          let rest = longest-found references name first second is in
           rw rest.is (
           elim (starts_with nat_eq name x.name) as (λ b. starts_with nat_eq name x.name ≡ b → IsEntryOf (if b then Some (longer x (Some rest.entry)) else Some rest.entry) name first second) [
             | true ↦ λ starts.
@@ -121,23 +121,23 @@ longest-found (x ∷ names) name first second e =
     ] refl e
 
 -- a text that is no name itself begins with the names of the text without its last character
-pub longest-push : (names : List NamedReference) (p : List ℕ) (c : ℕ) → characters_of_name names (p ++ c ∷ []) ≡ None → longest_name names (p ++ c ∷ []) ≡ longest_name names p
+pub longest-push : (references : List NamedReference) (p : List ℕ) (c : ℕ) → characters_of_name references (p ++ c ∷ []) ≡ None → longest_name references (p ++ c ∷ []) ≡ longest_name references p
 unfolding longest_name characters_of_name
 longest-push [] p c e = refl
-longest-push (x ∷ names) p c e =
-    elim (bytes_eq x.name (p ++ c ∷ [])) as (λ b. bytes_eq x.name (p ++ c ∷ []) ≡ b → (if b then Some (x.first, x.second) else characters_of_name names (p ++ c ∷ [])) ≡ None → longest_name (x ∷ names) (p ++ c ∷ []) ≡ longest_name (x ∷ names) p) [
+longest-push (x ∷ references) p c e =
+    elim (bytes_eq x.name (p ++ c ∷ [])) as (λ b. bytes_eq x.name (p ++ c ∷ []) ≡ b → (if b then Some (x.first, x.second) else characters_of_name references (p ++ c ∷ [])) ≡ None → longest_name (x ∷ references) (p ++ c ∷ []) ≡ longest_name (x ∷ references) p) [
       | true ↦ λ same is. absurd cc
-      | false ↦ λ other is. rw (starts-push p x.name c other, longest-push names p c is) refl
+      | false ↦ λ other is. rw (starts-push p x.name c other, longest-push references p c is) refl
     ] refl e
 
 -- where no name begins with one character more, the names of the text are those up to there
-pub longest-cut : (names : List NamedReference) (text : List ℕ) (len : ℕ) → len < length text → begins_name names (take (suc len) text) ≡ false → longest_name names text ≡ longest_name names (take len text)
+pub longest-cut : (references : List NamedReference) (text : List ℕ) (len : ℕ) → len < length text → begins_name references (take (suc len) text) ≡ false → longest_name references text ≡ longest_name references (take len text)
 unfolding longest_name begins_name
 longest-cut [] text len within other = refl
-longest-cut (x ∷ names) text len within other =
-    elim (starts_with nat_eq x.name (take (suc len) text)) as (λ b. starts_with nat_eq x.name (take (suc len) text) ≡ b → b || begins_name names (take (suc len) text) ≡ false → longest_name (x ∷ names) text ≡ longest_name (x ∷ names) (take len text)) [
+longest-cut (x ∷ references) text len within other =
+    elim (starts_with nat_eq x.name (take (suc len) text)) as (λ b. starts_with nat_eq x.name (take (suc len) text) ≡ b → b || begins_name references (take (suc len) text) ≡ false → longest_name (x ∷ references) text ≡ longest_name (x ∷ references) (take len text)) [
       | true ↦ λ begins is. absurd cc
-      | false ↦ λ no is. rw (starts-cut text x.name len within no, longest-cut names text len within is) refl
+      | false ↦ λ no is. rw (starts-cut text x.name len within no, longest-cut references text len within is) refl
     ] refl other
 
 -- a name has a letter, so none begins a text of no character
@@ -146,11 +146,11 @@ unfolding is_plain_name
 starts-nil [] plain = absurd cc
 starts-nil (x ∷ n) plain = refl
 
-pub longest-nil : (names : List NamedReference) → All (λ entry. IsTrue (is_plain_name entry.name)) names → longest_name names [] ≡ None
+pub longest-nil : (references : List NamedReference) → All (λ entry. IsTrue (is_plain_name entry.name)) references → longest_name references [] ≡ None
 unfolding longest_name
 longest-nil [] plain = refl
-longest-nil (x ∷ names) plain =
-    rw (starts-nil x.name (All-head (λ entry. IsTrue (is_plain_name entry.name)) x names plain), longest-nil names (All-tail (λ entry. IsTrue (is_plain_name entry.name)) x names plain)) refl
+longest-nil (x ∷ references) plain =
+    rw (starts-nil x.name (All-head (λ entry. IsTrue (is_plain_name entry.name)) x references plain), longest-nil references (All-tail (λ entry. IsTrue (is_plain_name entry.name)) x references plain)) refl
 
 -- ---- plain names
 
@@ -178,13 +178,13 @@ named_alone name plain =
     ] refl (and_parts _ _ plain).1
 
 -- a text with a character that no name has begins no name
-pub none_begins : (names : List NamedReference) (text : List ℕ) → All (λ entry. IsTrue (is_plain_name entry.name)) names → list_all is_name_character text ≡ false → begins_name names text ≡ false
+pub none_begins : (references : List NamedReference) (text : List ℕ) → All (λ entry. IsTrue (is_plain_name entry.name)) references → list_all is_name_character text ≡ false → begins_name references text ≡ false
 unfolding begins_name
 none_begins [] text plain odd = refl
-none_begins (x ∷ names) text plain odd =
-    let rest = none_begins names text (All-tail (λ entry. IsTrue (is_plain_name entry.name)) x names plain) odd in
-    let named : list_all is_name_character x.name ≡ true = named_alone x.name (All-head (λ entry. IsTrue (is_plain_name entry.name)) x names plain) in
-    or_from (starts_with nat_eq x.name text) (begins_name names text) (
+none_begins (x ∷ references) text plain odd =
+    let rest = none_begins references text (All-tail (λ entry. IsTrue (is_plain_name entry.name)) x references plain) odd in
+    let named : list_all is_name_character x.name ≡ true = named_alone x.name (All-head (λ entry. IsTrue (is_plain_name entry.name)) x references plain) in
+    or_from (starts_with nat_eq x.name text) (begins_name references text) (
     elim (starts_with nat_eq x.name text) as (λ b. starts_with nat_eq x.name text ≡ b → b ≡ false) [
       | true ↦ λ begins.
           let parts : x.name ≡ text ++ drop (length text) x.name = (starts_is Decides-eqb x.name text (starts_with nat_eq x.name text) refl).0 begins in
@@ -200,21 +200,21 @@ begins-append : (text rest : List ℕ) → starts_with nat_eq (text ++ rest) tex
 begins-append text rest =
     (starts_is Decides-eqb (text ++ rest) text (starts_with nat_eq (text ++ rest) text) refl).1 rest refl
 
-pub begins-entry : (names : List NamedReference) (text rest : List ℕ) (found : ℕ × Option ℕ) → characters_of_name names (text ++ rest) ≡ Some found → begins_name names text ≡ true
+pub begins-entry : (references : List NamedReference) (text rest : List ℕ) (found : ℕ × Option ℕ) → characters_of_name references (text ++ rest) ≡ Some found → begins_name references text ≡ true
 unfolding begins_name characters_of_name
 begins-entry [] text rest found e = absurd cc
-begins-entry (x ∷ names) text rest found e =
-    elim (bytes_eq x.name (text ++ rest)) as (λ b. bytes_eq x.name (text ++ rest) ≡ b → (if b then Some (x.first, x.second) else characters_of_name names (text ++ rest)) ≡ Some found → starts_with nat_eq x.name text || begins_name names text ≡ true) [
+begins-entry (x ∷ references) text rest found e =
+    elim (bytes_eq x.name (text ++ rest)) as (λ b. bytes_eq x.name (text ++ rest) ≡ b → (if b then Some (x.first, x.second) else characters_of_name references (text ++ rest)) ≡ Some found → starts_with nat_eq x.name text || begins_name references text ≡ true) [
       | true ↦ λ same is. rw (bytes_eq-same x.name (text ++ rest) same, begins-append text rest) refl
-      | false ↦ λ other is. rw (begins-entry names text rest found is) (or-true (starts_with nat_eq x.name text))
+      | false ↦ λ other is. rw (begins-entry references text rest found is) (or-true (starts_with nat_eq x.name text))
     ] refl e
 
-pub plain-entry : (names : List NamedReference) (name : List ℕ) (found : ℕ × Option ℕ) → All (λ entry. IsTrue (is_plain_name entry.name)) names
-    → characters_of_name names name ≡ Some found → is_plain_name name ≡ true
+pub plain-entry : (references : List NamedReference) (name : List ℕ) (found : ℕ × Option ℕ) → All (λ entry. IsTrue (is_plain_name entry.name)) references
+    → characters_of_name references name ≡ Some found → is_plain_name name ≡ true
 unfolding characters_of_name
 plain-entry [] name found plain e = absurd cc
-plain-entry (x ∷ names) name found plain e =
-    elim (bytes_eq x.name name) as (λ b. bytes_eq x.name name ≡ b → (if b then Some (x.first, x.second) else characters_of_name names name) ≡ Some found → is_plain_name name ≡ true) [
-      | true ↦ λ same is. subst (λ n. is_plain_name n ≡ true) (bytes_eq-same x.name name same) (All-head (λ entry. IsTrue (is_plain_name entry.name)) x names plain)
-      | false ↦ λ other is. plain-entry names name found (All-tail (λ entry. IsTrue (is_plain_name entry.name)) x names plain) is
+plain-entry (x ∷ references) name found plain e =
+    elim (bytes_eq x.name name) as (λ b. bytes_eq x.name name ≡ b → (if b then Some (x.first, x.second) else characters_of_name references name) ≡ Some found → is_plain_name name ≡ true) [
+      | true ↦ λ same is. subst (λ n. is_plain_name n ≡ true) (bytes_eq-same x.name name same) (All-head (λ entry. IsTrue (is_plain_name entry.name)) x references plain)
+      | false ↦ λ other is. plain-entry references name found (All-tail (λ entry. IsTrue (is_plain_name entry.name)) x references plain) is
     ] refl e

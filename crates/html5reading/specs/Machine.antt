@@ -332,7 +332,7 @@ step_at exact undecided c = Tells [] undecided
 unfoldable pub reference_step : Rules → Stand → List ℕ → ℕ → Brought Open
 reference_step rules stand held c =
     let found : Found = reference rules (in_value stand) held (Some c) in
-    if is_undecided rules.names (held ++ c ∷ []) then record { settled = []; here = Tells [] (InReference stand (held ++ c ∷ [])) }
+    if is_undecided rules.references (held ++ c ∷ []) then record { settled = []; here = Tells [] (InReference stand (held ++ c ∷ [])) }
     else if ends_number held c then record { settled = late_tokens stand found held; here = Tells [] (opened_after stand found held) }
     else record { settled = late_tokens stand found held; here = step_at rules.exact (opened_after stand found held) c }
 

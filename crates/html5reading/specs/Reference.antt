@@ -133,8 +133,8 @@ longer entry (Some other) = if nat_lt (length entry.name) (length other.name) th
 -- "Named character reference state": the entry with the longest name that begins the text
 unfoldable pub longest_name : List NamedReference → List ℕ → Option NamedReference
 longest_name [] text = None
-longest_name (entry ∷ names) text =
-    if starts_with nat_eq text entry.name then Some (longer entry (longest_name names text)) else longest_name names text
+longest_name (entry ∷ references) text =
+    if starts_with nat_eq text entry.name then Some (longer entry (longest_name references text)) else longest_name references text
 
 -- the second character of an entry, where it has one
 abbrev pub second_of : Option ℕ → List ℕ
@@ -185,10 +185,10 @@ named_reference exact in_value held next (Some entry) =
 
 -- "Character reference state": whether what stands after `&` leaves a reference undecided
 unfoldable pub is_undecided : List NamedReference → List ℕ → Bool
-is_undecided names [] = true
-is_undecided names (c ∷ held) =
+is_undecided references [] = true
+is_undecided references (c ∷ held) =
     if c == number_sign then is_number held
-    else begins_name names (c ∷ held) || (list_all is_ascii_alphanumeric (c ∷ held) && is_none (longest_name names (c ∷ held)))
+    else begins_name references (c ∷ held) || (list_all is_ascii_alphanumeric (c ∷ held) && is_none (longest_name references (c ∷ held)))
 
 -- "Character reference state": the reference, in a value or not, where so much was held and that follows, which is `None` at the
 -- end
@@ -196,7 +196,7 @@ unfoldable pub reference : Rules → Bool → List ℕ → Option ℕ → Found
 reference rules in_value [] next = no_reference []
 reference rules in_value (c ∷ held) next =
     if c == number_sign then number_reference rules.exact held next
-    else named_reference rules.exact in_value (c ∷ held) next (longest_name rules.names (c ∷ held))
+    else named_reference rules.exact in_value (c ∷ held) next (longest_name rules.references (c ∷ held))
 
 -- "Hexadecimal character reference state" and "Decimal character reference state": whether c is the semicolon of a number
 unfoldable pub ends_number : List ℕ → ℕ → Bool
@@ -244,5 +244,5 @@ after_held rules stand held (c ∷ text) =
 -- "Character reference state": a reference, of which so much was held
 unfoldable pub reference_text : Rules → Stand → List ℕ → List ℕ → Slice
 reference_text rules stand held text =
-    let run : List ℕ = run_while (is_undecided rules.names) held text in
-    with_run silent run (after_held rules stand (held ++ run) (after_while (is_undecided rules.names) held text))
+    let run : List ℕ = run_while (is_undecided rules.references) held text in
+    with_run silent run (after_held rules stand (held ++ run) (after_while (is_undecided rules.references) held text))

@@ -142,9 +142,9 @@ pub data Open : Type 0 where
   InReference : Stand → List ℕ → Open
 
 -- whether nothing is open, so that what follows can be read anew
-abbrev pub is_clean : Open → Bool
-is_clean (Between mode) = true
-is_clean other = false
+abbrev pub is_between : Open → Bool
+is_between (Between mode) = true
+is_between other = false
 
 -- whether a reference or a keyword is not decided
 abbrev pub is_undecided_open : Open → Bool
@@ -163,7 +163,7 @@ held_len other = 0
 -- what a reading goes by: whether errors are exact, and the table of named references
 pub record Rules : Type 0 where
   pub exact : Bool
-  pub names : List NamedReference
+  pub references : List NamedReference
 
 -- how the characters of a stream come in
 pub record Input : Type 0 where

@@ -12,7 +12,7 @@ ghost use Rattle.html5reading.specs.Characters.{number_sign};
 ghost use Rattle.html5reading.specs.NormalisedText.{normalised};
 ghost use Rattle.html5reading.specs.Reference.{first_or, is_undecided, longest_name};
 ghost use Rattle.html5reading.specs.Slice.{run_of, run_while};
-ghost use Rattle.html5reading.specs.Start.{Start, Rules, is_clean};
+ghost use Rattle.html5reading.specs.Start.{Start, Rules, is_between};
 ghost use Rattle.markup5ever.specs.NamedReferences.{NamedReference, IsTable, begins_name};
 
 use html5ever_interface::interface::sink::TokenSink;
@@ -55,13 +55,13 @@ pub fn told_of_a_split<S: TokenSink<Token<A>>, A: Allocator>()
 /// beginning of the text that begins a name. Where no name begins the text, it is the text's letters
 /// and digits up to another character.
 pub fn longest_name_of_text()
-    ensures name { (names : List NamedReference) (text : List ℕ) → first_or text None ≢ Some number_sign →
-        longest_name names (run_while (is_undecided names) [] text) ≡ longest_name names text }
-    ensures held { (names : List NamedReference) (text : List ℕ) → IsTable names
+    ensures name { (references : List NamedReference) (text : List ℕ) → first_or text None ≢ Some number_sign →
+        longest_name references (run_while (is_undecided references) [] text) ≡ longest_name references text }
+    ensures held { (references : List NamedReference) (text : List ℕ) → IsTable references
         → first_or text None ≢ Some number_sign →
-        run_while (is_undecided names) [] text
-        ≡ (if is_none (longest_name names text) then run_of is_ascii_alphanumeric text
-        else run_while (begins_name names) [] text) }
+        run_while (is_undecided references) [] text
+        ≡ (if is_none (longest_name references text) then run_of is_ascii_alphanumeric text
+        else run_while (begins_name references) [] text) }
 {}
 
 /// A tag that the end of input cuts off is never sent: what the end decides and tells has no tag.
@@ -74,7 +74,7 @@ pub fn tags_cut_off<S: TokenSink<Token<A>>, A: Allocator>()
 /// text has no NUL. A tag's name begins with a letter, its names have no capital, and no attribute
 /// comes twice. A doctype's name has no capital.
 pub fn lawful_tokens<S: TokenSink<Token<A>>, A: Allocator>()
-    ensures { (rules : Rules) (K : Start) (s : S.State) (text : List ℕ) → IsTable rules.names → is_clean K.opened
+    ensures { (rules : Rules) (K : Start) (s : S.State) (text : List ℕ) → IsTable rules.references → is_between K.opened
         ≡ true →
         All (λ m. IsLawful m.token) (all_messages S.means rules K s text) }
 {}

@@ -6,8 +6,8 @@ use Rattle.html5ever_interface.specs.Collected.{told_text, kept_text, last_with_
 use Rattle.html5ever_interface.specs.Sink.{Message, stepped}
 use Rattle.html5ever_interface.specs.Token.{Told, is_text}
 use Rattle.html5ever_interface.specs.Token.Told.{Text, End}
-use Rattle.html5records.specs.Events.{Recorded, text_closing, added_by, added_by_text, open_after, recorded_step, WritesOn, closed_bytes, joined}
-use Rattle.html5records.specs.EventLaws.{recorded_empty}
+use Rattle.html5records.specs.Recording.{Recorded, text_closing, added_by, added_by_text, open_after, recorded_step, WritesOn, closed_bytes, joined}
+use Rattle.html5records.specs.RecordedLaws.{recorded_empty}
 use Rattle.html5records.specs.Records.{text_end, parts, heading_of, record_of, records_of}
 use Rattle.html5records.proofs.Written.{flat_map-push, added_by-other}
 

@@ -8,7 +8,7 @@ use Rattle.markup5ever.specs.Names.{AttributeOf, attribute_of}
 use Rattle.markup5ever.specs.declared.interface.Attribute.{Attribute}
 use Rattle.html5ever_interface.specs.Token.{Told, is_text}
 use Rattle.html5ever_interface.specs.Token.Told.{Text}
-use Rattle.html5records.specs.Events.{text_closing, added_by}
+use Rattle.html5records.specs.Recording.{text_closing, added_by}
 use Rattle.html5records.specs.Records.{attribute_record, heading, heading_of, code_of, record_of, BeginsWith}
 
 -- what is written for one thing more
@@ -16,13 +16,13 @@ pub flat_map-push : {X : Type 0} (f : X → List ℕ) (xs : List X) (x : X) → 
 flat_map-push f xs x = flat_map-append f xs (x ∷ []) ∙ ap (λ l. flat_map f xs ++ l) (append-nil (f x))
 
 -- a page that has the first `i` attributes, and then one more
-pub attributes-more : {Z : Type 0} (old page next : List ℕ) (attributes : List (Attribute Z)) (i : ℕ) (attribute : Attribute Z)
-    → page ≡ old ++ flat_map attribute_record (map attribute_of (take i attributes))
+pub attributes-more : {Z : Type 0} (old written next : List ℕ) (attributes : List (Attribute Z)) (i : ℕ) (attribute : Attribute Z)
+    → written ≡ old ++ flat_map attribute_record (map attribute_of (take i attributes))
     → attribute ≡ get_or attributes i attribute
     → i < length attributes
-    → next ≡ page ++ attribute_record (attribute_of attribute)
+    → next ≡ written ++ attribute_record (attribute_of attribute)
     → next ≡ old ++ flat_map attribute_record (map attribute_of (take (i + 1) attributes))
-attributes-more old page next attributes i attribute before here within written =
+attributes-more old written next attributes i attribute before here within written =
     let front : List AttributeOf = map attribute_of (take i attributes) in
     let more : map attribute_of (take (i + 1) attributes) ≡ front ++ attribute_of attribute ∷ [] =
     map_more attribute_of attributes i attribute within ∙ ap (λ a. front ++ attribute_of a ∷ []) (sym here) in
@@ -36,9 +36,9 @@ pub BeginsWith-less : (xs ys zs ws : List ℕ) → ys ≡ zs ++ ws → BeginsWit
 BeginsWith-less xs ys zs ws e b = record { rest = ws ++ b.rest; parts = b.parts ∙ ap (λ l. l ++ b.rest) e ∙ append_assoc zs ws b.rest }
 
 -- two pieces, of which the last could fail
-pub pieces-two : {T E : Type 0} (r : Result T E) (old page next a b : List ℕ) → page ≡ old ++ a → OnOk r (next ≡ page ++ b) → OnOk r (next ≡ old ++ (a ++ b))
-pieces-two r old page next a b before written =
-    on_ok_weaker r (λ (e : next ≡ page ++ b). e ∙ ap (λ l. l ++ b) before ∙ append_assoc old a b) written
+pub pieces-two : {T E : Type 0} (r : Result T E) (old written next a b : List ℕ) → written ≡ old ++ a → OnOk r (next ≡ written ++ b) → OnOk r (next ≡ old ++ (a ++ b))
+pieces-two r old written next a b before written =
+    on_ok_weaker r (λ (e : next ≡ written ++ b). e ∙ ap (λ l. l ++ b) before ∙ append_assoc old a b) written
 
 -- a token that is no text
 
@@ -54,12 +54,12 @@ added_by-other in_text told line other = refl
 
 -- bytes that were taken, and those that wait
 
-pub bytes-more : (taken page added next : List ℕ) (skipped : ℕ) → skipped ≤ length page → next ≡ page ++ added
-    → taken ++ drop skipped next ≡ (taken ++ drop skipped page) ++ added
-bytes-more taken page added next skipped within more =
+pub bytes-more : (taken written added next : List ℕ) (skipped : ℕ) → skipped ≤ length written → next ≡ written ++ added
+    → taken ++ drop skipped next ≡ (taken ++ drop skipped written) ++ added
+bytes-more taken written added next skipped within more =
     ap (λ l. taken ++ drop skipped l) more
-    ∙ ap (λ l. taken ++ l) (drop-append-le skipped page added within)
-    ∙ sym (append_assoc taken (drop skipped page) added)
+    ∙ ap (λ l. taken ++ l) (drop-append-le skipped written added within)
+    ∙ sym (append_assoc taken (drop skipped written) added)
 
 pub bytes-taken : (taken more front rest : List ℕ) (count : ℕ) → more ≡ taken ++ take count front → rest ≡ drop count front → more ++ rest ≡ taken ++ front
 bytes-taken taken more front rest count more_is rest_is =

@@ -1,5 +1,5 @@
 pub mod Records
 pub mod Reading
 pub mod ReadRecords
-pub mod Events
-pub mod EventLaws
+pub mod Recording
+pub mod RecordedLaws

@@ -2,7 +2,7 @@
 ghost use Rattle.std.specs.Prelude.{◌≡◌, ◌+◌, ◌++◌, false, ◌∷◌, [], map, option_map, is_some, string_bytes, OnOk, OnErr};
 ghost use Rattle.std.specs.List.{flat_map};
 ghost use Rattle.html5records.specs.Records.{BeginsWith, number, counted, flag, attribute_record, attribute_records, optional, tag_flags, tag_parts, tag_code, code_of, doctype_flags, doctype_parts, heading, parts, record_of};
-ghost use Rattle.html5records.specs.Events.{text_closing, added_by_text, added_by, open_after};
+ghost use Rattle.html5records.specs.Recording.{text_closing, added_by_text, added_by, open_after};
 ghost use Rattle.html5ever_interface.specs.Token.{told_by, tag_of, doctype_of, is_text};
 ghost use Rattle.html5ever_interface.specs.Token.Told.{Text};
 ghost use Rattle.markup5ever.specs.Names.{attribute_of};
@@ -13,34 +13,34 @@ use markup5ever::interface::Attribute;
 use std::alloc::{AllocError, Allocator};
 
 #[tactic(auto, unfolding(crate::specs::Records::number))]
-fn push_number<A: Allocator>(page: &mut Vec<u8, A>, value: u64) -> Result<(), AllocError>
-    ensures ok { OnOk result (page.new.items ≡ page.old.items ++ number value) }
-    ensures err { OnErr result (BeginsWith page.new.items page.old.items) }
+fn push_number<A: Allocator>(written: &mut Vec<u8, A>, value: u64) -> Result<(), AllocError>
+    ensures ok { OnOk result (written.new.items ≡ written.old.items ++ number value) }
+    ensures err { OnErr result (BeginsWith written.new.items written.old.items) }
 {
-    page.extend_from_slice(&value.to_le_bytes())
+    written.extend_from_slice(&value.to_le_bytes())
 }
 
 // Appends a text with its length.
 #[tactic(auto, unfolding(crate::specs::Records::counted))]
-fn push_counted<A: Allocator>(page: &mut Vec<u8, A>, text: &[u8]) -> Result<(), AllocError>
-    ensures ok { OnOk result (page.new.items ≡ page.old.items ++ counted text.now) }
-    ensures err { OnErr result (BeginsWith page.new.items page.old.items) }
+fn push_counted<A: Allocator>(written: &mut Vec<u8, A>, text: &[u8]) -> Result<(), AllocError>
+    ensures ok { OnOk result (written.new.items ≡ written.old.items ++ counted text.now) }
+    ensures err { OnErr result (BeginsWith written.new.items written.old.items) }
 {
-    push_number(page, text.len() as u64)?;
-    page.extend_from_slice(text)
+    push_number(written, text.len() as u64)?;
+    written.extend_from_slice(text)
 }
 
 #[tactic(auto, unfolding(crate::specs::Records::attribute_record))]
 fn push_attribute<A: Allocator>(
-    page: &mut Vec<u8, A>,
+    written: &mut Vec<u8, A>,
     attribute: &Attribute<A>,
 ) -> Result<(), AllocError>
     ensures ok { OnOk result
-        (page.new.items ≡ page.old.items ++ attribute_record (attribute_of attribute.now)) }
-    ensures err { OnErr result (BeginsWith page.new.items page.old.items) }
+        (written.new.items ≡ written.old.items ++ attribute_record (attribute_of attribute.now)) }
+    ensures err { OnErr result (BeginsWith written.new.items written.old.items) }
 {
-    push_counted(page, attribute.name.local.0.as_bytes())?;
-    push_counted(page, attribute.value.as_bytes())
+    push_counted(written, attribute.name.local.0.as_bytes())?;
+    push_counted(written, attribute.value.as_bytes())
 }
 
 // The flag, where it is set.
@@ -52,26 +52,26 @@ fn flag_where(is_set: bool, weight: u8) -> u8
 
 // Appends the kind of a record and its line.
 #[tactic(auto, unfolding(crate::specs::Records::heading))]
-fn push_heading<A: Allocator>(page: &mut Vec<u8, A>, kind: u8, line: u64) -> Result<(), AllocError>
-    ensures ok { OnOk result (page.new.items ≡ page.old.items ++ heading kind line) }
-    ensures err { OnErr result (BeginsWith page.new.items page.old.items) }
+fn push_heading<A: Allocator>(written: &mut Vec<u8, A>, kind: u8, line: u64) -> Result<(), AllocError>
+    ensures ok { OnOk result (written.new.items ≡ written.old.items ++ heading kind line) }
+    ensures err { OnErr result (BeginsWith written.new.items written.old.items) }
 {
-    page.push(kind)?;
-    push_number(page, line)
+    written.push(kind)?;
+    push_number(written, line)
 }
 
 // Appends attributes, one after the other.
 fn push_each_attribute<A: Allocator>(
-    page: &mut Vec<u8, A>,
+    written: &mut Vec<u8, A>,
     attributes: &[Attribute<A>],
 ) -> Result<(), AllocError>
     ensures ok { OnOk result
-        (page.new.items ≡ page.old.items
+        (written.new.items ≡ written.old.items
         ++ flat_map attribute_record (map attribute_of attributes.now)) }
-    ensures err { OnErr result (BeginsWith page.new.items page.old.items) }
+    ensures err { OnErr result (BeginsWith written.new.items written.old.items) }
 {
     for attribute in attributes {
-        push_attribute(page, attribute)?;
+        push_attribute(written, attribute)?;
     }
     Ok(())
 }
@@ -79,15 +79,15 @@ fn push_each_attribute<A: Allocator>(
 // Appends attributes with their number.
 #[tactic(auto, unfolding(crate::specs::Records::attribute_records))]
 fn push_attributes<A: Allocator>(
-    page: &mut Vec<u8, A>,
+    written: &mut Vec<u8, A>,
     attributes: &[Attribute<A>],
 ) -> Result<(), AllocError>
     ensures ok { OnOk result
-        (page.new.items ≡ page.old.items ++ attribute_records (map attribute_of attributes.now)) }
-    ensures err { OnErr result (BeginsWith page.new.items page.old.items) }
+        (written.new.items ≡ written.old.items ++ attribute_records (map attribute_of attributes.now)) }
+    ensures err { OnErr result (BeginsWith written.new.items written.old.items) }
 {
-    push_number(page, attributes.len() as u64)?;
-    push_each_attribute(page, attributes)
+    push_number(written, attributes.len() as u64)?;
+    push_each_attribute(written, attributes)
 }
 
 // The flags of a tag.
@@ -100,13 +100,13 @@ fn tag_flags<A: Allocator>(tag: &Tag<A>) -> u8
 
 // Appends what comes after the line of a tag.
 #[tactic(auto, unfolding(crate::specs::Records::tag_parts))]
-fn push_tag_parts<A: Allocator>(page: &mut Vec<u8, A>, tag: &Tag<A>) -> Result<(), AllocError>
-    ensures ok { OnOk result (page.new.items ≡ page.old.items ++ tag_parts (tag_of tag.now)) }
-    ensures err { OnErr result (BeginsWith page.new.items page.old.items) }
+fn push_tag_parts<A: Allocator>(written: &mut Vec<u8, A>, tag: &Tag<A>) -> Result<(), AllocError>
+    ensures ok { OnOk result (written.new.items ≡ written.old.items ++ tag_parts (tag_of tag.now)) }
+    ensures err { OnErr result (BeginsWith written.new.items written.old.items) }
 {
-    page.push(tag_flags(tag))?;
-    push_counted(page, tag.name.0.as_bytes())?;
-    push_attributes(page, &tag.attrs)
+    written.push(tag_flags(tag))?;
+    push_counted(written, tag.name.0.as_bytes())?;
+    push_attributes(written, &tag.attrs)
 }
 
 // The kind of a tag's record.
@@ -132,33 +132,33 @@ fn doctype_flags<A: Allocator>(doctype: &Doctype<A>) -> u8
 // Appends a text that may be missing.
 #[tactic(auto, unfolding(crate::specs::Records::optional))]
 fn push_optional<A: Allocator>(
-    page: &mut Vec<u8, A>,
+    written: &mut Vec<u8, A>,
     text: &Option<String<A>>,
 ) -> Result<(), AllocError>
     ensures ok { OnOk result
-        (page.new.items ≡ page.old.items ++ optional (option_map string_bytes text.now)) }
-    ensures err { OnErr result (BeginsWith page.new.items page.old.items) }
+        (written.new.items ≡ written.old.items ++ optional (option_map string_bytes text.now)) }
+    ensures err { OnErr result (BeginsWith written.new.items written.old.items) }
 {
     match text {
         None => Ok(()),
-        Some(text) => push_counted(page, text.as_bytes()),
+        Some(text) => push_counted(written, text.as_bytes()),
     }
 }
 
 // Appends what comes after the line of a DOCTYPE.
 #[tactic(auto, unfolding(crate::specs::Records::doctype_parts))]
 fn push_doctype_parts<A: Allocator>(
-    page: &mut Vec<u8, A>,
+    written: &mut Vec<u8, A>,
     doctype: &Doctype<A>,
 ) -> Result<(), AllocError>
     ensures ok { OnOk result
-        (page.new.items ≡ page.old.items ++ doctype_parts (doctype_of doctype.now)) }
-    ensures err { OnErr result (BeginsWith page.new.items page.old.items) }
+        (written.new.items ≡ written.old.items ++ doctype_parts (doctype_of doctype.now)) }
+    ensures err { OnErr result (BeginsWith written.new.items written.old.items) }
 {
-    page.push(doctype_flags(doctype))?;
-    push_optional(page, &doctype.name)?;
-    push_optional(page, &doctype.public_id)?;
-    push_optional(page, &doctype.system_id)
+    written.push(doctype_flags(doctype))?;
+    push_optional(written, &doctype.name)?;
+    push_optional(written, &doctype.public_id)?;
+    push_optional(written, &doctype.system_id)
 }
 
 // The first byte of a token's record.
@@ -179,105 +179,105 @@ fn kind_of<A: Allocator>(token: &Token<A>) -> u8
 
 // Appends what comes after the line.
 #[tactic(auto, unfolding(crate::specs::Records::parts))]
-fn push_parts<A: Allocator>(page: &mut Vec<u8, A>, token: &Token<A>) -> Result<(), AllocError>
+fn push_parts<A: Allocator>(written: &mut Vec<u8, A>, token: &Token<A>) -> Result<(), AllocError>
     requires { is_text (told_by token.now) ≡ false }
-    ensures ok { OnOk result (page.new.items ≡ page.old.items ++ parts (told_by token.now)) }
-    ensures err { OnErr result (BeginsWith page.new.items page.old.items) }
+    ensures ok { OnOk result (written.new.items ≡ written.old.items ++ parts (told_by token.now)) }
+    ensures err { OnErr result (BeginsWith written.new.items written.old.items) }
 {
     match token {
-        Token::DoctypeToken(doctype) => push_doctype_parts(page, doctype),
-        Token::TagToken(tag) => push_tag_parts(page, tag),
-        Token::CommentToken(text) => push_counted(page, text.as_bytes()),
-        Token::ProcessingInstructionToken(content) => push_counted(page, content.as_bytes()),
+        Token::DoctypeToken(doctype) => push_doctype_parts(written, doctype),
+        Token::TagToken(tag) => push_tag_parts(written, tag),
+        Token::CommentToken(text) => push_counted(written, text.as_bytes()),
+        Token::ProcessingInstructionToken(content) => push_counted(written, content.as_bytes()),
         Token::CharacterTokens(_) => unreachable!(),
         Token::NullCharacterToken => Ok(()),
         Token::EOFToken => Ok(()),
-        Token::ParseError(message) => push_counted(page, message.as_bytes()),
+        Token::ParseError(message) => push_counted(written, message.as_bytes()),
     }
 }
 
 // Appends the record of a token that is no text.
 #[tactic(auto, unfolding(crate::specs::Records::record_of))]
 fn push_record<A: Allocator>(
-    page: &mut Vec<u8, A>,
+    written: &mut Vec<u8, A>,
     token: &Token<A>,
     line: u64,
 ) -> Result<(), AllocError>
     requires { is_text (told_by token.now) ≡ false }
     ensures ok { OnOk result
-        (page.new.items ≡ page.old.items ++ record_of (told_by token.now) line) }
-    ensures err { OnErr result (BeginsWith page.new.items page.old.items) }
+        (written.new.items ≡ written.old.items ++ record_of (told_by token.now) line) }
+    ensures err { OnErr result (BeginsWith written.new.items written.old.items) }
 {
-    push_heading(page, kind_of(token), line)?;
-    push_parts(page, token)
+    push_heading(written, kind_of(token), line)?;
+    push_parts(written, token)
 }
 
 /// Appends a text, or a piece of it. An empty one opens no record.
-#[tactic(auto, unfolding(crate::specs::Events::added_by_text))]
+#[tactic(auto, unfolding(crate::specs::Recording::added_by_text))]
 pub fn push_text<A: Allocator>(
-    page: &mut Vec<u8, A>,
+    written: &mut Vec<u8, A>,
     in_text: bool,
     text: &[u8],
 ) -> Result<(), AllocError>
-    ensures ok { OnOk result (page.new.items ≡ page.old.items ++ added_by_text in_text text.now) }
-    ensures err { OnErr result (BeginsWith page.new.items page.old.items) }
+    ensures ok { OnOk result (written.new.items ≡ written.old.items ++ added_by_text in_text text.now) }
+    ensures err { OnErr result (BeginsWith written.new.items written.old.items) }
 {
     if text.is_empty() {
         return Ok(());
     }
     if !in_text {
-        page.push(kinds::TEXT)?;
+        written.push(kinds::TEXT)?;
     }
-    page.extend_from_slice(text)
+    written.extend_from_slice(text)
 }
 
 // Ends an open text.
-fn push_text_end<A: Allocator>(page: &mut Vec<u8, A>, in_text: bool) -> Result<(), AllocError>
-    ensures ok { OnOk result (page.new.items ≡ page.old.items ++ text_closing in_text) }
-    ensures err { OnErr result (BeginsWith page.new.items page.old.items) }
+fn push_text_end<A: Allocator>(written: &mut Vec<u8, A>, in_text: bool) -> Result<(), AllocError>
+    ensures ok { OnOk result (written.new.items ≡ written.old.items ++ text_closing in_text) }
+    ensures err { OnErr result (BeginsWith written.new.items written.old.items) }
 {
     if in_text {
-        page.push(kinds::TEXT_END)?;
+        written.push(kinds::TEXT_END)?;
     }
     Ok(())
 }
 
 // Ends an open text, and appends the record of a token that is no text.
 fn push_other<A: Allocator>(
-    page: &mut Vec<u8, A>,
+    written: &mut Vec<u8, A>,
     in_text: bool,
     token: &Token<A>,
     line: u64,
 ) -> Result<(), AllocError>
     requires { is_text (told_by token.now) ≡ false }
     ensures ok { OnOk result
-        (page.new.items ≡ page.old.items ++ added_by in_text (told_by token.now) line) }
-    ensures err { OnErr result (BeginsWith page.new.items page.old.items) }
+        (written.new.items ≡ written.old.items ++ added_by in_text (told_by token.now) line) }
+    ensures err { OnErr result (BeginsWith written.new.items written.old.items) }
 {
-    push_text_end(page, in_text)?;
-    push_record(page, token, line)
+    push_text_end(written, in_text)?;
+    push_record(written, token, line)
 }
 
 /// Appends what a token adds, where `in_text` says whether a text is open.
-#[tactic(auto, unfolding(crate::specs::Events::added_by))]
+#[tactic(auto, unfolding(crate::specs::Recording::added_by))]
 pub fn push_token<A: Allocator>(
-    page: &mut Vec<u8, A>,
+    written: &mut Vec<u8, A>,
     in_text: bool,
     token: &Token<A>,
     line: u64,
 ) -> Result<(), AllocError>
     ensures ok { OnOk result
-        (page.new.items ≡ page.old.items ++ added_by in_text (told_by token.now) line) }
-    ensures err { OnErr result (BeginsWith page.new.items page.old.items) }
+        (written.new.items ≡ written.old.items ++ added_by in_text (told_by token.now) line) }
+    ensures err { OnErr result (BeginsWith written.new.items written.old.items) }
 {
     match token {
-        Token::CharacterTokens(text) => push_text(page, in_text, text.as_bytes()),
-        _ => push_other(page, in_text, token, line),
+        Token::CharacterTokens(text) => push_text(written, in_text, text.as_bytes()),
+        _ => push_other(written, in_text, token, line),
     }
 }
 
 /// Whether a text is open after a text.
-#[tactic(auto, unfolding(crate::specs::Events::open_after))]
+#[tactic(auto, unfolding(crate::specs::Recording::open_after))]
 pub fn is_open_after_text(in_text: bool, text: &[u8]) -> bool
     ensures { result ≡ open_after in_text (Text text.now) }
 {
@@ -285,7 +285,7 @@ pub fn is_open_after_text(in_text: bool, text: &[u8]) -> bool
 }
 
 /// Whether a text is open after a token.
-#[tactic(auto, unfolding(crate::specs::Events::open_after))]
+#[tactic(auto, unfolding(crate::specs::Recording::open_after))]
 pub fn is_open_after<A: Allocator>(in_text: bool, token: &Token<A>) -> bool
     ensures { result ≡ open_after in_text (told_by token.now) }
 {

@@ -10,7 +10,7 @@ use Rattle.html5sinks.specs.Runs.{Joined, Running, joined_of, joined_step, runs_
 use Rattle.html5stream.specs.Pages.{ReadsPage, ReadsPageItems, StopsPage, runs_after, runs_handed, runs_page, runs_start}
 use Rattle.html5stream.proofs.ByItems.{page-items, runs-composed}
 use Rattle.markup5ever.specs.NamedReferences.{NamedReference, IsTable}
-use Rattle.html5write.specs.Pieces.{Piece, page_text, piece_text}
+use Rattle.html5write.specs.Pieces.{Piece, pieces_text, piece_text}
 use Rattle.html5rewrite.specs.Rewriter.{Rewriter}
 use Rattle.html5rewrite.specs.Rewriting.{Rewriting, rewriting_step, start_of_page, written_where}
 use Rattle.html5rewrite.specs.Writing.{Written, PageItems, page_bytes, page_messages, start_of_writing, writing_step, written_of}
@@ -20,7 +20,7 @@ abbrev written_after : List ℕ → Rewriting → Written
 written_after before r = record { rewriter = r.rewriter; bytes = before ++ page_bytes r.pieces; hidden = r.hidden }
 
 page_bytes-append : (first second : List Piece) → page_bytes (first ++ second) ≡ page_bytes first ++ page_bytes second
-page_bytes-append first second = ap encode_utf8_all (flat_map-append piece_text first second) ∙ encodes-append (page_text first) (page_text second)
+page_bytes-append first second = ap encode_utf8_all (flat_map-append piece_text first second) ∙ encodes-append (pieces_text first) (pieces_text second)
 
 written-step : (before : List ℕ) (r : Rewriting) (run : List ℕ) (told : Told) (line : ℕ)
     → writing_step (written_after before r) run told line ≡ written_after before (rewriting_step r run told line)
@@ -62,29 +62,29 @@ written-handed rewriter before M =
     (ap (λ l. joined_of (start_of_writing rewriter l) []) (sym (append-nil before))))
 
 -- a page that was read is written as it is kept
-pub reads-written : (rewriter : Rewriter) (names : List NamedReference) (unread left : Option (List ℕ)) (before : List ℕ) (after : Written)
-    → ReadsPage (runs_after writing_step names) unread left (start_of_writing rewriter before) after
-    → ReadsPage (λ s bytes. written_of rewriter s (page_messages rewriter names s bytes)) unread left before after.bytes
-reads-written rewriter names unread left before after read = record {
+pub reads-written : (rewriter : Rewriter) (references : List NamedReference) (unread left : Option (List ℕ)) (before : List ℕ) (after : Written)
+    → ReadsPage (runs_after writing_step references) unread left (start_of_writing rewriter before) after
+    → ReadsPage (λ s bytes. written_of rewriter s (page_messages rewriter references s bytes)) unread left before after.bytes
+reads-written rewriter references unread left before after read = record {
   bytes = read.bytes;
   consumed = read.consumed;
   at_end = read.at_end;
   utf8 = read.utf8;
-  told = ap (λ s. s.bytes) (read.told ∙ written-handed rewriter before (page_messages rewriter names before read.bytes));
+  told = ap (λ s. s.bytes) (read.told ∙ written-handed rewriter before (page_messages rewriter references before read.bytes));
 }
 
 -- and as the messages of its items say
-pub items-written : (rewriter : Rewriter) (names : List NamedReference) (unread left : Option (List ℕ)) (before after : List ℕ) → IsTable names
-    → ReadsPage (λ s bytes. written_of rewriter s (page_messages rewriter names s bytes)) unread left before after
-    → ReadsPageItems (PageItems rewriter names) (written_of rewriter) unread left before after
-items-written rewriter names unread left before after table =
-    page-items (page_messages rewriter names) (written_of rewriter) (PageItems rewriter names) unread left before after
-    (λ bytes. runs-composed writing_step names (start_of_writing rewriter before) bytes table)
+pub items-written : (rewriter : Rewriter) (references : List NamedReference) (unread left : Option (List ℕ)) (before after : List ℕ) → IsTable references
+    → ReadsPage (λ s bytes. written_of rewriter s (page_messages rewriter references s bytes)) unread left before after
+    → ReadsPageItems (PageItems rewriter references) (written_of rewriter) unread left before after
+items-written rewriter references unread left before after table =
+    page-items (page_messages rewriter references) (written_of rewriter) (PageItems rewriter references) unread left before after
+    (λ bytes. runs-composed writing_step references (start_of_writing rewriter before) bytes table)
 
-pub stops-written : (rewriter : Rewriter) (names : List NamedReference) (unread left : Option (List ℕ)) (before : List ℕ) (after : Written)
-    → StopsPage (runs_page writing_step names) (runs_handed writing_step) unread left (start_of_writing rewriter before) after
-    → StopsPage (page_messages rewriter names) (written_of rewriter) unread left before after.bytes
-stops-written rewriter names unread left before after read = record {
+pub stops-written : (rewriter : Rewriter) (references : List NamedReference) (unread left : Option (List ℕ)) (before : List ℕ) (after : Written)
+    → StopsPage (runs_page writing_step references) (runs_handed writing_step) unread left (start_of_writing rewriter before) after
+    → StopsPage (page_messages rewriter references) (written_of rewriter) unread left before after.bytes
+stops-written rewriter references unread left before after read = record {
   text = read.text;
   rest = read.rest;
   consumed = read.consumed;

@@ -3,7 +3,7 @@ use Rattle.std.specs.Prelude.{ℕ, List, ◌++◌, encode_utf8_all}
 use Rattle.html5ever_interface.specs.Sink.{Message}
 use Rattle.html5ever_interface.specs.Token.{Told}
 use Rattle.html5stream.specs.Pages.{RunsItems, runs_handed, runs_page}
-use Rattle.html5write.specs.Pieces.{Piece, page_text}
+use Rattle.html5write.specs.Pieces.{Piece, pieces_text}
 use Rattle.html5rewrite.specs.Rewriter.{Rewriter}
 use Rattle.html5rewrite.specs.Rewriting.{Hidden, hidden_after_token, nothing_hidden, rewriting_step, start_of_page, written_where}
 use Rattle.markup5ever.specs.NamedReferences.{NamedReference}
@@ -26,7 +26,7 @@ writing_of means bytes handler = record { rewriter = means handler.rewriter; byt
 
 -- the bytes of pieces
 abbrev pub page_bytes : List Piece → List ℕ
-page_bytes pieces = encode_utf8_all (page_text pieces)
+page_bytes pieces = encode_utf8_all (pieces_text pieces)
 
 -- where a page begins, after these bytes
 abbrev pub start_of_writing : Rewriter → List ℕ → Written
@@ -42,11 +42,11 @@ writing_step s run told line = record {
 
 -- the messages of a page, which is written after these bytes
 abbrev pub page_messages : Rewriter → List NamedReference → List ℕ → List ℕ → List Message
-page_messages rewriter names before bytes = runs_page writing_step names (start_of_writing rewriter before) bytes
+page_messages rewriter references before bytes = runs_page writing_step references (start_of_writing rewriter before) bytes
 
 -- the items of such a page, which tell these messages, and its end those
 abbrev pub PageItems : Rewriter → List NamedReference → List ℕ → List ℕ → List Message → List Message → Type 0
-PageItems rewriter names before bytes tells ends = RunsItems writing_step names (start_of_writing rewriter before) bytes tells ends
+PageItems rewriter references before bytes tells ends = RunsItems writing_step references (start_of_writing rewriter before) bytes tells ends
 
 -- the pieces that a rewriter keeps of messages
 abbrev pub pieces_of : Rewriter → List Message → List Piece

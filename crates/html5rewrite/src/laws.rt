@@ -7,36 +7,36 @@ ghost use Rattle.html5reading.specs.Reading.{all_messages};
 ghost use Rattle.html5reading.specs.Start.{Start, Rules};
 ghost use Rattle.html5grammar.specs.Anywhere.{TellsByItself};
 ghost use Rattle.markup5ever.specs.NamedReferences.{IsTable};
-ghost use Rattle.html5write.specs.Pieces.{Piece, page_text};
-ghost use Rattle.html5write.specs.Told.{IsOpen, page_messages, page_tokens, proper, start_after_page};
+ghost use Rattle.html5write.specs.Pieces.{Piece, pieces_text};
+ghost use Rattle.html5write.specs.Told.{IsOpen, pieces_messages, pieces_tokens, proper, start_after_pieces};
 ghost use Rattle.html5rewrite.specs.Plain.{FollowsStandard, is_plain};
 ghost use Rattle.html5rewrite.specs.Rewriter.{Rewriter};
 ghost use Rattle.html5rewrite.specs.Writing.{pieces_of};
 
 use html5ever_interface::interface::sink::TokenSink;
 use html5ever_interface::interface::token::Token;
-use html5write::laws::{page, whole_page};
+use html5write::laws::{all_pieces, whole_text};
 use std::alloc::Allocator;
 
 /// A page of plain pieces, read by any sink that follows the standard and with any table, is read but for
 /// errors as exactly these pieces and the end.
 pub fn rewritten_page<S: TokenSink<Token<A>>, A: Allocator>()
-    ensures { (rules : Rules) (K : Start) (s : S.State) (pieces : List Piece) → IsTable rules.names
+    ensures { (rules : Rules) (K : Start) (s : S.State) (pieces : List Piece) → IsTable rules.references
         → IsOpen K → list_all is_plain pieces ≡ true → FollowsStandard {S = S.State} S.means.reply
-        → proper (all_messages S.means rules K s (page_text pieces)) ≡ page_tokens pieces ++ End ∷ [] }
+        → proper (all_messages S.means rules K s (pieces_text pieces)) ≡ pieces_tokens pieces ++ End ∷ [] }
 {
-    whole_page::<S, A>();
+    whole_text::<S, A>();
 }
 
 /// Wherever it is put in a page, in Data and with no CR directly before it, such a page tells its pieces,
 /// and is read to where nothing is open: what follows it is read as it would be without it.
 pub fn rewritten_part<S: TokenSink<Token<A>>, A: Allocator>()
-    ensures { (rules : Rules) (K : Start) (s : S.State) (pieces : List Piece) → IsTable rules.names
+    ensures { (rules : Rules) (K : Start) (s : S.State) (pieces : List Piece) → IsTable rules.references
         → IsOpen K → list_all is_plain pieces ≡ true → FollowsStandard {S = S.State} S.means.reply
-        → TellsByItself S.means rules K s (page_text pieces) (page_messages rules.exact K.input pieces)
-        (start_after_page K pieces) }
+        → TellsByItself S.means rules K s (pieces_text pieces) (pieces_messages rules.exact K.input pieces)
+        (start_after_pieces K pieces) }
 {
-    page::<S, A>();
+    all_pieces::<S, A>();
 }
 
 /// The pieces that any rewriter keeps of any messages, as those of a page or of a beginning of it, are

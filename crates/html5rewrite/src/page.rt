@@ -19,12 +19,12 @@ fn read_rewritten<R: Source, H: TagRewriter<Tag<A>>, O: Output, A: Allocator + C
     source: &mut R,
     rewriter: H,
     output: O,
-    names: &NamedReferences<A>,
+    references: &NamedReferences<A>,
 ) -> (Rewriting<H, O, A>, Result<(), StreamError>)
-    ensures finishes { OnOk result.1 (ReadsPage (runs_after writing_step names.now)
+    ensures finishes { OnOk result.1 (ReadsPage (runs_after writing_step references.now)
         (R.remaining source.old) (R.remaining source.new)
         (start_of_writing (H.means rewriter) (O.bytes output)) (writing_of H.means O.bytes result.0)) }
-    ensures beginning { OnErr result.1 (StopsPage (runs_page writing_step names.now) (runs_handed writing_step)
+    ensures beginning { OnErr result.1 (StopsPage (runs_page writing_step references.now) (runs_handed writing_step)
         (R.remaining source.old) (R.remaining source.new)
         (start_of_writing (H.means rewriter) (O.bytes output)) (writing_of H.means O.bytes result.0)) }
     ensures not_utf8 { (place : ℕ) → result.1 ≡ Err (StreamError.NotUtf8 place)
@@ -36,7 +36,7 @@ fn read_rewritten<R: Source, H: TagRewriter<Tag<A>>, O: Output, A: Allocator + C
     ensures read { R.failures source.new ≡ R.failures source.old + failed_reads result.1 }
 {
     let handler = Rewriting::new(alloc, rewriter, output);
-    read_tokens(alloc, source, handler, names)
+    read_tokens(alloc, source, handler, references)
 }
 
 /// Reads a page as it arrives, and writes it as the rewriter says, after what was written before: the
@@ -46,14 +46,14 @@ pub fn rewrite_page<R: Source, H: TagRewriter<Tag<A>>, O: Output, A: Allocator +
     source: &mut R,
     rewriter: H,
     output: O,
-    names: &NamedReferences<A>,
+    references: &NamedReferences<A>,
 ) -> (O, Result<(), StreamError>)
     ensures finishes { OnOk result.1 (ReadsPage (λ before bytes. written_of (H.means rewriter) before
-        (page_messages (H.means rewriter) names.now before bytes))
+        (page_messages (H.means rewriter) references.now before bytes))
         (R.remaining source.old) (R.remaining source.new) (O.bytes output) (O.bytes result.0)) }
-    ensures items { OnOk result.1 (ReadsPageItems (PageItems (H.means rewriter) names.now) (written_of (H.means rewriter))
+    ensures items { OnOk result.1 (ReadsPageItems (PageItems (H.means rewriter) references.now) (written_of (H.means rewriter))
         (R.remaining source.old) (R.remaining source.new) (O.bytes output) (O.bytes result.0)) }
-    ensures beginning { OnErr result.1 (StopsPage (page_messages (H.means rewriter) names.now)
+    ensures beginning { OnErr result.1 (StopsPage (page_messages (H.means rewriter) references.now)
         (written_of (H.means rewriter))
         (R.remaining source.old) (R.remaining source.new) (O.bytes output) (O.bytes result.0)) }
     ensures not_utf8 { (place : ℕ) → result.1 ≡ Err (StreamError.NotUtf8 place)
@@ -64,8 +64,8 @@ pub fn rewrite_page<R: Source, H: TagRewriter<Tag<A>>, O: Output, A: Allocator +
         → GivesAtLeast (2 ^ 64 - 1) (R.remaining source.old) (R.remaining source.new) }
     ensures read { R.failures source.new ≡ R.failures source.old + failed_reads result.1 }
 {
-    names.table_laws();
-    let (handler, read) = read_rewritten(alloc, source, rewriter, output, names);
+    references.table_laws();
+    let (handler, read) = read_rewritten(alloc, source, rewriter, output, references);
     match read {
         Ok(()) => (handler.into_output(), Ok(())),
         Err(error) => (handler.into_output(), Err(error)),
@@ -77,13 +77,13 @@ pub fn rewrite_text<H: TagRewriter<Tag<A>>, A: Allocator + Copy>(
     alloc: A,
     text: &str,
     rewriter: H,
-    names: &NamedReferences<A>,
+    references: &NamedReferences<A>,
 ) -> Result<String<A>, StreamError>
     ensures { IfOk result (λ page. string_bytes page ≡ page_bytes (pieces_of (H.means rewriter)
-        (page_messages (H.means rewriter) names.now [] text.now))) }
+        (page_messages (H.means rewriter) references.now [] text.now))) }
 {
     let mut source = ReadSource::new(text.as_bytes());
-    let (page, read) = rewrite_page(alloc, &mut source, rewriter, String::new(alloc), names);
+    let (page, read) = rewrite_page(alloc, &mut source, rewriter, String::new(alloc), references);
     match read {
         Ok(()) => Ok(page),
         Err(error) => Err(error),

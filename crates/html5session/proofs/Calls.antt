@@ -9,8 +9,8 @@ use Rattle.utf8_pieces.specs.declared.error.DecodeError.TheVariants as decoder
 use Rattle.html5ever_interface.specs.Token.{Reply}
 use Rattle.html5reading.specs.Start.{Rules}
 use Rattle.html5partial.specs.declared.error.TokenizerError.{TokenizerError}
-use Rattle.html5records.specs.Events.{Events, Recorded, recorded_means, WritesOn}
-use Rattle.html5ever.specs.Resting.{RestingOf, tokenizing}
+use Rattle.html5records.specs.Recording.{Recording, Recorded, recorded_means, WritesOn}
+use Rattle.html5ever.specs.Detached.{DetachedOf, tokenizing}
 use Rattle.html5ever.specs.Tokenizer.{Tokenizing, Feeds, FeedsItems, StopsFeeding, Finishes, FinishesItems, StopsEnding}
 use Rattle.html5session.specs.Session.{SessionOf, tokenizer_of, recorded_by, is_over, Completes, TakesPiece, RefusesBytes, FeedsText, fed_by, StopsText, FeedsPiece, LosesPiece, FeedRefused, EndsText, StopsTextEnd, EndRefused}
 use Rattle.html5session.specs.declared.error.SessionError.{SessionError}
@@ -34,66 +34,66 @@ over-none lost failed ended l f e = rw (l, f, e) refl
 -- ---- the tokenizer
 
 -- after a call it rests, and goes on by the same table
-rests : (r out : RestingOf Events) (names : List NamedReference) (t u : Tokenizing Events)
-    → t ≡ tokenizing r names → u.rules ≡ t.rules → tokenizing out u.rules.names ≡ u → tokenizing out names ≡ u
-rests r out names t u begins rules rested =
-    subst (λ (n : List NamedReference). tokenizing out n ≡ u) (ap (λ (w : Rules). w.names) rules ∙ ap (λ (w : Tokenizing Events). w.rules.names) begins) rested
+rests : (r out : DetachedOf Recording) (references : List NamedReference) (t u : Tokenizing Recording)
+    → t ≡ tokenizing r references → u.rules ≡ t.rules → tokenizing out u.rules.references ≡ u → tokenizing out references ≡ u
+rests r out references t u begins rules rested =
+    subst (λ (n : List NamedReference). tokenizing out n ≡ u) (ap (λ (w : Rules). w.references) rules ∙ ap (λ (w : Tokenizing Recording). w.rules.references) begins) rested
 
 -- what was fed between `resume` and `rest`
-feeds_between : (s t u v : Tokenizing Events) (text left : List ℕ) (reply : Reply (Unit {0})) → t ≡ s → v ≡ u
+feeds_between : (s t u v : Tokenizing Recording) (text left : List ℕ) (reply : Reply (Unit {0})) → t ≡ s → v ≡ u
     → Feeds recorded_means t u text left reply → Feeds recorded_means s v text left reply
 feeds_between s t u v text left reply begins ends feeds =
-    subst (λ (w : Tokenizing Events). Feeds recorded_means w v text left reply) begins
-    (subst (λ (w : Tokenizing Events). Feeds recorded_means t w text left reply) (sym ends) feeds)
+    subst (λ (w : Tokenizing Recording). Feeds recorded_means w v text left reply) begins
+    (subst (λ (w : Tokenizing Recording). Feeds recorded_means t w text left reply) (sym ends) feeds)
 
-items_between : (s t u v : Tokenizing Events) (text left : List ℕ) (reply : Reply (Unit {0})) → t ≡ s → v ≡ u
+items_between : (s t u v : Tokenizing Recording) (text left : List ℕ) (reply : Reply (Unit {0})) → t ≡ s → v ≡ u
     → FeedsItems recorded_means t u text left reply → FeedsItems recorded_means s v text left reply
 items_between s t u v text left reply begins ends items =
-    subst (λ (w : Tokenizing Events). FeedsItems recorded_means w v text left reply) begins
-    (subst (λ (w : Tokenizing Events). FeedsItems recorded_means t w text left reply) (sym ends) items)
+    subst (λ (w : Tokenizing Recording). FeedsItems recorded_means w v text left reply) begins
+    (subst (λ (w : Tokenizing Recording). FeedsItems recorded_means t w text left reply) (sym ends) items)
 
 -- a feed of the tokenizer is a feed of the session
-pub feeds_text : (r out : RestingOf Events) (names : List NamedReference) (t u : Tokenizing Events) (text left : List ℕ) (fed : Fed) (reply : Reply (Unit {0}))
+pub feeds_text : (r out : DetachedOf Recording) (references : List NamedReference) (t u : Tokenizing Recording) (text left : List ℕ) (fed : Fed) (reply : Reply (Unit {0}))
     → r.failed ≡ false → r.ended ≡ false
-    → t ≡ tokenizing r names → u.rules ≡ t.rules → tokenizing out u.rules.names ≡ u
+    → t ≡ tokenizing r references → u.rules ≡ t.rules → tokenizing out u.rules.references ≡ u
     → Feeds recorded_means t u text left reply → FeedsItems recorded_means t u text left reply
     → fed ≡ fed_by reply → (fed ≡ Done → left ≡ []) → (fed ≢ Done → length left < length text)
     → u.failed ≡ false → u.ended ≡ false
-    → FeedsText (tokenizing r names) (tokenizing out names) text left fed
-feeds_text r out names t u text left fed reply was_not_failed was_going_on begins rules rested reads items pause all shorter not_failed going_on =
-    let ends = rests r out names t u begins rules rested in
-    let feeds = feeds_between (tokenizing r names) t u (tokenizing out names) text left reply begins ends reads in
+    → FeedsText (tokenizing r references) (tokenizing out references) text left fed
+feeds_text r out references t u text left fed reply was_not_failed was_going_on begins rules rested reads items pause all shorter not_failed going_on =
+    let ends = rests r out references t u begins rules rested in
+    let feeds = feeds_between (tokenizing r references) t u (tokenizing out references) text left reply begins ends reads in
     record {
       reply = reply;
       feeds = feeds;
-      items = items_between (tokenizing r names) t u (tokenizing out names) text left reply begins ends items;
+      items = items_between (tokenizing r references) t u (tokenizing out references) text left reply begins ends items;
       pause = pause;
       all = all;
       shorter = shorter;
-      records = writes_on-feed (tokenizing r names) (tokenizing out names) text left reply was_not_failed was_going_on feeds;
-      rules = ap (λ (w : Tokenizing Events). w.rules) ends ∙ rules ∙ ap (λ (w : Tokenizing Events). w.rules) begins;
-      not_failed = ap (λ (w : Tokenizing Events). w.failed) ends ∙ not_failed;
-      going_on = ap (λ (w : Tokenizing Events). w.ended) ends ∙ going_on;
+      records = writes_on-feed (tokenizing r references) (tokenizing out references) text left reply was_not_failed was_going_on feeds;
+      rules = ap (λ (w : Tokenizing Recording). w.rules) ends ∙ rules ∙ ap (λ (w : Tokenizing Recording). w.rules) begins;
+      not_failed = ap (λ (w : Tokenizing Recording). w.failed) ends ∙ not_failed;
+      going_on = ap (λ (w : Tokenizing Recording). w.ended) ends ∙ going_on;
     }
 
-pub stops_text : (t s : Tokenizing Events) (text left : List ℕ) (error : TokenizerError) (v told : Recorded) → t ≡ s → v ≡ told
+pub stops_text : (t s : Tokenizing Recording) (text left : List ℕ) (error : TokenizerError) (v told : Recorded) → t ≡ s → v ≡ told
     → StopsFeeding recorded_means error t text left v → StopsText s text left told
 stops_text t s text left error v told begins same stops = (
   error,
-  subst (λ (w : Tokenizing Events). StopsFeeding recorded_means error w text left told) begins
+  subst (λ (w : Tokenizing Recording). StopsFeeding recorded_means error w text left told) begins
       (subst (λ (w : Recorded). StopsFeeding recorded_means error t text left w) same stops),
 )
 
 -- what was told between `resume` and `rest`
-finishes_between : (t s : Tokenizing Events) (v told : Recorded) → t ≡ s → v ≡ told → Finishes recorded_means t v → Finishes recorded_means s told
+finishes_between : (t s : Tokenizing Recording) (v told : Recorded) → t ≡ s → v ≡ told → Finishes recorded_means t v → Finishes recorded_means s told
 finishes_between t s v told begins same finishes =
-    subst (λ (w : Tokenizing Events). Finishes recorded_means w told) begins (subst (λ (w : Recorded). Finishes recorded_means t w) same finishes)
+    subst (λ (w : Tokenizing Recording). Finishes recorded_means w told) begins (subst (λ (w : Recorded). Finishes recorded_means t w) same finishes)
 
-finished_between : (t s : Tokenizing Events) (v told : Recorded) → t ≡ s → v ≡ told → FinishesItems recorded_means t v → FinishesItems recorded_means s told
+finished_between : (t s : Tokenizing Recording) (v told : Recorded) → t ≡ s → v ≡ told → FinishesItems recorded_means t v → FinishesItems recorded_means s told
 finished_between t s v told begins same items =
-    subst (λ (w : Tokenizing Events). FinishesItems recorded_means w told) begins (subst (λ (w : Recorded). FinishesItems recorded_means t w) same items)
+    subst (λ (w : Tokenizing Recording). FinishesItems recorded_means w told) begins (subst (λ (w : Recorded). FinishesItems recorded_means t w) same items)
 
-pub ends_text : (t s : Tokenizing Events) (v : Recorded) (new : Events) → s.failed ≡ false → s.ended ≡ false → t ≡ s → v ≡ new.recorded
+pub ends_text : (t s : Tokenizing Recording) (v : Recorded) (new : Recording) → s.failed ≡ false → s.ended ≡ false → t ≡ s → v ≡ new.recorded
     → Finishes recorded_means t v → FinishesItems recorded_means t v → EndsText s new
 ends_text t s v new not_failed going_on begins same tells items =
     let finishes = finishes_between t s v new.recorded begins same tells in
@@ -103,11 +103,11 @@ ends_text t s v new not_failed going_on begins same tells items =
       records = writes_on-end s new.recorded not_failed going_on finishes;
     }
 
-pub stops_end : (t s : Tokenizing Events) (error : TokenizerError) (v told : Recorded) → t ≡ s → v ≡ told
+pub stops_end : (t s : Tokenizing Recording) (error : TokenizerError) (v told : Recorded) → t ≡ s → v ≡ told
     → StopsEnding recorded_means error t v → StopsTextEnd s told
 stops_end t s error v told begins same stops = (
   error,
-  subst (λ (w : Tokenizing Events). StopsEnding recorded_means error w told) begins
+  subst (λ (w : Tokenizing Recording). StopsEnding recorded_means error w told) begins
       (subst (λ (w : Recorded). StopsEnding recorded_means error t w) same stops),
 )
 
@@ -129,8 +129,8 @@ loses_piece s t d queue bytes text same completes = record {
   text = text;
   completes = subst (λ (w : SessionOf). Completes w.decoder d bytes text) same completes;
   stops = inl (ap recorded_by same);
-  records = subst (λ (w : SessionOf). WritesOn (recorded_by t) (recorded_by w)) (sym same) (record { taken = refl; bytes = record { rest = []; parts = sym (append-nil t.resting.sink.recorded.bytes) } });
-  kept = ap (λ (w : SessionOf). record w { resting = s.resting; decoder = d; text = queue; lost = true }) same;
+  records = subst (λ (w : SessionOf). WritesOn (recorded_by t) (recorded_by w)) (sym same) (record { taken = refl; bytes = record { rest = []; parts = sym (append-nil t.detached.sink.recorded.bytes) } });
+  kept = ap (λ (w : SessionOf). record w { detached = s.detached; decoder = d; text = queue; lost = true }) same;
 }
 
 -- bytes that are no UTF-8 are refused, at their place
@@ -158,21 +158,21 @@ text_stops result s t left v same stops = subst (λ (w : SessionOf). OnErr resul
 
 -- what a piece left, and what was then read: the decoder and all else but the tokenizer and the text are as the piece left them
 kept_piece : (s mid t : SessionOf) (bytes : List ℕ) (lost : Bool) → TakesPiece s mid bytes
-    → t ≡ record mid { resting = t.resting; text = t.text; lost = lost }
-    → t ≡ record s { resting = t.resting; decoder = t.decoder; text = t.text; lost = lost }
+    → t ≡ record mid { detached = t.detached; text = t.text; lost = lost }
+    → t ≡ record s { detached = t.detached; decoder = t.decoder; text = t.text; lost = lost }
 kept_piece s mid t bytes lost takes kept =
     kept
-    ∙ ap (λ (w : SessionOf). record w { resting = t.resting; text = t.text; lost = lost }) takes.taken
-    ∙ ap (λ (d : Decoding). record s { resting = t.resting; decoder = d; text = t.text; lost = lost }) (sym (ap (λ (w : SessionOf). w.decoder) kept))
+    ∙ ap (λ (w : SessionOf). record w { detached = t.detached; text = t.text; lost = lost }) takes.taken
+    ∙ ap (λ (d : Decoding). record s { detached = t.detached; decoder = d; text = t.text; lost = lost }) (sym (ap (λ (w : SessionOf). w.decoder) kept))
 
 completes_piece : (s mid t : SessionOf) (bytes : List ℕ) (lost : Bool) (takes : TakesPiece s mid bytes)
-    → t ≡ record mid { resting = t.resting; text = t.text; lost = lost } → Completes s.decoder t.decoder bytes takes.text
+    → t ≡ record mid { detached = t.detached; text = t.text; lost = lost } → Completes s.decoder t.decoder bytes takes.text
 completes_piece s mid t bytes lost takes kept =
     subst (λ (d : Decoding). Completes s.decoder d bytes takes.text) (sym (ap (λ (w : SessionOf). w.decoder) kept)) takes.completes
 
 -- a piece that was decoded and fed was fed to the session
 pub feeds_piece : (result : Result Fed SessionError) (s mid t : SessionOf) (bytes : List ℕ) → is_over s ≡ false → TakesPiece s mid bytes
-    → t ≡ record mid { resting = t.resting; text = t.text; lost = is_err result }
+    → t ≡ record mid { detached = t.detached; text = t.text; lost = is_err result }
     → IfOk result (λ fed. FeedsText (tokenizer_of mid) (tokenizer_of t) mid.text t.text fed)
     → IfOk result (λ fed. FeedsPiece s t bytes fed)
 feeds_piece (Err error) s mid t bytes going takes kept feeds = tt
@@ -181,19 +181,19 @@ feeds_piece (Ok fed) s mid t bytes going takes kept feeds = record {
   completes = completes_piece s mid t bytes false takes kept;
   feeds = subst (λ (w : SessionOf). FeedsText (tokenizer_of w) (tokenizer_of t) w.text t.text fed) takes.taken feeds;
   kept = kept_piece s mid t bytes false takes kept
-      ∙ ap (λ (l : Bool). record s { resting = t.resting; decoder = t.decoder; text = t.text; lost = l }) (sym (goes_on s.lost s.resting.failed s.resting.ended going).0);
-  going_on = over-none t.lost t.resting.failed t.resting.ended (ap (λ (w : SessionOf). w.lost) kept) feeds.not_failed feeds.going_on;
+      ∙ ap (λ (l : Bool). record s { detached = t.detached; decoder = t.decoder; text = t.text; lost = l }) (sym (goes_on s.lost s.detached.failed s.detached.ended going).0);
+  going_on = over-none t.lost t.detached.failed t.detached.ended (ap (λ (w : SessionOf). w.lost) kept) feeds.not_failed feeds.going_on;
 }
 
 -- a piece that was decoded, and whose feed was refused, was refused by the session
 pub feed_refused : (result : Result Fed SessionError) (s mid t : SessionOf) (bytes : List ℕ) → is_over s ≡ false → TakesPiece s mid bytes
-    → t ≡ record mid { resting = t.resting; text = t.text; lost = is_err result }
+    → t ≡ record mid { detached = t.detached; text = t.text; lost = is_err result }
     → OnErr result (StopsText (tokenizer_of mid) mid.text t.text (recorded_by t))
     → IfErr result (λ error. error ≡ Memory)
     → IfErr result (λ error. FeedRefused s t bytes error)
 feed_refused (Ok fed) s mid t bytes going takes kept stops memory = tt
 feed_refused (Err Memory) s mid t bytes going takes kept stops memory =
-    let goes = goes_on s.lost s.resting.failed s.resting.ended going in
+    let goes = goes_on s.lost s.detached.failed s.detached.ended going in
     let stopped = subst (λ (w : SessionOf). StopsText (tokenizer_of w) w.text t.text (recorded_by t)) takes.taken stops in
     inr (record {
       text = takes.text;
@@ -208,19 +208,19 @@ feed_refused (Err Waiting) s mid t bytes going takes kept stops memory = absurd 
 feed_refused (Err Over) s mid t bytes going takes kept stops memory = absurd cc
 
 -- all else but the tokenizer is as it was
-kept_end : (s t : SessionOf) (out : RestingOf Events) (lost is_lost : Bool) → s ≡ t → lost ≡ is_lost
-    → record s { resting = out; lost = lost } ≡ record t { resting = out; lost = is_lost }
+kept_end : (s t : SessionOf) (out : DetachedOf Recording) (lost is_lost : Bool) → s ≡ t → lost ≡ is_lost
+    → record s { detached = out; lost = lost } ≡ record t { detached = out; lost = is_lost }
 kept_end s t out lost is_lost same is =
-    ap (λ (w : SessionOf). record w { resting = out; lost = lost }) same ∙ ap (λ (l : Bool). record t { resting = out; lost = l }) is
+    ap (λ (w : SessionOf). record w { detached = out; lost = lost }) same ∙ ap (λ (l : Bool). record t { detached = out; lost = l }) is
 
 -- an end that the tokenizer refused was refused by the session
-pub end_refused : (result : Result (Unit {0}) SessionError) (s t : SessionOf) (out : RestingOf Events) (lost : Bool) → is_over s ≡ false → s.text ≡ [] → s.decoder.held ≡ [] → s ≡ t → lost ≡ is_err result
+pub end_refused : (result : Result (Unit {0}) SessionError) (s t : SessionOf) (out : DetachedOf Recording) (lost : Bool) → is_over s ≡ false → s.text ≡ [] → s.decoder.held ≡ [] → s ≡ t → lost ≡ is_err result
     → OnErr result (StopsTextEnd (tokenizer_of s) out.sink.recorded)
     → IfErr result (λ error. error ≡ Memory)
-    → IfErr result (λ error. EndRefused t (record s { resting = out; lost = lost }) error)
+    → IfErr result (λ error. EndRefused t (record s { detached = out; lost = lost }) error)
 end_refused (Ok done) s t out lost going read whole same is stops memory = tt
 end_refused (Err Memory) s t out lost going read whole same is stops memory =
-    let goes = goes_on s.lost s.resting.failed s.resting.ended going in
+    let goes = goes_on s.lost s.detached.failed s.detached.ended going in
     record {
       error = stops.0;
       stops = subst (λ (w : SessionOf). StopsEnding recorded_means stops.0 (tokenizer_of w) out.sink.recorded) same stops.1;

@@ -16,7 +16,7 @@ use Rattle.html5reading.specs.Reading.Here.{Tells, TellsTag}
 use Rattle.html5reading.specs.Reading.TextPlace.{Character}
 use Rattle.html5reading.specs.Slice.{Slice, cut_off, tokens_of_late}
 use Rattle.html5reading.specs.Start.{Start, Rules}
-use Rattle.html5records.specs.Events.{Events, Recorded, recorded_means, recorded_step, taking, after_taking}
+use Rattle.html5records.specs.Recording.{Recording, Recorded, recorded_means, recorded_step, taking, after_taking}
 
 module _ {X S H : Type 0} (means : Means X S H) (f : S → S)
     (steps : (s : S) (t : Told) (line : ℕ) → means.step (f s) t line ≡ f (means.step s t line))
@@ -175,9 +175,9 @@ pub taking-fed : (rules : Rules) (K : Start) (r : Recorded) (count : ℕ) (text 
     → feed recorded_means rules K (taking r count) text queue ≡ feed recorded_means rules K r text queue
 taking-fed rules K r count text queue = feed-same recorded_means (λ q. taking q count) (taking-steps count) (λ q t line. refl) (λ q. refl) rules K r text queue
 
-pub stands_on : (t u : Tokenizing Events) (count : ℕ) → u ≡ record t { sink = after_taking t.sink count }
+pub stands_on : (t u : Tokenizing Recording) (count : ℕ) → u ≡ record t { sink = after_taking t.sink count }
     → (K : Start) (r : Recorded) (text : List ℕ) → StandsAt recorded_means t K r text → StandsAt recorded_means u K (taking r count) text
 stands_on t u count is K r text stands =
-    subst (λ (w : Tokenizing Events). StandsAt recorded_means w K (taking r count) text) (sym is)
+    subst (λ (w : Tokenizing Recording). StandsAt recorded_means w K (taking r count) text) (sym is)
     (StandsAt-same recorded_means (λ q. taking q count) (taking-steps count) (λ q t line. refl) (λ q. refl)
     t (after_taking t.sink count) K r text refl stands)

@@ -7,8 +7,8 @@ use Rattle.markup5ever.specs.NamedReferences.{NamedReference}
 use Rattle.html5ever_interface.specs.Token.{Reply}
 use Rattle.html5ever_interface.specs.Token.Reply.{RunScript, SwitchEncoding}
 use Rattle.html5partial.specs.declared.error.TokenizerError.{TokenizerError}
-use Rattle.html5records.specs.Events.{Events, Recorded, recorded_means, taking, after_taking, WritesOn}
-use Rattle.html5ever.specs.Resting.{RestingOf, tokenizing}
+use Rattle.html5records.specs.Recording.{Recording, Recorded, recorded_means, taking, after_taking, WritesOn}
+use Rattle.html5ever.specs.Detached.{DetachedOf, tokenizing}
 use Rattle.html5ever.specs.Tokenizer.{Tokenizing, StandsAt, Feeds, FeedsItems, StopsFeeding, Finishes, FinishesItems, StopsEnding}
 use Rattle.html5reading.specs.Start.{Start}
 use Rattle.html5session.specs.declared.error.SessionError.{SessionError}
@@ -19,9 +19,9 @@ use Rattle.html5session.specs.declared.fed.Fed.TheVariants.{Done, Script, Encodi
 -- what contracts see of a session
 pub record SessionOf : Type 0 where
   -- the table of named references
-  pub names : List NamedReference
+  pub references : List NamedReference
   -- the tokenizer between two calls, with its sink of records
-  pub resting : RestingOf Events
+  pub detached : DetachedOf Recording
   -- the bytes that may begin a character, and how many bytes came before them
   pub decoder : Decoding
   -- the text that waits to be read
@@ -32,16 +32,16 @@ pub record SessionOf : Type 0 where
   pub error_at : Option ℕ
 
 -- the tokenizer, with its table
-abbrev pub tokenizer_of : SessionOf → Tokenizing Events
-tokenizer_of s = tokenizing s.resting s.names
+abbrev pub tokenizer_of : SessionOf → Tokenizing Recording
+tokenizer_of s = tokenizing s.detached s.references
 
 -- what was written of the page, and how many of its bytes were taken
 abbrev pub recorded_by : SessionOf → Recorded
-recorded_by s = s.resting.sink.recorded
+recorded_by s = s.detached.sink.recorded
 
 -- nothing more is read: a call failed, or the end was sent
 abbrev pub is_over : SessionOf → Bool
-is_over s = s.lost || (s.resting.failed || s.resting.ended)
+is_over s = s.lost || (s.detached.failed || s.detached.ended)
 
 -- a session that was over before a call is as it was
 pub record StaysOver (old new : SessionOf) : Type 0 where
@@ -52,7 +52,7 @@ pub record StaysOver (old new : SessionOf) : Type 0 where
 
 -- so many bytes of the records that wait were taken, and all else is as it was
 abbrev pub after_session_takes : SessionOf → ℕ → SessionOf
-after_session_takes s count = record s { resting = record s.resting { sink = after_taking s.resting.sink count } }
+after_session_takes s count = record s { detached = record s.detached { sink = after_taking s.detached.sink count } }
 
 -- wherever the tokenizer stood, it stands there still, with so many bytes more taken
 abbrev pub StandsOn : SessionOf → SessionOf → ℕ → Type 0
@@ -95,7 +95,7 @@ fed_by (SwitchEncoding text) = Encoding
 fed_by other = Done
 
 -- from wherever the tokenizer stood, a beginning of the text was read, up to a pause or all of it, and the rest waits
-pub record FeedsText (old new : Tokenizing Events) (text left : List ℕ) (fed : Fed) : Type 0 where
+pub record FeedsText (old new : Tokenizing Recording) (text left : List ℕ) (fed : Fed) : Type 0 where
   pub reply : Reply (Unit {0})
   pub feeds : Feeds recorded_means old new text left reply
   pub items : FeedsItems recorded_means old new text left reply
@@ -108,7 +108,7 @@ pub record FeedsText (old new : Tokenizing Events) (text left : List ℕ) (fed :
   pub going_on : new.ended ≡ false
 
 -- a feed failed within what it would have sent
-abbrev pub StopsText : Tokenizing Events → List ℕ → List ℕ → Recorded → Type 0
+abbrev pub StopsText : Tokenizing Recording → List ℕ → List ℕ → Recorded → Type 0
 StopsText old text left told = (error : TokenizerError) × StopsFeeding recorded_means error old text left told
 
 -- ---- what the calls do
@@ -118,7 +118,7 @@ pub record FeedsPiece (old new : SessionOf) (bytes : List ℕ) (fed : Fed) : Typ
   pub text : List ℕ
   pub completes : Completes old.decoder new.decoder bytes text
   pub feeds : FeedsText (tokenizer_of old) (tokenizer_of new) (old.text ++ chars text) new.text fed
-  pub kept : new ≡ record old { resting = new.resting; decoder = new.decoder; text = new.text }
+  pub kept : new ≡ record old { detached = new.detached; decoder = new.decoder; text = new.text }
   pub going_on : is_over new ≡ false
 
 -- a piece was lost to want of memory: what was sent before stays, and maybe a beginning of what it tells was sent
@@ -127,7 +127,7 @@ pub record LosesPiece (old new : SessionOf) (bytes : List ℕ) : Type 0 where
   pub completes : Completes old.decoder new.decoder bytes text
   pub stops : (recorded_by new ≡ recorded_by old) ⊎ StopsText (tokenizer_of old) (old.text ++ chars text) new.text (recorded_by new)
   pub records : WritesOn (recorded_by old) (recorded_by new)
-  pub kept : new ≡ record old { resting = new.resting; decoder = new.decoder; text = new.text; lost = true }
+  pub kept : new ≡ record old { detached = new.detached; decoder = new.decoder; text = new.text; lost = true }
 
 -- when each error of a feed comes, and what it leaves
 abbrev pub FeedRefused : SessionOf → SessionOf → List ℕ → SessionError → Type 0
@@ -138,17 +138,17 @@ FeedRefused old new bytes Waiting = ⊥
 FeedRefused old new bytes Over = StaysOver old new
 
 -- from wherever the tokenizer stood, the whole reading was sent
-pub record EndsText (old : Tokenizing Events) (new : Events) : Type 0 where
+pub record EndsText (old : Tokenizing Recording) (new : Recording) : Type 0 where
   pub finishes : Finishes recorded_means old new.recorded
   pub items : FinishesItems recorded_means old new.recorded
   pub records : WritesOn old.sink.recorded new.recorded
 
 -- the end was sent, where nothing waited, and nothing was held of a character
 pub record EndsSession (old new : SessionOf) : Type 0 where
-  pub ends : EndsText (tokenizer_of old) new.resting.sink
+  pub ends : EndsText (tokenizer_of old) new.detached.sink
   pub read : old.text ≡ []
   pub whole : old.decoder.held ≡ []
-  pub kept : new ≡ record old { resting = new.resting }
+  pub kept : new ≡ record old { detached = new.detached }
   pub over : is_over new ≡ true
 
 -- the end failed for want of memory, within what it would have sent
@@ -158,10 +158,10 @@ pub record LosesEnd (old new : SessionOf) : Type 0 where
   pub read : old.text ≡ []
   pub whole : old.decoder.held ≡ []
   pub records : WritesOn (recorded_by old) (recorded_by new)
-  pub kept : new ≡ record old { resting = new.resting; lost = true }
+  pub kept : new ≡ record old { detached = new.detached; lost = true }
 
 -- the end failed within what it would have told
-abbrev pub StopsTextEnd : Tokenizing Events → Recorded → Type 0
+abbrev pub StopsTextEnd : Tokenizing Recording → Recorded → Type 0
 StopsTextEnd old told = (error : TokenizerError) × StopsEnding recorded_means error old told
 
 -- when each error of an end comes, and what it leaves

@@ -1,6 +1,6 @@
 //! What the bytes that are taken have to do with how a page is read: nothing.
 ghost use Rattle.std.specs.Prelude.{◌≡◌, ℕ, List};
-ghost use Rattle.html5records.specs.Events.{Recorded, recorded_means, taking};
+ghost use Rattle.html5records.specs.Recording.{Recorded, recorded_means, taking};
 ghost use Rattle.html5feed.specs.Feed.{feed};
 ghost use Rattle.html5reading.specs.Reading.{all_messages, messages_so_far, state_after, start_after};
 ghost use Rattle.html5reading.specs.Start.{Rules, Start};

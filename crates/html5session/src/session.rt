@@ -2,10 +2,10 @@
 ghost use Rattle.std.specs.Prelude.{◌≡◌, ◌≢◌, ◌↔◌, ◌⊎◌, ◌++◌, [], true, false, length, take, drop, min, is_err, OnOk, OnErr, IfOk, IfErr, IsErrAnd};
 ghost use Rattle.std.specs.Str.{chars};
 ghost use Rattle.utf8_pieces.specs.Pieces.{IsNeverUtf8};
-ghost use Rattle.html5ever.specs.Resting.{tokenizing};
+ghost use Rattle.html5ever.specs.Detached.{tokenizing};
 ghost use Rattle.html5ever.specs.Tokenizer.{StandsAt, rules_of};
 ghost use Rattle.html5ever_interface.specs.Options.{options_of};
-ghost use Rattle.html5records.specs.Events.{recorded_means, none_recorded, no_events, waiting};
+ghost use Rattle.html5records.specs.Recording.{recorded_means, none_recorded, nothing_recorded, waiting};
 ghost use Rattle.html5feed.specs.Starting.{CanStart};
 ghost use Rattle.html5reading.specs.Start.{start_of};
 ghost use Rattle.html5session.specs.Session.{is_over, tokenizer_of, recorded_by, after_session_takes, StandsOn, FeedsText, StopsText, EndsText, StopsTextEnd};
@@ -13,53 +13,53 @@ ghost use Rattle.html5session.specs.Session.{TakesPiece, FeedsPiece, FeedRefused
 
 use crate::error::SessionError;
 use crate::fed::{Fed, fed_of};
-use html5records::event_sink::{EventOptions, EventSink};
-use html5ever::tokenizer::{BufferQueue, NamedReferences, Resting, Tokenizer, TokenizerOpts};
+use html5records::record_sink::{RecordOptions, RecordSink};
+use html5ever::tokenizer::{BufferQueue, NamedReferences, DetachedTokenizer, Tokenizer, TokenizerOpts};
 use std::alloc::{Allocator, Global};
 use std::marker::Model;
 use utf8_pieces::{DecodeError, Decoder};
 
 // Feeds the tokenizer what waits, up to a pause. The sink's only fault is want of memory.
 fn feed_text<A: Allocator + Copy>(
-    names: &NamedReferences<A>,
-    resting: Resting<EventSink<A>, A>,
+    references: &NamedReferences<A>,
+    detached: DetachedTokenizer<RecordSink<A>, A>,
     queue: &mut BufferQueue<A>,
-) -> (Resting<EventSink<A>, A>, Result<Fed, SessionError>)
-    requires going_on { resting.ended ≡ false }
-    requires not_failed { resting.failed ≡ false }
-    ensures feeds { IfOk result.1 (λ fed. FeedsText (tokenizing resting names.now)
-        (tokenizing result.0 names.now) queue.old.text queue.new.text fed) }
-    ensures stops { OnErr result.1 (StopsText (tokenizing resting names.now)
+) -> (DetachedTokenizer<RecordSink<A>, A>, Result<Fed, SessionError>)
+    requires going_on { detached.ended ≡ false }
+    requires not_failed { detached.failed ≡ false }
+    ensures feeds { IfOk result.1 (λ fed. FeedsText (tokenizing detached references.now)
+        (tokenizing result.0 references.now) queue.old.text queue.new.text fed) }
+    ensures stops { OnErr result.1 (StopsText (tokenizing detached references.now)
         queue.old.text queue.new.text result.0.sink.recorded) }
     ensures memory { IfErr result.1 (λ error. error ≡ SessionError.Memory) }
 {
-    let mut tokenizer = resting.resume(names);
+    let mut tokenizer = detached.resume(references);
     let answer = tokenizer.feed(queue);
-    let resting = tokenizer.rest();
+    let detached = tokenizer.rest();
     match answer {
-        Ok(answer) => (resting, Ok(fed_of(&answer))),
-        Err(_) => (resting, Err(SessionError::Memory)),
+        Ok(answer) => (detached, Ok(fed_of(&answer))),
+        Err(_) => (detached, Err(SessionError::Memory)),
     }
 }
 
 // Ends the tokenizer. The sink's only fault is want of memory.
 fn end_text<A: Allocator + Copy>(
-    names: &NamedReferences<A>,
-    resting: Resting<EventSink<A>, A>,
-) -> (Resting<EventSink<A>, A>, Result<(), SessionError>)
-    requires going_on { resting.ended ≡ false }
-    requires not_failed { resting.failed ≡ false }
-    ensures ends { OnOk result.1 (EndsText (tokenizing resting names.now) result.0.sink) }
+    references: &NamedReferences<A>,
+    detached: DetachedTokenizer<RecordSink<A>, A>,
+) -> (DetachedTokenizer<RecordSink<A>, A>, Result<(), SessionError>)
+    requires going_on { detached.ended ≡ false }
+    requires not_failed { detached.failed ≡ false }
+    ensures ends { OnOk result.1 (EndsText (tokenizing detached references.now) result.0.sink) }
     ensures ended { OnOk result.1 (result.0.ended ≡ true) }
-    ensures stops { OnErr result.1 (StopsTextEnd (tokenizing resting names.now) result.0.sink.recorded) }
+    ensures stops { OnErr result.1 (StopsTextEnd (tokenizing detached references.now) result.0.sink.recorded) }
     ensures memory { IfErr result.1 (λ error. error ≡ SessionError.Memory) }
 {
-    let mut tokenizer = resting.resume(names);
+    let mut tokenizer = detached.resume(references);
     let answer = tokenizer.end();
-    let resting = tokenizer.rest();
+    let detached = tokenizer.rest();
     match answer {
-        Ok(()) => (resting, Ok(())),
-        Err(_) => (resting, Err(SessionError::Memory)),
+        Ok(()) => (detached, Ok(())),
+        Err(_) => (detached, Err(SessionError::Memory)),
     }
 }
 
@@ -70,8 +70,8 @@ fn end_text<A: Allocator + Copy>(
 #[derive(Drop)]
 pub struct Session<A: Allocator = Global> {
     alloc: A,
-    names: NamedReferences<A>,
-    resting: Resting<EventSink<A>, A>,
+    references: NamedReferences<A>,
+    detached: DetachedTokenizer<RecordSink<A>, A>,
     decoder: Decoder,
     queue: BufferQueue<A>,
     lost: bool,
@@ -84,8 +84,8 @@ impl<A: Allocator> Model for Session<A> {
     ghost Value = { SessionOf };
 
     ghost view = { λ s. record {
-      names = s.names;
-      resting = s.resting;
+      references = s.references;
+      detached = s.detached;
       decoder = s.decoder;
       text = s.queue.text;
       lost = s.lost;
@@ -99,7 +99,7 @@ impl<A: Allocator> Session<A> {
     pub fn is_over(&self) -> bool
         ensures { result ≡ is_over self.now }
     {
-        self.lost || self.resting.has_failed() || self.resting.is_ended()
+        self.lost || self.detached.has_failed() || self.detached.is_ended()
     }
 
     /// Where the bytes of the last piece that was refused as `NotUtf8` stop being UTF-8, counted from
@@ -118,7 +118,7 @@ impl<A: Allocator> Session<A> {
         ensures taken { self.new ≡ after_session_takes self.old result }
         ensures stands { StandsOn self.old self.new result }
     {
-        self.resting.sink.take(into)
+        self.detached.sink.take(into)
     }
 }
 
@@ -126,28 +126,28 @@ impl<A: Allocator + Copy> Session<A> {
     /// A session at the start of a page, which reads named references by the table.
     pub fn new(
         alloc: A,
-        names: NamedReferences<A>,
+        references: NamedReferences<A>,
         opts: TokenizerOpts<A>,
-        events: EventOptions,
+        events: RecordOptions,
     ) -> Session<A>
         requires { CanStart opts.initial_state }
         ensures stands { StandsAt recorded_means (tokenizer_of result) (start_of (options_of opts))
             (none_recorded events.replies events.foreign) [] }
-        ensures rules { (tokenizer_of result).rules ≡ rules_of (options_of opts) names }
-        ensures sink { result.resting.sink ≡ no_events events.replies events.foreign }
-        ensures names { result.names ≡ names }
+        ensures rules { (tokenizer_of result).rules ≡ rules_of (options_of opts) references }
+        ensures sink { result.detached.sink ≡ nothing_recorded events.replies events.foreign }
+        ensures references { result.references ≡ references }
         ensures held { result.decoder.held ≡ [] }
         ensures place { result.decoder.taken ≡ 0 }
         ensures text { result.text ≡ [] }
         ensures going_on { is_over result ≡ false }
         ensures error_at { result.error_at ≡ None }
     {
-        let sink = EventSink::new(alloc, events);
-        let resting = Tokenizer::new(alloc, sink, opts, &names).rest();
+        let sink = RecordSink::new(alloc, events);
+        let detached = Tokenizer::new(alloc, sink, opts, &references).rest();
         Session {
             alloc,
-            names,
-            resting,
+            references,
+            detached,
             decoder: Decoder::new(),
             queue: BufferQueue::new(alloc),
             lost: false,
@@ -185,22 +185,22 @@ impl<A: Allocator + Copy> Session<A> {
         ensures stops { OnErr result.1 (StopsText (tokenizer_of self)
             self.text result.0.text (recorded_by result.0)) }
         ensures memory { IfErr result.1 (λ error. error ≡ SessionError.Memory) }
-        ensures kept { result.0 ≡ record self { resting = result.0.resting; text = result.0.text; lost = is_err result.1 } }
+        ensures kept { result.0 ≡ record self { detached = result.0.detached; text = result.0.text; lost = is_err result.1 } }
     {
         let Session {
             alloc,
-            names,
-            resting,
+            references,
+            detached,
             decoder,
             mut queue,
             lost: _,
             error_at,
         } = self;
-        let (resting, result) = feed_text(&names, resting, &mut queue);
+        let (detached, result) = feed_text(&references, detached, &mut queue);
         let session = Session {
             alloc,
-            names,
-            resting,
+            references,
+            detached,
             decoder,
             queue,
             lost: result.is_err(),
@@ -268,18 +268,18 @@ impl<A: Allocator + Copy> Session<A> {
         }
         let Session {
             alloc,
-            names,
-            resting,
+            references,
+            detached,
             decoder,
             queue,
             lost: _,
             error_at,
         } = self;
-        let (resting, result) = end_text(&names, resting);
+        let (detached, result) = end_text(&references, detached);
         let session = Session {
             alloc,
-            names,
-            resting,
+            references,
+            detached,
             decoder,
             queue,
             lost: result.is_err(),

@@ -1,17 +1,17 @@
 use crate::{Fed, Session, SessionError};
-use html5records::event_sink::{EventOptions, Replies};
+use html5records::record_sink::{RecordOptions, Replies};
 use html5records::reading::{TokenRecord, read_record};
 use html5ever::tokenizer::{NamedReferences, TokenizerOpts};
 use std::alloc::{AllocError, Global};
 use std::process::Abort;
 
 fn session(rt: &impl Abort, alloc: Global, replies: Replies) -> Session<Global> {
-    let names = NamedReferences::check(alloc, Vec::new(alloc)).expect(rt, "a table of nothing");
-    let events = EventOptions {
+    let references = NamedReferences::check(alloc, Vec::new(alloc)).expect(rt, "a table of nothing");
+    let events = RecordOptions {
         replies,
         foreign: false,
     };
-    Session::new(alloc, names, TokenizerOpts::default(), events)
+    Session::new(alloc, references, TokenizerOpts::default(), events)
 }
 
 // Takes all that waits, a few bytes at a time.

@@ -20,16 +20,16 @@ use Rattle.markup5ever.specs.NamedReferences.{NamedReference, IsTable}
 
 -- ---- the two kinds of references
 
-pub decided-number : (exact : Bool) (names : List NamedReference) (in_value : Bool) (held number : List ℕ) (next : Option ℕ) → held ≡ number_sign ∷ number
-    → decided exact names in_value held next ≡ number_reference exact number next
+pub decided-number : (exact : Bool) (references : List NamedReference) (in_value : Bool) (held number : List ℕ) (next : Option ℕ) → held ≡ number_sign ∷ number
+    → decided exact references in_value held next ≡ number_reference exact number next
 unfolding grammar.reference
-decided-number exact names in_value held number next is = rw is refl
+decided-number exact references in_value held number next is = rw is refl
 
-pub decided-name : (exact : Bool) (names : List NamedReference) (in_value : Bool) (held : List ℕ) (next : Option ℕ) → IsTable names → first_or held None ≢ Some number_sign
-    → decided exact names in_value held next ≡ named_reference exact in_value held next (longest_name names held)
+pub decided-name : (exact : Bool) (references : List NamedReference) (in_value : Bool) (held : List ℕ) (next : Option ℕ) → IsTable references → first_or held None ≢ Some number_sign
+    → decided exact references in_value held next ≡ named_reference exact in_value held next (longest_name references held)
 unfolding grammar.reference grammar.named_reference grammar.no_name
-decided-name exact names in_value [] next table other = rw (longest-nil names table.plain) refl
-decided-name exact names in_value (c ∷ held) next table other =
+decided-name exact references in_value [] next table other = rw (longest-nil references table.plain) refl
+decided-name exact references in_value (c ∷ held) next table other =
     let letter : c ≢ number_sign = λ e. other (ap Some e) in
     rw (ne_eqb c number_sign letter) refl
 
@@ -78,23 +78,23 @@ late-told stand found held =
     ∙ ap (λ told. found.errors ++ told) (sym (text_in-append stand (characters_in found) rest))
 
 -- of a reference, in a value or not, the errors come first
-pub late-decided : (exact : Bool) (names : List NamedReference) (is_in : Bool) (stand : Stand) (held : List ℕ) (next : Option ℕ) → is_in ≡ in_value stand
-    → tokens_of_late (late_tokens stand (found_at exact names stand held next) held)
-    ≡ (decided exact names is_in held next).errors ++ text_in stand (characters_in (found_at exact names stand held next) ++ drop (found_at exact names stand held next).taken held)
-late-decided exact names is_in stand held next inside =
-    rw inside (late-told stand (found_at exact names stand held next) held)
+pub late-decided : (exact : Bool) (references : List NamedReference) (is_in : Bool) (stand : Stand) (held : List ℕ) (next : Option ℕ) → is_in ≡ in_value stand
+    → tokens_of_late (late_tokens stand (found_at exact references stand held next) held)
+    ≡ (decided exact references is_in held next).errors ++ text_in stand (characters_in (found_at exact references stand held next) ++ drop (found_at exact references stand held next).taken held)
+late-decided exact references is_in stand held next inside =
+    rw inside (late-told stand (found_at exact references stand held next) held)
 
 -- a function finds what the grammar finds, and puts the rest after it
-pub told-found : (exact : Bool) (names : List NamedReference) (is_in : Bool) (stand : Stand) (held text rest : List ℕ) (next : Option ℕ) (found : Found) → is_in ≡ in_value stand
-    → IsFound found (decided exact names is_in held next) → text ≡ held → rest ≡ drop found.taken text
-    → tokens_of_late (late_tokens stand (found_at exact names stand held next) held) ≡ (decided exact names is_in held next).errors ++ text_in stand (found.first ∷ (more_of found.second ++ rest))
-told-found exact names is_in stand held text rest next found inside ok same is =
-    let here : IsFound found (found_at exact names stand held next) = subst (λ b. IsFound found (decided exact names b held next)) inside ok in
-    late-decided exact names is_in stand held next inside ∙ rw (is, same, here.taken, here.first, here.more) refl
+pub told-found : (exact : Bool) (references : List NamedReference) (is_in : Bool) (stand : Stand) (held text rest : List ℕ) (next : Option ℕ) (found : Found) → is_in ≡ in_value stand
+    → IsFound found (decided exact references is_in held next) → text ≡ held → rest ≡ drop found.taken text
+    → tokens_of_late (late_tokens stand (found_at exact references stand held next) held) ≡ (decided exact references is_in held next).errors ++ text_in stand (found.first ∷ (more_of found.second ++ rest))
+told-found exact references is_in stand held text rest next found inside ok same is =
+    let here : IsFound found (found_at exact references stand held next) = subst (λ b. IsFound found (decided exact references b held next)) inside ok in
+    late-decided exact references is_in stand held next inside ∙ rw (is, same, here.taken, here.first, here.more) refl
 
-pub leads-found : (exact : Bool) (names : List NamedReference) (is_in : Bool) (stand : Stand) (held text rest : List ℕ) (next : Option ℕ) (found : Found) → is_in ≡ in_value stand
-    → IsFound found (decided exact names is_in held next) → text ≡ held → rest ≡ drop found.taken text
-    → opened_in stand (found.first ∷ (more_of found.second ++ rest)) ≡ opened_after stand (found_at exact names stand held next) held
-leads-found exact names is_in stand held text rest next found inside ok same is =
-    let here : IsFound found (found_at exact names stand held next) = subst (λ b. IsFound found (decided exact names b held next)) inside ok in
+pub leads-found : (exact : Bool) (references : List NamedReference) (is_in : Bool) (stand : Stand) (held text rest : List ℕ) (next : Option ℕ) (found : Found) → is_in ≡ in_value stand
+    → IsFound found (decided exact references is_in held next) → text ≡ held → rest ≡ drop found.taken text
+    → opened_in stand (found.first ∷ (more_of found.second ++ rest)) ≡ opened_after stand (found_at exact references stand held next) held
+leads-found exact references is_in stand held text rest next found inside ok same is =
+    let here : IsFound found (found_at exact references stand held next) = subst (λ b. IsFound found (decided exact references b held next)) inside ok in
     rw (is, same, here.taken, here.first, here.more) refl

@@ -59,7 +59,7 @@ impl<S: TokenSink<Token<A>>, A: Allocator + Copy> Teller<'_, S, A> {
             (texts (chars (string_bytes text)) ++ Null ∷ []) }
     {
         self.emit_piece(text)?;
-        self.tell(Token::NullCharacterToken)
+        self.emit(Token::NullCharacterToken)
     }
 
     // Ends a section at its `>`.

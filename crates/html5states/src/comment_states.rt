@@ -84,7 +84,7 @@ impl<S: TokenSink<Token<A>>, A: Allocator + Copy> Teller<'_, S, A> {
         ensures { Emits S.means S.faults result self.old self.new
             (Comment (string_bytes text) ∷ []) }
     {
-        self.tell(Token::CommentToken(text))
+        self.emit(Token::CommentToken(text))
     }
 
     /// The standard's "Bogus comment state".

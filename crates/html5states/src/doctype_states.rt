@@ -32,7 +32,7 @@ impl<S: TokenSink<Token<A>>, A: Allocator + Copy> Teller<'_, S, A> {
     {
         at.state = State::Data;
         let doctype = mem::replace(&mut at.doctype, Doctype::default());
-        self.tell(Token::DoctypeToken(doctype))?;
+        self.emit(Token::DoctypeToken(doctype))?;
         Ok(Progress::Continues)
     }
 

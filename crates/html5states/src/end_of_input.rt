@@ -39,7 +39,7 @@ impl<S: TokenSink<Token<A>>, A: Allocator + Copy> Teller<'_, S, A> {
             (end_error_in self.old.exact_errors state ∷ End ∷ []) }
     {
         self.emit_end_error(state)?;
-        self.tell(Token::EOFToken)
+        self.emit(Token::EOFToken)
     }
 
     // Ends after a text of one character.
@@ -48,7 +48,7 @@ impl<S: TokenSink<Token<A>>, A: Allocator + Copy> Teller<'_, S, A> {
             (Text (encode_utf8 c) ∷ End ∷ []) }
     {
         self.emit_char(c)?;
-        self.tell(Token::EOFToken)
+        self.emit(Token::EOFToken)
     }
 
     // Ends after `</`, which is text.
@@ -86,7 +86,7 @@ impl<S: TokenSink<Token<A>>, A: Allocator + Copy> Teller<'_, S, A> {
     {
         match kind {
             RawKind::ScriptDataEscaped(_) => self.end_unexpected(State::RawData(kind)),
-            _ => self.tell(Token::EOFToken),
+            _ => self.emit(Token::EOFToken),
         }
     }
 
@@ -115,7 +115,7 @@ impl<S: TokenSink<Token<A>>, A: Allocator + Copy> Teller<'_, S, A> {
             (Comment text.now ∷ End ∷ []) }
     {
         self.emit_comment_text(text)?;
-        self.tell(Token::EOFToken)
+        self.emit(Token::EOFToken)
     }
 
     // Sends a comment with that text.
@@ -147,8 +147,8 @@ impl<S: TokenSink<Token<A>>, A: Allocator + Copy> Teller<'_, S, A> {
     {
         let mut doctype = doctype.try_clone()?;
         doctype.force_quirks = force_quirks;
-        self.tell(Token::DoctypeToken(doctype))?;
-        self.tell(Token::EOFToken)
+        self.emit(Token::DoctypeToken(doctype))?;
+        self.emit(Token::EOFToken)
     }
 
     // Ends in a state of DOCTYPEs that doesn't expect it.
@@ -162,13 +162,13 @@ impl<S: TokenSink<Token<A>>, A: Allocator + Copy> Teller<'_, S, A> {
     }
 
     /// The end of input in each state. A tag without its end is not sent.
-    pub fn tell_end_of_input(&mut self, at: &Opened<A>) -> Result<(), TokenizerError>
+    pub fn emit_end_of_input(&mut self, at: &Opened<A>) -> Result<(), TokenizerError>
         requires decided { is_undecided_open (opened_of at.now) ≡ false }
         ensures { Emits S.means S.faults result self.old self.new
             (told_at_end_of self.old.exact_errors (opened_of at.now)) }
     {
         match at.state {
-            State::Data | State::Plaintext => self.tell(Token::EOFToken),
+            State::Data | State::Plaintext => self.emit(Token::EOFToken),
             State::RawData(kind) => self.end_raw_text(kind),
             State::RawLessThanSign(kind) => self.end_after_less_than(kind),
             State::RawEndTagOpen(kind) => self.end_after_end_name(kind, ""),
@@ -180,7 +180,7 @@ impl<S: TokenSink<Token<A>>, A: Allocator + Copy> Teller<'_, S, A> {
                 self.end_unexpected(State::ScriptDataEscapedDashDash(kind))
             }
             State::ScriptDataEscapeStart(ScriptEscapeKind::Escaped)
-            | State::ScriptDataEscapeStartDash => self.tell(Token::EOFToken),
+            | State::ScriptDataEscapeStartDash => self.emit(Token::EOFToken),
             State::BogusComment => self.end_after_comment(&at.comment),
             State::ProcessingInstruction => self.end_in_instruction(&at.comment),
             State::CdataSection => self.end_in_cdata(&at.comment),

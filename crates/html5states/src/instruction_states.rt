@@ -41,7 +41,7 @@ impl<S: TokenSink<Token<A>>, A: Allocator + Copy> Teller<'_, S, A> {
         ensures { Emits S.means S.faults result self.old self.new
             (Instruction (string_bytes content) ∷ []) }
     {
-        self.tell(Token::ProcessingInstructionToken(content))
+        self.emit(Token::ProcessingInstructionToken(content))
     }
 
     // Sends a processing instruction with that content.
@@ -58,7 +58,7 @@ impl<S: TokenSink<Token<A>>, A: Allocator + Copy> Teller<'_, S, A> {
             (Instruction content.now ∷ End ∷ []) }
     {
         self.emit_instruction_text(content)?;
-        self.tell(Token::EOFToken)
+        self.emit(Token::EOFToken)
     }
 
     /// The end of input in a processing instruction, which is sent as far as it goes.

@@ -290,7 +290,7 @@ impl<S: TokenSink<Token<A>>, A: Allocator + Copy> Teller<'_, S, A> {
     {
         let mut text = String::from_str(self.alloc, "</")?;
         text.push_str(letters)?;
-        self.tell(Token::CharacterTokens(text))
+        self.emit(Token::CharacterTokens(text))
     }
 
     /// The standard's "Script data escape start state", and for `DoubleEscaped` its "Script data double

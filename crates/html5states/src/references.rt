@@ -95,19 +95,19 @@ impl<S: TokenSink<Token<A>>, A: Allocator + Copy> Teller<'_, S, A> {
     #[tactic(auto, using(crate::proofs::Tellings::tells_from_memory), unfolding(html5reading::specs::Reference::named_reference, html5ever_interface::specs::Sink::stepped))]
     fn resolve_name(
         &mut self,
-        names: &NamedReferences<A>,
+        references: &NamedReferences<A>,
         in_value: bool,
         held: &str,
         next: Option<char>,
     ) -> Result<Found, TokenizerError>
         requires { IsAscii held.now }
         ensures emits { Emits S.means S.faults result self.old self.new
-            (named_reference self.old.exact_errors in_value held.now next (longest_name names.now held.now)).errors }
+            (named_reference self.old.exact_errors in_value held.now next (longest_name references.now held.now)).errors }
         ensures found { IfOk result (λ found. IsFound found
-            (named_reference self.old.exact_errors in_value held.now next (longest_name names.now held.now))) }
+            (named_reference self.old.exact_errors in_value held.now next (longest_name references.now held.now))) }
         ensures within { IfOk result (λ found. found.taken ≤ length held.now) }
     {
-        let Some(named) = longest_name(names, held) else {
+        let Some(named) = longest_name(references, held) else {
             self.emit_unknown_name(held, next)?;
             return Ok(NO_REFERENCE);
         };
@@ -140,23 +140,23 @@ impl<S: TokenSink<Token<A>>, A: Allocator + Copy> Teller<'_, S, A> {
     // Sends the errors of a reference, and answers what it comes to.
     fn resolve(
         &mut self,
-        names: &NamedReferences<A>,
+        references: &NamedReferences<A>,
         in_value: bool,
         held: &CharRef<A>,
         next: Option<char>,
     ) -> Result<Found, TokenizerError>
         ensures emits { Emits S.means S.faults result self.old self.new
-            (decided self.old.exact_errors names.now in_value held.now next).errors }
+            (decided self.old.exact_errors references.now in_value held.now next).errors }
         ensures found { IfOk result
-            (λ found. IsFound found (decided self.old.exact_errors names.now in_value held.now next)) }
+            (λ found. IsFound found (decided self.old.exact_errors references.now in_value held.now next)) }
         ensures ends { IfOk result (λ found. (c : ℕ) → next ≡ Some c → nat_lt (length held.now) found.taken
             ≡ ends_number held.now c) }
     {
         match held.number() {
             Some(number) => self.resolve_number(number, next),
             None => {
-                names.table_laws();
-                self.resolve_name(names, in_value, held.text(), next)
+                references.table_laws();
+                self.resolve_name(references, in_value, held.text(), next)
             }
         }
     }
@@ -179,7 +179,7 @@ impl<S: TokenSink<Token<A>>, A: Allocator + Copy> Teller<'_, S, A> {
     {
         match at.state {
             State::AttributeValue(_) => Ok(push_found(&mut at.tag.attr_value, found, rest)?),
-            _ => self.tell(Token::CharacterTokens(text_of_found(self.alloc, found, rest)?)),
+            _ => self.emit(Token::CharacterTokens(text_of_found(self.alloc, found, rest)?)),
         }
     }
 
@@ -188,22 +188,22 @@ impl<S: TokenSink<Token<A>>, A: Allocator + Copy> Teller<'_, S, A> {
     /// whether the character after it is the semicolon of a number.
     pub fn finish_reference(
         &mut self,
-        names: &NamedReferences<A>,
+        references: &NamedReferences<A>,
         at: &mut Opened<A>,
         held: &CharRef<A>,
         next: Option<char>,
     ) -> Result<bool, TokenizerError>
         requires { HasStand (opened_of at.old) }
         ensures emits { Emits S.means S.faults result self.old self.new
-            (tokens_of_late (late_tokens (stand_of (opened_of at.old)) (found_at self.old.exact_errors names.now
+            (tokens_of_late (late_tokens (stand_of (opened_of at.old)) (found_at self.old.exact_errors references.now
             (stand_of (opened_of at.old)) held.now next) held.now)) }
         ensures leads { OnOk result (opened_of at.new ≡ opened_after (stand_of (opened_of at.old))
-            (found_at self.old.exact_errors names.now (stand_of (opened_of at.old)) held.now next) held.now) }
+            (found_at self.old.exact_errors references.now (stand_of (opened_of at.old)) held.now next) held.now) }
         ensures ends { IfOk result (λ ends. (c : ℕ) → next ≡ Some c → ends ≡ ends_number held.now c) }
         ensures stays { HasStand (opened_of at.new) }
         ensures last { last_name_of at.new ≡ last_name_of at.old }
     {
-        let found = self.resolve(names, is_in_value(at), held, next)?;
+        let found = self.resolve(references, is_in_value(at), held, next)?;
         let text = held.text();
         self.put_characters(at, &found, afterwards(text, found.taken))?;
         Ok(text.len() < found.taken)

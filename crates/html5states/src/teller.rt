@@ -75,7 +75,7 @@ impl<S: TokenSink<Token<A>>, A: Allocator + Copy> Teller<'_, S, A> {
 
     /// Sends the sink a token that isn't a tag, a text by its characters.
     #[inline(always)]
-    pub fn tell(&mut self, token: Token<A>) -> Result<(), TokenizerError>
+    pub fn emit(&mut self, token: Token<A>) -> Result<(), TokenizerError>
         requires no_tag { is_tag (told_by token) ≡ false }
         requires filled { tokens_in (told_by token) ≢ [] }
         ensures { Emits S.means S.faults result self.old self.new
@@ -86,7 +86,7 @@ impl<S: TokenSink<Token<A>>, A: Allocator + Copy> Teller<'_, S, A> {
 
     /// Sends the sink a tag, and answers its reply.
     #[inline(always)]
-    pub fn tell_tag(
+    pub fn emit_tag(
         &mut self,
         tag: Tag<A>,
     ) -> Result<TokenSinkResult<S::Handle, String<A>>, TokenizerError>
@@ -115,7 +115,7 @@ impl<S: TokenSink<Token<A>>, A: Allocator + Copy> Teller<'_, S, A> {
         ensures { Emits S.means S.faults result self.old self.new
             (Error (message_bytes message) ∷ []) }
     {
-        self.tell(Token::ParseError(message))
+        self.emit(Token::ParseError(message))
     }
 
     /// Sends the sink an error with that message.

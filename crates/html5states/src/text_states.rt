@@ -41,7 +41,7 @@ impl<S: TokenSink<Token<A>>, A: Allocator + Copy> Teller<'_, S, A> {
             (error_in self.old.exact_errors State.Data c ∷ Null ∷ []) }
     {
         self.emit_unexpected(c, State::Data)?;
-        self.tell(Token::NullCharacterToken)
+        self.emit(Token::NullCharacterToken)
     }
 
     /// Sends a character that is text; NUL is an error in the state, and U+FFFD.

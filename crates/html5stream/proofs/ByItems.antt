@@ -16,14 +16,14 @@ use Rattle.html5stream.specs.Streams.{ReadsSource, ReadsSourceItems}
 use Rattle.markup5ever.specs.NamedReferences.{NamedReference, IsTable}
 
 module _ {X S H : Type 0} (means : Means X S H) where
-  pub source-items : (opts : OptionsOf) (names : List NamedReference) (s : S) (before after : Option (List ℕ)) (t : S) → IsTable names
-      → ReadsSource means opts names s before after t → ReadsSourceItems means opts names s before after t
-  source-items opts names s before after t table read = record {
+  pub source-items : (opts : OptionsOf) (references : List NamedReference) (s : S) (before after : Option (List ℕ)) (t : S) → IsTable references
+      → ReadsSource means opts references s before after t → ReadsSourceItems means opts references s before after t
+  source-items opts references s before after t table read = record {
     bytes = read.bytes;
     given = read.given;
     at_end = read.at_end;
     utf8 = read.utf8;
-    told = whole-items means opts names s (chars read.bytes) t (rules_of opts names) table refl read.told;
+    told = whole-items means opts references s (chars read.bytes) t (rules_of opts references) table refl read.told;
   }
 
 -- what a handler makes of a page is what it makes of the messages of its items
@@ -45,28 +45,28 @@ page-items page handed composes unread left before after composed read =
     }
 
 -- a whole text by the default options
-composed-page : {X S H : Type 0} (means : Means X S H) (names : List NamedReference) (s : S) (text : List ℕ) → IsTable names
-    → (M : List Message) × (E : List Message) × Items means (rules_of default_options names) (start_of default_options) s text M E
-    × (all_messages means (rules_of default_options names) (start_of default_options) s text ≡ M ++ E)
-composed-page means names s text table =
-    let c : Composed means (rules_of default_options names) (start_of default_options) s text = all-composed means (rules_of default_options names) (start_of default_options) s text refl in
-    (c.tells, c.ends, c.items, reading-items means (rules_of default_options names) (start_of default_options) s text c.tells c.ends table c.items)
+composed-page : {X S H : Type 0} (means : Means X S H) (references : List NamedReference) (s : S) (text : List ℕ) → IsTable references
+    → (M : List Message) × (E : List Message) × Items means (rules_of default_options references) (start_of default_options) s text M E
+    × (all_messages means (rules_of default_options references) (start_of default_options) s text ≡ M ++ E)
+composed-page means references s text table =
+    let c : Composed means (rules_of default_options references) (start_of default_options) s text = all-composed means (rules_of default_options references) (start_of default_options) s text refl in
+    (c.tells, c.ends, c.items, reading-items means (rules_of default_options references) (start_of default_options) s text c.tells c.ends table c.items)
 
-pub tags-items : {S : Type 0} (step : S → TagOf → ℕ → S) (names : List NamedReference) (unread left : Option (List ℕ)) (before after : S) → IsTable names
-    → ReadsPage (tags_after step names) unread left before after → ReadsPageItems (TagsItems step names) (tags_handed step) unread left before after
+pub tags-items : {S : Type 0} (step : S → TagOf → ℕ → S) (references : List NamedReference) (unread left : Option (List ℕ)) (before after : S) → IsTable references
+    → ReadsPage (tags_after step references) unread left before after → ReadsPageItems (TagsItems step references) (tags_handed step) unread left before after
 unfolding tags_page
-tags-items step names unread left before after table =
-    page-items (tags_page step names) (tags_handed step) (TagsItems step names) unread left before after
-    (λ bytes. composed-page (tags_means (λ t. t) step) names (tags_start before) (chars bytes) table)
+tags-items step references unread left before after table =
+    page-items (tags_page step references) (tags_handed step) (TagsItems step references) unread left before after
+    (λ bytes. composed-page (tags_means (λ t. t) step) references (tags_start before) (chars bytes) table)
 
 -- a page as a handler of runs is sent it is items, and its messages are those that they tell
-pub runs-composed : {S : Type 0} (step : S → List ℕ → Told → ℕ → S) (names : List NamedReference) (before : S) (bytes : List ℕ) → IsTable names
-    → (M : List Message) × (E : List Message) × RunsItems step names before bytes M E × (runs_page step names before bytes ≡ M ++ E)
+pub runs-composed : {S : Type 0} (step : S → List ℕ → Told → ℕ → S) (references : List NamedReference) (before : S) (bytes : List ℕ) → IsTable references
+    → (M : List Message) × (E : List Message) × RunsItems step references before bytes M E × (runs_page step references before bytes ≡ M ++ E)
 unfolding runs_page
-runs-composed step names before bytes table = composed-page (runs_means (λ t. t) step) names (runs_start before) (chars bytes) table
+runs-composed step references before bytes table = composed-page (runs_means (λ t. t) step) references (runs_start before) (chars bytes) table
 
-pub runs-items : {S : Type 0} (step : S → List ℕ → Told → ℕ → S) (names : List NamedReference) (unread left : Option (List ℕ)) (before after : S) → IsTable names
-    → ReadsPage (runs_after step names) unread left before after → ReadsPageItems (RunsItems step names) (runs_handed step) unread left before after
-runs-items step names unread left before after table =
-    page-items (runs_page step names) (runs_handed step) (RunsItems step names) unread left before after
-    (λ bytes. runs-composed step names before bytes table)
+pub runs-items : {S : Type 0} (step : S → List ℕ → Told → ℕ → S) (references : List NamedReference) (unread left : Option (List ℕ)) (before after : S) → IsTable references
+    → ReadsPage (runs_after step references) unread left before after → ReadsPageItems (RunsItems step references) (runs_handed step) unread left before after
+runs-items step references unread left before after table =
+    page-items (runs_page step references) (runs_handed step) (RunsItems step references) unread left before after
+    (λ bytes. runs-composed step references before bytes table)

@@ -37,15 +37,15 @@ SourceStops-unmoved means TooLong s M t unmoved stops = stops
 
 module _ {X S T H : Type 0} (means : Means X T H) (handler : T → S) (page : S → List ℕ → List Message) (handed : S → List Message → S) where
   -- a page's messages are those of a reading, and the handler is handed what its sink is sent
-  pub record IsPage (opts : OptionsOf) (names : List NamedReference) (from : T) (s : S) : Type 0 where
-    pub told : (bytes : List ℕ) → page s bytes ≡ all_messages means (rules_of opts names) (start_of opts) from (chars bytes)
+  pub record IsPage (opts : OptionsOf) (references : List NamedReference) (from : T) (s : S) : Type 0 where
+    pub told : (bytes : List ℕ) → page s bytes ≡ all_messages means (rules_of opts references) (start_of opts) from (chars bytes)
     pub afterwards : (M : List Message) → handed s M ≡ handler (stepped means.step from M)
     pub unmoved : IsUnmoved means
 
-  pub page-read : (opts : OptionsOf) (names : List NamedReference) (from : T) (s : S) (before after : Option (List ℕ)) (t : T)
-      → IsPage opts names from s → ReadsSource means opts names from before after t
+  pub page-read : (opts : OptionsOf) (references : List NamedReference) (from : T) (s : S) (before after : Option (List ℕ)) (t : T)
+      → IsPage opts references from s → ReadsSource means opts references from before after t
       → ReadsPage (λ s bytes. handed s (page s bytes)) before after s (handler t)
-  page-read opts names from s before after t is reads = record {
+  page-read opts references from s before after t is reads = record {
     bytes = reads.bytes;
     consumed = reads.given;
     at_end = reads.at_end;
@@ -54,10 +54,10 @@ module _ {X S T H : Type 0} (means : Means X T H) (handler : T → S) (page : S 
   }
 
   -- a handler stops where its sink does
-  pub page-stopped : (opts : OptionsOf) (names : List NamedReference) (from : T) (s : S) (before after : Option (List ℕ)) (t : T)
-      → IsPage opts names from s → (e : StreamError) → StopsSource means e opts names from before after t
+  pub page-stopped : (opts : OptionsOf) (references : List NamedReference) (from : T) (s : S) (before after : Option (List ℕ)) (t : T)
+      → IsPage opts references from s → (e : StreamError) → StopsSource means e opts references from before after t
       → StopsPage page handed before after s (handler t)
-  page-stopped opts names from s before after t is e stops =
+  page-stopped opts references from s before after t is e stops =
       let within = SourceStops-unmoved means e from _ t is.unmoved stops.stopped in
       record {
         text = stops.text;
@@ -72,18 +72,18 @@ module _ {X S T H : Type 0} (means : Means X T H) (handler : T → S) (page : S 
 
 -- sinks and options that were made by calls that say what they made
 module _ {X S : Type 0} where
-  pub tags-are-page : (names : List NamedReference) (options : OptionsOf) (s : S) (state : X → Tagged S) (step : S → TagOf → ℕ → S) (from : Tagged S)
+  pub tags-are-page : (references : List NamedReference) (options : OptionsOf) (s : S) (state : X → Tagged S) (step : S → TagOf → ℕ → S) (from : Tagged S)
       → options ≡ default_options → from ≡ tags_start s
-      → IsPage (tags_means state step) (λ t. t.handler) (tags_page step names) (tags_handed step) options names from s
+      → IsPage (tags_means state step) (λ t. t.handler) (tags_page step references) (tags_handed step) options references from s
   unfolding tags_page tags_handed
-  tags-are-page names options s state step from chosen begun =
+  tags-are-page references options s state step from chosen begun =
       let unmoved : IsUnmoved (tags_means state step) = record { finish = λ s. refl; faulted = λ s told line. refl; end_faulted = λ s. refl } in
       rw (chosen, begun) record { told = λ bytes. refl; afterwards = λ M. refl; unmoved = unmoved }
 
-  pub runs-are-page : (names : List NamedReference) (options : OptionsOf) (s : S) (state : X → Running S) (step : S → List ℕ → Told → ℕ → S) (from : Running S)
+  pub runs-are-page : (references : List NamedReference) (options : OptionsOf) (s : S) (state : X → Running S) (step : S → List ℕ → Told → ℕ → S) (from : Running S)
       → options ≡ default_options → from ≡ runs_start s
-      → IsPage (runs_means state step) (λ t. t.joined.handler) (runs_page step names) (runs_handed step) options names from s
+      → IsPage (runs_means state step) (λ t. t.joined.handler) (runs_page step references) (runs_handed step) options references from s
   unfolding runs_page runs_handed
-  runs-are-page names options s state step from chosen begun =
+  runs-are-page references options s state step from chosen begun =
       let unmoved : IsUnmoved (runs_means state step) = record { finish = λ s. refl; faulted = λ s told line. refl; end_faulted = λ s. refl } in
       rw (chosen, begun) record { told = λ bytes. refl; afterwards = λ M. refl; unmoved = unmoved }

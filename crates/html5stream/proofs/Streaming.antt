@@ -235,10 +235,10 @@ module _ {X S H : Type 0} (means : Means X S H) where
       }
 
   -- from the start of a stream
-  pub ReadsSource-start : (opts : OptionsOf) (names : List NamedReference) (before after : Option (List ℕ)) (t : Tokenizing X) (s v : S)
-      → StandsAt means t (start_of opts) s [] → t.rules ≡ rules_of opts names → FinishesText means before after t v
-      → ReadsSource means opts names s before after v
-  ReadsSource-start opts names before after t s v stands same read =
+  pub ReadsSource-start : (opts : OptionsOf) (references : List NamedReference) (before after : Option (List ℕ)) (t : Tokenizing X) (s v : S)
+      → StandsAt means t (start_of opts) s [] → t.rules ≡ rules_of opts references → FinishesText means before after t v
+      → ReadsSource means opts references s before after v
+  ReadsSource-start opts references before after t s v stands same read =
       record {
         bytes = read.bytes;
         given = read.given;
@@ -248,11 +248,11 @@ module _ {X S H : Type 0} (means : Means X S H) where
       }
 
   -- a stop within a text is one within its reading from the start of a stream
-  pub StopsSource-start : (opts : OptionsOf) (names : List NamedReference) (before after : Option (List ℕ)) (t : Tokenizing X) (s v : S)
-      → StandsAt means t (start_of opts) s [] → t.rules ≡ rules_of opts names
+  pub StopsSource-start : (opts : OptionsOf) (references : List NamedReference) (before after : Option (List ℕ)) (t : Tokenizing X) (s v : S)
+      → StandsAt means t (start_of opts) s [] → t.rules ≡ rules_of opts references
       → (error : StreamError) → StopsText means error before after t v
-      → StopsSource means error opts names s before after v
-  StopsSource-start opts names before after t s v stands same error stops =
+      → StopsSource means error opts references s before after v
+  StopsSource-start opts references before after t s v stands same error stops =
       record {
         text = stops.text;
         rest = stops.rest;
@@ -264,11 +264,11 @@ module _ {X S H : Type 0} (means : Means X S H) where
       }
 
   -- where a read failed, the sink was sent what the text up to there decides
-  pub TellsGiven-start : {T : Type 0} (r : Result T StreamError) (opts : OptionsOf) (names : List NamedReference) (before after : Option (List ℕ)) (t : Tokenizing X) (s v : S)
-      → StandsAt means t (start_of opts) s [] → t.rules ≡ rules_of opts names
+  pub TellsGiven-start : {T : Type 0} (r : Result T StreamError) (opts : OptionsOf) (references : List NamedReference) (before after : Option (List ℕ)) (t : Tokenizing X) (s v : S)
+      → StandsAt means t (start_of opts) s [] → t.rules ≡ rules_of opts references
       → IfErr r (λ error. StopsText means error before after t v) → r ≡ Err Read
-      → TellsGiven means opts names s before after v
-  TellsGiven-start r opts names before after t s v stands same stops is =
+      → TellsGiven means opts references s before after v
+  TellsGiven-start r opts references before after t s v stands same stops is =
       let read = IfErr-at_err (λ error. StopsText means error before after t v) is stops in
       let decided = read.decided refl in
       record {

@@ -78,13 +78,13 @@ module _ {S : Type 0} where
 
   -- the messages of a page whose bytes are given, as a handler of tags is sent them
   unfoldable pub tags_page : (S → TagOf → ℕ → S) → List NamedReference → S → List ℕ → List Message
-  tags_page step names s bytes =
-      all_messages (tags_means (λ t. t) step) (rules_of default_options names) (start_of default_options) (tags_start s) (chars bytes)
+  tags_page step references s bytes =
+      all_messages (tags_means (λ t. t) step) (rules_of default_options references) (start_of default_options) (tags_start s) (chars bytes)
 
   -- the items of such a page
   abbrev pub TagsItems : (S → TagOf → ℕ → S) → List NamedReference → S → List ℕ → List Message → List Message → Type 0
-  TagsItems step names s bytes tells ends =
-      Items (tags_means (λ t. t) step) (rules_of default_options names) (start_of default_options) (tags_start s) (chars bytes) tells ends
+  TagsItems step references s bytes tells ends =
+      Items (tags_means (λ t. t) step) (rules_of default_options references) (start_of default_options) (tags_start s) (chars bytes) tells ends
 
   -- a handler after some messages: it was handed each tag of them
   unfoldable pub tags_handed : (S → TagOf → ℕ → S) → S → List Message → S
@@ -92,7 +92,7 @@ module _ {S : Type 0} where
 
   -- and after a whole page
   abbrev pub tags_after : (S → TagOf → ℕ → S) → List NamedReference → S → List ℕ → S
-  tags_after step names s bytes = tags_handed step s (tags_page step names s bytes)
+  tags_after step references s bytes = tags_handed step s (tags_page step references s bytes)
 
   -- where a sink of runs starts
   abbrev pub runs_start : S → Running S
@@ -100,13 +100,13 @@ module _ {S : Type 0} where
 
   -- the messages of a page whose bytes are given, as a handler of runs is sent them
   unfoldable pub runs_page : (S → List ℕ → Told → ℕ → S) → List NamedReference → S → List ℕ → List Message
-  runs_page step names s bytes =
-      all_messages (runs_means (λ t. t) step) (rules_of default_options names) (start_of default_options) (runs_start s) (chars bytes)
+  runs_page step references s bytes =
+      all_messages (runs_means (λ t. t) step) (rules_of default_options references) (start_of default_options) (runs_start s) (chars bytes)
 
   -- the items of such a page
   abbrev pub RunsItems : (S → List ℕ → Told → ℕ → S) → List NamedReference → S → List ℕ → List Message → List Message → Type 0
-  RunsItems step names s bytes tells ends =
-      Items (runs_means (λ t. t) step) (rules_of default_options names) (start_of default_options) (runs_start s) (chars bytes) tells ends
+  RunsItems step references s bytes tells ends =
+      Items (runs_means (λ t. t) step) (rules_of default_options references) (start_of default_options) (runs_start s) (chars bytes) tells ends
 
   -- a handler after some messages: it was handed each run of text that another token of them ends, with that token
   unfoldable pub runs_handed : (S → List ℕ → Told → ℕ → S) → S → List Message → S
@@ -114,4 +114,4 @@ module _ {S : Type 0} where
 
   -- and after a whole page
   abbrev pub runs_after : (S → List ℕ → Told → ℕ → S) → List NamedReference → S → List ℕ → S
-  runs_after step names s bytes = runs_handed step s (runs_page step names s bytes)
+  runs_after step references s bytes = runs_handed step s (runs_page step references s bytes)

@@ -71,37 +71,37 @@ module _ {X S H : Type 0} (means : Means X S H) where
   SourceStops TooLong s M t = StopsWithin means.step means.faulted s M t
 
   -- the source gave a text up to its end, and its whole reading was sent; then the sink finished
-  pub record ReadsSource (opts : OptionsOf) (names : List NamedReference) (s : S) (before after : Option (List ℕ)) (t : S) : Type 0 where
+  pub record ReadsSource (opts : OptionsOf) (references : List NamedReference) (s : S) (before after : Option (List ℕ)) (t : S) : Type 0 where
     pub bytes : List ℕ
     pub given : Consumes before after bytes
     pub at_end : IsAtEnd after
     pub utf8 : IsUtf8 bytes
-    pub told : t ≡ finished_reading means opts names s (chars bytes)
+    pub told : t ≡ finished_reading means opts references s (chars bytes)
 
   -- the same by items: what the items of the text tell, and its end, was sent
-  pub record ReadsSourceItems (opts : OptionsOf) (names : List NamedReference) (s : S) (before after : Option (List ℕ)) (t : S) : Type 0 where
+  pub record ReadsSourceItems (opts : OptionsOf) (references : List NamedReference) (s : S) (before after : Option (List ℕ)) (t : S) : Type 0 where
     pub bytes : List ℕ
     pub given : Consumes before after bytes
     pub at_end : IsAtEnd after
     pub utf8 : IsUtf8 bytes
-    pub told : FinishedByItems means opts names s (chars bytes) t
+    pub told : FinishedByItems means opts references s (chars bytes) t
 
   -- what the source gave begins with a text, and the sink stopped within the reading of that. Where the error is not of the bytes,
   -- they can still become a text.
-  pub record StopsSource (error : StreamError) (opts : OptionsOf) (names : List NamedReference) (s : S)
+  pub record StopsSource (error : StreamError) (opts : OptionsOf) (references : List NamedReference) (s : S)
       (before after : Option (List ℕ)) (t : S) : Type 0 where
     pub text : List ℕ
     pub rest : List ℕ
     pub given : Consumes before after (text ++ rest)
     pub utf8 : IsUtf8 text
-    pub stopped : SourceStops error s (all_messages means (rules_of opts names) (start_of opts) s (chars text)) t
+    pub stopped : SourceStops error s (all_messages means (rules_of opts references) (start_of opts) s (chars text)) t
     pub may_go_on : ((place : ℕ) → error ≢ NotUtf8 place) → ¬ (IsNeverUtf8 (text ++ rest))
 
   -- what the source gave is a text, and after it at most a beginning of a character: exactly what the text decides was sent
-  pub record TellsGiven (opts : OptionsOf) (names : List NamedReference) (s : S) (before after : Option (List ℕ)) (t : S) : Type 0 where
+  pub record TellsGiven (opts : OptionsOf) (references : List NamedReference) (s : S) (before after : Option (List ℕ)) (t : S) : Type 0 where
     pub text : List ℕ
     pub rest : List ℕ
     pub given : Consumes before after (text ++ rest)
     pub utf8 : IsUtf8 text
     pub cut : IsCutCharacter rest
-    pub told : t ≡ state_after means (rules_of opts names) (start_of opts) s (chars text)
+    pub told : t ≡ state_after means (rules_of opts references) (start_of opts) s (chars text)

@@ -19,13 +19,13 @@ pub fn read_tags<R: Source, H: TagHandler<Tag<A>>, A: Allocator + Copy>(
     alloc: A,
     source: &mut R,
     handler: H,
-    names: &NamedReferences<A>,
+    references: &NamedReferences<A>,
 ) -> (H, Result<(), StreamError>)
-    ensures finishes { OnOk result.1 (ReadsPage (tags_after H.step names.now)
+    ensures finishes { OnOk result.1 (ReadsPage (tags_after H.step references.now)
         (R.remaining source.old) (R.remaining source.new) (H.state handler) (H.state result.0)) }
-    ensures items { OnOk result.1 (ReadsPageItems (TagsItems H.step names.now) (tags_handed H.step)
+    ensures items { OnOk result.1 (ReadsPageItems (TagsItems H.step references.now) (tags_handed H.step)
         (R.remaining source.old) (R.remaining source.new) (H.state handler) (H.state result.0)) }
-    ensures beginning { OnErr result.1 (StopsPage (tags_page H.step names.now) (tags_handed H.step)
+    ensures beginning { OnErr result.1 (StopsPage (tags_page H.step references.now) (tags_handed H.step)
         (R.remaining source.old) (R.remaining source.new) (H.state handler) (H.state result.0)) }
     ensures not_utf8 { (place : ℕ) → result.1 ≡ Err (StreamError.NotUtf8 place)
         → GivesNoText place (R.remaining source.old) (R.remaining source.new) }
@@ -35,10 +35,10 @@ pub fn read_tags<R: Source, H: TagHandler<Tag<A>>, A: Allocator + Copy>(
         → GivesAtLeast (2 ^ 64 - 1) (R.remaining source.old) (R.remaining source.new) }
     ensures read { R.failures source.new ≡ R.failures source.old + failed_reads result.1 }
 {
-    names.table_laws();
+    references.table_laws();
     let tags = TagsOnly::new(handler);
     let opts = TokenizerOpts::default();
-    let (told, read) = read_source(alloc, source, tags, opts, names);
+    let (told, read) = read_source(alloc, source, tags, opts, references);
     (told.into_inner(), read)
 }
 
@@ -48,13 +48,13 @@ pub fn read_tokens<R: Source, H: TokenHandler<Token<A>>, A: Allocator + Copy>(
     alloc: A,
     source: &mut R,
     handler: H,
-    names: &NamedReferences<A>,
+    references: &NamedReferences<A>,
 ) -> (H, Result<(), StreamError>)
-    ensures finishes { OnOk result.1 (ReadsPage (runs_after H.step names.now)
+    ensures finishes { OnOk result.1 (ReadsPage (runs_after H.step references.now)
         (R.remaining source.old) (R.remaining source.new) (H.state handler) (H.state result.0)) }
-    ensures items { OnOk result.1 (ReadsPageItems (RunsItems H.step names.now) (runs_handed H.step)
+    ensures items { OnOk result.1 (ReadsPageItems (RunsItems H.step references.now) (runs_handed H.step)
         (R.remaining source.old) (R.remaining source.new) (H.state handler) (H.state result.0)) }
-    ensures beginning { OnErr result.1 (StopsPage (runs_page H.step names.now) (runs_handed H.step)
+    ensures beginning { OnErr result.1 (StopsPage (runs_page H.step references.now) (runs_handed H.step)
         (R.remaining source.old) (R.remaining source.new) (H.state handler) (H.state result.0)) }
     ensures not_utf8 { (place : ℕ) → result.1 ≡ Err (StreamError.NotUtf8 place)
         → GivesNoText place (R.remaining source.old) (R.remaining source.new) }
@@ -64,9 +64,9 @@ pub fn read_tokens<R: Source, H: TokenHandler<Token<A>>, A: Allocator + Copy>(
         → GivesAtLeast (2 ^ 64 - 1) (R.remaining source.old) (R.remaining source.new) }
     ensures read { R.failures source.new ≡ R.failures source.old + failed_reads result.1 }
 {
-    names.table_laws();
+    references.table_laws();
     let runs = TextRuns::new(alloc, handler);
     let opts = TokenizerOpts::default();
-    let (joined, read) = read_source(alloc, source, runs, opts, names);
+    let (joined, read) = read_source(alloc, source, runs, opts, references);
     (joined.into_inner(), read)
 }

@@ -158,7 +158,7 @@ fn read_text<R: Source, S: TokenSink<Token<A>>, A: Allocator + Copy>(
 }
 
 // Sends the end of the input, and has the sink finish.
-fn tell_end<S: TokenSink<Token<A>>, A: Allocator + Copy>(
+fn emit_end<S: TokenSink<Token<A>>, A: Allocator + Copy>(
     tokenizer: &mut Tokenizer<'_, S, A>,
 ) -> Result<(), StreamError>
     requires going_on { tokenizer.old.ended ≡ false }
@@ -195,7 +195,7 @@ fn read_all<R: Source, S: TokenSink<Token<A>>, A: Allocator + Copy>(
     ensures faults { S.faults tokenizer.new.sink ≡ S.faults tokenizer.old.sink + sink_faults result }
 {
     read_text(alloc, source, tokenizer)?;
-    tell_end(tokenizer)
+    emit_end(tokenizer)
 }
 
 /// Reads a source to its end, 4,096 bytes at a time, from the start of a stream, and hands the sink back.
@@ -206,18 +206,18 @@ pub fn read_source<R: Source, S: TokenSink<Token<A>>, A: Allocator + Copy>(
     source: &mut R,
     sink: S,
     opts: TokenizerOpts<A>,
-    names: &NamedReferences<A>,
+    references: &NamedReferences<A>,
 ) -> (S, Result<(), StreamError>)
     requires { CanStart opts.initial_state }
 
     // What an `Ok` says: the source is at its end, and the sink was sent the whole reading of its text.
-    ensures finishes { OnOk result.1 (ReadsSource S.means (options_of opts) names.now (S.means.state sink)
+    ensures finishes { OnOk result.1 (ReadsSource S.means (options_of opts) references.now (S.means.state sink)
         (R.remaining source.old) (R.remaining source.new) (S.means.state result.0)) }
-    ensures items { OnOk result.1 (ReadsSourceItems S.means (options_of opts) names.now (S.means.state sink)
+    ensures items { OnOk result.1 (ReadsSourceItems S.means (options_of opts) references.now (S.means.state sink)
         (R.remaining source.old) (R.remaining source.new) (S.means.state result.0)) }
 
     // When each error comes, and what it leaves.
-    ensures decided { result.1 ≡ Err StreamError.Read → TellsGiven S.means (options_of opts) names.now
+    ensures decided { result.1 ≡ Err StreamError.Read → TellsGiven S.means (options_of opts) references.now
         (S.means.state sink) (R.remaining source.old) (R.remaining source.new) (S.means.state result.0) }
     ensures not_utf8 { (place : ℕ) → result.1 ≡ Err (StreamError.NotUtf8 place)
         → GivesNoText place (R.remaining source.old) (R.remaining source.new) }
@@ -225,13 +225,13 @@ pub fn read_source<R: Source, S: TokenSink<Token<A>>, A: Allocator + Copy>(
         → GivesNoFault (R.remaining source.old) (R.remaining source.new) }
     ensures too_long { result.1 ≡ Err StreamError.TooLong
         → GivesAtLeast (2 ^ 64 - 1) (R.remaining source.old) (R.remaining source.new) }
-    ensures beginning { IfErr result.1 (λ error. StopsSource S.means error (options_of opts) names.now
+    ensures beginning { IfErr result.1 (λ error. StopsSource S.means error (options_of opts) references.now
         (S.means.state sink) (R.remaining source.old) (R.remaining source.new) (S.means.state result.0)) }
     ensures read { R.failures source.new ≡ R.failures source.old + failed_reads result.1 }
     ensures faults { S.faults result.0 ≡ S.faults sink + sink_faults result.1 }
 {
-    names.table_laws();
-    let mut tokenizer = Tokenizer::new(alloc, sink, opts, names);
+    references.table_laws();
+    let mut tokenizer = Tokenizer::new(alloc, sink, opts, references);
     let result = read_all(alloc, source, &mut tokenizer);
     (tokenizer.into_sink(), result)
 }

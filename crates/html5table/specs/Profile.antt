@@ -1,4 +1,4 @@
--- The table where no other is given: a few of the standard's names, in their order by bytes.
+-- A short table, of a program that was given no other: a few of the standard's references, in the order of their names.
 use Rattle.std.specs.Prelude.{ℕ, List, [], ◌∷◌, None, Some, codes}
 use Rattle.markup5ever.specs.NamedReferences.{NamedReference}
 

@@ -3,9 +3,9 @@
 
 mod entry;
 mod list;
-mod names;
+mod profile;
 mod table;
 
 pub use crate::list::{entries_of, has_form};
-pub use crate::names::profile;
-pub use crate::table::names_of;
+pub use crate::profile::profile;
+pub use crate::table::references_of;

@@ -5,11 +5,11 @@ use html5extract::page_text::PageText;
 use html5programs::{Program, run};
 use std::process::ExitCode;
 
-const HELP: &str = "usage: html5text [--names FILE] [FILE...]
+const HELP: &str = "usage: html5text [--references FILE] [FILE...]
 Prints what stands between the tags of HTML pages as it arrives, references decoded, without
 scripts and styles. Without a FILE, or where it is -, standard input is read.
-  --names FILE  the table of named character references, in place of the standard's
-  --help        this text
+  --references FILE  the table of named character references, in place of the standard's
+  --help             this text
 ";
 
 fn main(rt: HostRuntime) -> ExitCode {

@@ -17,4 +17,4 @@ pub mod Repeats
 pub mod Refused
 pub mod Bytes
 pub mod Said
-pub mod PageLemmas
+pub mod PiecesLemmas

@@ -15,9 +15,9 @@ use Rattle.html5reading.proofs.ReadingLemmas.{reading-events, messages-at_end}
 use Rattle.html5reading.proofs.Traces.{messages-append}
 use Rattle.html5grammar.specs.Anywhere.{TellsByItself, start_beyond}
 use Rattle.markup5ever.specs.NamedReferences.{IsTable}
-use Rattle.html5write.specs.Pieces.{Piece, piece_text, page_text, can_write}
+use Rattle.html5write.specs.Pieces.{Piece, piece_text, pieces_text, can_write}
 use Rattle.html5write.specs.Pieces.Piece.{TextPiece, StartTagPiece, EndTagPiece, CommentPiece}
-use Rattle.html5write.specs.Told.{IsOpen, piece_messages, page_messages, last_after_piece, last_after_page, start_after_page, KeepsOnAfterPiece, KeepsOn}
+use Rattle.html5write.specs.Told.{IsOpen, piece_messages, pieces_messages, last_after_piece, last_after_pieces, start_after_pieces, KeepsOnAfterPiece, KeepsOn}
 use Rattle.html5write.proofs.Comments.{no_break-comment, comment-told}
 use Rattle.html5write.proofs.Sequence.{in_sequence, told-alone, after-alone}
 use Rattle.html5write.proofs.Tags.{no_break-start_tag, no_break-end_tag, start_tag-told, end_tag-told}
@@ -30,7 +30,7 @@ no_break-piece input (EndTagPiece name) can h = no_break-end_tag input name can
 no_break-piece input (CommentPiece text) can h = no_break-comment input text can
 
 module _ {X S H : Type 0} (means : Means X S H) (rules : Rules) where
-  piece-told : (K : Start) (s : S) (piece : Piece) → IsTable rules.names → IsOpen K → can_write piece ≡ true → KeepsOnAfterPiece means.reply piece
+  piece-told : (K : Start) (s : S) (piece : Piece) → IsTable rules.references → IsOpen K → can_write piece ≡ true → KeepsOnAfterPiece means.reply piece
       → TellsByItself means rules K s (piece_text piece) (piece_messages rules.exact K.input piece) (start_beyond K (piece_text piece) (Between Data) (last_after_piece K.last_start_tag piece))
   piece-told K s (TextPiece text) table here can keeps = text-told means rules K s text here can
   piece-told K s (StartTagPiece name attributes) table here can keeps = start_tag-told means rules K s name attributes table here can keeps
@@ -38,32 +38,32 @@ module _ {X S H : Type 0} (means : Means X S H) (rules : Rules) where
   piece-told K s (CommentPiece text) table here can keeps = comment-told means rules K s text here can
 
   -- a page tells its pieces: the statement of `page`
-  pub page-told : (K : Start) (s : S) (pieces : List Piece) → IsTable rules.names → IsOpen K → list_all can_write pieces ≡ true → KeepsOn means.reply pieces
-      → TellsByItself means rules K s (page_text pieces) (page_messages rules.exact K.input pieces) (start_after_page K pieces)
-  unfolding page_messages last_after_page
-  page-told K s [] table here can keeps = none-told means rules K s here.starts
-  page-told K s (piece ∷ pieces) table here can keeps =
+  pub written-told : (K : Start) (s : S) (pieces : List Piece) → IsTable rules.references → IsOpen K → list_all can_write pieces ≡ true → KeepsOn means.reply pieces
+      → TellsByItself means rules K s (pieces_text pieces) (pieces_messages rules.exact K.input pieces) (start_after_pieces K pieces)
+  unfolding pieces_messages last_after_pieces
+  written-told K s [] table here can keeps = none-told means rules K s here.starts
+  written-told K s (piece ∷ pieces) table here can keeps =
       let p = and_parts (can_write piece) (list_all can_write pieces) can in
       let M : List Message = piece_messages rules.exact K.input piece in
       let between : Start = start_beyond K (piece_text piece) (Between Data) (last_after_piece K.last_start_tag piece) in
-      subst (λ input. TellsByItself means rules K s (piece_text piece ++ page_text pieces) (M ++ page_messages rules.exact between.input pieces) (record { opened = Between Data; last_start_tag = last_after_page between.last_start_tag pieces; input = input }))
-      (sym (input_after-append K.input (piece_text piece) (page_text pieces)))
-      (in_sequence means rules K s (piece_text piece) M between (page_text pieces) (page_messages rules.exact between.input pieces) (start_after_page between pieces)
+      subst (λ input. TellsByItself means rules K s (piece_text piece ++ pieces_text pieces) (M ++ pieces_messages rules.exact between.input pieces) (record { opened = Between Data; last_start_tag = last_after_pieces between.last_start_tag pieces; input = input }))
+      (sym (input_after-append K.input (piece_text piece) (pieces_text pieces)))
+      (in_sequence means rules K s (piece_text piece) M between (pieces_text pieces) (pieces_messages rules.exact between.input pieces) (start_after_pieces between pieces)
       (piece-told K s piece table here p.0 keeps.0)
-      (page-told between (stepped means.step s M) pieces table (record { starts = refl; no_break = no_break-piece K.input piece p.0 here.no_break }) p.1 keeps.1))
+      (written-told between (stepped means.step s M) pieces table (record { starts = refl; no_break = no_break-piece K.input piece p.0 here.no_break }) p.1 keeps.1))
 
   -- and by itself its end besides
-  pub page-reading : (K : Start) (s : S) (pieces : List Piece) → IsTable rules.names → IsOpen K → list_all can_write pieces ≡ true → KeepsOn means.reply pieces
-      → all_messages means rules K s (page_text pieces)
-      ≡ page_messages rules.exact K.input pieces ++ on_line (line_after K.input (normalised K.input (page_text pieces))) (End ∷ [])
+  pub written-reading : (K : Start) (s : S) (pieces : List Piece) → IsTable rules.references → IsOpen K → list_all can_write pieces ≡ true → KeepsOn means.reply pieces
+      → all_messages means rules K s (pieces_text pieces)
+      ≡ pieces_messages rules.exact K.input pieces ++ on_line (line_after K.input (normalised K.input (pieces_text pieces))) (End ∷ [])
   unfolding late_at_end_of open_at_end_of told_at_end_of
-  page-reading K s pieces table here can keeps =
-      let Y : List ℕ = page_text pieces in
-      let M : List Message = page_messages rules.exact K.input pieces in
+  written-reading K s pieces table here can keeps =
+      let Y : List ℕ = pieces_text pieces in
+      let M : List Message = pieces_messages rules.exact K.input pieces in
       let line : ℕ = line_after K.input (normalised K.input Y) in
-      let item : TellsByItself means rules K s Y M (start_after_page K pieces) = page-told K s pieces table here can keeps in
+      let item : TellsByItself means rules K s Y M (start_after_pieces K pieces) = written-told K s pieces table here can keeps in
       ap messages (reading-events means.step means.reply means.foreign rules K s Y)
       ∙ messages-append (told means.step means.reply means.foreign rules K s Y) _
       ∙ ap (λ N. messages_so_far means rules K s Y ++ N) (messages-at_end means.step means.reply means.foreign rules K s Y)
-      ∙ ap (λ N. N ++ on_line line (tokens_at_end rules (start_after means rules K s Y).opened)) (told-alone means rules K s Y M (start_after_page K pieces) item)
-      ∙ ap (λ (k : Start). M ++ on_line line (tokens_at_end rules k.opened)) (after-alone means rules K s Y M (start_after_page K pieces) item)
+      ∙ ap (λ N. N ++ on_line line (tokens_at_end rules (start_after means rules K s Y).opened)) (told-alone means rules K s Y M (start_after_pieces K pieces) item)
+      ∙ ap (λ (k : Start). M ++ on_line line (tokens_at_end rules k.opened)) (after-alone means rules K s Y M (start_after_pieces K pieces) item)

@@ -14,7 +14,7 @@ use Rattle.html5grammar.specs.Spelled.{Spelled, spell_silent, spelled_messages}
 use Rattle.html5write.specs.Escaped.{escaped}
 use Rattle.html5write.specs.Pieces.{NameAndValue, Piece, piece_text}
 use Rattle.html5write.specs.Pieces.Piece.{TextPiece, StartTagPiece, EndTagPiece, CommentPiece}
-use Rattle.html5write.specs.Told.{return_error, character_told, text_messages, spell_first, spell_escaped, spell_attribute, spell_end, piece_messages, page_messages, proper_token, proper, piece_tokens, page_tokens}
+use Rattle.html5write.specs.Told.{return_error, character_told, text_messages, spell_first, spell_escaped, spell_attribute, spell_end, piece_messages, pieces_messages, proper_token, proper, piece_tokens, pieces_tokens}
 
 -- ---- tokens that are errors alone
 
@@ -132,17 +132,17 @@ proper-piece exact input (EndTagPiece name) = proper-two exact input (spell_sile
 proper-piece exact input (CommentPiece text) =
     proper-three exact input (spell_silent (codes "<!--")) (spell_silent text) (spell_silent (codes "--")) _ (tell-silent (codes "<!--")) (tell-silent text) (tell-silent (codes "--"))
 
-proper-page : (exact : Bool) (input : Input) (pieces : List Piece) → proper (page_messages exact input pieces) ≡ page_tokens pieces
-unfolding page_messages proper
-proper-page exact input [] = refl
-proper-page exact input (piece ∷ pieces) =
-    let N : List Message = page_messages exact (input_after input (piece_text piece)) pieces in
+proper-written : (exact : Bool) (input : Input) (pieces : List Piece) → proper (pieces_messages exact input pieces) ≡ pieces_tokens pieces
+unfolding pieces_messages proper
+proper-written exact input [] = refl
+proper-written exact input (piece ∷ pieces) =
+    let N : List Message = pieces_messages exact (input_after input (piece_text piece)) pieces in
     proper-append (piece_messages exact input piece) N
     ∙ ap (λ l. l ++ proper N) (proper-piece exact input piece)
-    ∙ ap (λ l. piece_tokens piece ++ l) (proper-page exact (input_after input (piece_text piece)) pieces)
+    ∙ ap (λ l. piece_tokens piece ++ l) (proper-written exact (input_after input (piece_text piece)) pieces)
 
-pub proper-whole : (exact : Bool) (input : Input) (pieces : List Piece) (line : ℕ) → proper (page_messages exact input pieces ++ on_line line (End ∷ [])) ≡ page_tokens pieces ++ End ∷ []
+pub proper-whole : (exact : Bool) (input : Input) (pieces : List Piece) (line : ℕ) → proper (pieces_messages exact input pieces ++ on_line line (End ∷ [])) ≡ pieces_tokens pieces ++ End ∷ []
 unfolding proper
 proper-whole exact input pieces line =
-    proper-append (page_messages exact input pieces) (on_line line (End ∷ []))
-    ∙ ap (λ l. l ++ End ∷ []) (proper-page exact input pieces)
+    proper-append (pieces_messages exact input pieces) (on_line line (End ∷ []))
+    ∙ ap (λ l. l ++ End ∷ []) (proper-written exact input pieces)

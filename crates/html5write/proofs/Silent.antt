@@ -14,7 +14,7 @@ use Rattle.html5grammar.specs.Spelled.{Spelled, spell_silent, spelled_messages}
 use Rattle.html5write.specs.Escaped.{escaped}
 use Rattle.html5write.specs.Pieces.{NameAndValue, Piece, piece_text}
 use Rattle.html5write.specs.Pieces.Piece.{TextPiece, StartTagPiece, EndTagPiece, CommentPiece}
-use Rattle.html5write.specs.Told.{has_no_return, is_without_return, tokens_of, return_error, character_told, text_messages, spell_first, spell_escaped, spell_attribute, spell_end, piece_messages, page_messages, piece_tokens, page_tokens}
+use Rattle.html5write.specs.Told.{has_no_return, is_without_return, tokens_of, return_error, character_told, text_messages, spell_first, spell_escaped, spell_attribute, spell_end, piece_messages, pieces_messages, piece_tokens, pieces_tokens}
 
 -- characters at which nothing is sent
 abbrev TellNothing : List Spelled → Type 0
@@ -103,19 +103,19 @@ tokens-piece input (EndTagPiece name) h = tokens-two input (spell_silent (codes 
 tokens-piece input (CommentPiece text) h =
     tokens-three input (spell_silent (codes "<!--")) (spell_silent text) (spell_silent (codes "--")) _ (nothing-silent (codes "<!--")) (nothing-silent text) (nothing-silent (codes "--"))
 
-tokens-page : (input : Input) (pieces : List Piece) → list_all is_without_return pieces ≡ true → tokens_of (page_messages false input pieces) ≡ page_tokens pieces
-unfolding page_messages
-tokens-page input [] h = refl
-tokens-page input (piece ∷ pieces) h =
+tokens-written : (input : Input) (pieces : List Piece) → list_all is_without_return pieces ≡ true → tokens_of (pieces_messages false input pieces) ≡ pieces_tokens pieces
+unfolding pieces_messages
+tokens-written input [] h = refl
+tokens-written input (piece ∷ pieces) h =
     let p = and_parts (is_without_return piece) (list_all is_without_return pieces) h in
-    let N : List Message = page_messages false (input_after input (piece_text piece)) pieces in
+    let N : List Message = pieces_messages false (input_after input (piece_text piece)) pieces in
     tokens-append (piece_messages false input piece) N
     ∙ ap (λ l. l ++ tokens_of N) (tokens-piece input piece p.0)
-    ∙ ap (λ l. piece_tokens piece ++ l) (tokens-page (input_after input (piece_text piece)) pieces p.1)
+    ∙ ap (λ l. piece_tokens piece ++ l) (tokens-written (input_after input (piece_text piece)) pieces p.1)
 
 pub tokens-whole : (exact : Bool) (input : Input) (pieces : List Piece) (line : ℕ) → exact ≡ false → list_all is_without_return pieces ≡ true
-    → tokens_of (page_messages exact input pieces ++ on_line line (End ∷ [])) ≡ page_tokens pieces ++ End ∷ []
+    → tokens_of (pieces_messages exact input pieces ++ on_line line (End ∷ [])) ≡ pieces_tokens pieces ++ End ∷ []
 tokens-whole exact input pieces line quiet h =
-    ap (λ e. tokens_of (page_messages e input pieces ++ on_line line (End ∷ []))) quiet
-    ∙ tokens-append (page_messages false input pieces) (on_line line (End ∷ []))
-    ∙ ap (λ l. l ++ End ∷ []) (tokens-page input pieces h)
+    ap (λ e. tokens_of (pieces_messages e input pieces ++ on_line line (End ∷ []))) quiet
+    ∙ tokens-append (pieces_messages false input pieces) (on_line line (End ∷ []))
+    ∙ ap (λ l. l ++ End ∷ []) (tokens-written input pieces h)

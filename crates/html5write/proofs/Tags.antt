@@ -63,7 +63,7 @@ no_break-end_tag input name h = no_break-markup input (codes "/" ++ (name ++ cod
 
 module _ {X S H : Type 0} (means : Means X S H) (rules : Rules) where
   -- a tag after which the sink keeps on, from what it spells and tells
-  tag-told : (K : Start) (s : S) (Y : List ℕ) (tag : WrittenTag) (cells : List Spelled) (told : TagOf) → IsTable rules.names → IsTag K Y tag
+  tag-told : (K : Start) (s : S) (Y : List ℕ) (tag : WrittenTag) (cells : List Spelled) (told : TagOf) → IsTable rules.references → IsTag K Y tag
       → spelled rules tag ≡ cells → tag_told rules tag ≡ told → KeepsOnAfter means.reply told
       → TellsByItself means rules K s Y (spelled_messages rules.exact K.input [] cells) (start_beyond K Y (Between Data) (last_after K.last_start_tag told))
   unfolding spelled
@@ -78,7 +78,7 @@ module _ {X S H : Type 0} (means : Means X S H) (rules : Rules) where
       (tag-by_itself means rules K s Y tag table one)))
 
   -- a start tag that is written tells itself
-  pub start_tag-told : (K : Start) (s : S) (name : List ℕ) (attributes : List NameAndValue) → IsTable rules.names → IsOpen K → can_write (StartTagPiece name attributes) ≡ true
+  pub start_tag-told : (K : Start) (s : S) (name : List ℕ) (attributes : List NameAndValue) → IsTable rules.references → IsOpen K → can_write (StartTagPiece name attributes) ≡ true
       → KeepsOnAfter means.reply (start_tag_told name attributes)
       → TellsByItself means rules K s (piece_text (StartTagPiece name attributes)) (spelled_messages rules.exact K.input [] (spell_start_tag rules.exact name attributes))
       (start_beyond K (piece_text (StartTagPiece name attributes)) (Between Data) (encode_utf8_all name))
@@ -98,7 +98,7 @@ module _ {X S H : Type 0} (means : Means X S H) (rules : Rules) where
       (spells-start_tag rules name attributes p.0 q.0 q.1) (told-start_tag rules name attributes p.0 q.0 q.1) keeps
 
   -- an end tag that is written tells itself
-  pub end_tag-told : (K : Start) (s : S) (name : List ℕ) → IsTable rules.names → IsOpen K → can_write (EndTagPiece name) ≡ true
+  pub end_tag-told : (K : Start) (s : S) (name : List ℕ) → IsTable rules.references → IsOpen K → can_write (EndTagPiece name) ≡ true
       → KeepsOnAfter means.reply (end_tag_told name)
       → TellsByItself means rules K s (piece_text (EndTagPiece name)) (spelled_messages rules.exact K.input [] (spell_end_tag name))
       (start_beyond K (piece_text (EndTagPiece name)) (Between Data) K.last_start_tag)

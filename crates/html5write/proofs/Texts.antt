@@ -48,7 +48,7 @@ module _ {X S H : Type 0} (means : Means X S H) (rules : Rules) where
   TellsItself c = (K : Start) (s : S) → IsOpen K → (c == null) ≡ false
       → TellsByItself means rules K s (escaped c) (on_line (line_after K.input (escaped c)) (character_told rules.exact c)) (start_beyond K (escaped c) (Between Data) K.last_start_tag)
 
-  number-told : (c : ℕ) (digits : List ℕ) → ((K : Start) → IsOpen K → IsReference rules.names K (escaped c) (Number None digits true))
+  number-told : (c : ℕ) (digits : List ℕ) → ((K : Start) → IsOpen K → IsReference rules.references K (escaped c) (Number None digits true))
       → ((input : Input) → messages_within rules.exact input (Number None digits true) ≡ on_line (line_after input (escaped c)) (character_told rules.exact c))
       → TellsItself c
   number-told c digits is same K s here no_null =

@@ -30,8 +30,8 @@ piece_text (StartTagPiece name attributes) = codes "<" ++ (name ++ (flat_map att
 piece_text (EndTagPiece name) = codes "</" ++ (name ++ codes ">")
 piece_text (CommentPiece text) = codes "<!--" ++ (text ++ codes "-->")
 
-abbrev pub page_text : List Piece → List ℕ
-page_text pieces = flat_map piece_text pieces
+abbrev pub pieces_text : List Piece → List ℕ
+pieces_text pieces = flat_map piece_text pieces
 
 -- ---- which pieces can be written
 

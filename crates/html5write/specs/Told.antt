@@ -17,7 +17,7 @@ use Rattle.html5reading.specs.Tag.{attribute}
 use Rattle.html5grammar.specs.Spelled.{Spelled, spell_silent, spelled_messages}
 use Rattle.markup5ever.specs.Names.{AttributeOf}
 use Rattle.html5write.specs.Escaped.{escaped}
-use Rattle.html5write.specs.Pieces.{NameAndValue, Piece, piece_text, page_text}
+use Rattle.html5write.specs.Pieces.{NameAndValue, Piece, piece_text, pieces_text}
 use Rattle.html5write.specs.Pieces.Piece.{TextPiece, StartTagPiece, EndTagPiece, CommentPiece}
 
 -- where a page can be put so that it is read in Data, and no LF at its front is part of a line break before it
@@ -95,26 +95,26 @@ piece_messages exact input (StartTagPiece name attributes) = spelled_messages ex
 piece_messages exact input (EndTagPiece name) = spelled_messages exact input [] (spell_end_tag name)
 piece_messages exact input (CommentPiece text) = spelled_messages exact input [] (spell_comment text)
 
-unfoldable pub page_messages : Bool → Input → List Piece → List Message
-page_messages exact input [] = []
-page_messages exact input (piece ∷ pieces) =
-    piece_messages exact input piece ++ page_messages exact (input_after input (piece_text piece)) pieces
+unfoldable pub pieces_messages : Bool → Input → List Piece → List Message
+pieces_messages exact input [] = []
+pieces_messages exact input (piece ∷ pieces) =
+    piece_messages exact input piece ++ pieces_messages exact (input_after input (piece_text piece)) pieces
 
 -- the name of the last start tag after a piece
 abbrev pub last_after_piece : List ℕ → Piece → List ℕ
 last_after_piece last (StartTagPiece name attributes) = encode_utf8_all name
 last_after_piece last other = last
 
-unfoldable pub last_after_page : List ℕ → List Piece → List ℕ
-last_after_page last [] = last
-last_after_page last (piece ∷ pieces) = last_after_page (last_after_piece last piece) pieces
+unfoldable pub last_after_pieces : List ℕ → List Piece → List ℕ
+last_after_pieces last [] = last
+last_after_pieces last (piece ∷ pieces) = last_after_pieces (last_after_piece last piece) pieces
 
 -- the start after a page
-abbrev pub start_after_page : Start → List Piece → Start
-start_after_page K pieces = record {
+abbrev pub start_after_pieces : Start → List Piece → Start
+start_after_pieces K pieces = record {
   opened = Between Data;
-  last_start_tag = last_after_page K.last_start_tag pieces;
-  input = input_after K.input (page_text pieces);
+  last_start_tag = last_after_pieces K.last_start_tag pieces;
+  input = input_after K.input (pieces_text pieces);
 }
 
 -- the sink keeps on after a tag, whatever it was sent before it
@@ -148,8 +148,8 @@ piece_tokens (StartTagPiece name attributes) = Tag (start_tag_told name attribut
 piece_tokens (EndTagPiece name) = Tag (end_tag_told name) ∷ []
 piece_tokens (CommentPiece text) = Comment (encode_utf8_all text) ∷ []
 
-abbrev pub page_tokens : List Piece → List Told
-page_tokens pieces = flat_map piece_tokens pieces
+abbrev pub pieces_tokens : List Piece → List Told
+pieces_tokens pieces = flat_map piece_tokens pieces
 
 -- the tokens of messages
 abbrev pub tokens_of : List Message → List Told

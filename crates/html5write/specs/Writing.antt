@@ -7,7 +7,7 @@ use Rattle.html5ever_interface.specs.declared.interface.token.TagKind.{TagKind}
 use Rattle.html5ever_interface.specs.declared.interface.token.TagKind.TheVariants as kind
 use Rattle.html5reading.specs.Tag.{attribute}
 use Rattle.markup5ever.specs.Names.{AttributeOf}
-use Rattle.html5write.specs.Pieces.{NameAndValue, Piece, page_text, can_write}
+use Rattle.html5write.specs.Pieces.{NameAndValue, Piece, pieces_text, can_write}
 use Rattle.html5write.specs.Pieces.Piece.{TextPiece, StartTagPiece, EndTagPiece, CommentPiece}
 use Rattle.html5write.specs.Refusals.{refusal_of}
 use Rattle.html5write.specs.declared.error.WriteError.{WriteError}
@@ -26,8 +26,8 @@ piece_of (EndTag name) = EndTagPiece (chars name.now)
 piece_of (Comment text) = CommentPiece (chars text.now)
 
 -- these bytes are the page of these pieces, which can all be written
-pub record IsPage (bytes : List ℕ) (pieces : List Piece) : Type 0 where
-  pub text : bytes ≡ encode_utf8_all (page_text pieces)
+pub record IsTextOf (bytes : List ℕ) (pieces : List Piece) : Type 0 where
+  pub text : bytes ≡ encode_utf8_all (pieces_text pieces)
   pub can : list_all can_write pieces ≡ true
 
 -- what a call that writes a piece answers, where these pieces stood before it and those stand after it

@@ -2,10 +2,10 @@
 ghost use Rattle.std.specs.Prelude.{◌≡◌, ◌++◌, ◌∷◌, [], List, IfOk, IsOkUnless, None, OnErr, OnOk, chars, encode_utf8_all, map, string_bytes, true};
 ghost use Rattle.std.specs.List.{list_all};
 ghost use Rattle.html5write.specs.Pieces as pieces;
-ghost use Rattle.html5write.specs.Pieces.{can_write, page_text, piece_text};
+ghost use Rattle.html5write.specs.Pieces.{can_write, pieces_text, piece_text};
 ghost use Rattle.html5write.specs.Pieces.Piece.{CommentPiece, EndTagPiece, StartTagPiece, TextPiece};
 ghost use Rattle.html5write.specs.Refusals.{refusal_of};
-ghost use Rattle.html5write.specs.Writing.{IsPage, Writes, WritesBoth, attribute_of, piece_of};
+ghost use Rattle.html5write.specs.Writing.{IsTextOf, Writes, WritesBoth, attribute_of, piece_of};
 ghost use Rattle.html5write.specs.declared.error.WriteError.TheVariants.{Memory};
 
 use crate::appending::push_piece;
@@ -17,10 +17,10 @@ use std::alloc::{Allocator, Global};
 use std::marker::Model;
 
 /// A page that is written piece by piece. Contracts see the pieces that it has, in order: all of them can
-/// be written, and so `laws::page` and `laws::whole_page` say how the page is read.
+/// be written, and so `laws::all_pieces` and `laws::whole_text` say how the page is read.
 #[derive(Drop)]
 pub struct Writer<A: Allocator = Global> {
-    page: String<A>,
+    written: String<A>,
     // The piece that is being written, until it is whole.
     piece: String<A>,
     trail: Trail,
@@ -31,7 +31,7 @@ impl<A: Allocator> Model for Writer<A> {
 
     ghost view = { λ w. w.trail.pieces };
 
-    ghost invariant = { λ w. IsPage (string_bytes w.page) w.trail.pieces };
+    ghost invariant = { λ w. IsTextOf (string_bytes w.written) w.trail.pieces };
 }
 
 impl<A: Allocator + Copy> Writer<A> {
@@ -40,7 +40,7 @@ impl<A: Allocator + Copy> Writer<A> {
         ensures { result ≡ [] }
     {
         Writer {
-            page: String::new(alloc),
+            written: String::new(alloc),
             piece: String::new(alloc),
             trail: Trail::new(),
         }
@@ -65,7 +65,7 @@ impl<A: Allocator + Copy> Writer<A> {
     {
         self.piece.clear();
         push_piece(&mut self.piece, piece)?;
-        self.page.push_str(self.piece.as_str())?;
+        self.written.push_str(self.piece.as_str())?;
         self.trail.add(piece);
         Ok(())
     }
@@ -95,7 +95,7 @@ impl<A: Allocator + Copy> Writer<A> {
         self.piece.clear();
         push_piece(&mut self.piece, first)?;
         push_piece(&mut self.piece, second)?;
-        self.page.push_str(self.piece.as_str())?;
+        self.written.push_str(self.piece.as_str())?;
         self.trail.add(first);
         self.trail.add(second);
         Ok(())
@@ -107,7 +107,7 @@ impl<A: Allocator + Copy> Writer<A> {
         ensures unchanged { OnErr result (self.new ≡ self.old) }
         ensures memory { IsOkUnless result Memory }
     {
-        self.page.push_str(other.page.as_str())?;
+        self.written.push_str(other.written.as_str())?;
         self.trail.add_all(&other.trail);
         Ok(())
     }
@@ -143,17 +143,17 @@ impl<A: Allocator + Copy> Writer<A> {
 
     /// The page as it stands.
     pub fn as_str(&self) -> &str
-        ensures page { chars result.now ≡ page_text self.now }
+        ensures written { chars result.now ≡ pieces_text self.now }
         ensures can { list_all can_write self.now ≡ true }
     {
-        self.page.as_str()
+        self.written.as_str()
     }
 
     /// The page.
     pub fn into_string(self) -> String<A>
-        ensures page { chars (string_bytes result) ≡ page_text self }
+        ensures written { chars (string_bytes result) ≡ pieces_text self }
         ensures can { list_all can_write self ≡ true }
     {
-        self.page
+        self.written
     }
 }

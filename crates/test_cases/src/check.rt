@@ -10,7 +10,7 @@ use html5cli::arguments::settings_of;
 use html5cli::print::{Settings, feed_text, options_of};
 use html5cli::run::run;
 use html5ever::tokenizer::Tokenizer;
-use html5table::names_of;
+use html5table::references_of;
 use std::alloc::{AllocError, Global};
 use testing_lines::CaseError;
 use token_printer::print_sink::PrintSink;
@@ -81,12 +81,12 @@ fn is_told_so_far(
     requires state { CanStart settings.now.initial_state }
     requires table { IsSome (listed settings.now.table.now) }
 {
-    let Ok(names) = names_of(alloc, settings.table) else {
+    let Ok(references) = references_of(alloc, settings.table) else {
         return Err(CaseError::BadLine);
     };
     let opts = options_of(alloc, settings)?;
     let sink = PrintSink::new(alloc, settings.foreign);
-    let mut tokenizer = Tokenizer::new(alloc, sink, opts, &names);
+    let mut tokenizer = Tokenizer::new(alloc, sink, opts, &references);
     let input = &case.input;
     let mut writer = WriteTarget::new(Vec::new(alloc));
     if feed_text(alloc, &mut tokenizer, input, settings.cut, &mut writer).is_err() {
@@ -95,7 +95,7 @@ fn is_told_so_far(
     let output = case.output.as_bytes();
     let lines = output.strip_suffix(b"\n").unwrap_or(output);
     let mut printed: Vec<u8> = writer.into_inner();
-    printed.extend_from_slice(tokenizer.sink.page())?;
+    printed.extend_from_slice(tokenizer.sink.output())?;
     let printed = printed.strip_suffix(b"\n").unwrap_or(&printed);
     Ok(printed == lines && tokenizer.nothing_pending() == clean)
 }

@@ -12,7 +12,7 @@ use html5cli::arguments::settings_of;
 use html5cli::print::{Settings, options_of};
 use html5ever::tokenizer::laws::closed;
 use html5ever_interface::collect::Collector;
-use html5table::names_of;
+use html5table::references_of;
 use markup5ever::data::NamedReferences;
 use std::alloc::Global;
 use testing_lines::{CaseError, push_line};
@@ -63,7 +63,7 @@ fn is_printed(
     alloc: Global,
     case: &WorkedCase,
     settings: &Settings,
-    names: &NamedReferences,
+    references: &NamedReferences,
     cutting: Cutting,
 ) -> Result<bool, CaseError>
     requires state { CanStart settings.now.initial_state }
@@ -72,7 +72,7 @@ fn is_printed(
     let opts = options_of(alloc, settings)?;
     let pieces = pieces_of(alloc, &case.input, cutting)?;
     let sink = PrintSink::new(alloc, settings.foreign);
-    let (is_told, _) = feed_pieces(alloc, sink, opts, names, pieces, &due)?;
+    let (is_told, _) = feed_pieces(alloc, sink, opts, references, pieces, &due)?;
     Ok(is_told)
 }
 
@@ -81,7 +81,7 @@ fn is_collected(
     alloc: Global,
     case: &WorkedCase,
     settings: &Settings,
-    names: &NamedReferences,
+    references: &NamedReferences,
     whole: &Collector,
     cutting: Cutting,
 ) -> Result<bool, CaseError>
@@ -91,7 +91,7 @@ fn is_collected(
     let opts = options_of(alloc, settings)?;
     let pieces = pieces_of(alloc, &case.input, cutting)?;
     let sink = Collector::new(alloc, settings.foreign);
-    let (is_told, sink) = feed_pieces(alloc, sink, opts, names, pieces, &due)?;
+    let (is_told, sink) = feed_pieces(alloc, sink, opts, references, pieces, &due)?;
     Ok(is_told && sink.is_finished() && sink.entries() == whole.entries())
 }
 
@@ -100,14 +100,14 @@ fn collected(
     alloc: Global,
     case: &WorkedCase,
     settings: &Settings,
-    names: &NamedReferences,
+    references: &NamedReferences,
 ) -> Result<Collector, CaseError>
     requires state { CanStart settings.now.initial_state }
 {
     let sink = Collector::new(alloc, settings.foreign);
     let opts = options_of(alloc, settings)?;
     let text = String::from_str(alloc, &case.input)?;
-    match closed(alloc, sink, opts, names, text) {
+    match closed(alloc, sink, opts, references, text) {
         (sink, Ok(())) => Ok(sink),
         (_, Err(_)) => Err(CaseError::Memory),
     }
@@ -118,16 +118,16 @@ fn failing_sink(
     alloc: Global,
     case: &WorkedCase,
     settings: &Settings,
-    names: &NamedReferences,
+    references: &NamedReferences,
     whole: &Collector,
     cutting: Cutting,
 ) -> Result<Option<&'static str>, CaseError>
     requires state { CanStart settings.now.initial_state }
 {
-    if !is_printed(alloc, case, settings, names, cutting)? {
+    if !is_printed(alloc, case, settings, references, cutting)? {
         return Ok(Some("printing sink"));
     }
-    if !is_collected(alloc, case, settings, names, whole, cutting)? {
+    if !is_collected(alloc, case, settings, references, whole, cutting)? {
         return Ok(Some("collector"));
     }
     Ok(None)
@@ -142,19 +142,19 @@ fn failing_cutting_with(
     requires state { CanStart settings.now.initial_state }
     requires table { IsSome (listed settings.now.table.now) }
 {
-    let Ok(names) = names_of(alloc, settings.table) else {
+    let Ok(references) = references_of(alloc, settings.table) else {
         return Err(CaseError::BadLine);
     };
-    let whole = collected(alloc, case, settings, &names)?;
+    let whole = collected(alloc, case, settings, &references)?;
     if !check_clones(&whole)? {
         return Ok(Some(String::from_str(alloc, "a clone differs")?));
     }
-    if let Some(sink) = failing_sink(alloc, case, settings, &names, &whole, Cutting::Characters)? {
+    if let Some(sink) = failing_sink(alloc, case, settings, &references, &whole, Cutting::Characters)? {
         return Ok(Some(format!(in alloc; "{sink} in characters")?));
     }
     for count in 0..=case.input.chars().count() {
         let cutting = Cutting::Afterwards(count);
-        if let Some(sink) = failing_sink(alloc, case, settings, &names, &whole, cutting)? {
+        if let Some(sink) = failing_sink(alloc, case, settings, &references, &whole, cutting)? {
             return Ok(Some(format!(in alloc; "{sink} cut afterwards {count}")?));
         }
     }

@@ -131,8 +131,8 @@ fn is_told<S: TokenSink<Token> + SoFar>(
     due: &Due,
 ) -> Result<bool, CaseError> {
     let so_far = tokenizer.sink.so_far(alloc)?;
-    let is_clean = tokenizer.nothing_pending();
-    Ok(so_far == due.lines && is_clean == due.clean.unwrap_or(false))
+    let is_between = tokenizer.nothing_pending();
+    Ok(so_far == due.lines && is_between == due.clean.unwrap_or(false))
 }
 
 /// Feeds a new tokenizer the pieces one after another, and ends it. Answers whether its sink was sent
@@ -141,13 +141,13 @@ pub fn feed_pieces<S: TokenSink<Token> + SoFar>(
     alloc: Global,
     sink: S,
     opts: TokenizerOpts,
-    names: &NamedReferences,
+    references: &NamedReferences,
     pieces: Vec<String>,
     due: &Due,
 ) -> Result<(bool, S), CaseError>
     requires start { CanStart opts.initial_state }
 {
-    let mut tokenizer = Tokenizer::new(alloc, sink, opts, names);
+    let mut tokenizer = Tokenizer::new(alloc, sink, opts, references);
     let begins = feed_all(alloc, &mut tokenizer, pieces, due)?;
     let at_done = due.clean.is_none() || is_told(alloc, &tokenizer, due)?;
     end(&mut tokenizer)?;

@@ -37,7 +37,7 @@ fn lines_of(alloc: Global, entries: &[(Token, u64)]) -> Result<String, CaseError
 
 impl SoFar for PrintSink {
     fn so_far(&self, alloc: Global) -> Result<String, CaseError> {
-        text_of(alloc, self.page())
+        text_of(alloc, self.output())
     }
 }
 

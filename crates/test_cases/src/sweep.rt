@@ -9,7 +9,7 @@ use html5cli::arguments::settings_of;
 use html5cli::print::{Settings, options_of};
 use html5ever::tokenizer::steps::{Step, run_steps};
 use html5ever_interface::collect::Collector;
-use html5table::names_of;
+use html5table::references_of;
 use markup5ever::data::NamedReferences;
 use std::alloc::{AllocError, Global};
 use std::collections::BTreeSet;
@@ -62,14 +62,14 @@ fn steps_of(alloc: Global, text: &str) -> Result<Vec<Step>, AllocError> {
 fn run(
     alloc: Global,
     settings: &Settings,
-    names: &NamedReferences,
+    references: &NamedReferences,
     steps: Vec<Step>,
 ) -> Result<Option<Collector>, AllocError>
     requires state { CanStart settings.now.initial_state }
 {
     let sink = Collector::new(alloc, settings.foreign);
     let opts = options_of(alloc, settings)?;
-    let (sink, ran) = run_steps(alloc, sink, opts, names, steps);
+    let (sink, ran) = run_steps(alloc, sink, opts, references, steps);
     if ran.is_err() || !sink.is_finished() {
         return Ok(None);
     }
@@ -90,13 +90,13 @@ impl Swept {
         &mut self,
         alloc: Global,
         settings: &Settings,
-        names: &NamedReferences,
+        references: &NamedReferences,
         text: &str,
     ) -> Result<(), CaseError>
         requires state { CanStart settings.now.initial_state }
     {
-        let whole = run(alloc, settings, names, one_step(alloc, text)?)?;
-        let single = run(alloc, settings, names, steps_of(alloc, text)?)?;
+        let whole = run(alloc, settings, references, one_step(alloc, text)?)?;
+        let single = run(alloc, settings, references, steps_of(alloc, text)?)?;
         self.runs = self.runs.wrapping_add(2);
         if !are_equal(&whole, &single) {
             self.failed = self.failed.wrapping_add(1);
@@ -110,19 +110,19 @@ impl Swept {
         &mut self,
         alloc: Global,
         settings: &Settings,
-        names: &NamedReferences,
+        references: &NamedReferences,
         beginning: &str,
     ) -> Result<(), CaseError>
         requires state { CanStart settings.now.initial_state }
     {
-        self.try_text(alloc, settings, names, beginning)?;
+        self.try_text(alloc, settings, references, beginning)?;
         for first in BEHIND.chars() {
             let mut text = String::from_str(alloc, beginning)?;
             text.push(first)?;
-            self.try_text(alloc, settings, names, &text)?;
+            self.try_text(alloc, settings, references, &text)?;
             for second in BEHIND.chars() {
                 text.push(second)?;
-                self.try_text(alloc, settings, names, &text)?;
+                self.try_text(alloc, settings, references, &text)?;
                 text.pop();
             }
         }
@@ -156,17 +156,17 @@ impl Swept {
         requires state { CanStart settings.now.initial_state }
         requires table { IsSome (listed settings.now.table.now) }
     {
-        let Ok(names) = names_of(alloc, settings.table) else {
+        let Ok(references) = references_of(alloc, settings.table) else {
             return Err(CaseError::BadLine);
         };
         let mut beginning = String::new(alloc);
         if self.is_new(alloc, &case.words, &beginning)? {
-            self.try_beginning(alloc, settings, &names, &beginning)?;
+            self.try_beginning(alloc, settings, &references, &beginning)?;
         }
         for c in case.input.chars() {
             beginning.push(c)?;
             if self.is_new(alloc, &case.words, &beginning)? {
-                self.try_beginning(alloc, settings, &names, &beginning)?;
+                self.try_beginning(alloc, settings, &references, &beginning)?;
             }
         }
         Ok(())

@@ -47,11 +47,11 @@ fn closes_what_is_open(rt: HostRuntime) {
 
 #[test]
 fn cleaning_twice_changes_nothing(rt: HostRuntime) {
-    let names = NamedReferences::check(rt.alloc(), Vec::new(rt.alloc())).expect(&rt, "a table");
+    let references = NamedReferences::check(rt.alloc(), Vec::new(rt.alloc())).expect(&rt, "a table");
     let policy = Policy::parse(rt.alloc(), BALANCED).expect(&rt, "a policy");
     for (page, wanted) in CASES {
-        let once = clean_text(rt.alloc(), page, &names, &policy).expect(&rt, "memory");
-        let twice = clean_text(rt.alloc(), once.as_str(), &names, &policy).expect(&rt, "memory");
+        let once = clean_text(rt.alloc(), page, &references, &policy).expect(&rt, "memory");
+        let twice = clean_text(rt.alloc(), once.as_str(), &references, &policy).expect(&rt, "memory");
         assert!(rt; twice.as_str() == wanted, "{page}");
     }
 }
@@ -75,10 +75,10 @@ const BY_POLICY: [(&str, &str, &str); 5] = [
 
 #[test]
 fn balances_by_the_rule_alone(rt: HostRuntime) {
-    let names = NamedReferences::check(rt.alloc(), Vec::new(rt.alloc())).expect(&rt, "a table");
+    let references = NamedReferences::check(rt.alloc(), Vec::new(rt.alloc())).expect(&rt, "a table");
     for (rules, text, wanted) in BY_POLICY {
         let policy = Policy::parse(rt.alloc(), rules).expect(&rt, "a policy");
-        let page = clean_text(rt.alloc(), text, &names, &policy).expect(&rt, "memory");
+        let page = clean_text(rt.alloc(), text, &references, &policy).expect(&rt, "memory");
         assert!(rt; page.as_str() == wanted, "{text}");
     }
 }
@@ -86,14 +86,14 @@ fn balances_by_the_rule_alone(rt: HostRuntime) {
 // Whether `times` elements that are opened one in the other are closed, though as many end tags of another
 // element stand between.
 fn closes_all(rt: &impl Abort, alloc: Global, times: usize) -> bool {
-    let names = NamedReferences::check(alloc, Vec::new(alloc)).expect(rt, "a table");
+    let references = NamedReferences::check(alloc, Vec::new(alloc)).expect(rt, "a table");
     let policy = Policy::parse(alloc, BALANCED).expect(rt, "a policy");
     let opened = "<b>".repeat(alloc, times).expect(rt, "memory");
     let stray = "</i>".repeat(alloc, times).expect(rt, "memory");
     let closed = "</b>".repeat(alloc, times).expect(rt, "memory");
     let page = format!(in alloc; "{opened}{stray}").expect(rt, "memory");
     let wanted = format!(in alloc; "{opened}{closed}").expect(rt, "memory");
-    let kept = clean_text(alloc, page.as_str(), &names, &policy).expect(rt, "memory");
+    let kept = clean_text(alloc, page.as_str(), &references, &policy).expect(rt, "memory");
     kept.as_str() == wanted.as_str()
 }
 

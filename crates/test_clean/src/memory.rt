@@ -27,14 +27,14 @@ pub fn leaves_a_beginning(
     let mut finished = false;
     for admitted in 0..1000 {
         let heap = Refusing::<Global>::new(alloc, admitted);
-        let Ok(names) = NamedReferences::check(&heap, Vec::new(&heap)) else {
+        let Ok(references) = NamedReferences::check(&heap, Vec::new(&heap)) else {
             continue;
         };
         let Some(policy) = policy_of(&heap, rules) else {
             continue;
         };
         let source = &mut PieceSource::new(page.as_bytes(), 16);
-        let (cleaner, read) = clean_page(&heap, source, &names, &policy);
+        let (cleaner, read) = clean_page(&heap, source, &references, &policy);
         let kept = cleaner.into_page();
         assert!(rt;
             wanted.starts_with(kept.as_str()),

@@ -29,11 +29,11 @@ const CASES: [(&str, &str); 16] = [
 
 /// Cleans pages by a policy, each cut in several ways: what is kept of it is what is wanted.
 pub fn keeps_each(rt: &impl Abort, alloc: Global, policy: &Policy<Global>, cases: &[(&str, &str)]) {
-    let names = NamedReferences::check(alloc, Vec::new(alloc)).expect(rt, "a table");
+    let references = NamedReferences::check(alloc, Vec::new(alloc)).expect(rt, "a table");
     for (page, wanted) in cases {
         for size in [1, 3, 4096] {
             let source = &mut PieceSource::new(page.as_bytes(), size);
-            let (cleaner, read) = clean_page(alloc, source, &names, policy);
+            let (cleaner, read) = clean_page(alloc, source, &references, policy);
             let kept = cleaner.into_page();
             assert_eq!(rt; read, Ok(()), "{page}");
             assert!(rt; kept.as_str() == *wanted, "{page}");
@@ -49,20 +49,20 @@ fn keeps_what_is_allowed(rt: HostRuntime) {
 
 #[test]
 fn keeps_a_beginning_of_a_page_that_is_no_text(rt: HostRuntime) {
-    let names = NamedReferences::check(rt.alloc(), Vec::new(rt.alloc())).expect(&rt, "a table");
+    let references = NamedReferences::check(rt.alloc(), Vec::new(rt.alloc())).expect(&rt, "a table");
     let policy = Policy::standard(rt.alloc()).expect(&rt, "memory");
     let source = &mut PieceSource::new(b"<p>a</p>b\xc3", 4);
-    let (cleaner, read) = clean_page(rt.alloc(), source, &names, &policy);
+    let (cleaner, read) = clean_page(rt.alloc(), source, &references, &policy);
     assert_eq!(rt; read, Err(StreamError::NotUtf8 { valid_up_to: 9 }));
     assert!(rt; cleaner.into_page().as_str() == "<p>a</p>");
 }
 
 #[test]
 fn cleans_a_text(rt: HostRuntime) {
-    let names = NamedReferences::check(rt.alloc(), Vec::new(rt.alloc())).expect(&rt, "a table");
+    let references = NamedReferences::check(rt.alloc(), Vec::new(rt.alloc())).expect(&rt, "a table");
     let policy = Policy::standard(rt.alloc()).expect(&rt, "memory");
     for (text, wanted) in CASES {
-        let page = clean_text(rt.alloc(), text, &names, &policy).expect(&rt, "memory");
+        let page = clean_text(rt.alloc(), text, &references, &policy).expect(&rt, "memory");
         assert!(rt; page.as_str() == wanted, "{text}");
     }
 }
@@ -107,10 +107,10 @@ const BY_POLICY: [(&str, &str, &str); 10] = [
 
 #[test]
 fn keeps_what_a_policy_allows(rt: HostRuntime) {
-    let names = NamedReferences::check(rt.alloc(), Vec::new(rt.alloc())).expect(&rt, "a table");
+    let references = NamedReferences::check(rt.alloc(), Vec::new(rt.alloc())).expect(&rt, "a table");
     for (rules, text, wanted) in BY_POLICY {
         let policy = Policy::parse(rt.alloc(), rules).expect(&rt, "a policy");
-        let page = clean_text(rt.alloc(), text, &names, &policy).expect(&rt, "memory");
+        let page = clean_text(rt.alloc(), text, &references, &policy).expect(&rt, "memory");
         assert!(rt; page.as_str() == wanted, "{text}");
     }
 }

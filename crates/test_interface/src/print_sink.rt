@@ -12,7 +12,7 @@ fn prints_the_last_line_of_all(rt: HostRuntime) {
     assert!(rt; says_foreign(&sink));
     assert!(rt; told(&mut sink, Token::EOFToken, u64::MAX));
     assert!(rt; sink.end().is_ok());
-    assert_eq!(rt; sink.page(), b"eof 18446744073709551615\n".as_slice());
+    assert_eq!(rt; sink.output(), b"eof 18446744073709551615\n".as_slice());
 }
 
 // Tokens of each kind. Most are after a text, so they close it.
@@ -43,10 +43,10 @@ fn is_printed<A: Allocator + Copy>(
     sink: &mut PrintSink<A>,
     token: Token<A>,
 ) -> bool {
-    let before = Vec::from_slice(ample, sink.page()).expect(rt, "memory");
+    let before = Vec::from_slice(ample, sink.output()).expect(rt, "memory");
     let printed = sink.process_token(token, 10).is_ok();
-    assert_eq!(rt; before.len() < sink.page().len(), printed);
-    assert!(rt; sink.page().starts_with(&before));
+    assert_eq!(rt; before.len() < sink.output().len(), printed);
+    assert!(rt; sink.output().starts_with(&before));
     printed
 }
 
@@ -110,7 +110,7 @@ fn a_character_is_escaped_at_each_place(rt: HostRuntime) {
                 let mut sink = PrintSink::new(rt.alloc(), false);
                 let token = text_of(rt.alloc(), &text).expect(&rt, "memory");
                 assert!(rt; told(&mut sink, token, 1));
-                assert_eq!(rt; sink.page(), page.as_bytes());
+                assert_eq!(rt; sink.output(), page.as_bytes());
             }
             before.push_str(other).expect(&rt, "memory");
         }

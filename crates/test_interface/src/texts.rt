@@ -16,8 +16,8 @@ fn a_text_where_it_lies_is_printed_as_its_token(rt: HostRuntime) {
         assert!(rt; told(&mut by_tokens, token, 3));
         assert!(rt; by_texts.process_text(rt.alloc(), text, 3).is_ok());
     }
-    assert_eq!(rt; by_tokens.page(), "text \"a\\\"éb\\n".as_bytes());
-    assert_eq!(rt; by_texts.page(), by_tokens.page());
+    assert_eq!(rt; by_tokens.output(), "text \"a\\\"éb\\n".as_bytes());
+    assert_eq!(rt; by_texts.output(), by_tokens.output());
 }
 
 // The copy of a text is the first request, and the room for an entry the second.

@@ -3,7 +3,7 @@ use devices::Fault;
 use html5ever::TokenizerError;
 use html5ever_interface::interface::token::{SinkFault, TextFault};
 use html5policy::{PolicyError, RuleError};
-use html5programs::NamesError;
+use html5programs::ReferencesError;
 use html5session::SessionError;
 use html5stream::StreamError;
 use html5write::WriteError;
@@ -82,15 +82,15 @@ fn of_bytes_that_come_in(rt: HostRuntime) -> Result<(), Fail> {
         (SessionError::Over, "the session is over"),
     ];
     check_texts(&rt, rt.alloc(), &session)?;
-    let names = [
-        (NamesError::Unreadable, "the file can't be read"),
-        (NamesError::NoList, "the file has no list of names"),
+    let references = [
+        (ReferencesError::Unreadable, "the file can't be read"),
+        (ReferencesError::NoList, "the file has no list of references"),
         (
-            NamesError::Table(TableError::BadName(3)),
+            ReferencesError::Table(TableError::BadName(3)),
             "the list makes no table: bad name at 3",
         ),
     ];
-    check_texts(&rt, rt.alloc(), &names)
+    check_texts(&rt, rt.alloc(), &references)
 }
 
 const RULES: [(RuleError, &str); 11] = [

@@ -2,7 +2,7 @@
 use devices::{Printer, Target, WriteTarget};
 use html5programs::Filter;
 use html5stream::StreamError;
-use html5table::{names_of, profile};
+use html5table::{references_of, profile};
 use markup5ever::data::{NamedReferences, TableError};
 use std::alloc::Global;
 use testing_devices::PieceSource;
@@ -11,13 +11,13 @@ use testing_devices::PieceSource;
 fn read_pages<F: Filter<W>, W: Target + Drop>(
     alloc: Global,
     filter: F,
-    names: &NamedReferences,
+    references: &NamedReferences,
     pages: &[&[u8]],
     size: usize,
 ) -> (F, Result<(), StreamError>) {
     let mut filter = filter;
     for page in pages {
-        let (after, read) = filter.read_page(alloc, &mut PieceSource::new(page, size), names);
+        let (after, read) = filter.read_page(alloc, &mut PieceSource::new(page, size), references);
         filter = after;
         if read.is_err() {
             return (filter, read);
@@ -32,11 +32,11 @@ pub fn filtered<F: Filter<WriteTarget<Vec<u8>>>>(
     pages: &[&[u8]],
     size: usize,
 ) -> Result<(Vec<u8>, Result<(), StreamError>), TableError> {
-    let names = names_of(alloc, profile())?;
+    let references = references_of(alloc, profile())?;
     let printer = Printer::new(alloc, WriteTarget::new(Vec::new(alloc)));
     let settings = F::default_settings(alloc)?;
     let filter = F::new(alloc, printer, settings);
-    let (filter, read) = read_pages(alloc, filter, &names, pages, size);
+    let (filter, read) = read_pages(alloc, filter, &references, pages, size);
     let (target, _) = filter.into_printer().finish();
     Ok((target.into_inner().into_inner(), read))
 }

@@ -265,20 +265,20 @@ fn check_words(
 fn goes_by_its_words(rt: HostRuntime) -> Result<(), Fail> {
     let all = LINKS.printed;
     let unknown = "prog: --wrong: unknown word, or a word is missing after it; try --help\n";
-    let missing = "prog: --names: unknown word, or a word is missing after it; try --help\n";
+    let missing = "prog: --references: unknown word, or a word is missing after it; try --help\n";
     let no_file = "prog: no-such-file: can't be opened\n";
     check_words(&rt, LINKS, &[], 0, all, "")?;
     check_words(&rt, LINKS, &["-"], 0, all, "")?;
     check_words(&rt, LINKS, &["--help"], 0, PROGRAM.help, "")?;
     check_words(&rt, LINKS, &["-", "--wrong"], 2, "", unknown)?;
-    check_words(&rt, LINKS, &["--names"], 2, "", missing)?;
+    check_words(&rt, LINKS, &["--references"], 2, "", missing)?;
     check_words(
         &rt,
         LINKS,
-        &["--names", "no-such-file"],
+        &["--references", "no-such-file"],
         2,
         "",
-        "prog: names: the file can't be read\n",
+        "prog: references: the file can't be read\n",
     )?;
     check_words(&rt, LINKS, &["-", "no-such-file"], 1, all, no_file)?;
     check_words(&rt, LINKS, &["no-such-file", "-"], 1, all, no_file)?;

@@ -14,15 +14,15 @@ use testing_devices::FailingSource;
 type Outcome = (Collector, Result<(), StreamError>);
 
 // A table of no names.
-fn no_names<A: Allocator + Copy>(rt: &impl Abort, alloc: A) -> NamedReferences<A> {
+fn no_references<A: Allocator + Copy>(rt: &impl Abort, alloc: A) -> NamedReferences<A> {
     NamedReferences::check(alloc, Vec::new(alloc)).expect(rt, "a table")
 }
 
 // What a source tells, and how it ended.
 fn told_by<R: Source>(rt: &impl Abort, alloc: Global, source: &mut R) -> Outcome {
-    let names = no_names(rt, alloc);
+    let references = no_references(rt, alloc);
     let sink = Collector::new(alloc, false);
-    read_source(alloc, source, sink, TokenizerOpts::default(), &names)
+    read_source(alloc, source, sink, TokenizerOpts::default(), &references)
 }
 
 // What a source tells that gives a byte a read, and fails after so many reads.
@@ -190,10 +190,10 @@ fn is_beginning<A: Allocator>(entries: &[Entry<A>], others: &[Entry<A>]) -> bool
 
 // What comes of a page where the heap refuses a growth. What was told is a beginning of the whole.
 fn outcome_on<'h>(rt: &impl Abort, heap: Heap<'h>, ample: Heap<'h>) -> Result<(), StreamError> {
-    let names = no_names(rt, ample);
+    let references = no_references(rt, ample);
     let mut source = FailingSource::new(PAGE.as_bytes(), 1000);
     let sink: Collector<Heap> = Collector::new(heap, false);
-    let (sink, read) = read_source(heap, &mut source, sink, TokenizerOpts::default(), &names);
+    let (sink, read) = read_source(heap, &mut source, sink, TokenizerOpts::default(), &references);
     let whole = page_tokens(ample).expect(rt, "memory");
     assert!(rt; is_beginning(sink.entries(), &whole));
     assert_eq!(rt; read.is_ok(), sink.is_finished());

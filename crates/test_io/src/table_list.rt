@@ -125,8 +125,8 @@ fn gives_no_entries_where_memory_runs_out(rt: HostRuntime) {
 fn makes_a_table_of_the_profile(rt: HostRuntime) {
     let alloc = rt.alloc();
     let entries = entries_of(alloc, profile()).expect(&rt, "memory");
-    let names = NamedReferences::check(alloc, entries).expect(&rt, "a table");
-    assert_eq!(rt; names.get("nGt;"), Some(('\u{226b}', Some('\u{20d2}'))));
-    assert!(rt; names.is_prefix("noti"));
-    assert_eq!(rt; names.get("nGt"), None);
+    let references = NamedReferences::check(alloc, entries).expect(&rt, "a table");
+    assert_eq!(rt; references.get("nGt;"), Some(('\u{226b}', Some('\u{20d2}'))));
+    assert!(rt; references.is_prefix("noti"));
+    assert_eq!(rt; references.get("nGt"), None);
 }

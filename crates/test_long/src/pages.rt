@@ -4,7 +4,7 @@ use html5cleaner::CleanPrinter;
 use html5extract::links::Links;
 use html5extract::page_text::PageText;
 use html5programs::Filter;
-use html5table::{names_of, profile};
+use html5table::{references_of, profile};
 use std::alloc::Global;
 use std::process::Abort;
 use std::test::Fail;
@@ -46,11 +46,11 @@ fn check_filter<F: Filter<MeasuringTarget>>(
     part: Part,
     printed: usize,
 ) -> Result<(), Fail> {
-    let names = names_of(alloc, profile())?;
+    let references = references_of(alloc, profile())?;
     let printer = Printer::new(alloc, MeasuringTarget::new(alloc));
     let filter = F::new(alloc, printer, F::default_settings(alloc)?);
     let mut source = RepeatingSource::new(part.text.as_bytes(), part.times);
-    let (filter, read) = filter.read_page(alloc, &mut source, &names);
+    let (filter, read) = filter.read_page(alloc, &mut source, &references);
     assert_eq!(rt; read, Ok(()));
     let (target, finished) = filter.into_printer().finish();
     assert!(rt; finished.is_ok());

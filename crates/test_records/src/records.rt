@@ -1,5 +1,5 @@
 use crate::made::{RECORDS, TOKENS, bare_tag, token_at};
-use html5records::event_sink::{EventOptions, EventSink, Replies};
+use html5records::record_sink::{RecordOptions, RecordSink, Replies};
 use html5ever_interface::interface::sink::TokenSink;
 use html5ever_interface::interface::token::{TagKind, TokenSinkResult};
 use html5ever_interface::states::RawKind;
@@ -11,7 +11,7 @@ use testing_alloc::Refusing;
 fn each_token_has_its_record(rt: HostRuntime) {
     let mut line = 0u64;
     for index in 0..TOKENS {
-        let mut sink = EventSink::new(rt.alloc(), EventOptions::default());
+        let mut sink = RecordSink::new(rt.alloc(), RecordOptions::default());
         let token = token_at(rt.alloc(), index).expect(&rt, "memory");
         line = line.saturating_add(1);
         assert!(rt;
@@ -30,7 +30,7 @@ fn each_token_has_its_record(rt: HostRuntime) {
 
 #[test]
 fn a_text_is_open_until_another_token(rt: HostRuntime) {
-    let mut sink = EventSink::new(rt.alloc(), EventOptions::default());
+    let mut sink = RecordSink::new(rt.alloc(), RecordOptions::default());
     for (index, bytes) in [
         (3, b"\x03x\xc3\xa9".as_slice()),
         (4, b"\x03x\xc3\xa9".as_slice()),
@@ -48,7 +48,7 @@ fn a_text_is_open_until_another_token(rt: HostRuntime) {
 
 #[test]
 fn a_line_takes_eight_bytes(rt: HostRuntime) {
-    let mut sink = EventSink::new(rt.alloc(), EventOptions::default());
+    let mut sink = RecordSink::new(rt.alloc(), RecordOptions::default());
     let end = token_at(rt.alloc(), TOKENS).expect(&rt, "memory");
     assert!(rt; sink.process_token(end, 0x0102_0304_0506_0708).is_ok());
     assert!(rt; sink.end().is_ok());
@@ -90,7 +90,7 @@ fn replies_where_it_is_asked_to(rt: HostRuntime) {
     ];
     for (replies, kind, name, reply) in cases {
         let foreign = replies == Replies::Pausing;
-        let mut sink = EventSink::new(rt.alloc(), EventOptions { replies, foreign });
+        let mut sink = RecordSink::new(rt.alloc(), RecordOptions { replies, foreign });
         let tag = bare_tag(rt.alloc(), kind, name).expect(&rt, "memory");
         assert!(rt; sink.process_token(tag, 1) == Ok(reply), "{name}");
         assert_eq!(rt;
@@ -103,7 +103,7 @@ fn replies_where_it_is_asked_to(rt: HostRuntime) {
 // A caller that chooses nothing gets what stands in a script as text.
 #[test]
 fn replies_as_the_standard_where_nothing_is_chosen(rt: HostRuntime) {
-    let options = EventOptions::default();
+    let options = RecordOptions::default();
     assert!(rt; options.replies == Replies::Standard && !options.foreign);
     let cases = [
         ("script", TokenSinkResult::RawData(RawKind::ScriptData)),
@@ -112,7 +112,7 @@ fn replies_as_the_standard_where_nothing_is_chosen(rt: HostRuntime) {
         ("p", TokenSinkResult::Continue),
     ];
     for (name, reply) in cases {
-        let mut sink = EventSink::new(rt.alloc(), EventOptions::default());
+        let mut sink = RecordSink::new(rt.alloc(), RecordOptions::default());
         let tag = bare_tag(rt.alloc(), TagKind::StartTag, name).expect(&rt, "memory");
         assert!(rt; sink.process_token(tag, 1) == Ok(reply), "{name}");
     }
@@ -143,7 +143,7 @@ fn push_expected(rt: &impl Abort, expected: &mut Vec<u8>, in_text: bool, index: 
 // Sends a sink on a heap that refuses one request all tokens. Answers whether it was refused.
 fn tells_all_but_refused(rt: &impl Abort, alloc: Global, admitted: u64) -> bool {
     let heap = Refusing::new(alloc, admitted);
-    let mut sink: EventSink<&Refusing<Global>> = EventSink::new(&heap, EventOptions::default());
+    let mut sink: RecordSink<&Refusing<Global>> = RecordSink::new(&heap, RecordOptions::default());
     let mut expected = Vec::new(alloc);
     let mut in_text = false;
     for index in 0..TOKENS {

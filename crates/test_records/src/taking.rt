@@ -1,5 +1,5 @@
 use crate::made::{RECORDS, TOKENS, token_at};
-use html5records::event_sink::{EventOptions, EventSink};
+use html5records::record_sink::{RecordOptions, RecordSink};
 use html5ever_interface::interface::sink::TokenSink;
 use std::alloc::Global;
 use std::process::Abort;
@@ -18,7 +18,7 @@ fn records(rt: &impl Abort, alloc: Global, rounds: usize) -> Vec<u8> {
 // Takes what waits, in pieces of at most so many bytes, while it may.
 fn take_pieces(
     rt: &impl Abort,
-    sink: &mut EventSink<Global>,
+    sink: &mut RecordSink<Global>,
     taken: &mut Vec<u8>,
     size: usize,
     pieces: usize,
@@ -40,7 +40,7 @@ fn told_and_taken(
     size: usize,
     pieces: usize,
 ) -> Vec<u8> {
-    let mut sink = EventSink::new(alloc, EventOptions::default());
+    let mut sink = RecordSink::new(alloc, RecordOptions::default());
     let mut taken = Vec::new(alloc);
     for _ in 0..rounds {
         for index in 0..TOKENS {

@@ -1,5 +1,5 @@
 //! The records of a text that arrives in pieces, as a program in another language would read them.
-use html5records::event_sink::{EventOptions, EventSink, Replies};
+use html5records::record_sink::{RecordOptions, RecordSink, Replies};
 use html5records::reading::{TagRecord, TokenRecord, read_record};
 use html5ever::TokenizerError;
 use html5ever::tokenizer::{
@@ -9,7 +9,7 @@ use html5ever_interface::interface::token::TagKind;
 use std::alloc::{AllocError, Global};
 
 // Takes all that waits.
-fn take_all(sink: &mut EventSink<Global>, taken: &mut Vec<u8>) -> Result<(), AllocError> {
+fn take_all(sink: &mut RecordSink<Global>, taken: &mut Vec<u8>) -> Result<(), AllocError> {
     taken.extend_from_slice(sink.waiting())?;
     let all = sink.waiting().len();
     sink.skip(all);
@@ -19,19 +19,19 @@ fn take_all(sink: &mut EventSink<Global>, taken: &mut Vec<u8>) -> Result<(), All
 // The records of a text that arrives in two pieces: what waits is taken after each.
 fn records_of_text(
     alloc: Global,
-    names: &NamedReferences<Global>,
+    references: &NamedReferences<Global>,
     first: &str,
     second: &str,
 ) -> Result<Vec<u8>, TokenizerError> {
-    let options = EventOptions {
+    let options = RecordOptions {
         replies: Replies::Standard,
         foreign: false,
     };
     let mut tokenizer = Tokenizer::new(
         alloc,
-        EventSink::new(alloc, options),
+        RecordSink::new(alloc, options),
         TokenizerOpts::default(),
-        names,
+        references,
     );
     let mut queue = BufferQueue::new(alloc);
     let mut taken = Vec::new(alloc);
@@ -92,12 +92,12 @@ const TEXT: &str = "<p CLASS=x>1 < 2</p><title><b></title>";
 #[test]
 fn the_records_of_pieces_read_as_the_text(rt: HostRuntime) {
     let alloc = rt.alloc();
-    let names = NamedReferences::check(alloc, Vec::new(alloc)).expect(&rt, "a table of nothing");
+    let references = NamedReferences::check(alloc, Vec::new(alloc)).expect(&rt, "a table of nothing");
     for cut in [0, 1, 5, 12, 13, 20, 29, 38] {
         let Some((first, second)) = TEXT.split_at_checked(cut) else {
             continue;
         };
-        let records = records_of_text(alloc, &names, first, second).expect(&rt, "memory");
+        let records = records_of_text(alloc, &references, first, second).expect(&rt, "memory");
         let page = page_of(alloc, &records).expect(&rt, "memory");
         assert_eq!(rt;
             page.as_slice(),

@@ -17,7 +17,7 @@ fn a_refused_growth_leaves_a_beginning(rt: HostRuntime) {
     let mut finished = false;
     for admitted in 0..1000 {
         let heap = Refusing::<Global>::new(rt.alloc(), admitted);
-        let Ok(names) = NamedReferences::check(&heap, Vec::new(&heap)) else {
+        let Ok(references) = NamedReferences::check(&heap, Vec::new(&heap)) else {
             continue;
         };
         let source = &mut PieceSource::new(PAGE.as_bytes(), 16);
@@ -25,7 +25,7 @@ fn a_refused_growth_leaves_a_beginning(rt: HostRuntime) {
             alloc: &heap,
             base: "https://a.example",
         };
-        let (written, read) = rewrite_page(&heap, source, links, String::new(&heap), &names);
+        let (written, read) = rewrite_page(&heap, source, links, String::new(&heap), &references);
         assert!(rt;
             WANTED.starts_with(written.as_str()),
             "after {admitted} requests"

@@ -38,7 +38,7 @@ const CASES: [(&str, &str); 18] = [
 
 #[test]
 fn rewrites_pages(rt: HostRuntime) {
-    let names = NamedReferences::check(rt.alloc(), Vec::new(rt.alloc())).expect(&rt, "a table");
+    let references = NamedReferences::check(rt.alloc(), Vec::new(rt.alloc())).expect(&rt, "a table");
     for (page, wanted) in CASES {
         for size in [1, 3, 4096] {
             let source = &mut PieceSource::new(page.as_bytes(), size);
@@ -47,7 +47,7 @@ fn rewrites_pages(rt: HostRuntime) {
                 base: BASE,
             };
             let written = String::new(rt.alloc());
-            let (written, read) = rewrite_page(rt.alloc(), source, links, written, &names);
+            let (written, read) = rewrite_page(rt.alloc(), source, links, written, &references);
             assert_eq!(rt; read, Ok(()), "{page}");
             assert!(rt; written.as_str() == wanted, "{page}");
         }
@@ -56,26 +56,26 @@ fn rewrites_pages(rt: HostRuntime) {
 
 #[test]
 fn refuses_what_is_no_text(rt: HostRuntime) {
-    let names = NamedReferences::check(rt.alloc(), Vec::new(rt.alloc())).expect(&rt, "a table");
+    let references = NamedReferences::check(rt.alloc(), Vec::new(rt.alloc())).expect(&rt, "a table");
     let source = &mut PieceSource::new(b"<p>a<p>\xff", 4096);
     let links = AbsoluteLinks {
         alloc: rt.alloc(),
         base: BASE,
     };
     let written = String::new(rt.alloc());
-    let (written, read) = rewrite_page(rt.alloc(), source, links, written, &names);
+    let (written, read) = rewrite_page(rt.alloc(), source, links, written, &references);
     assert_eq!(rt; read, Err(StreamError::NotUtf8 { valid_up_to: 7 }));
     assert!(rt; "<p>a<p>".starts_with(written.as_str()));
 }
 
 #[test]
 fn rewrites_texts(rt: HostRuntime) {
-    let names = NamedReferences::check(rt.alloc(), Vec::new(rt.alloc())).expect(&rt, "a table");
+    let references = NamedReferences::check(rt.alloc(), Vec::new(rt.alloc())).expect(&rt, "a table");
     let links = AbsoluteLinks {
         alloc: rt.alloc(),
         base: BASE,
     };
-    let written = rewrite_text(rt.alloc(), "<a href=/>&#60;</a>", links, &names);
+    let written = rewrite_text(rt.alloc(), "<a href=/>&#60;</a>", links, &references);
     assert!(rt;
         written.expect(&rt, "a text").as_str() == "<a href=\"https://a.example/\">&#60;</a>"
     );
@@ -83,14 +83,14 @@ fn rewrites_texts(rt: HostRuntime) {
 
 #[test]
 fn prints_pages(rt: HostRuntime) {
-    let names = NamedReferences::check(rt.alloc(), Vec::new(rt.alloc())).expect(&rt, "a table");
+    let references = NamedReferences::check(rt.alloc(), Vec::new(rt.alloc())).expect(&rt, "a table");
     let source = &mut PieceSource::new(b"<p>a<a href=/b>c</a>", 3);
     let links = AbsoluteLinks {
         alloc: rt.alloc(),
         base: BASE,
     };
     let printer = Printer::new(rt.alloc(), WriteTarget::new(Vec::new(rt.alloc())));
-    let (printer, read) = rewrite_page(rt.alloc(), source, links, printer, &names);
+    let (printer, read) = rewrite_page(rt.alloc(), source, links, printer, &references);
     assert_eq!(rt; read, Ok(()));
     let (target, finished) = printer.finish();
     assert!(rt; finished.is_ok());

@@ -45,10 +45,10 @@ pub fn begin<'t, S: TokenSink<Token<A>> + Drop, A: Allocator + Copy>(
     alloc: A,
     sink: S,
     settings: &Settings<'_>,
-    names: &'t NamedReferences<A>,
+    references: &'t NamedReferences<A>,
 ) -> Result<Tokenizer<'t, S, A>, AllocError> {
     let opts = options(alloc, settings)?;
-    Ok(Tokenizer::new(alloc, sink, opts, names))
+    Ok(Tokenizer::new(alloc, sink, opts, references))
 }
 
 /// The word of an error.

@@ -5,7 +5,7 @@ use html5cli::arguments::settings_of;
 use html5ever_interface::collect::Collector;
 use html5ever_interface::interface::sink::TokenSink;
 use html5ever_interface::interface::token::Token;
-use html5table::names_of;
+use html5table::references_of;
 use std::alloc::{AllocError, Allocator, Global};
 use testing_lines::{Play, Played, Stop};
 use testing_sinks::alternating::Alternating;
@@ -99,14 +99,14 @@ fn try_play<A: Allocator + Copy>(
     let Some(settings) = settings_of(&script.words) else {
         return Err(Stop::BadWords);
     };
-    let Ok(names) = names_of(enough, settings.table) else {
+    let Ok(references) = references_of(enough, settings.table) else {
         return Err(Stop::BadWords);
     };
     let stage = Stage {
         ample,
         heap,
         settings,
-        names: &names,
+        references: &references,
         cutting,
     };
     play_on(stage, &script.steps, script.sink)

@@ -33,7 +33,7 @@ pub struct Stage<'t, A: Allocator> {
     /// The memory of the tokenizer, its queue and its sink.
     pub heap: A,
     pub settings: Settings<'t>,
-    pub names: &'t NamedReferences<A>,
+    pub references: &'t NamedReferences<A>,
     pub cutting: Cutting,
 }
 
@@ -105,7 +105,7 @@ where
 {
     /// A player at the start of a stream, with the sink, and a second one.
     pub fn new(stage: Stage<'t, A>, sink: S, spare: S) -> Result<Player<'t, S, A>, Stop> {
-        let tokenizer = begin(stage.heap, sink, &stage.settings, stage.names)?;
+        let tokenizer = begin(stage.heap, sink, &stage.settings, stage.references)?;
         let queue = BufferQueue::new(stage.heap);
         let parts = Vec::new(stage.heap);
         Ok(Player {
@@ -273,7 +273,7 @@ where
     fn finish(&mut self, answer: &str) -> Result<(), Stop> {
         let spare = self.take_spare()?;
         let stage = &self.stage;
-        let next = begin(stage.heap, spare, &stage.settings, stage.names)?;
+        let next = begin(stage.heap, spare, &stage.settings, stage.references)?;
         let tokenizer = mem::replace(&mut self.tokenizer, next);
         let (found, shown) = finish(stage.ample, tokenizer)?;
         self.shown = Some(shown);
@@ -299,7 +299,7 @@ where
         let parts = self.take_parts();
         let stage = &self.stage;
         let opts = options(stage.heap, &stage.settings)?;
-        let (sink, read) = read(stage.heap, sink, opts, stage.names, whole, parts)?;
+        let (sink, read) = read(stage.heap, sink, opts, stage.references, whole, parts)?;
         self.shown = Some(shown_by(stage.ample, &sink)?);
         compare_answer(self.stage.ample, answer, word_of_result(&read))
     }
@@ -310,7 +310,7 @@ where
         let text = joined(stage.heap, parts)?;
         let opts = options(stage.heap, &stage.settings)?;
         let foreign = stage.settings.foreign;
-        match read_item(stage.heap, opts, foreign, stage.names, law, text) {
+        match read_item(stage.heap, opts, foreign, stage.references, law, text) {
             Ok(sink) => {
                 self.shown = Some(shown_by(stage.ample, &sink)?);
                 compare_answer(self.stage.ample, answer, "ok")

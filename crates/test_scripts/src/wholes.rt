@@ -48,7 +48,7 @@ pub fn read<S: TokenSink<Token<A>> + Drop, A: Allocator + Copy>(
     alloc: A,
     sink: S,
     opts: TokenizerOpts<A>,
-    names: &NamedReferences<A>,
+    references: &NamedReferences<A>,
     whole: Whole,
     parts: Vec<Step<A>, A>,
 ) -> Result<(S, Result<(), TokenizerError>), Stop>
@@ -57,13 +57,13 @@ pub fn read<S: TokenSink<Token<A>> + Drop, A: Allocator + Copy>(
     match whole {
         Whole::Text => {
             let text = joined(alloc, parts)?;
-            Ok(read_whole(alloc, sink, opts, names, text))
+            Ok(read_whole(alloc, sink, opts, references, text))
         }
         Whole::Pieces => {
             let pieces = pieces_of(alloc, parts)?;
-            Ok(read_pieces(alloc, sink, opts, names, pieces))
+            Ok(read_pieces(alloc, sink, opts, references, pieces))
         }
-        Whole::Steps => Ok(run_steps(alloc, sink, opts, names, parts)),
+        Whole::Steps => Ok(run_steps(alloc, sink, opts, references, parts)),
     }
 }
 
@@ -72,20 +72,20 @@ pub fn read_item<A: Allocator + Copy>(
     alloc: A,
     opts: TokenizerOpts<A>,
     foreign: bool,
-    names: &NamedReferences<A>,
+    references: &NamedReferences<A>,
     law: Law,
     text: String<A>,
 ) -> Result<Collector<A>, TokenizerError>
     requires starts { CanStart opts.initial_state }
 {
     match law {
-        Law::Tag => tag(alloc, opts, foreign, names, text),
-        Law::Reference => reference(alloc, opts, foreign, names, text),
-        Law::Comment => comment(alloc, opts, foreign, names, text),
-        Law::Instruction => instruction(alloc, opts, foreign, names, text),
-        Law::Doctype => doctype(alloc, opts, foreign, names, text),
-        Law::Cdata => cdata(alloc, opts, foreign, names, text),
-        Law::Raw => raw(alloc, opts, foreign, names, text),
-        Law::Items => items(alloc, opts, foreign, names, text),
+        Law::Tag => tag(alloc, opts, foreign, references, text),
+        Law::Reference => reference(alloc, opts, foreign, references, text),
+        Law::Comment => comment(alloc, opts, foreign, references, text),
+        Law::Instruction => instruction(alloc, opts, foreign, references, text),
+        Law::Doctype => doctype(alloc, opts, foreign, references, text),
+        Law::Cdata => cdata(alloc, opts, foreign, references, text),
+        Law::Raw => raw(alloc, opts, foreign, references, text),
+        Law::Items => items(alloc, opts, foreign, references, text),
     }
 }

@@ -16,8 +16,8 @@ fn expect_shown<S: Shown>(rt: &impl Abort, alloc: Global, sink: S, lines: &str) 
 fn tells_what_a_whole_text_tells(rt: HostRuntime) {
     let alloc = rt.alloc();
     let text = String::from_str(alloc, "<p class=a>1 &lt; 2").expect(&rt, "memory");
-    let names = few_names(alloc).expect(&rt, "the table");
-    let sink = tokens_of_text(alloc, &names, text).expect(&rt, "the tokens");
+    let references = few_names(alloc).expect(&rt, "the table");
+    let sink = tokens_of_text(alloc, &references, text).expect(&rt, "the tokens");
     let lines = "start 1 \"p\" \"class\"=\"a\"\ntext \"1 < 2\"\neof 1\nfinished\n";
     expect_shown(&rt, alloc, sink, lines);
 }
@@ -27,8 +27,8 @@ fn tells_what_two_pieces_tell(rt: HostRuntime) {
     let alloc = rt.alloc();
     let first = String::from_str(alloc, "<p cla").expect(&rt, "memory");
     let second = String::from_str(alloc, "ss=a>1 &lt; 2").expect(&rt, "memory");
-    let names = few_names(alloc).expect(&rt, "the table");
-    let sink = tokens_of(alloc, &names, first, second).expect(&rt, "the tokens");
+    let references = few_names(alloc).expect(&rt, "the table");
+    let sink = tokens_of(alloc, &references, first, second).expect(&rt, "the tokens");
     let lines = "start 1 \"p\" \"class\"=\"a\"\ntext \"1 < 2\"\neof 1\nfinished\n";
     expect_shown(&rt, alloc, sink, lines);
 }
@@ -36,7 +36,7 @@ fn tells_what_two_pieces_tell(rt: HostRuntime) {
 #[test]
 fn puts_in_what_a_script_wrote(rt: HostRuntime) {
     let alloc = rt.alloc();
-    let names = few_names(alloc).expect(&rt, "the table");
+    let references = few_names(alloc).expect(&rt, "the table");
     let cases = [
         (
             "a<s>\r\nx<s>y",
@@ -47,7 +47,7 @@ fn puts_in_what_a_script_wrote(rt: HostRuntime) {
     for (text, lines) in cases {
         let text = String::from_str(alloc, text).expect(&rt, "memory");
         let written = String::from_str(alloc, "<b>").expect(&rt, "memory");
-        let sink = read_with_script(alloc, Steering::new(alloc), &names, text, written);
+        let sink = read_with_script(alloc, Steering::new(alloc), &references, text, written);
         expect_shown(&rt, alloc, sink.expect(&rt, "the tokens"), lines);
     }
 }

@@ -8,7 +8,7 @@ use std::alloc::Global;
 use std::process::Abort;
 
 // Tells a collector exact errors: at a character, at the end of input, and of a bad character.
-fn tell_errors(sink: &mut Collector, alloc: Global, line: u64) -> Result<(), TokenizerError> {
+fn emit_errors(sink: &mut Collector, alloc: Global, line: u64) -> Result<(), TokenizerError> {
     let mut teller = Teller {
         sink,
         alloc,
@@ -24,7 +24,7 @@ fn tell_errors(sink: &mut Collector, alloc: Global, line: u64) -> Result<(), Tok
 fn check_line(rt: &impl Abort, alloc: Global, line: u64) {
     let mut sink = Collector::new(alloc, false);
     assert_eq!(rt;
-        tell_errors(&mut sink, alloc, line),
+        emit_errors(&mut sink, alloc, line),
         Ok(()),
         "on line {line}"
     );

@@ -49,7 +49,7 @@ impl<A: Allocator> Shown for Alternating<A> {
 // Appends the lines of a page. A text at their end gets its closing quote.
 impl<A: Allocator> Shown for PrintSink<A> {
     fn show(&self, _alloc: Global, out: &mut String) -> Result<(), AllocError> {
-        let lines = from_utf8(self.page()).unwrap_or("no text\n");
+        let lines = from_utf8(self.output()).unwrap_or("no text\n");
         out.push_str(lines)?;
         if !lines.is_empty() && !lines.ends_with('\n') {
             out.push_str("\"\n")?;

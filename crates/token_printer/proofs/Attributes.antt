@@ -10,15 +10,15 @@ pub open_attributes-none : (old : List ℕ) → old ≡ old ++ open_attributes [
 unfolding open_attributes
 open_attributes-none old = sym (append-nil old)
 
--- a page that has the first `i` attributes, and then one more
-pub open_attributes-more : {Z : Type 0} (old page next : List ℕ) (attributes : List (Attribute Z)) (i : ℕ) (attribute : Attribute Z)
-    → page ≡ old ++ open_attributes (map attribute_of (take i attributes))
+-- a output that has the first `i` attributes, and then one more
+pub open_attributes-more : {Z : Type 0} (old output next : List ℕ) (attributes : List (Attribute Z)) (i : ℕ) (attribute : Attribute Z)
+    → output ≡ old ++ open_attributes (map attribute_of (take i attributes))
     → attribute ≡ get_or attributes i attribute
     → i < length attributes
-    → next ≡ page ++ open_attribute (attribute_of attribute)
+    → next ≡ output ++ open_attribute (attribute_of attribute)
     → next ≡ old ++ open_attributes (map attribute_of (take (i + 1) attributes))
 unfolding open_attributes
-open_attributes-more old page next attributes i attribute before here within printed =
+open_attributes-more old output next attributes i attribute before here within printed =
     let front : List AttributeOf = map attribute_of (take i attributes) in
     let more : map attribute_of (take (i + 1) attributes) ≡ front ++ attribute_of attribute ∷ [] =
     map_more attribute_of attributes i attribute within ∙ ap (λ a. front ++ attribute_of a ∷ []) (sym here) in

@@ -1,5 +1,5 @@
 pub mod Attributes
 pub mod Beginnings
-pub mod Pages
+pub mod Outputs
 pub mod Pieces
 pub mod Quotes

@@ -5,8 +5,8 @@ use Rattle.std.proofs.lemmas.Result.{on_ok_weaker}
 use Rattle.html5ever_interface.proofs.Entries.{ok_from_if}
 
 -- a piece after others
-pub pieces-more : (old page next front piece : List ℕ) → page ≡ old ++ front → next ≡ page ++ piece → next ≡ old ++ (front ++ piece)
-pieces-more old page next front piece before printed =
+pub pieces-more : (old output next front piece : List ℕ) → output ≡ old ++ front → next ≡ output ++ piece → next ≡ old ++ (front ++ piece)
+pieces-more old output next front piece before printed =
     printed ∙ ap (λ l. l ++ piece) before ∙ append_assoc old front piece
 
 -- three pieces, of which the last could fail

@@ -6,7 +6,7 @@ use lib.Lanes.{chunk, zip2, mask_l, top}
 use Rattle.std.proofs.lemmas.Simd.{map-map, length-chunk, zip2_splat, zip2_of_maps, mask_l-mod, first_set_mask_l, run_in_chunk_le, run_in_chunk_fails, run_in_chunk_stops}
 use Rattle.std.proofs.lemmas.Bool.{agree_below_at, cases_eq}
 use Rattle.std.proofs.lemmas.List.{append-nil, append_assoc, take_more, drop-append-le, drop-take, length-take-le, drop_all, length-map}
-use Rattle.token_printer.specs.PageLaws.{quoted_bytes-append}
+use Rattle.token_printer.specs.OutputLaws.{quoted_bytes-append}
 use Rattle.token_printer.specs.Printed.{needs_escape, IsPlainWithin, escape, quoted_byte, quoted_bytes}
 
 quoted_bytes-more : (text : List ℕ) (i : ℕ) → i < length text
@@ -17,10 +17,10 @@ quoted_bytes-more text i h =
     ∙ quoted_bytes-append (take i text) (get_or text i 0 ∷ [])
     ∙ ap (λ l. quoted_bytes (take i text) ++ l) (append-nil (quoted_byte (get_or text i 0)))
 
--- a page that has the bytes before an index, and then one more
-pub quoted_bytes-next : (old page next text : List ℕ) (i : ℕ) → page ≡ old ++ quoted_bytes (take i text) → i < length text
-    → next ≡ page ++ quoted_byte (get_or text i 0) → next ≡ old ++ quoted_bytes (take (i + 1) text)
-quoted_bytes-next old page next text i before within printed =
+-- a output that has the bytes before an index, and then one more
+pub quoted_bytes-next : (old output next text : List ℕ) (i : ℕ) → output ≡ old ++ quoted_bytes (take i text) → i < length text
+    → next ≡ output ++ quoted_byte (get_or text i 0) → next ≡ old ++ quoted_bytes (take (i + 1) text)
+quoted_bytes-next old output next text i before within printed =
     printed
     ∙ ap (λ l. l ++ quoted_byte (get_or text i 0)) before
     ∙ append_assoc old (quoted_bytes (take i text)) (quoted_byte (get_or text i 0))
@@ -76,26 +76,26 @@ quoted_bytes-plain text start (suc count) high plain =
     ∙ append_assoc (quoted_bytes (take start text)) (run text start end) (byte ∷ [])
     ∙ ap (λ l. quoted_bytes (take start text) ++ l) (sym (run-more text start end (omega arith) within)))
 
--- a page that has the bytes before an index, and then a run of those
-pub quoted_bytes-run : (old page next text : List ℕ) (start end : ℕ) → page ≡ old ++ quoted_bytes (take start text)
+-- a output that has the bytes before an index, and then a run of those
+pub quoted_bytes-run : (old output next text : List ℕ) (start end : ℕ) → output ≡ old ++ quoted_bytes (take start text)
     → start ≤ end → end ≤ length text → IsPlainWithin text start end
-    → next ≡ page ++ take (end - start) (drop start text) → next ≡ old ++ quoted_bytes (take end text)
-quoted_bytes-run old page next text start end before low high plain printed =
+    → next ≡ output ++ take (end - start) (drop start text) → next ≡ old ++ quoted_bytes (take end text)
+quoted_bytes-run old output next text start end before low high plain printed =
     let same : start + (end - start) ≡ end = omega (arith, low) in
     let whole : quoted_bytes (take end text) ≡ quoted_bytes (take start text) ++ run text start end =
     rw same at (quoted_bytes-plain text start (end - start) (omega (arith, same, high)) (λ k low less. plain k low (omega (arith, less, same)))) in
     printed
-    ∙ ap (λ l. page ++ l) (run-slice text start end low)
+    ∙ ap (λ l. output ++ l) (run-slice text start end low)
     ∙ ap (λ l. l ++ run text start end) before
     ∙ append_assoc old (quoted_bytes (take start text)) (run text start end)
     ∙ ap (λ l. old ++ l) (sym whole)
 
 -- and then what stands for another byte
-pub quoted_bytes-escape : (old page next text : List ℕ) (i : ℕ) → page ≡ old ++ quoted_bytes (take i text) → i < length text
-    → needs_escape (get_or text i 0) ≡ true → next ≡ page ++ escape (get_or text i 0) → next ≡ old ++ quoted_bytes (take (i + 1) text)
-quoted_bytes-escape old page next text i before within special printed =
-    quoted_bytes-next old page next text i before within
-    (printed ∙ ap (λ l. page ++ l) (quoted_byte-escape (get_or text i 0) special))
+pub quoted_bytes-escape : (old output next text : List ℕ) (i : ℕ) → output ≡ old ++ quoted_bytes (take i text) → i < length text
+    → needs_escape (get_or text i 0) ≡ true → next ≡ output ++ escape (get_or text i 0) → next ≡ old ++ quoted_bytes (take (i + 1) text)
+quoted_bytes-escape old output next text i before within special printed =
+    quoted_bytes-next old output next text i before within
+    (printed ∙ ap (λ l. output ++ l) (quoted_byte-escape (get_or text i 0) special))
 
 -- ---- bytes looked at one after another
 

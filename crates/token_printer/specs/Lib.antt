@@ -1,3 +1,3 @@
 pub mod Printed
-pub mod Page
-pub mod PageLaws
+pub mod Output
+pub mod OutputLaws

@@ -1,6 +1,6 @@
 //! A sink that prints what a tokenizer of HTML sends it.
 #![tactic(auto)]
 
-mod page;
+mod output;
 pub mod print_sink;
 mod printed;

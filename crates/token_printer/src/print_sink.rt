@@ -1,11 +1,11 @@
 //! A sink that prints what it is sent.
 ghost use Rattle.std.specs.Prelude.{◌≡◌, ◌≢◌, ◌+◌, ◌++◌, Err, string_bytes, IfOk, OnOk, OnErr};
-ghost use Rattle.token_printer.specs.Page.{BeginsWith, blank_page, without_lines, added_by, page_step};
+ghost use Rattle.token_printer.specs.Output.{BeginsWith, blank_output, without_lines, added_by, output_step};
 ghost use Rattle.html5sinks.specs.Pausing.{pausing_reply};
 ghost use Rattle.html5ever_interface.specs.Token.{told_by, reply_of};
 ghost use Rattle.html5ever_interface.specs.Token.Told.{Text};
 
-use crate::page::{is_open_after, is_open_after_text, push_text, push_token};
+use crate::output::{is_open_after, is_open_after_text, push_text, push_token};
 use ghost_counts::Count;
 use html5ever_interface::interface::sink::TokenSink;
 use html5ever_interface::interface::token::{SinkFault, TextFault, Token, TokenSinkResult};
@@ -13,22 +13,22 @@ use html5sinks::pausing::pausing_reply;
 use std::alloc::{AllocError, Allocator, Global};
 use std::marker::Model;
 
-// Appends what a token adds to a page, and replies to it.
+// Appends what a token adds to a output, and replies to it.
 #[inline(always)]
 fn print_and_reply<A: Allocator + Copy>(
-    page: &mut Vec<u8, A>,
+    output: &mut Vec<u8, A>,
     in_text: bool,
     token: &Token<A>,
     line: u64,
 ) -> Result<TokenSinkResult<(), String<A>>, AllocError>
     ensures ok { OnOk result
-        (page.new.items ≡ page.old.items ++ added_by in_text (told_by token.now) line) }
+        (output.new.items ≡ output.old.items ++ added_by in_text (told_by token.now) line) }
     ensures replies { IfOk result
         (λ reply. reply_of string_bytes reply ≡ pausing_reply (told_by token.now)) }
-    ensures err { OnErr result (BeginsWith page.new.items page.old.items) }
+    ensures err { OnErr result (BeginsWith output.new.items output.old.items) }
 {
     let reply = pausing_reply(token)?;
-    push_token(page, in_text, token, line, &reply)?;
+    push_token(output, in_text, token, line, &reply)?;
     Ok(reply)
 }
 
@@ -40,19 +40,19 @@ fn print_and_reply<A: Allocator + Copy>(
 /// `charset` to switch the encoding, and to the end tag `script` to run the script.
 #[derive(Drop)]
 pub struct PrintSink<A: Allocator = Global> {
-    page: Vec<u8, A>,
+    output: Vec<u8, A>,
     in_text: bool,
     foreign: bool,
     faults: Count,
 }
 
 impl<A: Allocator> Model for PrintSink<A> {
-    ghost use Rattle.token_printer.specs.Page.{Page, Printer};
+    ghost use Rattle.token_printer.specs.Output.{Output, Printer};
 
     ghost Value = { Printer };
 
     ghost view = { λ s. record {
-      page = record { lines = s.page.items; in_text = s.in_text; foreign = s.foreign };
+      output = record { lines = s.output.items; in_text = s.in_text; foreign = s.foreign };
       faults = s.faults.total;
     } };
 }
@@ -60,11 +60,11 @@ impl<A: Allocator> Model for PrintSink<A> {
 impl<A: Allocator> PrintSink<A> {
     /// A sink that has printed nothing. `foreign` is its answer about the current node, at each call.
     pub fn new(alloc: A, foreign: bool) -> PrintSink<A>
-        ensures page { result.page ≡ blank_page foreign }
+        ensures output { result.output ≡ blank_output foreign }
         ensures faults { result.faults ≡ 0 }
     {
         PrintSink {
-            page: Vec::new(alloc),
+            output: Vec::new(alloc),
             in_text: false,
             foreign,
             faults: Count::new(),
@@ -72,49 +72,49 @@ impl<A: Allocator> PrintSink<A> {
     }
 
     /// The bytes printed so far. A text at their end is open: its line has no closing quote yet.
-    pub fn page(&self) -> &[u8]
-        ensures { result.now ≡ self.now.page.lines }
+    pub fn output(&self) -> &[u8]
+        ensures { result.now ≡ self.now.output.lines }
     {
-        self.page.as_slice()
+        self.output.as_slice()
     }
 
-    /// Takes the bytes printed so far off the page. What is printed from here on follows them.
+    /// Takes the bytes printed so far off the output. What is printed from here on follows them.
     pub fn clear(&mut self)
-        ensures page { self.new.page ≡ without_lines self.old.page }
+        ensures output { self.new.output ≡ without_lines self.old.output }
         ensures faults { self.new.faults ≡ self.old.faults }
     {
-        self.page.clear();
+        self.output.clear();
     }
 }
 
 impl<A: Allocator + Copy> TokenSink<Token<A>> for PrintSink<A> {
     ghost use Rattle.std.specs.Prelude.{◌≡◌};
-    ghost use Rattle.token_printer.specs.Page.{Page, page_step, page_reply, page_foreign, page_faulted};
-    ghost use Rattle.token_printer.specs.PageLaws.{page_joins, page_empty, page_any_line, page_keeps_on};
+    ghost use Rattle.token_printer.specs.Output.{Output, output_step, output_reply, output_foreign, output_faulted};
+    ghost use Rattle.token_printer.specs.OutputLaws.{output_joins, output_empty, output_any_line, output_keeps_on};
 
     type Handle = ();
 
-    ghost State = { Page };
+    ghost State = { Output };
 
     ghost means = { record {
-      state = λ s. s.page;
-      step = page_step;
-      reply = page_reply;
-      foreign = page_foreign;
+      state = λ s. s.output;
+      step = output_step;
+      reply = output_reply;
+      foreign = output_foreign;
       finish = λ p. p;
-      faulted = page_faulted;
+      faulted = output_faulted;
       end_faulted = λ p. p;
     } };
 
     ghost faults = { λ s. s.faults };
 
-    ghost joins = { page_joins };
+    ghost joins = { output_joins };
 
-    ghost empty = { page_empty };
+    ghost empty = { output_empty };
 
-    ghost any_line = { page_any_line };
+    ghost any_line = { output_any_line };
 
-    ghost keeps_on = { page_keeps_on };
+    ghost keeps_on = { output_keeps_on };
 
     #[inline(always)]
     fn process_token(
@@ -122,36 +122,36 @@ impl<A: Allocator + Copy> TokenSink<Token<A>> for PrintSink<A> {
         token: Token<A>,
         line_number: u64,
     ) -> Result<TokenSinkResult<(), String<A>>, SinkFault> {
-        let printed = self.page.len();
-        match print_and_reply(&mut self.page, self.in_text, &token, line_number) {
+        let printed = self.output.len();
+        match print_and_reply(&mut self.output, self.in_text, &token, line_number) {
             Ok(reply) => {
                 self.in_text = is_open_after(self.in_text, &token);
                 Ok(reply)
             }
             Err(AllocError) => {
-                self.page.truncate(printed);
+                self.output.truncate(printed);
                 self.faults.add(1);
                 Err(SinkFault)
             }
         }
     }
 
-    // Prints the text where it lies. A page that finds no memory is a fault of the sink.
+    // Prints the text where it lies. A output that finds no memory is a fault of the sink.
     #[inline(always)]
     fn process_text(&mut self, _alloc: A, text: &str, _line_number: u64) -> Result<(), TextFault>
-        ensures prints { OnOk result (self.new ≡ record self.old { page = page_step self.old.page (Text text.now) _line_number }) }
+        ensures prints { OnOk result (self.new ≡ record self.old { output = output_step self.old.output (Text text.now) _line_number }) }
         ensures never_memory { result ≢ Err TextFault.Memory }
         ensures fault { OnErr result (self.new ≡ record self.old { faults = self.old.faults + 1 }) }
     {
-        let before = self.page.len();
+        let before = self.output.len();
         let text = text.as_bytes();
-        match push_text(&mut self.page, self.in_text, text) {
+        match push_text(&mut self.output, self.in_text, text) {
             Ok(()) => {
                 self.in_text = is_open_after_text(self.in_text, text);
                 Ok(())
             }
             Err(AllocError) => {
-                self.page.truncate(before);
+                self.output.truncate(before);
                 self.faults.add(1);
                 Err(TextFault::Sink)
             }

@@ -2,7 +2,7 @@
 ghost use Rattle.std.specs.Prelude.{◌≡◌, ◌≢◌, ◌+◌, ◌<◌, ◌≤◌, ◌==◌, ◌++◌, if◌then◌else◌, true, false, length, slice_index, map, option_map, string_bytes, OnOk, OnErr, codes};
 ghost use Rattle.std.specs.Fmt.{digit_glyph};
 ghost use Rattle.std.specs.Int.{w64, trailing_zeros};
-ghost use Rattle.token_printer.specs.Page.{BeginsWith};
+ghost use Rattle.token_printer.specs.Output.{BeginsWith};
 ghost use Rattle.token_printer.specs.Printed.{needs_escape, IsPlainWithin, escape, quoted_byte, quoted_bytes, quoted, mark_where, open_attribute, open_attributes, printed_option, tag_marks, pause_line};
 ghost use Rattle.html5ever_interface.specs.Token.{tag_of, reply_of};
 ghost use Rattle.html5ever_interface.specs.Token.Reply.{SwitchEncoding};
@@ -160,18 +160,18 @@ fn run_end(bytes: &[u8], from: usize) -> usize
 
 // Appends what stands in quotes for a byte that may not stand there as it is, but for a line feed.
 #[tactic(auto, using(std::proofs::lemmas::Fmt::hex_one_digit, std::proofs::lemmas::Fmt::hex_two_digits), unfolding(crate::specs::Printed::escape))]
-fn push_rare_escape<A: Allocator>(page: &mut Vec<u8, A>, byte: u8) -> Result<(), AllocError>
+fn push_rare_escape<A: Allocator>(output: &mut Vec<u8, A>, byte: u8) -> Result<(), AllocError>
     requires { byte ≢ 10 }
-    ensures ok { OnOk result (page.new.items ≡ page.old.items ++ escape byte) }
-    ensures err { OnErr result (BeginsWith page.new.items page.old.items) }
+    ensures ok { OnOk result (output.new.items ≡ output.old.items ++ escape byte) }
+    ensures err { OnErr result (BeginsWith output.new.items output.old.items) }
 {
     match byte {
-        b'\\' => page.extend_from_slice(b"\\\\"),
-        b'"' => page.extend_from_slice(b"\\\""),
-        _ if byte < 16 => page.extend_from_slice(&[b'\\', b'u', b'{', hex_digit(byte), b'}']),
+        b'\\' => output.extend_from_slice(b"\\\\"),
+        b'"' => output.extend_from_slice(b"\\\""),
+        _ if byte < 16 => output.extend_from_slice(&[b'\\', b'u', b'{', hex_digit(byte), b'}']),
         _ => {
             let (high, low) = (hex_digit(byte / 16), hex_digit(byte % 16));
-            page.extend_from_slice(&[b'\\', b'u', b'{', high, low, b'}'])
+            output.extend_from_slice(&[b'\\', b'u', b'{', high, low, b'}'])
         }
     }
 }
@@ -179,93 +179,93 @@ fn push_rare_escape<A: Allocator>(page: &mut Vec<u8, A>, byte: u8) -> Result<(),
 // Appends what stands in quotes for a byte that may not stand there as it is. Most are line feeds.
 #[inline(always)]
 #[tactic(auto, unfolding(crate::specs::Printed::escape))]
-fn push_escape<A: Allocator>(page: &mut Vec<u8, A>, byte: u8) -> Result<(), AllocError>
-    ensures ok { OnOk result (page.new.items ≡ page.old.items ++ escape byte) }
-    ensures err { OnErr result (BeginsWith page.new.items page.old.items) }
+fn push_escape<A: Allocator>(output: &mut Vec<u8, A>, byte: u8) -> Result<(), AllocError>
+    ensures ok { OnOk result (output.new.items ≡ output.old.items ++ escape byte) }
+    ensures err { OnErr result (BeginsWith output.new.items output.old.items) }
 {
     if byte == b'\n' {
-        return page.extend_from_slice(b"\\n");
+        return output.extend_from_slice(b"\\n");
     }
-    push_rare_escape(page, byte)
+    push_rare_escape(output, byte)
 }
 
 // Appends what stands in quotes for a byte.
 #[inline(always)]
 #[tactic(auto, unfolding(crate::specs::Printed::quoted_byte))]
-fn push_quoted_byte<A: Allocator>(page: &mut Vec<u8, A>, byte: u8) -> Result<(), AllocError>
-    ensures ok { OnOk result (page.new.items ≡ page.old.items ++ quoted_byte byte) }
-    ensures err { OnErr result (BeginsWith page.new.items page.old.items) }
+fn push_quoted_byte<A: Allocator>(output: &mut Vec<u8, A>, byte: u8) -> Result<(), AllocError>
+    ensures ok { OnOk result (output.new.items ≡ output.old.items ++ quoted_byte byte) }
+    ensures err { OnErr result (BeginsWith output.new.items output.old.items) }
 {
     if is_escaped(byte) {
-        return push_escape(page, byte);
+        return push_escape(output, byte);
     }
-    page.push(byte)?;
+    output.push(byte)?;
     Ok(())
 }
 
 // Appends what stands for a text in quotes: runs of bytes that stand as they are go at once.
-fn push_quoted_runs<A: Allocator>(page: &mut Vec<u8, A>, text: &[u8]) -> Result<(), AllocError>
-    ensures ok { OnOk result (page.new.items ≡ page.old.items ++ quoted_bytes text.now) }
-    ensures err { OnErr result (BeginsWith page.new.items page.old.items) }
+fn push_quoted_runs<A: Allocator>(output: &mut Vec<u8, A>, text: &[u8]) -> Result<(), AllocError>
+    ensures ok { OnOk result (output.new.items ≡ output.old.items ++ quoted_bytes text.now) }
+    ensures err { OnErr result (BeginsWith output.new.items output.old.items) }
 {
     let mut start = 0;
     loop {
         let end = run_end(text, start);
-        page.extend_from_slice(&text[start..end])?;
+        output.extend_from_slice(&text[start..end])?;
         if end == text.len() {
             return Ok(());
         }
-        push_escape(page, text[end])?;
+        push_escape(output, text[end])?;
         start = end + 1;
     }
 }
 
 // Appends what stands for a short text in quotes, byte after byte.
 #[inline(always)]
-fn push_quoted_short<A: Allocator>(page: &mut Vec<u8, A>, text: &[u8]) -> Result<(), AllocError>
-    ensures ok { OnOk result (page.new.items ≡ page.old.items ++ quoted_bytes text.now) }
-    ensures err { OnErr result (BeginsWith page.new.items page.old.items) }
+fn push_quoted_short<A: Allocator>(output: &mut Vec<u8, A>, text: &[u8]) -> Result<(), AllocError>
+    ensures ok { OnOk result (output.new.items ≡ output.old.items ++ quoted_bytes text.now) }
+    ensures err { OnErr result (BeginsWith output.new.items output.old.items) }
 {
     for &byte in text {
-        push_quoted_byte(page, byte)?;
+        push_quoted_byte(output, byte)?;
     }
     Ok(())
 }
 
-/// Appends what stands for a text in quotes, straight to the page.
+/// Appends what stands for a text in quotes, straight to the output.
 #[inline(always)]
-pub fn push_quoted_bytes<A: Allocator>(page: &mut Vec<u8, A>, text: &[u8]) -> Result<(), AllocError>
-    ensures ok { OnOk result (page.new.items ≡ page.old.items ++ quoted_bytes text.now) }
-    ensures err { OnErr result (BeginsWith page.new.items page.old.items) }
+pub fn push_quoted_bytes<A: Allocator>(output: &mut Vec<u8, A>, text: &[u8]) -> Result<(), AllocError>
+    ensures ok { OnOk result (output.new.items ≡ output.old.items ++ quoted_bytes text.now) }
+    ensures err { OnErr result (BeginsWith output.new.items output.old.items) }
 {
     if text.len() < HALF {
-        return push_quoted_short(page, text);
+        return push_quoted_short(output, text);
     }
-    push_quoted_runs(page, text)
+    push_quoted_runs(output, text)
 }
 
 #[tactic(auto, unfolding(crate::specs::Printed::quoted))]
-pub fn push_quoted<A: Allocator>(page: &mut Vec<u8, A>, text: &[u8]) -> Result<(), AllocError>
-    ensures ok { OnOk result (page.new.items ≡ page.old.items ++ quoted text.now) }
-    ensures err { OnErr result (BeginsWith page.new.items page.old.items) }
+pub fn push_quoted<A: Allocator>(output: &mut Vec<u8, A>, text: &[u8]) -> Result<(), AllocError>
+    ensures ok { OnOk result (output.new.items ≡ output.old.items ++ quoted text.now) }
+    ensures err { OnErr result (BeginsWith output.new.items output.old.items) }
 {
-    page.extend_from_slice(b"\"")?;
-    push_quoted_bytes(page, text)?;
-    page.extend_from_slice(b"\"")
+    output.extend_from_slice(b"\"")?;
+    push_quoted_bytes(output, text)?;
+    output.extend_from_slice(b"\"")
 }
 
 /// Appends a mark, where it is set.
 #[tactic(auto, unfolding(crate::specs::Printed::mark_where))]
 pub fn push_mark<A: Allocator>(
-    page: &mut Vec<u8, A>,
+    output: &mut Vec<u8, A>,
     is_set: bool,
     mark: &str,
 ) -> Result<(), AllocError>
-    ensures ok { OnOk result (page.new.items ≡ page.old.items ++ mark_where is_set mark.now) }
-    ensures err { OnErr result (BeginsWith page.new.items page.old.items) }
+    ensures ok { OnOk result (output.new.items ≡ output.old.items ++ mark_where is_set mark.now) }
+    ensures err { OnErr result (BeginsWith output.new.items output.old.items) }
 {
     if is_set {
-        page.extend_from_slice(mark.as_bytes())?;
+        output.extend_from_slice(mark.as_bytes())?;
     }
     Ok(())
 }
@@ -273,30 +273,30 @@ pub fn push_mark<A: Allocator>(
 // Closes the quote that is open, and appends an attribute but for its last quote.
 #[tactic(auto, unfolding(crate::specs::Printed::open_attribute))]
 fn push_attribute<A: Allocator>(
-    page: &mut Vec<u8, A>,
+    output: &mut Vec<u8, A>,
     attribute: &Attribute<A>,
 ) -> Result<(), AllocError>
     ensures ok { OnOk result
-        (page.new.items ≡ page.old.items ++ open_attribute (attribute_of attribute.now)) }
-    ensures err { OnErr result (BeginsWith page.new.items page.old.items) }
+        (output.new.items ≡ output.old.items ++ open_attribute (attribute_of attribute.now)) }
+    ensures err { OnErr result (BeginsWith output.new.items output.old.items) }
 {
-    page.extend_from_slice(b"\" \"")?;
-    push_quoted_bytes(page, attribute.name.local.0.as_bytes())?;
-    page.extend_from_slice(b"\"=\"")?;
-    push_quoted_bytes(page, attribute.value.as_bytes())
+    output.extend_from_slice(b"\" \"")?;
+    push_quoted_bytes(output, attribute.name.local.0.as_bytes())?;
+    output.extend_from_slice(b"\"=\"")?;
+    push_quoted_bytes(output, attribute.value.as_bytes())
 }
 
 /// Appends attributes where a quote is open. After them one is open, too.
 pub fn push_attributes<A: Allocator>(
-    page: &mut Vec<u8, A>,
+    output: &mut Vec<u8, A>,
     attributes: &[Attribute<A>],
 ) -> Result<(), AllocError>
     ensures ok { OnOk result
-        (page.new.items ≡ page.old.items ++ open_attributes (map attribute_of attributes.now)) }
-    ensures err { OnErr result (BeginsWith page.new.items page.old.items) }
+        (output.new.items ≡ output.old.items ++ open_attributes (map attribute_of attributes.now)) }
+    ensures err { OnErr result (BeginsWith output.new.items output.old.items) }
 {
     for attribute in attributes {
-        push_attribute(page, attribute)?;
+        push_attribute(output, attribute)?;
     }
     Ok(())
 }
@@ -304,60 +304,60 @@ pub fn push_attributes<A: Allocator>(
 // Closes a quote, and appends the marks of a tag and the end of its line.
 #[inline(never)]
 #[tactic(auto, unfolding(crate::specs::Printed::tag_marks, crate::specs::Printed::mark_where))]
-fn push_marked_end<A: Allocator>(page: &mut Vec<u8, A>, tag: &Tag<A>) -> Result<(), AllocError>
+fn push_marked_end<A: Allocator>(output: &mut Vec<u8, A>, tag: &Tag<A>) -> Result<(), AllocError>
     ensures ok { OnOk result
-        (page.new.items ≡ page.old.items ++ (codes "\"" ++ tag_marks (tag_of tag.now) ++ codes "\n")) }
-    ensures err { OnErr result (BeginsWith page.new.items page.old.items) }
+        (output.new.items ≡ output.old.items ++ (codes "\"" ++ tag_marks (tag_of tag.now) ++ codes "\n")) }
+    ensures err { OnErr result (BeginsWith output.new.items output.old.items) }
 {
-    page.extend_from_slice(b"\"")?;
-    push_mark(page, tag.self_closing, " self-closing")?;
-    push_mark(page, tag.had_duplicate_attributes, " duplicates")?;
-    page.extend_from_slice(b"\n")
+    output.extend_from_slice(b"\"")?;
+    push_mark(output, tag.self_closing, " self-closing")?;
+    push_mark(output, tag.had_duplicate_attributes, " duplicates")?;
+    output.extend_from_slice(b"\n")
 }
 
 /// Closes a quote, and appends what follows the attributes in the line of a tag. Few tags have marks.
 #[inline(always)]
 #[tactic(auto, unfolding(crate::specs::Printed::tag_marks, crate::specs::Printed::mark_where))]
-pub fn push_tag_end<A: Allocator>(page: &mut Vec<u8, A>, tag: &Tag<A>) -> Result<(), AllocError>
+pub fn push_tag_end<A: Allocator>(output: &mut Vec<u8, A>, tag: &Tag<A>) -> Result<(), AllocError>
     ensures ok { OnOk result
-        (page.new.items ≡ page.old.items ++ (codes "\"" ++ tag_marks (tag_of tag.now) ++ codes "\n")) }
-    ensures err { OnErr result (BeginsWith page.new.items page.old.items) }
+        (output.new.items ≡ output.old.items ++ (codes "\"" ++ tag_marks (tag_of tag.now) ++ codes "\n")) }
+    ensures err { OnErr result (BeginsWith output.new.items output.old.items) }
 {
     if tag.self_closing || tag.had_duplicate_attributes {
-        return push_marked_end(page, tag);
+        return push_marked_end(output, tag);
     }
-    page.extend_from_slice(b"\"\n")
+    output.extend_from_slice(b"\"\n")
 }
 
 // Appends the line of a pause at which the encoding is switched.
 #[tactic(auto, unfolding(crate::specs::Printed::pause_line))]
 fn push_encoding_pause<A: Allocator>(
-    page: &mut Vec<u8, A>,
+    output: &mut Vec<u8, A>,
     charset: &[u8],
 ) -> Result<(), AllocError>
     ensures ok { OnOk result
-        (page.new.items ≡ page.old.items ++ pause_line (SwitchEncoding charset.now)) }
-    ensures err { OnErr result (BeginsWith page.new.items page.old.items) }
+        (output.new.items ≡ output.old.items ++ pause_line (SwitchEncoding charset.now)) }
+    ensures err { OnErr result (BeginsWith output.new.items output.old.items) }
 {
-    page.extend_from_slice(b"pause encoding ")?;
-    push_quoted(page, charset)?;
-    page.extend_from_slice(b"\n")
+    output.extend_from_slice(b"pause encoding ")?;
+    push_quoted(output, charset)?;
+    output.extend_from_slice(b"\n")
 }
 
 /// Appends the pause line, where the reply pauses.
 #[tactic(auto, unfolding(crate::specs::Printed::pause_line))]
 pub fn push_pause<A: Allocator>(
-    page: &mut Vec<u8, A>,
+    output: &mut Vec<u8, A>,
     reply: &TokenSinkResult<(), String<A>>,
 ) -> Result<(), AllocError>
     ensures ok { OnOk result
-        (page.new.items ≡ page.old.items ++ pause_line (reply_of string_bytes reply.now)) }
-    ensures err { OnErr result (BeginsWith page.new.items page.old.items) }
+        (output.new.items ≡ output.old.items ++ pause_line (reply_of string_bytes reply.now)) }
+    ensures err { OnErr result (BeginsWith output.new.items output.old.items) }
 {
     match reply {
-        TokenSinkResult::Script(()) => page.extend_from_slice(b"pause script\n"),
+        TokenSinkResult::Script(()) => output.extend_from_slice(b"pause script\n"),
         TokenSinkResult::EncodingIndicator(charset) => {
-            push_encoding_pause(page, charset.as_bytes())
+            push_encoding_pause(output, charset.as_bytes())
         }
         _ => Ok(()),
     }
@@ -365,18 +365,18 @@ pub fn push_pause<A: Allocator>(
 
 /// Appends a part of a DOCTYPE, which it may lack.
 pub fn push_option<A: Allocator>(
-    page: &mut Vec<u8, A>,
+    output: &mut Vec<u8, A>,
     text: &Option<String<A>>,
 ) -> Result<(), AllocError>
     ensures ok { OnOk result
-        (page.new.items ≡ page.old.items ++ printed_option (option_map string_bytes text.now)) }
-    ensures err { OnErr result (BeginsWith page.new.items page.old.items) }
+        (output.new.items ≡ output.old.items ++ printed_option (option_map string_bytes text.now)) }
+    ensures err { OnErr result (BeginsWith output.new.items output.old.items) }
 {
     match text {
-        None => page.extend_from_slice(b" -"),
+        None => output.extend_from_slice(b" -"),
         Some(text) => {
-            page.extend_from_slice(b" ")?;
-            push_quoted(page, text.as_bytes())
+            output.extend_from_slice(b" ")?;
+            push_quoted(output, text.as_bytes())
         }
     }
 }

@@ -38,14 +38,14 @@ fn collect<A: Allocator + Copy>(
     alloc: A,
     opts: TokenizerOpts<A>,
     foreign: bool,
-    names: &NamedReferences<A>,
+    references: &NamedReferences<A>,
     text: String<A>,
 ) -> Result<Collector<A>, TokenizerError>
     requires { CanStart opts.initial_state }
-    ensures reads { CollectsText result (options_of opts) names.now foreign (chars (string_bytes text)) }
+    ensures reads { CollectsText result (options_of opts) references.now foreign (chars (string_bytes text)) }
 {
     let sink = Collector::new(alloc, foreign);
-    let (sink, read) = read_whole(alloc, sink, opts, names, text);
+    let (sink, read) = read_whole(alloc, sink, opts, references, text);
     match read {
         Ok(()) => Ok(sink),
         Err(error) => Err(error),
@@ -58,21 +58,21 @@ pub fn tag<A: Allocator + Copy>(
     alloc: A,
     opts: TokenizerOpts<A>,
     foreign: bool,
-    names: &NamedReferences<A>,
+    references: &NamedReferences<A>,
     text: String<A>,
 ) -> Result<Collector<A>, TokenizerError>
     requires { CanStart opts.initial_state }
-    ensures reads { CollectsText result (options_of opts) names.now foreign (chars (string_bytes text)) }
+    ensures reads { CollectsText result (options_of opts) references.now foreign (chars (string_bytes text)) }
     ensures tag { IfOk result (λ sink. (tag : WrittenTag) →
         IsTag (start_of (options_of opts)) (chars (string_bytes text)) tag →
         sink.collected ≡ record {
-          messages = tag_messages (rules_of (options_of opts) names.now) (start_of (options_of opts)).input tag;
+          messages = tag_messages (rules_of (options_of opts) references.now) (start_of (options_of opts)).input tag;
           finished = true;
           foreign = foreign;
         }) }
 {
-    names.table_laws();
-    collect(alloc, opts, foreign, names, text)
+    references.table_laws();
+    collect(alloc, opts, foreign, references, text)
 }
 
 /// Reads a whole text by a collector. Where the text is one character reference, written out, read in
@@ -81,21 +81,21 @@ pub fn reference<A: Allocator + Copy>(
     alloc: A,
     opts: TokenizerOpts<A>,
     foreign: bool,
-    names: &NamedReferences<A>,
+    references: &NamedReferences<A>,
     text: String<A>,
 ) -> Result<Collector<A>, TokenizerError>
     requires { CanStart opts.initial_state }
-    ensures reads { CollectsText result (options_of opts) names.now foreign (chars (string_bytes text)) }
+    ensures reads { CollectsText result (options_of opts) references.now foreign (chars (string_bytes text)) }
     ensures reference { IfOk result (λ sink. (reference : WrittenReference) →
-        IsReference names.now (start_of (options_of opts)) (chars (string_bytes text)) reference →
+        IsReference references.now (start_of (options_of opts)) (chars (string_bytes text)) reference →
         sink.collected ≡ record {
           messages = reference_messages opts.exact_errors (start_of (options_of opts)).input reference;
           finished = true;
           foreign = foreign;
         }) }
 {
-    names.table_laws();
-    collect(alloc, opts, foreign, names, text)
+    references.table_laws();
+    collect(alloc, opts, foreign, references, text)
 }
 
 /// Reads a whole text by a collector. Where the text is characters of Data or of plain text that are
@@ -107,22 +107,22 @@ pub fn raw<A: Allocator + Copy>(
     alloc: A,
     opts: TokenizerOpts<A>,
     foreign: bool,
-    names: &NamedReferences<A>,
+    references: &NamedReferences<A>,
     text: String<A>,
 ) -> Result<Collector<A>, TokenizerError>
     requires { CanStart opts.initial_state }
-    ensures reads { CollectsText result (options_of opts) names.now foreign (chars (string_bytes text)) }
+    ensures reads { CollectsText result (options_of opts) references.now foreign (chars (string_bytes text)) }
     ensures raw { IfOk result (λ sink. (raw : Raw) (name : List ℕ) (written : WrittenRaw) →
         IsRawText (start_of (options_of opts)) (chars (string_bytes text)) raw name written →
         Collects sink foreign
-        (raw_messages (rules_of (options_of opts) names.now) (start_of (options_of opts)).input raw written)) }
+        (raw_messages (rules_of (options_of opts) references.now) (start_of (options_of opts)).input raw written)) }
     ensures text { IfOk result (λ sink. (mode : Mode) (run : List ℕ) →
         IsTextRun (start_of (options_of opts)) (chars (string_bytes text)) mode run →
         Collects sink foreign (text_run_messages opts.exact_errors (start_of (options_of opts)).input
         (chars (string_bytes text)) mode run)) }
 {
-    names.table_laws();
-    collect(alloc, opts, foreign, names, text)
+    references.table_laws();
+    collect(alloc, opts, foreign, references, text)
 }
 
 /// Reads a whole text by a collector. Where the text is one comment, written out, also a bogus one,
@@ -132,11 +132,11 @@ pub fn comment<A: Allocator + Copy>(
     alloc: A,
     opts: TokenizerOpts<A>,
     foreign: bool,
-    names: &NamedReferences<A>,
+    references: &NamedReferences<A>,
     text: String<A>,
 ) -> Result<Collector<A>, TokenizerError>
     requires { CanStart opts.initial_state }
-    ensures reads { CollectsText result (options_of opts) names.now foreign (chars (string_bytes text)) }
+    ensures reads { CollectsText result (options_of opts) references.now foreign (chars (string_bytes text)) }
     ensures comment { IfOk result (λ sink. (comment : WrittenComment) →
         IsComment (start_of (options_of opts)) foreign (chars (string_bytes text)) comment →
         sink.collected ≡ record {
@@ -157,8 +157,8 @@ pub fn comment<A: Allocator + Copy>(
         Collects sink foreign (open_declaration_messages opts.exact_errors (start_of (options_of opts)).input
         (chars (string_bytes text)) content)) }
 {
-    names.table_laws();
-    collect(alloc, opts, foreign, names, text)
+    references.table_laws();
+    collect(alloc, opts, foreign, references, text)
 }
 
 /// Reads a whole text by a collector. Take a text that is one processing instruction, written out, also
@@ -168,11 +168,11 @@ pub fn instruction<A: Allocator + Copy>(
     alloc: A,
     opts: TokenizerOpts<A>,
     foreign: bool,
-    names: &NamedReferences<A>,
+    references: &NamedReferences<A>,
     text: String<A>,
 ) -> Result<Collector<A>, TokenizerError>
     requires { CanStart opts.initial_state }
-    ensures reads { CollectsText result (options_of opts) names.now foreign (chars (string_bytes text)) }
+    ensures reads { CollectsText result (options_of opts) references.now foreign (chars (string_bytes text)) }
     ensures instruction { IfOk result (λ sink. (instruction : WrittenInstruction) →
         IsInstruction (start_of (options_of opts)) (chars (string_bytes text)) instruction →
         sink.collected ≡ record {
@@ -181,7 +181,7 @@ pub fn instruction<A: Allocator + Copy>(
           foreign = foreign;
         }) }
 {
-    collect(alloc, opts, foreign, names, text)
+    collect(alloc, opts, foreign, references, text)
 }
 
 /// Reads a whole text by a collector. Where the text is one doctype, written out, the collector then
@@ -191,11 +191,11 @@ pub fn doctype<A: Allocator + Copy>(
     alloc: A,
     opts: TokenizerOpts<A>,
     foreign: bool,
-    names: &NamedReferences<A>,
+    references: &NamedReferences<A>,
     text: String<A>,
 ) -> Result<Collector<A>, TokenizerError>
     requires { CanStart opts.initial_state }
-    ensures reads { CollectsText result (options_of opts) names.now foreign (chars (string_bytes text)) }
+    ensures reads { CollectsText result (options_of opts) references.now foreign (chars (string_bytes text)) }
     ensures doctype { IfOk result (λ sink. (doctype : WrittenDoctype) →
         IsDoctype (start_of (options_of opts)) (chars (string_bytes text)) doctype →
         sink.collected ≡ record {
@@ -208,8 +208,8 @@ pub fn doctype<A: Allocator + Copy>(
         Collects sink foreign (whole_open_doctype_messages opts.exact_errors (start_of (options_of opts)).input
         (chars (string_bytes text)) doctype)) }
 {
-    names.table_laws();
-    collect(alloc, opts, foreign, names, text)
+    references.table_laws();
+    collect(alloc, opts, foreign, references, text)
 }
 
 /// Reads a whole text by a collector. Where the text is one CDATA section, written out, the collector
@@ -218,16 +218,16 @@ pub fn cdata<A: Allocator + Copy>(
     alloc: A,
     opts: TokenizerOpts<A>,
     foreign: bool,
-    names: &NamedReferences<A>,
+    references: &NamedReferences<A>,
     text: String<A>,
 ) -> Result<Collector<A>, TokenizerError>
     requires { CanStart opts.initial_state }
-    ensures reads { CollectsText result (options_of opts) names.now foreign (chars (string_bytes text)) }
+    ensures reads { CollectsText result (options_of opts) references.now foreign (chars (string_bytes text)) }
     ensures cdata { IfOk result (λ sink. (cdata : WrittenCdata) →
         IsCdata (start_of (options_of opts)) foreign (chars (string_bytes text)) cdata →
         Collects sink foreign (cdata_messages opts.exact_errors (start_of (options_of opts)).input cdata)) }
 {
-    collect(alloc, opts, foreign, names, text)
+    collect(alloc, opts, foreign, references, text)
 }
 
 /// Reads a whole text by a collector. However the text is taken as items and at most one unfinished
@@ -236,17 +236,17 @@ pub fn items<A: Allocator + Copy>(
     alloc: A,
     opts: TokenizerOpts<A>,
     foreign: bool,
-    names: &NamedReferences<A>,
+    references: &NamedReferences<A>,
     text: String<A>,
 ) -> Result<Collector<A>, TokenizerError>
     requires { CanStart opts.initial_state }
-    ensures reads { CollectsText result (options_of opts) names.now foreign (chars (string_bytes text)) }
+    ensures reads { CollectsText result (options_of opts) references.now foreign (chars (string_bytes text)) }
     ensures items { IfOk result (λ sink.
-        (one : ComposedOf (options_of opts) names.now foreign (chars (string_bytes text))) →
+        (one : ComposedOf (options_of opts) references.now foreign (chars (string_bytes text))) →
         Collects sink foreign (one.tells ++ one.ends)) }
 {
-    names.table_laws();
-    collect(alloc, opts, foreign, names, text)
+    references.table_laws();
+    collect(alloc, opts, foreign, references, text)
 }
 
 /// The law of cutting: runs that push the same text in all, however it is cut, take the same text.

@@ -134,23 +134,23 @@ pub fn run_steps<S: TokenSink<Token<A>>, A: Allocator + Copy>(
     alloc: A,
     sink: S,
     opts: TokenizerOpts<A>,
-    names: &NamedReferences<A>,
+    references: &NamedReferences<A>,
     steps: Vec<Step<A>, A>,
 ) -> (S, Result<(), TokenizerError>)
     requires { CanStart opts.initial_state }
     ensures finishes { OnOk result.1 (S.means.state result.0
-        ≡ finished_reading S.means (options_of opts) names.now (S.means.state sink)
-        (text_of_steps S.means (options_of opts) names.now (S.means.state sink) (map step_of steps.items))) }
-    ensures items { OnOk result.1 (RunsItems S.means (options_of opts) names.now (S.means.state sink)
+        ≡ finished_reading S.means (options_of opts) references.now (S.means.state sink)
+        (text_of_steps S.means (options_of opts) references.now (S.means.state sink) (map step_of steps.items))) }
+    ensures items { OnOk result.1 (RunsItems S.means (options_of opts) references.now (S.means.state sink)
         (map step_of steps.items) (S.means.state result.0)) }
-    ensures stops { IfErr result.1 (λ error. StoppedReading S.means (options_of opts) names.now
+    ensures stops { IfErr result.1 (λ error. StoppedReading S.means (options_of opts) references.now
         error (S.means.state sink)
-        (text_of_steps S.means (options_of opts) names.now (S.means.state sink) (map step_of steps.items))
+        (text_of_steps S.means (options_of opts) references.now (S.means.state sink) (map step_of steps.items))
         (S.means.state result.0)) }
     ensures faults { S.faults result.0 ≡ S.faults sink + faults_of result.1 }
 {
-    names.table_laws();
-    let mut tokenizer = Tokenizer::new(alloc, sink, opts, names);
+    references.table_laws();
+    let mut tokenizer = Tokenizer::new(alloc, sink, opts, references);
     let result = take_steps(alloc, &mut tokenizer, steps);
     (tokenizer.into_sink(), result)
 }

@@ -39,20 +39,20 @@ fn read_from_start<S: TokenSink<Token<A>>, A: Allocator + Copy>(
     alloc: A,
     sink: S,
     opts: TokenizerOpts<A>,
-    names: &NamedReferences<A>,
+    references: &NamedReferences<A>,
     queue: &mut BufferQueue<A>,
 ) -> (S, Result<(), TokenizerError>)
     requires { CanStart opts.initial_state }
     ensures finishes { OnOk result.1 (S.means.state result.0
-        ≡ finished_reading S.means (options_of opts) names.now (S.means.state sink) queue.old.text) }
-    ensures items { OnOk result.1 (FinishedByItems S.means (options_of opts) names.now
+        ≡ finished_reading S.means (options_of opts) references.now (S.means.state sink) queue.old.text) }
+    ensures items { OnOk result.1 (FinishedByItems S.means (options_of opts) references.now
         (S.means.state sink) queue.old.text (S.means.state result.0)) }
-    ensures stops { IfErr result.1 (λ error. StoppedReading S.means (options_of opts) names.now
+    ensures stops { IfErr result.1 (λ error. StoppedReading S.means (options_of opts) references.now
         error (S.means.state sink) queue.old.text (S.means.state result.0)) }
     ensures faults { S.faults result.0 ≡ S.faults sink + faults_of result.1 }
 {
-    names.table_laws();
-    let mut tokenizer = Tokenizer::new(alloc, sink, opts, names);
+    references.table_laws();
+    let mut tokenizer = Tokenizer::new(alloc, sink, opts, references);
     let result = read_waiting(&mut tokenizer, queue);
     (tokenizer.into_sink(), result)
 }
@@ -79,15 +79,15 @@ pub fn read_whole<S: TokenSink<Token<A>>, A: Allocator + Copy>(
     alloc: A,
     sink: S,
     opts: TokenizerOpts<A>,
-    names: &NamedReferences<A>,
+    references: &NamedReferences<A>,
     text: String<A>,
 ) -> (S, Result<(), TokenizerError>)
     requires { CanStart opts.initial_state }
     ensures finishes { OnOk result.1 (S.means.state result.0
-        ≡ finished_reading S.means (options_of opts) names.now (S.means.state sink) (chars (string_bytes text))) }
-    ensures items { OnOk result.1 (FinishedByItems S.means (options_of opts) names.now
+        ≡ finished_reading S.means (options_of opts) references.now (S.means.state sink) (chars (string_bytes text))) }
+    ensures items { OnOk result.1 (FinishedByItems S.means (options_of opts) references.now
         (S.means.state sink) (chars (string_bytes text)) (S.means.state result.0)) }
-    ensures stops { IfErr result.1 (λ error. StoppedReading S.means (options_of opts) names.now
+    ensures stops { IfErr result.1 (λ error. StoppedReading S.means (options_of opts) references.now
         error (S.means.state sink) (chars (string_bytes text)) (S.means.state result.0)) }
     ensures faults { S.faults result.0 ≡ S.faults sink + faults_of result.1 }
 {
@@ -95,7 +95,7 @@ pub fn read_whole<S: TokenSink<Token<A>>, A: Allocator + Copy>(
     if queue.push_back(text).is_err() {
         return (sink, Err(TokenizerError::Memory));
     }
-    read_from_start(alloc, sink, opts, names, &mut queue)
+    read_from_start(alloc, sink, opts, references, &mut queue)
 }
 
 /// Reads the text that the pieces make, one after the other, as `read_whole` does: where it is cut
@@ -104,16 +104,16 @@ pub fn read_pieces<S: TokenSink<Token<A>>, A: Allocator + Copy>(
     alloc: A,
     sink: S,
     opts: TokenizerOpts<A>,
-    names: &NamedReferences<A>,
+    references: &NamedReferences<A>,
     pieces: Vec<String<A>, A>,
 ) -> (S, Result<(), TokenizerError>)
     requires { CanStart opts.initial_state }
     ensures finishes { OnOk result.1 (S.means.state result.0
-        ≡ finished_reading S.means (options_of opts) names.now (S.means.state sink)
+        ≡ finished_reading S.means (options_of opts) references.now (S.means.state sink)
         (text_of (map string_bytes pieces.items))) }
-    ensures items { OnOk result.1 (FinishedByItems S.means (options_of opts) names.now
+    ensures items { OnOk result.1 (FinishedByItems S.means (options_of opts) references.now
         (S.means.state sink) (text_of (map string_bytes pieces.items)) (S.means.state result.0)) }
-    ensures stops { IfErr result.1 (λ error. StoppedReading S.means (options_of opts) names.now
+    ensures stops { IfErr result.1 (λ error. StoppedReading S.means (options_of opts) references.now
         error (S.means.state sink) (text_of (map string_bytes pieces.items)) (S.means.state result.0)) }
     ensures faults { S.faults result.0 ≡ S.faults sink + faults_of result.1 }
 {
@@ -121,5 +121,5 @@ pub fn read_pieces<S: TokenSink<Token<A>>, A: Allocator + Copy>(
     if hand_in_pieces(&mut queue, pieces).is_err() {
         return (sink, Err(TokenizerError::Memory));
     }
-    read_from_start(alloc, sink, opts, names, &mut queue)
+    read_from_start(alloc, sink, opts, references, &mut queue)
 }

@@ -39,7 +39,7 @@ tag name attributes self_closing = Tag (record { kind = EndTag; name = name; sel
 record Case (exact : Bool) (raw : Raw) (name : List ℕ) (written_as : WrittenRaw) (X : List ℕ) (M : List Message) : Type 0 where
   text : normalised input X ≡ written raw written_as
   is_raw : is_raw name raw written_as ≡ true
-  messages : raw_messages (record { exact = exact; names = [] }) input raw written_as ≡ M
+  messages : raw_messages (record { exact = exact; references = [] }) input raw written_as ≡ M
 
 title : Case false Rcdata (codes "title") (record { items = Character 97 ∷ LessThan ∷ Character 98 ∷ Letters (codes "x") ∷ Character 62 ∷ []; end_tag = end_tag 116 (codes "itle") (Blank 10 ∷ []) }) (codes "a<b</x></title\n>")
     (on_line 1 (texts (codes "a<b</x>")) ++ on_line 2 (tag (codes "title") [] false ∷ End ∷ []))

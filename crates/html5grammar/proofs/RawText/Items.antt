@@ -471,7 +471,7 @@ module _ {X S H : Type 0} (means : Means X S H) (rules : Rules) where
       passes-end_name raw name tag.kind tag.first tag.rest text e.single e.is_end (rw (letter, e.letters) refl) e.same ends
 
   -- with its `>`
-  pub tells-raw_end : (Z : List ℕ) (K : Start) (s : S) (Y : List ℕ) (raw : Raw) (name : List ℕ) (tag : WrittenTag) → IsTable rules.names → IsRawEnd K Y raw name tag
+  pub tells-raw_end : (Z : List ℕ) (K : Start) (s : S) (Y : List ℕ) (raw : Raw) (name : List ℕ) (tag : WrittenTag) → IsTable rules.references → IsRawEnd K Y raw name tag
       → TellsWith means rules Z K s Y (spelled_messages rules.exact K.input [] (spelled rules tag))
       (start_after_tag means K s Y (tag_told rules tag) (spelled_messages rules.exact K.input [] (spelled rules tag)))
   unfolding is_written ends_name is_white_space
@@ -485,7 +485,7 @@ module _ {X S H : Type 0} (means : Means X S H) (rules : Rules) where
       (passes-end_tag raw name tag (flat_map part_text tag.parts ++ greater_than ∷ []) one.ends p.0 (parts-end_name tag.parts (greater_than ∷ []) q.1 (λ none. refl))) Z)
 
   -- and without it
-  pub tells-open_raw_end : (K : Start) (s : S) (Y : List ℕ) (raw : Raw) (name : List ℕ) (tag : WrittenTag) (last : Option OpenAttribute) → IsTable rules.names → IsOpenRawEnd K Y raw name tag last
+  pub tells-open_raw_end : (K : Start) (s : S) (Y : List ℕ) (raw : Raw) (name : List ℕ) (tag : WrittenTag) (last : Option OpenAttribute) → IsTable rules.references → IsOpenRawEnd K Y raw name tag last
       → TellsAll means rules K s Y (spelled_messages rules.exact K.input [] (spell_open_tag rules tag last)) (on_line (line_after (input_after K.input Y) []) (open_tag_at_end rules tag last))
   unfolding is_open_written
   tells-open_raw_end K s Y raw name tag last table one =

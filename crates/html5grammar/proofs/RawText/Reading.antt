@@ -351,7 +351,7 @@ module _ {Q S H : Type 0} (means : Means Q S H) (rules : Rules) where
 
   -- raw text with an end tag, up to the `>`
   reaches_end : (K : Start) (s : S) (X : List ℕ) (raw : Raw) (name : List ℕ) (items : List RawItem) (first : ℕ) (rest : List ℕ) (parts : List Part)
-      → IsTable rules.names → IsRawText K X raw name (record { items = items; end_tag = Some (end_tag_of first rest parts) })
+      → IsTable rules.references → IsRawText K X raw name (record { items = items; end_tag = Some (end_tag_of first rest parts) })
       → ReachesEnd K s X raw items first rest parts
   reaches_end K s X raw name items first rest parts table one =
       let tag : WrittenTag = end_tag_of first rest parts in
@@ -388,7 +388,7 @@ module _ {Q S H : Type 0} (means : Means Q S H) (rules : Rules) where
 
   -- raw text with an end tag tells its messages
   reads_end_tag : (K : Start) (s : S) (X : List ℕ) (raw : Raw) (name : List ℕ) (items : List RawItem) (first : ℕ) (rest : List ℕ) (parts : List Part)
-      → IsTable rules.names → ((t : S) (line : ℕ) → means.reply t (Tag (tag_told rules (end_tag_of first rest parts))) line ≡ KeepOn)
+      → IsTable rules.references → ((t : S) (line : ℕ) → means.reply t (Tag (tag_told rules (end_tag_of first rest parts))) line ≡ KeepOn)
       → IsRawText K X raw name (record { items = items; end_tag = Some (end_tag_of first rest parts) })
       → Reads K s X raw items (Some (end_tag_of first rest parts))
   unfolding late_at_end_of open_at_end_of told_at_end_of
@@ -414,7 +414,7 @@ module _ {Q S H : Type 0} (means : Means Q S H) (rules : Rules) where
 
   -- the same, whatever the sink replies
   reads_end_tag_reply : (K : Start) (s : S) (X : List ℕ) (raw : Raw) (name : List ℕ) (items : List RawItem) (first : ℕ) (rest : List ℕ) (parts : List Part)
-      → IsTable rules.names → IsRawText K X raw name (record { items = items; end_tag = Some (end_tag_of first rest parts) })
+      → IsTable rules.references → IsRawText K X raw name (record { items = items; end_tag = Some (end_tag_of first rest parts) })
       → IsReadByReply K s X raw (record { items = items; end_tag = Some (end_tag_of first rest parts) }) (end_tag_of first rest parts)
   reads_end_tag_reply K s X raw name items first rest parts table one =
       let tag : WrittenTag = end_tag_of first rest parts in
@@ -431,7 +431,7 @@ module _ {Q S H : Type 0} (means : Means Q S H) (rules : Rules) where
       ∙ ap (λ l. record { messages = l; opened = open_after_reply last (last_reply means.step means.reply s l); last_start_tag = last }) r.cells_are
 
   reads_ended_reply : (K : Start) (s : S) (X : List ℕ) (raw : Raw) (name : List ℕ) (items : List RawItem) (kind : TagKind) (first : ℕ) (rest : List ℕ) (parts : List Part)
-      → IsTable rules.names → IsRawText K X raw name (record { items = items; end_tag = Some (record { kind = kind; first = first; rest = rest; parts = parts }) })
+      → IsTable rules.references → IsRawText K X raw name (record { items = items; end_tag = Some (record { kind = kind; first = first; rest = rest; parts = parts }) })
       → IsReadByReply K s X raw (record { items = items; end_tag = Some (record { kind = kind; first = first; rest = rest; parts = parts }) }) (record { kind = kind; first = first; rest = rest; parts = parts })
   unfolding is_raw
   reads_ended_reply K s X raw name items StartTag first rest parts table one =
@@ -440,7 +440,7 @@ module _ {Q S H : Type 0} (means : Means Q S H) (rules : Rules) where
   reads_ended_reply K s X raw name items EndTag first rest parts table one = reads_end_tag_reply K s X raw name items first rest parts table one
 
   pub reads_raw_reply : (K : Start) (s : S) (X : List ℕ) (raw : Raw) (name : List ℕ) (written_as : WrittenRaw) (tag : WrittenTag) → written_as.end_tag ≡ Some tag
-      → IsTable rules.names → IsRawText K X raw name written_as → IsReadByReply K s X raw written_as tag
+      → IsTable rules.references → IsRawText K X raw name written_as → IsReadByReply K s X raw written_as tag
   reads_raw_reply K s X raw name written_as tag e table one =
       subst (λ o. IsReadByReply K s X raw (record { items = written_as.items; end_tag = o }) tag) (sym e)
       (reads_ended_reply K s X raw name written_as.items tag.kind tag.first tag.rest tag.parts table
@@ -458,7 +458,7 @@ module _ {Q S H : Type 0} (means : Means Q S H) (rules : Rules) where
   -- what is sent of any raw text
 
   reads_ended : (K : Start) (s : S) (X : List ℕ) (raw : Raw) (name : List ℕ) (items : List RawItem) (kind : TagKind) (first : ℕ) (rest : List ℕ) (parts : List Part)
-      → IsTable rules.names → ((t : S) (line : ℕ) → means.reply t (Tag (tag_told rules (record { kind = kind; first = first; rest = rest; parts = parts }))) line ≡ KeepOn)
+      → IsTable rules.references → ((t : S) (line : ℕ) → means.reply t (Tag (tag_told rules (record { kind = kind; first = first; rest = rest; parts = parts }))) line ≡ KeepOn)
       → IsRawText K X raw name (record { items = items; end_tag = Some (record { kind = kind; first = first; rest = rest; parts = parts }) })
       → Reads K s X raw items (Some (record { kind = kind; first = first; rest = rest; parts = parts }))
   unfolding is_raw
@@ -468,13 +468,13 @@ module _ {Q S H : Type 0} (means : Means Q S H) (rules : Rules) where
   reads_ended K s X raw name items EndTag first rest parts table keeps one = reads_end_tag K s X raw name items first rest parts table keeps one
 
   reads_raw : (K : Start) (s : S) (X : List ℕ) (raw : Raw) (name : List ℕ) (items : List RawItem) (end_tag : Option WrittenTag)
-      → IsTable rules.names → KeepsOn end_tag → IsRawText K X raw name (record { items = items; end_tag = end_tag }) → Reads K s X raw items end_tag
+      → IsTable rules.references → KeepsOn end_tag → IsRawText K X raw name (record { items = items; end_tag = end_tag }) → Reads K s X raw items end_tag
   reads_raw K s X raw name items None table keeps one = reads_open K s X raw name items one
   reads_raw K s X raw name items (Some tag) table keeps one = reads_ended K s X raw name items tag.kind tag.first tag.rest tag.parts table (λ t line. keeps tag t line refl) one
 
   -- a text that is raw text, where the sink keeps on after the end tag
   pub reading-raw : (K : Start) (s : S) (X : List ℕ) (raw : Raw) (name : List ℕ) (written_as : WrittenRaw)
-      → IsTable rules.names → KeepsOn written_as.end_tag → IsRawText K X raw name written_as
+      → IsTable rules.references → KeepsOn written_as.end_tag → IsRawText K X raw name written_as
       → messages (reading means.step means.reply means.foreign rules K s X) ≡ raw_messages rules K.input raw written_as
   unfolding raw_messages
   reading-raw K s X raw name written_as table keeps one =

@@ -94,26 +94,26 @@ or_parts : (p q : Bool) (R : Type 0) → (p ≡ true → R) → (q ≡ true → 
 or_parts true q R f g h = f refl
 or_parts false q R f g h = g h
 
-held-begun : (names : List NamedReference) (text : List ℕ) → All (λ entry. IsTrue (is_plain_name entry.name)) names → begins_name names text ≡ true → list_all is_held_character text ≡ true
-held-begun names text plain begins =
+held-begun : (references : List NamedReference) (text : List ℕ) → All (λ entry. IsTrue (is_plain_name entry.name)) references → begins_name references text ≡ true → list_all is_held_character text ≡ true
+held-begun references text plain begins =
     elim (list_all is_name_character text) as (λ b. list_all is_name_character text ≡ b → list_all is_held_character text ≡ true) [
       | true ↦ λ named. held-all is_name_character name-held text named
-      | false ↦ λ odd. absurd (false≢true (sym (none_begins names text plain odd) ∙ begins))
+      | false ↦ λ odd. absurd (false≢true (sym (none_begins references text plain odd) ∙ begins))
     ] refl
 
 -- what leaves a reference undecided is letters, digits, `#` and `;`
-pub held-undecided : (names : List NamedReference) (held : List ℕ) → All (λ entry. IsTrue (is_plain_name entry.name)) names
-    → is_undecided names held ≡ true → list_all is_held_character held ≡ true
+pub held-undecided : (references : List NamedReference) (held : List ℕ) → All (λ entry. IsTrue (is_plain_name entry.name)) references
+    → is_undecided references held ≡ true → list_all is_held_character held ≡ true
 unfolding is_undecided
-held-undecided names [] plain h = refl
-held-undecided names (c ∷ held) plain h =
+held-undecided references [] plain h = refl
+held-undecided references (c ∷ held) plain h =
     elim (c == number_sign) as (λ b. (c == number_sign) ≡ b
-    → (if b then is_number held else begins_name names (c ∷ held) || (list_all is_ascii_alphanumeric (c ∷ held) && is_none (longest_name names (c ∷ held)))) ≡ true
+    → (if b then is_number held else begins_name references (c ∷ held) || (list_all is_ascii_alphanumeric (c ∷ held) && is_none (longest_name references (c ∷ held)))) ≡ true
     → list_all is_held_character (c ∷ held) ≡ true) [
       | true ↦ λ sign number. rw (sign-held c sign, held-number held number) refl
-      | false ↦ λ other named. or_parts (begins_name names (c ∷ held)) _ (list_all is_held_character (c ∷ held) ≡ true)
-          (held-begun names (c ∷ held) plain)
-          (λ unknown. held-all is_ascii_alphanumeric alphanumeric-held (c ∷ held) (and_parts (list_all is_ascii_alphanumeric (c ∷ held)) (is_none (longest_name names (c ∷ held))) unknown).0)
+      | false ↦ λ other named. or_parts (begins_name references (c ∷ held)) _ (list_all is_held_character (c ∷ held) ≡ true)
+          (held-begun references (c ∷ held) plain)
+          (λ unknown. held-all is_ascii_alphanumeric alphanumeric-held (c ∷ held) (and_parts (list_all is_ascii_alphanumeric (c ∷ held)) (is_none (longest_name references (c ∷ held))) unknown).0)
           named
     ] refl h
 
@@ -200,15 +200,15 @@ decided-in (InAttribute kind tag) cs = refl
 -- ---- what a reference takes
 
 -- the longest name that begins a text is not longer than the text
-longest-within : (names : List NamedReference) (text : List ℕ) → IfSome (longest_name names text) (λ entry. length entry.name ≤ length text)
+longest-within : (references : List NamedReference) (text : List ℕ) → IfSome (longest_name references text) (λ entry. length entry.name ≤ length text)
 unfolding longest_name
 longest-within [] text = tt
-longest-within (x ∷ names) text =
-    elim (starts_with nat_eq text x.name) as (λ b. starts_with nat_eq text x.name ≡ b → IfSome (if b then Some (longer x (longest_name names text)) else longest_name names text) (λ entry. length entry.name ≤ length text)) [
+longest-within (x ∷ references) text =
+    elim (starts_with nat_eq text x.name) as (λ b. starts_with nat_eq text x.name ≡ b → IfSome (if b then Some (longer x (longest_name references text)) else longest_name references text) (λ entry. length entry.name ≤ length text)) [
       | true ↦ λ begins.
           let within : length x.name ≤ length text = omega (arith, ap length (begins-parts x.name text begins), length-append x.name (drop (length x.name) text)) in
-          within-longer (longest_name names text) within (longest-within names text)
-      | false ↦ λ other. longest-within names text
+          within-longer (longest_name references text) within (longest-within references text)
+      | false ↦ λ other. longest-within references text
     ] refl
   where
     within-longer : (other : Option NamedReference) → length x.name ≤ length text → IfSome other (λ entry. length entry.name ≤ length text) → length (longer x other).name ≤ length text
@@ -243,9 +243,9 @@ unfolding reference ends_number
 taken-within rules v [] c h = none-taken _
 taken-within rules v (d ∷ held) c h =
     elim (d == number_sign) as (λ b. (b && (has_digits held && (c == semicolon))) ≡ false
-    → (if b then number_reference rules.exact held (Some c) else named_reference rules.exact v (d ∷ held) (Some c) (longest_name rules.names (d ∷ held))).taken ≤ length (d ∷ held)) [
+    → (if b then number_reference rules.exact held (Some c) else named_reference rules.exact v (d ∷ held) (Some c) (longest_name rules.references (d ∷ held))).taken ≤ length (d ∷ held)) [
       | true ↦ λ g. subst (λ n. (number_reference rules.exact held (Some c)).taken ≤ n) (omega arith) (taken-number rules.exact held c (has_digits held) (c == semicolon) refl refl g)
-      | false ↦ λ g. taken-named rules.exact v (d ∷ held) (Some c) (longest_name rules.names (d ∷ held)) (longest-within rules.names (d ∷ held))
+      | false ↦ λ g. taken-named rules.exact v (d ∷ held) (Some c) (longest_name rules.references (d ∷ held)) (longest-within rules.references (d ∷ held))
     ] h
 
 taken-ended : (rules : Rules) (v : Bool) (run : List ℕ) (c : ℕ) → ends_number run c ≡ true → (reference rules v run (Some c)).taken ≡ suc (length run)
@@ -315,24 +315,24 @@ module _ {X S H : Type 0} (means : Means X S H) (rules : Rules) where
   IsLine line = (c : ℕ) → (c == line_feed) ≡ false → line_past line c ≡ line
 
   -- what is held of a reference tells nothing
-  pub trace-run : (stand : Stand) (s : S) (line : ℕ) (last held F : List ℕ) → IsLine line → list_all is_held_character (run_while (is_undecided rules.names) held F) ≡ true
+  pub trace-run : (stand : Stand) (s : S) (line : ℕ) (last held F : List ℕ) → IsLine line → list_all is_held_character (run_while (is_undecided rules.references) held F) ≡ true
       → trace means.step means.reply means.foreign rules s line last (InReference stand held) F
-      ≡ trace means.step means.reply means.foreign rules s line last (InReference stand (held ++ run_while (is_undecided rules.names) held F)) (after_while (is_undecided rules.names) held F)
+      ≡ trace means.step means.reply means.foreign rules s line last (InReference stand (held ++ run_while (is_undecided rules.references) held F)) (after_while (is_undecided rules.references) held F)
   unfolding run_while after_while trace trace_brought trace_here brought_at reference_step stepped
   trace-run stand s line last held [] same all = rw (append-nil held) refl
-  trace-run stand s line last held (c ∷ F) same all = by (is_undecided rules.names (held ++ c ∷ [])) refl all (trace-run stand s line last (held ++ c ∷ []) F same)
+  trace-run stand s line last held (c ∷ F) same all = by (is_undecided rules.references (held ++ c ∷ [])) refl all (trace-run stand s line last (held ++ c ∷ []) F same)
     where
-      by : (b : Bool) → is_undecided rules.names (held ++ c ∷ []) ≡ b
-          → list_all is_held_character (if b then c ∷ run_while (is_undecided rules.names) (held ++ c ∷ []) F else []) ≡ true
-          → (list_all is_held_character (run_while (is_undecided rules.names) (held ++ c ∷ []) F) ≡ true
+      by : (b : Bool) → is_undecided rules.references (held ++ c ∷ []) ≡ b
+          → list_all is_held_character (if b then c ∷ run_while (is_undecided rules.references) (held ++ c ∷ []) F else []) ≡ true
+          → (list_all is_held_character (run_while (is_undecided rules.references) (held ++ c ∷ []) F) ≡ true
           → trace means.step means.reply means.foreign rules s line last (InReference stand (held ++ c ∷ [])) F
-          ≡ trace means.step means.reply means.foreign rules s line last (InReference stand ((held ++ c ∷ []) ++ run_while (is_undecided rules.names) (held ++ c ∷ []) F)) (after_while (is_undecided rules.names) (held ++ c ∷ []) F))
+          ≡ trace means.step means.reply means.foreign rules s line last (InReference stand ((held ++ c ∷ []) ++ run_while (is_undecided rules.references) (held ++ c ∷ []) F)) (after_while (is_undecided rules.references) (held ++ c ∷ []) F))
           → trace means.step means.reply means.foreign rules s line last (InReference stand held) (c ∷ F)
-          ≡ trace means.step means.reply means.foreign rules s line last (InReference stand (held ++ (if b then c ∷ run_while (is_undecided rules.names) (held ++ c ∷ []) F else []))) (if b then after_while (is_undecided rules.names) (held ++ c ∷ []) F else c ∷ F)
+          ≡ trace means.step means.reply means.foreign rules s line last (InReference stand (held ++ (if b then c ∷ run_while (is_undecided rules.references) (held ++ c ∷ []) F else []))) (if b then after_while (is_undecided rules.references) (held ++ c ∷ []) F else c ∷ F)
       by true e h further =
           let p = and_parts (is_held_character c) _ h in
           rw (e, good-held c p.0, and-false rules.exact, same c (none-line_feed c p.0))
-          (further p.1 ∙ ap (λ l. trace means.step means.reply means.foreign rules s line last (InReference stand l) (after_while (is_undecided rules.names) (held ++ c ∷ []) F)) (append_assoc held (c ∷ []) _))
+          (further p.1 ∙ ap (λ l. trace means.step means.reply means.foreign rules s line last (InReference stand l) (after_while (is_undecided rules.references) (held ++ c ∷ []) F)) (append_assoc held (c ∷ []) _))
       by false e h further = ap (λ l. trace means.step means.reply means.foreign rules s line last (InReference stand l) (c ∷ F)) (sym (append-nil held))
 
   with-two : (s : S) (M N : List Message) (line : ℕ) (last : List ℕ) (opened : Open) (text : List ℕ)
@@ -372,14 +372,14 @@ module _ {X S H : Type 0} (means : Means X S H) (rules : Rules) where
       ∙ ap (λ l. with_messages l (trace means.step means.reply means.foreign rules (stepped means.step s l) line last (opened_in stand (cs ++ c ∷ text)) rest))
       (sym (ap (on_line line) (text_in-append stand (c ∷ []) text) ∙ on_line-append line (text_in stand (c ∷ [])) (text_in stand text)))
 
-  step-decides : (stand : Stand) (run : List ℕ) (c : ℕ) (answer : Bool) → is_undecided rules.names (run ++ c ∷ []) ≡ false → ends_number run c ≡ false
+  step-decides : (stand : Stand) (run : List ℕ) (c : ℕ) (answer : Bool) → is_undecided rules.references (run ++ c ∷ []) ≡ false → ends_number run c ≡ false
       → let found : Found = reference rules (in_value stand) run (Some c) in
       brought_at rules answer (InReference stand run) c ≡ record { settled = late_tokens stand found run; here = step_at rules.exact (opened_after stand found run) c }
   unfolding brought_at reference_step
   step-decides stand run c answer e f = rw (e, f) refl
 
   trace-ended_step : (stand : Stand) (s : S) (line : ℕ) (last run : List ℕ) (c : ℕ) (more : List ℕ) → IsLine line → is_held_character c ≡ true
-      → is_undecided rules.names (run ++ c ∷ []) ≡ false → ends_number run c ≡ true
+      → is_undecided rules.references (run ++ c ∷ []) ≡ false → ends_number run c ≡ true
       → let found : Found = reference rules (in_value stand) run (Some c) in
       let M : List Message = on_line line (tokens_of_late (late_tokens stand found run)) in
       trace means.step means.reply means.foreign rules s line last (InReference stand run) (c ∷ more)
@@ -389,7 +389,7 @@ module _ {X S H : Type 0} (means : Means X S H) (rules : Rules) where
 
   -- the character after what is held decides, and is read anew
   trace-decided : (stand : Stand) (s : S) (line : ℕ) (last run : List ℕ) (c : ℕ) (more : List ℕ) → takes_reference stand ≡ true → IsLine line → list_all is_held_character run ≡ true
-      → is_undecided rules.names (run ++ c ∷ []) ≡ false → (ends : Bool) → ends_number run c ≡ ends
+      → is_undecided rules.references (run ++ c ∷ []) ≡ false → (ends : Bool) → ends_number run c ≡ ends
       → let found : Found = reference rules (in_value stand) run (Some c) in
       let M : List Message = on_line line (told_of stand found) in
       trace means.step means.reply means.foreign rules s line last (InReference stand run) (c ∷ more)
@@ -425,22 +425,22 @@ module _ {X S H : Type 0} (means : Means X S H) (rules : Rules) where
 
   -- a reference after its `&`: by what is held of the text F and the character after that
   pub trace-reference : (stand : Stand) (s : S) (line : ℕ) (last F : List ℕ) (c : ℕ) (more : List ℕ) → takes_reference stand ≡ true → IsLine line
-      → All (λ entry. IsTrue (is_plain_name entry.name)) rules.names
-      → after_while (is_undecided rules.names) [] F ≡ c ∷ more
-      → let found : Found = reference rules (in_value stand) (run_while (is_undecided rules.names) [] F) (Some c) in
+      → All (λ entry. IsTrue (is_plain_name entry.name)) rules.references
+      → after_while (is_undecided rules.references) [] F ≡ c ∷ more
+      → let found : Found = reference rules (in_value stand) (run_while (is_undecided rules.references) [] F) (Some c) in
       let M : List Message = on_line line (told_of stand found) in
       trace means.step means.reply means.foreign rules s line last (InReference stand []) F
       ≡ with_messages M (trace means.step means.reply means.foreign rules (stepped means.step s M) line last (opened_in stand (characters_in found)) (drop found.taken F))
   unfolding is_undecided
   trace-reference stand s line last F c more takes same plain next =
-      let run : List ℕ = run_while (is_undecided rules.names) [] F in
+      let run : List ℕ = run_while (is_undecided rules.references) [] F in
       let found : Found = reference rules (in_value stand) run (Some c) in
       let M : List Message = on_line line (told_of stand found) in
-      let all : list_all is_held_character run ≡ true = held-undecided rules.names run plain (begins-while (is_undecided rules.names) [] F refl) in
-      let parts : run ++ c ∷ more ≡ F = ap (λ l. run ++ l) (sym next) ∙ while-parts (is_undecided rules.names) [] F in
+      let all : list_all is_held_character run ≡ true = held-undecided rules.references run plain (begins-while (is_undecided rules.references) [] F refl) in
+      let parts : run ++ c ∷ more ≡ F = ap (λ l. run ++ l) (sym next) ∙ while-parts (is_undecided rules.references) [] F in
       trace-run stand s line last [] F same all
       ∙ ap (trace means.step means.reply means.foreign rules s line last (InReference stand run)) next
-      ∙ trace-decided stand s line last run c more takes same all (later-decides (is_undecided rules.names) [] F c more next) (ends_number run c) refl
+      ∙ trace-decided stand s line last run c more takes same all (later-decides (is_undecided rules.references) [] F c more next) (ends_number run c) refl
       ∙ ap (λ l. with_messages M (trace means.step means.reply means.foreign rules (stepped means.step s M) line last (opened_in stand (characters_in found)) (drop found.taken l))) parts
 
   -- ---- an `&` between items
@@ -474,9 +474,9 @@ module _ {X S H : Type 0} (means : Means X S H) (rules : Rules) where
       take-held (suc n) (d ∷ text) h =
           let p = and_parts (is_held_character d) (list_all is_held_character text) h in rw (p.0, take-held n text p.1) refl
 
-  pub undecided-run : (F : List ℕ) → is_undecided rules.names (held_in rules.names F) ≡ true
+  pub undecided-run : (F : List ℕ) → is_undecided rules.references (held_in rules.references F) ≡ true
   unfolding is_undecided
-  undecided-run F = begins-while (is_undecided rules.names) [] F refl
+  undecided-run F = begins-while (is_undecided rules.references) [] F refl
 
   pub is-line : (input : Input) (before : List ℕ) (c : ℕ) → (c == line_feed) ≡ false → line_past (line_after input before) c ≡ line_after input before
   unfolding line_past
@@ -490,36 +490,36 @@ module _ {X S H : Type 0} (means : Means X S H) (rules : Rules) where
   pub record DecidedIn (F : List ℕ) : Type 0 where
     pub c : ℕ
     pub more : List ℕ
-    pub next : after_while (is_undecided rules.names) [] F ≡ c ∷ more
-    pub is : deciding_in rules.names F ≡ Some c
+    pub next : after_while (is_undecided rules.references) [] F ≡ c ∷ more
+    pub is : deciding_in rules.references F ≡ Some c
 
-  pub decided-by : (F rest : List ℕ) → after_while (is_undecided rules.names) [] F ≡ rest → is_none (deciding_in rules.names F) ≡ false → DecidedIn F
+  pub decided-by : (F rest : List ℕ) → after_while (is_undecided rules.references) [] F ≡ rest → is_none (deciding_in rules.references F) ≡ false → DecidedIn F
   decided-by F [] e h = absurd (false≢true (sym h ∙ ap (λ l. is_none (first_or l None)) e))
   decided-by F (c ∷ more) e h = record { c = c; more = more; next = e; is = ap (λ l. first_or l None) e }
 
-  pub taken-plain : (v : Bool) (F : List ℕ) (d : DecidedIn F) → All (λ entry. IsTrue (is_plain_name entry.name)) rules.names
+  pub taken-plain : (v : Bool) (F : List ℕ) (d : DecidedIn F) → All (λ entry. IsTrue (is_plain_name entry.name)) rules.references
       → list_all is_held_character (take (found_in rules v F).taken F) ≡ true
   taken-plain v F d plain =
-      let run : List ℕ = held_in rules.names F in
+      let run : List ℕ = held_in rules.references F in
       let found : Found = reference rules v run (Some d.c) in
-      let all : list_all is_held_character run ≡ true = held-undecided rules.names run plain (undecided-run F) in
-      let parts : run ++ d.c ∷ d.more ≡ F = ap (λ l. run ++ l) (sym d.next) ∙ while-parts (is_undecided rules.names) [] F in
+      let all : list_all is_held_character run ≡ true = held-undecided rules.references run plain (undecided-run F) in
+      let parts : run ++ d.c ∷ d.more ≡ F = ap (λ l. run ++ l) (sym d.next) ∙ while-parts (is_undecided rules.references) [] F in
       ap (λ f. list_all is_held_character (take f.taken F)) (ap (reference rules v run) d.is)
       ∙ ap (λ l. list_all is_held_character (take found.taken l)) (sym parts) ∙ taken-held v run d.c d.more all (ends_number run d.c) refl
 
   -- an `&` and what it takes tell what the reference comes to, before the whole text after it
-  pub reference-before_all : (Z : List ℕ) (K : Start) (s : S) (Y : List ℕ) (mode : Mode) (F : List ℕ) → IsTable rules.names → IsReferenceIn rules K Y Z mode F
+  pub reference-before_all : (Z : List ℕ) (K : Start) (s : S) (Y : List ℕ) (mode : Mode) (F : List ℕ) → IsTable rules.references → IsReferenceIn rules K Y Z mode F
       → TellsBefore means rules Z K s Y (on_line (line_after K.input (ampersand ∷ [])) (told_of (InText mode) (found_in rules false F))) (start_beyond K Y (Between mode) K.last_start_tag)
   reference-before_all Z K s Y mode F table one =
-      let d : DecidedIn F = decided-by F (after_while (is_undecided rules.names) [] F) refl one.decided in
-      let run : List ℕ = held_in rules.names F in
+      let d : DecidedIn F = decided-by F (after_while (is_undecided rules.references) [] F) refl one.decided in
+      let run : List ℕ = held_in rules.references F in
       let found : Found = reference rules false run (Some d.c) in
       let same_found : found_in rules false F ≡ found = ap (reference rules false run) d.is in
       let line : ℕ = line_after K.input (ampersand ∷ []) in
       let same : IsLine line = λ c h. is-line K.input (ampersand ∷ []) c h in
       let past : line_past (line_after K.input []) ampersand ≡ line = sym (line_after-past K.input [] ampersand) in
-      let all : list_all is_held_character run ≡ true = held-undecided rules.names run table.plain (undecided-run F) in
-      let parts : run ++ d.c ∷ d.more ≡ F = ap (λ l. run ++ l) (sym d.next) ∙ while-parts (is_undecided rules.names) [] F in
+      let all : list_all is_held_character run ≡ true = held-undecided rules.references run table.plain (undecided-run F) in
+      let parts : run ++ d.c ∷ d.more ≡ F = ap (λ l. run ++ l) (sym d.next) ∙ while-parts (is_undecided rules.references) [] F in
       let taken : list_all is_held_character (take found.taken F) ≡ true =
       ap (λ l. list_all is_held_character (take found.taken l)) (sym parts) ∙ taken-held false run d.c d.more all (ends_number run d.c) refl in
       let afterwards : line_after (input_after K.input Y) [] ≡ line =
@@ -536,20 +536,20 @@ module _ {X S H : Type 0} (means : Means X S H) (rules : Rules) where
       ∙ rw (afterwards, same_found) refl)))
 
   -- an `&` and a text that leaves it undecided
-  pub none-after : (F rest : List ℕ) → after_while (is_undecided rules.names) [] F ≡ rest → is_none (deciding_in rules.names F) ≡ true → after_while (is_undecided rules.names) [] F ≡ []
+  pub none-after : (F rest : List ℕ) → after_while (is_undecided rules.references) [] F ≡ rest → is_none (deciding_in rules.references F) ≡ true → after_while (is_undecided rules.references) [] F ≡ []
   none-after F [] e h = e
   none-after F (c ∷ more) e h = absurd (false≢true (ap (λ l. is_none (first_or l None)) (sym e) ∙ h))
 
   -- an `&` and a text that leaves it undecided tell nothing
   pub trace-open_reference : (mode : Mode) (s : S) (line : ℕ) (last F : List ℕ) → has_references mode ≡ true → IsLine (line_past line ampersand)
-      → All (λ entry. IsTrue (is_plain_name entry.name)) rules.names → is_none (deciding_in rules.names F) ≡ true
+      → All (λ entry. IsTrue (is_plain_name entry.name)) rules.references → is_none (deciding_in rules.references F) ≡ true
       → trace means.step means.reply means.foreign rules s line last (Between mode) (ampersand ∷ F) ≡ record { messages = []; opened = InReference (InText mode) F; last_start_tag = last }
   unfolding trace
   trace-open_reference mode s line last F has same plain undecided =
-      let none : after_while (is_undecided rules.names) [] F ≡ [] = none-after F (after_while (is_undecided rules.names) [] F) refl undecided in
-      let run : List ℕ = held_in rules.names F in
-      let whole : run ≡ F = sym (append-nil run) ∙ ap (λ l. run ++ l) (sym none) ∙ while-parts (is_undecided rules.names) [] F in
+      let none : after_while (is_undecided rules.references) [] F ≡ [] = none-after F (after_while (is_undecided rules.references) [] F) refl undecided in
+      let run : List ℕ = held_in rules.references F in
+      let whole : run ≡ F = sym (append-nil run) ∙ ap (λ l. run ++ l) (sym none) ∙ while-parts (is_undecided rules.references) [] F in
       trace-ampersand means.step means.reply means.foreign rules mode s line last F has
-      ∙ trace-run (InText mode) s (line_past line ampersand) last [] F same (held-undecided rules.names run plain (undecided-run F))
+      ∙ trace-run (InText mode) s (line_past line ampersand) last [] F same (held-undecided rules.references run plain (undecided-run F))
       ∙ ap (trace means.step means.reply means.foreign rules s (line_past line ampersand) last (InReference (InText mode) run)) none
       ∙ ap (λ l. record { messages = []; opened = InReference (InText mode) l; last_start_tag = last }) whole

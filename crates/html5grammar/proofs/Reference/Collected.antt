@@ -127,7 +127,7 @@ collected-reference exact foreign input (Named entry) =
     collected-characters foreign _ (reference_errors exact (Named entry)) entry.first (second_of entry.second) (HasNoText-errors exact (Named entry))
 
 -- what a collector holds after a text that is one reference
-pub collects-reference : (H : Type 0) (rules : Rules) (K : Start) (foreign : Bool) (X : List ℕ) (written_as : WrittenReference) → IsTable rules.names → IsReference rules.names K X written_as
+pub collects-reference : (H : Type 0) (rules : Rules) (K : Start) (foreign : Bool) (X : List ℕ) (written_as : WrittenReference) → IsTable rules.references → IsReference rules.references K X written_as
     → collected_finish (stepped collected_step (none_collected foreign) (messages (reading collected_step (collected_reply {H = H}) (λ (c : Collected). c.foreign) rules K (none_collected foreign) X)))
     ≡ record { messages = reference_messages rules.exact K.input written_as; finished = true; foreign = foreign }
 collects-reference H rules K foreign X written_as table one =

@@ -104,43 +104,43 @@ is_number-ended (Some x) digits base some all =
 -- ---- what is held: each character leaves the reference undecided, and is no bad one
 
 unfoldable pub Holds : List NamedReference → List ℕ → List ℕ → Type 0
-Holds names held [] = Unit {0}
-Holds names held (c ∷ run) =
-    (is_bad_character c ≡ false) × (is_undecided names (held ++ c ∷ []) ≡ true) × Holds names (held ++ c ∷ []) run
+Holds references held [] = Unit {0}
+Holds references held (c ∷ run) =
+    (is_bad_character c ≡ false) × (is_undecided references (held ++ c ∷ []) ≡ true) × Holds references (held ++ c ∷ []) run
 
-Holds-digits : (names : List NamedReference) (x : Option ℕ) (before digits : List ℕ) → is_base x ≡ true → list_all (is_base_digit x) before ≡ true → list_all (is_base_digit x) digits ≡ true
-    → Holds names (number_sign ∷ (x_text x ++ before)) digits
+Holds-digits : (references : List NamedReference) (x : Option ℕ) (before digits : List ℕ) → is_base x ≡ true → list_all (is_base_digit x) before ≡ true → list_all (is_base_digit x) digits ≡ true
+    → Holds references (number_sign ∷ (x_text x ++ before)) digits
 unfolding Holds is_undecided
-Holds-digits names x before [] base all more = tt
-Holds-digits names x before (d ∷ digits) base all more =
+Holds-digits references x before [] base all more = tt
+Holds-digits references x before (d ∷ digits) base all more =
     let p = and_parts (is_base_digit x d) (list_all (is_base_digit x) digits) more in
     let longer : list_all (is_base_digit x) (before ++ d ∷ []) ≡ true = list_all-append (is_base_digit x) before (d ∷ []) ∙ rw (all, p.0) refl in
-    subst (λ held. (is_bad_character d ≡ false) × (is_undecided names (number_sign ∷ held) ≡ true) × Holds names (number_sign ∷ held) digits) (sym (append_assoc (x_text x) before (d ∷ [])))
-    (good-digit x d p.0, is_number-written x (before ++ d ∷ []) base longer, Holds-digits names x (before ++ d ∷ []) digits base longer p.1)
+    subst (λ held. (is_bad_character d ≡ false) × (is_undecided references (number_sign ∷ held) ≡ true) × Holds references (number_sign ∷ held) digits) (sym (append_assoc (x_text x) before (d ∷ [])))
+    (good-digit x d p.0, is_number-written x (before ++ d ∷ []) base longer, Holds-digits references x (before ++ d ∷ []) digits base longer p.1)
 
-pub Holds-number : (names : List NamedReference) (x : Option ℕ) (digits : List ℕ) → is_base x ≡ true → list_all (is_base_digit x) digits ≡ true
-    → Holds names [] (number_sign ∷ (x_text x ++ digits))
+pub Holds-number : (references : List NamedReference) (x : Option ℕ) (digits : List ℕ) → is_base x ≡ true → list_all (is_base_digit x) digits ≡ true
+    → Holds references [] (number_sign ∷ (x_text x ++ digits))
 unfolding Holds is_undecided is_bad_character is_number
-Holds-number names None digits base all = (refl, refl, Holds-digits names None [] digits base refl all)
-Holds-number names (Some x) digits base all =
-    (refl, refl, (good-x x base, is_number-written (Some x) [] base refl, Holds-digits names (Some x) [] digits base refl all))
+Holds-number references None digits base all = (refl, refl, Holds-digits references None [] digits base refl all)
+Holds-number references (Some x) digits base all =
+    (refl, refl, (good-x x base, is_number-written (Some x) [] base refl, Holds-digits references (Some x) [] digits base refl all))
 
-undecided-begun : (names : List NamedReference) (held : List ℕ) → list_all is_name_character held ≡ true → begins_name names held ≡ true → is_undecided names held ≡ true
+undecided-begun : (references : List NamedReference) (held : List ℕ) → list_all is_name_character held ≡ true → begins_name references held ≡ true → is_undecided references held ≡ true
 unfolding is_undecided is_name_character
-undecided-begun names [] all begins = refl
-undecided-begun names (c ∷ held) all begins =
+undecided-begun references [] all begins = refl
+undecided-begun references (c ∷ held) all begins =
     let p = and_parts (is_name_character c) (list_all is_name_character held) all in
     rw (is_not is_name_character c number_sign refl p.0, begins) refl
 
-pub Holds-name : (names : List NamedReference) (before name : List ℕ) (found : ℕ × Option ℕ) → characters_of_name names (before ++ name) ≡ Some found
-    → list_all is_name_character before ≡ true → list_all is_name_character name ≡ true → Holds names before name
+pub Holds-name : (references : List NamedReference) (before name : List ℕ) (found : ℕ × Option ℕ) → characters_of_name references (before ++ name) ≡ Some found
+    → list_all is_name_character before ≡ true → list_all is_name_character name ≡ true → Holds references before name
 unfolding Holds
-Holds-name names before [] found e all more = tt
-Holds-name names before (c ∷ name) found e all more =
+Holds-name references before [] found e all more = tt
+Holds-name references before (c ∷ name) found e all more =
     let p = and_parts (is_name_character c) (list_all is_name_character name) more in
     let longer : list_all is_name_character (before ++ c ∷ []) ≡ true = list_all-append is_name_character before (c ∷ []) ∙ rw (all, p.0) refl in
-    let same : characters_of_name names ((before ++ c ∷ []) ++ name) ≡ Some found = ap (characters_of_name names) (append_assoc before (c ∷ []) name) ∙ e in
-    (good-name c p.0, undecided-begun names (before ++ c ∷ []) longer (begins-entry names (before ++ c ∷ []) name found same), Holds-name names (before ++ c ∷ []) name found same longer p.1)
+    let same : characters_of_name references ((before ++ c ∷ []) ++ name) ≡ Some found = ap (characters_of_name references) (append_assoc before (c ∷ []) name) ∙ e in
+    (good-name c p.0, undecided-begun references (before ++ c ∷ []) longer (begins-entry references (before ++ c ∷ []) name found same), Holds-name references (before ++ c ∷ []) name found same longer p.1)
 
 -- ---- what the end tells where all is held, and all is taken
 
@@ -190,11 +190,11 @@ found_entry entry errors = record { taken = length entry.name; errors = errors; 
 abbrev pub entry_errors : Bool → List Told
 entry_errors ended = where_true (not ended) (Error (codes "Character reference does not end with semicolon"))
 
-entry-found : (rules : Rules) (entry : NamedReference) (next : Option ℕ) → characters_of_name rules.names entry.name ≡ Some (entry.first, entry.second)
-    → named_reference rules.exact false entry.name next (longest_name rules.names entry.name) ≡ found_entry entry (entry_errors (is_ended entry.name))
+entry-found : (rules : Rules) (entry : NamedReference) (next : Option ℕ) → characters_of_name rules.references entry.name ≡ Some (entry.first, entry.second)
+    → named_reference rules.exact false entry.name next (longest_name rules.references entry.name) ≡ found_entry entry (entry_errors (is_ended entry.name))
 unfolding named_reference
 entry-found rules entry next e =
-    let found = longest-found rules.names entry.name entry.first entry.second e in
+    let found = longest-found rules.references entry.name entry.first entry.second e in
     rw (found.is, found.name_is, found.first_is, found.second_is)
     (elim (is_ended entry.name) as (λ b. (if b then found_entry entry [] else found_entry entry (entry_errors false)) ≡ found_entry entry (entry_errors b)) [
       | true ↦ refl
@@ -202,13 +202,13 @@ entry-found rules entry next e =
     ])
 
 pub name-found : (rules : Rules) (name : List ℕ) (entry : NamedReference) (next : Option ℕ) → name ≡ entry.name → is_plain_name name ≡ true
-    → characters_of_name rules.names entry.name ≡ Some (entry.first, entry.second) → reference rules false name next ≡ found_entry entry (entry_errors (is_ended entry.name))
+    → characters_of_name rules.references entry.name ≡ Some (entry.first, entry.second) → reference rules false name next ≡ found_entry entry (entry_errors (is_ended entry.name))
 unfolding reference is_plain_name is_name_character
 name-found rules [] entry next same plain e = absurd cc
 name-found rules (c ∷ name) entry next same plain e =
     let p = and_parts (is_name_character c) (list_all is_name_character name) (named_alone (c ∷ name) plain) in
     rw (is_not is_name_character c number_sign refl p.0)
-    (ap (λ n. named_reference rules.exact false n next (longest_name rules.names n)) same ∙ entry-found rules entry next e)
+    (ap (λ n. named_reference rules.exact false n next (longest_name rules.references n)) same ∙ entry-found rules entry next e)
 
 -- ---- the machine reads them
 
@@ -228,7 +228,7 @@ open_after_reference mode (Number x digits true) = Between mode
 open_after_reference mode (Named entry) = InReference (InText mode) entry.name
 
 module _ {S H : Type 0} (step : S → Told → ℕ → S) (reply : S → Told → ℕ → Reply H) (foreign : S → Bool) (rules : Rules) where
-  trace-held : (mode : Mode) (s : S) (line : ℕ) (last held run more : List ℕ) → Holds rules.names held run
+  trace-held : (mode : Mode) (s : S) (line : ℕ) (last held run more : List ℕ) → Holds rules.references held run
       → trace step reply foreign rules s line last (InReference (InText mode) held) (run ++ more)
       ≡ trace step reply foreign rules s (lines_past line run) last (InReference (InText mode) (held ++ run)) more
   unfolding trace trace_brought trace_here brought_at reference_step lines_past stepped Holds
@@ -248,7 +248,7 @@ module _ {S H : Type 0} (step : S → Told → ℕ → S) (reply : S → Told �
 
   -- the semicolon of a number decides it
   pub trace-ended : (mode : Mode) (s : S) (line : ℕ) (last held : List ℕ) (found : Found)
-      → is_undecided rules.names (held ++ semicolon ∷ []) ≡ false → ends_number held semicolon ≡ true
+      → is_undecided rules.references (held ++ semicolon ∷ []) ≡ false → ends_number held semicolon ≡ true
       → reference rules false held (Some semicolon) ≡ found → drop found.taken held ≡ []
       → trace step reply foreign rules s line last (InReference (InText mode) held) (semicolon ∷ [])
       ≡ record { messages = on_line line (tokens_in found); opened = Between mode; last_start_tag = last }
@@ -258,7 +258,7 @@ module _ {S H : Type 0} (step : S → Told → ℕ → S) (reply : S → Told �
       (ap (λ M. record { messages = M; opened = Between mode; last_start_tag = last }) (append-nil (on_line line (tokens_of_late (late_tokens (InText mode) found held))) ∙ ap (on_line line) (tokens-taken mode found held taken)))
 
   -- what was held is open after it, on the line that it reached
-  pub trace-run : (mode : Mode) (K : Start) (s : S) (X run more : List ℕ) → has_references mode ≡ true → K.opened ≡ Between mode → normalised K.input X ≡ (ampersand ∷ run) ++ more → Holds rules.names [] run
+  pub trace-run : (mode : Mode) (K : Start) (s : S) (X run more : List ℕ) → has_references mode ≡ true → K.opened ≡ Between mode → normalised K.input X ≡ (ampersand ∷ run) ++ more → Holds rules.references [] run
       → trace step reply foreign rules s (line_after K.input []) K.last_start_tag K.opened (normalised K.input X)
       ≡ trace step reply foreign rules s (line_after K.input (ampersand ∷ run)) K.last_start_tag (InReference (InText mode) run) more
   unfolding lines_past
@@ -289,7 +289,7 @@ module _ {S H : Type 0} (step : S → Told → ℕ → S) (reply : S → Told �
       }
 
   -- a text that is decided by its end
-  reads-held : (mode : Mode) (K : Start) (s : S) (X run : List ℕ) (found : Found) → has_references mode ≡ true → K.opened ≡ Between mode → normalised K.input X ≡ ampersand ∷ run → Holds rules.names [] run
+  reads-held : (mode : Mode) (K : Start) (s : S) (X run : List ℕ) (found : Found) → has_references mode ≡ true → K.opened ≡ Between mode → normalised K.input X ≡ ampersand ∷ run → Holds rules.references [] run
       → reference rules false run None ≡ found → drop found.taken run ≡ []
       → Reads K s X (tokens_in found ++ End ∷ []) (InReference (InText mode) run)
   unfolding trace
@@ -299,8 +299,8 @@ module _ {S H : Type 0} (step : S → Told → ℕ → S) (reply : S → Told �
       (ap (on_line (line_after K.input (normalised K.input X))) (end-found rules mode run found has is taken))
 
   -- a number that a semicolon decides
-  reads-ended : (mode : Mode) (K : Start) (s : S) (X held : List ℕ) (found : Found) → has_references mode ≡ true → K.opened ≡ Between mode → normalised K.input X ≡ (ampersand ∷ held) ++ semicolon ∷ [] → Holds rules.names [] held
-      → is_undecided rules.names (held ++ semicolon ∷ []) ≡ false → ends_number held semicolon ≡ true
+  reads-ended : (mode : Mode) (K : Start) (s : S) (X held : List ℕ) (found : Found) → has_references mode ≡ true → K.opened ≡ Between mode → normalised K.input X ≡ (ampersand ∷ held) ++ semicolon ∷ [] → Holds rules.references [] held
+      → is_undecided rules.references (held ++ semicolon ∷ []) ≡ false → ends_number held semicolon ≡ true
       → reference rules false held (Some semicolon) ≡ found → drop found.taken held ≡ []
       → Reads K s X (tokens_in found ++ End ∷ []) (Between mode)
   unfolding late_at_end_of open_at_end_of line_past
@@ -313,7 +313,7 @@ module _ {S H : Type 0} (step : S → Told → ℕ → S) (reply : S → Told �
       (rw (last, told_at_end-references rules.exact mode has) (sym (map-append (λ (token : Told). record { token = token; line = line }) (tokens_in found) (End ∷ []))))
 
   -- a reference, written out, tells its errors and its characters
-  reads-reference : (K : Start) (s : S) (X : List ℕ) (written_as : WrittenReference) → IsTable rules.names → (one : IsReference rules.names K X written_as)
+  reads-reference : (K : Start) (s : S) (X : List ℕ) (written_as : WrittenReference) → IsTable rules.references → (one : IsReference rules.references K X written_as)
       → Reads K s X (reference_tokens rules.exact written_as) (open_after_reference one.mode written_as)
   unfolding written reference_tokens reference_errors reference_characters reference is_undecided ends_number unended_number Holds
   reads-reference K s X Ampersand table one =
@@ -322,27 +322,27 @@ module _ {S H : Type 0} (step : S → Told → ℕ → S) (reply : S → Told �
       let p = and_parts (is_base x) _ one.is_reference in
       let q = and_parts (not (nat_eq (length digits) 0)) (list_all (is_base_digit x) digits) p.1 in
       let held : List ℕ = number_sign ∷ (x_text x ++ digits) in
-      reads-held one.mode K s X held (found_number rules.exact x digits None) one.has one.starts (one.text ∙ append-nil (ampersand ∷ held)) (Holds-number rules.names x digits p.0 q.1)
+      reads-held one.mode K s X held (found_number rules.exact x digits None) one.has one.starts (one.text ∙ append-nil (ampersand ∷ held)) (Holds-number rules.references x digits p.0 q.1)
       (number-found rules.exact x digits None p.0 q.0 q.1) (number-taken x digits None)
   reads-reference K s X (Number x digits true) table one =
       let p = and_parts (is_base x) _ one.is_reference in
       let q = and_parts (not (nat_eq (length digits) 0)) (list_all (is_base_digit x) digits) p.1 in
       let held : List ℕ = number_sign ∷ (x_text x ++ digits) in
-      reads-ended one.mode K s X held (found_number rules.exact x digits (Some semicolon)) one.has one.starts one.text (Holds-number rules.names x digits p.0 q.1)
+      reads-ended one.mode K s X held (found_number rules.exact x digits (Some semicolon)) one.has one.starts one.text (Holds-number rules.references x digits p.0 q.1)
       (is_number-ended x digits p.0 q.0 q.1) (rw (has_digits-written x digits p.0 q.0 q.1) refl)
       (number-found rules.exact x digits (Some semicolon) p.0 q.0 q.1) (number-taken x digits (Some semicolon))
   reads-reference K s X (Named entry) table one =
-      let plain : is_plain_name entry.name ≡ true = plain-entry rules.names entry.name (entry.first, entry.second) table.plain one.is_reference in
+      let plain : is_plain_name entry.name ≡ true = plain-entry rules.references entry.name (entry.first, entry.second) table.plain one.is_reference in
       reads-held one.mode K s X entry.name (found_entry entry (entry_errors (is_ended entry.name))) one.has one.starts one.text
-      (Holds-name rules.names [] entry.name (entry.first, entry.second) one.is_reference refl (named_alone entry.name plain))
+      (Holds-name rules.references [] entry.name (entry.first, entry.second) one.is_reference refl (named_alone entry.name plain))
       (name-found rules entry.name entry None refl plain one.is_reference) (drop_of_length-le entry.name (omega arith))
 
-  pub reading-reference : (K : Start) (s : S) (X : List ℕ) (written_as : WrittenReference) → IsTable rules.names → IsReference rules.names K X written_as
+  pub reading-reference : (K : Start) (s : S) (X : List ℕ) (written_as : WrittenReference) → IsTable rules.references → IsReference rules.references K X written_as
       → messages (reading step reply foreign rules K s X) ≡ on_line (line_after K.input (written written_as)) (reference_tokens rules.exact written_as)
   reading-reference K s X written_as table one =
       (reads-reference K s X written_as table one).told
       ∙ ap (λ text. on_line (line_after K.input text) (reference_tokens rules.exact written_as)) one.text
 
-  pub after-reference : (K : Start) (s : S) (X : List ℕ) (written_as : WrittenReference) → IsTable rules.names → (one : IsReference rules.names K X written_as)
+  pub after-reference : (K : Start) (s : S) (X : List ℕ) (written_as : WrittenReference) → IsTable rules.references → (one : IsReference rules.references K X written_as)
       → (after step reply foreign rules K s X).opened ≡ open_after_reference one.mode written_as
   after-reference K s X written_as table one = (reads-reference K s X written_as table one).leaves

@@ -58,7 +58,7 @@ found-unended exact x digits c e = rw e refl
 module _ {X S H : Type 0} (means : Means X S H) (rules : Rules) where
   -- the character that decides a reference is read as after it
   trace-decided : (mode : Mode) (s : S) (line : ℕ) (last held : List ℕ) (c : ℕ) (more : List ℕ) (found : Found)
-      → is_undecided rules.names (held ++ c ∷ []) ≡ false → ends_number held c ≡ false
+      → is_undecided rules.references (held ++ c ∷ []) ≡ false → ends_number held c ≡ false
       → reference rules false held (Some c) ≡ found → drop found.taken held ≡ []
       → trace means.step means.reply means.foreign rules s line last (InReference (InText mode) held) (c ∷ more)
       ≡ with_messages (on_line line (tokens_in found)) (trace means.step means.reply means.foreign rules (stepped means.step s (on_line line (tokens_in found))) line last (Between mode) (c ∷ more))
@@ -68,8 +68,8 @@ module _ {X S H : Type 0} (means : Means X S H) (rules : Rules) where
 
   -- what was held is decided by the first character after it
   before-held : (mode : Mode) (Z : List ℕ) (K : Start) (s : S) (Y run : List ℕ) (c : ℕ) (more : List ℕ) (found : Found)
-      → has_references mode ≡ true → K.opened ≡ Between mode → normalised K.input Y ≡ ampersand ∷ run → normalised (input_after K.input Y) Z ≡ c ∷ more → Holds rules.names [] run
-      → is_undecided rules.names (run ++ c ∷ []) ≡ false → ends_number run c ≡ false
+      → has_references mode ≡ true → K.opened ≡ Between mode → normalised K.input Y ≡ ampersand ∷ run → normalised (input_after K.input Y) Z ≡ c ∷ more → Holds rules.references [] run
+      → is_undecided rules.references (run ++ c ∷ []) ≡ false → ends_number run c ≡ false
       → reference rules false run (Some c) ≡ found → drop found.taken run ≡ []
       → TellsBefore means rules Z K s Y (on_line (line_after K.input (ampersand ∷ run)) (tokens_in found)) (start_beyond K Y (Between mode) K.last_start_tag)
   before-held mode Z K s Y run c more found has starts text next holds decides ends is taken =
@@ -82,7 +82,7 @@ module _ {X S H : Type 0} (means : Means X S H) (rules : Rules) where
       ∙ rw (same, next) refl)
 
   -- a number that has its semicolon is decided
-  pub number-by_itself : (K : Start) (s : S) (Y : List ℕ) (x : Option ℕ) (digits : List ℕ) → (one : IsReference rules.names K Y (Number x digits true))
+  pub number-by_itself : (K : Start) (s : S) (Y : List ℕ) (x : Option ℕ) (digits : List ℕ) → (one : IsReference rules.references K Y (Number x digits true))
       → TellsByItself means rules K s Y (messages_within rules.exact K.input (Number x digits true)) (start_beyond K Y (Between one.mode) K.last_start_tag)
   unfolding written errors_within reference_characters reference is_undecided ends_number unended_number line_past
   number-by_itself K s Y x digits one =
@@ -94,33 +94,33 @@ module _ {X S H : Type 0} (means : Means X S H) (rules : Rules) where
       let last : line_after K.input ((ampersand ∷ held) ++ semicolon ∷ []) ≡ line =
       line_after-past K.input (ampersand ∷ held) semicolon ∙ line_after-last K.input (ampersand ∷ held) in
       trace-by_itself means rules K s Y (messages_within rules.exact K.input (Number x digits true)) (Between one.mode) K.last_start_tag
-      (trace-run means.step means.reply means.foreign rules one.mode K s Y held (semicolon ∷ []) one.has one.starts one.text (Holds-number rules.names x digits p.0 q.1)
+      (trace-run means.step means.reply means.foreign rules one.mode K s Y held (semicolon ∷ []) one.has one.starts one.text (Holds-number rules.references x digits p.0 q.1)
       ∙ trace-ended means.step means.reply means.foreign rules one.mode s line K.last_start_tag held found (is_number-ended x digits p.0 q.0 q.1) (rw (has_digits-written x digits p.0 q.0 q.1) refl)
       (number-found rules.exact x digits (Some semicolon) p.0 q.0 q.1) (number-taken x digits (Some semicolon))
       ∙ ap (λ n. record { messages = on_line n (tokens_in found); opened = Between one.mode; last_start_tag = K.last_start_tag }) (sym last))
 
   -- a reference before a character that decides it tells what it comes to
-  pub reference-before : (Z : List ℕ) (K : Start) (s : S) (Y : List ℕ) (written_as : WrittenReference) (c : ℕ) (more : List ℕ) → IsTable rules.names → (one : IsReference rules.names K Y written_as)
-      → normalised (input_after K.input Y) Z ≡ c ∷ more → is_decided_by rules.names written_as c ≡ true
+  pub reference-before : (Z : List ℕ) (K : Start) (s : S) (Y : List ℕ) (written_as : WrittenReference) (c : ℕ) (more : List ℕ) → IsTable rules.references → (one : IsReference rules.references K Y written_as)
+      → normalised (input_after K.input Y) Z ≡ c ∷ more → is_decided_by rules.references written_as c ≡ true
       → TellsBefore means rules Z K s Y (messages_within rules.exact K.input written_as) (start_beyond K Y (Between one.mode) K.last_start_tag)
   unfolding written errors_within reference_errors reference_characters reference is_decided_by unended_number Holds ends_number
   reference-before Z K s Y Ampersand c more table one next decides =
-      before-held one.mode Z K s Y [] c more (record { taken = 0; errors = []; first = ampersand; more = [] }) one.has one.starts one.text next tt (not-true (is_undecided rules.names (c ∷ [])) decides) refl refl refl
+      before-held one.mode Z K s Y [] c more (record { taken = 0; errors = []; first = ampersand; more = [] }) one.has one.starts one.text next tt (not-true (is_undecided rules.references (c ∷ [])) decides) refl refl refl
   reference-before Z K s Y (Number x digits true) c more table one next decides = number-by_itself K s Y x digits one Z
   reference-before Z K s Y (Number x digits false) c more table one next decides =
       let p = and_parts (is_base x) _ one.is_reference in
       let q = and_parts (not (nat_eq (length digits) 0)) (list_all (is_base_digit x) digits) p.1 in
       let held : List ℕ = number_sign ∷ (x_text x ++ digits) in
-      let d = and_parts (not (is_undecided rules.names (held ++ c ∷ []))) (not (c == semicolon)) decides in
+      let d = and_parts (not (is_undecided rules.references (held ++ c ∷ []))) (not (c == semicolon)) decides in
       let other : (c == semicolon) ≡ false = not-true (c == semicolon) d.1 in
       subst (λ l. TellsBefore means rules Z K s Y (on_line (line_after K.input l) (told_within rules.exact (Number x digits false))) (start_beyond K Y (Between one.mode) K.last_start_tag))
       (sym (append-nil (ampersand ∷ held)))
-      (before-held one.mode Z K s Y held c more (found_unended rules.exact x digits) one.has one.starts (one.text ∙ append-nil (ampersand ∷ held)) next (Holds-number rules.names x digits p.0 q.1)
-      (not-true (is_undecided rules.names (held ++ c ∷ [])) d.0) (unended (x_text x ++ digits) c other)
+      (before-held one.mode Z K s Y held c more (found_unended rules.exact x digits) one.has one.starts (one.text ∙ append-nil (ampersand ∷ held)) next (Holds-number rules.references x digits p.0 q.1)
+      (not-true (is_undecided rules.references (held ++ c ∷ [])) d.0) (unended (x_text x ++ digits) c other)
       (number-found rules.exact x digits (Some c) p.0 q.0 q.1 ∙ found-unended rules.exact x digits c other) (number-taken x digits None))
   reference-before Z K s Y (Named entry) c more table one next decides =
-      let plain : is_plain_name entry.name ≡ true = plain-entry rules.names entry.name (entry.first, entry.second) table.plain one.is_reference in
+      let plain : is_plain_name entry.name ≡ true = plain-entry rules.references entry.name (entry.first, entry.second) table.plain one.is_reference in
       before-held one.mode Z K s Y entry.name c more (found_entry entry (entry_errors (is_ended entry.name))) one.has one.starts one.text next
-      (Holds-name rules.names [] entry.name (entry.first, entry.second) one.is_reference refl (named_alone entry.name plain))
-      (not-true (is_undecided rules.names (entry.name ++ c ∷ [])) decides) (name-no_number entry.name c (named_alone entry.name plain))
+      (Holds-name rules.references [] entry.name (entry.first, entry.second) one.is_reference refl (named_alone entry.name plain))
+      (not-true (is_undecided rules.references (entry.name ++ c ∷ [])) decides) (name-no_number entry.name c (named_alone entry.name plain))
       (name-found rules entry.name entry (Some c) refl plain one.is_reference) (drop_of_length-le entry.name (omega arith))

@@ -23,8 +23,8 @@ use Rattle.markup5ever.specs.NamedReferences.{NamedReference, begins_name}
 abbrev input : Input
 input = record { line = 1; after_carriage_return = false; drops_byte_order_mark = true }
 
-abbrev names : List NamedReference
-names = record { name = codes "amp;"; first = 0x26; second = None } ∷ record { name = codes "amp"; first = 0x26; second = None } ∷ []
+abbrev references : List NamedReference
+references = record { name = codes "amp;"; first = 0x26; second = None } ∷ record { name = codes "amp"; first = 0x26; second = None } ∷ []
 
 abbrev tag : TagKind → List ℕ → List AttributeOf → Bool → Bool → Told
 tag kind name attributes self_closing duplicates = Tag (record { kind = kind; name = name; self_closing = self_closing; attributes = attributes; had_duplicate_attributes = duplicates })
@@ -33,8 +33,8 @@ tag kind name attributes self_closing duplicates = Tag (record { kind = kind; na
 record Case (exact : Bool) (tag : WrittenTag) (text : List ℕ) (told : List Told) (lines : List ℕ) : Type 0 where
   written : written tag ≡ text
   is_written : is_written tag ≡ true
-  tokens : map (λ (m : Message). m.token) (tag_messages (record { exact = exact; names = names }) input tag) ≡ told
-  on_lines : map (λ (m : Message). m.line) (tag_messages (record { exact = exact; names = names }) input tag) ≡ lines
+  tokens : map (λ (m : Message). m.token) (tag_messages (record { exact = exact; references = references }) input tag) ≡ told
+  on_lines : map (λ (m : Message). m.line) (tag_messages (record { exact = exact; references = references }) input tag) ≡ lines
 
 abbrev div-tag : WrittenTag
 div-tag = record { kind = StartTag; first = 68; rest = (codes "IV"); parts = Blank 32 ∷ Attribute 67 (codes "LASS") [] [] (Bare (codes "a")) ∷ Blank 32 ∷ Attribute 99 (codes "lass") [] [] (Bare (codes "b/")) ∷ [] }

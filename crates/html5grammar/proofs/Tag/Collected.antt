@@ -80,7 +80,7 @@ HasNoText-reference : (rules : Rules) (v : Bool) (held : List ℕ) (next : Optio
 unfolding reference
 HasNoText-reference rules v [] next = tt
 HasNoText-reference rules v (c ∷ held) next =
-    HasNoText-if (c == number_sign) _ _ (HasNoText-number rules.exact held next) (HasNoText-named rules.exact v (c ∷ held) next (longest_name rules.names (c ∷ held)))
+    HasNoText-if (c == number_sign) _ _ (HasNoText-number rules.exact held next) (HasNoText-named rules.exact v (c ∷ held) next (longest_name rules.references (c ∷ held)))
 
 HasNoText-in_value : (exact : Bool) (kind : AttrValueKind) (c : ℕ) → HasNoText (value_error exact kind c)
 unfolding unquoted_error
@@ -185,7 +185,7 @@ collecting H = record {
 }
 
 -- what a collector holds after a text that is one tag
-pub collects-tag : (H : Type 0) (rules : Rules) (K : Start) (foreign : Bool) (X : List ℕ) (tag : WrittenTag) → IsTable rules.names → IsTag K X tag
+pub collects-tag : (H : Type 0) (rules : Rules) (K : Start) (foreign : Bool) (X : List ℕ) (tag : WrittenTag) → IsTable rules.references → IsTag K X tag
     → collected_finish (stepped collected_step (none_collected foreign) (messages (reading collected_step (collected_reply {H = H}) (λ (c : Collected). c.foreign) rules K (none_collected foreign) X)))
     ≡ record { messages = tag_messages rules K.input tag; finished = true; foreign = foreign }
 collects-tag H rules K foreign X tag table one =

@@ -83,13 +83,13 @@ module _ {X S H : Type 0} (means : Means X S H) (rules : Rules) where
   errors-taken (suc taken) (c ∷ run) = errors-taken taken run
 
   -- a reference that the rest of the text decides
-  passes-decided : (kind : AttrValueKind) (tag : OpenTag) (F : List ℕ) → All (λ entry. IsTrue (is_plain_name entry.name)) rules.names → is_none (deciding_in rules.names F) ≡ false
+  passes-decided : (kind : AttrValueKind) (tag : OpenTag) (F : List ℕ) → All (λ entry. IsTrue (is_plain_name entry.name)) rules.references → is_none (deciding_in rules.references F) ≡ false
       → let found : Found = found_in rules true F in
       Passes means rules (InTag (InValue kind) tag) (record { character = ampersand; told = found.errors } ∷ spell_silent (take found.taken F)) (InTag (InValue kind) (with_value tag (characters_in found))) (drop found.taken F)
   passes-decided kind tag F plain decided = λ input before s last.
       let found : Found = found_in rules true F in
       let d : DecidedIn means rules F = decided-by means rules F _ refl decided in
-      let found_is : reference rules true (held_in rules.names F) (Some d.c) ≡ found = sym (ap (reference rules true (held_in rules.names F)) d.is) in
+      let found_is : reference rules true (held_in rules.references F) (Some d.c) ≡ found = sym (ap (reference rules true (held_in rules.references F)) d.is) in
       let front : List ℕ = take found.taken F in
       let held : list_all is_held_character front ≡ true = taken-plain means rules true F d plain in
       let line : ℕ = line_after input (before ++ ampersand ∷ []) in
@@ -121,16 +121,16 @@ module _ {X S H : Type 0} (means : Means X S H) (rules : Rules) where
       (tokens-late (InAttribute kind tag) found F ∙ append-nil (found.errors ++ []) ∙ append-nil found.errors)
 
   -- in a value, an `&` that the text's end leaves undecided
-  leaves-open : (kind : AttrValueKind) (tag : OpenTag) (F : List ℕ) → All (λ entry. IsTrue (is_plain_name entry.name)) rules.names → is_none (deciding_in rules.names F) ≡ true
+  leaves-open : (kind : AttrValueKind) (tag : OpenTag) (F : List ℕ) → All (λ entry. IsTrue (is_plain_name entry.name)) rules.references → is_none (deciding_in rules.references F) ≡ true
       → Leaves (InTag (InValue kind) tag) (ampersand ∷ F) (spell_silent (ampersand ∷ F)) ((found_in rules true F).errors ++ end_error_in rules.exact (state_at (InValue kind)) ∷ End ∷ [])
   unfolding trace
   leaves-open kind tag F plain undecided =
-      let none : after_while (is_undecided rules.names) [] F ≡ [] = none-after means rules F _ refl undecided in
-      let run : List ℕ = held_in rules.names F in
-      let whole : run ≡ F = sym (append-nil run) ∙ ap (λ l. run ++ l) (sym none) ∙ while-parts (is_undecided rules.names) [] F in
-      let held : list_all is_held_character run ≡ true = held-undecided rules.names run plain (undecided-run means rules F) in
+      let none : after_while (is_undecided rules.references) [] F ≡ [] = none-after means rules F _ refl undecided in
+      let run : List ℕ = held_in rules.references F in
+      let whole : run ≡ F = sym (append-nil run) ∙ ap (λ l. run ++ l) (sym none) ∙ while-parts (is_undecided rules.references) [] F in
+      let held : list_all is_held_character run ≡ true = held-undecided rules.references run plain (undecided-run means rules F) in
       let found_is : found_in rules true F ≡ reference rules true F None =
-      ap (λ l. reference rules true l (deciding_in rules.names F)) whole ∙ ap (λ l. reference rules true F (first_or l None)) none in
+      ap (λ l. reference rules true l (deciding_in rules.references F)) whole ∙ ap (λ l. reference rules true F (first_or l None)) none in
       record {
         later = InReference (InAttribute kind tag) F;
         is =
@@ -159,7 +159,7 @@ module _ {X S H : Type 0} (means : Means X S H) (rules : Rules) where
   less-drop (suc k) (d ∷ text) = let less : length (drop k text) ≤ length text = less-drop k text in omega (arith, less)
 
   -- in a value, an `&` that the text decides, where the rest is left open
-  left-decided : (kind : AttrValueKind) (tag : OpenTag) (run : List ℕ) → All (λ entry. IsTrue (is_plain_name entry.name)) rules.names → is_none (deciding_in rules.names run) ≡ false
+  left-decided : (kind : AttrValueKind) (tag : OpenTag) (run : List ℕ) → All (λ entry. IsTrue (is_plain_name entry.name)) rules.references → is_none (deciding_in rules.references run) ≡ false
       → IsLeft kind (with_value tag (characters_in (found_in rules true run))) (drop (found_in rules true run).taken run)
       → Leaves (InTag (InValue kind) tag) (ampersand ∷ run)
       (record { character = ampersand; told = (found_in rules true run).errors } ∷ spell_open_run rules kind (found_in rules true run).taken run)
@@ -176,7 +176,7 @@ module _ {X S H : Type 0} (means : Means X S H) (rules : Rules) where
       (subst (λ l. Leaves (InTag (InValue kind) tag) (characters cells ++ later) (cells ++ spell_open_run rules kind zero later) (l ++ E)) (sym (errors-taken found.taken run))
       (leaves-append (InTag (InValue kind) tag) (InTag (InValue kind) (with_value tag (characters_in found))) cells (spell_open_run rules kind zero later) later _ (passes-decided kind tag run plain decided) further)))
 
-  left-ampersand : (kind : AttrValueKind) (tag : OpenTag) (run : List ℕ) → All (λ entry. IsTrue (is_plain_name entry.name)) rules.names → (u : Bool) → is_none (deciding_in rules.names run) ≡ u
+  left-ampersand : (kind : AttrValueKind) (tag : OpenTag) (run : List ℕ) → All (λ entry. IsTrue (is_plain_name entry.name)) rules.references → (u : Bool) → is_none (deciding_in rules.references run) ≡ u
       → ((t : OpenTag) (k : ℕ) → IsLeft kind t (drop k run))
       → Leaves (InTag (InValue kind) tag) (ampersand ∷ run)
       (if u then spell_silent (ampersand ∷ run) else record { character = ampersand; told = (found_in rules true run).errors } ∷ spell_open_run rules kind (found_in rules true run).taken run)
@@ -185,19 +185,19 @@ module _ {X S H : Type 0} (means : Means X S H) (rules : Rules) where
   left-ampersand kind tag run plain false h further = left-decided kind tag run plain h (further _ (found_in rules true run).taken)
 
   -- one character more of a value that the text ends
-  left-cons : (kind : AttrValueKind) (tag : OpenTag) (c : ℕ) (run : List ℕ) → All (λ entry. IsTrue (is_plain_name entry.name)) rules.names → is_in_value kind c ≡ true → (a : Bool) → (c == ampersand) ≡ a
+  left-cons : (kind : AttrValueKind) (tag : OpenTag) (c : ℕ) (run : List ℕ) → All (λ entry. IsTrue (is_plain_name entry.name)) rules.references → is_in_value kind c ≡ true → (a : Bool) → (c == ampersand) ≡ a
       → ((t : OpenTag) (k : ℕ) → IsLeft kind t (drop k run))
       → IsLeft kind tag (c ∷ run)
   unfolding spell_open_run errors_at_end
   left-cons kind tag c run plain h true e further =
-      subst (λ x. IsLeft kind tag (x ∷ run)) (sym (eqb-true c ampersand e)) (left-ampersand kind tag run plain (is_none (deciding_in rules.names run)) refl further)
+      subst (λ x. IsLeft kind tag (x ∷ run)) (sym (eqb-true c ampersand e)) (left-ampersand kind tag run plain (is_none (deciding_in rules.references run)) refl further)
   left-cons kind tag c run plain h false e further =
       rw e
       (leaves-append (InTag (InValue kind) tag) (InTag (InValue kind) (with_value tag (c ∷ []))) (record { character = c; told = value_error rules.exact kind c } ∷ []) (spell_open_run rules kind zero run) run _
       (passes-one means rules (InTag (InValue kind) tag) (InTag (InValue kind) (with_value tag (c ∷ []))) c (value_error rules.exact kind c) run refl (step-in_value means rules kind tag c h e))
       (further (with_value tag (c ∷ [])) zero))
 
-  leaves-run : (n : ℕ) (kind : AttrValueKind) (tag : OpenTag) (run : List ℕ) → length run ≤ n → All (λ entry. IsTrue (is_plain_name entry.name)) rules.names → list_all (is_in_value kind) run ≡ true → IsLeft kind tag run
+  leaves-run : (n : ℕ) (kind : AttrValueKind) (tag : OpenTag) (run : List ℕ) → length run ≤ n → All (λ entry. IsTrue (is_plain_name entry.name)) rules.references → list_all (is_in_value kind) run ≡ true → IsLeft kind tag run
   unfolding spell_open_run errors_at_end
   leaves-run n kind tag [] within plain all = leaves-tag (InValue kind) tag
   leaves-run zero kind tag (c ∷ run) within plain all = absurd (omega (arith, within))
@@ -209,7 +209,7 @@ module _ {X S H : Type 0} (means : Means X S H) (rules : Rules) where
   -- ---- the tag
 
   -- a value that the text ends, from its opening quote on
-  leaves-value : (kind : AttrValueKind) (tag : OpenTag) (run : List ℕ) → All (λ entry. IsTrue (is_plain_name entry.name)) rules.names → is_open_value kind run ≡ true
+  leaves-value : (kind : AttrValueKind) (tag : OpenTag) (run : List ℕ) → All (λ entry. IsTrue (is_plain_name entry.name)) rules.references → is_open_value kind run ≡ true
       → Leaves (InTag BeforeValue tag) (open_quote kind ++ run) (spell_silent (open_quote kind) ++ spell_open_run rules kind zero run) (errors_at_end rules zero run ++ end_error_in rules.exact (state_at (InValue kind)) ∷ End ∷ [])
   unfolding step_at tag_step before_value_step is_white_space
   leaves-value Unquoted tag [] plain h = absurd (false≢true h)
@@ -237,7 +237,7 @@ module _ {X S H : Type 0} (means : Means X S H) (rules : Rules) where
       (leaves-run (length run) DoubleQuoted tag run (omega arith) plain h)
 
   -- an attribute whose value the text ends
-  leaves-attribute : (kind : TagKind) (name : List ℕ) (place : Place) (before : List AttributeOf) (tag : OpenTag) (a : OpenAttribute) → All (λ entry. IsTrue (is_plain_name entry.name)) rules.names
+  leaves-attribute : (kind : TagKind) (name : List ℕ) (place : Place) (before : List AttributeOf) (tag : OpenTag) (a : OpenAttribute) → All (λ entry. IsTrue (is_plain_name entry.name)) rules.references
       → Holds kind name before tag → can_end_in place (Some a) ≡ true
       → Leaves (InTag place tag) (open_attribute_text (Some a))
       (spell_name rules.exact place before a.first a.name ++ ((spell_silent a.space ++ spell_silent (equals_sign ∷ a.afterwards)) ++ (spell_silent (open_quote a.kind) ++ spell_open_run rules a.kind zero a.run)))
@@ -282,14 +282,14 @@ module _ {X S H : Type 0} (means : Means X S H) (rules : Rules) where
   stops-none place None h needs = absurd (false≢true (sym (not-true (needs_stop place) h) ∙ needs))
   stops-none place (Some a) h needs = absurd (needs-none place a.first a.name (and_parts (is_attribute_name place a.first a.name) _ h).0 needs)
 
-  leaves-last : (tag : WrittenTag) (afterwards : OpenTag) (last : Option OpenAttribute) → All (λ entry. IsTrue (is_plain_name entry.name)) rules.names
+  leaves-last : (tag : WrittenTag) (afterwards : OpenTag) (last : Option OpenAttribute) → All (λ entry. IsTrue (is_plain_name entry.name)) rules.references
       → Holds tag.kind (name_shown tag.first tag.rest) (all_attributes rules tag) afterwards → can_end_in (end_place tag) last ≡ true
       → Leaves (InTag (end_place tag) afterwards) (open_attribute_text last) (spell_open_attribute rules tag last) (open_tag_at_end rules tag last)
   leaves-last tag afterwards None plain holds h = leaves-tag (end_place tag) afterwards
   leaves-last tag afterwards (Some a) plain holds h = leaves-attribute tag.kind (name_shown tag.first tag.rest) (end_place tag) (all_attributes rules tag) afterwards a plain holds h
 
   -- from where its opening and its name are read as that
-  pub leaves-open_from : (opened : Open) (tag : WrittenTag) (last : Option OpenAttribute) → All (λ entry. IsTrue (is_plain_name entry.name)) rules.names
+  pub leaves-open_from : (opened : Open) (tag : WrittenTag) (last : Option OpenAttribute) → All (λ entry. IsTrue (is_plain_name entry.name)) rules.references
       → can_follow InName tag.parts ≡ true → can_end_in (end_place tag) last ≡ true
       → Passes means rules opened (name_cells means rules tag) (InTag InName (named_tag means rules tag)) (flat_map part_text tag.parts ++ open_attribute_text last)
       → Leaves opened (open_written tag last) (spell_open_tag rules tag last) (open_tag_at_end rules tag last)
@@ -320,7 +320,7 @@ module _ {X S H : Type 0} (means : Means X S H) (rules : Rules) where
       (leaves-append opened (InTag (end_place tag) led.afterwards) (body rules tag) (spell_open_attribute rules tag last) rest _ passes
       (leaves-last tag led.afterwards last plain led.holds ends))
 
-  pub leaves-open_tag : (tag : WrittenTag) (last : Option OpenAttribute) → All (λ entry. IsTrue (is_plain_name entry.name)) rules.names → is_open_written tag last ≡ true
+  pub leaves-open_tag : (tag : WrittenTag) (last : Option OpenAttribute) → All (λ entry. IsTrue (is_plain_name entry.name)) rules.references → is_open_written tag last ≡ true
       → Leaves (Between Data) (open_written tag last) (spell_open_tag rules tag last) (open_tag_at_end rules tag last)
   unfolding is_open_written
   leaves-open_tag tag last plain h =

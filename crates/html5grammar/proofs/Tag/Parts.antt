@@ -114,7 +114,7 @@ module _ {X S H : Type 0} (means : Means X S H) (rules : Rules) where
   with_shown tag value = record tag { last_value = tag.last_value ++ value_shown rules value }
 
   -- the walk reads a value in quotes as its spelled characters say
-  passes-quoted : (kind : AttrValueKind) (q : ℕ) (tag : OpenTag) (run rest : List ℕ) → All (λ entry. IsTrue (is_plain_name entry.name)) rules.names → IsStop q → list_all (is_in_value kind) run ≡ true
+  passes-quoted : (kind : AttrValueKind) (q : ℕ) (tag : OpenTag) (run rest : List ℕ) → All (λ entry. IsTrue (is_plain_name entry.name)) rules.references → IsStop q → list_all (is_in_value kind) run ≡ true
       → step_at rules.exact (InTag BeforeValue tag) q ≡ Tells [] (InTag (InValue kind) tag)
       → ((t : OpenTag) → step_at rules.exact (InTag (InValue kind) t) q ≡ Tells [] (InTag AfterQuotedValue t))
       → Passes means rules (InTag BeforeValue tag) (spell_silent (q ∷ []) ++ (spell_run rules kind zero run ++ spell_silent (q ∷ []))) (InTag AfterQuotedValue (record tag { last_value = tag.last_value ++ shown_run rules kind run })) rest
@@ -134,7 +134,7 @@ module _ {X S H : Type 0} (means : Means X S H) (rules : Rules) where
       rw (p.0, no_double, no_single, p.1) refl
 
   -- the walk reads a value as its spelled characters say
-  passes-value : (tag : OpenTag) (value : Value) (rest : List ℕ) → All (λ entry. IsTrue (is_plain_name entry.name)) rules.names → is_value value ≡ true → (needs_stop (place_after_value value) ≡ true → Stops rest)
+  passes-value : (tag : OpenTag) (value : Value) (rest : List ℕ) → All (λ entry. IsTrue (is_plain_name entry.name)) rules.references → is_value value ≡ true → (needs_stop (place_after_value value) ≡ true → Stops rest)
       → Passes means rules (InTag BeforeValue tag) (spell_value rules value) (InTag (place_after_value value) (with_shown tag value)) rest
   unfolding step_at tag_step before_value_step quoted_step in_quoted is_white_space spell_run decoded Leads
   passes-value tag (InDoubleQuotes run) rest plain all stops = passes-quoted DoubleQuoted quotation_mark tag run rest plain (quote-stop DoubleQuoted) all refl (λ t. refl)
@@ -163,7 +163,7 @@ module _ {X S H : Type 0} (means : Means X S H) (rules : Rules) where
       pub holds : Holds kind name attributes afterwards
 
     -- the walk reads a part as its spelled characters say, and puts its attribute to the tag
-    passes-part : (place : Place) (before : List AttributeOf) (tag : OpenTag) (part : Part) (rest : List ℕ) → All (λ entry. IsTrue (is_plain_name entry.name)) rules.names → Holds kind name before tag → can_stand place part ≡ true
+    passes-part : (place : Place) (before : List AttributeOf) (tag : OpenTag) (part : Part) (rest : List ℕ) → All (λ entry. IsTrue (is_plain_name entry.name)) rules.references → Holds kind name before tag → can_stand place part ≡ true
         → (needs_stop (place_after place part) ≡ true → Stops rest)
         → Led place tag (spell_part rules place before part) (place_after place part) (attributes_with rules before part) rest
     passes-part place before tag (Blank c) rest plain holds h stops =
@@ -194,7 +194,7 @@ module _ {X S H : Type 0} (means : Means X S H) (rules : Rules) where
         }
 
     -- the same for parts, one after another
-    pub passes-parts : (place : Place) (before : List AttributeOf) (tag : OpenTag) (parts : List Part) (rest : List ℕ) → All (λ entry. IsTrue (is_plain_name entry.name)) rules.names → Holds kind name before tag → can_follow place parts ≡ true → (needs_stop (place_after_parts place parts) ≡ true → Stops rest)
+    pub passes-parts : (place : Place) (before : List AttributeOf) (tag : OpenTag) (parts : List Part) (rest : List ℕ) → All (λ entry. IsTrue (is_plain_name entry.name)) rules.references → Holds kind name before tag → can_follow place parts ≡ true → (needs_stop (place_after_parts place parts) ≡ true → Stops rest)
         → Led place tag (spell_parts rules place before parts) (place_after_parts place parts) (attributes_with_parts rules before parts) rest
     unfolding spell_parts place_after_parts attributes_with_parts can_follow Leads
     passes-parts place before tag [] rest plain holds h last = record { afterwards = tag; passes = passes-leads means rules (InTag place tag) (InTag place tag) [] rest refl; holds = holds }
@@ -255,7 +255,7 @@ module _ {X S H : Type 0} (means : Means X S H) (rules : Rules) where
       ∙ ap (λ closed. TellsTag (end_error rules.exact place ++ (repeated_error (all_attributes rules tag) ++ end_tag_errors closed closes)) (told_tag closed closes)) holds.closed
 
   -- from where its opening and its name are read as that
-  reads-tag : (opened : Open) (tag : WrittenTag) → All (λ entry. IsTrue (is_plain_name entry.name)) rules.names → can_follow InName tag.parts ≡ true
+  reads-tag : (opened : Open) (tag : WrittenTag) → All (λ entry. IsTrue (is_plain_name entry.name)) rules.references → can_follow InName tag.parts ≡ true
       → Passes means rules opened (name_cells tag) (InTag InName (named_tag tag)) (flat_map part_text tag.parts ++ greater_than ∷ [])
       → ReadsTag opened tag
   reads-tag opened tag plain follow begins =
@@ -308,7 +308,7 @@ module _ {X S H : Type 0} (means : Means X S H) (rules : Rules) where
       ≡ record { messages = M; opened = open_after_reply last (last_reply means.step means.reply s M); last_start_tag = last }
 
   -- a tag tells what it spells, from where its opening and its name are read as that
-  reads-from : (K : Start) (s : S) (Y : List ℕ) (opened : Open) (tag : WrittenTag) → All (λ entry. IsTrue (is_plain_name entry.name)) rules.names
+  reads-from : (K : Start) (s : S) (Y : List ℕ) (opened : Open) (tag : WrittenTag) → All (λ entry. IsTrue (is_plain_name entry.name)) rules.references
       → K.opened ≡ opened → can_follow InName tag.parts ≡ true → normalised K.input Y ≡ written tag
       → Passes means rules opened (name_cells tag) (InTag InName (named_tag tag)) (flat_map part_text tag.parts ++ greater_than ∷ [])
       → IsReadAs K s Y tag
@@ -318,7 +318,7 @@ module _ {X S H : Type 0} (means : Means X S H) (rules : Rules) where
       rw (starts, text, ← characters-body tag)
       (trace-tag K.input [] s K.last_start_tag opened r.afterwards (body rules tag) (end_errors rules tag) (tag_told rules tag) r.passes r.ends)
 
-  pub tag-from : (K : Start) (s : S) (Y : List ℕ) (opened : Open) (tag : WrittenTag) → All (λ entry. IsTrue (is_plain_name entry.name)) rules.names
+  pub tag-from : (K : Start) (s : S) (Y : List ℕ) (opened : Open) (tag : WrittenTag) → All (λ entry. IsTrue (is_plain_name entry.name)) rules.references
       → K.opened ≡ opened → can_follow InName tag.parts ≡ true → normalised K.input Y ≡ written tag
       → Passes means rules opened (name_cells tag) (InTag InName (named_tag tag)) (flat_map part_text tag.parts ++ greater_than ∷ [])
       → TellsByItself means rules K s Y (spelled_messages rules.exact K.input [] (spelled rules tag))
@@ -330,7 +330,7 @@ module _ {X S H : Type 0} (means : Means X S H) (rules : Rules) where
       (reads-from K s Y opened tag plain starts follow text begins)
 
   -- a text that is one tag
-  pub reads-one_tag : (K : Start) (s : S) (Y : List ℕ) (tag : WrittenTag) → IsTable rules.names → IsTag K Y tag → IsReadAs K s Y tag
+  pub reads-one_tag : (K : Start) (s : S) (Y : List ℕ) (tag : WrittenTag) → IsTable rules.references → IsTag K Y tag → IsReadAs K s Y tag
   unfolding is_written
   reads-one_tag K s Y tag table one =
       let p = and_parts (is_letter tag.first) _ one.is_tag in
@@ -338,7 +338,7 @@ module _ {X S H : Type 0} (means : Means X S H) (rules : Rules) where
       reads-from K s Y (Between Data) tag table.plain one.starts q.1 one.text (passes-name tag _ p.0 q.0)
 
   -- wherever it stands
-  pub tag-by_itself : (K : Start) (s : S) (Y : List ℕ) (tag : WrittenTag) → IsTable rules.names → IsTag K Y tag
+  pub tag-by_itself : (K : Start) (s : S) (Y : List ℕ) (tag : WrittenTag) → IsTable rules.references → IsTag K Y tag
       → TellsByItself means rules K s Y (spelled_messages rules.exact K.input [] (spelled rules tag))
       (start_after_tag means K s Y (tag_told rules tag) (spelled_messages rules.exact K.input [] (spelled rules tag)))
   tag-by_itself K s Y tag table one =

@@ -22,7 +22,7 @@ module _ {Q S H : Type 0} (means : Means Q S H) (rules : Rules) where
   -- a tag to which the sink replies to keep on tells its messages
   reads-kept : (K : Start) (s : S) (X : List ℕ) (tag : WrittenTag)
       → ((t : S) (line : ℕ) → means.reply t (Tag (tag_told rules tag)) line ≡ KeepOn)
-      → IsTable rules.names → IsTag K X tag
+      → IsTable rules.references → IsTag K X tag
       → trace means.step means.reply means.foreign rules s (line_after K.input []) K.last_start_tag K.opened (normalised K.input X)
       ≡ record { messages = spelled_messages rules.exact K.input [] (spelled rules tag); opened = Between Data; last_start_tag = last_after K.last_start_tag (tag_told rules tag) }
   unfolding spelled
@@ -34,13 +34,13 @@ module _ {Q S H : Type 0} (means : Means Q S H) (rules : Rules) where
 
   after-tag : (K : Start) (s : S) (X : List ℕ) (tag : WrittenTag)
       → ((t : S) (line : ℕ) → means.reply t (Tag (tag_told rules tag)) line ≡ KeepOn)
-      → IsTable rules.names → IsTag K X tag → (after means.step means.reply means.foreign rules K s X).opened ≡ Between Data
+      → IsTable rules.references → IsTag K X tag → (after means.step means.reply means.foreign rules K s X).opened ≡ Between Data
   after-tag K s X tag keeps table one =
       after-opened means.step means.reply means.foreign rules K s X ∙ ap (λ (t : Trace). t.opened) (reads-kept K s X tag keeps table one)
 
   pub reading-tag : (K : Start) (s : S) (X : List ℕ) (tag : WrittenTag)
       → ((t : S) (line : ℕ) → means.reply t (Tag (tag_told rules tag)) line ≡ KeepOn)
-      → IsTable rules.names → IsTag K X tag → messages (reading means.step means.reply means.foreign rules K s X) ≡ tag_messages rules K.input tag
+      → IsTable rules.references → IsTag K X tag → messages (reading means.step means.reply means.foreign rules K s X) ≡ tag_messages rules K.input tag
   unfolding end_events late_at_end_of open_at_end_of late_events told_at_end_of tag_messages
   reading-tag K s X tag keeps table one =
       let tells : messages (told means.step means.reply means.foreign rules K s X) ≡ spelled_messages rules.exact K.input [] (spelled rules tag) =

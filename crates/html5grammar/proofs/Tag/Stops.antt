@@ -30,10 +30,10 @@ unfolding is_held_character
 stop-parts c stop = or_none (is_ascii_alphanumeric c) (c == number_sign) (c == semicolon) stop.other
 
 -- what is held doesn't go on with it
-stop-decides : (names : List NamedReference) (held : List ℕ) (c : ℕ) → All (λ entry. IsTrue (is_plain_name entry.name)) names → IsStop c → is_undecided names (held ++ c ∷ []) ≡ false
-stop-decides names held c plain stop =
-    false_from_ne_true (is_undecided names (held ++ c ∷ [])) (λ e.
-    let all = and_parts (list_all is_held_character held) (list_all is_held_character (c ∷ [])) (sym (list_all-append is_held_character held (c ∷ [])) ∙ held-undecided names (held ++ c ∷ []) plain e) in
+stop-decides : (references : List NamedReference) (held : List ℕ) (c : ℕ) → All (λ entry. IsTrue (is_plain_name entry.name)) references → IsStop c → is_undecided references (held ++ c ∷ []) ≡ false
+stop-decides references held c plain stop =
+    false_from_ne_true (is_undecided references (held ++ c ∷ [])) (λ e.
+    let all = and_parts (list_all is_held_character held) (list_all is_held_character (c ∷ [])) (sym (list_all-append is_held_character held (c ∷ [])) ∙ held-undecided references (held ++ c ∷ []) plain e) in
     false≢true (sym stop.other ∙ (and_parts (is_held_character c) true all.1).0))
 
 -- all stops decide alike
@@ -58,24 +58,24 @@ reference-stop : (rules : Rules) (v : Bool) (held : List ℕ) (c d : ℕ) → Is
 unfolding reference
 reference-stop rules v [] c d f g = refl
 reference-stop rules v (e ∷ held) c d f g =
-    ap (λ n. if e == number_sign then n else named_reference rules.exact v (e ∷ held) (Some c) (longest_name rules.names (e ∷ held))) (number-stop rules.exact held c d f g)
-    ∙ ap (λ n. if e == number_sign then number_reference rules.exact held (Some d) else n) (named-stop rules.exact v (e ∷ held) c d (longest_name rules.names (e ∷ held)) f g)
+    ap (λ n. if e == number_sign then n else named_reference rules.exact v (e ∷ held) (Some c) (longest_name rules.references (e ∷ held))) (number-stop rules.exact held c d f g)
+    ∙ ap (λ n. if e == number_sign then number_reference rules.exact held (Some d) else n) (named-stop rules.exact v (e ∷ held) c d (longest_name rules.references (e ∷ held)) f g)
 
-module _ (names : List NamedReference) (plain : All (λ entry. IsTrue (is_plain_name entry.name)) names) (c d : ℕ) (more : List ℕ) (f : IsStop c) (g : IsStop d) where
+module _ (references : List NamedReference) (plain : All (λ entry. IsTrue (is_plain_name entry.name)) references) (c d : ℕ) (more : List ℕ) (f : IsStop c) (g : IsStop d) where
   abbrev after_c : List ℕ → List ℕ → List ℕ
-  after_c held F = after_while (is_undecided names) held (F ++ c ∷ more)
+  after_c held F = after_while (is_undecided references) held (F ++ c ∷ more)
 
   abbrev after_d : List ℕ → List ℕ → List ℕ
-  after_d held F = after_while (is_undecided names) held (F ++ d ∷ [])
+  after_d held F = after_while (is_undecided references) held (F ++ d ∷ [])
 
   record Within (held F : List ℕ) : Type 0 where
-    run : run_while (is_undecided names) held (F ++ c ∷ more) ≡ run_while (is_undecided names) held (F ++ d ∷ [])
+    run : run_while (is_undecided references) held (F ++ c ∷ more) ≡ run_while (is_undecided references) held (F ++ d ∷ [])
     next : first_or (after_c held F) None ≡ first_or (after_d held F) None
     some : is_none (first_or (after_c held F) None) ≡ false
 
   record AtEnd (held F : List ℕ) : Type 0 where
-    run_c : run_while (is_undecided names) held (F ++ c ∷ more) ≡ F
-    run_d : run_while (is_undecided names) held (F ++ d ∷ []) ≡ F
+    run_c : run_while (is_undecided references) held (F ++ c ∷ more) ≡ F
+    run_d : run_while (is_undecided references) held (F ++ d ∷ []) ≡ F
     next_c : first_or (after_c held F) None ≡ Some c
     next_d : first_or (after_d held F) None ≡ Some d
 
@@ -83,34 +83,34 @@ module _ (names : List NamedReference) (plain : All (λ entry. IsTrue (is_plain_
   ends : (held F : List ℕ) → Within held F ⊎ AtEnd held F
   unfolding run_while after_while
   ends held [] =
-      let e : is_undecided names (held ++ c ∷ []) ≡ false = stop-decides names held c plain f in
-      let h : is_undecided names (held ++ d ∷ []) ≡ false = stop-decides names held d plain g in
+      let e : is_undecided references (held ++ c ∷ []) ≡ false = stop-decides references held c plain f in
+      let h : is_undecided references (held ++ d ∷ []) ≡ false = stop-decides references held d plain g in
       inr (record { run_c = rw e refl; run_d = rw h refl; next_c = rw e refl; next_d = rw h refl })
-  ends held (x ∷ F) = at (is_undecided names (held ++ x ∷ [])) refl (ends (held ++ x ∷ []) F)
+  ends held (x ∷ F) = at (is_undecided references (held ++ x ∷ [])) refl (ends (held ++ x ∷ []) F)
     where
-      at : (b : Bool) → is_undecided names (held ++ x ∷ []) ≡ b → Within (held ++ x ∷ []) F ⊎ AtEnd (held ++ x ∷ []) F → Within held (x ∷ F) ⊎ AtEnd held (x ∷ F)
+      at : (b : Bool) → is_undecided references (held ++ x ∷ []) ≡ b → Within (held ++ x ∷ []) F ⊎ AtEnd (held ++ x ∷ []) F → Within held (x ∷ F) ⊎ AtEnd held (x ∷ F)
       at true e (inl w) = inl (record { run = rw e (ap (λ l. x ∷ l) w.run); next = rw e w.next; some = rw e w.some })
       at true e (inr w) = inr (record { run_c = rw e (ap (λ l. x ∷ l) w.run_c); run_d = rw e (ap (λ l. x ∷ l) w.run_d); next_c = rw e w.next_c; next_d = rw e w.next_d })
       at false e w = inl (record { run = rw e refl; next = rw e refl; some = rw e refl })
 
-  pub some-decides : (F : List ℕ) → is_none (deciding_in names (F ++ c ∷ more)) ≡ false
+  pub some-decides : (F : List ℕ) → is_none (deciding_in references (F ++ c ∷ more)) ≡ false
   some-decides F = by (ends [] F)
     where
-      by : Within [] F ⊎ AtEnd [] F → is_none (deciding_in names (F ++ c ∷ more)) ≡ false
+      by : Within [] F ⊎ AtEnd [] F → is_none (deciding_in references (F ++ c ∷ more)) ≡ false
       by (inl w) = w.some
       by (inr w) = ap is_none w.next_c
 
 -- so the same is found before each
-pub found-stop : (rules : Rules) (v : Bool) (F : List ℕ) (c d : ℕ) (more : List ℕ) → All (λ entry. IsTrue (is_plain_name entry.name)) rules.names → IsStop c → IsStop d
+pub found-stop : (rules : Rules) (v : Bool) (F : List ℕ) (c d : ℕ) (more : List ℕ) → All (λ entry. IsTrue (is_plain_name entry.name)) rules.references → IsStop c → IsStop d
     → found_in rules v (F ++ c ∷ more) ≡ found_in rules v (F ++ d ∷ [])
-found-stop rules v F c d more plain f g = by (ends rules.names plain c d more f g [] F)
+found-stop rules v F c d more plain f g = by (ends rules.references plain c d more f g [] F)
   where
-    by : Within rules.names plain c d more f g [] F ⊎ AtEnd rules.names plain c d more f g [] F → found_in rules v (F ++ c ∷ more) ≡ found_in rules v (F ++ d ∷ [])
-    by (inl w) = ap (λ r. reference rules v r (deciding_in rules.names (F ++ c ∷ more))) w.run ∙ ap (reference rules v (held_in rules.names (F ++ d ∷ []))) w.next
+    by : Within rules.references plain c d more f g [] F ⊎ AtEnd rules.references plain c d more f g [] F → found_in rules v (F ++ c ∷ more) ≡ found_in rules v (F ++ d ∷ [])
+    by (inl w) = ap (λ r. reference rules v r (deciding_in rules.references (F ++ c ∷ more))) w.run ∙ ap (reference rules v (held_in rules.references (F ++ d ∷ []))) w.next
     by (inr w) =
-        ap (λ r. reference rules v r (deciding_in rules.names (F ++ c ∷ more))) w.run_c ∙ ap (reference rules v F) w.next_c
+        ap (λ r. reference rules v r (deciding_in rules.references (F ++ c ∷ more))) w.run_c ∙ ap (reference rules v F) w.next_c
         ∙ reference-stop rules v F c d f g
-        ∙ sym (ap (λ r. reference rules v r (deciding_in rules.names (F ++ d ∷ []))) w.run_d ∙ ap (reference rules v F) w.next_d)
+        ∙ sym (ap (λ r. reference rules v r (deciding_in rules.references (F ++ d ∷ []))) w.run_d ∙ ap (reference rules v F) w.next_d)
 
 -- what is all held stops before it
 pub taken-before : (n : ℕ) (run : List ℕ) (c : ℕ) (more : List ℕ) → list_all is_held_character (take n (run ++ c ∷ more)) ≡ true → is_held_character c ≡ false → n ≤ length run

@@ -157,8 +157,8 @@ module _ {X S H : Type 0} (means : Means X S H) (rules : Rules) where
       ∙ lines-same means rules (line_after input (before ++ ampersand ∷ [])) run (λ c h. is-line means rules input (before ++ ampersand ∷ []) c h) held
 
   -- in a value, an `&` and what it takes
-  passes-reference_at : (kind : AttrValueKind) (tag : OpenTag) (run : List ℕ) (e : ℕ) (rest : List ℕ) → All (λ entry. IsTrue (is_plain_name entry.name)) rules.names
-      → (found : Found) (d : DecidedIn means rules (run ++ e ∷ rest)) → reference rules true (held_in rules.names (run ++ e ∷ rest)) (Some d.c) ≡ found
+  passes-reference_at : (kind : AttrValueKind) (tag : OpenTag) (run : List ℕ) (e : ℕ) (rest : List ℕ) → All (λ entry. IsTrue (is_plain_name entry.name)) rules.references
+      → (found : Found) (d : DecidedIn means rules (run ++ e ∷ rest)) → reference rules true (held_in rules.references (run ++ e ∷ rest)) (Some d.c) ≡ found
       → found.taken ≤ length run → list_all is_held_character (take found.taken run) ≡ true
       → Passes (InTag (InValue kind) tag) (record { character = ampersand; told = found.errors } ∷ spell_silent (take found.taken run)) (InTag (InValue kind) (with_value tag (characters_in found))) (drop found.taken run ++ e ∷ rest)
   passes-reference_at kind tag run e rest plain found d found_is fewer held = λ input before s last.
@@ -183,7 +183,7 @@ module _ {X S H : Type 0} (means : Means X S H) (rules : Rules) where
       (sym (ap (λ l. line_after input (before ++ ampersand ∷ l)) (characters-spell silent front) ∙ line-reference input before front held))
 
   -- a reference in a value, which something else ends
-  passes-reference : (kind : AttrValueKind) (tag : OpenTag) (run : List ℕ) (e : ℕ) (rest : List ℕ) → All (λ entry. IsTrue (is_plain_name entry.name)) rules.names → IsStop e → IsStop (quote_of kind)
+  passes-reference : (kind : AttrValueKind) (tag : OpenTag) (run : List ℕ) (e : ℕ) (rest : List ℕ) → All (λ entry. IsTrue (is_plain_name entry.name)) rules.references → IsStop e → IsStop (quote_of kind)
       → let found : Found = found_in_value rules kind run in
       (found.taken ≤ length run)
       × Passes (InTag (InValue kind) tag) (record { character = ampersand; told = found.errors } ∷ spell_silent (take found.taken run)) (InTag (InValue kind) (with_value tag (characters_in found))) (drop found.taken run ++ e ∷ rest)
@@ -192,15 +192,15 @@ module _ {X S H : Type 0} (means : Means X S H) (rules : Rules) where
       let found : Found = found_in_value rules kind run in
       let n : ℕ = found.taken in
       let same : found_in rules true F ≡ found = found-stop rules true run e (quote_of kind) rest plain stop quote in
-      let d : DecidedIn means rules F = decided-by means rules F _ refl (some-decides rules.names plain e (quote_of kind) rest stop quote run) in
+      let d : DecidedIn means rules F = decided-by means rules F _ refl (some-decides rules.references plain e (quote_of kind) rest stop quote run) in
       let held : list_all is_held_character (take n F) ≡ true = ap (λ f. list_all is_held_character (take f.taken F)) (sym same) ∙ taken-plain means rules true F d plain in
       let fewer : n ≤ length run = taken-before n run e rest held stop.other in
       let held_run : list_all is_held_character (take n run) ≡ true = ap (list_all is_held_character) (sym (take-append-le n run (e ∷ rest) fewer)) ∙ held in
-      let found_is : reference rules true (held_in rules.names F) (Some d.c) ≡ found = sym (ap (reference rules true (held_in rules.names F)) d.is) ∙ same in
+      let found_is : reference rules true (held_in rules.references F) (Some d.c) ≡ found = sym (ap (reference rules true (held_in rules.references F)) d.is) ∙ same in
       (fewer, λ input before s last. passes-reference_at kind tag run e rest plain found d found_is fewer held_run input before s last)
 
   -- the walk reads a run of a value as its spelled characters say
-  passes-run : (n : ℕ) (kind : AttrValueKind) (tag : OpenTag) (run : List ℕ) (e : ℕ) (rest : List ℕ) → length run ≤ n → All (λ entry. IsTrue (is_plain_name entry.name)) rules.names → IsStop e → IsStop (quote_of kind)
+  passes-run : (n : ℕ) (kind : AttrValueKind) (tag : OpenTag) (run : List ℕ) (e : ℕ) (rest : List ℕ) → length run ≤ n → All (λ entry. IsTrue (is_plain_name entry.name)) rules.references → IsStop e → IsStop (quote_of kind)
       → list_all (is_in_value kind) run ≡ true
       → Passes (InTag (InValue kind) tag) (spell_run rules kind zero run) (InTag (InValue kind) (with_value tag (decoded rules kind zero run))) (e ∷ rest)
   unfolding spell_run decoded Leads
@@ -252,7 +252,7 @@ module _ {X S H : Type 0} (means : Means X S H) (rules : Rules) where
           (passes-one (InTag (InValue kind) tag) (InTag (InValue kind) named) c (value_error rules.exact kind c) (characters (spell_run rules kind zero run) ++ e ∷ rest) refl (step-in_value kind tag c here other))
           (further named run fewer more))
 
-  pub passes-value_run : (kind : AttrValueKind) (tag : OpenTag) (run : List ℕ) (e : ℕ) (rest : List ℕ) → All (λ entry. IsTrue (is_plain_name entry.name)) rules.names → IsStop e
+  pub passes-value_run : (kind : AttrValueKind) (tag : OpenTag) (run : List ℕ) (e : ℕ) (rest : List ℕ) → All (λ entry. IsTrue (is_plain_name entry.name)) rules.references → IsStop e
       → list_all (is_in_value kind) run ≡ true
       → Passes (InTag (InValue kind) tag) (spell_run rules kind zero run) (InTag (InValue kind) (with_value tag (decoded rules kind zero run))) (e ∷ rest)
   passes-value_run kind tag run e rest plain stop all = passes-run (length run) kind tag run e rest (omega arith) plain stop (quote-stop kind) all

@@ -2,7 +2,7 @@ use Rattle.std.proofs.Common.{◌+◌, refl, sym, subst, arith}
 use Rattle.std.proofs.lemmas.List.{take_all}
 use Rattle.devices.specs.Device.{AppendsBeginning}
 use Rattle.html5ever.specs.Tokenizer.{Tokenizing}
-use Rattle.token_printer.specs.Page.{Printer}
+use Rattle.token_printer.specs.Output.{Printer}
 use Rattle.html5cli.specs.Printing.{WritesFront}
 use Rattle.html5cli.proofs.Cuts.{IsCut, IsPiece-sliced, IsCut-further, IsCut-boundary}
 use Rattle.html5cli.proofs.Feeding.{FedTo, FedTo-start, FedTo-more, FedTo-all, FedTo-short, FedTo-unwritten, WritesFront-none, on_err-anyway}
@@ -36,32 +36,32 @@ loop-start-preserved g c =
     c.range.ensures.value refl in
     let said = c.in_ok-feed_piece.ensures in
     let was = g.W.Target.contents c.args.writer.now in
-    let written = g.W.Target.contents c.write_full_page.new.writer in
-    let wrote = subst (λ (t : Tokenizing Printer). WritesFront (g.W.Target.contents c.loop-start.writer) written t.sink.page c.write_full_page.new.sink.page) c.tokenizer.view_is c.in_ok-write_full_page.ensures.ok in
-    let fed = FedTo-more was _ written _ _ c.feed_piece.new.tokenizer c.write_full_page.new.sink text _ _ _ c.loop-start.queue c.feed_piece.new.queue
+    let written = g.W.Target.contents c.write_full_output.new.writer in
+    let wrote = subst (λ (t : Tokenizing Printer). WritesFront (g.W.Target.contents c.loop-start.writer) written t.sink.output c.write_full_output.new.sink.output) c.tokenizer.view_is c.in_ok-write_full_output.ensures.ok in
+    let fed = FedTo-more was _ written _ _ c.feed_piece.new.tokenizer c.write_full_output.new.sink text _ _ _ c.loop-start.queue c.feed_piece.new.queue
     c.loop-start.invariant.fed c.utf8.text piece said.reads said.rules said.going_on said.not_failed said.taken wrote in
     record {
-      fed = subst (λ (t : Tokenizing Printer). FedTo was written c.args.tokenizer.now (record t { sink = c.write_full_page.new.sink }) text (c.loop-start.start + c.piece_len.result) c.feed_piece.new.queue)
+      fed = subst (λ (t : Tokenizing Printer). FedTo was written c.args.tokenizer.now (record t { sink = c.write_full_output.new.sink }) text (c.loop-start.start + c.piece_len.result) c.feed_piece.new.queue)
           (sym c.tokenizer.view_is) fed;
-      no_failure = omega (arith, c.in_ok-write_full_page.ensures.failures, c.loop-start.invariant.no_failure);
+      no_failure = omega (arith, c.in_ok-write_full_output.ensures.failures, c.loop-start.invariant.no_failure);
     }
 
 pub returns-in_err-feed_piece-clause-beginning : goal.returns-in_err-feed_piece-clause-beginning
 returns-in_err-feed_piece-clause-beginning g c =
     on_err-anyway c.from_residual.result (FedTo-short _ _ _ _ _ _ _ c.loop-start.invariant.fed c.utf8.text)
 
-pub returns-in_err-write_full_page-clause-beginning : goal.returns-in_err-write_full_page-clause-beginning
-returns-in_err-write_full_page-clause-beginning g c =
+pub returns-in_err-write_full_output-clause-beginning : goal.returns-in_err-write_full_output-clause-beginning
+returns-in_err-write_full_output-clause-beginning g c =
     let text = c.args.text.now in
     let piece = IsPiece-sliced text _ _ _ c.loop-start.start c.piece_len.result c.loop-start.invariant.fed.cut
     c.range_from.ensures.value c.piece_len.ensures.within c.piece_len.ensures.boundary.1
     c.range.ensures.value refl in
     let said = c.in_ok-feed_piece.ensures in
     let known = g.W.Target.contents c.loop-start.writer in
-    let begun = subst (λ (t : Tokenizing Printer). AppendsBeginning known (g.W.Target.contents c.write_full_page.new.writer) t.sink.page.lines) c.tokenizer.view_is c.in_err-write_full_page.ensures.err in
+    let begun = subst (λ (t : Tokenizing Printer). AppendsBeginning known (g.W.Target.contents c.write_full_output.new.writer) t.sink.output.lines) c.tokenizer.view_is c.in_err-write_full_output.ensures.err in
     let fed = FedTo-more _ known known _ _ c.feed_piece.new.tokenizer c.feed_piece.new.tokenizer.sink text _ _ _ c.loop-start.queue c.feed_piece.new.queue
-    c.loop-start.invariant.fed c.utf8.text piece said.reads said.rules said.going_on said.not_failed said.taken (WritesFront-none known c.feed_piece.new.tokenizer.sink.page) in
-    on_err-anyway c.from_residual-in_err-write_full_page.result (FedTo-unwritten _ _ _ _ _ _ _ _ fed c.utf8.text begun)
+    c.loop-start.invariant.fed c.utf8.text piece said.reads said.rules said.going_on said.not_failed said.taken (WritesFront-none known c.feed_piece.new.tokenizer.sink.output) in
+    on_err-anyway c.from_residual-in_err-write_full_output.result (FedTo-unwritten _ _ _ _ _ _ _ _ fed c.utf8.text begun)
 
 pub returns-clause-prints : goal.returns-clause-prints
 returns-clause-prints g c =

@@ -4,7 +4,7 @@ use Rattle.std.proofs.lemmas.Result.{on_ok_weaker, on_err_weaker}
 use Rattle.devices.specs.Device.{AppendsBeginning}
 use Rattle.html5cli.specs.Printing.{printed_reading}
 use Rattle.html5cli.specs.Settings.{said_by}
-use Rattle.html5cli.proofs.PrintedPages.{Consumes-whole, Keeps-same}
+use Rattle.html5cli.proofs.PrintedOutput.{Consumes-whole, Keeps-same}
 use Rattle.html5cli.proofs.PrintedItems.{prints-items}
 use Rattle.html5cli.proofs.print.print_tokens.Goals as goal
 
@@ -25,7 +25,7 @@ returns-clause-ok g c =
       consumed = Consumes-whole _ _ c.in_ok-bytes.bytes.items c.in_ok-bytes.ensures.ok c.in_ok-bytes.ensures.end c.in_ok-bytes.ensures.in_order;
       at_end = c.in_ok-bytes.ensures.end;
       utf8 = rw c.deref.ensures.value at c.in_ok-text.ensures.ok.1;
-      printed = subst (λ (l : List ℕ). Appends (g.W.Target.contents c.args.writer.now) (g.W.Target.contents c.print_text.new.writer) (printed_reading (said_by c.args.settings.now) c.args.names.now l)) text written;
+      printed = subst (λ (l : List ℕ). Appends (g.W.Target.contents c.args.writer.now) (g.W.Target.contents c.print_text.new.writer) (printed_reading (said_by c.args.settings.now) c.args.references.now l)) text written;
     }) c.print_text.ensures.ok
 
 pub returns-clause-items : goal.returns-clause-items
@@ -39,5 +39,5 @@ returns-clause-beginning g c =
       consumed = Consumes-whole _ _ c.in_ok-bytes.bytes.items c.in_ok-bytes.ensures.ok c.in_ok-bytes.ensures.end c.in_ok-bytes.ensures.in_order;
       at_end = c.in_ok-bytes.ensures.end;
       utf8 = rw c.deref.ensures.value at c.in_ok-text.ensures.ok.1;
-      printed = subst (λ (l : List ℕ). AppendsBeginning (g.W.Target.contents c.args.writer.now) (g.W.Target.contents c.print_text.new.writer) (printed_reading (said_by c.args.settings.now) c.args.names.now l)) text written;
+      printed = subst (λ (l : List ℕ). AppendsBeginning (g.W.Target.contents c.args.writer.now) (g.W.Target.contents c.print_text.new.writer) (printed_reading (said_by c.args.settings.now) c.args.references.now l)) text written;
     })) c.print_text.ensures.err

@@ -9,6 +9,6 @@ read_keyword-requires g c =
 pub returns : goal.returns
 returns g c =
     rw (← c.rules.view_is)
-    (let read = c.read_keyword.ensures.reads c.rules.inside.names.now in
+    (let read = c.read_keyword.ensures.reads c.rules.inside.references.now in
     let kept = c.read_keyword.ensures.kept.sink in
     search rules)

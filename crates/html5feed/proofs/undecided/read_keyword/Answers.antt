@@ -16,7 +16,7 @@ hold_keyword-requires g c = keyword-opened c.position.inside.in_reference c.posi
 -- the character can't be held
 
 pub returns-in_err-hold_keyword-clause-reads : goal.returns-in_err-hold_keyword-clause-reads
-returns-in_err-hold_keyword-clause-reads g c = λ names.
+returns-in_err-hold_keyword-clause-reads g c = λ references.
     let out = no_reference-keyword c.position.inside.in_reference c.position.inside.held (opened_of c.position.inside.opened) (rw (← c.position.view_is) at c.requires) in
     record {
       tells = tells_from_memory _ _ _ _ _ c.from_residual.ensures.1;
@@ -33,15 +33,15 @@ returns-in_err-hold_keyword-clause-reads g c = λ names.
 
 pub returns-then-branch-clause-reads : goal.returns-then-branch-clause-reads
 unfolding stepped
-returns-then-branch-clause-reads g c = λ names.
+returns-then-branch-clause-reads g c = λ references.
     let same = beside c.position.inside.in_reference c.position.inside.held (opened_of c.position.inside.opened) (rw (← c.position.view_is) at c.requires) in
     let out = no_reference-keyword c.position.inside.in_reference c.position.inside.held (opened_of c.position.inside.opened) (rw (← c.position.view_is) at c.requires) in
     let goes =
     goes_on-asked (g.S.TokenSink.means.foreign (g.S.TokenSink.means.state c.args.teller.now.sink.now)) (opened_of c.position.inside.opened) c.args.c (opened_of c.hold_keyword.new.opened)
     (rw c.asked_about_foreign-foreign.ensures at c.in_ok-hold_keyword.ensures.taken (ap Ok c.if-branch.true)) in
     record {
-      tells = rw (← c.position.view_is, same (opened_of c.position.inside.opened), goes.settled (rules_with c.args.teller.now names)) refl;
-      taken = λ yes. rw (← c.position.view_is, same (opened_of c.position.inside.opened), same (opened_of c.hold_keyword.new.opened)) (goes.belongs (rules_with c.args.teller.now names));
+      tells = rw (← c.position.view_is, same (opened_of c.position.inside.opened), goes.settled (rules_with c.args.teller.now references)) refl;
+      taken = λ yes. rw (← c.position.view_is, same (opened_of c.position.inside.opened), same (opened_of c.hold_keyword.new.opened)) (goes.belongs (rules_with c.args.teller.now references));
       decided = search rules;
       last = search rules;
       input = search rules;
@@ -58,20 +58,20 @@ decide_keyword-requires g c =
     (keyword-opened c.position.inside.in_reference c.position.inside.held (opened_of c.position.inside.opened) (rw (← c.position.view_is) at c.requires))
 
 pub returns-in_err-decide_keyword-clause-reads : goal.returns-in_err-decide_keyword-clause-reads
-returns-in_err-decide_keyword-clause-reads g c = λ names.
+returns-in_err-decide_keyword-clause-reads g c = λ references.
     let same = beside c.position.inside.in_reference c.position.inside.held (opened_of c.position.inside.opened) (rw (← c.position.view_is) at c.requires) in
     let keyword = keyword-opened c.position.inside.in_reference c.position.inside.held (opened_of c.position.inside.opened) (rw (← c.position.view_is) at c.requires) in
     let ends =
     ends-asked (g.S.TokenSink.means.foreign (g.S.TokenSink.means.state c.args.teller.now.sink.now)) (opened_of c.position.inside.opened) c.args.c
     (rw c.asked_about_foreign-foreign.ensures at c.in_ok-hold_keyword.ensures.decided (ap Ok c.if-branch.false)) in
-    let told = c.in_err-decide_keyword.ensures.emits names in
+    let told = c.in_err-decide_keyword.ensures.emits references in
     record {
-      tells = rw (← c.position.view_is, same (opened_of c.position.inside.opened), ends.settled (rules_with c.args.teller.now names)) (tells_stop _ _ _ _ _ _ _ c.from_residual-in_err-decide_keyword.ensures.1 (rw (c.in_ok-hold_keyword.ensures.kept (ap Ok c.if-branch.false)) at told.tells));
+      tells = rw (← c.position.view_is, same (opened_of c.position.inside.opened), ends.settled (rules_with c.args.teller.now references)) (tells_stop _ _ _ _ _ _ _ c.from_residual-in_err-decide_keyword.ensures.1 (rw (c.in_ok-hold_keyword.ensures.kept (ap Ok c.if-branch.false)) at told.tells));
       taken = search rules;
       decided = search rules;
       last = search rules;
       input = search rules;
-      held = rw (same (opened_of c.decide_keyword.new.opened), end-holds (rules_with c.args.teller.now names) (opened_of c.position.inside.opened) (opened_of c.decide_keyword.new.opened) keyword (rw (c.in_ok-hold_keyword.ensures.kept (ap Ok c.if-branch.false)) at c.in_err-decide_keyword.ensures.opened names)) (omega arith);
+      held = rw (same (opened_of c.decide_keyword.new.opened), end-holds (rules_with c.args.teller.now references) (opened_of c.position.inside.opened) (opened_of c.decide_keyword.new.opened) keyword (rw (c.in_ok-hold_keyword.ensures.kept (ap Ok c.if-branch.false)) at c.in_err-decide_keyword.ensures.opened references)) (omega arith);
       refusal = search rules;
       faults = search rules;
     }
@@ -80,20 +80,20 @@ pub returns-in_err-decide_keyword-clause-kept : goal.returns-in_err-decide_keywo
 returns-in_err-decide_keyword-clause-kept g c = (c.in_err-decide_keyword.ensures.emits []).kept
 
 pub returns-clause-reads : goal.returns-clause-reads
-returns-clause-reads g c = λ names.
+returns-clause-reads g c = λ references.
     let same = beside c.position.inside.in_reference c.position.inside.held (opened_of c.position.inside.opened) (rw (← c.position.view_is) at c.requires) in
     let keyword = keyword-opened c.position.inside.in_reference c.position.inside.held (opened_of c.position.inside.opened) (rw (← c.position.view_is) at c.requires) in
     let ends =
     ends-asked (g.S.TokenSink.means.foreign (g.S.TokenSink.means.state c.args.teller.now.sink.now)) (opened_of c.position.inside.opened) c.args.c
     (rw c.asked_about_foreign-foreign.ensures at c.in_ok-hold_keyword.ensures.decided (ap Ok c.if-branch.false)) in
-    let told = c.in_ok-decide_keyword.ensures.emits names in
+    let told = c.in_ok-decide_keyword.ensures.emits references in
     record {
-      tells = rw (← c.position.view_is, same (opened_of c.position.inside.opened), ends.settled (rules_with c.args.teller.now names)) (rw (c.in_ok-hold_keyword.ensures.kept (ap Ok c.if-branch.false)) at told.tells);
+      tells = rw (← c.position.view_is, same (opened_of c.position.inside.opened), ends.settled (rules_with c.args.teller.now references)) (rw (c.in_ok-hold_keyword.ensures.kept (ap Ok c.if-branch.false)) at told.tells);
       taken = search rules;
-      decided = λ no. rw (← c.position.view_is, same (opened_of c.position.inside.opened), same (opened_of c.decide_keyword.new.opened), (rw (c.in_ok-hold_keyword.ensures.kept (ap Ok c.if-branch.false)) at c.in_ok-decide_keyword.ensures.opened names)) (ends.decides (rules_with c.args.teller.now names));
+      decided = λ no. rw (← c.position.view_is, same (opened_of c.position.inside.opened), same (opened_of c.decide_keyword.new.opened), (rw (c.in_ok-hold_keyword.ensures.kept (ap Ok c.if-branch.false)) at c.in_ok-decide_keyword.ensures.opened references)) (ends.decides (rules_with c.args.teller.now references));
       last = search rules;
       input = search rules;
-      held = rw (same (opened_of c.decide_keyword.new.opened), end-holds (rules_with c.args.teller.now names) (opened_of c.position.inside.opened) (opened_of c.decide_keyword.new.opened) keyword (rw (c.in_ok-hold_keyword.ensures.kept (ap Ok c.if-branch.false)) at c.in_ok-decide_keyword.ensures.opened names)) (omega arith);
+      held = rw (same (opened_of c.decide_keyword.new.opened), end-holds (rules_with c.args.teller.now references) (opened_of c.position.inside.opened) (opened_of c.decide_keyword.new.opened) keyword (rw (c.in_ok-hold_keyword.ensures.kept (ap Ok c.if-branch.false)) at c.in_ok-decide_keyword.ensures.opened references)) (omega arith);
       refusal = search rules;
       faults = search rules;
     }

@@ -5,7 +5,7 @@ use Rattle.html5records.proofs.Written.{attributes-more, BeginsWith-less}
 use Rattle.html5records.proofs.records.push_each_attribute.Goals as goal
 
 pub loop-attribute-init : goal.loop-attribute-init
-loop-attribute-init g c = sym (append-nil c.args.page.now.items)
+loop-attribute-init g c = sym (append-nil c.args.written.now.items)
 
 pub returns-in_err-push_attribute-clause-err : goal.returns-in_err-push_attribute-clause-err
 returns-in_err-push_attribute-clause-err g c =

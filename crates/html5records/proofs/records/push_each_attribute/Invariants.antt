@@ -6,4 +6,4 @@ use Rattle.html5records.proofs.records.push_each_attribute.Given as goal
 
 abbrev pub invariant-loop-attribute : goal.invariant-loop-attribute
 invariant-loop-attribute g l =
-    l.page.items ≡ l.fn.page.items ++ flat_map attribute_record (map attribute_of (take l.attribute-index l.attributes))
+    l.written.items ≡ l.fn.written.items ++ flat_map attribute_record (map attribute_of (take l.attribute-index l.attributes))

@@ -9,6 +9,6 @@ unfolding record_of
 returns-clause-ok g c =
     let told = told_by c.args.token.now in
     let headed = c.in_ok-push_heading.ensures.ok
-    ∙ ap (λ k. c.args.page.now.items ++ heading k c.args.line) c.kind_of.ensures
-    ∙ ap (λ l. c.args.page.now.items ++ l) (sym (heading_of-other told c.args.line c.requires)) in
-    pieces-two c.push_parts.result c.args.page.now.items _ _ (heading_of told c.args.line) (parts told) headed c.push_parts.ensures.ok
+    ∙ ap (λ k. c.args.written.now.items ++ heading k c.args.line) c.kind_of.ensures
+    ∙ ap (λ l. c.args.written.now.items ++ l) (sym (heading_of-other told c.args.line c.requires)) in
+    pieces-two c.push_parts.result c.args.written.now.items _ _ (heading_of told c.args.line) (parts told) headed c.push_parts.ensures.ok

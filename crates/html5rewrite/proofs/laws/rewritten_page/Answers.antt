@@ -3,4 +3,4 @@ use Rattle.html5rewrite.proofs.laws.rewritten_page.Goals as goal
 
 pub returns : goal.returns
 returns g c = λ rules K s pieces table here plain follows.
-    c.whole_page.ensures.tokens rules K s pieces table here (can-plain pieces plain) (keeps_on-page (g.S.TokenSink.means).reply follows pieces plain)
+    c.whole_text.ensures.tokens rules K s pieces table here (can-plain pieces plain) (keeps_on-page (g.S.TokenSink.means).reply follows pieces plain)

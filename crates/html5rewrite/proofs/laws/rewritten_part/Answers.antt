@@ -3,4 +3,4 @@ use Rattle.html5rewrite.proofs.laws.rewritten_part.Goals as goal
 
 pub returns : goal.returns
 returns g c = λ rules K s pieces table here plain follows.
-    c.page.ensures rules K s pieces table here (can-plain pieces plain) (keeps_on-page (g.S.TokenSink.means).reply follows pieces plain)
+    c.all_pieces.ensures rules K s pieces table here (can-plain pieces plain) (keeps_on-page (g.S.TokenSink.means).reply follows pieces plain)

@@ -4,12 +4,12 @@ use Rattle.html5stream.proofs.source.read_all.Goals as goal
 
 pub returns-clause-finishes : goal.returns-clause-finishes
 returns-clause-finishes g c =
-    on_ok_weaker c.tell_end.result
+    on_ok_weaker c.emit_end.result
     (λ finishes. FinishesText-end g.S.TokenSink.means
     _ _ _ _ _ c.in_ok-read_text.ensures.takes finishes)
-    c.tell_end.ensures.finishes
+    c.emit_end.ensures.finishes
 
 pub returns-clause-stops : goal.returns-clause-stops
 returns-clause-stops g c =
     StopsText-result g.S.TokenSink.means
-    c.tell_end.result _ _ _ _ _ c.in_ok-read_text.ensures.takes c.tell_end.ensures.stops c.tell_end.ensures.text_error c.tell_end.ensures.read
+    c.emit_end.result _ _ _ _ _ c.in_ok-read_text.ensures.takes c.emit_end.ensures.stops c.emit_end.ensures.text_error c.emit_end.ensures.read

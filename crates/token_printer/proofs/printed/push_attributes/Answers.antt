@@ -5,7 +5,7 @@ use Rattle.token_printer.proofs.Beginnings.{BeginsWith-less}
 use Rattle.token_printer.proofs.printed.push_attributes.Goals as goal
 
 pub loop-attribute-init : goal.loop-attribute-init
-loop-attribute-init g c = open_attributes-none c.args.page.now.items
+loop-attribute-init g c = open_attributes-none c.args.output.now.items
 
 pub returns-in_err-push_attribute-clause-err : goal.returns-in_err-push_attribute-clause-err
 returns-in_err-push_attribute-clause-err g c =

@@ -5,4 +5,4 @@ use Rattle.token_printer.proofs.printed.push_attributes.Given as goal
 
 abbrev pub invariant-loop-attribute : goal.invariant-loop-attribute
 invariant-loop-attribute g l =
-    l.page.items ≡ l.fn.page.items ++ open_attributes (map attribute_of (take l.attribute-index l.attributes))
+    l.output.items ≡ l.fn.output.items ++ open_attributes (map attribute_of (take l.attribute-index l.attributes))

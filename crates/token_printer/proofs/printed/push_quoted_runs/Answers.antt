@@ -6,33 +6,33 @@ use Rattle.token_printer.proofs.Beginnings.{BeginsWith-append, BeginsWith-less}
 use Rattle.token_printer.proofs.Quotes.{quoted_bytes-none, quoted_bytes-run, quoted_bytes-escape}
 use Rattle.token_printer.proofs.printed.push_quoted_runs.Goals as goal
 
-pub loop-page-init : goal.loop-page-init
-loop-page-init g c = (omega arith, quoted_bytes-none c.args.page.now.items)
+pub loop-output-init : goal.loop-output-init
+loop-output-init g c = (omega arith, quoted_bytes-none c.args.output.now.items)
 
 pub returns-in_err-extend_from_slice-clause-err : goal.returns-in_err-extend_from_slice-clause-err
 returns-in_err-extend_from_slice-clause-err g c =
     let failed = err_from_is_err_and c.from_residual.result c.from_residual.ensures.1 in
-    rw failed.1 (BeginsWith-append _ _ _ (c.in_err-extend_from_slice.ensures.items ∙ c.loop-page.invariant.1))
+    rw failed.1 (BeginsWith-append _ _ _ (c.in_err-extend_from_slice.ensures.items ∙ c.loop-output.invariant.1))
 
 pub returns-then-end-text-clause-ok : goal.returns-then-end-text-clause-ok
 returns-then-end-text-clause-ok g c =
     let text = c.args.text.now in
     let end = c.run_end-end.result in
-    quoted_bytes-run c.args.page.now.items _ _ text c.loop-page.start end c.loop-page.invariant.1
+    quoted_bytes-run c.args.output.now.items _ _ text c.loop-output.start end c.loop-output.invariant.1
     c.run_end-end.ensures.low c.run_end-end.ensures.high c.run_end-end.ensures.plain c.in_ok-extend_from_slice.ensures.items
-    ∙ ap (λ l. c.args.page.now.items ++ quoted_bytes l) (take_all end text (omega arith))
+    ∙ ap (λ l. c.args.output.now.items ++ quoted_bytes l) (take_all end text (omega arith))
 
 pub returns-in_err-push_escape-clause-err : goal.returns-in_err-push_escape-clause-err
 returns-in_err-push_escape-clause-err g c =
     let failed = err_from_is_err_and c.from_residual-in_err-push_escape.result c.from_residual-in_err-push_escape.ensures.1 in
-    let ran = quoted_bytes-run c.args.page.now.items _ _ c.args.text.now c.loop-page.start c.run_end-end.result c.loop-page.invariant.1
+    let ran = quoted_bytes-run c.args.output.now.items _ _ c.args.text.now c.loop-output.start c.run_end-end.result c.loop-output.invariant.1
     c.run_end-end.ensures.low c.run_end-end.ensures.high c.run_end-end.ensures.plain c.in_ok-extend_from_slice.ensures.items in
     rw failed.1 (BeginsWith-less _ _ _ _ ran c.in_err-push_escape.ensures.err)
 
-pub loop-page-preserved : goal.loop-page-preserved
-loop-page-preserved g c =
+pub loop-output-preserved : goal.loop-output-preserved
+loop-output-preserved g c =
     let text = c.args.text.now in
     let end = c.run_end-end.result in
-    let ran = quoted_bytes-run c.args.page.now.items _ _ text c.loop-page.start end c.loop-page.invariant.1
+    let ran = quoted_bytes-run c.args.output.now.items _ _ text c.loop-output.start end c.loop-output.invariant.1
     c.run_end-end.ensures.low c.run_end-end.ensures.high c.run_end-end.ensures.plain c.in_ok-extend_from_slice.ensures.items in
-    (omega arith, quoted_bytes-escape c.args.page.now.items _ _ text end ran (omega arith) (c.run_end-end.ensures.stops (omega arith)) c.in_ok-push_escape.ensures.ok)
+    (omega arith, quoted_bytes-escape c.args.output.now.items _ _ text end ran (omega arith) (c.run_end-end.ensures.stops (omega arith)) c.in_ok-push_escape.ensures.ok)

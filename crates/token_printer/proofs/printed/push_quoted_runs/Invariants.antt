@@ -2,8 +2,8 @@ use Rattle.std.proofs.Common.{◌≡◌, ◌-◌, ◌≤◌, ◌++◌, length, t
 use Rattle.token_printer.specs.Printed.{quoted_bytes}
 use Rattle.token_printer.proofs.printed.push_quoted_runs.Given as goal
 
-abbrev pub invariant-loop-page : goal.invariant-loop-page
-invariant-loop-page g l = (l.start ≤ length l.text) × (l.page.items ≡ l.fn.page.items ++ quoted_bytes (take l.start l.text))
+abbrev pub invariant-loop-output : goal.invariant-loop-output
+invariant-loop-output g l = (l.start ≤ length l.text) × (l.output.items ≡ l.fn.output.items ++ quoted_bytes (take l.start l.text))
 
-abbrev pub decreases-loop-page : goal.decreases-loop-page
-decreases-loop-page g l = length l.text - l.start
+abbrev pub decreases-loop-output : goal.decreases-loop-output
+decreases-loop-output g l = length l.text - l.start

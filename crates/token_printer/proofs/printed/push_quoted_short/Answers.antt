@@ -5,7 +5,7 @@ use Rattle.token_printer.proofs.Quotes.{quoted_bytes-none, quoted_bytes-next}
 use Rattle.token_printer.proofs.printed.push_quoted_short.Goals as goal
 
 pub loop-byte-init : goal.loop-byte-init
-loop-byte-init g c = quoted_bytes-none c.args.page.now.items
+loop-byte-init g c = quoted_bytes-none c.args.output.now.items
 
 pub returns-in_err-push_quoted_byte-clause-err : goal.returns-in_err-push_quoted_byte-clause-err
 returns-in_err-push_quoted_byte-clause-err g c =

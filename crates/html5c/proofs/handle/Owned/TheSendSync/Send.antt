@@ -12,14 +12,14 @@ use Rattle.std_alloc.proofs.SendSync.{quiet, lies}
 use Rattle.std_heap.proofs.Global.TheSendSync as handle
 use Rattle.std_heap.specs.declared.Global.{Global}
 use Rattle.html5c.specs.Held.{held}
-use Rattle.html5c.specs.contracts.page.Page as Page
-use Rattle.html5c.specs.declared.page.Page.{Page as Session}
-use Rattle.html5c.proofs.page.Page.TheSendSync.{the_send as page}
+use Rattle.html5c.specs.contracts.slot.SessionSlot as SessionSlot
+use Rattle.html5c.specs.declared.slot.SessionSlot.{SessionSlot as Session}
+use Rattle.html5c.proofs.slot.SessionSlot.TheSendSync.{the_send as slot}
 use Rattle.html5c.specs.contracts.handle.Owned.{the_row, the_type}
 
 crosses : (alloc : Global) (at : Ptr) (value : Option Session) → Keyless (held alloc at value)
 crosses alloc at None = tt
-crosses alloc at (Some session) = (lies Page.the_row page at session, heap.frees.frees alloc (raw (lone Page.the_row.mir)) at)
+crosses alloc at (Some session) = (lies SessionSlot.the_row slot at session, heap.frees.frees alloc (raw (lone SessionSlot.the_row.mir)) at)
 
 pub send : IsSend the_row
 send =

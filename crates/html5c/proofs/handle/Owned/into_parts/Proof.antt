@@ -26,7 +26,7 @@ use Rattle.std.specs.Prelude.{◌≡◌, Option, None, Some, IsSome}
 use Rattle.std_alloc.proofs.BoxSteps.Form.{D, B, word, box_typed}
 use Rattle.std_alloc.proofs.BoxSteps.Steps.{box_out, box_in}
 use Rattle.html5c.proofs.Boxed.{E, Keeper}
-use Rattle.html5c.specs.declared.page.Page.{Page}
+use Rattle.html5c.specs.declared.slot.SessionSlot.{SessionSlot}
 use Rattle.html5c.specs.contracts.handle.Owned as Owned
 use Rattle.html5c.specs.contracts.handle.Owned.into_parts as F
 use Rattle.html5c.specs.contracts.handle.Owned.into_parts.Key.{name as #self}
@@ -36,9 +36,9 @@ use Rattle.html5c.proofs.handle.Owned.into_parts.Code as code
 abbrev stayed : Stays (F.ended).signature.params (F.ended).kept
 stayed = (stay_dropped Keeper yes, tt)
 
-value_of : (held : Option Page) → IsSome held → (page : Page) × (held ≡ Some page)
+value_of : (held : Option SessionSlot) → IsSome held → (slot : SessionSlot) × (held ≡ Some slot)
 value_of None is = absurd cc
-value_of (Some page) is = (page, refl)
+value_of (Some slot) is = (slot, refl)
 
 module _ {M : Type 1} {𝓤 : Ura M} (𝓛 : Logic 𝓤) (at_mem : Memory → SProp 𝓤) (run : Routine → Fun 𝓤) (𝓣 : Tables 𝓤 𝓛.H) where
   open 𝓛 use {H}
@@ -50,11 +50,11 @@ module _ {M : Type 1} {𝓤 : Ura M} (𝓛 : Logic 𝓤) (at_mem : Memory → SP
       let d = z.0.3.0 in
       let To = type_at (F.signature).result tt in
       qed 𝓛 ((‵ ftrue ⊛ ‵ (fsep ((Owned.the_row).own_val d z.0.4.0) ftrue)) ∷ raw (fact 𝓤 (IsSome d.value)) ∷ []) ∵ move ! (1 ∷ []) $ heard ! (IsSome d.value) (λ is.
-      let page = (value_of d.value is).0 in let holds = (value_of d.value is).1 in
-      let v : D E = record { ptr = d.at; alloc = d.alloc; value = page } in
-      let made : To.Denot = record { ptr = d.at; alloc = d.alloc; value = page } in
+      let slot = (value_of d.value is).0 in let holds = (value_of d.value is).1 in
+      let v : D E = record { ptr = d.at; alloc = d.alloc; value = slot } in
+      let made : To.Denot = record { ptr = d.at; alloc = d.alloc; value = slot } in
       split ! $ drop ! $ fsplit ! $
-      rewrite ! 0 (λ (held : Option Page). ‵ ((Owned.the_row).own_val (record { at = d.at; alloc = d.alloc; value = held }) z.0.4.0)) holds refl $
+      rewrite ! 0 (λ (held : Option SessionSlot). ‵ ((Owned.the_row).own_val (record { at = d.at; alloc = d.alloc; value = held }) z.0.4.0)) holds refl $
       use1 𝓛 (‵ ((B E).own_val v z.0.4.0)) (id⊢ 𝓤 _) $
       box_out E ! v z.0.4.0 (λ b o hv e ws fa. box_in E ! v b o v.value e refl $ use1 𝓛 (‵ (To.own_val made (word E hv b o ∷ []))) (id⊢ 𝓤 _) $ move ! (1 ∷ []) $ drop ! $
       let w = word E hv b o in

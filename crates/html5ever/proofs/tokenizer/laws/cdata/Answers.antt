@@ -16,5 +16,5 @@ returns-clause-cdata g c =
     (λ (sink : Collecting) is cdata one.
     is
     ∙ ap (λ (M : List Message). collected_finish (stepped collected_step (none_collected c.args.foreign) M))
-    (reading-cdata collected_step (collected_reply {H = Unit {0}}) collected_foreign (rules_of (options_of c.args.opts) c.args.names.now) (start_of (options_of c.args.opts)) (none_collected c.args.foreign) (chars (string_bytes c.args.text)) cdata one))
+    (reading-cdata collected_step (collected_reply {H = Unit {0}}) collected_foreign (rules_of (options_of c.args.opts) c.args.references.now) (start_of (options_of c.args.opts)) (none_collected c.args.foreign) (chars (string_bytes c.args.text)) cdata one))
     c.collect.ensures.reads.holds

@@ -12,6 +12,6 @@ pub returns-in-Err : goal.returns-in-Err
 returns-in-Err g c =
     let stops = rw c.in-Err.is at c.read_whole-sink.ensures.stops in
     let refusal = whole-refusal collector_means c.in-Err.error c.new-sink.result.collected
-    (all_messages collector_means (rules_of (options_of c.args.opts) c.args.names.now) (start_of (options_of c.args.opts)) c.new-sink.result.collected (chars (string_bytes c.args.text)))
+    (all_messages collector_means (rules_of (options_of c.args.opts) c.args.references.now) (start_of (options_of c.args.opts)) c.new-sink.result.collected (chars (string_bytes c.args.text)))
     c.read_whole-sink.result.0.collected stops in
     record { reads = record { holds = tt; no_fault = tt; refusal = refusal } }

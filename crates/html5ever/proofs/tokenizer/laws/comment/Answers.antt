@@ -16,19 +16,19 @@ use Rattle.html5ever.proofs.tokenizer.laws.comment.Goals as goal
 pub returns-clause-comment : goal.returns-clause-comment
 returns-clause-comment g c =
     holds-one c.collect.result (λ comment. IsComment (start_of (options_of c.args.opts)) c.args.foreign (chars (string_bytes c.args.text)) comment)
-    (λ (sink : Collecting). sink.collected) (collected_of (options_of c.args.opts) c.args.names.now c.args.foreign (chars (string_bytes c.args.text)))
+    (λ (sink : Collecting). sink.collected) (collected_of (options_of c.args.opts) c.args.references.now c.args.foreign (chars (string_bytes c.args.text)))
     (λ comment. record { messages = comment_messages c.args.opts.exact_errors (start_of (options_of c.args.opts)).input comment; finished = true; foreign = c.args.foreign })
     c.collect.ensures.reads.holds
-    (λ comment one. collects-comment (Unit {0}) (rules_of (options_of c.args.opts) c.args.names.now) (start_of (options_of c.args.opts)) c.args.foreign (chars (string_bytes c.args.text)) comment one)
+    (λ comment one. collects-comment (Unit {0}) (rules_of (options_of c.args.opts) c.args.references.now) (start_of (options_of c.args.opts)) c.args.foreign (chars (string_bytes c.args.text)) comment one)
 
 pub returns-clause-open : goal.returns-clause-open
 returns-clause-open g c =
-    holds-unfinished c.collect.result (options_of c.args.opts) c.args.names.now c.args.foreign (chars (string_bytes c.args.text)) _ _ _ c.table_laws.ensures c.collect.ensures.reads.holds OpenComment
+    holds-unfinished c.collect.result (options_of c.args.opts) c.args.references.now c.args.foreign (chars (string_bytes c.args.text)) _ _ _ c.table_laws.ensures c.collect.ensures.reads.holds OpenComment
 
 pub returns-clause-open_bogus : goal.returns-clause-open_bogus
 returns-clause-open_bogus g c =
-    holds-unfinished c.collect.result (options_of c.args.opts) c.args.names.now c.args.foreign (chars (string_bytes c.args.text)) _ _ _ c.table_laws.ensures c.collect.ensures.reads.holds OpenBogus
+    holds-unfinished c.collect.result (options_of c.args.opts) c.args.references.now c.args.foreign (chars (string_bytes c.args.text)) _ _ _ c.table_laws.ensures c.collect.ensures.reads.holds OpenBogus
 
 pub returns-clause-open_declaration : goal.returns-clause-open_declaration
 returns-clause-open_declaration g c =
-    holds-unfinished c.collect.result (options_of c.args.opts) c.args.names.now c.args.foreign (chars (string_bytes c.args.text)) _ _ _ c.table_laws.ensures c.collect.ensures.reads.holds OpenBogusDeclaration
+    holds-unfinished c.collect.result (options_of c.args.opts) c.args.references.now c.args.foreign (chars (string_bytes c.args.text)) _ _ _ c.table_laws.ensures c.collect.ensures.reads.holds OpenBogusDeclaration

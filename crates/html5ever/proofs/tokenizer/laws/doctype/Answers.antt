@@ -16,11 +16,11 @@ use Rattle.html5ever.proofs.tokenizer.laws.doctype.Goals as goal
 pub returns-clause-doctype : goal.returns-clause-doctype
 returns-clause-doctype g c =
     holds-one c.collect.result (λ doctype. IsDoctype (start_of (options_of c.args.opts)) (chars (string_bytes c.args.text)) doctype)
-    (λ (sink : Collecting). sink.collected) (collected_of (options_of c.args.opts) c.args.names.now c.args.foreign (chars (string_bytes c.args.text)))
+    (λ (sink : Collecting). sink.collected) (collected_of (options_of c.args.opts) c.args.references.now c.args.foreign (chars (string_bytes c.args.text)))
     (λ doctype. record { messages = doctype_messages c.args.opts.exact_errors (start_of (options_of c.args.opts)).input doctype; finished = true; foreign = c.args.foreign })
     c.collect.ensures.reads.holds
-    (λ doctype one. collects-doctype (Unit {0}) (rules_of (options_of c.args.opts) c.args.names.now) (start_of (options_of c.args.opts)) c.args.foreign (chars (string_bytes c.args.text)) doctype one)
+    (λ doctype one. collects-doctype (Unit {0}) (rules_of (options_of c.args.opts) c.args.references.now) (start_of (options_of c.args.opts)) c.args.foreign (chars (string_bytes c.args.text)) doctype one)
 
 pub returns-clause-open : goal.returns-clause-open
 returns-clause-open g c =
-    holds-unfinished c.collect.result (options_of c.args.opts) c.args.names.now c.args.foreign (chars (string_bytes c.args.text)) _ _ _ c.table_laws.ensures c.collect.ensures.reads.holds OpenDoctype
+    holds-unfinished c.collect.result (options_of c.args.opts) c.args.references.now c.args.foreign (chars (string_bytes c.args.text)) _ _ _ c.table_laws.ensures c.collect.ensures.reads.holds OpenDoctype

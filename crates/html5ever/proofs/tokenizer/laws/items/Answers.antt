@@ -10,7 +10,7 @@ use Rattle.html5ever.proofs.tokenizer.laws.items.Goals as goal
 
 pub returns-clause-items : goal.returns-clause-items
 returns-clause-items g c =
-    holds-each c.collect.result (λ (sink : Collecting). sink.collected) (collected_of (options_of c.args.opts) c.args.names.now c.args.foreign (chars (string_bytes c.args.text)))
-    (λ (one : ComposedOf (options_of c.args.opts) c.args.names.now c.args.foreign (chars (string_bytes c.args.text))). collected_finish (stepped collected_step (none_collected c.args.foreign) (one.tells ++ one.ends)))
+    holds-each c.collect.result (λ (sink : Collecting). sink.collected) (collected_of (options_of c.args.opts) c.args.references.now c.args.foreign (chars (string_bytes c.args.text)))
+    (λ (one : ComposedOf (options_of c.args.opts) c.args.references.now c.args.foreign (chars (string_bytes c.args.text))). collected_finish (stepped collected_step (none_collected c.args.foreign) (one.tells ++ one.ends)))
     c.collect.ensures.reads.holds
-    (λ one. collected-items (options_of c.args.opts) c.args.names.now c.args.foreign (chars (string_bytes c.args.text)) c.table_laws.ensures one)
+    (λ one. collected-items (options_of c.args.opts) c.args.references.now c.args.foreign (chars (string_bytes c.args.text)) c.table_laws.ensures one)

@@ -18,7 +18,7 @@ returns-clause-raw g c =
     (λ (sink : Collecting) is raw name written one.
     is
     ∙ ap (λ (M : List Message). collected_finish (stepped collected_step (none_collected c.args.foreign) M))
-    (reading-raw collector_means (rules_of (options_of c.args.opts) c.args.names.now) (start_of (options_of c.args.opts)) (none_collected c.args.foreign) (chars (string_bytes c.args.text)) raw name written c.table_laws.ensures
+    (reading-raw collector_means (rules_of (options_of c.args.opts) c.args.references.now) (start_of (options_of c.args.opts)) (none_collected c.args.foreign) (chars (string_bytes c.args.text)) raw name written c.table_laws.ensures
     (λ tag t line e. refl) one))
     c.collect.ensures.reads.holds
 
@@ -28,5 +28,5 @@ returns-clause-text g c =
     (λ (sink : Collecting) is mode run one.
     is
     ∙ ap (λ (M : List Message). collected_finish (stepped collected_step (none_collected c.args.foreign) M))
-    (reading-run collector_means (rules_of (options_of c.args.opts) c.args.names.now) (start_of (options_of c.args.opts)) (none_collected c.args.foreign) (chars (string_bytes c.args.text)) mode run one))
+    (reading-run collector_means (rules_of (options_of c.args.opts) c.args.references.now) (start_of (options_of c.args.opts)) (none_collected c.args.foreign) (chars (string_bytes c.args.text)) mode run one))
     c.collect.ensures.reads.holds

@@ -13,8 +13,8 @@ use Rattle.html5ever.proofs.tokenizer.laws.reference.Goals as goal
 
 pub returns-clause-reference : goal.returns-clause-reference
 returns-clause-reference g c =
-    holds-one c.collect.result (λ reference. IsReference c.args.names.now (start_of (options_of c.args.opts)) (chars (string_bytes c.args.text)) reference)
-    (λ (sink : Collecting). sink.collected) (collected_of (options_of c.args.opts) c.args.names.now c.args.foreign (chars (string_bytes c.args.text)))
+    holds-one c.collect.result (λ reference. IsReference c.args.references.now (start_of (options_of c.args.opts)) (chars (string_bytes c.args.text)) reference)
+    (λ (sink : Collecting). sink.collected) (collected_of (options_of c.args.opts) c.args.references.now c.args.foreign (chars (string_bytes c.args.text)))
     (λ reference. record { messages = reference_messages c.args.opts.exact_errors (start_of (options_of c.args.opts)).input reference; finished = true; foreign = c.args.foreign })
     c.collect.ensures.reads.holds
-    (λ reference one. collects-reference (Unit {0}) (rules_of (options_of c.args.opts) c.args.names.now) (start_of (options_of c.args.opts)) c.args.foreign (chars (string_bytes c.args.text)) reference c.table_laws.ensures one)
+    (λ reference one. collects-reference (Unit {0}) (rules_of (options_of c.args.opts) c.args.references.now) (start_of (options_of c.args.opts)) c.args.foreign (chars (string_bytes c.args.text)) reference c.table_laws.ensures one)

@@ -8,5 +8,5 @@ pub returns-clause-items : goal.returns-clause-items
 returns-clause-items g c =
     on_ok_weaker c.feed_each.result
     (reads-items g.S.TokenSink.means c.args.tokenizer.now c.feed_each.new.tokenizer _
-    (subst (λ t. IsTable t.rules.names) c.tokenizer.view_is c.table_laws.ensures) c.feed_each.ensures.rules)
+    (subst (λ t. IsTable t.rules.references) c.tokenizer.view_is c.table_laws.ensures) c.feed_each.ensures.rules)
     c.feed_each.ensures.reads

@@ -27,7 +27,7 @@ returns-in-Done-clause-reads g c =
 pub returns-in-Done-clause-items : goal.returns-in-Done-clause-items
 returns-in-Done-clause-items g c =
     reads-items g.S.TokenSink.means c.args.tokenizer.now _ _
-    (subst (λ t. IsTable t.rules.names) c.tokenizer.view_is c.table_laws.ensures)
+    (subst (λ t. IsTable t.rules.references) c.tokenizer.view_is c.table_laws.ensures)
     (c.in_ok-feed.ensures.rules ∙ c.loop.invariant.0.rules)
     (returns-in-Done-clause-reads g c)
 

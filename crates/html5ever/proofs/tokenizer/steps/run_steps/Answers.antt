@@ -23,9 +23,9 @@ pub returns-clause-items : goal.returns-clause-items
 returns-clause-items g c =
     on_ok_weaker c.take_steps-result.result
     (λ e. record {
-      whole = run_text g.S.TokenSink.means (rules_of (options_of c.args.opts) c.args.names.now) (start_of (options_of c.args.opts)) (g.S.TokenSink.means.state c.args.sink) [] [] (map step_of c.args.steps.items);
-      takes = run-takes g.S.TokenSink.means (rules_of (options_of c.args.opts) c.args.names.now) g.met.S.TokenSink.keeps_on (start_of (options_of c.args.opts)) (g.S.TokenSink.means.state c.args.sink) [] [] (map step_of c.args.steps.items) c.table_laws.ensures refl;
-      finished = whole-items g.S.TokenSink.means (options_of c.args.opts) c.args.names.now (g.S.TokenSink.means.state c.args.sink) _ _ (rules_of (options_of c.args.opts) c.args.names.now) c.table_laws.ensures refl e;
+      whole = run_text g.S.TokenSink.means (rules_of (options_of c.args.opts) c.args.references.now) (start_of (options_of c.args.opts)) (g.S.TokenSink.means.state c.args.sink) [] [] (map step_of c.args.steps.items);
+      takes = run-takes g.S.TokenSink.means (rules_of (options_of c.args.opts) c.args.references.now) g.met.S.TokenSink.keeps_on (start_of (options_of c.args.opts)) (g.S.TokenSink.means.state c.args.sink) [] [] (map step_of c.args.steps.items) c.table_laws.ensures refl;
+      finished = whole-items g.S.TokenSink.means (options_of c.args.opts) c.args.references.now (g.S.TokenSink.means.state c.args.sink) _ _ (rules_of (options_of c.args.opts) c.args.references.now) c.table_laws.ensures refl e;
     })
     (returns-clause-finishes g c)
 

@@ -19,7 +19,7 @@ pub returns-then-self-clause-refused : goal.returns-then-self-clause-refused
 returns-then-self-clause-refused g c =
     let past : IsTrue c.is_past_start.result = search rules in
     let start = c.is_past_start.ensures.past.0 past in
-    let inside = holds-no_text c.args.rules.now.names c.self.inside.in_reference c.self.inside.held (opened_of c.self.inside.opened) c.if-self.true in
+    let inside = holds-no_text c.args.rules.now.references c.self.inside.in_reference c.self.inside.held (opened_of c.self.inside.opened) c.if-self.true in
     IfErr-weaker c.hold_front.result _ _ (λ refused both.
     rw (← c.self.view_is) (stops-held c.args.rules.now _ c.args.text.now refused.bytes start.0 start.1 c.is_past_start.ensures.fits both.0 both.1 inside)) c.hold_front.ensures.refused
 

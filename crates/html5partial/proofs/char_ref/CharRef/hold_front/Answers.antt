@@ -6,13 +6,13 @@ use Rattle.html5partial.proofs.NameFronts.{front-begins, front-boundary, front-c
 use Rattle.html5partial.proofs.char_ref.CharRef.hold_front.Goals as goal
 
 pub returns-then-not-is_empty-clause-holds : goal.returns-then-not-is_empty-clause-holds
-returns-then-not-is_empty-clause-holds g c = holds-none c.args.names.now c.args.self.now
+returns-then-not-is_empty-clause-holds g c = holds-none c.args.references.now c.args.self.now
 
 pub returns-then-not-is_empty-clause-held : goal.returns-then-not-is_empty-clause-held
 returns-then-not-is_empty-clause-held g c = held-none c.args.self.now
 
 pub returns-then-bytes-eq0-clause-holds : goal.returns-then-bytes-eq0-clause-holds
-returns-then-bytes-eq0-clause-holds g c = holds-none c.args.names.now c.args.self.now
+returns-then-bytes-eq0-clause-holds g c = holds-none c.args.references.now c.args.self.now
 
 pub returns-then-bytes-eq0-clause-held : goal.returns-then-bytes-eq0-clause-held
 returns-then-bytes-eq0-clause-held g c = held-none c.args.self.now

@@ -22,12 +22,12 @@ pub returns-then-undecided-clause-undecided : goal.returns-then-undecided-clause
 returns-then-undecided-clause-undecided g c =
     let plain = plain-name c.args.c c.requires.plain in
     let push : string_bytes c.push.new.self ≡ string_bytes c.self.inside.held ++ c.args.c ∷ [] = pushed_bytes _ _ _ c.args.c c.in_ok-push.ensures.bytes (c.push.ensures.ascii (omega (arith, plain.0.1))) in
-    undecided-name_pushed c.args.names.now (string_bytes c.self.inside.held) c.args.self.now c.deref.result.now c.args.c c.self.inside.is_alphanumeric _ c.is_undecided_name-undecided.result c.self.view_is
+    undecided-name_pushed c.args.references.now (string_bytes c.self.inside.held) c.args.self.now c.deref.result.now c.args.c c.self.inside.is_alphanumeric _ c.is_undecided_name-undecided.result c.self.view_is
     (c.deref.ensures ∙ push) c.self.invariant c.requires.no_number c.requires.plain (ap (λ b. c.self.inside.is_alphanumeric && b) c.is_ascii_alphanumeric.ensures.value) c.is_undecided_name-undecided.ensures
 
 pub returns-else-undecided-clause-undecided : goal.returns-else-undecided-clause-undecided
 returns-else-undecided-clause-undecided g c =
     let plain = plain-name c.args.c c.requires.plain in
     let push : string_bytes c.push.new.self ≡ string_bytes c.self.inside.held ++ c.args.c ∷ [] = pushed_bytes _ _ _ c.args.c c.in_ok-push.ensures.bytes (c.push.ensures.ascii (omega (arith, plain.0.1))) in
-    undecided-name_pushed c.args.names.now (string_bytes c.self.inside.held) c.args.self.now c.deref.result.now c.args.c c.self.inside.is_alphanumeric _ c.is_undecided_name-undecided.result c.self.view_is
+    undecided-name_pushed c.args.references.now (string_bytes c.self.inside.held) c.args.self.now c.deref.result.now c.args.c c.self.inside.is_alphanumeric _ c.is_undecided_name-undecided.result c.self.view_is
     (c.deref.ensures ∙ push) c.self.invariant c.requires.no_number c.requires.plain (ap (λ b. c.self.inside.is_alphanumeric && b) c.is_ascii_alphanumeric.ensures.value) c.is_undecided_name-undecided.ensures

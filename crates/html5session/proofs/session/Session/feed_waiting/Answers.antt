@@ -3,11 +3,11 @@ use Rattle.html5session.specs.Session.{is_over}
 use Rattle.html5session.proofs.Calls.{goes_on, text_stops}
 use Rattle.html5session.proofs.session.Session.feed_waiting.Goals as goal
 
-pub feed_text-resting-requires-clause-going_on : goal.feed_text-resting-requires-clause-going_on
-feed_text-resting-requires-clause-going_on g c = (goes_on c.self.inside.lost _ _ (ap is_over c.self.view_is ∙ c.requires)).2
+pub feed_text-detached-requires-clause-going_on : goal.feed_text-detached-requires-clause-going_on
+feed_text-detached-requires-clause-going_on g c = (goes_on c.self.inside.lost _ _ (ap is_over c.self.view_is ∙ c.requires)).2
 
-pub feed_text-resting-requires-clause-not_failed : goal.feed_text-resting-requires-clause-not_failed
-feed_text-resting-requires-clause-not_failed g c = (goes_on c.self.inside.lost _ _ (ap is_over c.self.view_is ∙ c.requires)).1
+pub feed_text-detached-requires-clause-not_failed : goal.feed_text-detached-requires-clause-not_failed
+feed_text-detached-requires-clause-not_failed g c = (goes_on c.self.inside.lost _ _ (ap is_over c.self.view_is ∙ c.requires)).1
 
 pub returns-clause-stops : goal.returns-clause-stops
-returns-clause-stops g c = text_stops c.feed_text-resting.result.1 _ _ _ _ c.self.view_is c.feed_text-resting.ensures.stops
+returns-clause-stops g c = text_stops c.feed_text-detached.result.1 _ _ _ _ c.self.view_is c.feed_text-detached.ensures.stops

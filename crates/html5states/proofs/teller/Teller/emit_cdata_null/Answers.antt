@@ -6,4 +6,4 @@ pub returns-in_err-emit_piece : goal.returns-in_err-emit_piece
 returns-in_err-emit_piece g c = emits_stop _ c.from_residual.ensures.1 c.in_err-emit_piece.ensures _ refl
 
 pub returns : goal.returns
-returns g c = emits_then c.in_ok-emit_piece.ensures c.tell.ensures refl
+returns g c = emits_then c.in_ok-emit_piece.ensures c.emit.ensures refl

@@ -6,4 +6,4 @@ pub returns-in_err-emit_unexpected : goal.returns-in_err-emit_unexpected
 returns-in_err-emit_unexpected g c = emits_stop _ c.from_residual.ensures.1 c.in_err-emit_unexpected.ensures _ refl
 
 pub returns : goal.returns
-returns g c = emits_then c.in_ok-emit_unexpected.ensures c.tell.ensures refl
+returns g c = emits_then c.in_ok-emit_unexpected.ensures c.emit.ensures refl

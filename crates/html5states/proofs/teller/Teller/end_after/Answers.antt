@@ -8,4 +8,4 @@ returns-in_err-emit_char g c = emits_stop _ c.from_residual.ensures.1 c.in_err-e
 
 pub returns : goal.returns
 unfolding lib.Utf8.encode
-returns g c = emits_then c.in_ok-emit_char.ensures c.tell.ensures refl
+returns g c = emits_then c.in_ok-emit_char.ensures c.emit.ensures refl

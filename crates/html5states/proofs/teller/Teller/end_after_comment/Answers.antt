@@ -6,4 +6,4 @@ pub returns-in_err-emit_comment_text : goal.returns-in_err-emit_comment_text
 returns-in_err-emit_comment_text g c = emits_stop _ c.from_residual.ensures.1 c.in_err-emit_comment_text.ensures _ refl
 
 pub returns : goal.returns
-returns g c = emits_then c.in_ok-emit_comment_text.ensures c.tell.ensures refl
+returns g c = emits_then c.in_ok-emit_comment_text.ensures c.emit.ensures refl

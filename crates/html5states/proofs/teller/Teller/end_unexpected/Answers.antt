@@ -8,4 +8,4 @@ returns-in_err-emit_end_error g c = emits_stop _ c.from_residual.ensures.1 c.in_
 
 pub returns : goal.returns
 unfolding lib.Utf8.encode
-returns g c = emits_then c.in_ok-emit_end_error.ensures c.tell.ensures refl
+returns g c = emits_then c.in_ok-emit_end_error.ensures c.emit.ensures refl

@@ -13,7 +13,7 @@ returns-in-Some g c =
     let held = c.args.held.now in
     let number = c.in-Some.number.now in
     let next = c.args.next in
-    let same = decided-number exact c.args.names.now c.args.in_value held number next c.in-Some.ensures.0 in
+    let same = decided-number exact c.args.references.now c.args.in_value held number next c.in-Some.ensures.0 in
     record {
       emits = rw same c.resolve_number.ensures.emits;
       found = rw same c.resolve_number.ensures.found;
@@ -25,14 +25,14 @@ returns-in-Some g c =
 pub returns-in-None : goal.returns-in-None
 returns-in-None g c =
     let exact = c.args.self.now.exact_errors in
-    let names = c.args.names.now in
+    let references = c.args.references.now in
     let in_value = c.args.in_value in
     let held = c.args.held.now in
     let text = c.text.result.now in
     let next = c.args.next in
     let same =
-    decided-name exact names in_value held next c.table_laws.ensures c.in-None.ensures
-    ∙ ap (λ h. named_reference exact in_value h next (longest_name names h)) (sym c.text.ensures.text) in
+    decided-name exact references in_value held next c.table_laws.ensures c.in-None.ensures
+    ∙ ap (λ h. named_reference exact in_value h next (longest_name references h)) (sym c.text.ensures.text) in
     record {
       emits = rw same c.resolve_name.ensures.emits;
       found = rw same c.resolve_name.ensures.found;

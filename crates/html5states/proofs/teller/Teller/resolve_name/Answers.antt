@@ -7,7 +7,7 @@ use Rattle.html5states.proofs.teller.Teller.resolve_name.Goals.{else-in_value-vi
 
 pub returns-in_default-clause-found : goal.returns-in_default-clause-found
 returns-in_default-clause-found g c =
-    let entry = longest_name c.args.names.now c.args.held.now in
+    let entry = longest_name c.args.references.now c.args.held.now in
     rw (name-none c.args.self.now.exact_errors c.args.in_value c.args.held.now c.args.next entry c.in_default.ensures) (found_nothing c.args.self.now.exact_errors c.args.held.now c.args.next)
 
 pub returns-in_ok-emit_message-clause-emits : goal.returns-in_ok-emit_message-clause-emits
@@ -15,7 +15,7 @@ returns-in_ok-emit_message-clause-emits g c =
     let held = c.args.held.now in
     let next = c.args.next in
     let named = c.in-Some.named in
-    let entry = longest_name c.args.names.now held in
+    let entry = longest_name c.args.references.now held in
     let ended = unended-cut held c.range.result.now named.len c.is_ended.result c.range.ensures.value c.is_ended.ensures c.if-not-is_ended.true in
     let goes : (c.args.in_value && goes_on (first_or (drop named.len held) next)) ≡ false =
     elim c.else-in_value.branch [

@@ -1,8 +1,8 @@
 use Rattle.std.proofs.Common.{refl}
-use Rattle.token_printer.specs.Page.{page_step}
+use Rattle.token_printer.specs.Output.{output_step}
 use Rattle.token_printer.proofs.print_sink.PrintSinkTokenSinkToken.process_token.Goals as goal
 
 pub returns-in-Ok-clause-steps : goal.returns-in-Ok-clause-steps
-unfolding page_step
+unfolding output_step
 returns-in-Ok-clause-steps g c =
     rw (← c.self.view_is, c.in-Ok.ensures.ok, c.is_open_after-self-inside.ensures) refl

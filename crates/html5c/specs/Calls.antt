@@ -1,0 +1,166 @@
+-- What each call makes of the session that a handle is of. A handle is closed where there is none.
+use Rattle.std.specs.Prelude.{◌≡◌, ◌≢◌, ◌↔◌, ◌⊎◌, ◌&&◌, ℕ, Bool, true, false, List, [], ◌++◌, length, take, drop, min, Option, None, Some, is_some}
+use Rattle.std.specs.Str.{IsUtf8, chars}
+use Rattle.utf8_pieces.specs.Pieces.{IsNeverUtf8}
+use Rattle.html5c.specs.Said.{options_said, replies_said, state_said}
+use Rattle.html5c.specs.declared.opening.OpenError.{OpenError}
+use Rattle.html5c.specs.declared.opening.OpenError.TheVariants as opening
+use Rattle.html5c.specs.declared.options.Options.{Options}
+use Rattle.html5c.specs.declared.slot.SessionSlot.{SessionSlot}
+use Rattle.html5records.specs.Recording.{recorded_means, none_recorded, nothing_recorded, waiting}
+use Rattle.html5records.specs.declared.record_sink.Replies.{Replies}
+use Rattle.html5ever.specs.Tokenizer.{StandsAt, rules_of}
+use Rattle.html5reading.specs.Start.{start_of}
+use Rattle.html5entities.specs.Standard.{standard_list}
+use Rattle.html5session.specs.Session.{SessionOf, tokenizer_of, recorded_by, is_over, after_session_takes, StandsOn, FeedsPiece, LosesPiece, RefusesBytes, EndsSession, LosesEnd}
+use Rattle.html5session.specs.declared.error.SessionError.{SessionError}
+use Rattle.html5session.specs.declared.error.SessionError.TheVariants.{Memory, NotUtf8, Cut, Waiting, Over}
+use Rattle.html5session.specs.declared.fed.Fed.{Fed}
+use Rattle.html5session.specs.declared.fed.Fed.TheVariants.{Done, Script, Encoding}
+use Rattle.html5table.specs.Listed.{entries_in}
+use Rattle.markup5ever.specs.NamedReferences.{table_of}
+
+-- the session of what a handle owns
+abbrev pub session_of : Option SessionSlot → Option SessionOf
+session_of None = None
+session_of (Some slot) = slot.session
+
+-- ---- the numbers of statuses
+
+abbrev pub fed_status : Fed → ℕ
+fed_status Done = 0
+fed_status Script = 1
+fed_status Encoding = 2
+
+abbrev pub error_status : SessionError → ℕ
+error_status Memory = 3
+error_status (NotUtf8 place) = 4
+error_status Cut = 5
+error_status Waiting = 6
+error_status Over = 7
+
+-- ---- a new session
+
+-- each number in the options names something
+abbrev pub are_named : Options → Bool
+are_named o = is_some (replies_said o.replies) && is_some (state_said o.state)
+
+-- it stands at the start of a page, by these options, and reads references by the standard's names
+pub record Starts (s : SessionOf) (name : List ℕ) (o : Options) : Type 0 where
+  pub replies : Replies
+  pub said : replies_said o.replies ≡ Some replies
+  pub stands : StandsAt recorded_means (tokenizer_of s) (start_of (options_said o name)) (none_recorded replies o.foreign) []
+  pub rules : (tokenizer_of s).rules ≡ rules_of (options_said o name) (table_of (entries_in standard_list))
+  pub sink : s.detached.sink ≡ nothing_recorded replies o.foreign
+  pub references : s.references ≡ table_of (entries_in standard_list)
+  pub held : s.decoder.held ≡ []
+  pub place : s.decoder.taken ≡ 0
+  pub text : s.text ≡ []
+  pub going_on : is_over s ≡ false
+  pub error_at : s.error_at ≡ None
+  pub named : are_named o ≡ true
+  pub utf8 : IsUtf8 name
+
+-- there is a session, and it is at the start of a page
+abbrev pub IsStart : Option SessionOf → List ℕ → Options → Type 0
+IsStart None name o = ⊥
+IsStart (Some s) name o = Starts s name o
+
+-- when no page is opened for its name, by the error
+abbrev pub IsNameRefused : List ℕ → OpenError → Type 0
+IsNameRefused name opening.Memory = IsUtf8 name
+IsNameRefused name opening.NotUtf8 = ¬ (IsUtf8 name)
+IsNameRefused name opening.BadOption = ⊥
+
+-- when a page is not opened, by the error: the options are looked at first
+abbrev pub OpenFails : List ℕ → Options → OpenError → Type 0
+OpenFails name o opening.BadOption = are_named o ≡ false
+OpenFails name o error = (are_named o ≡ true) × IsNameRefused name error
+
+abbrev pub open_status : OpenError → ℕ
+open_status opening.Memory = 3
+open_status opening.NotUtf8 = 4
+open_status opening.BadOption = 9
+
+-- what a status of a new session says: all but DONE leave the handle closed
+pub record NewSays (now : Option SessionOf) (name : List ℕ) (o : Options) (status : ℕ) : Type 0 where
+  pub done : status ≡ 0 → IsStart now name o
+  pub refused : status ≢ 0 → now ≡ None
+  pub bad_option : (status ≡ 9) ↔ (are_named o ≡ false)
+  pub not_utf8 : (status ≡ 4) ↔ ((are_named o ≡ true) × ¬ (IsUtf8 name))
+  pub only : (status ≡ 0) ⊎ (status ≡ 3) ⊎ (status ≡ 4) ⊎ (status ≡ 9)
+
+-- ---- what a status of each call says of an open handle
+
+pub record FeedSays (old new : SessionOf) (bytes : List ℕ) (status : ℕ) : Type 0 where
+  pub done : status ≡ 0 → FeedsPiece old new bytes Done
+  pub script : status ≡ 1 → FeedsPiece old new bytes Script
+  pub encoding : status ≡ 2 → FeedsPiece old new bytes Encoding
+  pub no_memory : status ≡ 3 → (new ≡ old) ⊎ LosesPiece old new bytes
+  pub not_utf8 : (status ≡ 4) ↔ ((is_over old ≡ false) × IsNeverUtf8 (old.decoder.held ++ bytes))
+  pub place : status ≡ 4 → (place : ℕ) × RefusesBytes old new bytes place
+  pub over : (status ≡ 7) ↔ (is_over old ≡ true)
+  -- where nothing more is read, nothing changes
+  pub unchanged : is_over old ≡ true → new ≡ old
+  pub only : status ≢ 5 × status ≢ 6 × status ≢ 8 × status ≢ 9
+
+pub record InsertSays (old new : SessionOf) (text : List ℕ) (status : ℕ) : Type 0 where
+  pub done : status ≡ 0 → IsUtf8 text × (new ≡ record old { text = chars text ++ old.text })
+  pub refused : status ≢ 0 → new ≡ old
+  pub not_utf8 : (status ≡ 4) ↔ ((is_over old ≡ false) × ¬ (IsUtf8 text))
+  pub over : (status ≡ 7) ↔ (is_over old ≡ true)
+  pub only : (status ≡ 0) ⊎ (status ≡ 3) ⊎ (status ≡ 4) ⊎ (status ≡ 7)
+
+pub record EndSays (old new : SessionOf) (status : ℕ) : Type 0 where
+  pub done : status ≡ 0 → EndsSession old new
+  pub no_memory : status ≡ 3 → LosesEnd old new
+  pub waiting : (status ≡ 6) ↔ ((is_over old ≡ false) × (old.text ≢ []))
+  pub cut : (status ≡ 5) ↔ ((is_over old ≡ false) × (old.text ≡ []) × (old.decoder.held ≢ []))
+  pub over : (status ≡ 7) ↔ (is_over old ≡ true)
+  -- at those three nothing changes
+  pub unchanged : status ≢ 0 → status ≢ 3 → new ≡ old
+  pub only : (status ≡ 0) ⊎ (status ≡ 3) ⊎ (status ≡ 5) ⊎ (status ≡ 6) ⊎ (status ≡ 7)
+
+-- the next bytes of the records that wait were copied, as many as there was room for, and let go; nothing else changed
+pub record TakeSays (old new : SessionOf) (room out : List ℕ) (n : ℕ) : Type 0 where
+  pub count : n ≡ min (length room) (length (waiting (recorded_by old)))
+  pub copied : out ≡ take n (waiting (recorded_by old)) ++ drop n room
+  pub taken : new ≡ after_session_takes old n
+  -- and it stands where it stood
+  pub stands : StandsOn old new n
+
+-- ---- the same, of a handle that is open or closed
+
+abbrev pub Feeds : Option SessionOf → Option SessionOf → List ℕ → ℕ → Type 0
+Feeds (Some old) (Some new) bytes status = FeedSays old new bytes status
+Feeds None None bytes status = status ≡ 8
+Feeds _ _ bytes status = ⊥
+
+abbrev pub Inserts : Option SessionOf → Option SessionOf → List ℕ → ℕ → Type 0
+Inserts (Some old) (Some new) text status = InsertSays old new text status
+Inserts None None text status = status ≡ 8
+Inserts _ _ text status = ⊥
+
+abbrev pub Ends : Option SessionOf → Option SessionOf → ℕ → Type 0
+Ends (Some old) (Some new) status = EndSays old new status
+Ends None None status = status ≡ 8
+Ends _ _ status = ⊥
+
+abbrev pub Takes : Option SessionOf → Option SessionOf → List ℕ → List ℕ → ℕ → Type 0
+Takes (Some old) (Some new) room out n = TakeSays old new room out n
+Takes None None room out n = (n ≡ 0) × (out ≡ room)
+Takes _ _ room out n = ⊥
+
+-- where the bytes of the last refused piece stop being UTF-8
+abbrev pub place_in : Option ℕ → ℕ
+place_in None = 0
+place_in (Some place) = place
+
+abbrev pub error_place : Option SessionOf → ℕ
+error_place None = 0
+error_place (Some s) = place_in s.error_at
+
+-- whether nothing more is read of the page
+abbrev pub over_in : Option SessionOf → Bool
+over_in None = false
+over_in (Some s) = is_over s

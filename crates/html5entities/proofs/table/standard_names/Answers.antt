@@ -1,8 +1,0 @@
-use Rattle.std.proofs.Common.{◌∙◌, ap}
-use Rattle.std.specs.Option.{is_some}
-use Rattle.html5table.specs.Listed.{listed}
-use Rattle.html5entities.proofs.StandardList.{standard-listed}
-use Rattle.html5entities.proofs.table.standard_names.Goals as goal
-
-pub names_of-requires : goal.names_of-requires
-names_of-requires g c = ap (λ list. is_some (listed list)) c.standard_list.ensures ∙ standard-listed

@@ -1,0 +1,320 @@
+//! A sink that writes what it is sent as records of bytes.
+ghost use Rattle.std.specs.Prelude.{◌≡◌, ◌≢◌, ℕ, Err, false, List, [], ◌∷◌, ◌+◌, ◌/◌, ◌≤◌, ◌++◌, length, take, drop, min, vec_len, string_bytes, IfOk, OnOk, OnErr};
+ghost use Rattle.html5records.specs.Recording.{Recorded, waiting, nothing_recorded, reply_by, added_by, added_by_text, recorded_step, WritesOn, closed_bytes, joined, after_taking};
+ghost use Rattle.html5records.specs.Records.{records_of};
+ghost use Rattle.html5ever_interface.specs.Sink.{Message, stepped};
+ghost use Rattle.html5ever_interface.specs.Token.Told.{End, Text};
+ghost use Rattle.html5ever_interface.specs.Token.{told_by, reply_of};
+
+use crate::records::{is_open_after, is_open_after_text, push_text, push_token};
+use ghost_counts::{Count, Log};
+use html5ever_interface::interface::sink::TokenSink;
+use html5ever_interface::interface::token::{SinkFault, TextFault, Token, TokenSinkResult};
+use html5sinks::pausing::pausing_reply;
+use html5sinks::replies::standard_reply;
+use std::alloc::{AllocError, Allocator, Global};
+use std::marker::Model;
+
+/// How a sink of records replies to tags.
+#[derive(Clone, Copy, Debug, PartialEq, Eq, Default)]
+pub enum Replies {
+    /// To read on, whatever the tag: all that comes after it is markup.
+    None,
+    /// As the standard asks by the tag's element, so that what stands in `script`, `style`, `title` and
+    /// their like is no markup. It never pauses.
+    #[default]
+    Standard,
+    /// As the standard asks, with pauses: after an end tag `script`, and after a start tag `meta` with an
+    /// attribute `charset`.
+    Pausing,
+}
+
+/// What a sink of records answers to the tokenizer.
+#[derive(Clone, Copy, Debug, PartialEq, Eq, Default)]
+pub struct RecordOptions {
+    /// The replies to tags.
+    pub replies: Replies,
+    /// The answer about the current node, at each call.
+    pub foreign: bool,
+}
+
+// The reply to a token by the standard, without pauses.
+fn standard_reply_to<A: Allocator>(token: &Token<A>) -> TokenSinkResult<(), String<A>>
+    ensures { reply_of string_bytes result ≡ reply_by Replies.Standard (told_by token.now) }
+{
+    match token {
+        Token::TagToken(tag) => standard_reply(tag),
+        _ => TokenSinkResult::Continue,
+    }
+}
+
+// The reply to a token.
+fn reply_to<A: Allocator + Copy>(
+    replies: Replies,
+    token: &Token<A>,
+) -> Result<TokenSinkResult<(), String<A>>, AllocError>
+    ensures { IfOk result (λ reply. reply_of string_bytes reply ≡ reply_by replies (told_by token.now)) }
+{
+    match replies {
+        Replies::None => Ok(TokenSinkResult::Continue),
+        Replies::Standard => Ok(standard_reply_to(token)),
+        Replies::Pausing => pausing_reply(token),
+    }
+}
+
+// Appends what a text adds, or nothing.
+fn push_whole_text<A: Allocator>(
+    written: &mut Vec<u8, A>,
+    in_text: bool,
+    text: &[u8],
+) -> Result<(), AllocError>
+    ensures ok { OnOk result (written.new.items ≡ written.old.items ++ added_by_text in_text text.now) }
+    ensures err { OnErr result (written.new.items ≡ written.old.items) }
+{
+    let before = written.len();
+    match push_text(written, in_text, text) {
+        Ok(()) => Ok(()),
+        Err(AllocError) => {
+            written.truncate(before);
+            Err(AllocError)
+        }
+    }
+}
+
+// Appends what a token adds, or nothing.
+fn push_whole_token<A: Allocator>(
+    written: &mut Vec<u8, A>,
+    in_text: bool,
+    token: &Token<A>,
+    line: u64,
+) -> Result<(), AllocError>
+    ensures ok { OnOk result
+        (written.new.items ≡ written.old.items ++ added_by in_text (told_by token.now) line) }
+    ensures err { OnErr result (written.new.items ≡ written.old.items) }
+{
+    let written = written.len();
+    match push_token(written, in_text, token, line) {
+        Ok(()) => Ok(()),
+        Err(AllocError) => {
+            written.truncate(written);
+            Err(AllocError)
+        }
+    }
+}
+
+// Appends what a token adds, and replies to it, or does nothing.
+fn push_and_reply<A: Allocator + Copy>(
+    written: &mut Vec<u8, A>,
+    in_text: bool,
+    replies: Replies,
+    token: &Token<A>,
+    line: u64,
+) -> Result<TokenSinkResult<(), String<A>>, AllocError>
+    ensures ok { OnOk result
+        (written.new.items ≡ written.old.items ++ added_by in_text (told_by token.now) line) }
+    ensures replies { IfOk result
+        (λ reply. reply_of string_bytes reply ≡ reply_by replies (told_by token.now)) }
+    ensures err { OnErr result (written.new.items ≡ written.old.items) }
+{
+    let reply = reply_to(replies, token)?;
+    push_whole_token(written, in_text, token, line)?;
+    Ok(reply)
+}
+
+// What is left of the bytes once so many were skipped.
+fn rest_of<A: Allocator>(written: &Vec<u8, A>, skipped: usize) -> &[u8]
+    requires { skipped ≤ vec_len written.now }
+    ensures { result.now ≡ drop skipped written.now.items }
+{
+    &written[skipped..]
+}
+
+// Lets so many bytes at the front go. What is left moves up.
+fn drop_front<A: Allocator>(written: &mut Vec<u8, A>, count: usize)
+    requires { count ≤ vec_len written.old }
+    ensures { written.new.items ≡ drop count written.old.items }
+{
+    let rest = written.len() - count;
+    written.copy_within(count.., 0);
+    written.truncate(rest);
+}
+
+// Counts so many more bytes as skipped. What is left moves up once more than half is skipped, so that each byte moves
+// at most once for each byte that is skipped.
+fn skip_front<A: Allocator>(written: &mut Vec<u8, A>, skipped: &mut usize, count: usize)
+    requires { skipped.old + count ≤ vec_len written.old }
+    ensures rest { drop skipped.new written.new.items ≡ drop (skipped.old + count) written.old.items }
+    ensures within { skipped.new ≤ vec_len written.new / 2 }
+{
+    *skipped += count;
+    if *skipped > written.len() / 2 {
+        drop_front(written, *skipped);
+        *skipped = 0;
+    }
+}
+
+/// What is written for messages is their records, one after the other. Adjacent texts are one, and an empty text has none.
+/// It is all there once the last text is ended, or at once where the messages end with the end of the input. What was
+/// written before stays in front, and as many bytes of it are taken as before.
+pub fn writes_records()
+    ensures on { (r : Recorded) (M : List Message) → WritesOn r (stepped recorded_step r M) }
+    ensures closed { (r : Recorded) (M : List Message) → r.in_text ≡ false
+        → closed_bytes (stepped recorded_step r M) ≡ r.bytes ++ records_of (joined M) }
+    ensures ended { (r : Recorded) (M N : List Message) (line : ℕ) → r.in_text ≡ false
+        → M ≡ N ++ record { token = End; line = line } ∷ []
+        → (stepped recorded_step r M).bytes ≡ r.bytes ++ records_of (joined M) }
+{}
+
+/// Writes what it is sent as records: a text as it comes, and any other token at once. The bytes wait in the sink until
+/// they are taken. A token whose bytes find no memory, or its reply, is a fault, and leaves none of them.
+#[derive(Drop)]
+pub struct RecordSink<A: Allocator = Global> {
+    written: Vec<u8, A>,
+    // How many bytes of the page were taken.
+    skipped: usize,
+    in_text: bool,
+    replies: Replies,
+    foreign: bool,
+    taken: Log,
+    faults: Count,
+}
+
+impl<A: Allocator> Model for RecordSink<A> {
+    ghost use Rattle.std.specs.Prelude.{◌≤◌, ◌++◌, length, drop};
+    ghost use Rattle.html5records.specs.Recording.{Recording};
+
+    ghost Value = { Recording };
+
+    ghost view = { λ s. record {
+      recorded = record {
+        bytes = s.taken.bytes ++ drop s.skipped s.written.items;
+        taken = length s.taken.bytes;
+        in_text = s.in_text;
+        replies = s.replies;
+        foreign = s.foreign;
+      };
+      faults = s.faults.total;
+    } };
+
+    ghost invariant = { λ s. s.skipped ≤ length s.written.items };
+}
+
+impl<A: Allocator> RecordSink<A> {
+    /// A sink that was sent nothing.
+    pub fn new(alloc: A, options: RecordOptions) -> RecordSink<A>
+        ensures { result ≡ nothing_recorded options.replies options.foreign }
+    {
+        RecordSink {
+            written: Vec::new(alloc),
+            skipped: 0,
+            in_text: false,
+            replies: options.replies,
+            foreign: options.foreign,
+            taken: Log::new(),
+            faults: Count::new(),
+        }
+    }
+
+    /// The bytes that were not taken yet: they go on waiting.
+    pub fn waiting(&self) -> &[u8]
+        ensures waiting { result.now ≡ waiting self.now.recorded }
+        ensures within { self.now.recorded.taken ≤ length self.now.recorded.bytes }
+    {
+        rest_of(&self.written, self.skipped)
+    }
+
+    /// Takes so many bytes of what waits.
+    pub fn skip(&mut self, count: usize)
+        requires { count ≤ length (waiting self.old.recorded) }
+        ensures { self.new ≡ after_taking self.old count }
+    {
+        let front = rest_of(&self.written, self.skipped);
+        self.taken.add(&front[..count]);
+        skip_front(&mut self.written, &mut self.skipped, count);
+    }
+
+    /// Takes as many bytes of what waits as there is room for, and copies them. It answers how many. A record may be cut
+    /// in two: what is left of it comes first at the next call.
+    pub fn take(&mut self, into: &mut [u8]) -> usize
+        ensures count { result ≡ min (length into.old) (length (waiting self.old.recorded)) }
+        ensures copied { into.new ≡ take result (waiting self.old.recorded) ++ drop result into.old }
+        ensures taken { self.new ≡ after_taking self.old result }
+    {
+        let waiting = self.waiting();
+        let count = into.len().min(waiting.len());
+        into[..count].copy_from_slice(&waiting[..count]);
+        self.skip(count);
+        count
+    }
+}
+
+impl<A: Allocator + Copy> TokenSink<Token<A>> for RecordSink<A> {
+    ghost use Rattle.html5records.specs.Recording.{Recorded, recorded_means};
+    ghost use Rattle.html5records.specs.RecordedLaws.{recorded_joins, recorded_empty, recorded_any_line, recorded_keeps_on};
+
+    type Handle = ();
+
+    ghost State = { Recorded };
+
+    ghost means = { recorded_means };
+
+    ghost faults = { λ s. s.faults };
+
+    ghost joins = { recorded_joins };
+
+    ghost empty = { recorded_empty };
+
+    ghost any_line = { recorded_any_line };
+
+    ghost keeps_on = { recorded_keeps_on };
+
+    fn process_token(
+        &mut self,
+        token: Token<A>,
+        line_number: u64,
+    ) -> Result<TokenSinkResult<(), String<A>>, SinkFault> {
+        match push_and_reply(
+            &mut self.written,
+            self.in_text,
+            self.replies,
+            &token,
+            line_number,
+        ) {
+            Ok(reply) => {
+                self.in_text = is_open_after(self.in_text, &token);
+                Ok(reply)
+            }
+            Err(AllocError) => {
+                self.faults.add(1);
+                Err(SinkFault)
+            }
+        }
+    }
+
+    // Writes the text from where it lies. Bytes that find no memory are a fault of the sink.
+    fn process_text(&mut self, _alloc: A, text: &str, _line_number: u64) -> Result<(), TextFault>
+        ensures writes { OnOk result (self.new ≡ record self.old { recorded = recorded_step self.old.recorded (Text text.now) _line_number }) }
+        ensures never_memory { result ≢ Err TextFault.Memory }
+        ensures fault { OnErr result (self.new ≡ record self.old { faults = self.old.faults + 1 }) }
+    {
+        let text = text.as_bytes();
+        match push_whole_text(&mut self.written, self.in_text, text) {
+            Ok(()) => {
+                self.in_text = is_open_after_text(self.in_text, text);
+                Ok(())
+            }
+            Err(AllocError) => {
+                self.faults.add(1);
+                Err(TextFault::Sink)
+            }
+        }
+    }
+
+    fn end(&mut self) -> Result<(), SinkFault> {
+        Ok(())
+    }
+
+    fn adjusted_current_node_present_but_not_in_html_namespace(&self) -> bool {
+        self.foreign
+    }
+}
