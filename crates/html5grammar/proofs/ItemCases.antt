@@ -28,7 +28,6 @@ use Rattle.html5grammar.specs.Items.Item.{OneCharacter, OneLone, OneLoneBefore, 
 use Rattle.html5grammar.specs.Items.Unfinished.{OpenLessThan, OpenSolidus, OpenTag, OpenRaw, OpenSwitch, OpenRawEnd, OpenReference, OpenInstruction, OpenBogus, OpenKeyword, OpenBogusDeclaration, OpenDoctype, OpenCdata, OpenComment}
 use Rattle.html5reading.specs.NormalisedText as normalised_text
 use Rattle.html5grammar.specs.Spelled as spelled
-use Rattle.html5grammar.specs.Tag as one_tag
 use Rattle.html5reading.specs.Characters as characters
 use Rattle.html5reading.specs.Text as text
 use Rattle.html5reading.specs.ErrorText as error_text
@@ -38,17 +37,15 @@ use Rattle.html5reading.specs.Doctype as doctype_words
 use Rattle.html5grammar.specs.Instruction as one_instruction
 use Rattle.html5reading.specs.Instruction as instruction_words
 use Rattle.html5reading.specs.Slice as slice
-use Rattle.html5reading.specs.Reference as references
+use Rattle.html5reading.specs.Reference as reference_words
 use Rattle.markup5ever.specs.NamedReferences as named_references
 use Rattle.html5reading.specs.RawText as raw_text
-use Rattle.html5reading.specs.Tag as tag_words
 use Rattle.html5grammar.specs.Cdata as one_cdata
 use Rattle.html5reading.specs.EndOfInput as end_of_input
 use Rattle.html5reading.specs.Comment as comment_words
 use Rattle.html5grammar.specs.Declarations as declarations
-use Rattle.html5grammar.specs.Anywhere as anywhere
-use Rattle.html5reading.specs.Reading as reading
 use Rattle.markup5ever.specs.NamedReferences.{NamedReference}
+use Rattle.html5grammar.proofs.OnLiterals.{raw_item_on_literals, tag_item_on_literals, doctype_item_on_literals, comment_item_on_literals}
 
 -- a sink that goes on after each tag, with this answer about foreign content
 abbrev sink : Bool → Means (Unit {0}) (Unit {0}) (Unit {0})
@@ -120,11 +117,11 @@ unfolding encode one_instruction.is_written instruction_words.in_instruction one
 instruction = OneInstruction (record { content = codes "xml?"; is_ended = true }) (record { starts = refl; is_instruction = refl; text = refl }) refl
 
 reference : Tells false Data (codes "&not") (codes " x") (Error (codes "Character reference does not end with semicolon") ∷ Text (0xC2 ∷ 0xAC ∷ []) ∷ []) Data
-unfolding encode slice.after_while references.is_undecided named_references.begins_name normalised_text.normalised normalised_text.with_line_feeds normalised_text.without_dropped_first references.reference slice.run_while references.named_reference references.longest_name references.is_ended normalised_text.input_after normalised_text.ends_with_carriage_return normalised_text.line_after
+unfolding encode slice.after_while reference_words.is_undecided named_references.begins_name normalised_text.normalised normalised_text.with_line_feeds normalised_text.without_dropped_first reference_words.reference slice.run_while reference_words.named_reference reference_words.longest_name reference_words.is_ended normalised_text.input_after normalised_text.ends_with_carriage_return normalised_text.line_after
 reference = OneReferenceIn Data (codes "not x") (record { starts = refl; has = refl; decided = refl; text = refl; next = refl })
 
 reference_in_rcdata : Tells false title (codes "&amp;") (codes "b") (Text (codes "&") ∷ []) title
-unfolding encode slice.after_while references.is_undecided named_references.begins_name normalised_text.normalised normalised_text.with_line_feeds normalised_text.without_dropped_first references.reference slice.run_while references.named_reference references.longest_name references.is_ended normalised_text.input_after normalised_text.ends_with_carriage_return normalised_text.line_after
+unfolding encode slice.after_while reference_words.is_undecided named_references.begins_name normalised_text.normalised normalised_text.with_line_feeds normalised_text.without_dropped_first reference_words.reference slice.run_while reference_words.named_reference reference_words.longest_name reference_words.is_ended normalised_text.input_after normalised_text.ends_with_carriage_return normalised_text.line_after
 reference_in_rcdata = OneReferenceIn title (codes "amp;b") (record { starts = refl; has = refl; decided = refl; text = refl; next = refl })
 
 raw_character : Tells false title (codes ">") [] (Text (codes ">") ∷ []) title
@@ -144,7 +141,7 @@ unfolding encode raw_text.kind_of normalised_text.normalised normalised_text.wit
 raw_less_than = OneRawLessThan Rcdata (codes "title") LessThan 98 [] (record { starts = refl; later = refl; stands = refl; is_text = refl; text = refl; next = refl })
 
 raw_letters : Tells false title (codes "</b>") (codes "x") (Text (codes "<") ∷ Text (codes "/") ∷ Text (codes "b") ∷ Text (codes ">") ∷ []) title
-unfolding encode raw_text.kind_of characters.is_letter raw_text.ends_raw_text raw_text.ends_name characters.is_white_space characters.name_bytes characters.shown normalised_text.normalised normalised_text.with_line_feeds normalised_text.without_dropped_first normalised_text.input_after normalised_text.ends_with_carriage_return spelled.spelled_messages characters.is_bad_character normalised_text.line_after raw_text.raw_character raw_text.raw_after
+unfolding raw_item_on_literals
 raw_letters = OneRawLessThan Rcdata (codes "title") (Letters (codes "b")) 62 (codes "x") (record { starts = refl; later = refl; stands = refl; is_text = refl; text = refl; next = refl })
 
 raw_before : Tells false title (codes "<") (codes "&amp;") (Text (codes "<") ∷ []) title
@@ -152,11 +149,11 @@ unfolding encode raw_text.kind_of normalised_text.normalised normalised_text.wit
 raw_before = OneRawLessThanBefore Rcdata (codes "title") LessThan 38 (codes "amp;") (record { starts = refl; later = refl; stands = refl; is_markup = refl; text = refl; next = refl })
 
 raw_end : Tells false title (codes "</Title>") [] (Tag (record { kind = EndTag; name = codes "title"; self_closing = false; attributes = []; had_duplicate_attributes = false }) ∷ []) Data
-unfolding encode raw_text.kind_of characters.is_letter characters.name_bytes characters.shown one_tag.is_written tag_words.in_tag_name characters.is_white_space one_tag.can_follow one_tag.written normalised_text.normalised normalised_text.with_line_feeds normalised_text.without_dropped_first spelled.spelled_messages one_tag.spelled characters.is_bad_character one_tag.spell_parts one_tag.place_after_parts one_tag.repeats one_tag.attributes_with_parts tag_words.end_tag_errors one_tag.kept one_tag.has_repeated normalised_text.line_after anywhere.last_reply reading.last_after
+unfolding raw_item_on_literals
 raw_end = OneRawEnd Rcdata (codes "title") (record { kind = EndTag; first = 84; rest = codes "itle"; parts = [] }) (record { starts = refl; ends = refl; is_tag = refl; text = refl })
 
 tag_with_reference : Tells false Data (codes "</a b=" ++ (34 ∷ codes "x&amp;y" ++ (34 ∷ codes ">"))) [] (Error (codes "Attributes on an end tag") ∷ Tag (record { kind = EndTag; name = codes "a"; self_closing = false; attributes = attribute (codes "b") (codes "x&y") ∷ []; had_duplicate_attributes = false }) ∷ []) Data
-unfolding encode one_tag.is_written characters.is_letter one_tag.can_follow characters.is_white_space one_tag.begins_attribute one_tag.is_in_value one_tag.written normalised_text.normalised normalised_text.with_line_feeds normalised_text.without_dropped_first spelled.spelled_messages one_tag.spelled characters.is_bad_character one_tag.spell_parts tag_words.place_error tag_words.first_error tag_words.is_odd_at_name tag_words.is_odd_in_name one_tag.repeats one_tag.spell_run references.reference slice.run_while references.is_undecided named_references.begins_name references.named_reference references.longest_name references.is_ended one_tag.place_after_parts one_tag.attributes_with_parts tag_words.has_attribute tag_words.end_tag_errors one_tag.kept normalised_text.line_after characters.name_bytes one_tag.decoded one_tag.has_repeated characters.shown characters.value_bytes tag_words.in_tag_name tag_words.in_attribute_name anywhere.last_reply reading.last_after
+unfolding tag_item_on_literals
 tag_with_reference = OneTag (record { kind = EndTag; first = 97; rest = []; parts = Blank 32 ∷ Attribute 98 [] [] [] (InDoubleQuotes (codes "x&amp;y")) ∷ [] }) (record { starts = refl; is_tag = refl; text = refl })
 
 section : Tells true Data (codes "<![CDATA[a]]>") [] (Text (codes "a") ∷ []) Data
@@ -172,7 +169,7 @@ unfolding encode normalised_text.normalised normalised_text.with_line_feeds norm
 open_solidus = OpenSolidus refl refl
 
 open_tag : TellsOpen false Data (codes "<a b=" ++ (34 ∷ codes "x&amp;")) [] (Error (codes "Unexpected EOF") ∷ End ∷ [])
-unfolding encode one_tag.is_open_written characters.is_letter one_tag.can_follow characters.is_white_space one_tag.place_after_parts one_tag.begins_attribute one_tag.is_in_value one_tag.open_written normalised_text.normalised normalised_text.with_line_feeds normalised_text.without_dropped_first spelled.spelled_messages characters.is_bad_character one_tag.spell_parts tag_words.place_error tag_words.first_error tag_words.is_odd_at_name tag_words.is_odd_in_name one_tag.repeats one_tag.attributes_with_parts one_tag.spell_open_run slice.after_while references.is_undecided named_references.begins_name one_tag.errors_at_end references.reference slice.run_while references.named_reference references.longest_name references.is_ended error_text.saw_end normalised_text.line_after normalised_text.input_after
+unfolding tag_item_on_literals
 open_tag = OpenTag (record { kind = StartTag; first = 97; rest = []; parts = Blank 32 ∷ [] }) (Some (record { first = 98; name = []; space = []; afterwards = []; kind = DoubleQuoted; run = codes "x&amp;" })) (record { starts = refl; is_open = refl; text = refl })
 
 open_letters : TellsOpen false title (codes "</tit") [] (Text (codes "<") ∷ Text (codes "/") ∷ Text (codes "t") ∷ Text (codes "i") ∷ Text (codes "t") ∷ End ∷ [])
@@ -184,11 +181,11 @@ unfolding encode characters.is_letter normalised_text.normalised normalised_text
 open_switch = OpenSwitch NoDash (codes "script") 115 (codes "cr") (record { starts = refl; are_letters = refl; text = refl })
 
 open_raw_end : TellsOpen false title (codes "</title a") [] (Error (codes "Unexpected EOF") ∷ End ∷ [])
-unfolding encode raw_text.kind_of characters.is_letter characters.name_bytes characters.shown one_tag.is_open_written tag_words.in_tag_name characters.is_white_space one_tag.can_follow one_tag.begins_attribute one_tag.place_after_parts one_tag.open_written normalised_text.normalised normalised_text.with_line_feeds normalised_text.without_dropped_first spelled.spelled_messages characters.is_bad_character one_tag.spell_parts tag_words.place_error tag_words.first_error tag_words.is_odd_at_name tag_words.is_odd_in_name one_tag.repeats error_text.saw_end normalised_text.line_after normalised_text.input_after
+unfolding raw_item_on_literals
 open_raw_end = OpenRawEnd Rcdata (codes "title") (record { kind = EndTag; first = 116; rest = codes "itle"; parts = Blank 32 ∷ Name 97 [] ∷ [] }) None (record { starts = refl; ends = refl; has_parts = refl; is_open = refl; text = refl })
 
 open_reference : TellsOpen false Data (codes "&am") [] (Text (codes "&") ∷ Text (codes "a") ∷ Text (codes "m") ∷ End ∷ [])
-unfolding encode slice.after_while references.is_undecided named_references.begins_name normalised_text.normalised normalised_text.with_line_feeds normalised_text.without_dropped_first references.reference references.named_reference references.longest_name references.no_name normalised_text.line_after normalised_text.input_after slice.run_while
+unfolding encode slice.after_while reference_words.is_undecided named_references.begins_name normalised_text.normalised normalised_text.with_line_feeds normalised_text.without_dropped_first reference_words.reference reference_words.named_reference reference_words.longest_name reference_words.no_name normalised_text.line_after normalised_text.input_after slice.run_while
 open_reference = OpenReference Data (codes "am") (record { starts = refl; has = refl; undecided = refl; text = refl })
 
 open_instruction : TellsOpen false Data (codes "<?x") [] (Error (codes "Unexpected EOF") ∷ Instruction (codes "x") ∷ End ∷ [])
@@ -208,11 +205,11 @@ unfolding encode declarations.may_begin comment_words.begins_keyword comment_wor
 open_bogus_declaration = OpenBogusDeclaration (codes "x") (record { starts = refl; opens = refl; decided = refl; within = refl; text = refl })
 
 open_doctype : TellsOpen false Data (codes "<!DOCTYPE a system " ++ (34 ∷ codes "b")) [] (Error (codes "Unexpected EOF") ∷ Doctype (record { name = Some (codes "a"); public_id = None; system_id = Some (codes "b"); force_quirks = true }) ∷ End ∷ [])
-unfolding encode one_doctype.is_written characters.is_white_space doctype_words.in_doctype_name doctype_words.in_identifier normalised_text.normalised normalised_text.with_line_feeds normalised_text.without_dropped_first declarations.open_doctype_messages spelled.spelled_messages characters.is_bad_character declarations.messages_after_open_name declarations.before_end error_text.saw_end normalised_text.line_after characters.name_bytes characters.value_bytes normalised_text.input_after characters.shown
+unfolding doctype_item_on_literals
 open_doctype = OpenDoctype (record { word = codes "DOCTYPE"; space = codes " "; content = Named 97 [] (codes " ") (SystemKeyword (codes "system") (codes " ") (Unclosed DoubleQuotes (codes "b"))) }) (record { starts = refl; is_doctype = refl; text = refl })
 
 open_doctype_keyword : TellsOpen false Data (codes "<!DOCTYPE a pub") [] (Error (codes "Bad character") ∷ Doctype (record { name = Some (codes "a"); public_id = None; system_id = None; force_quirks = true }) ∷ End ∷ [])
-unfolding encode one_doctype.is_written characters.is_white_space doctype_words.in_doctype_name doctype_words.in_skipped_rest normalised_text.normalised normalised_text.with_line_feeds normalised_text.without_dropped_first declarations.open_doctype_messages spelled.spelled_messages characters.is_bad_character declarations.messages_after_open_name doctype_words.begins_doctype_keyword error_text.saw normalised_text.line_after characters.name_bytes normalised_text.input_after characters.shown
+unfolding doctype_item_on_literals
 open_doctype_keyword = OpenDoctype (record { word = codes "DOCTYPE"; space = codes " "; content = Named 97 [] (codes " ") (NoKeyword (codes "pub")) }) (record { starts = refl; is_doctype = refl; text = refl })
 
 open_section : TellsOpen false Cdata (codes "a") [] (Text (codes "a") ∷ Error (codes "Unexpected EOF") ∷ End ∷ [])
@@ -220,5 +217,5 @@ unfolding encode one_cdata.is_written one_cdata.is_piece one_comment.occurs one_
 open_section = OpenCdata (record { has_opening = false; pieces = []; last = codes "a"; is_ended = false }) (record { starts = refl; is_cdata = refl; text = refl }) refl
 
 open_comment : TellsOpen false Data (codes "<!--x-") [] (Error (codes "Unexpected EOF") ∷ Comment (codes "x") ∷ End ∷ [])
-unfolding encode one_comment.is_content one_comment.occurs normalised_text.normalised normalised_text.with_line_feeds normalised_text.without_dropped_first spelled.spelled_messages characters.is_bad_character one_comment.spell_content one_comment.after_mark_error error_text.saw_end normalised_text.line_after comment_words.comment_content normalised_text.input_after characters.value_bytes characters.shown
+unfolding comment_item_on_literals
 open_comment = OpenComment (codes "x-") (record { starts = refl; is_content = refl; text = refl })

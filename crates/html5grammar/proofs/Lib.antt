@@ -16,4 +16,5 @@ pub mod Cdata
 pub mod RawText
 pub mod Soundness
 pub mod Completeness
+pub mod OnLiterals
 pub mod ItemCases

@@ -11,18 +11,8 @@ use Rattle.html5reading.specs.Start.{Start, Rules}
 use Rattle.html5reading.specs.Start.Mode.{Data}
 use Rattle.html5reading.specs.Start.Open.{Between}
 use Rattle.html5reading.specs.Tag.{attribute}
-use lib.Utf8.{encode}
-use Rattle.html5ever_interface.specs.Sink.{stepped}
-use Rattle.html5reading.specs.Characters.{is_bad_character, is_letter, is_white_space, name_bytes, shown, value_bytes}
-use Rattle.html5reading.specs.Cutting.{rest_of, next_slice, slice_at}
-use Rattle.html5reading.specs.EndOfInput.{state_at, late_at_end_of, open_at_end_of, told_at_end_of}
-use Rattle.html5reading.specs.ErrorText.{bad_character, saw, saw_end}
-use Rattle.html5reading.specs.NormalisedText.{normalised, line_after, with_line_feeds, without_dropped_first}
-use Rattle.html5reading.specs.Reading.{read, read_from, here, brought, last_after, events_at, late_events, end_events}
-use Rattle.html5reading.specs.Slice.{after_run, run_of}
-use Rattle.html5reading.specs.Tag.{attribute_after_first, after_attribute_name, after_name_and_space, after_quoted, after_tag_name, after_unquoted, closing, duplicate_error, end_tag_errors, first_error, has_attribute, in_attribute_name, in_quoted, in_tag_name, in_unquoted, is_odd_at_name, is_odd_in_name, is_odd_in_unquoted, part, place_error, quoted_value, repeats_attribute, tag_name, unquoted_error, unquoted_value, value, value_after_space, value_or_next, with_last_attribute}
-use Rattle.html5reading.specs.Text.{after_solidus, after_less_than, data_text, plain_text}
 use Rattle.markup5ever.specs.Names.{AttributeOf}
+use Rattle.html5reading.proofs.OnLiterals.{reading_on_literals, tag_on_literals}
 
 abbrev start : Start
 start = record { opened = Between Data; last_start_tag = []; input = record { line = 1; after_carriage_return = false; drops_byte_order_mark = true } }
@@ -43,65 +33,65 @@ abbrev tag : TagKind → List ℕ → List AttributeOf → Bool → Bool → Tol
 tag kind name attributes self_closing duplicates = Tag (record { kind = kind; name = name; self_closing = self_closing; attributes = attributes; had_duplicate_attributes = duplicates })
 
 div : told (codes "<DIV CLASS=a class=b/>") ≡ Error (codes "Duplicate attribute") ∷ tag StartTag (codes "div") (attribute (codes "class") (codes "a") ∷ []) false true ∷ End ∷ []
-unfolding reading encode stepped is_bad_character is_letter is_white_space name_bytes shown value_bytes rest_of next_slice slice_at state_at told_at_end_of bad_character saw saw_end normalised with_line_feeds without_dropped_first read read_from here brought last_after events_at late_events late_at_end_of open_at_end_of end_events line_after after_run run_of attribute_after_first after_attribute_name after_name_and_space after_quoted after_tag_name after_unquoted closing duplicate_error end_tag_errors first_error has_attribute in_attribute_name in_quoted in_tag_name in_unquoted is_odd_at_name is_odd_in_name is_odd_in_unquoted part place_error quoted_value repeats_attribute tag_name unquoted_error unquoted_value value value_after_space value_or_next with_last_attribute after_solidus after_less_than data_text plain_text
+unfolding reading_on_literals tag_on_literals
 div = refl
 
 end_tag : told (codes "</a b/>") ≡ Error (codes "Attributes on an end tag") ∷ Error (codes "Self-closing end tag") ∷ tag EndTag (codes "a") (attribute (codes "b") [] ∷ []) true false ∷ End ∷ []
-unfolding reading encode stepped is_bad_character is_letter is_white_space name_bytes shown value_bytes rest_of next_slice slice_at state_at told_at_end_of bad_character saw saw_end normalised with_line_feeds without_dropped_first read read_from here brought last_after events_at late_events late_at_end_of open_at_end_of end_events line_after after_run run_of attribute_after_first after_attribute_name after_name_and_space after_quoted after_tag_name after_unquoted closing duplicate_error end_tag_errors first_error has_attribute in_attribute_name in_quoted in_tag_name in_unquoted is_odd_at_name is_odd_in_name is_odd_in_unquoted part place_error quoted_value repeats_attribute tag_name unquoted_error unquoted_value value value_after_space value_or_next with_last_attribute after_solidus after_less_than data_text plain_text
+unfolding reading_on_literals tag_on_literals
 end_tag = refl
 
 equals : told (codes "<a b=>") ≡ Error (codes "Saw = in state BeforeAttributeValue") ∷ tag StartTag (codes "a") (attribute (codes "b") [] ∷ []) false false ∷ End ∷ []
-unfolding reading encode stepped is_bad_character is_letter is_white_space name_bytes shown value_bytes rest_of next_slice slice_at state_at told_at_end_of bad_character saw saw_end normalised with_line_feeds without_dropped_first read read_from here brought last_after events_at late_events late_at_end_of open_at_end_of end_events line_after after_run run_of attribute_after_first after_attribute_name after_name_and_space after_quoted after_tag_name after_unquoted closing duplicate_error end_tag_errors first_error has_attribute in_attribute_name in_quoted in_tag_name in_unquoted is_odd_at_name is_odd_in_name is_odd_in_unquoted part place_error quoted_value repeats_attribute tag_name unquoted_error unquoted_value value value_after_space value_or_next with_last_attribute after_solidus after_less_than data_text plain_text
+unfolding reading_on_literals tag_on_literals
 equals = refl
 
 quoted : told (codes "<a b=\"1\"c='2'c>") ≡ Error (codes "Saw c in state AfterAttributeValueQuoted") ∷ Error (codes "Saw c in state AfterAttributeValueQuoted") ∷ Error (codes "Duplicate attribute") ∷ tag StartTag (codes "a") (attribute (codes "b") (codes "1") ∷ attribute (codes "c") (codes "2") ∷ []) false true ∷ End ∷ []
-unfolding reading encode stepped is_bad_character is_letter is_white_space name_bytes shown value_bytes rest_of next_slice slice_at state_at told_at_end_of bad_character saw saw_end normalised with_line_feeds without_dropped_first read read_from here brought last_after events_at late_events late_at_end_of open_at_end_of end_events line_after after_run run_of attribute_after_first after_attribute_name after_name_and_space after_quoted after_tag_name after_unquoted closing duplicate_error end_tag_errors first_error has_attribute in_attribute_name in_quoted in_tag_name in_unquoted is_odd_at_name is_odd_in_name is_odd_in_unquoted part place_error quoted_value repeats_attribute tag_name unquoted_error unquoted_value value value_after_space value_or_next with_last_attribute after_solidus after_less_than data_text plain_text
+unfolding reading_on_literals tag_on_literals
 quoted = refl
 
 less : told (codes "<\n") ≡ Error (codes "Saw \n in state TagOpen") ∷ Text (codes "<") ∷ Text (codes "\n") ∷ End ∷ []
-unfolding reading encode stepped is_bad_character is_letter is_white_space name_bytes shown value_bytes rest_of next_slice slice_at state_at told_at_end_of bad_character saw saw_end normalised with_line_feeds without_dropped_first read read_from here brought last_after events_at late_events late_at_end_of open_at_end_of end_events line_after after_run run_of attribute_after_first after_attribute_name after_name_and_space after_quoted after_tag_name after_unquoted closing duplicate_error end_tag_errors first_error has_attribute in_attribute_name in_quoted in_tag_name in_unquoted is_odd_at_name is_odd_in_name is_odd_in_unquoted part place_error quoted_value repeats_attribute tag_name unquoted_error unquoted_value value value_after_space value_or_next with_last_attribute after_solidus after_less_than data_text plain_text
+unfolding reading_on_literals tag_on_literals
 less = refl
 
 solidus : told (codes "<a/b=1>") ≡ Error (codes "Saw b in state SelfClosingStartTag") ∷ tag StartTag (codes "a") (attribute (codes "b") (codes "1") ∷ []) false false ∷ End ∷ []
-unfolding reading encode stepped is_bad_character is_letter is_white_space name_bytes shown value_bytes rest_of next_slice slice_at state_at told_at_end_of bad_character saw saw_end normalised with_line_feeds without_dropped_first read read_from here brought last_after events_at late_events late_at_end_of open_at_end_of end_events line_after after_run run_of attribute_after_first after_attribute_name after_name_and_space after_quoted after_tag_name after_unquoted closing duplicate_error end_tag_errors first_error has_attribute in_attribute_name in_quoted in_tag_name in_unquoted is_odd_at_name is_odd_in_name is_odd_in_unquoted part place_error quoted_value repeats_attribute tag_name unquoted_error unquoted_value value value_after_space value_or_next with_last_attribute after_solidus after_less_than data_text plain_text
+unfolding reading_on_literals tag_on_literals
 solidus = refl
 
 equals_first : told (codes "<a =x =y>") ≡ Error (codes "Saw = in state BeforeAttributeName") ∷ tag StartTag (codes "a") (attribute (codes "=x") (codes "y") ∷ []) false false ∷ End ∷ []
-unfolding reading encode stepped is_bad_character is_letter is_white_space name_bytes shown value_bytes rest_of next_slice slice_at state_at told_at_end_of bad_character saw saw_end normalised with_line_feeds without_dropped_first read read_from here brought last_after events_at late_events late_at_end_of open_at_end_of end_events line_after after_run run_of attribute_after_first after_attribute_name after_name_and_space after_quoted after_tag_name after_unquoted closing duplicate_error end_tag_errors first_error has_attribute in_attribute_name in_quoted in_tag_name in_unquoted is_odd_at_name is_odd_in_name is_odd_in_unquoted part place_error quoted_value repeats_attribute tag_name unquoted_error unquoted_value value value_after_space value_or_next with_last_attribute after_solidus after_less_than data_text plain_text
+unfolding reading_on_literals tag_on_literals
 equals_first = refl
 
 at_nul : told (codes "<A X='1\0' x=2") ≡ Error (codes "Saw \0 in state AttributeValue(SingleQuoted)") ∷ Error (codes "Saw EOF in state AttributeValue(Unquoted)") ∷ End ∷ []
-unfolding reading encode stepped is_bad_character is_letter is_white_space name_bytes shown value_bytes rest_of next_slice slice_at state_at told_at_end_of bad_character saw saw_end normalised with_line_feeds without_dropped_first read read_from here brought last_after events_at late_events late_at_end_of open_at_end_of end_events line_after after_run run_of attribute_after_first after_attribute_name after_name_and_space after_quoted after_tag_name after_unquoted closing duplicate_error end_tag_errors first_error has_attribute in_attribute_name in_quoted in_tag_name in_unquoted is_odd_at_name is_odd_in_name is_odd_in_unquoted part place_error quoted_value repeats_attribute tag_name unquoted_error unquoted_value value value_after_space value_or_next with_last_attribute after_solidus after_less_than data_text plain_text
+unfolding reading_on_literals tag_on_literals
 at_nul = refl
 
 data_nul : told (codes "a\0b") ≡ Text (codes "a") ∷ Error (codes "Saw \0 in state Data") ∷ Null ∷ Text (codes "b") ∷ End ∷ []
-unfolding reading encode stepped is_bad_character is_letter is_white_space name_bytes shown value_bytes rest_of next_slice slice_at state_at told_at_end_of bad_character saw saw_end normalised with_line_feeds without_dropped_first read read_from here brought last_after events_at late_events late_at_end_of open_at_end_of end_events line_after after_run run_of attribute_after_first after_attribute_name after_name_and_space after_quoted after_tag_name after_unquoted closing duplicate_error end_tag_errors first_error has_attribute in_attribute_name in_quoted in_tag_name in_unquoted is_odd_at_name is_odd_in_name is_odd_in_unquoted part place_error quoted_value repeats_attribute tag_name unquoted_error unquoted_value value value_after_space value_or_next with_last_attribute after_solidus after_less_than data_text plain_text
+unfolding reading_on_literals tag_on_literals
 data_nul = refl
 
 nothing : told (codes "</>x") ≡ Error (codes "Saw > in state EndTagOpen") ∷ Text (codes "x") ∷ End ∷ []
-unfolding reading encode stepped is_bad_character is_letter is_white_space name_bytes shown value_bytes rest_of next_slice slice_at state_at told_at_end_of bad_character saw saw_end normalised with_line_feeds without_dropped_first read read_from here brought last_after events_at late_events late_at_end_of open_at_end_of end_events line_after after_run run_of attribute_after_first after_attribute_name after_name_and_space after_quoted after_tag_name after_unquoted closing duplicate_error end_tag_errors first_error has_attribute in_attribute_name in_quoted in_tag_name in_unquoted is_odd_at_name is_odd_in_name is_odd_in_unquoted part place_error quoted_value repeats_attribute tag_name unquoted_error unquoted_value value value_after_space value_or_next with_last_attribute after_solidus after_less_than data_text plain_text
+unfolding reading_on_literals tag_on_literals
 nothing = refl
 
 duplicate_last : told (codes "<a b b/\">") ≡ Error (codes "Saw \" in state SelfClosingStartTag") ∷ Error (codes "Saw \" in state BeforeAttributeName") ∷ Error (codes "Duplicate attribute") ∷ tag StartTag (codes "a") (attribute (codes "b") [] ∷ attribute (codes "\"") [] ∷ []) false true ∷ End ∷ []
-unfolding reading encode stepped is_bad_character is_letter is_white_space name_bytes shown value_bytes rest_of next_slice slice_at state_at told_at_end_of bad_character saw saw_end normalised with_line_feeds without_dropped_first read read_from here brought last_after events_at late_events late_at_end_of open_at_end_of end_events line_after after_run run_of attribute_after_first after_attribute_name after_name_and_space after_quoted after_tag_name after_unquoted closing duplicate_error end_tag_errors first_error has_attribute in_attribute_name in_quoted in_tag_name in_unquoted is_odd_at_name is_odd_in_name is_odd_in_unquoted part place_error quoted_value repeats_attribute tag_name unquoted_error unquoted_value value value_after_space value_or_next with_last_attribute after_solidus after_less_than data_text plain_text
+unfolding reading_on_literals tag_on_literals
 duplicate_last = refl
 
 line_of_break : lines (codes "<a b=\n'c'>") ≡ 2 ∷ 2 ∷ []
-unfolding reading encode stepped is_bad_character is_letter is_white_space name_bytes shown value_bytes rest_of next_slice slice_at state_at told_at_end_of bad_character saw saw_end normalised with_line_feeds without_dropped_first read read_from here brought last_after events_at late_events late_at_end_of open_at_end_of end_events line_after after_run run_of attribute_after_first after_attribute_name after_name_and_space after_quoted after_tag_name after_unquoted closing duplicate_error end_tag_errors first_error has_attribute in_attribute_name in_quoted in_tag_name in_unquoted is_odd_at_name is_odd_in_name is_odd_in_unquoted part place_error quoted_value repeats_attribute tag_name unquoted_error unquoted_value value value_after_space value_or_next with_last_attribute after_solidus after_less_than data_text plain_text
+unfolding reading_on_literals tag_on_literals
 line_of_break = refl
 
 exact_carry : exact (codes "<\u{1}") ≡ Error (codes "Bad character \u{1}") ∷ Error (codes "Bad character") ∷ Text (codes "<") ∷ Text (codes "\u{1}") ∷ End ∷ []
-unfolding reading encode stepped is_bad_character is_letter is_white_space name_bytes shown value_bytes rest_of next_slice slice_at state_at told_at_end_of bad_character saw saw_end normalised with_line_feeds without_dropped_first read read_from here brought last_after events_at late_events late_at_end_of open_at_end_of end_events line_after after_run run_of attribute_after_first after_attribute_name after_name_and_space after_quoted after_tag_name after_unquoted closing duplicate_error end_tag_errors first_error has_attribute in_attribute_name in_quoted in_tag_name in_unquoted is_odd_at_name is_odd_in_name is_odd_in_unquoted part place_error quoted_value repeats_attribute tag_name unquoted_error unquoted_value value value_after_space value_or_next with_last_attribute after_solidus after_less_than data_text plain_text
+unfolding reading_on_literals tag_on_literals
 exact_carry = refl
 
 all_at_end : told (codes "</a b b/>") ≡ Error (codes "Duplicate attribute") ∷ Error (codes "Attributes on an end tag") ∷ Error (codes "Self-closing end tag") ∷ tag EndTag (codes "a") (attribute (codes "b") [] ∷ []) true true ∷ End ∷ []
-unfolding reading encode stepped is_bad_character is_letter is_white_space name_bytes shown value_bytes rest_of next_slice slice_at state_at told_at_end_of bad_character saw saw_end normalised with_line_feeds without_dropped_first read read_from here brought last_after events_at late_events late_at_end_of open_at_end_of end_events line_after after_run run_of attribute_after_first after_attribute_name after_name_and_space after_quoted after_tag_name after_unquoted closing duplicate_error end_tag_errors first_error has_attribute in_attribute_name in_quoted in_tag_name in_unquoted is_odd_at_name is_odd_in_name is_odd_in_unquoted part place_error quoted_value repeats_attribute tag_name unquoted_error unquoted_value value value_after_space value_or_next with_last_attribute after_solidus after_less_than data_text plain_text
+unfolding reading_on_literals tag_on_literals
 all_at_end = refl
 
 exact_unquoted : exact (codes "<a b==>") ≡ Error (codes "Bad character") ∷ tag StartTag (codes "a") (attribute (codes "b") (codes "=") ∷ []) false false ∷ End ∷ []
-unfolding reading encode stepped is_bad_character is_letter is_white_space name_bytes shown value_bytes rest_of next_slice slice_at state_at told_at_end_of bad_character saw saw_end normalised with_line_feeds without_dropped_first read read_from here brought last_after events_at late_events late_at_end_of open_at_end_of end_events line_after after_run run_of attribute_after_first after_attribute_name after_name_and_space after_quoted after_tag_name after_unquoted closing duplicate_error end_tag_errors first_error has_attribute in_attribute_name in_quoted in_tag_name in_unquoted is_odd_at_name is_odd_in_name is_odd_in_unquoted part place_error quoted_value repeats_attribute tag_name unquoted_error unquoted_value value value_after_space value_or_next with_last_attribute after_solidus after_less_than data_text plain_text
+unfolding reading_on_literals tag_on_literals
 exact_unquoted = refl
 
 after_space : told (codes "<a b 'c=d >") ≡ Error (codes "Saw ' in state AfterAttributeName") ∷ tag StartTag (codes "a") (attribute (codes "b") [] ∷ attribute (codes "'c") (codes "d") ∷ []) false false ∷ End ∷ []
-unfolding reading encode stepped is_bad_character is_letter is_white_space name_bytes shown value_bytes rest_of next_slice slice_at state_at told_at_end_of bad_character saw saw_end normalised with_line_feeds without_dropped_first read read_from here brought last_after events_at late_events late_at_end_of open_at_end_of end_events line_after after_run run_of attribute_after_first after_attribute_name after_name_and_space after_quoted after_tag_name after_unquoted closing duplicate_error end_tag_errors first_error has_attribute in_attribute_name in_quoted in_tag_name in_unquoted is_odd_at_name is_odd_in_name is_odd_in_unquoted part place_error quoted_value repeats_attribute tag_name unquoted_error unquoted_value value value_after_space value_or_next with_last_attribute after_solidus after_less_than data_text plain_text
+unfolding reading_on_literals tag_on_literals
 after_space = refl

@@ -1,5 +1,5 @@
 -- What the machine tells of a text, with the lines that it counts.
-use Rattle.std.proofs.Common.{◌≡◌, ℕ, Bool, false, List, [], ◌∷◌, ◌++◌, refl, ap, sym, ◌∙◌}
+use Rattle.std.proofs.Common.{◌≡◌, ℕ, Bool, false, List, [], ◌∷◌, ◌++◌, refl, ap, sym, ◌∙◌, ⊤}
 use Rattle.std.proofs.Math.Bool.{and-false}
 use Rattle.std.proofs.lemmas.Bool.{false≢true, false_from_ne_true}
 use Rattle.std.specs.Cmp.Lexicographic.{same_text}
@@ -106,9 +106,22 @@ brought-unasked rules foreign other held c h =
 
 -- what is open where a slice has no more
 
+-- the rests of slices: what the next answer unfolds
+rests-of_tags : ⊤
+unfolding rest_of tag_name after_tag_name attribute_after_first after_attribute_name after_name_and_space value_or_next value_after_space value quoted_value after_quoted unquoted_value after_unquoted after_less_than after_solidus after_raw_less_than end_name after_end_name after_mark after_mark_and_dash switch after_switch
+rests-of_tags = tt
+
+rests-of_comments : ⊤
+unfolding declaration cdata comment bogus_comment after_bogus_comment instruction after_instruction
+rests-of_comments = tt
+
+rests-of_doctypes : ⊤
+unfolding doctype before_doctype_name after_word_and_space doctype_name after_doctype_name after_doctype_name_and_space keyword_or_end doctype_keyword after_keyword identifier_after_space after_keyword_and_space identifier after_in_identifier between_identifiers after_space_between skipped_rest after_skipped_rest reference_text after_held run_while after_while run_of after_run
+rests-of_doctypes = tt
+
 -- before an empty text what is open stays open
 pub rest_of-nil : (rules : Rules) (opened : Open) → open_after (rest_of rules opened []).afterwards ≡ opened
-unfolding rest_of tag_name after_tag_name attribute_after_first after_attribute_name after_name_and_space value_or_next value_after_space value quoted_value after_quoted unquoted_value after_unquoted after_less_than after_solidus after_raw_less_than end_name after_end_name after_mark after_mark_and_dash switch after_switch declaration cdata comment bogus_comment after_bogus_comment instruction after_instruction doctype before_doctype_name after_word_and_space doctype_name after_doctype_name after_doctype_name_and_space keyword_or_end doctype_keyword after_keyword identifier_after_space after_keyword_and_space identifier after_in_identifier between_identifiers after_space_between skipped_rest after_skipped_rest reference_text after_held run_while after_while run_of after_run
+unfolding rests-of_tags rests-of_comments rests-of_doctypes
 rest_of-nil rules (Between mode) = refl
 rest_of-nil rules LessThan = refl
 rest_of-nil rules LessThanSolidus = refl
