@@ -4,9 +4,9 @@ ghost use Rattle.html5c.specs.Said.{state_said, replies_said, options_by};
 ghost use Rattle.html5ever_interface.specs.Options.{options_of};
 ghost use Rattle.html5feed.specs.Starting.{CanStart};
 
-use html5records::record_sink::{RecordOptions, Replies};
 use html5ever::tokenizer::TokenizerOpts;
 use html5ever_interface::states::{RawKind, State};
+use html5records::record_sink::{RecordOptions, Replies};
 use std::alloc::Global;
 
 /// How a page is to be read. Zeros are a page from its start, with the standard's replies.

@@ -7,7 +7,7 @@ use Rattle.std.proofs.lemmas.Bool.{false≢true}
 use Rattle.markup5ever.proofs.NameOrder.{bytes_eq-same}
 use Rattle.html5ever_interface.specs.Token.{Told, Reply}
 use Rattle.html5ever_interface.specs.Token.Reply.{KeepOn}
-use Rattle.html5sinks.specs.Replies.{raw_text_in, standard_reply_to_start}
+use Rattle.html5sinks.specs.Replies.{FollowsStandard, raw_text_in, standard_reply_to_start}
 use Rattle.html5write.specs.Pieces.{Piece, can_write}
 use Rattle.html5write.specs.Pieces.Piece.{TextPiece, StartTagPiece, EndTagPiece, CommentPiece}
 use Rattle.html5write.specs.Told.{KeepsOn, KeepsOnAfterPiece, start_tag_told, end_tag_told}
@@ -16,7 +16,6 @@ use Rattle.html5policy.specs.Policy.{PolicyOf, is_allowed}
 use Rattle.html5policy.specs.Rules.{IsSound}
 use Rattle.html5policy.proofs.Soundness.{allowed-shows}
 use Rattle.html5cleaner.specs.Allowed.{is_allowed_piece, is_clean, is_written_attribute}
-use Rattle.html5cleaner.specs.Reading.{FollowsStandard}
 
 pub and-left : (a b : Bool) → (a && b) ≡ true → a ≡ true
 and-left true b both = refl

@@ -1,12 +1,10 @@
 -- How a cleaned page is read.
-use Rattle.std.specs.Prelude.{◌≡◌, ℕ, Bool, true, false, not, List, ◌&&◌}
+use Rattle.std.specs.Prelude.{ℕ, Bool, true, false, not, List, ◌&&◌}
 use Rattle.std.specs.List.{list_all}
-use Rattle.html5ever_interface.specs.Token.{Told, TagOf, Reply}
+use Rattle.html5ever_interface.specs.Token.{Told}
 use Rattle.html5ever_interface.specs.Token.Told.{Text, Tag, End}
-use Rattle.html5ever_interface.specs.Token.Reply.{KeepOn}
 use Rattle.html5ever_interface.specs.declared.interface.token.TagKind.{TagKind}
 use Rattle.html5ever_interface.specs.declared.interface.token.TagKind.TheVariants.{StartTag, EndTag}
-use Rattle.html5sinks.specs.Replies.{standard_reply}
 use Rattle.markup5ever.specs.Names.{AttributeOf}
 use Rattle.html5policy.specs.Policy.{PolicyOf, is_allowed, is_written}
 use Rattle.html5elements.specs.Elements.{is_void}
@@ -26,7 +24,3 @@ is_allowed_token policy (Text text) = true
 is_allowed_token policy (Tag tag) = is_allowed_tag policy tag.kind tag.name tag.attributes
 is_allowed_token policy End = true
 is_allowed_token policy other = false
-
--- a sink that keeps on after each tag after which the standard's elements ask for nothing else
-abbrev pub FollowsStandard : {S H : Type 0} → (S → Told → ℕ → Reply H) → Type 0
-FollowsStandard {S = S} reply = (s : S) (tag : TagOf) (line : ℕ) → standard_reply tag ≡ KeepOn → reply s (Tag tag) line ≡ KeepOn

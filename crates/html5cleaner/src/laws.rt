@@ -20,7 +20,8 @@ ghost use Rattle.html5cleaner.specs.Browsers.{RunsNothing, scheme_of};
 ghost use Rattle.html5cleaner.specs.Clean.{Cleaned, at_start, clean_step};
 ghost use Rattle.html5cleaner.specs.Cleaning as cleaning;
 ghost use Rattle.html5cleaner.specs.Cleaning.{Standing, kept_of_page, page_bytes, printed_and_closed, printed_of};
-ghost use Rattle.html5cleaner.specs.Reading.{FollowsStandard, is_allowed_token};
+ghost use Rattle.html5cleaner.specs.Reading.{is_allowed_token};
+ghost use Rattle.html5sinks.specs.Replies.{FollowsStandard};
 
 use html5ever_interface::interface::sink::TokenSink;
 use html5ever_interface::interface::token::Token;

@@ -158,7 +158,10 @@ fn piece_len(text: &str, cut: usize) -> usize
 }
 
 // Writes the output, and clears it.
-fn write_output<W: Target, A: Allocator>(writer: &mut W, sink: &mut PrintSink<A>) -> Result<(), Fault>
+fn write_output<W: Target, A: Allocator>(
+    writer: &mut W,
+    sink: &mut PrintSink<A>,
+) -> Result<(), Fault>
     ensures ok { OnOk result (Appends (W.contents writer.old) (W.contents writer.new) sink.old.output.lines) }
     ensures err { OnErr result (AppendsBeginning (W.contents writer.old) (W.contents writer.new) sink.old.output.lines) }
     ensures cleared { OnOk result (sink.new.output ≡ without_lines sink.old.output) }

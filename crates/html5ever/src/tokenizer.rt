@@ -20,15 +20,15 @@ use std::alloc::{Allocator, Global};
 use std::marker::Model;
 
 pub mod collect;
+pub mod detached;
 pub mod laws;
 pub mod pieces;
-pub mod detached;
 pub mod states;
 pub mod steps;
 pub mod whole;
 
-pub use crate::tokenizer::pieces::feed_pieces;
 pub use crate::tokenizer::detached::DetachedTokenizer;
+pub use crate::tokenizer::pieces::feed_pieces;
 pub use crate::tokenizer::steps::{Step, feed_until_done, run_steps};
 pub use crate::tokenizer::whole::{read_pieces, read_whole};
 pub use html5ever_interface::interface::message::{ErrorMessage, FixedMessage};

@@ -10,7 +10,7 @@ use Rattle.std.proofs.lemmas.List.{append-nil, take_at, drop_at, take-append-dro
 use Rattle.std.proofs.Math.Seq.{take-append-add, drop-append-add}
 use lib.Utf8.{scalar, scalars}
 use Rattle.html5reading.specs.Start.{Open}
-use Rattle.html5fast_path.specs.Quiet.{BeginsWith, IsQuiet, ReadsFront, ReadsQuietly}
+use Rattle.html5fast_path.specs.Quiet.{BeginsWithCharacter, IsQuiet, ReadsFront, ReadsQuietly}
 
 -- nothing was read
 pub reads-nothing : (opened later : Open) → opened ≡ later → ReadsQuietly opened (chars []) later
@@ -28,7 +28,7 @@ reads-append opened middle later (c ∷ front) more first second =
     (first.0, (first.1.0, reads-append first.0 middle later front more first.1.1 second))
 
 -- a text begins with its first byte, where that is ASCII
-pub ascii-begins : (text : List ℕ) (b : ℕ) → IsUtf8 text → 0 < length text → b ≡ get_or text 0 b → is_ascii b ≡ true → BeginsWith text b
+pub ascii-begins : (text : List ℕ) (b : ℕ) → IsUtf8 text → 0 < length text → b ≡ get_or text 0 b → is_ascii b ≡ true → BeginsWithCharacter text b
 ascii-begins [] b utf8 filled same ascii = absurd (omega (arith, filled))
 ascii-begins (a ∷ text) b utf8 filled same ascii =
     let small : a < 128 = subst (λ x. x < 128) same (ltb-true b 128 ascii) in
@@ -83,7 +83,7 @@ pub front-nothing : (text : List ℕ) (opened later : Open) → IsUtf8 text → 
 front-nothing text opened later utf8 same = record { within = omega arith; rest_utf8 = utf8; quiet = reads-nothing opened later same }
 
 -- a text begins with a character that tells nothing
-pub front-one : (text : List ℕ) (c : ℕ) (opened later : Open) → BeginsWith text c → IsQuiet opened later c → ReadsFront text 1 opened later
+pub front-one : (text : List ℕ) (c : ℕ) (opened later : Open) → BeginsWithCharacter text c → IsQuiet opened later c → ReadsFront text 1 opened later
 front-one text c opened later begins quiet = record { within = begins.within; rest_utf8 = begins.rest_utf8; quiet = rw begins.first (reads-one opened later c quiet) }
 
 -- the front of a text, and then that of the rest
@@ -102,7 +102,7 @@ pub front-same : (text : List ℕ) (opened later : Open) → ReadsFront text 0 o
 front-same text opened later reads = nothing-read opened later reads.quiet
 
 -- the characters of a front that is not empty begin with the first
-pub front-begins : (text : List ℕ) (len c : ℕ) → IsUtf8 text → BeginsWith text c → len ≢ 0 → chars (take len text) ≡ c ∷ chars (take (len - 1) (drop 1 text))
+pub front-begins : (text : List ℕ) (len c : ℕ) → IsUtf8 text → BeginsWithCharacter text c → len ≢ 0 → chars (take len text) ≡ c ∷ chars (take (len - 1) (drop 1 text))
 front-begins text len c utf8 begins some =
     let more : ℕ = len - 1 in
     let all : len ≡ 1 + more = omega (arith, some) in

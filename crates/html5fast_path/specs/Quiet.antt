@@ -45,15 +45,15 @@ pub record StopsQuietly (opened : Open) (text : List ℕ) : Type 0 where
   pub reads : ReadsQuietly opened front later
 
 -- the bytes of a text begin with this character of ASCII
-pub record BeginsWith (text : List ℕ) (c : ℕ) : Type 0 where
+pub record BeginsWithCharacter (text : List ℕ) (c : ℕ) : Type 0 where
   pub within : 1 ≤ length text
   pub rest_utf8 : IsUtf8 (drop 1 text)
   pub first : chars (take 1 text) ≡ c ∷ []
 
 -- a text begins with `="`
 pub record BeginsValue (text : List ℕ) : Type 0 where
-  pub equals : BeginsWith text equals_sign
-  pub quotes : BeginsWith (drop 1 text) quotation_mark
+  pub equals : BeginsWithCharacter text equals_sign
+  pub quotes : BeginsWithCharacter (drop 1 text) quotation_mark
 
 -- what is open before the name of a tag
 abbrev pub opening_of : TagKind → Open

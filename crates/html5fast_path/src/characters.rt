@@ -4,7 +4,7 @@
 ghost use Rattle.std.specs.Prelude.{◌≡◌, ◌≤◌, true, false, IfOk, IfSome};
 ghost use Rattle.html5reading.specs.Start.{held_len};
 ghost use Rattle.html5partial.specs.CurrentTag.{opened_of, last_name_of};
-ghost use Rattle.html5fast_path.specs.Quiet.{BeginsValue, BeginsWith, IsOrdinary, IsQuiet, ReadsFront};
+ghost use Rattle.html5fast_path.specs.Quiet.{BeginsValue, BeginsWithCharacter, IsOrdinary, IsQuiet, ReadsFront};
 
 use html5ever_interface::states::{AttrValueKind, State};
 use html5partial::comments::ends_in_mark;
@@ -15,7 +15,7 @@ use std::alloc::{AllocError, Allocator};
 /// The character with which a text begins, where it is ASCII.
 #[inline(always)]
 pub fn first_ascii(text: &str) -> Option<char>
-    ensures { IfSome result (λ c. BeginsWith text.now c) }
+    ensures { IfSome result (λ c. BeginsWithCharacter text.now c) }
 {
     let Some(first) = text.as_bytes().first() else {
         return None;

@@ -3,14 +3,14 @@
 
 mod ending;
 mod messages;
-mod references;
 mod output;
+mod references;
 mod running;
 mod words;
 
 pub use crate::ending::Ending;
 pub use crate::messages::Messages;
-pub use crate::references::{ReferencesError, read_references, table_of_text};
 pub use crate::output::Output;
+pub use crate::references::{ReferencesError, read_references, table_of_text};
 pub use crate::running::{Filter, Program, filter_by_words, run, run_by_words};
 pub use crate::words::{Words, words_of};

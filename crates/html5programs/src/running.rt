@@ -6,8 +6,8 @@ ghost use Rattle.html5programs.specs.Words.{asked_by};
 
 use crate::ending::Ending;
 use crate::messages::Messages;
-use crate::references::read_references;
 use crate::output::Output;
+use crate::references::read_references;
 use crate::words::{Words, words_of};
 use devices::{Logged, Printer, ReadSource, Source, Target, WriteTarget, given_words, write_all};
 use html5stream::StreamError;
@@ -126,7 +126,11 @@ fn read_file<F: Filter<W>, W: Target + Drop, R: Files + Alloc<A = Global>, I: So
     }
     match File::open(rt, file) {
         Ok(opened) => {
-            let (filter, read) = filter.read_page(rt.alloc(), &mut ReadSource::new(opened), references);
+            let (filter, read) = filter.read_page(
+                rt.alloc(),
+                &mut ReadSource::new(opened),
+                references,
+            );
             (filter, read_or_error(read))
         }
         Err(_) => (filter, Err(FileError::Open)),
@@ -270,9 +274,25 @@ fn filter_asked<
         return (Logged::new(Output::new(stdout)), Ending::NoSettings);
     };
     if asked.files.is_empty() {
-        return filter_files::<F, R, I, O, E>(rt, &references, settings, &["-"], stdin, stdout, messages);
+        return filter_files::<F, R, I, O, E>(
+            rt,
+            &references,
+            settings,
+            &["-"],
+            stdin,
+            stdout,
+            messages,
+        );
     }
-    filter_files::<F, R, I, O, E>(rt, &references, settings, &asked.files, stdin, stdout, messages)
+    filter_files::<F, R, I, O, E>(
+        rt,
+        &references,
+        settings,
+        &asked.files,
+        stdin,
+        stdout,
+        messages,
+    )
 }
 
 // Prints how a program is used.

@@ -9,7 +9,8 @@ use Rattle.markup5ever.specs.declared.interface.Attribute.{Attribute}
 use Rattle.html5ever_interface.specs.Token.{Told, is_text}
 use Rattle.html5ever_interface.specs.Token.Told.{Text}
 use Rattle.html5records.specs.Recording.{text_closing, added_by}
-use Rattle.html5records.specs.Records.{attribute_record, heading, heading_of, code_of, record_of, BeginsWith}
+use Rattle.html5records.specs.Records.{attribute_record, heading, heading_of, code_of, record_of}
+use Rattle.markup5ever.specs.Lists.{BeginsWith}
 
 -- what is written for one thing more
 pub flat_map-push : {X : Type 0} (f : X → List ℕ) (xs : List X) (x : X) → flat_map f (xs ++ x ∷ []) ≡ flat_map f xs ++ f x
@@ -30,10 +31,6 @@ attributes-more old written next attributes i attribute before here within writt
     ∙ ap (λ l. l ++ attribute_record (attribute_of attribute)) before
     ∙ append_assoc old (flat_map attribute_record front) (attribute_record (attribute_of attribute))
     ∙ ap (λ l. old ++ l) (sym (ap (flat_map attribute_record) more ∙ flat_map-push attribute_record front (attribute_of attribute)))
-
--- a list that begins with another and more begins with the other
-pub BeginsWith-less : (xs ys zs ws : List ℕ) → ys ≡ zs ++ ws → BeginsWith xs ys → BeginsWith xs zs
-BeginsWith-less xs ys zs ws e b = record { rest = ws ++ b.rest; parts = b.parts ∙ ap (λ l. l ++ b.rest) e ∙ append_assoc zs ws b.rest }
 
 -- two pieces, of which the last could fail
 pub pieces-two : {T E : Type 0} (r : Result T E) (old written next a b : List ℕ) → written ≡ old ++ a → OnOk r (next ≡ written ++ b) → OnOk r (next ≡ old ++ (a ++ b))

@@ -4,7 +4,8 @@
 -- What the sink is sent changes no count of taken bytes: so no tokenizer takes any. A text is written as it is sent and ends where
 -- another token comes, so that two adjacent texts are as one.
 use Rattle.std.specs.Prelude.{◌≡◌, ℕ, ◌+◌, Bool, true, false, List, [], ◌∷◌, ◌++◌, drop}
-use Rattle.html5records.specs.Records.{text_end, record_of, BeginsWith}
+use Rattle.html5records.specs.Records.{text_end, record_of}
+use Rattle.markup5ever.specs.Lists.{BeginsWith}
 use Rattle.html5ever_interface.specs.Collected.{with_told}
 use Rattle.html5ever_interface.specs.Sink.{Means, Message, stepped}
 use Rattle.html5ever_interface.specs.Token.{Told, Reply}

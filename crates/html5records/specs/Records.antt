@@ -103,8 +103,3 @@ record_of told line = heading_of told line ++ parts told
 -- the records of messages, one after the other
 unfoldable pub records_of : List Message → List ℕ
 records_of messages = flat_map (λ m. record_of m.token m.line) messages
-
--- a list that begins with another
-pub record BeginsWith (list front : List ℕ) : Type 0 where
-  pub rest : List ℕ
-  pub parts : list ≡ front ++ rest

@@ -1,7 +1,8 @@
 //! Writing records.
 ghost use Rattle.std.specs.Prelude.{◌≡◌, ◌+◌, ◌++◌, false, ◌∷◌, [], map, option_map, is_some, string_bytes, OnOk, OnErr};
 ghost use Rattle.std.specs.List.{flat_map};
-ghost use Rattle.html5records.specs.Records.{BeginsWith, number, counted, flag, attribute_record, attribute_records, optional, tag_flags, tag_parts, tag_code, code_of, doctype_flags, doctype_parts, heading, parts, record_of};
+ghost use Rattle.html5records.specs.Records.{number, counted, flag, attribute_record, attribute_records, optional, tag_flags, tag_parts, tag_code, code_of, doctype_flags, doctype_parts, heading, parts, record_of};
+ghost use Rattle.markup5ever.specs.Lists.{BeginsWith};
 ghost use Rattle.html5records.specs.Recording.{text_closing, added_by_text, added_by, open_after};
 ghost use Rattle.html5ever_interface.specs.Token.{told_by, tag_of, doctype_of, is_text};
 ghost use Rattle.html5ever_interface.specs.Token.Told.{Text};
@@ -52,7 +53,11 @@ fn flag_where(is_set: bool, weight: u8) -> u8
 
 // Appends the kind of a record and its line.
 #[tactic(auto, unfolding(crate::specs::Records::heading))]
-fn push_heading<A: Allocator>(written: &mut Vec<u8, A>, kind: u8, line: u64) -> Result<(), AllocError>
+fn push_heading<A: Allocator>(
+    written: &mut Vec<u8, A>,
+    kind: u8,
+    line: u64,
+) -> Result<(), AllocError>
     ensures ok { OnOk result (written.new.items ≡ written.old.items ++ heading kind line) }
     ensures err { OnErr result (BeginsWith written.new.items written.old.items) }
 {

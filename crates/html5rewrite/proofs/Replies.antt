@@ -8,11 +8,11 @@ use Rattle.std.proofs.lemmas.Bool.{and_parts, false≢true}
 use Rattle.html5ever_interface.specs.Token.{Told, Reply}
 use Rattle.html5ever_interface.specs.Token.Reply.{KeepOn, ReadPlainText}
 use Rattle.html5ever_interface.specs.declared.states.RawKind.{RawKind}
-use Rattle.html5sinks.specs.Replies.{raw_text_in, reply_to_raw_text, standard_reply_to_start}
+use Rattle.html5sinks.specs.Replies.{FollowsStandard, raw_text_in, reply_to_raw_text, standard_reply_to_start}
 use Rattle.html5write.specs.Pieces.{Piece, can_write}
 use Rattle.html5write.specs.Pieces.Piece.{TextPiece, StartTagPiece, EndTagPiece, CommentPiece}
 use Rattle.html5write.specs.Told.{KeepsOn, KeepsOnAfterPiece, start_tag_told, end_tag_told}
-use Rattle.html5rewrite.specs.Plain.{FollowsStandard, is_before_markup, is_plain}
+use Rattle.html5rewrite.specs.Plain.{is_before_markup, is_plain}
 use Rattle.html5rewrite.specs.Rewriter.{reads_markup_after}
 
 keeps_on-by_tests : (raw : Option RawKind) (plaintext : Bool) → (is_none raw && not plaintext) ≡ true → (if plaintext then ReadPlainText else reply_to_raw_text raw) ≡ KeepOn

@@ -1,16 +1,12 @@
 -- Which pieces a rewriting handler writes.
 use Rattle.std.specs.Prelude.{ℕ, Bool, true, List, [], ◌∷◌, ◌&&◌, filter, map, chars, encode_utf8_all, if◌then◌else◌}
-use Rattle.html5ever_interface.specs.Token.{Told, TagOf, Reply}
-use Rattle.html5ever_interface.specs.Token.Told.{Tag}
-use Rattle.html5ever_interface.specs.Token.Reply.{KeepOn}
+use Rattle.html5ever_interface.specs.Token.{TagOf}
 use Rattle.html5ever_interface.specs.declared.interface.token.TagKind.{TagKind}
 use Rattle.html5ever_interface.specs.declared.interface.token.TagKind.TheVariants.{StartTag, EndTag}
-use Rattle.html5sinks.specs.Replies.{standard_reply}
 use Rattle.markup5ever.specs.Names.{AttributeOf}
 use Rattle.html5write.specs.Pieces.{NameAndValue, Piece, can_write, is_attribute}
 use Rattle.html5write.specs.Pieces.Piece.{TextPiece, StartTagPiece, EndTagPiece}
 use Rattle.html5rewrite.specs.Rewriter.{reads_markup_after}
-use Rattle.std.specs.Prelude.{◌≡◌}
 
 abbrev pub is_before_markup : Piece → Bool
 is_before_markup (StartTagPiece name attributes) = reads_markup_after (encode_utf8_all name)
@@ -42,7 +38,3 @@ written_of_tag tag = where_plain (piece_by_kind tag.kind (chars tag.name) (plain
 unfoldable pub written_of_run : List ℕ → List Piece
 written_of_run [] = []
 written_of_run (byte ∷ run) = where_plain (TextPiece (chars (byte ∷ run)))
-
--- a sink that keeps on after each tag after which the standard's elements ask for nothing else
-abbrev pub FollowsStandard : {S H : Type 0} → (S → Told → ℕ → Reply H) → Type 0
-FollowsStandard {S = S} reply = (s : S) (tag : TagOf) (line : ℕ) → standard_reply tag ≡ KeepOn → reply s (Tag tag) line ≡ KeepOn

@@ -9,7 +9,8 @@ ghost use Rattle.html5grammar.specs.Anywhere.{TellsByItself};
 ghost use Rattle.markup5ever.specs.NamedReferences.{IsTable};
 ghost use Rattle.html5write.specs.Pieces.{Piece, pieces_text};
 ghost use Rattle.html5write.specs.Told.{IsOpen, pieces_messages, pieces_tokens, proper, start_after_pieces};
-ghost use Rattle.html5rewrite.specs.Plain.{FollowsStandard, is_plain};
+ghost use Rattle.html5rewrite.specs.Plain.{is_plain};
+ghost use Rattle.html5sinks.specs.Replies.{FollowsStandard};
 ghost use Rattle.html5rewrite.specs.Rewriter.{Rewriter};
 ghost use Rattle.html5rewrite.specs.Writing.{pieces_of};
 

@@ -13,8 +13,10 @@ ghost use Rattle.html5session.specs.Session.{TakesPiece, FeedsPiece, FeedRefused
 
 use crate::error::SessionError;
 use crate::fed::{Fed, fed_of};
+use html5ever::tokenizer::{
+    BufferQueue, DetachedTokenizer, NamedReferences, Tokenizer, TokenizerOpts,
+};
 use html5records::record_sink::{RecordOptions, RecordSink};
-use html5ever::tokenizer::{BufferQueue, NamedReferences, DetachedTokenizer, Tokenizer, TokenizerOpts};
 use std::alloc::{Allocator, Global};
 use std::marker::Model;
 use utf8_pieces::{DecodeError, Decoder};
@@ -24,7 +26,10 @@ fn feed_text<A: Allocator + Copy>(
     references: &NamedReferences<A>,
     detached: DetachedTokenizer<RecordSink<A>, A>,
     queue: &mut BufferQueue<A>,
-) -> (DetachedTokenizer<RecordSink<A>, A>, Result<Fed, SessionError>)
+) -> (
+    DetachedTokenizer<RecordSink<A>, A>,
+    Result<Fed, SessionError>,
+)
     requires going_on { detached.ended ≡ false }
     requires not_failed { detached.failed ≡ false }
     ensures feeds { IfOk result.1 (λ fed. FeedsText (tokenizing detached references.now)
@@ -46,7 +51,10 @@ fn feed_text<A: Allocator + Copy>(
 fn end_text<A: Allocator + Copy>(
     references: &NamedReferences<A>,
     detached: DetachedTokenizer<RecordSink<A>, A>,
-) -> (DetachedTokenizer<RecordSink<A>, A>, Result<(), SessionError>)
+) -> (
+    DetachedTokenizer<RecordSink<A>, A>,
+    Result<(), SessionError>,
+)
     requires going_on { detached.ended ≡ false }
     requires not_failed { detached.failed ≡ false }
     ensures ends { OnOk result.1 (EndsText (tokenizing detached references.now) result.0.sink) }

@@ -1,12 +1,15 @@
 use crate::{Fed, Session, SessionError};
-use html5records::record_sink::{RecordOptions, Replies};
-use html5records::reading::{TokenRecord, read_record};
 use html5ever::tokenizer::{NamedReferences, TokenizerOpts};
+use html5records::reading::{TokenRecord, read_record};
+use html5records::record_sink::{RecordOptions, Replies};
 use std::alloc::{AllocError, Global};
 use std::process::Abort;
 
 fn session(rt: &impl Abort, alloc: Global, replies: Replies) -> Session<Global> {
-    let references = NamedReferences::check(alloc, Vec::new(alloc)).expect(rt, "a table of nothing");
+    let references = NamedReferences::check(alloc, Vec::new(alloc)).expect(
+        rt,
+        "a table of nothing",
+    );
     let events = RecordOptions {
         replies,
         foreign: false,

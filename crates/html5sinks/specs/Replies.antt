@@ -1,7 +1,8 @@
 -- What the standard's elements ask for, by the start tag of each.
-use Rattle.std.specs.Prelude.{ℕ, List, ◌||◌, Option, None, Some, codes, if◌then◌else◌}
+use Rattle.std.specs.Prelude.{◌≡◌, ℕ, List, ◌||◌, Option, None, Some, codes, if◌then◌else◌}
 use Rattle.std.specs.Str.{bytes_eq}
-use Rattle.html5ever_interface.specs.Token.{TagOf, Reply}
+use Rattle.html5ever_interface.specs.Token.{Told, TagOf, Reply}
+use Rattle.html5ever_interface.specs.Token.Told.{Tag}
 use Rattle.html5ever_interface.specs.Token.Reply.{KeepOn, ReadPlainText, ReadRawData}
 use Rattle.html5ever_interface.specs.declared.interface.token.TagKind.{TagKind}
 use Rattle.html5ever_interface.specs.declared.interface.token.TagKind.TheVariants.{StartTag, EndTag}
@@ -36,3 +37,7 @@ reply_by_kind EndTag name = KeepOn
 -- what is replied to a tag
 abbrev pub standard_reply : TagOf → Reply (Unit {0})
 standard_reply tag = reply_by_kind tag.kind tag.name
+
+-- a sink that keeps on after each tag after which the standard's elements ask for nothing else
+abbrev pub FollowsStandard : {S H : Type 0} → (S → Told → ℕ → Reply H) → Type 0
+FollowsStandard {S = S} reply = (s : S) (tag : TagOf) (line : ℕ) → standard_reply tag ≡ KeepOn → reply s (Tag tag) line ≡ KeepOn

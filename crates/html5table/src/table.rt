@@ -8,7 +8,10 @@ use markup5ever::data::{NamedReferences, TableError};
 use std::alloc::Allocator;
 
 /// The table of a list's entries.
-pub fn references_of<A: Allocator + Copy>(alloc: A, list: &str) -> Result<NamedReferences<A>, TableError>
+pub fn references_of<A: Allocator + Copy>(
+    alloc: A,
+    list: &str,
+) -> Result<NamedReferences<A>, TableError>
     requires { IsSome (listed list.now) }
     ensures table { IfOk result (λ references. references ≡ table_of (entries_in list.now)) }
     ensures faultless { OnOk result (first_fault (entries_in list.now) ≡ None) }

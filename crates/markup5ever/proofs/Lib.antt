@@ -7,3 +7,4 @@ pub mod Searches
 pub mod SmallCharSetLemmas
 pub mod TableChecks
 pub mod TextLemmas
+pub mod Beginnings

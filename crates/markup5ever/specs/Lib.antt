@@ -7,3 +7,4 @@ pub mod Names
 pub mod NamedReferences
 pub mod C1
 pub mod Place
+pub mod Lists

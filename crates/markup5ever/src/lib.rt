@@ -2,6 +2,7 @@
 //! characters, and what character references stand for.
 #![tactic(auto)]
 
+pub mod blocks;
 pub mod buffer_queue;
 pub mod data;
 pub mod interface;

@@ -1,15 +1,12 @@
 //! Sets of characters below 64.
-ghost use Rattle.std.specs.Prelude.{◌≡◌, ◌≢◌, ℕ, ◌+◌, ◌/◌, ◌%◌, ◌^◌, ◌<◌, ◌≤◌, ◌==◌, ◌↔◌, if◌then◌else◌, List, ◌∷◌, length, drop, slice_index, IsTrue, All, Contains};
-ghost use Rattle.std.specs.Int.{w64, trailing_zeros};
+ghost use Rattle.std.specs.Prelude.{◌≡◌, ◌≢◌, ℕ, ◌+◌, ◌/◌, ◌%◌, ◌^◌, ◌<◌, ◌≤◌, ◌↔◌, List, ◌∷◌, length, drop, slice_index, IsTrue, All, Contains};
 ghost use Rattle.std.specs.Str.{chars};
 ghost use Rattle.markup5ever.specs.Lanes.{HasLanes, bit_of};
 ghost use Rattle.markup5ever.specs.SmallCharSet.{IsMember, NoneWithin, BeginsOutside};
 
+use crate::blocks::{BLOCK, lowest_bit};
 use std::marker::Model;
 use std::simd::prelude::*;
-
-// How many bytes are looked at in one step.
-const BLOCK: usize = 16;
 
 // The bits of a byte, lowest first. What stands after them is never looked up.
 const BITS: [u8; 16] = [1, 2, 4, 8, 16, 32, 64, 128, 0, 0, 0, 0, 0, 0, 0, 0];
@@ -165,16 +162,4 @@ fn first_marked(marks: u8x16) -> usize
     ensures marked { result < BLOCK → slice_index marks result ≢ 0 }
 {
     lowest_bit(marks.simd_ne(u8x16::splat(0)).to_bitmask())
-}
-
-// The place of the lowest bit that is set, or 16.
-#[inline(always)]
-fn lowest_bit(mask: u64) -> usize
-    ensures { result ≡ (if mask == 0 then BLOCK else trailing_zeros w64 mask) }
-{
-    if mask == 0 {
-        BLOCK
-    } else {
-        mask.trailing_zeros() as usize
-    }
 }

@@ -149,7 +149,14 @@ fn failing_cutting_with(
     if !check_clones(&whole)? {
         return Ok(Some(String::from_str(alloc, "a clone differs")?));
     }
-    if let Some(sink) = failing_sink(alloc, case, settings, &references, &whole, Cutting::Characters)? {
+    if let Some(sink) = failing_sink(
+        alloc,
+        case,
+        settings,
+        &references,
+        &whole,
+        Cutting::Characters,
+    )? {
         return Ok(Some(format!(in alloc; "{sink} in characters")?));
     }
     for count in 0..=case.input.chars().count() {

@@ -47,11 +47,15 @@ fn closes_what_is_open(rt: HostRuntime) {
 
 #[test]
 fn cleaning_twice_changes_nothing(rt: HostRuntime) {
-    let references = NamedReferences::check(rt.alloc(), Vec::new(rt.alloc())).expect(&rt, "a table");
+    let references = NamedReferences::check(rt.alloc(), Vec::new(rt.alloc())).expect(
+        &rt, "a table",
+    );
     let policy = Policy::parse(rt.alloc(), BALANCED).expect(&rt, "a policy");
     for (page, wanted) in CASES {
         let once = clean_text(rt.alloc(), page, &references, &policy).expect(&rt, "memory");
-        let twice = clean_text(rt.alloc(), once.as_str(), &references, &policy).expect(&rt, "memory");
+        let twice = clean_text(rt.alloc(), once.as_str(), &references, &policy).expect(
+            &rt, "memory",
+        );
         assert!(rt; twice.as_str() == wanted, "{page}");
     }
 }
@@ -75,7 +79,9 @@ const BY_POLICY: [(&str, &str, &str); 5] = [
 
 #[test]
 fn balances_by_the_rule_alone(rt: HostRuntime) {
-    let references = NamedReferences::check(rt.alloc(), Vec::new(rt.alloc())).expect(&rt, "a table");
+    let references = NamedReferences::check(rt.alloc(), Vec::new(rt.alloc())).expect(
+        &rt, "a table",
+    );
     for (rules, text, wanted) in BY_POLICY {
         let policy = Policy::parse(rt.alloc(), rules).expect(&rt, "a policy");
         let page = clean_text(rt.alloc(), text, &references, &policy).expect(&rt, "memory");

@@ -49,7 +49,9 @@ fn keeps_what_is_allowed(rt: HostRuntime) {
 
 #[test]
 fn keeps_a_beginning_of_a_page_that_is_no_text(rt: HostRuntime) {
-    let references = NamedReferences::check(rt.alloc(), Vec::new(rt.alloc())).expect(&rt, "a table");
+    let references = NamedReferences::check(rt.alloc(), Vec::new(rt.alloc())).expect(
+        &rt, "a table",
+    );
     let policy = Policy::standard(rt.alloc()).expect(&rt, "memory");
     let source = &mut PieceSource::new(b"<p>a</p>b\xc3", 4);
     let (cleaner, read) = clean_page(rt.alloc(), source, &references, &policy);
@@ -59,7 +61,9 @@ fn keeps_a_beginning_of_a_page_that_is_no_text(rt: HostRuntime) {
 
 #[test]
 fn cleans_a_text(rt: HostRuntime) {
-    let references = NamedReferences::check(rt.alloc(), Vec::new(rt.alloc())).expect(&rt, "a table");
+    let references = NamedReferences::check(rt.alloc(), Vec::new(rt.alloc())).expect(
+        &rt, "a table",
+    );
     let policy = Policy::standard(rt.alloc()).expect(&rt, "memory");
     for (text, wanted) in CASES {
         let page = clean_text(rt.alloc(), text, &references, &policy).expect(&rt, "memory");
@@ -107,7 +111,9 @@ const BY_POLICY: [(&str, &str, &str); 10] = [
 
 #[test]
 fn keeps_what_a_policy_allows(rt: HostRuntime) {
-    let references = NamedReferences::check(rt.alloc(), Vec::new(rt.alloc())).expect(&rt, "a table");
+    let references = NamedReferences::check(rt.alloc(), Vec::new(rt.alloc())).expect(
+        &rt, "a table",
+    );
     for (rules, text, wanted) in BY_POLICY {
         let policy = Policy::parse(rt.alloc(), rules).expect(&rt, "a policy");
         let page = clean_text(rt.alloc(), text, &references, &policy).expect(&rt, "memory");

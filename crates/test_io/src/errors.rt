@@ -84,7 +84,10 @@ fn of_bytes_that_come_in(rt: HostRuntime) -> Result<(), Fail> {
     check_texts(&rt, rt.alloc(), &session)?;
     let references = [
         (ReferencesError::Unreadable, "the file can't be read"),
-        (ReferencesError::NoList, "the file has no list of references"),
+        (
+            ReferencesError::NoList,
+            "the file has no list of references",
+        ),
         (
             ReferencesError::Table(TableError::BadName(3)),
             "the list makes no table: bad name at 3",

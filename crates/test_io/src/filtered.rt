@@ -2,7 +2,7 @@
 use devices::{Printer, Target, WriteTarget};
 use html5programs::Filter;
 use html5stream::StreamError;
-use html5table::{references_of, profile};
+use html5table::{profile, references_of};
 use markup5ever::data::{NamedReferences, TableError};
 use std::alloc::Global;
 use testing_devices::PieceSource;

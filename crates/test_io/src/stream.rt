@@ -193,7 +193,13 @@ fn outcome_on<'h>(rt: &impl Abort, heap: Heap<'h>, ample: Heap<'h>) -> Result<()
     let references = no_references(rt, ample);
     let mut source = FailingSource::new(PAGE.as_bytes(), 1000);
     let sink: Collector<Heap> = Collector::new(heap, false);
-    let (sink, read) = read_source(heap, &mut source, sink, TokenizerOpts::default(), &references);
+    let (sink, read) = read_source(
+        heap,
+        &mut source,
+        sink,
+        TokenizerOpts::default(),
+        &references,
+    );
     let whole = page_tokens(ample).expect(rt, "memory");
     assert!(rt; is_beginning(sink.entries(), &whole));
     assert_eq!(rt; read.is_ok(), sink.is_finished());

@@ -126,7 +126,10 @@ fn makes_a_table_of_the_profile(rt: HostRuntime) {
     let alloc = rt.alloc();
     let entries = entries_of(alloc, profile()).expect(&rt, "memory");
     let references = NamedReferences::check(alloc, entries).expect(&rt, "a table");
-    assert_eq!(rt; references.get("nGt;"), Some(('\u{226b}', Some('\u{20d2}'))));
+    assert_eq!(rt;
+        references.get("nGt;"),
+        Some(('\u{226b}', Some('\u{20d2}')))
+    );
     assert!(rt; references.is_prefix("noti"));
     assert_eq!(rt; references.get("nGt"), None);
 }

@@ -4,7 +4,7 @@ use html5cleaner::CleanPrinter;
 use html5extract::links::Links;
 use html5extract::page_text::PageText;
 use html5programs::Filter;
-use html5table::{references_of, profile};
+use html5table::{profile, references_of};
 use std::alloc::Global;
 use std::process::Abort;
 use std::test::Fail;

@@ -1,8 +1,8 @@
 use crate::made::{RECORDS, TOKENS, bare_tag, token_at};
-use html5records::record_sink::{RecordOptions, RecordSink, Replies};
 use html5ever_interface::interface::sink::TokenSink;
 use html5ever_interface::interface::token::{TagKind, TokenSinkResult};
 use html5ever_interface::states::RawKind;
+use html5records::record_sink::{RecordOptions, RecordSink, Replies};
 use std::alloc::Global;
 use std::process::Abort;
 use testing_alloc::Refusing;

@@ -1,6 +1,6 @@
 use crate::made::{RECORDS, TOKENS, token_at};
-use html5records::record_sink::{RecordOptions, RecordSink};
 use html5ever_interface::interface::sink::TokenSink;
+use html5records::record_sink::{RecordOptions, RecordSink};
 use std::alloc::Global;
 use std::process::Abort;
 

@@ -1,11 +1,11 @@
 //! The records of a text that arrives in pieces, as a program in another language would read them.
-use html5records::record_sink::{RecordOptions, RecordSink, Replies};
-use html5records::reading::{TagRecord, TokenRecord, read_record};
 use html5ever::TokenizerError;
 use html5ever::tokenizer::{
     BufferQueue, NamedReferences, Tokenizer, TokenizerOpts, feed_until_done,
 };
 use html5ever_interface::interface::token::TagKind;
+use html5records::reading::{TagRecord, TokenRecord, read_record};
+use html5records::record_sink::{RecordOptions, RecordSink, Replies};
 use std::alloc::{AllocError, Global};
 
 // Takes all that waits.
@@ -92,7 +92,10 @@ const TEXT: &str = "<p CLASS=x>1 < 2</p><title><b></title>";
 #[test]
 fn the_records_of_pieces_read_as_the_text(rt: HostRuntime) {
     let alloc = rt.alloc();
-    let references = NamedReferences::check(alloc, Vec::new(alloc)).expect(&rt, "a table of nothing");
+    let references = NamedReferences::check(alloc, Vec::new(alloc)).expect(
+        &rt,
+        "a table of nothing",
+    );
     for cut in [0, 1, 5, 12, 13, 20, 29, 38] {
         let Some((first, second)) = TEXT.split_at_checked(cut) else {
             continue;

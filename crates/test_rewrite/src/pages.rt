@@ -38,7 +38,9 @@ const CASES: [(&str, &str); 18] = [
 
 #[test]
 fn rewrites_pages(rt: HostRuntime) {
-    let references = NamedReferences::check(rt.alloc(), Vec::new(rt.alloc())).expect(&rt, "a table");
+    let references = NamedReferences::check(rt.alloc(), Vec::new(rt.alloc())).expect(
+        &rt, "a table",
+    );
     for (page, wanted) in CASES {
         for size in [1, 3, 4096] {
             let source = &mut PieceSource::new(page.as_bytes(), size);
@@ -56,7 +58,9 @@ fn rewrites_pages(rt: HostRuntime) {
 
 #[test]
 fn refuses_what_is_no_text(rt: HostRuntime) {
-    let references = NamedReferences::check(rt.alloc(), Vec::new(rt.alloc())).expect(&rt, "a table");
+    let references = NamedReferences::check(rt.alloc(), Vec::new(rt.alloc())).expect(
+        &rt, "a table",
+    );
     let source = &mut PieceSource::new(b"<p>a<p>\xff", 4096);
     let links = AbsoluteLinks {
         alloc: rt.alloc(),
@@ -70,7 +74,9 @@ fn refuses_what_is_no_text(rt: HostRuntime) {
 
 #[test]
 fn rewrites_texts(rt: HostRuntime) {
-    let references = NamedReferences::check(rt.alloc(), Vec::new(rt.alloc())).expect(&rt, "a table");
+    let references = NamedReferences::check(rt.alloc(), Vec::new(rt.alloc())).expect(
+        &rt, "a table",
+    );
     let links = AbsoluteLinks {
         alloc: rt.alloc(),
         base: BASE,
@@ -83,7 +89,9 @@ fn rewrites_texts(rt: HostRuntime) {
 
 #[test]
 fn prints_pages(rt: HostRuntime) {
-    let references = NamedReferences::check(rt.alloc(), Vec::new(rt.alloc())).expect(&rt, "a table");
+    let references = NamedReferences::check(rt.alloc(), Vec::new(rt.alloc())).expect(
+        &rt, "a table",
+    );
     let source = &mut PieceSource::new(b"<p>a<a href=/b>c</a>", 3);
     let links = AbsoluteLinks {
         alloc: rt.alloc(),

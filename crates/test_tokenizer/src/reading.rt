@@ -35,7 +35,9 @@ fn check_quiet(rt: &impl Abort, alloc: Global, rules: &Rules<'_>) {
 
 #[test]
 fn runs_and_tags_are_read_at_once(rt: HostRuntime) -> Result<(), Fail> {
-    let references = NamedReferences::check(rt.alloc(), Vec::new(rt.alloc())).expect(&rt, "a table");
+    let references = NamedReferences::check(rt.alloc(), Vec::new(rt.alloc())).expect(
+        &rt, "a table",
+    );
     let rules = Rules {
         exact_errors: false,
         references: &references,

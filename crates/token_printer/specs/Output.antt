@@ -67,8 +67,3 @@ output_reply p told line = pausing_reply told
 -- a token that could not be printed leaves nothing
 abbrev pub output_faulted : Output → Told → ℕ → Output
 output_faulted p told line = p
-
--- a list that begins with another
-pub record BeginsWith (xs front : List ℕ) : Type 0 where
-  pub rest : List ℕ
-  pub parts : xs ≡ front ++ rest

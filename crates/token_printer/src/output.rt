@@ -1,6 +1,7 @@
 //! What each token adds to a output.
 ghost use Rattle.std.specs.Prelude.{◌≡◌, [], ◌++◌, string_bytes, OnOk, OnErr, decimal, codes};
-ghost use Rattle.token_printer.specs.Output.{BeginsWith, text_closing, added_by_text, added_by, open_after};
+ghost use Rattle.token_printer.specs.Output.{text_closing, added_by_text, added_by, open_after};
+ghost use Rattle.markup5ever.specs.Lists.{BeginsWith};
 ghost use Rattle.token_printer.specs.Printed.{quoted_bytes, kind_word, line_with_number, line_with_text, tag_line, pause_line, doctype_line};
 ghost use Rattle.html5sinks.specs.Pausing.{pausing_reply};
 ghost use Rattle.html5ever_interface.specs.Token.{told_by, tag_of, doctype_of, reply_of};

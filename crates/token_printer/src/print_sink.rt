@@ -1,6 +1,7 @@
 //! A sink that prints what it is sent.
 ghost use Rattle.std.specs.Prelude.{◌≡◌, ◌≢◌, ◌+◌, ◌++◌, Err, string_bytes, IfOk, OnOk, OnErr};
-ghost use Rattle.token_printer.specs.Output.{BeginsWith, blank_output, without_lines, added_by, output_step};
+ghost use Rattle.token_printer.specs.Output.{blank_output, without_lines, added_by, output_step};
+ghost use Rattle.markup5ever.specs.Lists.{BeginsWith};
 ghost use Rattle.html5sinks.specs.Pausing.{pausing_reply};
 ghost use Rattle.html5ever_interface.specs.Token.{told_by, reply_of};
 ghost use Rattle.html5ever_interface.specs.Token.Told.{Text};

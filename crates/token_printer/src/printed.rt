@@ -1,14 +1,14 @@
 //! The parts of printed lines: texts in quotes, marks, attributes, pause lines.
-ghost use Rattle.std.specs.Prelude.{◌≡◌, ◌≢◌, ◌+◌, ◌<◌, ◌≤◌, ◌==◌, ◌++◌, if◌then◌else◌, true, false, length, slice_index, map, option_map, string_bytes, OnOk, OnErr, codes};
+ghost use Rattle.std.specs.Prelude.{◌≡◌, ◌≢◌, ◌+◌, ◌<◌, ◌≤◌, ◌++◌, true, false, length, slice_index, map, option_map, string_bytes, OnOk, OnErr, codes};
 ghost use Rattle.std.specs.Fmt.{digit_glyph};
-ghost use Rattle.std.specs.Int.{w64, trailing_zeros};
-ghost use Rattle.token_printer.specs.Output.{BeginsWith};
+ghost use Rattle.markup5ever.specs.Lists.{BeginsWith};
 ghost use Rattle.token_printer.specs.Printed.{needs_escape, IsPlainWithin, escape, quoted_byte, quoted_bytes, quoted, mark_where, open_attribute, open_attributes, printed_option, tag_marks, pause_line};
 ghost use Rattle.html5ever_interface.specs.Token.{tag_of, reply_of};
 ghost use Rattle.html5ever_interface.specs.Token.Reply.{SwitchEncoding};
 ghost use Rattle.markup5ever.specs.Names.{attribute_of};
 
 use html5ever_interface::interface::token::{Tag, TokenSinkResult};
+use markup5ever::blocks::{BLOCK, lowest_bit};
 use markup5ever::interface::Attribute;
 use std::alloc::{AllocError, Allocator};
 use std::simd::prelude::*;
@@ -25,9 +25,7 @@ fn hex_digit(value: u8) -> u8
     }
 }
 
-// How many bytes are looked at in one step, where so many are left, and at a text's end.
-const BLOCK: usize = 16;
-
+// How many bytes are looked at in one step at a text's end.
 const HALF: usize = 8;
 
 #[inline(always)]
@@ -45,18 +43,6 @@ fn is_escaped(byte: u8) -> bool
     ensures { result ≡ needs_escape byte }
 {
     !matches!(byte, b'a'..=b'z') && needs_escape(byte)
-}
-
-// The place of the lowest bit that is set, or 16.
-#[inline(always)]
-fn lowest_bit(mask: u64) -> usize
-    ensures { result ≡ (if mask == 0 then BLOCK else trailing_zeros w64 mask) }
-{
-    if mask == 0 {
-        BLOCK
-    } else {
-        mask.trailing_zeros() as usize
-    }
 }
 
 // How many of the 16 bytes from this place on come before the first that needs an escape. All are looked at at once.
@@ -234,7 +220,10 @@ fn push_quoted_short<A: Allocator>(output: &mut Vec<u8, A>, text: &[u8]) -> Resu
 
 /// Appends what stands for a text in quotes, straight to the output.
 #[inline(always)]
-pub fn push_quoted_bytes<A: Allocator>(output: &mut Vec<u8, A>, text: &[u8]) -> Result<(), AllocError>
+pub fn push_quoted_bytes<A: Allocator>(
+    output: &mut Vec<u8, A>,
+    text: &[u8],
+) -> Result<(), AllocError>
     ensures ok { OnOk result (output.new.items ≡ output.old.items ++ quoted_bytes text.now) }
     ensures err { OnErr result (BeginsWith output.new.items output.old.items) }
 {

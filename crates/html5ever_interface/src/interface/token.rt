@@ -99,6 +99,12 @@ pub enum ProcessResult<Handle, Text> {
 #[error("the sink could not take a token")]
 pub struct SinkFault;
 
+impl From<AllocError> for SinkFault {
+    fn from(_error: AllocError) -> SinkFault {
+        SinkFault
+    }
+}
+
 /// Why a sink did not take a text.
 #[derive(Clone, Copy, Debug, PartialEq, Eq, Error)]
 pub enum TextFault {

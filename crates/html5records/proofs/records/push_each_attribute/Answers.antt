@@ -1,7 +1,8 @@
 use Rattle.std.proofs.Common.{arith, sym}
 use Rattle.std.proofs.lemmas.List.{append-nil}
 use Rattle.std.proofs.lemmas.Result.{err_from_is_err_and}
-use Rattle.html5records.proofs.Written.{attributes-more, BeginsWith-less}
+use Rattle.html5records.proofs.Written.{attributes-more}
+use Rattle.markup5ever.proofs.Beginnings.{BeginsWith-less}
 use Rattle.html5records.proofs.records.push_each_attribute.Goals as goal
 
 pub loop-attribute-init : goal.loop-attribute-init

@@ -2,7 +2,7 @@ use Rattle.std.proofs.Common.{◌++◌, ap, ◌∙◌}
 use Rattle.std.proofs.lemmas.List.{append_assoc}
 use Rattle.std.proofs.lemmas.Result.{on_err_weaker}
 use Rattle.html5records.specs.Records.{counted}
-use Rattle.html5records.proofs.Written.{BeginsWith-less}
+use Rattle.markup5ever.proofs.Beginnings.{BeginsWith-less}
 use Rattle.html5records.proofs.records.push_tag_parts.Goals as goal
 
 pub returns-clause-err : goal.returns-clause-err

@@ -1,7 +1,7 @@
 use Rattle.std.proofs.Common.{arith}
 use Rattle.std.proofs.lemmas.Result.{err_from_is_err_and}
 use Rattle.token_printer.proofs.Attributes.{open_attributes-none, open_attributes-more}
-use Rattle.token_printer.proofs.Beginnings.{BeginsWith-less}
+use Rattle.markup5ever.proofs.Beginnings.{BeginsWith-less}
 use Rattle.token_printer.proofs.printed.push_attributes.Goals as goal
 
 pub loop-attribute-init : goal.loop-attribute-init

@@ -2,7 +2,7 @@ use Rattle.std.proofs.Common.{◌++◌, ap, ◌∙◌, arith}
 use Rattle.std.proofs.lemmas.List.{take_all}
 use Rattle.std.proofs.lemmas.Result.{err_from_is_err_and}
 use Rattle.token_printer.specs.Printed.{quoted_bytes}
-use Rattle.token_printer.proofs.Beginnings.{BeginsWith-append, BeginsWith-less}
+use Rattle.markup5ever.proofs.Beginnings.{BeginsWith-append, BeginsWith-less}
 use Rattle.token_printer.proofs.Quotes.{quoted_bytes-none, quoted_bytes-run, quoted_bytes-escape}
 use Rattle.token_printer.proofs.printed.push_quoted_runs.Goals as goal
 

@@ -1,6 +1,6 @@
 use Rattle.std.proofs.Common.{arith}
 use Rattle.std.proofs.lemmas.Result.{err_from_is_err_and}
-use Rattle.token_printer.proofs.Beginnings.{BeginsWith-less}
+use Rattle.markup5ever.proofs.Beginnings.{BeginsWith-less}
 use Rattle.token_printer.proofs.Quotes.{quoted_bytes-none, quoted_bytes-next}
 use Rattle.token_printer.proofs.printed.push_quoted_short.Goals as goal
 

@@ -1,7 +1,7 @@
 -- Lists that begin with another.
 use Rattle.std.proofs.Common.{◌≡◌, ℕ, List, [], ◌++◌, sym, ◌∙◌}
 use Rattle.std.proofs.lemmas.List.{append-nil, append_assoc}
-use Rattle.token_printer.specs.Output.{BeginsWith}
+use Rattle.markup5ever.specs.Lists.{BeginsWith}
 
 pub BeginsWith-equal : (xs ys : List ℕ) → xs ≡ ys → BeginsWith xs ys
 BeginsWith-equal xs ys e = record { rest = []; parts = e ∙ sym (append-nil ys) }
