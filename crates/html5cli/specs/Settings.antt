@@ -10,7 +10,7 @@ use Rattle.html5ever_interface.specs.Options.{OptionsOf, default_options}
 use Rattle.html5ever_interface.specs.declared.states.State.{State}
 use Rattle.html5ever_interface.specs.declared.states.State.TheVariants.{Data, Plaintext, RawData, CdataSection}
 use Rattle.html5ever_interface.specs.declared.states.RawKind.TheVariants.{Rcdata, Rawtext, ScriptData}
-use Rattle.html5cli.specs.declared.print.Settings.{Settings}
+use Rattle.html5cli.specs.declared.settings.Settings.{Settings}
 
 pub record SettingsOf : Type 0 where
   pub opts : OptionsOf

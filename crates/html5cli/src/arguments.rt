@@ -5,7 +5,7 @@ ghost use Rattle.html5feed.specs.Starting.{CanStart};
 ghost use Rattle.html5table.specs.Listed.{listed};
 ghost use Rattle.html5cli.specs.Settings.{said_by, unsaid, state_said, cut_said, settings_said};
 
-use crate::print::Settings;
+use crate::settings::Settings;
 use html5ever_interface::states::{RawKind, State};
 use html5table::{has_form, profile};
 use std::alloc::Allocator;

@@ -3,5 +3,9 @@
 #![tactic(auto)]
 
 pub mod arguments;
+mod cuts;
+pub mod feeding;
+mod output;
 pub mod print;
 pub mod run;
+pub mod settings;

@@ -9,7 +9,7 @@ use crate::clones::check_clones;
 use crate::pieces::{Cutting, Due, feed_pieces, pieces_of};
 use crate::so_far::SoFar;
 use html5cli::arguments::settings_of;
-use html5cli::print::{Settings, options_of};
+use html5cli::settings::{Settings, options_of};
 use html5ever::tokenizer::laws::closed;
 use html5ever_interface::collect::Collector;
 use html5table::references_of;

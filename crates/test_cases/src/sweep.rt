@@ -6,7 +6,7 @@ ghost use Rattle.html5table.specs.Listed.{listed};
 
 use crate::case::WorkedCase;
 use html5cli::arguments::settings_of;
-use html5cli::print::{Settings, options_of};
+use html5cli::settings::{Settings, options_of};
 use html5ever::tokenizer::steps::{Step, run_steps};
 use html5ever_interface::collect::Collector;
 use html5table::references_of;

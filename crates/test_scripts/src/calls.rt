@@ -3,7 +3,7 @@
 ghost use Rattle.std.specs.Prelude.{◌≡◌, false, IfOk};
 ghost use Rattle.html5feed.specs.Starting.{CanStart};
 
-use html5cli::print::{Settings, options_of};
+use html5cli::settings::{Settings, options_of};
 use html5ever::TokenizerError;
 use html5ever::tokenizer::pieces::feed_pieces;
 use html5ever::tokenizer::steps::feed_until_done;

@@ -5,7 +5,7 @@ use crate::calls::{
 };
 use crate::script::{Call, Law, Step, Whole};
 use crate::wholes::{joined, pieces_of, read, read_item};
-use html5cli::print::Settings;
+use html5cli::settings::Settings;
 use html5ever::tokenizer::{Tokenizer, steps};
 use html5ever_interface::interface::sink::TokenSink;
 use html5ever_interface::interface::token::Token;

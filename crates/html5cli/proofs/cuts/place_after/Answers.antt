@@ -1,7 +1,7 @@
 use Rattle.std.proofs.Common.{length, refl, ap, arith}
 use Rattle.std.specs.Str.{IsCharBoundary}
 use Rattle.std.proofs.lemmas.Str.{IsUtf8-take, IsUtf8-drop}
-use Rattle.html5cli.proofs.print.place_after.Goals as goal
+use Rattle.html5cli.proofs.cuts.place_after.Goals as goal
 
 pub returns-then-left-eq0-clause-boundary : goal.returns-then-left-eq0-clause-boundary
 returns-then-left-eq0-clause-boundary c =

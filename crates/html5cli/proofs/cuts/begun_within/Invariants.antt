@@ -1,5 +1,5 @@
 use Rattle.std.proofs.Common.{◌≤◌}
-use Rattle.html5cli.proofs.print.begun_within.Given as goal
+use Rattle.html5cli.proofs.cuts.begun_within.Given as goal
 
 abbrev pub invariant-loop-k : goal.invariant-loop-k
 invariant-loop-k l = l.begun ≤ l.k

@@ -1,5 +1,5 @@
 use Rattle.std.proofs.Common.{◌-◌, ◌<◌, ◌≤◌, length}
-use Rattle.html5cli.proofs.print.prefix_len.Given as goal
+use Rattle.html5cli.proofs.cuts.prefix_len.Given as goal
 
 abbrev pub invariant-loop-left : goal.invariant-loop-left
 invariant-loop-left l = (0 < l.len) × (l.len ≤ length l.text)

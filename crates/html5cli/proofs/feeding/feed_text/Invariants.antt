@@ -1,6 +1,6 @@
 use Rattle.std.proofs.Common.{◌≡◌, ◌-◌, length}
 use Rattle.html5cli.proofs.Feeding.{FedTo}
-use Rattle.html5cli.proofs.print.feed_text.Given as goal
+use Rattle.html5cli.proofs.feeding.feed_text.Given as goal
 
 abbrev pub invariant-loop-start : goal.invariant-loop-start
 invariant-loop-start g l = record {

@@ -6,7 +6,7 @@ use Rattle.token_printer.specs.Output.{Printer}
 use Rattle.html5cli.specs.Printing.{WritesFront}
 use Rattle.html5cli.proofs.Cuts.{IsCut, IsPiece-sliced, IsCut-further, IsCut-boundary}
 use Rattle.html5cli.proofs.Feeding.{FedTo, FedTo-start, FedTo-more, FedTo-all, FedTo-short, FedTo-unwritten, WritesFront-none, on_err-anyway}
-use Rattle.html5cli.proofs.print.feed_text.Goals as goal
+use Rattle.html5cli.proofs.feeding.feed_text.Goals as goal
 
 pub loop-start-init : goal.loop-start-init
 loop-start-init g c = record {
