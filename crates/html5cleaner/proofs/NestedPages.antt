@@ -5,10 +5,11 @@ use Rattle.std.specs.Str.{chars}
 use Rattle.html5ever_interface.specs.Options.{default_options}
 use Rattle.html5ever_interface.specs.Sink.{Message, stepped}
 use Rattle.html5ever_interface.specs.Token.{Told}
-use Rattle.html5ever_interface.specs.Token.Told.{Text, Null, Error, Tag, Comment, Instruction, Doctype, End}
+use Rattle.html5ever_interface.specs.Token.Told.{End}
 use Rattle.html5ever_interface.proofs.Steppings.{stepped-append}
 use Rattle.html5reading.specs.Start.{Rules, start_of}
-use Rattle.html5sinks.specs.Runs.{Joined, Running, joined_step, runs_step}
+use Rattle.html5sinks.specs.Runs.{Running, runs_step}
+use Rattle.html5stream.proofs.Handed.{kept-handed, kept-stepped}
 use Rattle.html5stream.specs.Pages.{runs_handed, runs_means, runs_page, runs_start}
 use Rattle.markup5ever.specs.NamedReferences.{NamedReference}
 use Rattle.html5policy.specs.Policy.{PolicyOf}
@@ -30,24 +31,8 @@ goes-step c run told line goes =
     go-append c.policy.balance [] c.opened (open_by c.policy.balance (is_end told) c.opened kept) c.pieces (written_by c.policy.balance (is_end told) c.opened kept) goes
     (written-goes c.policy.balance (is_end told) c.opened kept)
 
-goes-joined : (j : Joined Cleaned) (told : Told) (line : ℕ) → GoesOn j.handler → GoesOn (joined_step clean_step j told line).handler
-goes-joined j (Text text) line goes = goes
-goes-joined j (Error message) line goes = goes-step j.handler [] (Error message) line goes
-goes-joined j Null line goes = goes-step j.handler j.run Null line goes
-goes-joined j (Tag tag) line goes = goes-step j.handler j.run (Tag tag) line goes
-goes-joined j (Comment text) line goes = goes-step j.handler j.run (Comment text) line goes
-goes-joined j (Instruction content) line goes = goes-step j.handler j.run (Instruction content) line goes
-goes-joined j (Doctype doctype) line goes = goes-step j.handler j.run (Doctype doctype) line goes
-goes-joined j End line goes = goes-step j.handler j.run End line goes
-
-goes-stepped : (r : Running Cleaned) (M : List Message) → GoesOn r.joined.handler → GoesOn (stepped (runs_step clean_step) r M).joined.handler
-unfolding stepped
-goes-stepped r [] goes = goes
-goes-stepped r (m ∷ M) goes = goes-stepped (runs_step clean_step r m.token m.line) M (goes-joined r.joined m.token m.line goes)
-
 goes-by_its_policy : (policy : PolicyOf) (M : List Message) → GoesOn (runs_handed clean_step (at_start policy) M)
-unfolding runs_handed
-goes-by_its_policy policy M = goes-stepped (runs_start (at_start policy)) M refl
+goes-by_its_policy policy M = kept-handed clean_step GoesOn goes-step (at_start policy) M refl
 
 pub goes-handed : (policy : PolicyOf) (M : List Message) → AllGo policy.balance [] (runs_handed clean_step (at_start policy) M).pieces (runs_handed clean_step (at_start policy) M).opened
 goes-handed policy M =
@@ -72,7 +57,7 @@ closed-after policy M last =
     let start = runs_start (at_start policy) in
     ap (λ N. (stepped (runs_step clean_step) start N).joined.handler.opened) last.is
     ∙ ap (λ (r : Running Cleaned). r.joined.handler.opened) (stepped-append (runs_step clean_step) start last.before (record { token = End; line = last.line } ∷ []))
-    ∙ closed-at_end (stepped (runs_step clean_step) start last.before) last.line (goes-stepped start last.before refl)
+    ∙ closed-at_end (stepped (runs_step clean_step) start last.before) last.line (kept-stepped clean_step GoesOn goes-step start last.before refl)
 
 -- after a whole page nothing is open
 pub closed-page : (policy : PolicyOf) (references : List NamedReference) (bytes : List ℕ) → (runs_handed clean_step (at_start policy) (runs_page clean_step references (at_start policy) bytes)).opened ≡ []

@@ -1,11 +1,11 @@
 -- By the rule `balance` only end tags come and go.
-use Rattle.std.proofs.Common.{◌≡◌, ℕ, List, [], ◌∷◌, ◌++◌, filter, refl, ap, sym, ◌∙◌}
+use Rattle.std.proofs.Common.{◌≡◌, ℕ, List, ◌++◌, filter, refl, ap, sym, ◌∙◌}
 use Rattle.std.proofs.lemmas.List.Elements.{filter-append}
-use Rattle.html5ever_interface.specs.Sink.{Message, stepped}
+use Rattle.html5ever_interface.specs.Sink.{Message}
 use Rattle.html5ever_interface.specs.Token.{Told}
-use Rattle.html5ever_interface.specs.Token.Told.{Text, Null, Error, Tag, Comment, Instruction, Doctype, End}
-use Rattle.html5sinks.specs.Runs.{Joined, Running, joined_step, runs_step}
-use Rattle.html5stream.specs.Pages.{runs_handed, runs_page, runs_start}
+use Rattle.html5ever_interface.specs.Token.Told.{Tag}
+use Rattle.html5stream.proofs.Handed.{between-handed}
+use Rattle.html5stream.specs.Pages.{runs_handed, runs_page}
 use Rattle.markup5ever.specs.NamedReferences.{NamedReference}
 use Rattle.html5policy.specs.Policy.{PolicyOf, hides, is_allowed, is_kept}
 use Rattle.html5write.specs.Pieces.{Piece}
@@ -50,41 +50,11 @@ twin-step policy c twin run told line t =
           ∙ sym (filter-append is_no_end_tag twin.pieces (written_by twin.policy.balance (is_end told) twin.opened other));
     }
 
--- the same of handlers to which one text waits
-record AreTwins (policy : PolicyOf) (j twin : Joined Cleaned) : Type 0 where
-  run : j.run ≡ twin.run
-  handler : IsTwin policy j.handler twin.handler
-
-twins-after : (policy : PolicyOf) (j twin : Joined Cleaned) (told : Told) (line : ℕ) → AreTwins policy j twin
-    → AreTwins policy (record { handler = clean_step j.handler j.run told line; run = [] }) (record { handler = clean_step twin.handler twin.run told line; run = [] })
-twins-after policy j twin told line t = record {
-  run = refl;
-  handler = rw (sym t.run) (twin-step policy j.handler twin.handler j.run told line t.handler);
-}
-
-twins-joined : (policy : PolicyOf) (j twin : Joined Cleaned) (told : Told) (line : ℕ) → AreTwins policy j twin → AreTwins policy (joined_step clean_step j told line) (joined_step clean_step twin told line)
-twins-joined policy j twin (Text text) line t = record { run = ap (λ l. l ++ text) t.run; handler = t.handler }
-twins-joined policy j twin (Error message) line t = record { run = t.run; handler = twin-step policy j.handler twin.handler [] (Error message) line t.handler }
-twins-joined policy j twin Null line t = twins-after policy j twin Null line t
-twins-joined policy j twin (Tag tag) line t = twins-after policy j twin (Tag tag) line t
-twins-joined policy j twin (Comment text) line t = twins-after policy j twin (Comment text) line t
-twins-joined policy j twin (Instruction content) line t = twins-after policy j twin (Instruction content) line t
-twins-joined policy j twin (Doctype doctype) line t = twins-after policy j twin (Doctype doctype) line t
-twins-joined policy j twin End line t = twins-after policy j twin End line t
-
-twins-stepped : (policy : PolicyOf) (r twin : Running Cleaned) (M : List Message) → AreTwins policy r.joined twin.joined
-    → AreTwins policy (stepped (runs_step clean_step) r M).joined (stepped (runs_step clean_step) twin M).joined
-unfolding stepped
-twins-stepped policy r twin [] t = t
-twins-stepped policy r twin (m ∷ M) t =
-    twins-stepped policy (runs_step clean_step r m.token m.line) (runs_step clean_step twin m.token m.line) M (twins-joined policy r.joined twin.joined m.token m.line t)
-
 twins-handed : (policy : PolicyOf) (M : List Message)
     → filter is_no_end_tag (runs_handed clean_step (at_start policy) M).pieces ≡ filter is_no_end_tag (runs_handed clean_step (at_start (without_balance policy)) M).pieces
-unfolding runs_handed
 twins-handed policy M =
-    (twins-stepped policy (runs_start (at_start policy)) (runs_start (at_start (without_balance policy))) M
-    (record { run = refl; handler = record { keeps = refl; plain = refl; hidden = refl; others = refl } })).handler.others
+    (between-handed clean_step clean_step (IsTwin policy) (twin-step policy) (at_start policy) (at_start (without_balance policy)) M
+    (record { keeps = refl; plain = refl; hidden = refl; others = refl })).others
 
 -- of a page whose bytes are given
 pub same-others : (policy : PolicyOf) (references : List NamedReference) (bytes : List ℕ)

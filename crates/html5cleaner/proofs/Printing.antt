@@ -1,13 +1,12 @@
 -- What is printed of a page is what is kept of it.
-use Rattle.std.proofs.Common.{◌≡◌, ℕ, true, Option, List, [], ◌∷◌, ◌++◌, refl, ap, sym, ◌∙◌, subst, append_assoc, encode_utf8_all}
+use Rattle.std.proofs.Common.{◌≡◌, ℕ, true, Option, List, [], ◌++◌, refl, ap, sym, ◌∙◌, subst, append_assoc, encode_utf8_all}
 use Rattle.std.proofs.lemmas.List.{append-nil}
 use Rattle.std.proofs.lemmas.List.Concat.{flat_map-append}
 use Rattle.std.proofs.lemmas.Str.{encodes-append}
-use Rattle.html5ever_interface.specs.Sink.{Message, stepped}
+use Rattle.html5ever_interface.specs.Sink.{Message}
 use Rattle.html5ever_interface.specs.Token.{Told}
-use Rattle.html5ever_interface.specs.Token.Told.{Text, Null, Error, Tag, Comment, Instruction, Doctype, End}
-use Rattle.html5sinks.specs.Runs.{Joined, Running, joined_of, joined_step, runs_step}
-use Rattle.html5stream.specs.Pages.{ReadsPage, ReadsPageItems, StopsPage, runs_after, runs_handed, runs_page, runs_start}
+use Rattle.html5stream.specs.Pages.{ReadsPage, ReadsPageItems, StopsPage, runs_after, runs_handed, runs_page}
+use Rattle.html5stream.proofs.Handed.{between-handed, kept-handed}
 use Rattle.html5stream.proofs.ByItems.{page-items, runs-composed}
 use Rattle.markup5ever.specs.NamedReferences.{NamedReference, IsTable}
 use Rattle.html5cleaner.proofs.SameReadings.{page-same}
@@ -35,56 +34,17 @@ printed-step before c run told line =
     append_assoc before (page_bytes c.pieces) (page_bytes more) ∙ ap (λ l. before ++ l) (sym (page_bytes-append c.pieces more)) in
     ap (λ l. record { policy = c.policy; printed = l; hidden = (clean_step c run told line).hidden; opened = (clean_step c run told line).opened }) printed
 
--- the same for a handler to which text may wait
-joined_after : List ℕ → Joined Cleaned → Joined Cleaning
-joined_after before j = joined_of (printed_after before j.handler) j.run
-
-joined-step : (before : List ℕ) (j : Joined Cleaned) (told : Told) (line : ℕ)
-    → joined_step cleaning_step (joined_after before j) told line ≡ joined_after before (joined_step clean_step j told line)
-unfolding joined_after
-joined-step before j (Text text) line = refl
-joined-step before j (Error message) line = ap (λ h. joined_of h j.run) (printed-step before j.handler [] (Error message) line)
-joined-step before j Null line = ap (λ h. joined_of h []) (printed-step before j.handler j.run Null line)
-joined-step before j (Tag tag) line = ap (λ h. joined_of h []) (printed-step before j.handler j.run (Tag tag) line)
-joined-step before j (Comment text) line = ap (λ h. joined_of h []) (printed-step before j.handler j.run (Comment text) line)
-joined-step before j (Instruction content) line = ap (λ h. joined_of h []) (printed-step before j.handler j.run (Instruction content) line)
-joined-step before j (Doctype doctype) line = ap (λ h. joined_of h []) (printed-step before j.handler j.run (Doctype doctype) line)
-joined-step before j End line = ap (λ h. joined_of h []) (printed-step before j.handler j.run End line)
-
-printed-stepped : (before : List ℕ) (s : Running Cleaning) (r : Running Cleaned) (M : List Message) → s.joined ≡ joined_after before r.joined
-    → (stepped (runs_step cleaning_step) s M).joined ≡ joined_after before (stepped (runs_step clean_step) r M).joined
-unfolding stepped
-printed-stepped before s r [] same = same
-printed-stepped before s r (m ∷ M) same =
-    printed-stepped before (runs_step cleaning_step s m.token m.line) (runs_step clean_step r m.token m.line) M
-    (ap (λ j. joined_step cleaning_step j m.token m.line) same ∙ joined-step before r.joined m.token m.line)
-
 pub printed-handed : (s : Standing) (M : List Message) → runs_handed cleaning_step (page_start s) M ≡ printed_after s.printed (runs_handed clean_step (at_start s.policy) M)
-unfolding runs_handed joined_after
 printed-handed s M =
-    ap (λ j. j.handler) (printed-stepped s.printed (runs_start (page_start s)) (runs_start (at_start s.policy)) M
-    (ap (λ l. joined_of (record { policy = s.policy; printed = l; hidden = (at_start s.policy).hidden; opened = [] }) []) (sym (append-nil s.printed))))
+    between-handed clean_step cleaning_step (λ c p. p ≡ printed_after s.printed c)
+    (λ c p run told line same. ap (λ q. cleaning_step q run told line) same ∙ printed-step s.printed c run told line)
+    (at_start s.policy) (page_start s) M
+    (ap (λ l. record { policy = s.policy; printed = l; hidden = (at_start s.policy).hidden; opened = [] }) (sym (append-nil s.printed)))
 
 -- ---- the policy stays
 
-pub policy-joined : (j : Joined Cleaned) (told : Told) (line : ℕ) → (joined_step clean_step j told line).handler.policy ≡ j.handler.policy
-policy-joined j (Text text) line = refl
-policy-joined j (Error message) line = refl
-policy-joined j Null line = refl
-policy-joined j (Tag tag) line = refl
-policy-joined j (Comment text) line = refl
-policy-joined j (Instruction content) line = refl
-policy-joined j (Doctype doctype) line = refl
-policy-joined j End line = refl
-
-policy-stepped : (r : Running Cleaned) (M : List Message) → (stepped (runs_step clean_step) r M).joined.handler.policy ≡ r.joined.handler.policy
-unfolding stepped
-policy-stepped r [] = refl
-policy-stepped r (m ∷ M) = policy-stepped (runs_step clean_step r m.token m.line) M ∙ policy-joined r.joined m.token m.line
-
 pub policy-handed : (policy : PolicyOf) (M : List Message) → (runs_handed clean_step (at_start policy) M).policy ≡ policy
-unfolding runs_handed
-policy-handed policy M = policy-stepped (runs_start (at_start policy)) M
+policy-handed policy M = kept-handed clean_step (λ c. c.policy ≡ policy) (λ c run told line same. same) (at_start policy) M refl
 
 -- ---- what is written stays clean
 
@@ -92,24 +52,8 @@ policy-handed policy M = policy-stepped (runs_start (at_start policy)) M
 abbrev IsCleaned : Cleaned → Type 0
 IsCleaned c = AreClean c.policy c.pieces c.opened
 
-clean-joined : (j : Joined Cleaned) (told : Told) (line : ℕ) → IsCleaned j.handler → IsCleaned (joined_step clean_step j told line).handler
-clean-joined j (Text text) line clean = clean
-clean-joined j (Error message) line clean = are_clean-step j.handler [] (Error message) line clean
-clean-joined j Null line clean = are_clean-step j.handler j.run Null line clean
-clean-joined j (Tag tag) line clean = are_clean-step j.handler j.run (Tag tag) line clean
-clean-joined j (Comment text) line clean = are_clean-step j.handler j.run (Comment text) line clean
-clean-joined j (Instruction content) line clean = are_clean-step j.handler j.run (Instruction content) line clean
-clean-joined j (Doctype doctype) line clean = are_clean-step j.handler j.run (Doctype doctype) line clean
-clean-joined j End line clean = are_clean-step j.handler j.run End line clean
-
-clean-stepped : (r : Running Cleaned) (M : List Message) → IsCleaned r.joined.handler → IsCleaned (stepped (runs_step clean_step) r M).joined.handler
-unfolding stepped
-clean-stepped r [] clean = clean
-clean-stepped r (m ∷ M) clean = clean-stepped (runs_step clean_step r m.token m.line) M (clean-joined r.joined m.token m.line clean)
-
 clean-by_its_policy : (policy : PolicyOf) (M : List Message) → IsCleaned (runs_handed clean_step (at_start policy) M)
-unfolding runs_handed
-clean-by_its_policy policy M = clean-stepped (runs_start (at_start policy)) M (record { written = refl; closing = refl })
+clean-by_its_policy policy M = kept-handed clean_step IsCleaned are_clean-step (at_start policy) M (record { written = refl; closing = refl })
 
 pub clean-handed : (policy : PolicyOf) (M : List Message) → list_all (is_clean policy) (runs_handed clean_step (at_start policy) M).pieces ≡ true
 clean-handed policy M =

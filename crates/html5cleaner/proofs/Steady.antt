@@ -5,12 +5,11 @@ use Rattle.std.specs.List.{list_all, list_any}
 use Rattle.std.proofs.lemmas.Bool.{false≢true}
 use Rattle.std.proofs.lemmas.List.{append-nil, take-map}
 use Rattle.std.proofs.lemmas.List.Elements.{filter-append}
-use Rattle.html5ever_interface.specs.Sink.{Message, stepped}
+use Rattle.html5ever_interface.specs.Sink.{Message}
 use Rattle.html5ever_interface.specs.Token.{Told, TagOf}
 use Rattle.html5ever_interface.specs.Token.Told.{Text, Null, Error, Tag, Comment, Instruction, Doctype, End}
 use Rattle.html5ever_interface.specs.declared.interface.token.TagKind.{TagKind}
 use Rattle.html5ever_interface.specs.declared.interface.token.TagKind.TheVariants.{StartTag, EndTag}
-use Rattle.html5sinks.specs.Runs.{Joined, Running, joined_step, runs_step}
 use Rattle.html5policy.specs.Addresses.{is_safe_address}
 use Rattle.html5policy.specs.Names.{always_hides, is_address, is_one_of}
 use Rattle.html5policy.specs.Policy.{PolicyOf, hides, is_allowed, is_kept, is_named, is_rel_of_link}
@@ -22,7 +21,7 @@ use Rattle.html5write.specs.Told.{attribute_told, end_tag_told, start_tag_told}
 use Rattle.html5cleaner.specs.Allowed.{is_allowed_piece, is_clean, is_kept_attribute}
 use Rattle.html5cleaner.specs.Balance.{all_balanced, all_open_after, balanced, end_tags, is_end, open_after, written_by}
 use Rattle.html5cleaner.specs.Open.{closed_by}
-use Rattle.html5stream.specs.Pages.{runs_handed, runs_start}
+use Rattle.html5stream.specs.Pages.{runs_handed}
 use Rattle.html5cleaner.specs.Clean.{Cleaned, adds_noopener, at_start, allows_by_kind, attribute_chars, clean_step, is_href, kept, kept_attributes, kept_of_parts, kept_of_run, kept_of_tag, kept_of_token, kept_where, noopener_attribute, opens, piece_by_kind, where_writable, with_noopener}
 use Rattle.html5elements.specs.Elements.{is_empty_element}
 use Rattle.html5cleaner.proofs.Encoded.{chars-encoded}
@@ -30,7 +29,8 @@ use lib.Utf8.{encode}
 use Rattle.html5cleaner.proofs.Replies.{and-left, and-right}
 use Rattle.html5cleaner.proofs.CleanBalanced.{CanClose, all_can-close, can-close-after, can-close-by}
 use Rattle.html5cleaner.proofs.CleanPieces.{clean-where_shown}
-use Rattle.html5cleaner.proofs.Printing.{policy-handed, policy-joined}
+use Rattle.html5cleaner.proofs.Printing.{policy-handed}
+use Rattle.html5stream.proofs.Handed.{kept-handed}
 
 -- ---- attributes that were kept
 
@@ -254,26 +254,9 @@ steady-step c run told line sound s =
       can = can-close-by c.policy c.policy.balance (is_end told) c.opened kept s.can clean;
     }
 
-steady-joined : (j : Joined Cleaned) (told : Told) (line : ℕ) → IsSound j.handler.policy → IsSteadyPage j.handler → IsSteadyPage (joined_step clean_step j told line).handler
-steady-joined j (Text text) line sound s = s
-steady-joined j (Error message) line sound s = steady-step j.handler [] (Error message) line sound s
-steady-joined j Null line sound s = steady-step j.handler j.run Null line sound s
-steady-joined j (Tag tag) line sound s = steady-step j.handler j.run (Tag tag) line sound s
-steady-joined j (Comment text) line sound s = steady-step j.handler j.run (Comment text) line sound s
-steady-joined j (Instruction content) line sound s = steady-step j.handler j.run (Instruction content) line sound s
-steady-joined j (Doctype doctype) line sound s = steady-step j.handler j.run (Doctype doctype) line sound s
-steady-joined j End line sound s = steady-step j.handler j.run End line sound s
-
-steady-stepped : (r : Running Cleaned) (M : List Message) → IsSound r.joined.handler.policy → IsSteadyPage r.joined.handler → IsSteadyPage (stepped (runs_step clean_step) r M).joined.handler
-unfolding stepped
-steady-stepped r [] sound s = s
-steady-stepped r (m ∷ M) sound s =
-    steady-stepped (runs_step clean_step r m.token m.line) M (subst (λ (p : PolicyOf). IsSound p) (sym (policy-joined r.joined m.token m.line)) sound)
-    (steady-joined r.joined m.token m.line sound s)
-
 -- the pieces that were written of messages
 pub steady-handed : (policy : PolicyOf) → IsSound policy → (M : List Message) → AreSteady policy (runs_handed clean_step (at_start policy) M).pieces
-unfolding runs_handed
 steady-handed policy sound M =
     subst (λ (p : PolicyOf). AreSteady p (runs_handed clean_step (at_start policy) M).pieces) (policy-handed policy M)
-    (steady-stepped (runs_start (at_start policy)) M sound (record { steady = tt; can = refl })).steady
+    (kept-handed clean_step (λ c. IsSound c.policy × IsSteadyPage c) (λ c run told line s. (s.0, steady-step c run told line s.0 s.1)) (at_start policy) M
+    (sound, record { steady = tt; can = refl })).1.steady

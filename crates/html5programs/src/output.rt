@@ -1,8 +1,7 @@
 //! What a program prints to.
 ghost use Rattle.std.specs.Prelude.{◌≡◌, false};
 
-use devices::Target;
-use ghost_counts::Count;
+use devices::{Target, WriteTarget};
 use std::io;
 use std::io::{ErrorKind, Write};
 use std::marker::Model;
@@ -10,9 +9,8 @@ use std::marker::Model;
 /// A writer as a target, which knows whether its reader has gone away.
 #[derive(Drop)]
 pub struct Output<W> {
-    inner: W,
+    target: WriteTarget<W>,
     is_closed: bool,
-    failures: Count,
 }
 
 impl<W> Model for Output<W> {
@@ -20,7 +18,7 @@ impl<W> Model for Output<W> {
 
     ghost Value = { Piped W };
 
-    ghost view = { λ o. record { inner = o.inner; is_closed = o.is_closed; failures = o.failures.total } };
+    ghost view = { λ o. record { inner = o.target.inner; is_closed = o.is_closed; failures = o.target.failures } };
 }
 
 impl<W> Output<W> {
@@ -30,9 +28,8 @@ impl<W> Output<W> {
         ensures failures { result.failures ≡ 0 }
     {
         Output {
-            inner,
+            target: WriteTarget::new(inner),
             is_closed: false,
-            failures: Count::new(),
         }
     }
 
@@ -50,15 +47,10 @@ impl<W: Write> Target for Output<W> {
     ghost failures = { λ t. t.failures };
 
     fn write(&mut self, buf: &[u8]) -> io::Result<usize> {
-        match self.inner.write(buf) {
-            Ok(0) if !buf.is_empty() => {
-                self.failures.add(1);
-                Ok(0)
-            }
+        match self.target.write(buf) {
             Ok(n) => Ok(n),
             Err(e) => {
                 self.is_closed = e.kind() == ErrorKind::BrokenPipe;
-                self.failures.add(1);
                 Err(e)
             }
         }

@@ -3,11 +3,10 @@ use Rattle.std.proofs.Common.{◌≡◌, ℕ, Bool, true, false, List, [], ◌�
 use Rattle.std.specs.Prelude.{◌==◌, if◌then◌else◌}
 use Rattle.std.specs.List.{list_all}
 use Rattle.std.proofs.lemmas.List.Folds.{list_all-append}
-use Rattle.html5ever_interface.specs.Sink.{Message, stepped}
+use Rattle.html5ever_interface.specs.Sink.{Message}
 use Rattle.html5ever_interface.specs.Token.{Told, TagOf}
 use Rattle.html5ever_interface.specs.Token.Told.{Text, Null, Error, Tag, Comment, Instruction, Doctype, End}
-use Rattle.html5sinks.specs.Runs.{Joined, Running, joined_step, runs_step}
-use Rattle.html5stream.specs.Pages.{runs_handed, runs_start}
+use Rattle.html5stream.proofs.Handed.{kept-handed}
 use Rattle.html5write.specs.Pieces.{Piece}
 use Rattle.html5write.specs.Pieces.Piece.{TextPiece}
 use Rattle.html5rewrite.specs.Plain.{attribute_chars, is_plain, piece_by_kind, plain_attributes, where_plain, written_of_run, written_of_tag}
@@ -57,22 +56,6 @@ plain-more : (r : Rewriting) (run : List ℕ) (told : Told) → list_all is_plai
 plain-more r run told before =
     list_all-append is_plain r.pieces (written_where r.rewriter r.hidden.depth run told) ∙ rw (before, plain-shown (r.hidden.depth == 0) r.rewriter run told) refl
 
-plain-joined : (j : Joined Rewriting) (told : Told) (line : ℕ) → list_all is_plain j.handler.pieces ≡ true → list_all is_plain (joined_step rewriting_step j told line).handler.pieces ≡ true
-plain-joined j (Text text) line plain = plain
-plain-joined j (Error message) line plain = plain-more j.handler [] (Error message) plain
-plain-joined j Null line plain = plain-more j.handler j.run Null plain
-plain-joined j (Tag tag) line plain = plain-more j.handler j.run (Tag tag) plain
-plain-joined j (Comment text) line plain = plain-more j.handler j.run (Comment text) plain
-plain-joined j (Instruction content) line plain = plain-more j.handler j.run (Instruction content) plain
-plain-joined j (Doctype doctype) line plain = plain-more j.handler j.run (Doctype doctype) plain
-plain-joined j End line plain = plain-more j.handler j.run End plain
-
-plain-stepped : (r : Running Rewriting) (M : List Message) → list_all is_plain r.joined.handler.pieces ≡ true
-    → list_all is_plain (stepped (runs_step rewriting_step) r M).joined.handler.pieces ≡ true
-unfolding stepped
-plain-stepped r [] plain = plain
-plain-stepped r (m ∷ M) plain = plain-stepped (runs_step rewriting_step r m.token m.line) M (plain-joined r.joined m.token m.line plain)
-
 pub plain-pieces : (rewriter : Rewriter) (M : List Message) → list_all is_plain (pieces_of rewriter M) ≡ true
-unfolding runs_handed
-plain-pieces rewriter M = plain-stepped (runs_start (start_of_page rewriter)) M refl
+plain-pieces rewriter M =
+    kept-handed rewriting_step (λ r. list_all is_plain r.pieces ≡ true) (λ r run told line plain. plain-more r run told plain) (start_of_page rewriter) M refl

@@ -1,13 +1,12 @@
 -- What is written of a page is what its rewriter keeps of it.
-use Rattle.std.proofs.Common.{◌≡◌, ℕ, Option, List, [], ◌∷◌, ◌++◌, refl, ap, sym, ◌∙◌, append_assoc, encode_utf8_all}
+use Rattle.std.proofs.Common.{◌≡◌, ℕ, Option, List, ◌++◌, ap, sym, ◌∙◌, append_assoc, encode_utf8_all}
 use Rattle.std.proofs.lemmas.List.{append-nil}
 use Rattle.std.proofs.lemmas.List.Concat.{flat_map-append}
 use Rattle.std.proofs.lemmas.Str.{encodes-append}
-use Rattle.html5ever_interface.specs.Sink.{Message, stepped}
+use Rattle.html5ever_interface.specs.Sink.{Message}
 use Rattle.html5ever_interface.specs.Token.{Told}
-use Rattle.html5ever_interface.specs.Token.Told.{Text, Null, Error, Tag, Comment, Instruction, Doctype, End}
-use Rattle.html5sinks.specs.Runs.{Joined, Running, joined_of, joined_step, runs_step}
-use Rattle.html5stream.specs.Pages.{ReadsPage, ReadsPageItems, StopsPage, runs_after, runs_handed, runs_page, runs_start}
+use Rattle.html5stream.specs.Pages.{ReadsPage, ReadsPageItems, StopsPage, runs_after, runs_handed, runs_page}
+use Rattle.html5stream.proofs.Handed.{between-handed}
 use Rattle.html5stream.proofs.ByItems.{page-items, runs-composed}
 use Rattle.markup5ever.specs.NamedReferences.{NamedReference, IsTable}
 use Rattle.html5write.specs.Pieces.{Piece, pieces_text, piece_text}
@@ -30,36 +29,13 @@ written-step before r run told line =
     append_assoc before (page_bytes r.pieces) (page_bytes more) ∙ ap (λ l. before ++ l) (sym (page_bytes-append r.pieces more)) in
     ap (λ l. record { rewriter = r.rewriter; bytes = l; hidden = (rewriting_step r run told line).hidden }) bytes
 
--- the same for a handler to which text may wait
-joined_after : List ℕ → Joined Rewriting → Joined Written
-joined_after before j = joined_of (written_after before j.handler) j.run
-
-joined-step : (before : List ℕ) (j : Joined Rewriting) (told : Told) (line : ℕ)
-    → joined_step writing_step (joined_after before j) told line ≡ joined_after before (joined_step rewriting_step j told line)
-unfolding joined_after
-joined-step before j (Text text) line = refl
-joined-step before j (Error message) line = ap (λ h. joined_of h j.run) (written-step before j.handler [] (Error message) line)
-joined-step before j Null line = ap (λ h. joined_of h []) (written-step before j.handler j.run Null line)
-joined-step before j (Tag tag) line = ap (λ h. joined_of h []) (written-step before j.handler j.run (Tag tag) line)
-joined-step before j (Comment text) line = ap (λ h. joined_of h []) (written-step before j.handler j.run (Comment text) line)
-joined-step before j (Instruction content) line = ap (λ h. joined_of h []) (written-step before j.handler j.run (Instruction content) line)
-joined-step before j (Doctype doctype) line = ap (λ h. joined_of h []) (written-step before j.handler j.run (Doctype doctype) line)
-joined-step before j End line = ap (λ h. joined_of h []) (written-step before j.handler j.run End line)
-
-written-stepped : (before : List ℕ) (s : Running Written) (r : Running Rewriting) (M : List Message) → s.joined ≡ joined_after before r.joined
-    → (stepped (runs_step writing_step) s M).joined ≡ joined_after before (stepped (runs_step rewriting_step) r M).joined
-unfolding stepped
-written-stepped before s r [] same = same
-written-stepped before s r (m ∷ M) same =
-    written-stepped before (runs_step writing_step s m.token m.line) (runs_step rewriting_step r m.token m.line) M
-    (ap (λ j. joined_step writing_step j m.token m.line) same ∙ joined-step before r.joined m.token m.line)
-
 written-handed : (rewriter : Rewriter) (before : List ℕ) (M : List Message)
     → runs_handed writing_step (start_of_writing rewriter before) M ≡ written_after before (runs_handed rewriting_step (start_of_page rewriter) M)
-unfolding runs_handed joined_after
 written-handed rewriter before M =
-    ap (λ j. j.handler) (written-stepped before (runs_start (start_of_writing rewriter before)) (runs_start (start_of_page rewriter)) M
-    (ap (λ l. joined_of (start_of_writing rewriter l) []) (sym (append-nil before))))
+    between-handed rewriting_step writing_step (λ r w. w ≡ written_after before r)
+    (λ r w run told line same. ap (λ v. writing_step v run told line) same ∙ written-step before r run told line)
+    (start_of_page rewriter) (start_of_writing rewriter before) M
+    (ap (λ l. start_of_writing rewriter l) (sym (append-nil before)))
 
 -- a page that was read is written as it is kept
 pub reads-written : (rewriter : Rewriter) (references : List NamedReference) (unread left : Option (List ℕ)) (before : List ℕ) (after : Written)

@@ -3,9 +3,9 @@
 
 mod entry;
 mod list;
-mod profile;
+mod short_list;
 mod table;
 
 pub use crate::list::{entries_of, has_form};
-pub use crate::profile::profile;
+pub use crate::short_list::profile;
 pub use crate::table::references_of;

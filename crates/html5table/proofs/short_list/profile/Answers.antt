@@ -2,7 +2,7 @@ use Rattle.std.proofs.Common.{refl}
 use Rattle.markup5ever.specs.NamedReferences.{fault_after, first_fault_after, has_zero, is_plain_name, characters_of_name}
 use Rattle.html5table.specs.Listed.{listed, entries_said, entry_said, characters_said, character_said, parts_round}
 use Rattle.html5table.specs.Profile.{profile_entries}
-use Rattle.html5table.proofs.profile.profile.Goals as goal
+use Rattle.html5table.proofs.short_list.profile.Goals as goal
 
 pub returns-clause-said : goal.returns-clause-said
 unfolding listed entries_said entry_said characters_said character_said parts_round profile_entries
