@@ -81,10 +81,10 @@ pub fn cleaning_twice()
         → IsTable others → page_bytes (kept_of_page policy others (page_bytes (kept_of_page policy references text)))
         ≡ page_bytes (kept_of_page policy references text) }
     ensures printed { (s : Standing) (references : List NamedReference) (M : List Message) → IsSound s.policy
-        → IsTable references → printed_of s (cleaning.pieces_messages references s
+        → IsTable references → printed_of s (cleaning.page_messages references s
         (printed_of (record { policy = s.policy; printed = [] }) M).printed) ≡ printed_and_closed s M }
     ensures whole { (s : Standing) (references : List NamedReference) (bytes : List ℕ) →
-        printed_and_closed s (cleaning.pieces_messages references s bytes) ≡ printed_of s (cleaning.pieces_messages references s bytes) }
+        printed_and_closed s (cleaning.page_messages references s bytes) ≡ printed_of s (cleaning.page_messages references s bytes) }
     ensures not_balanced { (s : Standing) (M : List Message) → s.policy.balance ≡ false
         → printed_and_closed s M ≡ printed_of s M }
 {}

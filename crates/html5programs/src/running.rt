@@ -263,8 +263,8 @@ fn filter_asked<
     ensures closed { result.1 ≡ Ending.Closed → result.0.inner.is_closed ≡ true }
     ensures words { (result.1 ≢ Ending.WrongWord) × (result.1 ≢ Ending.NoMemory) }
 {
-    let references = match read_references(rt, asked.references) {
-        Ok(references) => references,
+    let table = match read_references(rt, asked.references) {
+        Ok(table) => table,
         Err(error) => {
             messages.say("references", error);
             return (Logged::new(Output::new(stdout)), Ending::NoTable);
@@ -274,25 +274,9 @@ fn filter_asked<
         return (Logged::new(Output::new(stdout)), Ending::NoSettings);
     };
     if asked.files.is_empty() {
-        return filter_files::<F, R, I, O, E>(
-            rt,
-            &references,
-            settings,
-            &["-"],
-            stdin,
-            stdout,
-            messages,
-        );
+        return filter_files::<F, R, I, O, E>(rt, &table, settings, &["-"], stdin, stdout, messages);
     }
-    filter_files::<F, R, I, O, E>(
-        rt,
-        &references,
-        settings,
-        &asked.files,
-        stdin,
-        stdout,
-        messages,
-    )
+    filter_files::<F, R, I, O, E>(rt, &table, settings, &asked.files, stdin, stdout, messages)
 }
 
 // Prints how a program is used.
