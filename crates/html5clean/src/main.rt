@@ -20,6 +20,7 @@ standard input is read.
                      empty lines, and lines that begin with #, say nothing
   --references FILE  the table of named character references, in place of the standard's
   --help             this text
+  --version          the program's name and its version
 ";
 
 fn main(rt: HostRuntime) -> ExitCode {

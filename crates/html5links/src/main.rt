@@ -12,6 +12,7 @@ img, script and iframe, as they are written: <base> is neglected. Without a FILE
 it is -, standard input is read.
   --references FILE  the table of named character references, in place of the standard's
   --help             this text
+  --version          the program's name and its version
 ";
 
 fn main(rt: HostRuntime) -> ExitCode {

@@ -27,9 +27,15 @@ asked_of program words = words_asked (option_map (λ option. option.now) program
 abbrev pub AsksHelp : Asked → Type 0
 AsksHelp asked = asked.help ≡ true
 
--- they don't, and one of them is wrong
+-- they don't, and ask for its version
+pub record AsksVersion (asked : Asked) : Type 0 where
+  pub no_help : asked.help ≡ false
+  pub version : asked.version ≡ true
+
+-- they ask for neither, and one of them is wrong
 pub record HasWrongWord (asked : Asked) : Type 0 where
   pub no_help : asked.help ≡ false
+  pub no_version : asked.version ≡ false
   pub wrong : IsSome asked.wrong
 
 module _ {F T S : Type 0} (means : Filtering F T S) where

@@ -3,3 +3,4 @@ pub mod References
 pub mod Messages
 pub mod Filtering
 pub mod Ending
+pub mod Version

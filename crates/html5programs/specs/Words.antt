@@ -7,6 +7,8 @@ use Rattle.html5programs.specs.declared.words.Words.{Words}
 pub record Asked : Type 0 where
   -- that the program says how it is used
   pub help : Bool
+  -- that it says its version
+  pub version : Bool
   -- the file of the table of named references, and that of the program's settings, where they are given
   pub references : Option (List ℕ)
   pub settings : Option (List ℕ)
@@ -19,6 +21,7 @@ pub record Asked : Type 0 where
 abbrev pub asked_by : {Z : Type 0} → Words Z → Asked
 asked_by asked = record {
   help = asked.help;
+  version = asked.version;
   references = option_map (λ path. path.now) asked.references;
   settings = option_map (λ path. path.now) asked.settings;
   files = map (λ file. file.now) asked.files.items;
@@ -27,7 +30,7 @@ asked_by asked = record {
 
 -- what no word asks for
 abbrev pub nothing_asked : Asked
-nothing_asked = record { help = false; references = None; settings = None; files = []; wrong = None }
+nothing_asked = record { help = false; version = false; references = None; settings = None; files = []; wrong = None }
 
 -- the first wrong word is told
 abbrev pub with_wrong : Asked → List ℕ → Asked
@@ -43,6 +46,7 @@ is_file (byte ∷ other ∷ word) = not (byte == 45)
 unfoldable pub with_word : Asked → List ℕ → Asked
 with_word s word =
     if bytes_eq word (codes "--help") then record s { help = true }
+    else if bytes_eq word (codes "--version") then record s { version = true }
     else if is_file word then record s { files = s.files ++ word ∷ [] }
     else with_wrong s word
 

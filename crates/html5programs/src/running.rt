@@ -1,74 +1,26 @@
 //! Programs that read pages, and print what they make of them.
 ghost use Rattle.std.specs.Prelude.{◌≡◌, ◌≢◌, ◌⊎◌, ◌∷◌, [], true, false, Contains, IfSome, IsOk, OnOk, Some, map, option_map, string_bytes};
-ghost use Rattle.html5programs.specs.Ending.{AsksHelp, HasWrongWord, PrintsAsked, PrintsFiles, asked_of, status_of};
+ghost use Rattle.html5programs.specs.Ending.{AsksHelp, AsksVersion, HasWrongWord, PrintsAsked, PrintsFiles, asked_of, status_of};
 ghost use Rattle.html5programs.specs.Filtering.{AreSettingsAsked, ReadsFile, ReadsFiles};
+ghost use Rattle.html5programs.specs.Version.{version_line};
 ghost use Rattle.html5programs.specs.Words.{asked_by};
 
 use crate::ending::Ending;
+use crate::filter::Filter;
 use crate::messages::Messages;
 use crate::output::Output;
 use crate::references::read_references;
+use crate::version::version_line;
 use crate::words::{Words, words_of};
 use devices::{Logged, Printer, ReadSource, Source, Target, WriteTarget, given_words, write_all};
 use html5stream::StreamError;
 use markup5ever::data::NamedReferences;
-use std::alloc::{AllocError, Global};
-use std::fmt::Display;
+use std::alloc::Global;
 use std::fs;
 use std::fs::{File, Files};
 use std::io::{Read, Write};
 use std::rt::Env;
 use thiserror::Error;
-
-/// What a program makes of the pages that it reads: what it prints.
-pub trait Filter<W: Target + Drop>: Drop {
-    ghost use Rattle.std.specs.Prelude.{◌≡◌, ℕ, ◌+◌, List, Some, IfOk, OnOk, OnErr};
-    ghost use Rattle.html5programs.specs.Filtering.{Filtering};
-    ghost use Rattle.html5stream.specs.Pages.{ReadsPage, StopsPage};
-    ghost use Rattle.html5stream.specs.Streams.{failed_reads};
-
-    /// What a filter goes by, and why a text of settings says none.
-    type Settings: Drop;
-
-    type Fault: Display + Drop;
-
-    // The abstract state of a filter, and what it makes of settings and pages.
-    ghost State: { Type 0 };
-
-    ghost means: { Filtering Self Self.Settings State };
-
-    /// The settings where no file of them is given.
-    fn default_settings(alloc: Global) -> Result<Self::Settings, AllocError>
-        ensures { IfOk result (λ settings. settings ≡ means.unsaid) };
-
-    /// The settings that a text says.
-    fn settings_of(alloc: Global, text: &str) -> Result<Self::Settings, Self::Fault>
-        ensures { IfOk result (λ settings. means.said text.now ≡ Some settings) };
-
-    /// A filter that has read nothing, and prints to this printer.
-    fn new(alloc: Global, printer: Printer<W>, settings: Self::Settings) -> Self
-        ensures { means.state result ≡ means.started settings printer.printed };
-
-    /// Reads a page, and prints what it makes of it as it arrives: of the whole page, or after an error
-    /// of a beginning of it.
-    fn read_page<R: Source>(
-        self,
-        alloc: Global,
-        source: &mut R,
-        references: &NamedReferences,
-    ) -> (Self, Result<(), StreamError>)
-        ensures finishes { OnOk result.1 (ReadsPage (λ s bytes. means.handed s (means.page references.now s bytes))
-            (R.remaining source.old) (R.remaining source.new)
-            (means.begun (means.state self)) (means.state result.0)) }
-        ensures beginning { OnErr result.1 (StopsPage (means.page references.now) means.handed
-            (R.remaining source.old) (R.remaining source.new)
-            (means.begun (means.state self)) (means.state result.0)) }
-        ensures read { R.failures source.new ≡ R.failures source.old + failed_reads result.1 };
-
-    /// The printer, with what was printed.
-    fn into_printer(self) -> Printer<W>
-        ensures { result.printed ≡ means.printed (means.state self) };
-}
 
 /// The name of a program, how it is used, and its option for a file of settings, where it has one.
 #[derive(Clone, Copy, Debug, PartialEq, Eq)]
@@ -279,18 +231,18 @@ fn filter_asked<
     filter_files::<F, R, I, O, E>(rt, &table, settings, &asked.files, stdin, stdout, messages)
 }
 
-// Prints how a program is used.
-fn print_help<O: Write + Drop, E: Target>(
-    help: &str,
+// Prints a text, as how a program is used.
+fn print_text<O: Write + Drop, E: Target>(
+    text: &str,
     stdout: O,
     messages: &mut Messages<'_, E>,
 ) -> (Logged<Output<O>>, Ending)
-    ensures done { result.1 ≡ Ending.Done → result.0.taken ≡ help.now }
+    ensures done { result.1 ≡ Ending.Done → result.0.taken ≡ text.now }
     ensures closed { result.1 ≡ Ending.Closed → result.0.inner.is_closed ≡ true }
     ensures words { (result.1 ≢ Ending.WrongWord) × (result.1 ≢ Ending.NoMemory) }
 {
     let mut output = Logged::new(Output::new(stdout));
-    let written = write_all(&mut output, help.as_bytes());
+    let written = write_all(&mut output, text.as_bytes());
     let ending = ending_of(Outcome::Read, written.is_ok(), output.inner().is_closed());
     if ending == Ending::Unprinted {
         messages.say("output", "can't be printed");
@@ -298,8 +250,26 @@ fn print_help<O: Write + Drop, E: Target>(
     (output, ending)
 }
 
-/// Runs a program by the words after its name: prints how it is used, or what its filter makes of the
-/// files that the words name, or else of standard input. It gives the output back, and how it ended.
+// Prints the program's name and its version.
+fn print_version<O: Write + Drop, E: Target>(
+    alloc: Global,
+    name: &str,
+    stdout: O,
+    messages: &mut Messages<'_, E>,
+) -> (Logged<Output<O>>, Ending)
+    ensures done { result.1 ≡ Ending.Done → result.0.taken ≡ version_line name.now }
+    ensures closed { result.1 ≡ Ending.Closed → result.0.inner.is_closed ≡ true }
+    ensures words { result.1 ≢ Ending.WrongWord }
+{
+    let Ok(line) = version_line(alloc, name) else {
+        messages.say("version", "out of memory");
+        return (Logged::new(Output::new(stdout)), Ending::NoMemory);
+    };
+    print_text(line.as_str(), stdout, messages)
+}
+
+/// Runs a program by the words after its name: prints how it is used, its version, or what its filter
+/// makes of the files that the words name, or else of standard input. It gives the output back, and how it ended.
 /// What a file holds that is opened by its path no contract says.
 pub fn filter_by_words<
     F: Filter<Output<O>>,
@@ -317,11 +287,14 @@ pub fn filter_by_words<
 ) -> (Logged<Output<O>>, Ending)
     // What `Done` says: all files that the words ask for were read to their ends, and what was written is
     // what the filter printed of them.
-    ensures done { (asked_of program.entry (map string_bytes words.now)).help ≡ false → result.1 ≡ Ending.Done
+    ensures done { (asked_of program.entry (map string_bytes words.now)).help ≡ false
+        → (asked_of program.entry (map string_bytes words.now)).version ≡ false → result.1 ≡ Ending.Done
         → PrintsAsked F.means (asked_of program.entry (map string_bytes words.now))
         (I.remaining stdin.old) (I.remaining stdin.new) result.0.taken }
     ensures help { AsksHelp (asked_of program.entry (map string_bytes words.now)) → result.1 ≡ Ending.Done
         → result.0.taken ≡ program.entry.help.now }
+    ensures version { AsksVersion (asked_of program.entry (map string_bytes words.now)) → result.1 ≡ Ending.Done
+        → result.0.taken ≡ version_line program.entry.name.now }
     ensures closed { result.1 ≡ Ending.Closed → result.0.inner.is_closed ≡ true }
 
     // When words are wrong, and that nothing is read and written then.
@@ -336,7 +309,10 @@ pub fn filter_by_words<
         return (Logged::new(Output::new(stdout)), Ending::NoMemory);
     };
     if asked.help {
-        return print_help(program.help, stdout, messages);
+        return print_text(program.help, stdout, messages);
+    }
+    if asked.version {
+        return print_version(rt.alloc(), program.name, stdout, messages);
     }
     if let Some(word) = asked.wrong {
         messages.say(

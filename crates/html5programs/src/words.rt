@@ -10,6 +10,8 @@ use std::alloc::{AllocError, Allocator, Global};
 pub struct Words<'w, A: Allocator = Global> {
     /// That the program says how it is used.
     pub help: bool,
+    /// That it says its version.
+    pub version: bool,
     /// The file of the table of named references, where one is given.
     pub references: Option<&'w str>,
     /// The file of the program's settings, where one is given.
@@ -37,6 +39,7 @@ impl<'w, A: Allocator + Copy> Words<'w, A> {
     {
         Words {
             help: false,
+            version: false,
             references: None,
             settings: None,
             files: Vec::new(alloc),
@@ -60,6 +63,8 @@ impl<'w, A: Allocator + Copy> Words<'w, A> {
     {
         if word == "--help" {
             self.help = true;
+        } else if word == "--version" {
+            self.version = true;
         } else if is_file(word) {
             self.files.push(word)?;
         } else {

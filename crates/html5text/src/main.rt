@@ -10,6 +10,7 @@ Prints what stands between the tags of HTML pages as it arrives, references deco
 scripts and styles. Without a FILE, or where it is -, standard input is read.
   --references FILE  the table of named character references, in place of the standard's
   --help             this text
+  --version          the program's name and its version
 ";
 
 fn main(rt: HostRuntime) -> ExitCode {
