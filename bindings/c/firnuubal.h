@@ -7,6 +7,9 @@
 #ifndef FIRNUUBAL_H
 #define FIRNUUBAL_H
 
+/* The version of the library, of this header and of the readers. */
+#define FIRNUUBAL_VERSION "0.2.0"
+
 #include <stdbool.h>
 #include <stddef.h>
 #include <stdint.h>

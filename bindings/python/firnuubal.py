@@ -17,6 +17,8 @@ import os
 import pathlib
 from typing import NamedTuple, Optional
 
+__version__ = "0.2.0"
+
 
 class StartTag(NamedTuple):
     """A start tag, with the line on which its `>` stands, and its attributes as pairs of a name and a value."""

@@ -200,7 +200,7 @@ impl<'t, Sink: TokenSink<Token<A>>, A: Allocator + Copy> Tokenizer<'t, Sink, A> 
     }
 
     /// Whether nothing is pending: no item is open, no call was refused, and the end was not sent. A
-    /// CR whose LF may still follow is no bar. Then what follows can be sent to another sink, which
+    /// CR whose LF may still follow doesn't count. Then what follows can be sent to another sink, which
     /// the caller puts in the field `sink`.
     pub fn nothing_pending(&self) -> bool
         ensures exact { result ≡ (is_between self.now.position.opened && not self.now.failed && not self.now.ended) }

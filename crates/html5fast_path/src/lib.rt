@@ -1,5 +1,7 @@
-//! Characters that tell nothing, as most of a tag's are. They are read without a sink, and many at
-//! once.
+//! The fast path: characters that tell nothing, as most of a tag's are, are read without a sink and many
+//! at once.
+//!
+//! Internal to `html5ever`, which callers use.
 #![tactic(auto)]
 
 mod characters;

@@ -1,4 +1,6 @@
 //! How a queue is read: a character, a run of characters, and the pauses after tags.
+//!
+//! Internal to `html5ever`, which callers use.
 #![tactic(auto)]
 
 mod character;

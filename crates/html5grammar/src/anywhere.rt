@@ -1,5 +1,5 @@
-//! Items of a text as they are written, wherever they stand. Here stands what each tells by itself,
-//! after any text that leads to where it is read, and before any text.
+//! Items of a text as they are written, wherever they stand: what each tells by itself, after any text
+//! that leads to where it is read, and before any text.
 #![tactic(auto)]
 
 ghost use Rattle.std.specs.Prelude.{◌≡◌, ℕ, true, false, List, [], ◌∷◌, Option, None, Some};

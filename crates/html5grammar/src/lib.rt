@@ -1,5 +1,7 @@
-//! The grammar: items as they are written, and texts as sequences of them. Its definitions are in
-//! specs/. Here stand its two laws, `sound` and `each_text`, and in `anywhere` those of single items.
+//! The grammar: items as they are written, and texts as sequences of them. The definitions are in specs/;
+//! here are its two laws, `sound` and `each_text`, and in `anywhere` those of single items.
+//!
+//! Internal to `html5ever`: it has no code that runs. Contracts of that crate cite its words.
 #![tactic(auto)]
 
 ghost use Rattle.std.specs.Prelude.{◌≡◌, ℕ, Bool, List, ◌++◌, true, false, codes};

@@ -1,5 +1,8 @@
-//! What is open, and what is kept of it: the state, the tag, the text of a comment, the DOCTYPE, letters,
-//! what is held of references and keywords, and the texts of messages. Nothing here knows a sink.
+//! Constructs that are read in part, and their buffers: the state, the tag so far, the text of a comment,
+//! the DOCTYPE, the letters of a keyword, the characters of a reference; and the texts of messages.
+//! Nothing here knows a sink.
+//!
+//! Internal to `html5ever`, which callers use.
 #![tactic(auto)]
 
 pub mod attribute_list;

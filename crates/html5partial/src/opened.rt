@@ -1,4 +1,4 @@
-//! What is open, and what a character brings.
+//! The construct that is open, and what a character brings.
 
 use crate::current_tag::CurrentTag;
 use crate::error::TokenizerError;
@@ -6,7 +6,7 @@ use html5ever_interface::interface::token::Doctype;
 use html5ever_interface::states::State;
 use std::alloc::{Allocator, Global};
 
-/// What is open: the state, and the tag that was begun.
+/// The construct that is open: the state, the tag that was begun, and what else was.
 pub struct Opened<A: Allocator = Global> {
     pub state: State,
     pub tag: CurrentTag<A>,

@@ -1,4 +1,4 @@
-//! Runs: characters that are read at once. Here stands, for each state that reads runs, which
+//! Runs: characters that are read at once. For each state that reads runs, which
 //! characters end one, and where a run within a tag goes. A run between tags is sent as one text, and
 //! goes on over line feeds.
 ghost use Rattle.std.specs.Prelude.{◌≡◌, ℕ, [], false, ◌↔◌, ◌++◌, Contains, IfOk, OnOk, IfSome, is_some, string_bytes, flat_map};

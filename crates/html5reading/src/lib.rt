@@ -1,5 +1,7 @@
-//! The words of the grammar, and what a text tells by slices of the whole text. The definitions are in
-//! specs/. Here stand the laws that readers of a text in pieces rest on.
+//! The words of the grammar, and what a text tells, by slices of the whole text. The definitions are in
+//! specs/; here are the laws that readers of a text in pieces rest on.
+//!
+//! Internal to `html5ever`: it has no code that runs. Contracts of that crate cite its words.
 #![tactic(auto)]
 
 ghost use Rattle.std.specs.Prelude.{◌≡◌, ◌≢◌, ℕ, List, [], ◌++◌, All, length, take_while, true, None, Some, if◌then◌else◌};

@@ -1,4 +1,4 @@
--- What a call of the tokenizer between `resume` and `rest` says of the session around it.
+-- What a call of the tokenizer between `attach` and `detach` says of the session around it.
 use Rattle.std.proofs.Common.{◌≡◌, ◌≢◌, ◌⊎◌, ℕ, ◌<◌, ◌||◌, Bool, true, false, List, [], ◌++◌, length, Some, Result, Ok, Err, refl, sym, ap, ◌∙◌, subst, inl, inr}
 use Rattle.std.proofs.lemmas.List.{append-nil}
 use Rattle.std.specs.Prelude.{IfOk, IfErr, OnErr, is_err}
@@ -39,7 +39,7 @@ rests : (r out : DetachedOf Recording) (references : List NamedReference) (t u :
 rests r out references t u begins rules rested =
     subst (λ (n : List NamedReference). tokenizing out n ≡ u) (ap (λ (w : Rules). w.references) rules ∙ ap (λ (w : Tokenizing Recording). w.rules.references) begins) rested
 
--- what was fed between `resume` and `rest`
+-- what was fed between `attach` and `detach`
 feeds_between : (s t u v : Tokenizing Recording) (text left : List ℕ) (reply : Reply (Unit {0})) → t ≡ s → v ≡ u
     → Feeds recorded_means t u text left reply → Feeds recorded_means s v text left reply
 feeds_between s t u v text left reply begins ends feeds =
@@ -84,7 +84,7 @@ stops_text t s text left error v told begins same stops = (
       (subst (λ (w : Recorded). StopsFeeding recorded_means error t text left w) same stops),
 )
 
--- what was told between `resume` and `rest`
+-- what was told between `attach` and `detach`
 finishes_between : (t s : Tokenizing Recording) (v told : Recorded) → t ≡ s → v ≡ told → Finishes recorded_means t v → Finishes recorded_means s told
 finishes_between t s v told begins same finishes =
     subst (λ (w : Tokenizing Recording). Finishes recorded_means w told) begins (subst (λ (w : Recorded). Finishes recorded_means t w) same finishes)

@@ -38,9 +38,9 @@ fn feed_text<A: Allocator + Copy>(
         queue.old.text queue.new.text result.0.sink.recorded) }
     ensures memory { IfErr result.1 (λ error. error ≡ SessionError.Memory) }
 {
-    let mut tokenizer = detached.resume(references);
+    let mut tokenizer = detached.attach(references);
     let answer = tokenizer.feed(queue);
-    let detached = tokenizer.rest();
+    let detached = tokenizer.detach();
     match answer {
         Ok(answer) => (detached, Ok(fed_of(&answer))),
         Err(_) => (detached, Err(SessionError::Memory)),
@@ -62,9 +62,9 @@ fn end_text<A: Allocator + Copy>(
     ensures stops { OnErr result.1 (StopsTextEnd (tokenizing detached references.now) result.0.sink.recorded) }
     ensures memory { IfErr result.1 (λ error. error ≡ SessionError.Memory) }
 {
-    let mut tokenizer = detached.resume(references);
+    let mut tokenizer = detached.attach(references);
     let answer = tokenizer.end();
-    let detached = tokenizer.rest();
+    let detached = tokenizer.detach();
     match answer {
         Ok(()) => (detached, Ok(())),
         Err(_) => (detached, Err(SessionError::Memory)),
@@ -151,7 +151,7 @@ impl<A: Allocator + Copy> Session<A> {
         ensures error_at { result.error_at ≡ None }
     {
         let sink = RecordSink::new(alloc, events);
-        let detached = Tokenizer::new(alloc, sink, opts, &references).rest();
+        let detached = Tokenizer::new(alloc, sink, opts, &references).detach();
         Session {
             alloc,
             references,

@@ -1,4 +1,7 @@
-//! The states of the tokenizer: what a character makes of what is open, and what the sink is sent.
+//! The states of the tokenizer: what a character makes of the construct that is open, and what the sink
+//! is sent.
+//!
+//! Internal to `html5ever`, which callers use.
 #![tactic(auto)]
 
 mod attributes;

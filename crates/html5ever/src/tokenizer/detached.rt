@@ -9,7 +9,7 @@ use markup5ever::data::NamedReferences;
 use std::alloc::{Allocator, Global};
 use std::marker::Model;
 
-/// All of a tokenizer but its table. So a value can own both and be kept between two calls: `resume`
+/// All of a tokenizer but its table. So a value can own both and be kept between two calls: `attach`
 /// lends the table to the tokenizer again.
 #[derive(Drop)]
 pub struct DetachedTokenizer<Sink, A: Allocator = Global> {
@@ -38,7 +38,7 @@ impl<Sink, A: Allocator> Model for DetachedTokenizer<Sink, A> {
 
 impl<'t, Sink, A: Allocator> Tokenizer<'t, Sink, A> {
     /// Gives the table back, and keeps all else.
-    pub fn rest(self) -> DetachedTokenizer<Sink, A>
+    pub fn detach(self) -> DetachedTokenizer<Sink, A>
         ensures whole { tokenizing result self.entry.rules.references ≡ self.entry }
         ensures sink { result.sink ≡ self.entry.sink }
         ensures failed { result.failed ≡ self.entry.failed }
@@ -57,7 +57,7 @@ impl<'t, Sink, A: Allocator> Tokenizer<'t, Sink, A> {
 
 impl<Sink, A: Allocator> DetachedTokenizer<Sink, A> {
     /// Goes on with a table. With the table that it had before, the tokenizer is as it was.
-    pub fn resume(self, references: &NamedReferences<A>) -> Tokenizer<'_, Sink, A>
+    pub fn attach(self, references: &NamedReferences<A>) -> Tokenizer<'_, Sink, A>
         ensures { result ≡ tokenizing self references.now }
     {
         Tokenizer {
