@@ -69,6 +69,7 @@ fn session_at_start(
     let Some(start) = options.start() else {
         return Err(OpenError::BadOption);
     };
+    // A match in place of `?`: split for the proof.
     let name = match name_of(alloc, last_start_tag) {
         Ok(name) => name,
         Err(error) => return Err(error),
@@ -89,6 +90,7 @@ pub fn slot_of(
     ensures starts { IfOk result (λ slot. IsStart slot.value.session last_start_tag.now options.now) }
     ensures refused { IfErr result (λ error. OpenFails last_start_tag.now options.now error) }
 {
+    // A match in place of `?`: split for the proof.
     let session = match session_at_start(alloc, last_start_tag, options) {
         Ok(session) => Some(session),
         Err(error) => return Err(error),

@@ -52,6 +52,7 @@ pub fn clean_text<A: Allocator + Copy>(
 {
     let mut source = ReadSource::new(text.as_bytes());
     let (cleaner, read) = clean_page(alloc, &mut source, references, policy);
+    // A match in place of `?`: split for the proof.
     match read {
         Ok(()) => Ok(cleaner.into_page()),
         Err(error) => Err(error),

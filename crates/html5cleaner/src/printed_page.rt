@@ -71,6 +71,7 @@ pub fn print_cleaned<R: Source, W: Target, A: Allocator + Copy>(
 {
     references.table_laws();
     let (cleaner, read) = read_printed(alloc, source, cleaner, references);
+    // A match in place of `?`: split for the proof.
     match read {
         Ok(()) => (cleaner, Ok(())),
         Err(error) => (cleaner, Err(error)),

@@ -104,6 +104,7 @@ impl<W: Target, A: Allocator> TokenHandler<Token<A>> for PageText<W, A> {
         token: Token<A>,
         _line_number: u64,
     ) -> Result<(), SinkFault> {
+        // A match in place of `?`: split for the proof.
         match self.show(run) {
             Ok(()) => {
                 self.within = is_within_after(self.within, &token);

@@ -84,6 +84,7 @@ pub fn rewrite_text<H: TagRewriter<Tag<A>>, A: Allocator + Copy>(
 {
     let mut source = ReadSource::new(text.as_bytes());
     let (page, read) = rewrite_page(alloc, &mut source, rewriter, String::new(alloc), references);
+    // A match in place of `?`: split for the proof.
     match read {
         Ok(()) => Ok(page),
         Err(error) => Err(error),

@@ -112,6 +112,7 @@ impl<H: TagHandler<Tag<A>>, A: Allocator> ReplyingTagHandler<Tag<A>> for H {
         line_number: u64,
     ) -> Result<TokenSinkResult<(), String<A>>, SinkFault> {
         let reply = standard_reply(&tag);
+        // A match in place of `?`: split for the proof.
         match self.take_tag(tag, line_number) {
             Ok(()) => Ok(reply),
             Err(SinkFault) => Err(SinkFault),

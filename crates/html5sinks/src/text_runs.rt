@@ -102,6 +102,7 @@ impl<H: TokenHandler<Token<A>>, A: Allocator> ReplyingTokenHandler<Token<A>> for
         line_number: u64,
     ) -> Result<TokenSinkResult<(), String<A>>, SinkFault> {
         let reply = reply_to_token(&token);
+        // A match in place of `?`: split for the proof.
         match self.take_token(run, token, line_number) {
             Ok(()) => Ok(reply),
             Err(SinkFault) => Err(SinkFault),
@@ -191,6 +192,7 @@ fn hand_on<H: ReplyingTokenHandler<Token<A>>, A: Allocator>(
     ensures fault { OnErr result (H.state handler.new ≡ H.state handler.old) }
     ensures kept { OnErr result (string_bytes run.new ≡ string_bytes run.old) }
 {
+    // A match in place of `?`: split for the proof.
     match handler.answer_token(run.as_str(), token, line) {
         Ok(reply) => {
             run.clear();

@@ -46,6 +46,7 @@ fn collect<A: Allocator + Copy>(
 {
     let sink = Collector::new(alloc, foreign);
     let (sink, read) = read_whole(alloc, sink, opts, references, text);
+    // A match in place of `?`: split for the proof.
     match read {
         Ok(()) => Ok(sink),
         Err(error) => Err(error),

@@ -98,6 +98,7 @@ fn feed_once<S: TokenSink<Token<A>>, A: Allocator + Copy>(
     ensures going_on { tokenizer.new.ended ≡ false }
     ensures not_failed { OnOk result (tokenizer.new.failed ≡ false) }
 {
+    // A match in place of `?`: split for the proof.
     match tokenizer.feed(queue) {
         Ok(_) => Ok(()),
         Err(error) => Err(error),

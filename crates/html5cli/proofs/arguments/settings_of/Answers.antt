@@ -1,3 +1,4 @@
+-- Each answer follows one word to the settings that it says. The tactic doesn't unfold a list of words by one.
 use Rattle.html5table.specs.Listed.{entries_in, listed}
 use Rattle.html5cli.specs.Settings.{SettingsOf, said_by, unsaid, with_state, with_last, with_cut, with_table, state_said, cut_said, said_after, settings_said}
 use Rattle.html5cli.proofs.SettingsLemmas.{some_from, none_from, some-entries, exact_said, keep_bom_said, foreign_said, state_word, last_word, cut_word, table_word, read-flag, read-unknown, read-no_value, read-value, read-bad_value, read-end}

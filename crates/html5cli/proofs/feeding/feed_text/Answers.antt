@@ -1,3 +1,4 @@
+-- The loop keeps a record of all that was fed and written. Each answer composes it with one piece more.
 use Rattle.std.proofs.Common.{◌+◌, refl, sym, subst, arith}
 use Rattle.std.proofs.lemmas.List.{take_all}
 use Rattle.devices.specs.Device.{AppendsBeginning}

@@ -1,3 +1,4 @@
+-- Each answer composes the input's step with what the states send. The tactic closes single calls only.
 use Rattle.std.proofs.Common.{◌∙◌, refl, ap, sym, Ok}
 use Rattle.std.proofs.lemmas.Result.{IfOk-weaker}
 use Rattle.html5ever_interface.specs.Sink.{stepped}

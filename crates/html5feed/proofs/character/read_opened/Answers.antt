@@ -1,3 +1,4 @@
+-- Each answer composes what several calls sent, in their order, by lemmas over whole records. The tactic closes single calls only.
 use Rattle.std.proofs.Common.{◌∙◌, ap, subst, arith, rules}
 use Rattle.std.proofs.lemmas.Result.{IfOk-weaker, on_ok_weaker}
 use Rattle.html5partial.specs.CharRef.{begun_reference}

@@ -1,3 +1,4 @@
+-- The loop says where the stream stands after whatever text was taken. Each answer hands its lemma that text, which the tactic doesn't find.
 use Rattle.std.proofs.Common.{◌≡◌, [], ◌∷◌, refl, ◌∙◌, sym, ap, arith, inl, length}
 use Rattle.std.proofs.lemmas.Bool.{false≢true}
 use Rattle.std.proofs.lemmas.Result.{err_from_is_err_and}

@@ -1,3 +1,4 @@
+-- Each answer composes what was sent for the letters that are held with what the character after them sends. The tactic closes single calls only.
 use Rattle.std.proofs.Common.{[], refl, ap, Ok, arith, rules}
 use Rattle.html5ever_interface.specs.Sink.{stepped}
 use Rattle.html5states.proofs.Tellings.{tells_from_memory, tells_stop}

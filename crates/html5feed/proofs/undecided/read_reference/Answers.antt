@@ -1,3 +1,4 @@
+-- Each answer gives its lemma the characters that are held and those that follow, which the tactic doesn't find.
 use Rattle.std.proofs.Common.{◌≡◌, ◌≤◌, [], ◌∷◌, ◌++◌, ◌+◌, ◌∙◌, refl, ap, sym, subst, Ok, rules, arith}
 use Rattle.html5ever_interface.specs.Sink.{stepped}
 use Rattle.html5reading.proofs.GoodCharacters.{good_between}

@@ -1,3 +1,4 @@
+-- One case a state: each by the lemma of its state, to which the answer gives the run.
 use Rattle.std.proofs.Common.{◌≡◌, ◌≢◌, ◌++◌, false, refl, ap, sym, ◌∙◌, string_bytes}
 use Rattle.std.specs.Prelude.{Contains, flat_map}
 use Rattle.std.specs.Str.{chars}

@@ -1,3 +1,4 @@
+-- The loop keeps a record of what the source gave and what was sent. Each answer composes it with one read more.
 use Rattle.std.proofs.Common.{refl, arith, rules}
 use Rattle.std.proofs.lemmas.Result.{err_from_is_err_and}
 use Rattle.html5stream.proofs.Streaming.{HasRead-start, HasRead-more, HasRead-nothing, HasRead-whole, GivesAtLeast-none, GivesAtLeast-more, GivesAtLeast-fewer, some_taken, StopsText-read, StopsText-cut, StopsText-piece, StopsText-long}

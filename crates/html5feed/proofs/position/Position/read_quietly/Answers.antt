@@ -1,3 +1,4 @@
+-- Each answer turns the bytes of a run into its characters, by a lemma to which it gives the text.
 use Rattle.std.proofs.Common.{◌∙◌, ap, inl, rules, sym, take}
 use Rattle.std.specs.Prelude.{IsTrue}
 use Rattle.std.specs.Str.{chars}

@@ -1,3 +1,4 @@
+-- One case a state: each hands on the clause of the state's function, where the tactic would try all of them.
 use Rattle.std.proofs.Common.{◌≡◌, true, refl, ap, sym, ◌∙◌}
 use Rattle.std.proofs.lemmas.Bool.{false≢true}
 use Rattle.html5ever_interface.specs.declared.states.State.TheVariants as state

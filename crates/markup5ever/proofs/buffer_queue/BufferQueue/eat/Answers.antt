@@ -1,3 +1,4 @@
+-- Each answer turns bytes that were compared into characters, by lemmas to which it gives the texts.
 use Rattle.std.proofs.Common.{◌+◌, None, Some, true, false, refl, ap, ◌∙◌}
 use Rattle.std.proofs.lemmas.Bool.{iff_false}
 use Rattle.markup5ever.proofs.CaseLemmas.{Answer, answer_begins, answer_differs, answer_ends, begins_from_bytes, differs_from_bytes, ends_from_bytes, front_chars, after_utf8, length-front}

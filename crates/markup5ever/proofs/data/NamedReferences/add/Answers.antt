@@ -1,3 +1,4 @@
+-- Each answer gives its lemma the place at which an entry goes, and the entries before and after it.
 use Rattle.std.proofs.Common.{◌≡◌, ℕ, Bool, true, if◌then◌else◌, List, Vec, String, Option, length, vec_len, sym, ap, subst, inr, ◌∙◌}
 use Rattle.std.specs.List.{insert}
 use Rattle.std.specs.String.{string_bytes}

@@ -1,3 +1,4 @@
+-- Each answer says where the bytes are cut, and composes `take` and `drop` there, which the tactic doesn't.
 use Rattle.std.proofs.Common.{◌≡◌, ◌-◌, [], ◌++◌, length, take, sym, ap, ◌∙◌, arith, inr}
 use Rattle.std.proofs.lemmas.List.{take_rest}
 use Rattle.std.proofs.lemmas.Result.{on_ok_weaker}
