@@ -3,14 +3,16 @@ use Rattle.std.proofs.Common.{◌≡◌, ℕ, true, List, [], ◌∷◌, ◌++�
 use Rattle.std.specs.Prelude.{◌&&◌, encode_utf8, encode_utf8_all}
 use Rattle.std.specs.List.{list_all}
 use Rattle.std.proofs.lemmas.List.Folds.{list_all-append, list_all-map}
+use Rattle.html5ever_interface.specs.Token.{Told, Reply}
 use Rattle.html5ever_interface.specs.Token.Told.{Text, End}
+use Rattle.html5reading.specs.Start.{Start, Rules}
 use Rattle.markup5ever.specs.Names.{AttributeOf}
 use Rattle.html5write.specs.Pieces.{NameAndValue, Piece, can_write}
 use Rattle.html5write.specs.Pieces.Piece.{TextPiece, StartTagPiece, EndTagPiece, CommentPiece}
-use Rattle.html5write.specs.Told.{attribute_told, pieces_tokens, piece_tokens}
+use Rattle.html5write.specs.Told.{IsReadBack, attribute_told, pieces_tokens, piece_tokens}
 use Rattle.html5policy.specs.Policy.{PolicyOf, is_allowed, is_written}
 use Rattle.html5cleaner.specs.Allowed.{is_allowed_piece, is_clean, is_written_attribute}
-use Rattle.html5cleaner.specs.Reading.{has_written_attributes, is_allowed_token}
+use Rattle.html5cleaner.specs.Reading.{IsReadBackClean, has_written_attributes, is_allowed_token}
 use Rattle.html5cleaner.proofs.Replies.{and-left, and-right}
 
 module _ (policy : PolicyOf) where
@@ -53,3 +55,8 @@ module _ (policy : PolicyOf) where
         and-right (is_allowed_piece policy piece) (can_write piece) (and-left (is_clean policy piece) (list_all (is_clean policy) pieces) clean),
         can-clean pieces (and-right (is_clean policy piece) (list_all (is_clean policy) pieces) clean),
       ) refl
+
+  -- so pieces are read back where clean ones are
+  pub read_back-clean : {S H : Type 0} (rules : Rules) (K : Start) (reply : S → Told → ℕ → Reply H) (pieces : List Piece)
+      → IsReadBackClean {S = S} policy rules K reply pieces → IsReadBack {S = S} rules K reply pieces
+  read_back-clean rules K reply pieces back = record { table = back.table; starts = back.starts; can = can-clean pieces back.clean; keeps = back.keeps }

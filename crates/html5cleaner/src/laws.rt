@@ -9,7 +9,7 @@ ghost use Rattle.html5reading.specs.Start.{Start, Rules};
 ghost use Rattle.markup5ever.specs.NamedReferences.{IsTable, NamedReference};
 ghost use Rattle.html5write.specs.Pieces.{Piece, pieces_text};
 ghost use Rattle.html5grammar.specs.Anywhere.{TellsByItself};
-ghost use Rattle.html5write.specs.Told.{IsOpen, pieces_messages, pieces_tokens, proper, start_after_pieces};
+ghost use Rattle.html5write.specs.Told.{KeepsOn, pieces_messages, pieces_tokens, proper, start_after_pieces};
 ghost use Rattle.html5policy.specs.Addresses.{is_safe_address};
 ghost use Rattle.html5policy.specs.Names.{runs_address};
 ghost use Rattle.html5policy.specs.Policy.{PolicyOf};
@@ -20,7 +20,7 @@ ghost use Rattle.html5cleaner.specs.Browsers.{RunsNothing, scheme_of};
 ghost use Rattle.html5cleaner.specs.Clean.{Cleaned, at_start, clean_step};
 ghost use Rattle.html5cleaner.specs.Cleaning as cleaning;
 ghost use Rattle.html5cleaner.specs.Cleaning.{Standing, kept_of_page, page_bytes, printed_and_closed, printed_of};
-ghost use Rattle.html5cleaner.specs.Reading.{is_allowed_token};
+ghost use Rattle.html5cleaner.specs.Reading.{IsReadBackClean, is_allowed_token};
 ghost use Rattle.html5sinks.specs.Replies.{FollowsStandard};
 
 use html5ever_interface::interface::sink::TokenSink;
@@ -29,15 +29,16 @@ use html5sinks::text_runs::{TextRuns, TokenHandler};
 use html5write::laws::{all_pieces, whole_text};
 use std::alloc::Allocator;
 
-/// By each policy a page of clean pieces, read by any sink that follows the standard and with any table, is read but
-/// for errors as exactly these pieces and the end. Each of their tokens is allowed: text, or a tag of an
-/// allowed element, with attributes that are kept and addresses that are safe.
+/// By each policy a page of clean pieces, read with any table by any sink that keeps on after their tags, at
+/// once or after a pause, is read but for errors as exactly these pieces and the end. Each of their tokens
+/// is allowed: text, or a tag of an allowed element, with attributes that are kept and addresses that are
+/// safe.
 pub fn cleaned_page<S: TokenSink<Token<A>>, A: Allocator>()
-    ensures tokens { (policy : PolicyOf) (rules : Rules) (K : Start) (s : S.State) (pieces : List Piece) → IsSound policy
-        → IsTable rules.references → IsOpen K → list_all (is_clean policy) pieces ≡ true → FollowsStandard {S = S.State} S.means.reply
+    ensures tokens { (policy : PolicyOf) (rules : Rules) (K : Start) (s : S.State) (pieces : List Piece)
+        → IsReadBackClean {S = S.State} policy rules K S.means.reply pieces
         → proper (all_messages S.means rules K s (pieces_text pieces)) ≡ pieces_tokens pieces ++ End ∷ [] }
-    ensures allowed { (policy : PolicyOf) (rules : Rules) (K : Start) (s : S.State) (pieces : List Piece) → IsSound policy
-        → IsTable rules.references → IsOpen K → list_all (is_clean policy) pieces ≡ true → FollowsStandard {S = S.State} S.means.reply
+    ensures allowed { (policy : PolicyOf) (rules : Rules) (K : Start) (s : S.State) (pieces : List Piece)
+        → IsReadBackClean {S = S.State} policy rules K S.means.reply pieces
         → list_all (is_allowed_token policy) (proper (all_messages S.means rules K s (pieces_text pieces))) ≡ true }
 {
     whole_text::<S, A>();
@@ -46,13 +47,20 @@ pub fn cleaned_page<S: TokenSink<Token<A>>, A: Allocator>()
 /// Wherever it is put in a page, in Data and with no CR directly before it, such a page tells its pieces,
 /// and is read to where nothing is open: what follows it is read as it would be without it.
 pub fn cleaned_part<S: TokenSink<Token<A>>, A: Allocator>()
-    ensures { (policy : PolicyOf) (rules : Rules) (K : Start) (s : S.State) (pieces : List Piece) → IsSound policy
-        → IsTable rules.references → IsOpen K → list_all (is_clean policy) pieces ≡ true → FollowsStandard {S = S.State} S.means.reply
+    ensures { (policy : PolicyOf) (rules : Rules) (K : Start) (s : S.State) (pieces : List Piece)
+        → IsReadBackClean {S = S.State} policy rules K S.means.reply pieces
         → TellsByItself S.means rules K s (pieces_text pieces) (pieces_messages rules.exact K.input pieces)
         (start_after_pieces K pieces) }
 {
     all_pieces::<S, A>();
 }
+
+/// Where a policy is sound, as each that is made is, a sink that follows the standard keeps on after all
+/// tags of clean pieces.
+pub fn clean_pieces_are_markup<S: TokenSink<Token<A>>, A: Allocator>()
+    ensures { (policy : PolicyOf) (pieces : List Piece) → IsSound policy → list_all (is_clean policy) pieces ≡ true
+        → FollowsStandard {S = S.State} S.means.reply → KeepsOn {S = S.State} S.means.reply pieces }
+{}
 
 /// The pieces that were written are clean, after each run of text and token, and so are the end tags of
 /// the elements that are open.

@@ -96,6 +96,14 @@ pub data Reply (H : Type 0) : Type 0 where
   RunScript : H → Reply H
   SwitchEncoding : List ℕ → Reply H
 
+-- whether a reply leaves the tokenizer's state as it is: reading goes on, at once or after a pause
+abbrev pub keeps_state : {H : Type 0} → Reply H → Bool
+keeps_state KeepOn = true
+keeps_state ReadPlainText = false
+keeps_state (ReadRawData kind) = false
+keeps_state (RunScript handle) = true
+keeps_state (SwitchEncoding text) = true
+
 -- the meaning of a sink's reply, where `bytes` are those of a text
 abbrev pub reply_of : {H T : Type 0} → (T → List ℕ) → TokenSinkResult H T → Reply H
 reply_of bytes Continue = KeepOn

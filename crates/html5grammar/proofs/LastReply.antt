@@ -1,5 +1,5 @@
 -- A tag as the last message of a text, whatever the sink replies.
-use Rattle.std.proofs.Common.{◌≡◌, ℕ, Bool, List, [], ◌∷◌, ◌++◌, refl, ap, sym, ◌∙◌}
+use Rattle.std.proofs.Common.{◌≡◌, ℕ, Bool, List, [], ◌∷◌, ◌++◌, refl, ap, sym, ◌∙◌, subst}
 use Rattle.std.proofs.lemmas.List.{append_assoc, append-nil}
 use Rattle.html5ever_interface.proofs.Steppings.{stepped-append}
 use Rattle.html5ever_interface.specs.Sink.{Message, stepped, on_line}
@@ -89,17 +89,24 @@ module _ {S H : Type 0} (step : S → Told → ℕ → S) (reply : S → Told �
       ∙ sym (last_reply-append step reply (stepped step s M) F line tokens (Tag tag))
       ∙ ap (last_reply step reply (stepped step s M)) (sym whole)
 
-  -- a sink that keeps on
-  pub last_reply-keeps : (s : S) (input : Input) (before : List ℕ) (cells : List Spelled) (c : ℕ) (errors : List Told) (tag : TagOf)
-      → ((t : S) (line : ℕ) → reply t (Tag tag) line ≡ KeepOn)
-      → last_reply step reply s (spelled_messages rules.exact input before (cells ++ record { character = c; told = errors ++ Tag tag ∷ [] } ∷ [])) ≡ KeepOn
-  last_reply-keeps s input before cells c errors tag keeps =
+  -- what is true of each reply to the tag is true of it
+  pub last_reply-says : (Says : Reply H → Type 0) (s : S) (input : Input) (before : List ℕ) (cells : List Spelled) (c : ℕ) (errors : List Told) (tag : TagOf)
+      → ((t : S) (line : ℕ) → Says (reply t (Tag tag) line))
+      → Says (last_reply step reply s (spelled_messages rules.exact input before (cells ++ record { character = c; told = errors ++ Tag tag ∷ [] } ∷ [])))
+  last_reply-says Says s input before cells c errors tag says =
       let past : List ℕ = before ++ characters cells in
       let line : ℕ = line_after input (past ++ c ∷ []) in
       let tokens : List Told = bad_character_error rules.exact c ++ errors in
       let F : List Message = spelled_messages rules.exact input before cells in
-      ap (last_reply step reply s)
+      subst Says
+      (sym (ap (last_reply step reply s)
       (spelled_messages-append rules.exact input before cells (record { character = c; told = errors ++ Tag tag ∷ [] } ∷ []) ∙ ap (λ l. F ++ l) (messages-cell input past c errors tag))
       ∙ last_reply-append step reply s F line tokens (Tag tag)
-      ∙ last_reply-tokens step reply (stepped step s F) line tokens (Tag tag)
-      ∙ keeps _ line
+      ∙ last_reply-tokens step reply (stepped step s F) line tokens (Tag tag)))
+      (says (stepped step (stepped step s F) (on_line line tokens)) line)
+
+  -- a sink that keeps on
+  pub last_reply-keeps : (s : S) (input : Input) (before : List ℕ) (cells : List Spelled) (c : ℕ) (errors : List Told) (tag : TagOf)
+      → ((t : S) (line : ℕ) → reply t (Tag tag) line ≡ KeepOn)
+      → last_reply step reply s (spelled_messages rules.exact input before (cells ++ record { character = c; told = errors ++ Tag tag ∷ [] } ∷ [])) ≡ KeepOn
+  last_reply-keeps = last_reply-says (λ r. r ≡ KeepOn)

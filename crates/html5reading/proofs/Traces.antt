@@ -1,9 +1,9 @@
 -- What the machine tells of a text, with the lines that it counts.
-use Rattle.std.proofs.Common.{◌≡◌, ℕ, Bool, false, List, [], ◌∷◌, ◌++◌, refl, ap, sym, ◌∙◌, ⊤}
+use Rattle.std.proofs.Common.{◌≡◌, ℕ, Bool, false, List, [], ◌∷◌, ◌++◌, refl, ap, sym, ◌∙◌}
 use Rattle.std.proofs.Math.Bool.{and-false}
 use Rattle.std.proofs.lemmas.Bool.{false≢true, false_from_ne_true}
 use Rattle.std.specs.Cmp.Lexicographic.{same_text}
-use Rattle.std.specs.Prelude.{length, map}
+use Rattle.std.specs.Prelude.{⊤, length, map}
 use Rattle.std.specs.Str.{bytes_eq}
 use Rattle.std.proofs.lemmas.List.{append-nil, map-append}
 use Rattle.html5ever_interface.specs.Sink.{Message, stepped, on_line}

@@ -92,11 +92,11 @@ fn push_whole_token<A: Allocator>(
         (written.new.items ≡ written.old.items ++ added_by in_text (told_by token.now) line) }
     ensures err { OnErr result (written.new.items ≡ written.old.items) }
 {
-    let written = written.len();
+    let before = written.len();
     match push_token(written, in_text, token, line) {
         Ok(()) => Ok(()),
         Err(AllocError) => {
-            written.truncate(written);
+            written.truncate(before);
             Err(AllocError)
         }
     }

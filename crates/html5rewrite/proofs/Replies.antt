@@ -11,8 +11,9 @@ use Rattle.html5ever_interface.specs.declared.states.RawKind.{RawKind}
 use Rattle.html5sinks.specs.Replies.{FollowsStandard, raw_text_in, reply_to_raw_text, standard_reply_to_start}
 use Rattle.html5write.specs.Pieces.{Piece, can_write}
 use Rattle.html5write.specs.Pieces.Piece.{TextPiece, StartTagPiece, EndTagPiece, CommentPiece}
-use Rattle.html5write.specs.Told.{KeepsOn, KeepsOnAfterPiece, start_tag_told, end_tag_told}
-use Rattle.html5rewrite.specs.Plain.{is_before_markup, is_plain}
+use Rattle.html5reading.specs.Start.{Start, Rules}
+use Rattle.html5write.specs.Told.{IsReadBack, KeepsOn, KeepsOnAfterPiece, start_tag_told, end_tag_told}
+use Rattle.html5rewrite.specs.Plain.{IsReadBackPlain, is_before_markup, is_plain}
 use Rattle.html5rewrite.specs.Rewriter.{reads_markup_after}
 
 keeps_on-by_tests : (raw : Option RawKind) (plaintext : Bool) → (is_none raw && not plaintext) ≡ true → (if plaintext then ReadPlainText else reply_to_raw_text raw) ≡ KeepOn
@@ -43,3 +44,8 @@ can-plain [] plain = refl
 can-plain (piece ∷ pieces) plain =
     let both = and_parts (is_plain piece) (list_all is_plain pieces) plain in
     rw ((and_parts (is_before_markup piece) (can_write piece) both.0).1, can-plain pieces both.1) refl
+
+-- so they are read back where plain pieces are
+pub read_back-plain : {S H : Type 0} (rules : Rules) (K : Start) (reply : S → Told → ℕ → Reply H) (pieces : List Piece)
+    → IsReadBackPlain {S = S} rules K reply pieces → IsReadBack {S = S} rules K reply pieces
+read_back-plain rules K reply pieces back = record { table = back.table; starts = back.starts; can = can-plain pieces back.plain; keeps = back.keeps }

@@ -1,7 +1,7 @@
 -- What the standard's elements ask for, by the start tag of each.
-use Rattle.std.specs.Prelude.{◌≡◌, ℕ, List, ◌||◌, Option, None, Some, codes, if◌then◌else◌}
+use Rattle.std.specs.Prelude.{◌≡◌, ℕ, true, List, ◌||◌, Option, None, Some, codes, if◌then◌else◌}
 use Rattle.std.specs.Str.{bytes_eq}
-use Rattle.html5ever_interface.specs.Token.{Told, TagOf, Reply}
+use Rattle.html5ever_interface.specs.Token.{Told, TagOf, Reply, keeps_state}
 use Rattle.html5ever_interface.specs.Token.Told.{Tag}
 use Rattle.html5ever_interface.specs.Token.Reply.{KeepOn, ReadPlainText, ReadRawData}
 use Rattle.html5ever_interface.specs.declared.interface.token.TagKind.{TagKind}
@@ -38,6 +38,6 @@ reply_by_kind EndTag name = KeepOn
 abbrev pub standard_reply : TagOf → Reply (Unit {0})
 standard_reply tag = reply_by_kind tag.kind tag.name
 
--- a sink that keeps on after each tag after which the standard's elements ask for nothing else
+-- a sink that keeps on, at once or after a pause, after each tag after which the standard's elements ask for nothing else
 abbrev pub FollowsStandard : {S H : Type 0} → (S → Told → ℕ → Reply H) → Type 0
-FollowsStandard {S = S} reply = (s : S) (tag : TagOf) (line : ℕ) → standard_reply tag ≡ KeepOn → reply s (Tag tag) line ≡ KeepOn
+FollowsStandard {S = S} reply = (s : S) (tag : TagOf) (line : ℕ) → standard_reply tag ≡ KeepOn → keeps_state (reply s (Tag tag) line) ≡ true

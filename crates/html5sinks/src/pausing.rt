@@ -1,6 +1,7 @@
 //! What the standard's elements ask for, with the pauses for scripts and encodings.
 ghost use Rattle.std.specs.Prelude.{◌≡◌, map, option_map, string_bytes, IfOk};
 ghost use Rattle.html5sinks.specs.Pausing.{charset_of, reply_to_charset, reply_to_start, reply_to_end, pausing_reply};
+ghost use Rattle.html5sinks.specs.Replies.{FollowsStandard};
 ghost use Rattle.html5ever_interface.specs.Token.{told_by, reply_of};
 ghost use Rattle.markup5ever.specs.Names.{attribute_of};
 
@@ -80,3 +81,9 @@ pub fn pausing_reply<A: Allocator + Copy>(
         TagKind::EndTag => Ok(reply_to_end(&tag.name.0)),
     }
 }
+
+/// A sink that replies so follows the standard's elements: after each tag after which they ask for nothing
+/// else it keeps on, at once or after a pause.
+pub fn pauses_follow_the_standard()
+    ensures { FollowsStandard {S = Unit {0}} (λ s told line. pausing_reply told) }
+{}

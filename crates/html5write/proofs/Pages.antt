@@ -37,12 +37,12 @@ module _ {X S H : Type 0} (means : Means X S H) (rules : Rules) where
   piece-told K s (EndTagPiece name) table here can keeps = end_tag-told means rules K s name table here can keeps
   piece-told K s (CommentPiece text) table here can keeps = comment-told means rules K s text here can
 
-  -- a page tells its pieces: the statement of `page`
-  pub written-told : (K : Start) (s : S) (pieces : List Piece) → IsTable rules.references → IsOpen K → list_all can_write pieces ≡ true → KeepsOn means.reply pieces
+  -- a page tells its pieces: the statement of `all_pieces`
+  pub pieces-told : (K : Start) (s : S) (pieces : List Piece) → IsTable rules.references → IsOpen K → list_all can_write pieces ≡ true → KeepsOn means.reply pieces
       → TellsByItself means rules K s (pieces_text pieces) (pieces_messages rules.exact K.input pieces) (start_after_pieces K pieces)
   unfolding pieces_messages last_after_pieces
-  written-told K s [] table here can keeps = none-told means rules K s here.starts
-  written-told K s (piece ∷ pieces) table here can keeps =
+  pieces-told K s [] table here can keeps = none-told means rules K s here.starts
+  pieces-told K s (piece ∷ pieces) table here can keeps =
       let p = and_parts (can_write piece) (list_all can_write pieces) can in
       let M : List Message = piece_messages rules.exact K.input piece in
       let between : Start = start_beyond K (piece_text piece) (Between Data) (last_after_piece K.last_start_tag piece) in
@@ -50,18 +50,18 @@ module _ {X S H : Type 0} (means : Means X S H) (rules : Rules) where
       (sym (input_after-append K.input (piece_text piece) (pieces_text pieces)))
       (in_sequence means rules K s (piece_text piece) M between (pieces_text pieces) (pieces_messages rules.exact between.input pieces) (start_after_pieces between pieces)
       (piece-told K s piece table here p.0 keeps.0)
-      (written-told between (stepped means.step s M) pieces table (record { starts = refl; no_break = no_break-piece K.input piece p.0 here.no_break }) p.1 keeps.1))
+      (pieces-told between (stepped means.step s M) pieces table (record { starts = refl; no_break = no_break-piece K.input piece p.0 here.no_break }) p.1 keeps.1))
 
   -- and by itself its end besides
-  pub written-reading : (K : Start) (s : S) (pieces : List Piece) → IsTable rules.references → IsOpen K → list_all can_write pieces ≡ true → KeepsOn means.reply pieces
+  pub pieces-reading : (K : Start) (s : S) (pieces : List Piece) → IsTable rules.references → IsOpen K → list_all can_write pieces ≡ true → KeepsOn means.reply pieces
       → all_messages means rules K s (pieces_text pieces)
       ≡ pieces_messages rules.exact K.input pieces ++ on_line (line_after K.input (normalised K.input (pieces_text pieces))) (End ∷ [])
   unfolding late_at_end_of open_at_end_of told_at_end_of
-  written-reading K s pieces table here can keeps =
+  pieces-reading K s pieces table here can keeps =
       let Y : List ℕ = pieces_text pieces in
       let M : List Message = pieces_messages rules.exact K.input pieces in
       let line : ℕ = line_after K.input (normalised K.input Y) in
-      let item : TellsByItself means rules K s Y M (start_after_pieces K pieces) = written-told K s pieces table here can keeps in
+      let item : TellsByItself means rules K s Y M (start_after_pieces K pieces) = pieces-told K s pieces table here can keeps in
       ap messages (reading-events means.step means.reply means.foreign rules K s Y)
       ∙ messages-append (told means.step means.reply means.foreign rules K s Y) _
       ∙ ap (λ N. messages_so_far means rules K s Y ++ N) (messages-at_end means.step means.reply means.foreign rules K s Y)

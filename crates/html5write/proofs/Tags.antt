@@ -2,10 +2,11 @@
 use Rattle.std.proofs.Common.{◌≡◌, ℕ, true, false, List, [], ◌∷◌, ◌++◌, refl, sym, ◌∙◌, subst}
 use Rattle.std.specs.Prelude.{flat_map, codes, encode_utf8_all}
 use Rattle.std.specs.List.{list_all}
-use Rattle.std.proofs.lemmas.Bool.{and_parts}
+use Rattle.std.proofs.lemmas.Bool.{and_parts, false≢true}
 use Rattle.html5ever_interface.specs.Sink.{Means, Message}
-use Rattle.html5ever_interface.specs.Token.{TagOf}
-use Rattle.html5ever_interface.specs.Token.Reply.{KeepOn}
+use Rattle.html5ever_interface.specs.Token.{TagOf, Reply, keeps_state}
+use Rattle.html5ever_interface.specs.Token.Told.{Tag}
+use Rattle.html5ever_interface.specs.Token.Reply.{KeepOn, ReadPlainText, ReadRawData, RunScript, SwitchEncoding}
 use Rattle.html5ever_interface.specs.declared.interface.token.TagKind.TheVariants.{StartTag, EndTag}
 use Rattle.html5reading.specs.Characters.{greater_than}
 use Rattle.html5reading.specs.NormalisedText.{input_after}
@@ -16,7 +17,7 @@ use Rattle.html5reading.specs.Start.Open.{Between}
 use Rattle.html5grammar.specs.Anywhere.{TellsByItself, start_beyond, last_reply}
 use Rattle.html5grammar.specs.Spelled.{Spelled, spelled_messages}
 use Rattle.html5grammar.specs.Tag.{WrittenTag, body, end_errors, tag_told, spelled, IsTag}
-use Rattle.html5grammar.proofs.LastReply.{last_reply-keeps}
+use Rattle.html5grammar.proofs.LastReply.{last_reply-says}
 use Rattle.html5grammar.proofs.Tag.Parts.{tag-by_itself}
 use Rattle.markup5ever.specs.NamedReferences.{IsTable}
 use Rattle.html5write.specs.Escaped.{escaped_text}
@@ -61,6 +62,14 @@ no_break-start_tag input name attributes h =
 pub no_break-end_tag : (input : Input) (name : List ℕ) → can_write (EndTagPiece name) ≡ true → (input_after input (piece_text (EndTagPiece name))).after_carriage_return ≡ false
 no_break-end_tag input name h = no_break-markup input (codes "/" ++ (name ++ codes ">")) (no_return-end_tag name h)
 
+-- after a reply that leaves the state as it is nothing is open
+keeps_state-opens : {H : Type 0} (last : List ℕ) (r : Reply H) → keeps_state r ≡ true → open_after_reply last r ≡ Between Data
+keeps_state-opens last KeepOn keeps = refl
+keeps_state-opens last ReadPlainText keeps = absurd (false≢true keeps)
+keeps_state-opens last (ReadRawData kind) keeps = absurd (false≢true keeps)
+keeps_state-opens last (RunScript handle) keeps = refl
+keeps_state-opens last (SwitchEncoding text) keeps = refl
+
 module _ {X S H : Type 0} (means : Means X S H) (rules : Rules) where
   -- a tag after which the sink keeps on, from what it spells and tells
   tag-told : (K : Start) (s : S) (Y : List ℕ) (tag : WrittenTag) (cells : List Spelled) (told : TagOf) → IsTable rules.references → IsTag K Y tag
@@ -70,12 +79,13 @@ module _ {X S H : Type 0} (means : Means X S H) (rules : Rules) where
   tag-told K s Y tag cells told table one spells tells keeps =
       let M : List Message = spelled_messages rules.exact K.input [] (spelled rules tag) in
       let keeps_tag : KeepsOnAfter means.reply (tag_told rules tag) = subst (λ t. KeepsOnAfter means.reply t) (sym tells) keeps in
-      let reply : last_reply means.step means.reply s M ≡ KeepOn =
-      last_reply-keeps means.step means.reply means.foreign rules s K.input [] (body rules tag) greater_than (end_errors rules tag) (tag_told rules tag) keeps_tag in
+      let last : List ℕ = last_after K.last_start_tag (tag_told rules tag) in
+      let opens : open_after_reply last (last_reply means.step means.reply s M) ≡ Between Data =
+      last_reply-says means.step means.reply means.foreign rules (λ r. open_after_reply last r ≡ Between Data) s K.input [] (body rules tag) greater_than (end_errors rules tag)
+      (tag_told rules tag) (λ t line. keeps_state-opens last (means.reply t (Tag (tag_told rules tag)) line) (keeps_tag t line)) in
       subst (λ t. TellsByItself means rules K s Y (spelled_messages rules.exact K.input [] cells) (start_beyond K Y (Between Data) (last_after K.last_start_tag t))) tells
-      (subst (λ l. TellsByItself means rules K s Y (spelled_messages rules.exact K.input [] l) (start_beyond K Y (Between Data) (last_after K.last_start_tag (tag_told rules tag)))) spells
-      (subst (λ r. TellsByItself means rules K s Y M (start_beyond K Y (open_after_reply (last_after K.last_start_tag (tag_told rules tag)) r) (last_after K.last_start_tag (tag_told rules tag)))) reply
-      (tag-by_itself means rules K s Y tag table one)))
+      (subst (λ l. TellsByItself means rules K s Y (spelled_messages rules.exact K.input [] l) (start_beyond K Y (Between Data) last)) spells
+      (subst (λ o. TellsByItself means rules K s Y M (start_beyond K Y o last)) opens (tag-by_itself means rules K s Y tag table one)))
 
   -- a start tag that is written tells itself
   pub start_tag-told : (K : Start) (s : S) (name : List ℕ) (attributes : List NameAndValue) → IsTable rules.references → IsOpen K → can_write (StartTagPiece name attributes) ≡ true

@@ -2,22 +2,22 @@
 use Rattle.std.specs.Prelude.{◌≡◌, ℕ, Bool, true, false, not, List, [], ◌∷◌, ◌++◌, ◌==◌, flat_map, map, codes, encode_utf8, encode_utf8_all}
 use Rattle.std.specs.List.{list_all}
 use Rattle.html5ever_interface.specs.Sink.{Message, on_line}
-use Rattle.html5ever_interface.specs.Token.{Told, TagOf, Reply}
+use Rattle.html5ever_interface.specs.Token.{Told, TagOf, Reply, keeps_state}
 use Rattle.html5ever_interface.specs.Token.Told.{Text, Error, Tag, Comment}
-use Rattle.html5ever_interface.specs.Token.Reply.{KeepOn}
 use Rattle.html5ever_interface.specs.declared.interface.token.TagKind.TheVariants.{StartTag, EndTag}
 use Rattle.html5reading.specs.Characters.{carriage_return, greater_than}
 use Rattle.html5reading.specs.ErrorText.{where_true, bad_character_error}
 use Rattle.html5reading.specs.NormalisedText.{line_after, input_after}
 use Rattle.html5reading.specs.Reference.{invalid_number}
-use Rattle.html5reading.specs.Start.{Input, Start}
+use Rattle.html5reading.specs.Start.{Input, Rules, Start}
 use Rattle.html5reading.specs.Start.Mode.{Data}
 use Rattle.html5reading.specs.Start.Open.{Between}
 use Rattle.html5reading.specs.Tag.{attribute}
 use Rattle.html5grammar.specs.Spelled.{Spelled, spell_silent, spelled_messages}
+use Rattle.markup5ever.specs.NamedReferences.{IsTable}
 use Rattle.markup5ever.specs.Names.{AttributeOf}
 use Rattle.html5write.specs.Escaped.{escaped}
-use Rattle.html5write.specs.Pieces.{NameAndValue, Piece, piece_text, pieces_text}
+use Rattle.html5write.specs.Pieces.{NameAndValue, Piece, can_write, piece_text, pieces_text}
 use Rattle.html5write.specs.Pieces.Piece.{TextPiece, StartTagPiece, EndTagPiece, CommentPiece}
 
 -- where a page can be put so that it is read in Data, and no LF at its front is part of a line break before it
@@ -117,9 +117,9 @@ start_after_pieces K pieces = record {
   input = input_after K.input (pieces_text pieces);
 }
 
--- the sink keeps on after a tag, whatever it was sent before it
+-- the sink keeps on after a tag, at once or after a pause, whatever it was sent before it
 abbrev pub KeepsOnAfter : {S H : Type 0} → (S → Told → ℕ → Reply H) → TagOf → Type 0
-KeepsOnAfter {S = S} reply tag = (t : S) (line : ℕ) → reply t (Tag tag) line ≡ KeepOn
+KeepsOnAfter {S = S} reply tag = (t : S) (line : ℕ) → keeps_state (reply t (Tag tag) line) ≡ true
 
 abbrev pub KeepsOnAfterPiece : {S H : Type 0} → (S → Told → ℕ → Reply H) → Piece → Type 0
 KeepsOnAfterPiece reply (StartTagPiece name attributes) = KeepsOnAfter reply (start_tag_told name attributes)
@@ -130,6 +130,20 @@ KeepsOnAfterPiece reply other = Unit {0}
 abbrev pub KeepsOn : {S H : Type 0} → (S → Told → ℕ → Reply H) → List Piece → Type 0
 KeepsOn reply [] = Unit {0}
 KeepsOn reply (piece ∷ pieces) = KeepsOnAfterPiece reply piece × KeepsOn reply pieces
+
+-- a piece that can be written is read back: by these rules, from this start, by a sink that replies so
+pub record IsPieceReadBack {S H : Type 0} (rules : Rules) (K : Start) (reply : S → Told → ℕ → Reply H) (piece : Piece) : Type 0 where
+  pub table : IsTable rules.references
+  pub starts : IsOpen K
+  pub can : can_write piece ≡ true
+  pub keeps : KeepsOnAfterPiece {S = S} reply piece
+
+-- and so are these, one after another
+pub record IsReadBack {S H : Type 0} (rules : Rules) (K : Start) (reply : S → Told → ℕ → Reply H) (pieces : List Piece) : Type 0 where
+  pub table : IsTable rules.references
+  pub starts : IsOpen K
+  pub can : list_all can_write pieces ≡ true
+  pub keeps : KeepsOn {S = S} reply pieces
 
 -- ---- what it tells but for errors
 

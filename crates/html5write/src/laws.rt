@@ -17,7 +17,7 @@ ghost use Rattle.html5write.specs.Pieces as pieces;
 ghost use Rattle.html5write.specs.Pieces.{NameAndValue, piece_text, pieces_text, can_write, has_no_null};
 ghost use Rattle.html5write.specs.Pieces.Piece.{StartTagPiece, EndTagPiece, CommentPiece};
 ghost use Rattle.html5write.specs.Refusals.{refusal_of};
-ghost use Rattle.html5write.specs.Told.{IsOpen, KeepsOn, KeepsOnAfter, end_tag_told, pieces_messages, pieces_tokens, piece_tokens, is_without_return, proper, spell_comment, spell_end_tag, spell_start_tag, start_after_pieces, start_tag_told, text_messages, tokens_of};
+ghost use Rattle.html5write.specs.Told.{IsOpen, IsPieceReadBack, IsReadBack, KeepsOn, pieces_messages, pieces_tokens, piece_tokens, is_without_return, proper, spell_comment, spell_end_tag, spell_start_tag, start_after_pieces, text_messages, tokens_of};
 ghost use Rattle.html5write.specs.Writing.{piece_of, tokens_said};
 
 use crate::piece::Piece;
@@ -39,8 +39,7 @@ pub fn text<S: TokenSink<Token<A>>, A: Allocator>()
 /// with its value.
 pub fn start_tag<S: TokenSink<Token<A>>, A: Allocator>()
     ensures { (rules : Rules) (K : Start) (s : S.State) (name : List ℕ) (attributes : List NameAndValue)
-        → IsTable rules.references → IsOpen K → can_write (StartTagPiece name attributes) ≡ true
-        → KeepsOnAfter {S = S.State} S.means.reply (start_tag_told name attributes)
+        → IsPieceReadBack {S = S.State} rules K S.means.reply (StartTagPiece name attributes)
         → TellsByItself S.means rules K s (piece_text (StartTagPiece name attributes))
         (spelled_messages rules.exact K.input [] (spell_start_tag rules.exact name attributes))
         (start_beyond K (piece_text (StartTagPiece name attributes)) (Between Data) (encode_utf8_all name)) }
@@ -48,9 +47,8 @@ pub fn start_tag<S: TokenSink<Token<A>>, A: Allocator>()
 
 /// An end tag as it is written tells that tag at its `>`.
 pub fn end_tag<S: TokenSink<Token<A>>, A: Allocator>()
-    ensures { (rules : Rules) (K : Start) (s : S.State) (name : List ℕ) → IsTable rules.references → IsOpen K
-        → can_write (EndTagPiece name) ≡ true
-        → KeepsOnAfter {S = S.State} S.means.reply (end_tag_told name)
+    ensures { (rules : Rules) (K : Start) (s : S.State) (name : List ℕ)
+        → IsPieceReadBack {S = S.State} rules K S.means.reply (EndTagPiece name)
         → TellsByItself S.means rules K s (piece_text (EndTagPiece name))
         (spelled_messages rules.exact K.input [] (spell_end_tag name))
         (start_beyond K (piece_text (EndTagPiece name)) (Between Data) K.last_start_tag) }
@@ -68,8 +66,8 @@ pub fn comment<S: TokenSink<Token<A>>, A: Allocator>()
 /// A page that is written piece by piece, wherever it is put in Data, tells its pieces. It is read to
 /// where nothing is open, so what follows it is read as it would be without it.
 pub fn all_pieces<S: TokenSink<Token<A>>, A: Allocator>()
-    ensures { (rules : Rules) (K : Start) (s : S.State) (pieces : List pieces.Piece) → IsTable rules.references
-        → IsOpen K → list_all can_write pieces ≡ true → KeepsOn {S = S.State} S.means.reply pieces
+    ensures { (rules : Rules) (K : Start) (s : S.State) (pieces : List pieces.Piece)
+        → IsReadBack {S = S.State} rules K S.means.reply pieces
         → TellsByItself S.means rules K s (pieces_text pieces) (pieces_messages rules.exact K.input pieces)
         (start_after_pieces K pieces) }
 {}
@@ -78,16 +76,16 @@ pub fn all_pieces<S: TokenSink<Token<A>>, A: Allocator>()
 /// errors these are exactly their tokens: a tag or a comment for each such piece, and each character of
 /// a text. Where errors are not exact, and no CR stands in its texts and values, there are no errors.
 pub fn whole_text<S: TokenSink<Token<A>>, A: Allocator>()
-    ensures messages { (rules : Rules) (K : Start) (s : S.State) (pieces : List pieces.Piece) → IsTable rules.references
-        → IsOpen K → list_all can_write pieces ≡ true → KeepsOn {S = S.State} S.means.reply pieces
+    ensures messages { (rules : Rules) (K : Start) (s : S.State) (pieces : List pieces.Piece)
+        → IsReadBack {S = S.State} rules K S.means.reply pieces
         → all_messages S.means rules K s (pieces_text pieces)
         ≡ pieces_messages rules.exact K.input pieces
         ++ on_line (line_after K.input (normalised K.input (pieces_text pieces))) (End ∷ []) }
-    ensures tokens { (rules : Rules) (K : Start) (s : S.State) (pieces : List pieces.Piece) → IsTable rules.references
-        → IsOpen K → list_all can_write pieces ≡ true → KeepsOn {S = S.State} S.means.reply pieces
+    ensures tokens { (rules : Rules) (K : Start) (s : S.State) (pieces : List pieces.Piece)
+        → IsReadBack {S = S.State} rules K S.means.reply pieces
         → proper (all_messages S.means rules K s (pieces_text pieces)) ≡ pieces_tokens pieces ++ End ∷ [] }
-    ensures silent { (rules : Rules) (K : Start) (s : S.State) (pieces : List pieces.Piece) → IsTable rules.references
-        → IsOpen K → list_all can_write pieces ≡ true → KeepsOn {S = S.State} S.means.reply pieces
+    ensures silent { (rules : Rules) (K : Start) (s : S.State) (pieces : List pieces.Piece)
+        → IsReadBack {S = S.State} rules K S.means.reply pieces
         → rules.exact ≡ false → list_all is_without_return pieces ≡ true
         → tokens_of (all_messages S.means rules K s (pieces_text pieces)) ≡ pieces_tokens pieces ++ End ∷ [] }
 {}

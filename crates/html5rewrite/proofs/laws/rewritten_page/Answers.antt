@@ -1,6 +1,5 @@
-use Rattle.html5rewrite.proofs.Replies.{can-plain, keeps_on-page}
+use Rattle.html5rewrite.proofs.Replies.{read_back-plain}
 use Rattle.html5rewrite.proofs.laws.rewritten_page.Goals as goal
 
 pub returns : goal.returns
-returns g c = λ rules K s pieces table here plain follows.
-    c.whole_text.ensures.tokens rules K s pieces table here (can-plain pieces plain) (keeps_on-page (g.S.TokenSink.means).reply follows pieces plain)
+returns g c = λ rules K s pieces back. c.whole_text.ensures.tokens rules K s pieces (read_back-plain rules K (g.S.TokenSink.means).reply pieces back)
