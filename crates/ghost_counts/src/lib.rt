@@ -1,8 +1,11 @@
-//! What contracts alone see: counts, and bytes that were handed on. They have no bytes at run time.
+//! What contracts alone see: counts, bytes that were handed on, and other values that follow from two.
+//! They have no bytes at run time.
 #![tactic(auto)]
 
 mod count;
 mod log;
+mod noted;
 
 pub use crate::count::Count;
 pub use crate::log::Log;
+pub use crate::noted::{Follows, Noted, note};
