@@ -1,5 +1,5 @@
 //! What contracts alone see: counts, bytes that were handed on, and other values that follow from two.
-//! They have no bytes at run time.
+//! They have no bytes at run time, which is checked below.
 #![tactic(auto)]
 
 mod count;
@@ -9,3 +9,7 @@ mod noted;
 pub use crate::count::Count;
 pub use crate::log::Log;
 pub use crate::noted::{Follows, Noted, note};
+
+const _: () = prove!(size_of::<Count>() == 0);
+
+const _: () = prove!(size_of::<Log>() == 0);
