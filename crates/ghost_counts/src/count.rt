@@ -1,56 +1,70 @@
 //! Whole numbers that contracts alone see.
-ghost use Rattle.std.specs.Prelude.{◌≡◌, ℕ, ◌+◌, length};
+ghost use Rattle.std.specs.Prelude.{◌≡◌, ◌+◌, length};
 ghost use Rattle.std.specs.Str.{chars};
-ghost use Rattle.std.specs.Borrow.{ftrue};
 
+use crate::noted::{Follows, Noted, note};
 use std::marker::Model;
 
 /// An unbounded whole number that contracts alone see. It has no bytes at run time.
 #[derive(Drop)]
 pub struct Count {
-    pub ghost total: { ℕ },
+    noted: Noted<Number>,
 }
 
 impl Model for Count {
-    ghost also_owns = { λ _. ftrue };
+    ghost use Rattle.ghost_counts.specs.Values.{Counted};
+
+    ghost Value = { Counted };
+
+    ghost view = { λ count. record { total = count.noted.value } };
 }
 
-// It has no bytes, so it may be used on any thread.
-unsafe impl Send for Count {}
+// Stands for the numbers that a count can have.
+struct Number {}
+
+impl Model for Number {
+    ghost use Rattle.std.specs.Prelude.{ℕ};
+
+    ghost Value = { ℕ };
+
+    ghost view = { λ _. 0 };
+}
+
+impl Follows<(), ()> for Number {
+    ghost follows = { λ _ _. 0 };
+}
+
+impl Follows<Count, usize> for Number {
+    ghost follows = { λ count n. count.total + n };
+}
+
+impl<'a> Follows<Count, &'a str> for Number {
+    ghost follows = { λ count text. count.total + length (chars text.now) };
+}
 
 impl Count {
     /// A count of 0.
     pub fn new() -> Count
         ensures { result.total ≡ 0 }
     {
-        Count {}
-    }
-
-    // The count `_before` and `_by` more.
-    fn raised(_before: &Count, _by: &usize) -> Count
-        ensures { result.total ≡ _before.now.total + _by.now }
-    {
-        Count {}
+        Count {
+            noted: note(&(), &()),
+        }
     }
 
     /// Raises the count by `n`.
     pub fn add(&mut self, n: usize)
         ensures { self.new.total ≡ self.old.total + n }
     {
-        *self = Count::raised(self, &n);
-    }
-
-    // The count `_before` and one for each character of `_text`, which is not read.
-    fn raised_by_chars(_before: &Count, _text: &&str) -> Count
-        ensures { result.total ≡ _before.now.total + length (chars _text.now.now) }
-    {
-        Count {}
+        self.noted = note(self, &n);
     }
 
     /// The count and one more for each character of the text, which is not read.
     pub fn with_chars(&self, text: &str) -> Count
         ensures { result.total ≡ self.now.total + length (chars text.now) }
     {
-        Count::raised_by_chars(self, &text)
+        Count {
+            noted: note(self, &text),
+        }
     }
 }

@@ -18,6 +18,10 @@ pub data Piece : Type 0 where
   EndTagPiece : List ℕ → Piece
   CommentPiece : List ℕ → Piece
 
+-- what contracts see of a trail
+pub record Trailed : Type 0 where
+  pub pieces : List Piece
+
 -- ---- the page
 
 abbrev pub attribute_text : NameAndValue → List ℕ
