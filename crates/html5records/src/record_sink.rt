@@ -92,11 +92,11 @@ fn push_whole_token<A: Allocator>(
         (written.new.items ≡ written.old.items ++ added_by in_text (told_by token.now) line) }
     ensures err { OnErr result (written.new.items ≡ written.old.items) }
 {
-    let before = written.len();
+    let len = written.len();
     match push_token(written, in_text, token, line) {
         Ok(()) => Ok(()),
         Err(AllocError) => {
-            written.truncate(before);
+            written.truncate(len);
             Err(AllocError)
         }
     }
