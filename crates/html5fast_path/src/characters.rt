@@ -1,5 +1,5 @@
 //! One character that tells nothing.
-#![tactic(auto, unfolding(html5reading::specs::Machine::step_at, html5reading::specs::Machine::data_step, html5reading::specs::Machine::less_than_step, html5reading::specs::Machine::solidus_step, html5reading::specs::Machine::tag_step, html5reading::specs::Machine::tag_name_step, html5reading::specs::Machine::part_step, html5reading::specs::Machine::attribute_name_step, html5reading::specs::Machine::after_attribute_name_step, html5reading::specs::Machine::before_value_step, html5reading::specs::Machine::quoted_step, html5reading::specs::Machine::unquoted_step, html5reading::specs::Tag::in_tag_name, html5reading::specs::Tag::in_attribute_name, html5reading::specs::Tag::in_quoted, html5reading::specs::Tag::in_unquoted, html5reading::specs::Tag::place_error, html5reading::specs::Characters::is_white_space, html5reading::specs::Characters::is_letter))]
+#![tactic(auto, unfolding(html5reading::proofs::OnSteps::text_steps, html5reading::proofs::OnSteps::tag_steps, html5reading::proofs::OnSteps::value_steps, html5reading::specs::Machine::tag_step, html5reading::specs::Characters::is_white_space, html5reading::specs::Characters::is_letter))]
 
 ghost use Rattle.std.specs.Prelude.{◌≡◌, ◌≤◌, true, false, IfOk, IfSome};
 ghost use Rattle.html5reading.specs.Start.{held_len};

@@ -1,5 +1,5 @@
 //! Kinds of characters.
-#![tactic(auto, unfolding(html5reading::specs::Characters::is_white_space, html5reading::specs::Characters::is_letter, html5reading::specs::Characters::shown, html5reading::specs::Characters::name_bytes, html5reading::specs::Tag::is_odd_in_name, html5reading::specs::Tag::is_odd_at_name, html5reading::specs::Tag::is_odd_in_unquoted, html5reading::specs::RawText::ends_name))]
+#![tactic(auto, unfolding(html5reading::proofs::OnSteps::character_words))]
 
 ghost use Rattle.std.specs.Prelude.{◌≡◌, ◌==◌, ◌||◌, ◌&&◌, IfSome, is_some, encode_utf8};
 ghost use Rattle.std.specs.Char.{to_ascii_lowercase};

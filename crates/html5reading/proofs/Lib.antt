@@ -20,6 +20,7 @@ pub mod Holding
 pub mod TableNames
 pub mod NameRuns
 pub mod OnLiterals
+pub mod OnSteps
 mod ReferenceCases
 mod CommentCases
 mod InstructionCases

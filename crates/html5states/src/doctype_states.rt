@@ -1,5 +1,5 @@
 //! The states of DOCTYPEs up to their name and keyword, and what ends or skips a DOCTYPE.
-#![tactic(auto, using(crate::proofs::Tellings::tells_from_memory), unfolding(html5reading::specs::Machine::doctype_step, html5reading::specs::Machine::space_step, html5reading::specs::Machine::skipped_step, html5reading::specs::Machine::wanted_name_step, html5reading::specs::Machine::doctype_name_step, html5reading::specs::Machine::keyword_or_end_step, html5reading::specs::Doctype::in_doctype_name, html5partial::specs::Steps::tokens_of, html5partial::specs::Steps::afterwards, html5ever_interface::specs::Sink::stepped))]
+#![tactic(auto, using(crate::proofs::Tellings::tells_from_memory), unfolding(html5reading::proofs::OnSteps::doctype_steps, html5partial::specs::Steps::tokens_of, html5partial::specs::Steps::afterwards, html5ever_interface::specs::Sink::stepped))]
 
 ghost use Rattle.std.specs.Prelude.{◌≡◌, ◌∷◌, [], string_bytes};
 ghost use Rattle.html5ever_interface.specs.Token.{doctype_of};

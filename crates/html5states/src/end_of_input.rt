@@ -1,5 +1,5 @@
 //! The end of input, in the state that is open.
-#![tactic(auto, using(crate::proofs::Tellings::tells_from_memory), unfolding(html5reading::specs::EndOfInput::told_at_end_of, html5reading::specs::EndOfInput::told_at_raw_end, html5reading::specs::EndOfInput::raw_end_error, html5reading::specs::RawText::raw_state, html5reading::specs::RawText::escaped_state, html5reading::specs::EndOfInput::state_at, html5reading::specs::EndOfInput::told_at_doctype_end, html5reading::specs::EndOfInput::doctype_state_at))]
+#![tactic(auto, using(crate::proofs::Tellings::tells_from_memory), unfolding(html5reading::proofs::OnSteps::ends_by_state))]
 
 ghost use Rattle.std.specs.Prelude.{◌≡◌, ◌∷◌, [], ◌++◌, false, codes, encode_utf8};
 ghost use Rattle.std.specs.Str.{chars};

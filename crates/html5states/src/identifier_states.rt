@@ -1,5 +1,5 @@
 //! The states of a DOCTYPE's identifiers.
-#![tactic(auto, using(crate::proofs::Tellings::tells_from_memory), unfolding(html5reading::specs::Machine::doctype_step, html5reading::specs::Machine::space_step, html5reading::specs::Machine::skipped_step, html5reading::specs::Machine::wanted_identifier_step, html5reading::specs::Machine::system_or_end_step, html5reading::specs::Machine::identifier_step, html5reading::specs::Machine::after_identifier_step, html5reading::specs::Doctype::in_identifier, html5partial::specs::Steps::tokens_of, html5partial::specs::Steps::afterwards, html5ever_interface::specs::Sink::stepped))]
+#![tactic(auto, using(crate::proofs::Tellings::tells_from_memory), unfolding(html5reading::proofs::OnSteps::identifier_steps, html5partial::specs::Steps::tokens_of, html5partial::specs::Steps::afterwards, html5ever_interface::specs::Sink::stepped))]
 
 ghost use Rattle.std.specs.Prelude.{◌≡◌, true, false};
 ghost use Rattle.html5ever_interface.specs.Token.{doctype_of};

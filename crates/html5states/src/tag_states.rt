@@ -1,5 +1,5 @@
 //! The states within a tag, except those of values: one function for each.
-#![tactic(auto, using(crate::proofs::Tellings::tells_from_memory, crate::proofs::Tellings::tells_memory), unfolding(html5reading::specs::Machine::tag_name_step, html5reading::specs::Machine::part_step, html5reading::specs::Machine::attribute_name_step, html5reading::specs::Machine::after_attribute_name_step, html5reading::specs::Tag::in_tag_name, html5reading::specs::Tag::in_attribute_name, html5reading::specs::Tag::place_error, html5reading::specs::Tag::first_error, html5partial::specs::Steps::tokens_of, html5partial::specs::Steps::afterwards, html5ever_interface::specs::Sink::stepped))]
+#![tactic(auto, using(crate::proofs::Tellings::tells_from_memory, crate::proofs::Tellings::tells_memory), unfolding(html5reading::proofs::OnSteps::tag_steps, html5partial::specs::Steps::tokens_of, html5partial::specs::Steps::afterwards, html5ever_interface::specs::Sink::stepped))]
 
 ghost use Rattle.std.specs.Prelude.{◌≡◌, ◌∷◌, [], ◌++◌, OnOk};
 ghost use Rattle.html5reading.specs.Machine.{told_first, tag_name_step, attribute_name_step};

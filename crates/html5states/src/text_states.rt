@@ -1,5 +1,5 @@
 //! The states between tags, and those that a `<` opens, one function for each.
-#![tactic(auto, using(crate::proofs::Tellings::tells_from_memory), unfolding(html5reading::specs::Machine::step_at, html5reading::specs::Machine::data_step, html5reading::specs::Machine::less_than_step, html5reading::specs::Machine::solidus_step, html5reading::specs::Text::plain_text, html5partial::specs::Steps::tokens_of, html5partial::specs::Steps::afterwards, html5ever_interface::specs::Sink::stepped))]
+#![tactic(auto, using(crate::proofs::Tellings::tells_from_memory), unfolding(html5reading::proofs::OnSteps::text_steps, html5partial::specs::Steps::tokens_of, html5partial::specs::Steps::afterwards, html5ever_interface::specs::Sink::stepped))]
 
 ghost use Rattle.std.specs.Prelude.{◌≡◌, ◌∷◌, [], ◌==◌, codes, encode_utf8, if◌then◌else◌};
 ghost use Rattle.html5reading.specs.Characters.{null, replacement_character};

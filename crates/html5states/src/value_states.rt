@@ -1,5 +1,5 @@
 //! The states of an attribute's value, one function for each.
-#![tactic(auto, using(crate::proofs::Tellings::tells_from_memory), unfolding(html5reading::specs::Machine::before_value_step, html5reading::specs::Machine::quoted_step, html5reading::specs::Machine::unquoted_step, html5reading::specs::Machine::part_step, html5reading::specs::Tag::in_quoted, html5reading::specs::Tag::in_unquoted, html5reading::specs::Tag::unquoted_error, html5reading::specs::Tag::place_error, html5partial::specs::Steps::tokens_of, html5partial::specs::Steps::afterwards, html5ever_interface::specs::Sink::stepped))]
+#![tactic(auto, using(crate::proofs::Tellings::tells_from_memory), unfolding(html5reading::proofs::OnSteps::value_steps, html5partial::specs::Steps::tokens_of, html5partial::specs::Steps::afterwards, html5ever_interface::specs::Sink::stepped))]
 
 ghost use Rattle.std.specs.Prelude.{◌≡◌, ◌∷◌, [], false};
 ghost use Rattle.html5reading.specs.Machine.{closing_step, before_value_step, quoted_step};
