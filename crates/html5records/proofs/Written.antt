@@ -23,19 +23,19 @@ pub attributes-more : {Z : Type 0} (old written next : List ℕ) (attributes : L
     → i < length attributes
     → next ≡ written ++ attribute_record (attribute_of attribute)
     → next ≡ old ++ flat_map attribute_record (map attribute_of (take (i + 1) attributes))
-attributes-more old written next attributes i attribute before here within written =
+attributes-more old written next attributes i attribute before here within last =
     let front : List AttributeOf = map attribute_of (take i attributes) in
     let more : map attribute_of (take (i + 1) attributes) ≡ front ++ attribute_of attribute ∷ [] =
     map_more attribute_of attributes i attribute within ∙ ap (λ a. front ++ attribute_of a ∷ []) (sym here) in
-    written
+    last
     ∙ ap (λ l. l ++ attribute_record (attribute_of attribute)) before
     ∙ append_assoc old (flat_map attribute_record front) (attribute_record (attribute_of attribute))
     ∙ ap (λ l. old ++ l) (sym (ap (flat_map attribute_record) more ∙ flat_map-push attribute_record front (attribute_of attribute)))
 
 -- two pieces, of which the last could fail
 pub pieces-two : {T E : Type 0} (r : Result T E) (old written next a b : List ℕ) → written ≡ old ++ a → OnOk r (next ≡ written ++ b) → OnOk r (next ≡ old ++ (a ++ b))
-pieces-two r old written next a b before written =
-    on_ok_weaker r (λ (e : next ≡ written ++ b). e ∙ ap (λ l. l ++ b) before ∙ append_assoc old a b) written
+pieces-two r old written next a b before last =
+    on_ok_weaker r (λ (e : next ≡ written ++ b). e ∙ ap (λ l. l ++ b) before ∙ append_assoc old a b) last
 
 -- a token that is no text
 

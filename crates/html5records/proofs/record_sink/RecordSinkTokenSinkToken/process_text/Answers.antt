@@ -7,4 +7,4 @@ pub returns-in-Ok-clause-writes : goal.returns-in-Ok-clause-writes
 unfolding recorded_step added_by
 returns-in-Ok-clause-writes g c =
     let s = c.self.inside in
-    rw (← c.self.view_is, bytes-more s.taken.bytes s.page.items _ _ s.skipped c.self.invariant c.in-Ok.ensures.ok, c.is_open_after_text-self-inside.ensures, c.as_bytes-text.ensures.value) refl
+    rw (← c.self.view_is, bytes-more s.taken.bytes s.written.items _ _ s.skipped c.self.invariant c.in-Ok.ensures.ok, c.is_open_after_text-self-inside.ensures, c.as_bytes-text.ensures.value) refl
