@@ -24,7 +24,7 @@ use Rattle.html5reading.specs.Reading.{Here, Brought, messages_so_far, state_aft
 use Rattle.html5reading.specs.Reading.Here.{Tells, TellsTag}
 use Rattle.html5reading.specs.Reference.{is_undecided, ends_number}
 use Rattle.html5reading.specs.Slice.{tokens_of_late}
-use Rattle.html5reading.specs.Start.{Start, Stand, Open, Rules, is_between}
+use Rattle.html5reading.specs.Start.{Start, Stand, Open, Rules, nothing_open}
 use Rattle.html5reading.specs.Start.DoctypePlace.{Skipped}
 use Rattle.html5reading.specs.Start.Open.{Between, LessThan, LessThanSolidus, InTag, InRaw, InDeclaration, InComment, InBogusComment, InInstruction, InDoctype, InDoctypeKeyword, InReference, InCdata}
 use Rattle.html5feed.specs.Feed.{Feed, pauses, takes_before, up_to_pause, first_pause, feed}
@@ -297,7 +297,7 @@ module _ {X S H : Type 0} (means : Means X S H) (rules : Rules) where
         → messages_so_far means rules K s text ≡ M
     tells-messages K s text M table told = (tells-items means rules K s text M told.0 table told.1).told
 
-    messages-told : (K : Start) (s : S) (text : List ℕ) (M : List Message) → IsTable rules.references → is_between K.opened ≡ true
+    messages-told : (K : Start) (s : S) (text : List ℕ) (M : List Message) → IsTable rules.references → nothing_open K.opened ≡ true
         → messages_so_far means rules K s text ≡ M → ItemsTell means rules K s text M
     messages-told K s text M table clean e =
         let c : Composed means rules K s text = all-composed means rules K s text clean in
@@ -322,7 +322,7 @@ module _ {X S H : Type 0} (means : Means X S H) (rules : Rules) where
         ∙ ap (λ M. pauses (first_pause means (stepped means.step s M) last)) before
         ∙ pauses-last (stepped means.step s p.before) p.between p.tag p.line (ap pauses (sym p.asked) ∙ p.pauses)
 
-    within-pauses : (K : Start) (s : S) (text more : List ℕ) (reply : Reply H) → IsTable rules.references → is_between K.opened ≡ true
+    within-pauses : (K : Start) (s : S) (text more : List ℕ) (reply : Reply H) → IsTable rules.references → nothing_open K.opened ≡ true
         → EndsInTag (state_after means rules K s text) (beyond_of K s text more) reply → pauses reply ≡ true
         → EndsInPause means rules K s text more reply
     within-pauses K s text more reply table clean ends h = record {
@@ -337,7 +337,7 @@ module _ {X S H : Type 0} (means : Means X S H) (rules : Rules) where
     }
 
     -- a feed that pauses, and one that doesn't
-    takes-up_to : (K : Start) (s : S) (text queue : List ℕ) (fed : Feed H) (p : Bool) → pauses fed.answer ≡ p → IsTable rules.references → is_between K.opened ≡ true
+    takes-up_to : (K : Start) (s : S) (text queue : List ℕ) (fed : Feed H) (p : Bool) → pauses fed.answer ≡ p → IsTable rules.references → nothing_open K.opened ≡ true
         → EndsAtPause (start_after means rules K s text) (state_after means rules K s text) queue fed
         → TakesByItems means rules K s text queue fed.taken fed.left fed.answer
     takes-up_to K s text queue fed true h table clean ends =
@@ -360,7 +360,7 @@ module _ {X S H : Type 0} (means : Means X S H) (rules : Rules) where
             false≢true (sym (ends.sooner front (d ∷ rest) (whole ∙ e) (λ none. nil≢cons (sym none))) ∙ pauses-within K s text front other table within)
 
     -- a feed, wherever the text before it leads
-    pub takes-by_items : (K : Start) (s : S) (text queue : List ℕ) → IsTable rules.references → is_between K.opened ≡ true
+    pub takes-by_items : (K : Start) (s : S) (text queue : List ℕ) → IsTable rules.references → nothing_open K.opened ≡ true
         → TakesByItems means rules K s text queue (feed means rules K s text queue).taken (feed means rules K s text queue).left (feed means rules K s text queue).answer
     takes-by_items K s text queue table clean =
         subst (λ (fed : Feed H). TakesByItems means rules K s text queue fed.taken fed.left fed.answer) (sym (feed-anew means rules K s text queue))

@@ -7,7 +7,7 @@ use Rattle.html5ever_interface.specs.Sink.{Means}
 use Rattle.html5ever_interface.specs.Token.{Told, Reply, is_tag}
 use Rattle.html5ever_interface.specs.Token.Reply.{KeepOn}
 use Rattle.html5reading.specs.Reading.{all_messages}
-use Rattle.html5reading.specs.Start.{Start, Rules, is_between}
+use Rattle.html5reading.specs.Start.{Start, Rules, nothing_open}
 use Rattle.html5feed.specs.Feed.{Feed, told_beyond, feed, IsEndOf}
 use Rattle.html5ever.specs.RunSteps.StepOf.{AtBack}
 use Rattle.html5feed.proofs.Pauses.{feed-parts}
@@ -49,7 +49,7 @@ module _ {X S H : Type 0} (means : Means X S H) (rules : Rules) where
 
   -- what each feed takes is said by items
   pub run-takes : ((s : S) (told : Told) (line : ℕ) → is_tag told ≡ false → means.reply s told line ≡ KeepOn)
-      → (K : Start) (s : S) (text queue : List ℕ) (steps : List StepOf) → IsTable rules.references → is_between K.opened ≡ true
+      → (K : Start) (s : S) (text queue : List ℕ) (steps : List StepOf) → IsTable rules.references → nothing_open K.opened ≡ true
       → RunTakes means rules K s text queue steps (run_text means rules K s text queue steps)
   unfolding run_text
   run-takes keeps_on K s text queue [] table clean = Ended text queue

@@ -4,7 +4,7 @@ use Rattle.html5ever_interface.specs.Options.{OptionsOf}
 use Rattle.html5ever_interface.specs.Sink.{Means, Message, stepped}
 use Rattle.html5ever_interface.specs.Token.{Reply}
 use Rattle.html5reading.specs.Reading.{all_messages, state_after, start_after}
-use Rattle.html5reading.specs.Start.{Start, Rules, start_of, is_between}
+use Rattle.html5reading.specs.Start.{Start, Rules, start_of, nothing_open}
 use Rattle.html5grammar.specs.Items.{ToldItems, FinishedItems}
 use Rattle.html5ever.specs.Pauses.{TakesByItems}
 use Rattle.html5feed.specs.Feed.{Feed, told_beyond, told_at_end, feed}
@@ -99,7 +99,7 @@ module _ {X S H : Type 0} (means : Means X S H) where
   -- after `more`, the sink was sent exactly what the items tell
   abbrev pub ReadsItems : Tokenizing X → Tokenizing X → List ℕ → Type 0
   ReadsItems old new more =
-      (K : Start) (s : S) (text : List ℕ) → is_between K.opened ≡ true → StandsAt old K s text
+      (K : Start) (s : S) (text : List ℕ) → nothing_open K.opened ≡ true → StandsAt old K s text
       → ToldItems means old.rules K s (text ++ more) (means.state new.sink)
 
   -- after `text` the tokenizer took the beginning of the queue's text that its items say, `left` waits, and that reply was handed on.
@@ -113,12 +113,12 @@ module _ {X S H : Type 0} (means : Means X S H) where
   -- a feed of a queue's text, likewise
   abbrev pub FeedsItems : Tokenizing X → Tokenizing X → List ℕ → List ℕ → Reply H → Type 0
   FeedsItems old new queue left reply =
-      (K : Start) (s : S) (text : List ℕ) → is_between K.opened ≡ true → StandsAt old K s text → FedByItems old new K s text queue left reply
+      (K : Start) (s : S) (text : List ℕ) → nothing_open K.opened ≡ true → StandsAt old K s text → FedByItems old new K s text queue left reply
 
   -- the sink was sent what the items and the end tell, and then finished
   abbrev pub FinishesItems : Tokenizing X → S → Type 0
   FinishesItems old t =
-      (K : Start) (s : S) (text : List ℕ) → is_between K.opened ≡ true → StandsAt old K s text → FinishedItems means old.rules K s text t
+      (K : Start) (s : S) (text : List ℕ) → nothing_open K.opened ≡ true → StandsAt old K s text → FinishedItems means old.rules K s text t
 
   -- ---- refused calls
 

@@ -3,7 +3,7 @@ ghost use Rattle.std.specs.Prelude.{◌≡◌, ◌≢◌, ◌^◌, ◌<◌, ◌+
 ghost use Rattle.html5ever_interface.specs.Options.{options_of};
 ghost use Rattle.html5ever_interface.specs.Sink.{stepped, on_line};
 ghost use Rattle.html5reading.specs.EndOfInput.{tokens_at_end};
-ghost use Rattle.html5reading.specs.Start.{start_of, is_between, held_len};
+ghost use Rattle.html5reading.specs.Start.{start_of, nothing_open, held_len};
 ghost use Rattle.html5reading.specs.Start.Mode.{Plain};
 ghost use Rattle.html5reading.specs.Start.Open.{Between};
 ghost use Rattle.html5feed.specs.Feed.{reply_in, IsEndOf, IsLinear};
@@ -203,19 +203,19 @@ impl<'t, Sink: TokenSink<Token<A>>, A: Allocator + Copy> Tokenizer<'t, Sink, A> 
     /// CR whose LF may still follow doesn't count. Then what follows can be sent to another sink, which
     /// the caller puts in the field `sink`.
     pub fn nothing_pending(&self) -> bool
-        ensures exact { result ≡ (is_between self.now.position.opened && not self.now.failed && not self.now.ended) }
+        ensures exact { result ≡ (nothing_open self.now.position.opened && not self.now.failed && not self.now.ended) }
         ensures anew { result ≡ true → (x : Sink)
             → StandsAt Sink.means (record self.now { sink = x }) self.now.position (Sink.means.state x) [] }
     {
         if self.failed || self.ended {
             return false;
         }
-        self.position.is_between()
+        self.position.nothing_open()
     }
 
     /// Reads the rest of the stream as plain text, where nothing is pending.
     pub fn set_plaintext_state(&mut self)
-        requires clean { is_between self.old.position.opened ≡ true }
+        requires nothing_open { nothing_open self.old.position.opened ≡ true }
         requires not_failed { self.old.failed ≡ false }
         requires going_on { self.old.ended ≡ false }
         ensures anew { (x : Sink) → StandsAt Sink.means (record self.new { sink = x })

@@ -8,7 +8,7 @@ use Rattle.std.proofs.lemmas.List.Elements.{All-head, All-tail, All-weaker}
 use Rattle.std.proofs.lemmas.Str.{IsUtf8-take, IsCharBoundary-from_drop}
 use Rattle.html5ever_interface.specs.Token.{Told}
 use Rattle.html5reading.specs.Reading.Here.{Tells}
-use Rattle.html5reading.specs.Start.{Open, is_between, is_undecided_open}
+use Rattle.html5reading.specs.Start.{Open, nothing_open, is_undecided_open}
 use Rattle.html5reading.specs.Start.Open.{Between, LessThan, LessThanSolidus, InTag, InRaw, InDeclaration, InComment, InBogusComment, InInstruction, InDoctype, InDoctypeKeyword, InCdata, InReference}
 use Rattle.html5reading.specs.Start.Place.{InName, BeforeAttribute, InAttributeName, AfterAttributeName, BeforeValue, InValue, AfterQuotedValue, AfterSolidus}
 use Rattle.html5partial.specs.Runs.{IsRunAt, other_run_ends, run_ends, run_tokens, opened_after_run}
@@ -25,7 +25,7 @@ run-decided (InDoctypeKeyword held d) others has = cc
 run-decided opened others has = refl
 
 -- within a tag or a comment a run tells nothing
-pub run_tokens-open : (opened : Open) (run : List ℕ) → is_between opened ≡ false → run_tokens opened run ≡ []
+pub run_tokens-open : (opened : Open) (run : List ℕ) → nothing_open opened ≡ false → run_tokens opened run ≡ []
 run_tokens-open (Between mode) run within = absurd (false≢true (sym within))
 run_tokens-open LessThan run within = refl
 run_tokens-open LessThanSolidus run within = refl
@@ -41,7 +41,7 @@ run_tokens-open (InDoctypeKeyword held doctype) run within = refl
 run_tokens-open (InReference stand held) run within = refl
 
 -- and leaves something within
-pub open-after : (opened : Open) (run : List ℕ) → is_between opened ≡ false → is_between (opened_after_run opened run) ≡ false
+pub open-after : (opened : Open) (run : List ℕ) → nothing_open opened ≡ false → nothing_open (opened_after_run opened run) ≡ false
 open-after (Between mode) run within = within
 open-after LessThan run within = within
 open-after LessThanSolidus run within = within
@@ -64,7 +64,7 @@ open-after (InDoctypeKeyword held doctype) run within = within
 open-after (InReference stand held) run within = within
 
 -- a text of characters that end no run
-pub reads-ordinary : (opened : Open) (others run : List ℕ) → other_run_ends opened ≡ Some others → is_between opened ≡ false
+pub reads-ordinary : (opened : Open) (others run : List ℕ) → other_run_ends opened ≡ Some others → nothing_open opened ≡ false
     → All (λ c. ¬ Contains (run_ends others) c) run → ReadsQuietly opened run (opened_after_run opened run)
 unfolding ReadsQuietly
 reads-ordinary opened others [] has within all = sym (opened_after_run-nil opened)
@@ -84,7 +84,7 @@ reads-ordinary opened others (c ∷ run) has within all =
       ),
     )
 
-pub reads-run : (opened : Open) (run : List ℕ) → IsRunAt opened run → is_between opened ≡ false → ReadsQuietly opened run (opened_after_run opened run)
+pub reads-run : (opened : Open) (run : List ℕ) → IsRunAt opened run → nothing_open opened ≡ false → ReadsQuietly opened run (opened_after_run opened run)
 reads-run opened run is_run within = reads-ordinary opened is_run.others run is_run.has_runs within is_run.ordinary
 
 -- ---- the beginning of a text that is outside the set is a run, where the set has what ends one

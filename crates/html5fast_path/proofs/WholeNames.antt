@@ -6,7 +6,7 @@ use Rattle.std.proofs.lemmas.List.Elements.{All-tail, All-weaker}
 use Rattle.html5ever_interface.specs.declared.interface.token.TagKind.{TagKind}
 use Rattle.html5ever_interface.specs.declared.interface.token.TagKind.TheVariants.{StartTag, EndTag}
 use Rattle.html5reading.specs.Characters.{is_letter}
-use Rattle.html5reading.specs.Start.{Open, OpenTag, begun, is_between}
+use Rattle.html5reading.specs.Start.{Open, OpenTag, begun, nothing_open}
 use Rattle.html5reading.specs.Start.Open.{InTag}
 use Rattle.html5reading.specs.Start.Place.{InName, InAttributeName, BeforeAttribute}
 use Rattle.html5reading.specs.Tag.{has_last, repeats_attribute, with_name, with_last_attribute, with_last_name}
@@ -23,7 +23,7 @@ quiet-letter EndTag c letter = quiet-end_tag c letter
 
 -- a first character that leads to a place where runs are read, and a run after it
 reads-first-and-run : (opened begins next : Open) (others : List ℕ) (c : ℕ) (rest : List ℕ)
-    → other_run_ends (opened_after_run begins (c ∷ [])) ≡ Some others → is_between (opened_after_run begins (c ∷ [])) ≡ false
+    → other_run_ends (opened_after_run begins (c ∷ [])) ≡ Some others → nothing_open (opened_after_run begins (c ∷ [])) ≡ false
     → IsQuiet opened (opened_after_run begins (c ∷ [])) c → All (λ d. ¬ Contains (run_ends others) d) (c ∷ rest)
     → opened_after_run begins (c ∷ rest) ≡ next → ReadsQuietly opened (c ∷ rest) next
 unfolding ReadsQuietly

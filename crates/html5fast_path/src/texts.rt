@@ -1,7 +1,7 @@
 //! Texts that tell nothing.
 ghost use Rattle.std.specs.Prelude.{◌≡◌, ◌≤◌, true, false, IfOk, IfErr, IfSome, length, take, drop};
 ghost use Rattle.std.specs.Str.{IsUtf8, chars};
-ghost use Rattle.html5reading.specs.Start.{is_between, held_len};
+ghost use Rattle.html5reading.specs.Start.{nothing_open, held_len};
 ghost use Rattle.html5partial.specs.CurrentTag.{opened_of, last_name_of};
 ghost use Rattle.html5fast_path.specs.Quiet.{ReadsFront, ReadsQuietly, StopsQuietly};
 
@@ -22,7 +22,7 @@ pub struct Refused {
 // Whether a name, a value, a comment or an instruction is open, whose runs tell nothing.
 #[inline(always)]
 fn reads_open_runs<A: Allocator>(at: &Opened<A>) -> bool
-    ensures { result ≡ true → is_between (opened_of at.now) ≡ false }
+    ensures { result ≡ true → nothing_open (opened_of at.now) ≡ false }
 {
     matches!(
         at.state,

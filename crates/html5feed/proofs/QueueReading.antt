@@ -6,7 +6,7 @@ use Rattle.markup5ever.specs.BufferQueue.{TextQueue, Takes}
 use Rattle.html5reading.specs.Reading.{messages_so_far, state_after, start_after}
 use Rattle.html5feed.specs.Runs.{ReadsRun}
 use Rattle.html5ever_interface.specs.Sink.{Means, Message, stepped}
-use Rattle.html5reading.specs.Start.{Start, Open, is_between, Rules}
+use Rattle.html5reading.specs.Start.{Start, Open, nothing_open, Rules}
 use Rattle.html5states.specs.Telling.{Stops, IsRefusal}
 use Rattle.html5reading.specs.NormalisedText.{input_after}
 use Rattle.std.specs.Result.{IsErrAnd}
@@ -28,7 +28,7 @@ use Rattle.html5partial.proofs.Keywords.{cons≢nil}
 use Rattle.html5states.proofs.Tellings.{Memory-at_once, stops_before, stops_after}
 
 -- between tags a run opens nothing
-opened_after_run-clean : (opened : Open) (run : List ℕ) → is_between opened ≡ true → opened_after_run opened run ≡ opened
+opened_after_run-clean : (opened : Open) (run : List ℕ) → nothing_open opened ≡ true → opened_after_run opened run ≡ opened
 opened_after_run-clean opened run clean = let is = between-mode opened clean in rw is.1 refl
 
 pub on_ok : {T E : Type 0} {P : Type 0} (r : Result T E) → P → OnOk r P
@@ -176,7 +176,7 @@ module _ {X S H : Type 0} (means : Means X S H) (rules : Rules) where
   -- a run of text was sent on the line that is reached after it, or refused
   pub ReadsRun-text : {T : Type 0} (r : Result T TokenizerError)
       → ((s : S) (told : Told) (line : ℕ) → is_tag told ≡ false → means.reply s told line ≡ KeepOn)
-      → (K L : Start) (old new : TextQueue) (s t : S) (run bytes : List ℕ) → IsRun rules K run → is_between K.opened ≡ true → K.input.line < 2 ^ 64 → Takes old new run
+      → (K L : Start) (old new : TextQueue) (s t : S) (run bytes : List ℕ) → IsRun rules K run → nothing_open K.opened ≡ true → K.input.line < 2 ^ 64 → Takes old new run
       → bytes ≡ encode_utf8_all run
       → ((M : List Message) → IsToldAs (Text bytes) L.input.line M → Tells means.step means.faulted r s M t)
       → L.opened ≡ K.opened → L.last_start_tag ≡ K.last_start_tag → L.input ≡ input_after K.input run
@@ -189,13 +189,13 @@ module _ {X S H : Type 0} (means : Means X S H) (rules : Rules) where
   -- a run was put to the open name or value, or there was no memory for it
   pub ReadsRun-open : {T : Type 0} (r : Result T TokenizerError)
       → ((s : S) (told : Told) (line : ℕ) → is_tag told ≡ false → means.reply s told line ≡ KeepOn)
-      → (K L : Start) (old new : TextQueue) (s : S) (run : List ℕ) → IsRun rules K run → is_between K.opened ≡ false → K.input.line < 2 ^ 64 → Takes old new run
+      → (K L : Start) (old new : TextQueue) (s : S) (run : List ℕ) → IsRun rules K run → nothing_open K.opened ≡ false → K.input.line < 2 ^ 64 → Takes old new run
       → IfErr r (λ e. e ≡ Memory) → OnOk r (L.opened ≡ opened_after_run K.opened run) → L.last_start_tag ≡ K.last_start_tag → L.input ≡ K.input
       → ReadsRun means rules r K L old new s s
-  ReadsRun-open r keeps_on K L old new s run is_run not_clean fits takes memory opened last input =
+  ReadsRun-open r keeps_on K L old new s run is_run within fits takes memory opened last input =
       ReadsRun-run r keeps_on K L old new s s run is_run fits takes
-      (subst (λ (M : List Message). Tells means.step means.faulted r s M s) (sym (run_messages-within K.opened K.input.line run not_clean)) (tells_nothing r s memory))
-      opened last (on_ok r (input ∙ sym (input_after-within rules K run is_run not_clean fits)))
+      (subst (λ (M : List Message). Tells means.step means.faulted r s M s) (sym (run_messages-within K.opened K.input.line run within)) (tells_nothing r s memory))
+      opened last (on_ok r (input ∙ sym (input_after-within rules K run is_run within fits)))
 
   -- what the whole feed takes, around an item
   taken-parts : (K L : Start) (old mid new : TextQueue) (s t : S) (item : List ℕ) → (read : HasRead K L old mid s t) → Takes mid new item

@@ -21,7 +21,7 @@ use Rattle.html5reading.specs.Characters.{line_feed, carriage_return, is_bad_cha
 use Rattle.html5reading.specs.NormalisedText.{normalised, line_after, input_after}
 use Rattle.html5reading.specs.Reading.{messages_so_far, start_after}
 use Rattle.html5reading.specs.Reference.{with_value}
-use Rattle.html5reading.specs.Start.{Input, Start, Open, OpenTag, Mode, Rules, is_between}
+use Rattle.html5reading.specs.Start.{Input, Start, Open, OpenTag, Mode, Rules, nothing_open}
 use Rattle.html5reading.specs.Start.Place.{InName, BeforeAttribute, InAttributeName, AfterAttributeName, BeforeValue, InValue, AfterQuotedValue, AfterSolidus}
 use Rattle.html5reading.specs.Start.Open.{Between, LessThan, LessThanSolidus, InTag, InRaw, InDeclaration, InComment, InBogusComment, InInstruction, InDoctype, InDoctypeKeyword, InCdata, InReference}
 use Rattle.html5reading.proofs.InputLemmas.{line_past, lines_past, line_after-none}
@@ -50,7 +50,7 @@ no_returns opened run is_run =
     All-weaker (λ c. ¬ Contains (run_ends is_run.others) c) (λ c. c ≢ carriage_return) (no_carriage_return is_run.others) run is_run.ordinary
 
 -- and none is a LF, where something is open that takes the run
-within-ordinary : (opened : Open) (run : List ℕ) → IsRunAt opened run → is_between opened ≡ false → All IsOrdinary run
+within-ordinary : (opened : Open) (run : List ℕ) → IsRunAt opened run → nothing_open opened ≡ false → All IsOrdinary run
 within-ordinary opened run is_run within =
     All-weaker (λ c. ¬ Contains (run_ends is_run.others) c) IsOrdinary
     (λ c out. record { no_line_feed = no_line_feed opened is_run.others c within is_run.has_runs out; no_carriage_return = no_carriage_return is_run.others c out })
@@ -81,7 +81,7 @@ input_after-ordinary I run line_break start all h =
     input_after-run I run line_break start (ordinary-no_returns run all) h
     ∙ ap (λ line. record I { line = line }) (line_after-same I [] run all ∙ line_after-none I h)
 
-pub input_after-within : (rules : Rules) (K : Start) (run : List ℕ) → IsRun rules K run → is_between K.opened ≡ false → K.input.line < 2 ^ 64 → input_after K.input run ≡ K.input
+pub input_after-within : (rules : Rules) (K : Start) (run : List ℕ) → IsRun rules K run → nothing_open K.opened ≡ false → K.input.line < 2 ^ 64 → input_after K.input run ≡ K.input
 input_after-within rules K run r within h =
     input_after-ordinary K.input run r.past_line_break r.past_stream_start (within-ordinary K.opened run r.is_run within) h
 
@@ -139,7 +139,7 @@ run_messages opened line (c ∷ run) =
     on_line (line_past line c) (run_tokens opened (c ∷ [])) ++ run_messages (opened_after_run opened (c ∷ [])) (line_past line c) run
 
 -- nothing, where something is open that takes it
-pub run_messages-within : (opened : Open) (line : ℕ) (run : List ℕ) → is_between opened ≡ false → run_messages opened line run ≡ []
+pub run_messages-within : (opened : Open) (line : ℕ) (run : List ℕ) → nothing_open opened ≡ false → run_messages opened line run ≡ []
 unfolding run_messages
 run_messages-within opened line [] within = refl
 run_messages-within opened line (c ∷ run) within =
@@ -164,7 +164,7 @@ last-run mode line (c ∷ d ∷ run) filled =
     (first ∷ more.0, (more.1.0, (ap (λ l. first ∷ l) more.1.1.0, more.1.1.1)))
 
 -- so one text says it
-pub run-said : (rules : Rules) (K : Start) (run : List ℕ) → IsRun rules K run → is_between K.opened ≡ true → K.input.line < 2 ^ 64
+pub run-said : (rules : Rules) (K : Start) (run : List ℕ) → IsRun rules K run → nothing_open K.opened ≡ true → K.input.line < 2 ^ 64
     → IsToldAs (Text (encode_utf8_all run)) (input_after K.input run).line (run_messages K.opened K.input.line run)
 run-said rules K run r clean h =
     let is = between-mode K.opened clean in

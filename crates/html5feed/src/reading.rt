@@ -2,7 +2,7 @@
 ghost use Rattle.std.specs.Prelude.{◌≡◌, ◌≢◌, ◌^◌, ◌+◌, ◌<◌, ◌≤◌, [], true, IsOk, IfOk, IfErr, OnOk, length, take, drop, encode_utf8_all, string_bytes};
 ghost use Rattle.std.specs.Str.{IsUtf8, chars};
 ghost use Rattle.html5reading.specs.Reading.{messages_so_far, start_after};
-ghost use Rattle.html5reading.specs.Start.{is_between, held_len};
+ghost use Rattle.html5reading.specs.Start.{nothing_open, held_len};
 ghost use Rattle.html5feed.specs.Feed.{IsEndOf, reply_in, feed};
 ghost use Rattle.html5feed.specs.Quiet.{TakesQuietly};
 ghost use Rattle.html5feed.specs.Refused.{IsRun, RefusedAfter};
@@ -30,7 +30,7 @@ fn emit_waiting_run<S: TokenSink<Token<A>>, A: Allocator + Copy>(
     queue: &mut BufferQueue<A>,
     bytes: usize,
 ) -> Result<(), TokenizerError>
-    requires clean { is_between position.old.opened ≡ true }
+    requires nothing_open { nothing_open position.old.opened ≡ true }
     requires within { bytes ≤ length (encode_utf8_all queue.old.text) }
     requires rest_utf8 { IsUtf8 (drop bytes (encode_utf8_all queue.old.text)) }
     requires is_run { IsRun rules.now position.old (chars (take bytes (encode_utf8_all queue.old.text))) }
@@ -68,7 +68,7 @@ fn read_waiting_run<S: TokenSink<Token<A>>, A: Allocator + Copy>(
     if bytes == 0 {
         return Ok(());
     }
-    if position.is_between() {
+    if position.nothing_open() {
         return emit_waiting_run(alloc, sink, rules, position, queue, bytes);
     }
     let read = position.push_run(&queue.front_text()[..bytes]);

@@ -14,7 +14,7 @@ use Rattle.html5grammar.specs.Comment.{can_open, before_greater_than, begins_wit
 use Rattle.html5grammar.specs.Comment.WrittenComment.{Proper, Bogus}
 use Rattle.html5grammar.specs.Comment.Opening.{Solidus, ExclamationMark}
 use Rattle.html5reading.specs.Comment.{in_bogus_comment}
-use Rattle.html5reading.specs.Start.{Start, Mode, Raw, Open, Rules, is_between}
+use Rattle.html5reading.specs.Start.{Start, Mode, Raw, Open, Rules, nothing_open}
 use Rattle.html5reading.proofs.ReadingLemmas.{between-mode}
 use Rattle.html5reading.specs.Start.Mode.{Data, Plain, RawText, Cdata}
 use Rattle.html5reading.specs.Start.Open.{Between, LessThan}
@@ -173,15 +173,15 @@ module _ {X S H : Type 0} (means : Means X S H) (rules : Rules) where
   -- what stands first in a text
   pub data Next (K : Start) (s : S) (text : List ℕ) : Type 0 where
     NoText : normalised K.input text ≡ [] → Next K s text
-    One : (Y Z : List ℕ) (M : List Message) (later : Start) → text ≡ Y ++ Z → Item means rules Z K s Y M later → is_between later.opened ≡ true
+    One : (Y Z : List ℕ) (M : List Message) (later : Start) → text ≡ Y ++ Z → Item means rules Z K s Y M later → nothing_open later.opened ≡ true
         → length (normalised later.input Z) < length (normalised K.input text) → Next K s text
     Cut : (M E : List Message) → Unfinished means rules K s text M E → Next K s text
 
   abbrev HasNext : Type 0
-  HasNext = (K : Start) (s : S) (X : List ℕ) → is_between K.opened ≡ true → Next K s X
+  HasNext = (K : Start) (s : S) (X : List ℕ) → nothing_open K.opened ≡ true → Next K s X
 
-  composed-next : (K : Start) (s : S) (X : List ℕ) → is_between K.opened ≡ true
-      → ((later : Start) (t : S) (Z : List ℕ) → is_between later.opened ≡ true → length (normalised later.input Z) < length (normalised K.input X) → Composed means rules later t Z)
+  composed-next : (K : Start) (s : S) (X : List ℕ) → nothing_open K.opened ≡ true
+      → ((later : Start) (t : S) (Z : List ℕ) → nothing_open later.opened ≡ true → length (normalised later.input Z) < length (normalised K.input X) → Composed means rules later t Z)
       → Next K s X → Composed means rules K s X
   composed-next K s X clean further (NoText none) =
       let m = between-mode K.opened clean in
@@ -191,14 +191,14 @@ module _ {X S H : Type 0} (means : Means X S H) (rules : Rules) where
       record { tells = M ++ rest.tells; ends = rest.ends; items = subst (λ T. Items means rules K s T (M ++ rest.tells) rest.ends) (sym parts) (Then K s Y Z M rest.tells rest.ends later one rest.items) }
   composed-next K s X clean further (Cut M E one) = record { tells = M; ends = E; items = Last K s X M E one }
 
-  composed-within : HasNext → (n : ℕ) (K : Start) (s : S) (X : List ℕ) → is_between K.opened ≡ true → length (normalised K.input X) < n → Composed means rules K s X
+  composed-within : HasNext → (n : ℕ) (K : Start) (s : S) (X : List ℕ) → nothing_open K.opened ≡ true → length (normalised K.input X) < n → Composed means rules K s X
   composed-within next zero K s X clean less = absurd (omega (arith, less))
   composed-within next (suc n) K s X clean less =
       composed-next K s X clean
       (λ later t Z goes_on fewer. composed-within next n later t Z goes_on (omega (arith, less, fewer)))
       (next K s X clean)
 
-  pub composed : HasNext → (K : Start) (s : S) (X : List ℕ) → is_between K.opened ≡ true → Composed means rules K s X
+  pub composed : HasNext → (K : Start) (s : S) (X : List ℕ) → nothing_open K.opened ≡ true → Composed means rules K s X
   composed next K s X clean = composed-within next (suc (length (normalised K.input X))) K s X clean (omega arith)
 
   -- ---- what stands first, by the first characters
@@ -207,7 +207,7 @@ module _ {X S H : Type 0} (means : Means X S H) (rules : Rules) where
   shorter n a A B = omega (arith, length-append (a ∷ A) B)
 
   -- an item that begins the normalised text
-  next-item : (K : Start) (s : S) (X : List ℕ) (a : ℕ) (A B : List ℕ) (M : List Message) (opened : Open) (last : List ℕ) → normalised K.input X ≡ a ∷ A ++ B → is_between opened ≡ true
+  next-item : (K : Start) (s : S) (X : List ℕ) (a : ℕ) (A B : List ℕ) (M : List Message) (opened : Open) (last : List ℕ) → normalised K.input X ≡ a ∷ A ++ B → nothing_open opened ≡ true
       → ((Y Z : List ℕ) → normalised K.input Y ≡ a ∷ A → normalised (input_after K.input Y) Z ≡ B → Item means rules Z K s Y M (start_beyond K Y opened last))
       → Next K s X
   next-item K s X a A B M opened last e clean item =
@@ -358,12 +358,12 @@ module _ {X S H : Type 0} (means : Means X S H) (rules : Rules) where
       next-item K s X less_than (codes "!--" ++ (front ++ greater_than ∷ [])) later _ (Between Data) K.last_start_tag whole refl
       (λ Y Z text rest. OneComment (Proper content ending) (record { starts = starts; is_comment = h; text = text }))
 
-  is-between_reply : (last : List ℕ) (r : Reply H) → is_between (open_after_reply last r) ≡ true
-  is-between_reply last KeepOn = refl
-  is-between_reply last ReadPlainText = refl
-  is-between_reply last (ReadRawData kind) = refl
-  is-between_reply last (RunScript handle) = refl
-  is-between_reply last (SwitchEncoding bytes) = refl
+  nothing_open-reply : (last : List ℕ) (r : Reply H) → nothing_open (open_after_reply last r) ≡ true
+  nothing_open-reply last KeepOn = refl
+  nothing_open-reply last ReadPlainText = refl
+  nothing_open-reply last (ReadRawData kind) = refl
+  nothing_open-reply last (RunScript handle) = refl
+  nothing_open-reply last (SwitchEncoding bytes) = refl
 
   written-first : (kind : TagKind) (c : ℕ) (rest : List ℕ) (parts : List Part) → (A : List ℕ) × (written (record { kind = kind; first = c; rest = rest; parts = parts }) ≡ less_than ∷ A)
   unfolding written
@@ -401,7 +401,7 @@ module _ {X S H : Type 0} (means : Means X S H) (rules : Rules) where
       let M : List Message = spelled_messages rules.exact K.input [] (one_tag.spelled rules tag) in
       let last : List ℕ = last_after K.last_start_tag (one_tag.tag_told rules tag) in
       next-item K s X less_than w.0 F M (open_after_reply last (last_reply means.step means.reply s M)) last
-      (e ∙ parts ∙ ap (λ l. l ++ F) w.1) (is-between_reply last (last_reply means.step means.reply s M))
+      (e ∙ parts ∙ ap (λ l. l ++ F) w.1) (nothing_open-reply last (last_reply means.step means.reply s M))
       (λ Y Z front rest. OneRawEnd raw name tag (record { starts = starts; ends = ends; is_tag = is_tag; text = front ∙ sym w.1 }))
   next-raw_form K s X raw name T (OpenItem item later can parts) starts e =
       Cut _ _ (OpenRaw raw name item (record { starts = starts; later = later; stands = can; text = e ∙ parts }))
@@ -437,7 +437,7 @@ module _ {X S H : Type 0} (means : Means X S H) (rules : Rules) where
       let is_tag : one_tag.is_written tag ≡ true = rw (letter, all, follow) refl in
       next-item K s X less_than w.0 Z M (open_after_reply name (last_reply means.step means.reply s M)) name
       (text ∙ ap (λ l. opening kind ++ (c ∷ rest ++ (flat_map part_text parts ++ l))) closed ∙ whole-tag kind c rest parts Z ∙ ap (λ l. l ++ Z) w.1)
-      (is-between_reply name (last_reply means.step means.reply s M))
+      (nothing_open-reply name (last_reply means.step means.reply s M))
       (λ Y Z front rest. OneTag tag (record { starts = starts; is_tag = is_tag; text = front ∙ sym w.1 }))
 
   next-tag : (K : Start) (s : S) (X : List ℕ) (kind : TagKind) (c : ℕ) (T : List ℕ) → is_letter c ≡ true → K.opened ≡ Between Data → normalised K.input X ≡ opening kind ++ c ∷ T → Next K s X
@@ -528,12 +528,12 @@ module _ {X S H : Type 0} (means : Means X S H) (rules : Rules) where
   next-mode K s X (RawText raw name) starts = next-raw K s X raw name (normalised K.input X) starts refl
   next-mode K s X Cdata starts = next-cdata K s X (normalised K.input X) starts refl (first_end (normalised K.input X))
 
-  pub all-composed : (K : Start) (s : S) (X : List ℕ) → is_between K.opened ≡ true → Composed means rules K s X
+  pub all-composed : (K : Start) (s : S) (X : List ℕ) → nothing_open K.opened ≡ true → Composed means rules K s X
   all-composed = composed (λ K s X clean. let m = between-mode K.opened clean in next-mode K s X m.0 m.1)
 
   -- ---- what contracts promise
 
-  pub told-items : (K : Start) (s : S) (X : List ℕ) (t : S) → IsTable rules.references → is_between K.opened ≡ true → t ≡ state_after means rules K s X → ToldItems means rules K s X t
+  pub told-items : (K : Start) (s : S) (X : List ℕ) (t : S) → IsTable rules.references → nothing_open K.opened ≡ true → t ≡ state_after means rules K s X → ToldItems means rules K s X t
   told-items K s X t table clean e =
       let c : Composed means rules K s X = all-composed K s X clean in
       record {
@@ -543,7 +543,7 @@ module _ {X S H : Type 0} (means : Means X S H) (rules : Rules) where
         state = e ∙ ap (stepped means.step s) (tells-items means rules K s X c.tells c.ends table c.items).told;
       }
 
-  pub finished-items : (K : Start) (s : S) (X : List ℕ) (t : S) → IsTable rules.references → is_between K.opened ≡ true
+  pub finished-items : (K : Start) (s : S) (X : List ℕ) (t : S) → IsTable rules.references → nothing_open K.opened ≡ true
       → t ≡ means.finish (stepped means.step s (all_messages means rules K s X)) → FinishedItems means rules K s X t
   finished-items K s X t table clean e =
       let c : Composed means rules K s X = all-composed K s X clean in

@@ -7,7 +7,7 @@
 ghost use Rattle.std.specs.Prelude.{◌≡◌, ℕ, Bool, List, ◌++◌, true, false, codes};
 ghost use Rattle.html5ever_interface.specs.Sink.{Message};
 ghost use Rattle.html5reading.specs.Reading.{all_messages, messages_so_far};
-ghost use Rattle.html5reading.specs.Start.{Start, Rules, is_between};
+ghost use Rattle.html5reading.specs.Start.{Start, Rules, nothing_open};
 ghost use Rattle.html5grammar.specs.Items.{Items, Composed};
 ghost use Rattle.markup5ever.specs.NamedReferences.{IsTable};
 ghost use Rattle.std.specs.List.{list_all};
@@ -39,7 +39,7 @@ pub fn sound<S: TokenSink<Token<A>>, A: Allocator>()
 /// Each text is items, and at most one unfinished one after them, from each start at which nothing
 /// is open.
 pub fn each_text<S: TokenSink<Token<A>>, A: Allocator>()
-    ensures { (rules : Rules) (K : Start) (s : S.State) (text : List ℕ) → is_between K.opened ≡ true
+    ensures { (rules : Rules) (K : Start) (s : S.State) (text : List ℕ) → nothing_open K.opened ≡ true
         → Composed S.means rules K s text }
 {}
 

@@ -7,7 +7,7 @@ use Rattle.std.proofs.lemmas.List.Elements.{All-head, All-tail}
 use Rattle.html5ever_interface.specs.declared.states.AttrValueKind.TheVariants.{Unquoted, SingleQuoted, DoubleQuoted}
 use Rattle.html5reading.specs.Characters.{null, tab, line_feed, form_feed, carriage_return, space, quotation_mark, ampersand, apostrophe, hyphen, solidus, less_than, equals_sign, greater_than, value_bytes, shown, is_white_space}
 use Rattle.html5reading.specs.Reading.Here.{Tells}
-use Rattle.html5reading.specs.Start.{Open, is_between}
+use Rattle.html5reading.specs.Start.{Open, nothing_open}
 use Rattle.html5reading.specs.Start.Dashes.{NoDash, OneDash, TwoDashes}
 use Rattle.html5reading.specs.Start.Raw.{Rcdata, Rawtext, ScriptData, Escaped, DoubleEscaped}
 use Rattle.html5reading.specs.Start.Mode.{Data, Plain, RawText, Cdata}
@@ -122,7 +122,7 @@ pub no_carriage_return : (others : List ℕ) (c : ℕ) → ¬ Contains (run_ends
 no_carriage_return others c other = λ same. other (1, omega arith, sym same)
 
 -- where something is open that takes runs, LF ends one
-line_feed_first : (opened : Open) (others : List ℕ) → is_between opened ≡ false → other_run_ends opened ≡ Some others → (more : List ℕ) × (others ≡ line_feed ∷ more)
+line_feed_first : (opened : Open) (others : List ℕ) → nothing_open opened ≡ false → other_run_ends opened ≡ Some others → (more : List ℕ) × (others ≡ line_feed ∷ more)
 line_feed_first (Between mode) others within has = absurd (false≢true (sym within))
 line_feed_first LessThan others within has = absurd (none≢some has)
 line_feed_first LessThanSolidus others within has = absurd (none≢some has)
@@ -148,7 +148,7 @@ line_feed_first (InCdata text) others within has = (greater_than ∷ [], cc)
 line_feed_first (InReference stand held) others within has = absurd (none≢some has)
 
 -- so a run that is put to it has no line feed
-pub no_line_feed : (opened : Open) (others : List ℕ) (c : ℕ) → is_between opened ≡ false → other_run_ends opened ≡ Some others → ¬ Contains (run_ends others) c
+pub no_line_feed : (opened : Open) (others : List ℕ) (c : ℕ) → nothing_open opened ≡ false → other_run_ends opened ≡ Some others → ¬ Contains (run_ends others) c
     → c ≢ line_feed
 no_line_feed opened others c within has out =
     let first = line_feed_first opened others within has in

@@ -10,7 +10,7 @@ use Rattle.html5reading.specs.Cdata.{open_cdata, ends_cdata}
 use Rattle.html5reading.specs.Comment.{ends_in, without_last}
 use Rattle.html5reading.proofs.TextEnds.{Carries, carries-none, carries-push, encode-last, ends_in-front, without_last-append}
 use Rattle.html5reading.specs.Characters.{line_feed, greater_than}
-use Rattle.html5reading.specs.Start.{held_len, is_between}
+use Rattle.html5reading.specs.Start.{held_len, nothing_open}
 use Rattle.html5reading.specs.Start.Open.{InCdata}
 use Rattle.html5partial.specs.Runs.{other_run_ends, opened_after_run}
 
@@ -24,9 +24,9 @@ section-has_runs [] filled = absurd (filled refl)
 section-has_runs (c ∷ held) filled = refl
 
 -- after a run, where some text was held
-pub section-run : (held run : List ℕ) → is_between (open_cdata held) ≡ false → open_cdata (held ++ run) ≡ opened_after_run (open_cdata held) run
-section-run [] run not_clean = absurd (false≢true (sym not_clean))
-section-run (c ∷ held) run not_clean = refl
+pub section-run : (held run : List ℕ) → nothing_open (open_cdata held) ≡ false → open_cdata (held ++ run) ≡ opened_after_run (open_cdata held) run
+section-run [] run within = absurd (false≢true (sym within))
+section-run (c ∷ held) run within = refl
 
 -- a section reads runs where some text of it is held
 

@@ -1,17 +1,18 @@
-//! What is held of a character reference until it is decided, its number and its longest name.
+//! What is held of a character reference until it is decided, and its longest name.
 #![tactic(auto)]
 
-ghost use Rattle.std.specs.Prelude.{◌≡◌, ◌≢◌, ◌≤◌, ◌<◌, ◌||◌, ◌&&◌, ◌==◌, ℕ, ◌+◌, ◌%◌, ◌^◌, ◌∷◌, [], ◌++◌, true, false, not, min, All, Option, Some, None, IfOk, IfErr, OnOk, MatchOption, length, take, drop, slice_index, string_bytes, if◌then◌else◌};
+ghost use Rattle.std.specs.Prelude.{◌≡◌, ◌≢◌, ◌≤◌, ◌<◌, ◌||◌, ◌&&◌, ◌==◌, ℕ, ◌∷◌, [], ◌++◌, true, false, All, Option, Some, None, IfOk, IfErr, OnOk, MatchOption, length, take, drop, slice_index, string_bytes, if◌then◌else◌};
 ghost use Rattle.std.specs.Char.{is_ascii_alphanumeric};
 ghost use Rattle.std.specs.Option.{is_none};
 ghost use Rattle.std.specs.List.{list_all};
 ghost use Rattle.std.specs.Str.{IsAscii, IsUtf8, chars};
 ghost use Rattle.html5reading.specs.Characters.{number_sign, semicolon};
-ghost use Rattle.html5reading.specs.Reference.{is_undecided, is_number, is_x, base_of, after_x, has_digits, number_value, character_of_number, is_invalid_number, longest_name, goes_on, first_or};
-ghost use Rattle.html5partial.specs.CharRef.{BeginsInAscii, HoldsEach, IsHeld, IsNameFront, IsNumberHeld, IsNamed, decided};
+ghost use Rattle.html5reading.specs.Reference.{is_undecided, is_number, longest_name, first_or};
+ghost use Rattle.html5partial.specs.CharRef.{BeginsInAscii, HoldsEach, IsHeld, IsNameFront, IsNumberHeld, IsNamed};
 ghost use Rattle.markup5ever.specs.NamedReferences.{begins_name};
 
-use markup5ever::data::{NamedReferences, c1_replacement};
+use crate::number::continues_number;
+use markup5ever::data::NamedReferences;
 use std::alloc::{AllocError, Allocator, Global};
 use std::marker::Model;
 
@@ -238,118 +239,6 @@ fn is_undecided_name<A: Allocator>(
         (longest_name references.now text.now))) }
 {
     references.is_prefix(text) || is_alphanumeric && longest_name(references, text).is_none()
-}
-
-// The base of what stands after a number's `#`.
-fn base_of(number: &str) -> u32
-    ensures base { result ≡ base_of number.now }
-    ensures bounds { (10 ≤ result) × (result ≤ 16) }
-{
-    match number.as_bytes().first() {
-        Some(b'x' | b'X') => 16,
-        _ => 10,
-    }
-}
-
-// Whether the digits after the character are those of base 16.
-fn is_x(c: char) -> bool
-    ensures { result ≡ is_x c }
-{
-    matches!(c, 'x' | 'X')
-}
-
-// Whether the character goes on with what stands after a number's `#`.
-fn continues_number(number: &str, c: char) -> bool
-    requires { is_number number.now ≡ true }
-    ensures goes_on { result ≡ is_number (number.now ++ c ∷ []) }
-    ensures plain { result ≡ true → (number_sign ≤ c) × (c ≤ 0x7A) }
-{
-    if number.is_empty() {
-        return is_x(c) || c.is_ascii_digit();
-    }
-    if base_of(number) == 16 {
-        c.is_ascii_hexdigit()
-    } else {
-        c.is_ascii_digit()
-    }
-}
-
-// The digits of what stands after a number's `#`.
-fn digits_of(number: &str) -> &str
-    ensures { result.now ≡ after_x number.now }
-{
-    if base_of(number) == 16 {
-        &number[1..]
-    } else {
-        number
-    }
-}
-
-/// Whether digits stand after a number's `#`, and after its `x` if it has one.
-#[tactic(auto, unfolding(html5reading::specs::Reference::has_digits))]
-pub fn has_digits(number: &str) -> bool
-    ensures { result ≡ has_digits number.now }
-{
-    !digits_of(number).is_empty()
-}
-
-// Numbers from here on have no character.
-const NUMBER_LIMIT: u32 = 0x11_0000;
-
-/// The value of a number. From 0x110000 on no number has a character, so larger ones count as that.
-/// The last 32 bits of the number are kept beside it.
-#[derive(Clone, Copy)]
-pub struct Number {
-    pub value: u32,
-    pub low_bits: u32,
-}
-
-/// The value of what stands after a number's `#`.
-pub fn number_value(number: &str) -> Number
-    requires { is_number number.now ≡ true }
-    ensures value { result.value ≡ min (number_value number.now) 0x11_0000 }
-    ensures low_bits { result.low_bits ≡ number_value number.now % 2 ^ 32 }
-{
-    let base = base_of(number);
-    let digits = digits_of(number).as_bytes();
-    let mut value: u32 = 0;
-    let mut low_bits: u32 = 0;
-    for byte in digits {
-        let digit = char::from(*byte).to_digit(base).unwrap_or(0);
-        value = (value * base + digit).min(NUMBER_LIMIT);
-        low_bits = low_bits.wrapping_mul(base).wrapping_add(digit);
-    }
-    Number { value, low_bits }
-}
-
-impl Number {
-    /// The character that the number stands for.
-    #[tactic(auto, unfolding(html5reading::specs::Reference::character_of_number, html5reading::specs::Characters::is_no_character))]
-    pub fn character(&self) -> char
-        ensures { result ≡ character_of_number self.now.value }
-    {
-        let Some(c) = char::from_u32(self.value) else {
-            return '\u{fffd}';
-        };
-        if c == '\0' {
-            return '\u{fffd}';
-        }
-        match u8::try_from(self.value) {
-            Ok(byte) => c1_replacement(byte).unwrap_or(c),
-            Err(_) => c,
-        }
-    }
-
-    /// Whether the number is an error.
-    #[tactic(auto, unfolding(html5reading::specs::Reference::is_invalid_number, html5reading::specs::Characters::is_no_character))]
-    pub fn is_invalid(&self) -> bool
-        ensures { result ≡ is_invalid_number self.now.value }
-    {
-        match char::from_u32(self.value) {
-            None | Some('\0' | '\r') => true,
-            Some(c) => crate::message::is_bad(c),
-        }
-    }
 }
 
 /// The longest name of the table with which the text begins. Most texts are a name, which one search

@@ -19,5 +19,6 @@ pub mod found;
 pub mod keyword;
 pub mod letters;
 pub mod message;
+pub mod number;
 pub mod opened;
 pub mod runs;

@@ -5,7 +5,7 @@ ghost use Rattle.std.specs.Prelude.{◌≡◌, ℕ, [], false, ◌↔◌, ◌++�
 ghost use Rattle.std.specs.Str.{chars};
 ghost use Rattle.html5reading.specs.Cdata.{open_cdata};
 ghost use Rattle.html5reading.specs.Characters.{name_bytes};
-ghost use Rattle.html5reading.specs.Start.{is_between, held_len};
+ghost use Rattle.html5reading.specs.Start.{nothing_open, held_len};
 ghost use Rattle.html5reading.specs.Start.{begun, raw_of};
 ghost use Rattle.html5reading.specs.Start.Mode.{RawText};
 ghost use Rattle.html5reading.specs.Start.Open.{Between, InComment, InTag};
@@ -173,7 +173,7 @@ pub fn push_names<A: Allocator>(name: &mut String<A>, run: &str) -> Result<(), A
 #[inline(always)]
 pub fn push_run<A: Allocator>(at: &mut Opened<A>, run: &str) -> Result<(), AllocError>
     requires is_run { IsRunAt (opened_of at.old) (chars run.now) }
-    requires not_clean { is_between (opened_of at.old) ≡ false }
+    requires within { nothing_open (opened_of at.old) ≡ false }
     ensures run { OnOk result
         (opened_of at.new ≡ opened_after_run (opened_of at.old) (chars run.now)) }
     ensures last { last_name_of at.new ≡ last_name_of at.old }

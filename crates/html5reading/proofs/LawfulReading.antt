@@ -21,7 +21,7 @@ use Rattle.html5reading.specs.Reading.{Here, Brought, reading, told, messages, a
 use Rattle.html5reading.specs.Reading.Here.{Tells, TellsTag}
 use Rattle.html5reading.specs.Reference.{Found, in_value, reference, is_undecided, ends_number, late_tokens, opened_in, opened_after}
 use Rattle.html5reading.specs.Slice.{tokens_of_late}
-use Rattle.html5reading.specs.Start.{Raw, RawPlace, Stand, Open, Rules, Start, raw_of, is_between}
+use Rattle.html5reading.specs.Start.{Raw, RawPlace, Stand, Open, Rules, Start, raw_of, nothing_open}
 use Rattle.html5reading.specs.Start.Stand.{InText, InAttribute}
 use Rattle.html5reading.specs.Start.Raw.{Rcdata, Rawtext, ScriptData, Escaped, DoubleEscaped}
 use Rattle.html5reading.specs.Start.Mode.{Data, Plain, RawText, Cdata}
@@ -211,9 +211,9 @@ fit-reply last (ReadRawData kind) = tt
 fit-reply last (RunScript handle) = tt
 fit-reply last (SwitchEncoding bytes) = tt
 
-fit-between : (opened : Open) → is_between opened ≡ true → IsFit opened
+fit-nothing_open : (opened : Open) → nothing_open opened ≡ true → IsFit opened
 unfolding IsFit
-fit-between opened h = let clean = between-mode opened h in subst IsFit (sym clean.1) tt
+fit-nothing_open opened h = let clean = between-mode opened h in subst IsFit (sym clean.1) tt
 
 module _ {S H : Type 0} (step : S → Told → ℕ → S) (reply : S → Told → ℕ → Reply H) (foreign : S → Bool) (rules : Rules) where
   lawful-tag_last : (tokens : List Told) (tag : TagOf) → AllLawful tokens → IsLawfulTag tag → AllLawful (tokens ++ Tag tag ∷ [])
@@ -246,11 +246,11 @@ module _ {S H : Type 0} (step : S → Told → ℕ → S) (reply : S → Told �
       s line last c (brought_at rules (foreign s) opened c) (lawful-brought rules table (foreign s) opened c fit)
 
   -- each token of a reading is lawful: the statement of `lawful_tokens`
-  pub lawful-reading : (K : Start) (s : S) (X : List ℕ) → IsTable rules.references → is_between K.opened ≡ true
+  pub lawful-reading : (K : Start) (s : S) (X : List ℕ) → IsTable rules.references → nothing_open K.opened ≡ true
       → All (λ m. IsLawful m.token) (messages (reading step reply foreign rules K s X))
   lawful-reading K s X table clean =
       let whole : Trace = trace step reply foreign rules s (line_after K.input []) K.last_start_tag K.opened (normalised K.input X) in
-      let lawful : LawfulTrace whole = lawful-trace table s _ K.last_start_tag K.opened (normalised K.input X) (fit-between K.opened clean) in
+      let lawful : LawfulTrace whole = lawful-trace table s _ K.last_start_tag K.opened (normalised K.input X) (fit-nothing_open K.opened clean) in
       let line : ℕ = line_after K.input (normalised K.input X) in
       let opened : Open = (after step reply foreign rules K s X).opened in
       let fit : IsFit opened = subst IsFit (sym (after-opened step reply foreign rules K s X)) lawful.opened in

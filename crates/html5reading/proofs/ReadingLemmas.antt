@@ -19,7 +19,7 @@ use Rattle.html5reading.specs.Reference.{Found, in_value, reference, held_text, 
 use Rattle.html5ever_interface.specs.declared.states.AttrValueKind.{AttrValueKind}
 use Rattle.html5reading.specs.Reading.Here.{Tells, TellsTag}
 use Rattle.html5reading.specs.Slice.{Slice, Late, cut_off, tokens_of_late}
-use Rattle.html5reading.specs.Start.{Input, OpenTag, Stand, Start, Open, Mode, Rules, is_between}
+use Rattle.html5reading.specs.Start.{Input, OpenTag, Stand, Start, Open, Mode, Rules, nothing_open}
 use Rattle.html5reading.specs.Start.Mode.{Data, Plain, RawText, Cdata}
 use Rattle.html5reading.specs.Start.Stand.{InText, InAttribute}
 use Rattle.html5reading.specs.Start.Open.{Between, LessThan, LessThanSolidus, InTag, InRaw, InDeclaration, InComment, InBogusComment, InInstruction, InDoctype, InDoctypeKeyword, InReference, InCdata}
@@ -28,7 +28,7 @@ use Rattle.html5reading.proofs.InputLemmas.{line_past, lines_past, normalised-ap
 use Rattle.html5reading.proofs.Traces.{Trace, Traces, with_messages, trace, trace_here, trace_brought, traces, messages-append, messages-map, messages-late}
 
 -- where nothing is open there is a mode
-pub between-mode : (opened : Open) → is_between opened ≡ true → (mode : Mode) × (opened ≡ Between mode)
+pub between-mode : (opened : Open) → nothing_open opened ≡ true → (mode : Mode) × (opened ≡ Between mode)
 between-mode (Between mode) h = (mode, refl)
 between-mode LessThan h = absurd (false≢true h)
 between-mode LessThanSolidus h = absurd (false≢true h)

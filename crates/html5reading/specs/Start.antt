@@ -142,9 +142,9 @@ pub data Open : Type 0 where
   InReference : Stand → List ℕ → Open
 
 -- whether nothing is open, so that what follows can be read anew
-abbrev pub is_between : Open → Bool
-is_between (Between mode) = true
-is_between other = false
+abbrev pub nothing_open : Open → Bool
+nothing_open (Between mode) = true
+nothing_open other = false
 
 -- whether a reference or a keyword is not decided
 abbrev pub is_undecided_open : Open → Bool

@@ -14,7 +14,7 @@ ghost use Rattle.html5reading.specs.Characters.{number_sign};
 ghost use Rattle.html5reading.specs.NormalisedText.{normalised};
 ghost use Rattle.html5reading.specs.Reference.{first_or, is_undecided, longest_name};
 ghost use Rattle.html5reading.specs.Slice.{run_of, run_while};
-ghost use Rattle.html5reading.specs.Start.{Start, Rules, is_between};
+ghost use Rattle.html5reading.specs.Start.{Start, Rules, nothing_open};
 ghost use Rattle.markup5ever.specs.NamedReferences.{NamedReference, IsTable, begins_name};
 
 use html5ever_interface::interface::sink::TokenSink;
@@ -76,7 +76,7 @@ pub fn tags_cut_off<S: TokenSink<Token<A>>, A: Allocator>()
 /// text has no NUL. A tag's name begins with a letter, its names have no capital, and no attribute
 /// comes twice. A doctype's name has no capital.
 pub fn lawful_tokens<S: TokenSink<Token<A>>, A: Allocator>()
-    ensures { (rules : Rules) (K : Start) (s : S.State) (text : List ℕ) → IsTable rules.references → is_between K.opened
+    ensures { (rules : Rules) (K : Start) (s : S.State) (text : List ℕ) → IsTable rules.references → nothing_open K.opened
         ≡ true →
         All (λ m. IsLawful m.token) (all_messages S.means rules K s text) }
 {}

@@ -10,6 +10,7 @@ mod comment_states;
 mod doctype_states;
 mod end_of_input;
 mod end_tag;
+mod escape_states;
 mod identifier_states;
 mod instruction_states;
 mod keywords;

@@ -17,12 +17,13 @@ use html5ever_interface::interface::message::FixedMessage;
 use html5ever_interface::interface::sink::TokenSink;
 use html5ever_interface::interface::token::Token;
 use html5ever_interface::states::State;
-use html5partial::char_ref::{CharRef, Found, has_digits, longest_name, number_value};
+use html5partial::char_ref::{CharRef, Found, longest_name};
 use html5partial::error::TokenizerError;
 use html5partial::found::{
     afterwards, goes_on_with, invalid_number_message, is_ended, push_found, semicolon_len,
     text_of_found, unknown_name_message, without_digits,
 };
+use html5partial::number::{has_digits, number_value};
 use html5partial::opened::Opened;
 use markup5ever::data::NamedReferences;
 use std::alloc::Allocator;

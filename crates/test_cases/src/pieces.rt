@@ -131,8 +131,8 @@ fn is_told<S: TokenSink<Token> + SoFar>(
     due: &Due,
 ) -> Result<bool, CaseError> {
     let so_far = tokenizer.sink.so_far(alloc)?;
-    let is_between = tokenizer.nothing_pending();
-    Ok(so_far == due.lines && is_between == due.clean.unwrap_or(false))
+    let nothing_open = tokenizer.nothing_pending();
+    Ok(so_far == due.lines && nothing_open == due.clean.unwrap_or(false))
 }
 
 /// Feeds a new tokenizer the pieces one after another, and ends it. Answers whether its sink was sent

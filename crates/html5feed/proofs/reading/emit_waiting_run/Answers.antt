@@ -23,6 +23,6 @@ returns-clause-reads g c =
     let run = chars (take c.args.bytes text) in
     let cut : c.range.result.now ≡ take c.args.bytes text = c.range.ensures.value ∙ range_from_start c.front_text.result.now c.args.bytes ∙ ap (take c.args.bytes) c.front_text.ensures in
     ReadsRun-text g.S.TokenSink.means c.args.rules.now c.emit_run-told.result g.met.S.TokenSink.keeps_on c.args.position.now _ _ _ _ _
-    run c.range.result.now c.requires.is_run c.requires.clean c.requires.fits c.skip.ensures
+    run c.range.result.now c.requires.is_run c.requires.nothing_open c.requires.fits c.skip.ensures
     (sym (encodes-chars c.range.result.now c.range.utf8) ∙ ap (λ bytes. encode_utf8_all (chars bytes)) cut)
     c.emit_run-told.ensures.tells c.emit_run-told.ensures.opened c.emit_run-told.ensures.last (rw cut at c.emit_run-told.ensures.input)

@@ -22,7 +22,7 @@ returns-clause-reads g c =
     let cut : c.range.result.now ≡ take bytes text = c.range.ensures.value ∙ range_from_start c.front_text-2.result.now bytes ∙ ap (take bytes) c.front_text-2.ensures in
     let run : IsRun c.args.rules.now c.args.position.now (chars (take bytes text)) = rw c.front_text.ensures at (c.run_len-bytes.ensures.run c.if-bytes-eq0.false) in
     ReadsRun-open g.S.TokenSink.means c.args.rules.now c.push_run-read.result g.met.S.TokenSink.keeps_on c.args.position.now _ _ _ _ (chars (take bytes text))
-    run (sym c.is_between.ensures ∙ c.if-is_between.false) (c.run_len-bytes.ensures.fits c.if-bytes-eq0.false) c.skip.ensures c.push_run-read.ensures.memory (rw cut at c.push_run-read.ensures.opened) c.push_run-read.ensures.last c.push_run-read.ensures.input
+    run (sym c.nothing_open.ensures ∙ c.if-nothing_open.false) (c.run_len-bytes.ensures.fits c.if-bytes-eq0.false) c.skip.ensures c.push_run-read.ensures.memory (rw cut at c.push_run-read.ensures.opened) c.push_run-read.ensures.last c.push_run-read.ensures.input
 
 pub returns-clause-empty : goal.returns-clause-empty
 returns-clause-empty g c = λ nothing.

@@ -6,7 +6,7 @@ use Rattle.std.proofs.lemmas.List.Elements.{All-weaker}
 use Rattle.std.proofs.lemmas.Str.{encodes-chars, chars-append, IsUtf8-string_bytes}
 use Rattle.html5reading.specs.Characters.{null, value_bytes}
 use Rattle.html5reading.specs.Cdata.{open_cdata}
-use Rattle.html5reading.specs.Start.{is_between, held_len}
+use Rattle.html5reading.specs.Start.{nothing_open, held_len}
 use Rattle.html5reading.specs.Start.Open.{InTag, InComment, InBogusComment, InInstruction}
 use Rattle.html5reading.specs.Start.Place.{InValue}
 use Rattle.html5partial.specs.CurrentTag.{open_tag}
@@ -64,11 +64,11 @@ pub returns-in_ok-push_str-in-CdataSection-clause-run : goal.returns-in_ok-push_
 returns-in_ok-push_str-in-CdataSection-clause-run g c =
     let run = chars c.args.run.now in
     let bytes = string_bytes c.args.at.now.comment in
-    let not_clean : is_between (open_cdata (chars bytes)) ≡ false = rw c.in-CdataSection.is at c.requires.not_clean in
+    let within : nothing_open (open_cdata (chars bytes)) ≡ false = rw c.in-CdataSection.is at c.requires.within in
     rw c.in-CdataSection.is
     (ap (λ l. open_cdata (chars l)) c.in_ok-push_str-in-CdataSection.ensures.bytes
     ∙ ap open_cdata (chars-append bytes c.args.run.now (IsUtf8-string_bytes c.args.at.now.comment))
-    ∙ section-run (chars bytes) run not_clean)
+    ∙ section-run (chars bytes) run within)
 
 pub returns-in_ok-push_str-in-CdataSection-clause-held : goal.returns-in_ok-push_str-in-CdataSection-clause-held
 returns-in_ok-push_str-in-CdataSection-clause-held g c = rw c.in-CdataSection.is (held_len-section _)

@@ -5,7 +5,7 @@ use Rattle.std.proofs.Math.Nat.{mul-le-mul}
 use Rattle.std.proofs.lemmas.List.{take_all}
 use Rattle.html5reading.specs.Reference.{number_value, after_x}
 use Rattle.html5partial.proofs.Numbers.{value-more, low_bits-more, digit-at}
-use Rattle.html5partial.proofs.char_ref.number_value.Goals as goal
+use Rattle.html5partial.proofs.number.number_value.Goals as goal
 
 pub overflow_mul-value : goal.overflow_mul-value
 overflow_mul-value c =

@@ -1,7 +1,7 @@
 use Rattle.std.proofs.Common.{◌≡◌, ◌%◌, ◌^◌, take}
 use Rattle.std.specs.Prelude.{min}
 use Rattle.std.specs.Str.Parse.{digits_value}
-use Rattle.html5partial.proofs.char_ref.number_value.Given as goal
+use Rattle.html5partial.proofs.number.number_value.Given as goal
 
 -- the value of the digits so far
 abbrev pub invariant-loop-byte : goal.invariant-loop-byte

@@ -1,7 +1,7 @@
 use Rattle.std.proofs.Common.{arith}
 use Rattle.std.proofs.lemmas.Bool.Decides.{nat_tests}
 use Rattle.html5partial.proofs.Numbers.{is_number-first, is_number-push}
-use Rattle.html5partial.proofs.char_ref.continues_number.Goals as goal
+use Rattle.html5partial.proofs.number.continues_number.Goals as goal
 
 pub returns-then-base_of-eq16-clause-goes_on : goal.returns-then-base_of-eq16-clause-goes_on
 returns-then-base_of-eq16-clause-goes_on c =

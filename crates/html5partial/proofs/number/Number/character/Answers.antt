@@ -1,6 +1,6 @@
 use Rattle.std.proofs.Common.{◌≤◌, sym, ◌∙◌, arith}
 use Rattle.html5partial.proofs.Numbers.{character-itself, is_no_character-scalar}
-use Rattle.html5partial.proofs.char_ref.Number.character.Goals as goal
+use Rattle.html5partial.proofs.number.Number.character.Goals as goal
 
 pub returns-in-Err : goal.returns-in-Err
 returns-in-Err c =

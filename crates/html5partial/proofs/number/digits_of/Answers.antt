@@ -1,7 +1,7 @@
 use Rattle.std.proofs.Common.{sym, ◌∙◌}
 use Rattle.std.proofs.lemmas.Str.{IsCharBoundary-after_ascii}
 use Rattle.html5partial.proofs.Numbers.{x_first}
-use Rattle.html5partial.proofs.char_ref.digits_of.Goals as goal
+use Rattle.html5partial.proofs.number.digits_of.Goals as goal
 
 pub range_from-requires : goal.range_from-requires
 range_from-requires c =
