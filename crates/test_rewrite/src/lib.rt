@@ -1,4 +1,5 @@
-//! A rewriter of links, and worked cases of pages that it rewrites.
+//! A rewriter of links, and worked cases: of pages that it rewrites, and of pages that are written piece by
+//! piece.
 #![tactic(auto)]
 
 mod links;
@@ -6,5 +7,7 @@ mod links;
 mod memory;
 #[cfg(test)]
 mod pages;
+#[cfg(test)]
+mod writer;
 
 pub use crate::links::AbsoluteLinks;

@@ -1,15 +1,42 @@
 //! Plays a script in each way that it asks for, and says where it fails.
-use crate::play::play;
-use crate::player::Cutting;
-use crate::script::{Cuts, Script, Step};
-use std::alloc::{AllocError, Global};
+use crate::script::{Body, Script};
+use crate::tokenizer::{Cuts, Cutting, Step, TokenizerScript};
+use std::alloc::{AllocError, Allocator, Global};
 use testing_alloc::Refusing;
-use testing_lines::{CaseError, sweep};
+use testing_lines::{CaseError, Play, Played, sweep};
+
+impl Body {
+    // Plays it once, on a heap; `enough` is another one, for what must not be refused. The pieces of a
+    // tokenizer's script are cut in that way.
+    fn play<A: Allocator + Copy>(
+        &self,
+        ample: Global,
+        heap: A,
+        enough: A,
+        cutting: Cutting,
+    ) -> Played {
+        match self {
+            Body::Tokenizer(script) => script.play(ample, heap, enough, cutting),
+            Body::Queue(script) => script.play(ample, heap),
+        }
+    }
+}
+
+impl Play for Script {
+    fn play<A: Allocator + Copy>(
+        &self,
+        ample: Global,
+        heap: A,
+        enough: A,
+    ) -> Result<Played, AllocError> {
+        Ok(self.body.play(ample, heap, enough, Cutting::Whole))
+    }
+}
 
 // How the pieces are cut, in words.
 fn cutting_words(alloc: Global, cutting: Cutting) -> Result<String, AllocError> {
     match cutting {
-        Cutting::Whole => String::from_str(alloc, "uncut"),
+        Cutting::Whole => String::from_str(alloc, "as written"),
         Cutting::Characters => String::from_str(alloc, "in characters"),
         Cutting::Two(count) => format!(in alloc; "cut at {count}"),
     }
@@ -24,7 +51,7 @@ fn play_cut(
 ) -> Result<Result<String, String>, CaseError> {
     let heap = Refusing::new(alloc, script.requests.unwrap_or(u64::MAX));
     let enough = Refusing::new(alloc, u64::MAX);
-    let played = play(alloc, &heap, &enough, script, cutting)?;
+    let played = script.body.play(alloc, &heap, &enough, cutting);
     if played.stop.is_some() {
         return Ok(Err(played.failure(alloc, cutting_words(alloc, cutting)?.as_str())?));
     }
@@ -35,7 +62,7 @@ fn play_cut(
 }
 
 // How many characters the longest piece has.
-fn longest_piece(script: &Script) -> usize {
+fn longest_piece(script: &TokenizerScript) -> usize {
     let mut longest = 0;
     for step in &script.steps {
         if let Step::Piece(text) = step {
@@ -48,16 +75,19 @@ fn longest_piece(script: &Script) -> usize {
 // Plays a script with its pieces cut, in each way that it asks for. Answers what failed first, if
 // something did.
 fn play_cuts(alloc: Global, script: &Script) -> Result<Option<String>, CaseError> {
-    if script.cuts == Cuts::None {
+    let Body::Tokenizer(with_pieces) = &script.body else {
+        return Ok(None);
+    };
+    if with_pieces.cuts == Cuts::None {
         return Ok(None);
     }
     if let Err(failure) = play_cut(alloc, script, Cutting::Characters)? {
         return Ok(Some(failure));
     }
-    if script.cuts == Cuts::Characters {
+    if with_pieces.cuts == Cuts::Characters {
         return Ok(None);
     }
-    for count in 0..=longest_piece(script) {
+    for count in 0..=longest_piece(with_pieces) {
         if let Err(failure) = play_cut(alloc, script, Cutting::Two(count))? {
             return Ok(Some(failure));
         }

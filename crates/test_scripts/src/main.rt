@@ -1,13 +1,11 @@
-//! Plays the scripts of its input, each of them calls of a tokenizer and what they must answer and tell.
+//! Plays the scripts of its input. Each is calls of a tokenizer, or of a queue and a table of named
+//! references, and what they must answer and tell.
 #![tactic(auto)]
 
-mod calls;
 mod check;
-mod play;
-mod player;
-mod repeated;
+mod queue;
 mod script;
-mod wholes;
+mod tokenizer;
 
 use crate::script::Script;
 use devices::{ReadSource, WriteTarget, read_to_end, write_all};

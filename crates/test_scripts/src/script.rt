@@ -1,219 +1,62 @@
-//! A script, as it is written.
+//! A script, as it is written: what those of a tokenizer and those of a queue have in common.
 use crate::check::failure_of;
-use crate::repeated::{Repeated, expanded, many};
+use crate::queue::QueueScript;
+use crate::tokenizer::TokenizerScript;
 use std::alloc::Global;
-use testing_lines::{Case, CaseError, Wanted, number_of, push_line, push_meant, push_word};
+use std::mem;
+use testing_lines::{Case, CaseError, Wanted, number_of};
 
-/// The sink of a script.
-#[derive(Clone, Copy, Debug, PartialEq, Eq)]
-pub enum SinkKind {
-    Collect,
-    Steer,
-    Alternate,
-    Count,
-    Print,
-    /// It faults after so many calls.
-    FaultAfter(usize),
-    FaultAtEnd,
-}
-
-/// In which cuts a script is played, beside whole pieces.
-#[derive(Clone, Copy, Debug, PartialEq, Eq)]
-pub enum Cuts {
-    None,
-    Characters,
-    /// In characters, and in two at each place.
-    All,
-}
-
-/// How one call reads a whole text that comes in parts.
-#[derive(Clone, Copy, Debug, PartialEq, Eq)]
-pub enum Whole {
-    Text,
-    Pieces,
-    Steps,
-}
-
-/// The item that a whole text is, or that it is items.
-#[derive(Clone, Copy, Debug, PartialEq, Eq)]
-pub enum Law {
-    Tag,
-    Reference,
-    Comment,
-    Instruction,
-    Doctype,
-    Cdata,
-    Raw,
-    Items,
-}
-
-/// A call that has an answer.
-#[derive(Clone, Copy, Debug, PartialEq, Eq)]
-pub enum Call {
-    Feed,
-    UntilDone,
-    FedPieces,
-    End,
-    Finish,
-    IsPending,
-    Whole(Whole),
-    Law(Law),
-}
-
-/// A step of a script.
+/// What a script is of, with its steps.
 #[derive(Drop)]
-pub enum Step {
-    /// A text after what waits.
-    Push(String),
-    /// A text in front of what waits.
-    Insert(String),
-    /// A part of a whole text, after those before it.
-    Piece(String),
-    /// A part of a whole text, in front of what waits.
-    Front(String),
-    /// The rest is plain text.
-    Plain,
-    /// A fresh sink is sent the rest.
-    Fresh,
-    /// A call, and its answer.
-    Call(Call, String),
-    /// What waits.
-    Left(String),
-    /// The lines that the sink shows.
-    Told(String),
-    /// Each further call is refused, and changes nothing.
-    Refused,
+pub enum Body {
+    Tokenizer(TokenizerScript),
+    /// A queue, and a table of named references.
+    Queue(QueueScript),
 }
 
-/// A script: how it is played, and its steps.
+impl Body {
+    // Reads a line of the body.
+    fn read_line(&mut self, alloc: Global, line: &str) -> Result<(), CaseError> {
+        match self {
+            Body::Tokenizer(script) => script.read_line(alloc, line),
+            Body::Queue(script) => script.read_line(alloc, line),
+        }
+    }
+}
+
+/// A script: how much memory it is played with, and its body.
 #[derive(Drop)]
 pub struct Script {
-    pub name: String,
-    pub words: Vec<String>,
-    pub sink: SinkKind,
-    /// How it is played with its pieces cut, too.
-    pub cuts: Cuts,
-    /// Whether it is played with each request for memory refused, too, and how many there are.
-    pub refusals: Option<Wanted>,
+    name: String,
     /// How many requests for memory it may make.
     pub requests: Option<u64>,
-    pub steps: Vec<Step>,
+    /// Whether it is played with each request for memory refused, too, and how many there are.
+    pub refusals: Option<Wanted>,
+    pub body: Body,
     /// The last line that has no meaning, if one has none.
     pub unknown: Option<String>,
-    defined: Vec<Repeated>,
-}
-
-// The law of that name.
-fn law_of(words: &str) -> Option<Call> {
-    let law = match words {
-        "law tag" => Law::Tag,
-        "law reference" => Law::Reference,
-        "law comment" => Law::Comment,
-        "law instruction" => Law::Instruction,
-        "law doctype" => Law::Doctype,
-        "law cdata" => Law::Cdata,
-        "law raw" => Law::Raw,
-        "law items" => Law::Items,
-        _ => return None,
-    };
-    Some(Call::Law(law))
-}
-
-// The call of that name.
-fn call_of(words: &str) -> Option<Call> {
-    match words {
-        "feed" => Some(Call::Feed),
-        "until done" => Some(Call::UntilDone),
-        "fed pieces" => Some(Call::FedPieces),
-        "end" => Some(Call::End),
-        "finish" => Some(Call::Finish),
-        "pending" => Some(Call::IsPending),
-        "whole" => Some(Call::Whole(Whole::Text)),
-        "pieces" => Some(Call::Whole(Whole::Pieces)),
-        "steps" => Some(Call::Whole(Whole::Steps)),
-        _ => law_of(words),
-    }
-}
-
-// The call and the answer that a line says, if it says one.
-fn called(line: &str) -> Option<(Call, &str)> {
-    let (words, answer) = line.split_once(" -> ")?;
-    Some((call_of(words)?, answer))
-}
-
-// The step of a text.
-fn text_step(verb: &str, text: String) -> Result<Step, CaseError> {
-    match verb {
-        "push" => Ok(Step::Push(text)),
-        "insert" => Ok(Step::Insert(text)),
-        "piece" => Ok(Step::Piece(text)),
-        "front" => Ok(Step::Front(text)),
-        "left" => Ok(Step::Left(text)),
-        _ => Err(CaseError::BadLine),
-    }
-}
-
-// The step that a line says.
-fn step_of(alloc: Global, line: &str) -> Result<Step, CaseError> {
-    if let Some((call, answer)) = called(line) {
-        return Ok(Step::Call(call, String::from_str(alloc, answer)?));
-    }
-    match line {
-        "plain" => return Ok(Step::Plain),
-        "fresh" => return Ok(Step::Fresh),
-        "refused" => return Ok(Step::Refused),
-        "told" => return Ok(Step::Told(String::new(alloc))),
-        _ => {}
-    }
-    let (verb, written) = line.split_once(' ').unwrap_or((line, ""));
-    let mut text = String::new(alloc);
-    push_meant(&mut text, written)?;
-    text_step(verb, text)
-}
-
-// The sink that faults at that call, or at the end.
-fn faulting(call: &str) -> Result<SinkKind, CaseError> {
-    if call == "end" {
-        return Ok(SinkKind::FaultAtEnd);
-    }
-    let Some(before) = number_of(call)?.checked_sub(1) else {
-        return Err(CaseError::BadLine);
-    };
-    Ok(SinkKind::FaultAfter(before as usize))
-}
-
-// The sink of that name.
-fn sink_of(words: &str) -> Result<SinkKind, CaseError> {
-    match words.split_once(' ') {
-        Some(("fault", call)) => faulting(call),
-        Some(_) => Err(CaseError::BadLine),
-        None => match words {
-            "collect" => Ok(SinkKind::Collect),
-            "steer" => Ok(SinkKind::Steer),
-            "alternate" => Ok(SinkKind::Alternate),
-            "count" => Ok(SinkKind::Count),
-            "print" => Ok(SinkKind::Print),
-            _ => Err(CaseError::BadLine),
-        },
-    }
+    // Whether a line was read.
+    is_begun: bool,
 }
 
 impl Case for Script {
     fn begin(alloc: Global) -> Script {
         Script {
             name: String::new(alloc),
-            words: Vec::new(alloc),
-            sink: SinkKind::Collect,
-            cuts: Cuts::None,
-            refusals: None,
             requests: None,
-            steps: Vec::new(alloc),
+            refusals: None,
+            body: Body::Tokenizer(TokenizerScript::new(alloc)),
             unknown: None,
-            defined: Vec::new(alloc),
+            is_begun: false,
         }
     }
 
     fn read_line(&mut self, alloc: Global, line: &str) -> Result<(), CaseError> {
+        let is_first = !mem::replace(&mut self.is_begun, true);
+        if is_first && line == "queue" {
+            self.body = Body::Queue(QueueScript::new(alloc));
+            return Ok(());
+        }
         match self.read_mark(alloc, line) {
             Err(CaseError::BadLine) => {
                 self.unknown = Some(String::from_str(alloc, line)?);
@@ -232,61 +75,15 @@ impl Case for Script {
 }
 
 impl Script {
-    // Reads a line that has a meaning: a mark, and what stands after the space that follows it.
+    // Reads a line that has a meaning: one that each script may have, or one of the body.
     fn read_mark(&mut self, alloc: Global, line: &str) -> Result<(), CaseError> {
-        let line = expanded(alloc, line, &self.defined)?;
-        let (mark, text) = line.split_once(' ').unwrap_or((&line, ""));
-        match mark {
-            "*" if self.name.is_empty() => self.name.push_str(text)?,
-            "$" => push_word(alloc, &mut self.words, text)?,
-            ">" => return self.read_told(text),
-            ">>" => return self.read_told_many(alloc, text),
-            "define" => return self.define(alloc, text),
-            _ => return self.read_way(alloc, &line),
-        }
-        Ok(())
-    }
-
-    // Reads a line that says how the script is played, or else a step.
-    fn read_way(&mut self, alloc: Global, line: &str) -> Result<(), CaseError> {
         let (mark, text) = line.split_once(' ').unwrap_or((line, ""));
         match mark {
-            "sink" => self.sink = sink_of(text)?,
-            "cuts" => self.cuts = Cuts::All,
-            "characters" => self.cuts = Cuts::Characters,
-            "refuse" => self.refusals = Some(Wanted::read(text)?),
+            "*" if self.name.is_empty() => self.name.push_str(text)?,
             "memory" => self.requests = Some(number_of(text)?),
-            _ => return self.read_step(alloc, line),
+            "refuse" => self.refusals = Some(Wanted::read(text)?),
+            _ => return self.body.read_line(alloc, line),
         }
         Ok(())
-    }
-
-    // Reads what a name stands for.
-    fn define(&mut self, alloc: Global, definition: &str) -> Result<(), CaseError> {
-        let repeated = Repeated::read(alloc, definition)?;
-        self.defined.push(repeated).map_err(|_| CaseError::Memory)
-    }
-
-    // Reads many lines that are sent: how many, and the line.
-    fn read_told_many(&mut self, alloc: Global, written: &str) -> Result<(), CaseError> {
-        let added = many(alloc, written, "\n")?;
-        match self.steps.last_mut() {
-            Some(Step::Told(lines)) => Ok(lines.push_str(&added)?),
-            _ => Err(CaseError::BadLine),
-        }
-    }
-
-    // Reads a line that is sent: of the step before it.
-    fn read_told(&mut self, line: &str) -> Result<(), CaseError> {
-        match self.steps.last_mut() {
-            Some(Step::Told(lines)) => push_line(lines, line),
-            _ => Err(CaseError::BadLine),
-        }
-    }
-
-    // Reads a step.
-    fn read_step(&mut self, alloc: Global, line: &str) -> Result<(), CaseError> {
-        let step = step_of(alloc, line)?;
-        self.steps.push(step).map_err(|_| CaseError::Memory)
     }
 }

@@ -1,7 +1,7 @@
 //! Calls that read a whole text, which comes in parts.
 ghost use Rattle.html5feed.specs.Starting.{CanStart};
 
-use crate::script::{Law, Whole};
+use crate::tokenizer::{Law, Whole};
 use html5ever::TokenizerError;
 use html5ever::tokenizer::laws::{
     cdata, comment, doctype, instruction, items, raw, reference, tag,

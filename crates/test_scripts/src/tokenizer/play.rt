@@ -1,13 +1,13 @@
-//! Plays a script once, on a heap.
-use crate::player::{Cutting, Player, Stage};
-use crate::script::{Script, SinkKind, Step};
+//! Plays a script of a tokenizer once, on a heap.
+use crate::tokenizer::player::{Player, Stage};
+use crate::tokenizer::{Cutting, SinkKind, Step, TokenizerScript};
 use html5cli::arguments::settings_of;
 use html5ever_interface::collect::Collector;
 use html5ever_interface::interface::sink::TokenSink;
 use html5ever_interface::interface::token::Token;
 use html5table::references_of;
 use std::alloc::{AllocError, Allocator, Global};
-use testing_lines::{Play, Played, Stop};
+use testing_lines::{Played, Stop};
 use testing_sinks::alternating::Alternating;
 use testing_sinks::counting::Counting;
 use testing_sinks::faulty::FaultySink;
@@ -88,54 +88,45 @@ fn play_on<A: Allocator + Copy>(
     }
 }
 
-// Plays a script on a heap, with a table of named references that lies in enough memory.
-fn try_play<A: Allocator + Copy>(
-    ample: Global,
-    heap: A,
-    enough: A,
-    script: &Script,
-    cutting: Cutting,
-) -> Result<Played, Stop> {
-    let Some(settings) = settings_of(&script.words) else {
-        return Err(Stop::BadWords);
-    };
-    let Ok(references) = references_of(enough, settings.table) else {
-        return Err(Stop::BadWords);
-    };
-    let stage = Stage {
-        ample,
-        heap,
-        settings,
-        references: &references,
-        cutting,
-    };
-    play_on(stage, &script.steps, script.sink)
-}
-
-/// Plays a script on a heap, with a table of named references that lies in enough memory.
-pub fn play<A: Allocator + Copy>(
-    ample: Global,
-    heap: A,
-    enough: A,
-    script: &Script,
-    cutting: Cutting,
-) -> Result<Played, AllocError> {
-    match try_play(ample, heap, enough, script, cutting) {
-        Ok(played) => Ok(played),
-        Err(stop) => Ok(Played {
-            stop: Some((script.steps.len(), stop)),
-            lines: String::new(ample),
-        }),
-    }
-}
-
-impl Play for Script {
-    fn play<A: Allocator + Copy>(
+impl TokenizerScript {
+    // Plays the script on a heap, if its words have a meaning.
+    fn try_play<A: Allocator + Copy>(
         &self,
         ample: Global,
         heap: A,
         enough: A,
-    ) -> Result<Played, AllocError> {
-        play(ample, heap, enough, self, Cutting::Whole)
+        cutting: Cutting,
+    ) -> Result<Played, Stop> {
+        let Some(settings) = settings_of(&self.words) else {
+            return Err(Stop::BadWords);
+        };
+        let Ok(references) = references_of(enough, settings.table) else {
+            return Err(Stop::BadWords);
+        };
+        let stage = Stage {
+            ample,
+            heap,
+            settings,
+            references: &references,
+            cutting,
+        };
+        play_on(stage, &self.steps, self.sink)
+    }
+
+    /// Plays the script on a heap, with a table of named references that lies in enough memory.
+    pub fn play<A: Allocator + Copy>(
+        &self,
+        ample: Global,
+        heap: A,
+        enough: A,
+        cutting: Cutting,
+    ) -> Played {
+        match self.try_play(ample, heap, enough, cutting) {
+            Ok(played) => played,
+            Err(stop) => Played {
+                stop: Some((self.steps.len(), stop)),
+                lines: String::new(ample),
+            },
+        }
     }
 }

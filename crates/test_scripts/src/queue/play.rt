@@ -1,12 +1,11 @@
-//! Plays a script, in each way that it asks for.
-use crate::queue::{Place, copy, eat, hand_in, next, peek, pop, skip, waiting};
-use crate::script::{Call, Entry, Script, Step};
-use crate::table::{begins, check, control, get};
+//! Plays a script of a queue and of a table once, on a heap.
+use crate::queue::calls::{Place, copy, eat, hand_in, next, peek, pop, skip, waiting};
+use crate::queue::table::{begins, check, control, get};
+use crate::queue::{Call, Entry, QueueScript, Step};
 use markup5ever::buffer_queue::{BufferQueue, Case};
 use markup5ever::data::NamedReferences;
-use std::alloc::{AllocError, Allocator, Global};
-use testing_alloc::Refusing;
-use testing_lines::{CaseError, Play, Played, Stop, compare_answer, sweep};
+use std::alloc::{Allocator, Global};
+use testing_lines::{Played, Stop, compare_answer};
 
 // A queue and a table, on a heap, and the entries for the next table.
 #[derive(Drop)]
@@ -100,35 +99,12 @@ fn take_steps<A: Allocator + Copy>(
     None
 }
 
-impl Play for Script {
-    fn play<A: Allocator + Copy>(
-        &self,
-        ample: Global,
-        heap: A,
-        _enough: A,
-    ) -> Result<Played, AllocError> {
-        Ok(Played {
+impl QueueScript {
+    /// Plays the script on a heap.
+    pub fn play<A: Allocator + Copy>(&self, ample: Global, heap: A) -> Played {
+        Played {
             stop: take_steps(ample, heap, &self.steps),
             lines: String::new(ample),
-        })
-    }
-}
-
-/// Plays a script in each way that it asks for. Answers what failed first, if something did.
-pub fn failure_of(alloc: Global, script: &Script) -> Result<Option<String>, CaseError> {
-    if let Some(line) = &script.unknown {
-        return Ok(Some(format!(in alloc; "no line of a script: {line:?}")?));
-    }
-    let heap = Refusing::new(alloc, script.requests.unwrap_or(u64::MAX));
-    let played = script.play(alloc, &heap, &heap)?;
-    if played.stop.is_some() {
-        return Ok(Some(played.failure(alloc, "with memory")?));
-    }
-    if heap.has_refused() {
-        return Ok(Some(String::from_str(alloc, "more memory than it may ask for")?));
-    }
-    match &script.refusals {
-        Some(wanted) => sweep(alloc, script, wanted, &played.lines),
-        None => Ok(None),
+        }
     }
 }

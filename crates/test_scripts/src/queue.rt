@@ -1,8 +1,11 @@
-//! A script, as it is written.
-use crate::play::failure_of;
-use markup5ever::buffer_queue::Case as Letters;
+//! A script of a queue and of a table of named references, as it is written.
+mod calls;
+mod play;
+mod table;
+
+use markup5ever::buffer_queue::Case;
 use std::alloc::Global;
-use testing_lines::{Case, CaseError, Wanted, number_of, push_meant};
+use testing_lines::{CaseError, push_meant};
 
 /// A call of which a script says the answer.
 #[derive(Drop)]
@@ -23,7 +26,7 @@ pub enum Call {
     Pop,
     /// Skips a run, and answers how many bytes it has.
     Skip,
-    Eat(String, Letters),
+    Eat(String, Case),
     /// Makes a table of the entries so far.
     Check,
     /// What the table has by that name.
@@ -42,24 +45,17 @@ pub struct Entry {
     pub second: Option<char>,
 }
 
-/// A step of a script.
+/// A step of a queue's script.
 #[derive(Drop)]
 pub enum Step {
     Call(Call, String),
     Entry(Entry),
 }
 
-/// A script: how it is played, and its steps.
+/// A script of a queue and of a table: its steps.
 #[derive(Drop)]
-pub struct Script {
-    name: String,
-    /// How many requests for memory it may make.
-    pub requests: Option<u64>,
-    /// Whether it is played with each request refused, too, and how many there are.
-    pub refusals: Option<Wanted>,
-    pub steps: Vec<Step>,
-    /// The last line that has no meaning, if one has none.
-    pub unknown: Option<String>,
+pub struct QueueScript {
+    steps: Vec<Step>,
 }
 
 // The text that is written with escapes.
@@ -114,8 +110,8 @@ fn text_call(verb: &str, text: String) -> Result<Call, CaseError> {
         "copy" => Ok(Call::Copy(text)),
         "insert" => Ok(Call::Insert(text)),
         "give_back" => Ok(Call::GiveBack(text)),
-        "eat" => Ok(Call::Eat(text, Letters::Exact)),
-        "eat_any_case" => Ok(Call::Eat(text, Letters::IgnoreAscii)),
+        "eat" => Ok(Call::Eat(text, Case::Exact)),
+        "eat_any_case" => Ok(Call::Eat(text, Case::IgnoreAscii)),
         "get" => Ok(Call::Get(text)),
         "begins" => Ok(Call::IsPrefix(text)),
         "control" => control_call(&text),
@@ -132,47 +128,20 @@ fn call_of(alloc: Global, words: &str) -> Result<Call, CaseError> {
     text_call(verb, meant(alloc, written)?)
 }
 
-impl Case for Script {
-    fn begin(alloc: Global) -> Script {
-        Script {
-            name: String::new(alloc),
-            requests: None,
-            refusals: None,
+impl QueueScript {
+    /// A script of which no line was read.
+    pub fn new(alloc: Global) -> QueueScript {
+        QueueScript {
             steps: Vec::new(alloc),
-            unknown: None,
         }
     }
 
-    fn read_line(&mut self, alloc: Global, line: &str) -> Result<(), CaseError> {
-        match self.read_mark(alloc, line) {
-            Err(CaseError::BadLine) => {
-                self.unknown = Some(String::from_str(alloc, line)?);
-                Ok(())
-            }
-            read => read,
+    /// Reads a line of the script: an entry of a table, or a call.
+    pub fn read_line(&mut self, alloc: Global, line: &str) -> Result<(), CaseError> {
+        match line.split_once(' ') {
+            Some(("entry", written)) => self.push_step(Step::Entry(entry_of(alloc, written)?)),
+            _ => self.read_call(alloc, line),
         }
-    }
-
-    fn failure(&self, alloc: Global) -> Result<Option<String>, CaseError> {
-        let Some(failure) = failure_of(alloc, self)? else {
-            return Ok(None);
-        };
-        Ok(Some(format!(in alloc; "{}: {failure}", self.name)?))
-    }
-}
-
-impl Script {
-    // Reads a line that has a meaning.
-    fn read_mark(&mut self, alloc: Global, line: &str) -> Result<(), CaseError> {
-        let (mark, text) = line.split_once(' ').unwrap_or((line, ""));
-        match mark {
-            "*" if self.name.is_empty() => self.name.push_str(text)?,
-            "memory" => self.requests = Some(number_of(text)?),
-            "refuse" => self.refusals = Some(Wanted::read(text)?),
-            "entry" => return self.push_step(Step::Entry(entry_of(alloc, text)?)),
-            _ => return self.read_call(alloc, line),
-        }
-        Ok(())
     }
 
     // Reads a call and its answer.

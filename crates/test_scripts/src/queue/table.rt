@@ -1,5 +1,5 @@
 //! Calls of a table of named references, which answer by words.
-use crate::script::Entry;
+use crate::queue::Entry;
 use markup5ever::data::{NamedReferences, TableError, c1_replacement};
 use std::alloc::{AllocError, Allocator, Global};
 use testing_lines::Stop;

@@ -1,10 +1,10 @@
 //! Plays the steps of a script on a tokenizer.
-use crate::calls::{
+use crate::tokenizer::calls::{
     begin, end, feed, feed_on, feed_parts, finish, is_error, options, set_plain, word_of,
     word_of_result,
 };
-use crate::script::{Call, Law, Step, Whole};
-use crate::wholes::{joined, pieces_of, read, read_item};
+use crate::tokenizer::wholes::{joined, pieces_of, read, read_item};
+use crate::tokenizer::{Call, Cutting, Law, Step, Whole};
 use html5cli::settings::Settings;
 use html5ever::tokenizer::{Tokenizer, steps};
 use html5ever_interface::interface::sink::TokenSink;
@@ -15,15 +15,6 @@ use std::alloc::{AllocError, Allocator, Global};
 use std::mem;
 use testing_lines::{Stop, compare, compare_answer, compare_flag};
 use testing_sinks::shown::{Numbered, Shown};
-
-/// How the pieces of a play are cut.
-#[derive(Clone, Copy, Debug, PartialEq, Eq)]
-pub enum Cutting {
-    Whole,
-    Characters,
-    /// Each in two, the first with so many characters.
-    Two(usize),
-}
 
 /// Where a script is played.
 #[derive(Drop)]
