@@ -11,7 +11,7 @@ use Rattle.html5ever_interface.specs.Token.Told.{Text, Null, Error, Tag, Comment
 use Rattle.html5ever_interface.specs.declared.interface.token.TagKind.{TagKind}
 use Rattle.html5ever_interface.specs.declared.interface.token.TagKind.TheVariants.{StartTag, EndTag}
 use Rattle.html5policy.specs.Addresses.{is_safe_address}
-use Rattle.html5policy.specs.Names.{always_hides, is_address, is_one_of}
+use Rattle.html5policy.specs.Names.{acts_on_page, always_hides, is_address, is_one_of}
 use Rattle.html5policy.specs.Policy.{PolicyOf, hides, is_allowed, is_kept, is_named, is_rel_of_link}
 use Rattle.html5policy.specs.Rules.{IsSound}
 use Rattle.html5policy.proofs.Soundness.{allowed-may_keep, allowed-shows}
@@ -111,15 +111,16 @@ steady-append policy [] ys f g = g
 steady-append policy (x ∷ xs) ys f g = (f.0, steady-append policy xs ys f.1 g)
 
 -- an element that is kept does not hide what stands in it
-not-hidden : (always listed : Bool) → (not always && not listed) ≡ true → always ≡ false → (always || listed) ≡ false
-not-hidden always false both shows = rw shows refl
-not-hidden always true both shows = absurd (false≢true (sym (ap (λ b. not b && false) shows) ∙ both))
+not-hidden : (always acts listed : Bool) → (not always && (not acts && not listed)) ≡ true → always ≡ false → (always || listed) ≡ false
+not-hidden always acts false both shows = rw shows refl
+not-hidden always true true both shows = absurd (false≢true (sym (ap (λ b. not b && false) shows) ∙ both))
+not-hidden always false true both shows = absurd (false≢true (sym (ap (λ b. not b && false) shows) ∙ both))
 
 allowed-shown : (policy : PolicyOf) (name : List ℕ) → IsSound policy → is_allowed policy name ≡ true → hides policy name ≡ false
 unfolding hides
 allowed-shown policy name sound allowed =
-    not-hidden (always_hides name) (is_one_of policy.hidden name)
-    (and-right (is_tag_name (chars name)) (not (always_hides name) && not (is_one_of policy.hidden name)) (allowed-may_keep policy name sound allowed))
+    not-hidden (always_hides name) (acts_on_page name) (is_one_of policy.hidden name)
+    (and-right (is_tag_name (chars name)) (not (always_hides name) && (not (acts_on_page name) && not (is_one_of policy.hidden name))) (allowed-may_keep policy name sound allowed))
     (allowed-shows policy name sound allowed)
 
 kept-parts : (policy : PolicyOf) (kind : TagKind) (name : List ℕ) (attributes : List NameAndValue) → allows_by_kind policy kind (encode_utf8_all name) ≡ true

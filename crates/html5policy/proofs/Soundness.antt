@@ -7,22 +7,24 @@ use Rattle.std.proofs.lemmas.Bool.{false≢true}
 use Rattle.std.proofs.lemmas.List.Folds.{list_all-append, list_any-append}
 use Rattle.html5write.specs.Pieces.{is_tag_name, is_attribute_name}
 use Rattle.markup5ever.proofs.NameOrder.{bytes_eq-itself, bytes_eq-same}
-use Rattle.html5policy.specs.Names.{always_hides, is_never_kept, is_one_of, is_scheme, runs_address}
+use Rattle.html5policy.specs.Names.{acts_on_page, always_hides, is_never_kept, is_one_of, is_scheme, runs_address}
 use Rattle.html5policy.specs.Policy.{PolicyOf, is_allowed}
 use Rattle.html5policy.specs.Rules.{IsSound, RuleOf, attribute_fault, element_fault, fault_of, hidden_fault, may_hide, may_keep, may_keep_attribute, may_keep_own, may_keep_scheme, scheme_fault, with_rule}
 use Rattle.html5policy.specs.Rules.RuleOf.{Element, Attribute, Everywhere, Scheme, Hidden, Noopener, Balance}
 use Rattle.html5policy.specs.declared.error.RuleError.{RuleError}
-use Rattle.html5policy.specs.declared.error.RuleError.TheVariants.{AllowedAndHidden, AttributeName, ElementName, HidesContent, NeverKept, RunsAddress, SchemeName}
+use Rattle.html5policy.specs.declared.error.RuleError.TheVariants.{ActsOnPage, AllowedAndHidden, AttributeName, ElementName, HidesContent, NeverKept, RunsAddress, SchemeName}
 use Rattle.html5policy.proofs.Searches.{and-left, and-right, holds-one_of}
 
 -- ---- no fault
 
-element-passes : (name hides hidden : Bool) → (if not name then Some ElementName else if hides then Some HidesContent else if hidden then Some AllowedAndHidden else None) ≡ None
-    → (name && (not hides && not hidden)) ≡ true
-element-passes true false false e = refl
-element-passes true false true e = absurd cc
-element-passes true true hidden e = absurd cc
-element-passes false hides hidden e = absurd cc
+element-passes : (name hides acts hidden : Bool)
+    → (if not name then Some ElementName else if hides then Some HidesContent else if acts then Some ActsOnPage else if hidden then Some AllowedAndHidden else None) ≡ None
+    → (name && (not hides && (not acts && not hidden))) ≡ true
+element-passes true false false false e = refl
+element-passes true false false true e = absurd cc
+element-passes true false true hidden e = absurd cc
+element-passes true true acts hidden e = absurd cc
+element-passes false hides acts hidden e = absurd cc
 
 two-pass : (first second : RuleError) (name other : Bool) → (if not name then Some first else if other then Some second else None) ≡ None → (name && not other) ≡ true
 two-pass first second true false e = refl
@@ -30,7 +32,7 @@ two-pass first second true true e = absurd cc
 two-pass first second false other e = absurd cc
 
 element-may : (hidden : List (List ℕ)) (name : List ℕ) → element_fault hidden name ≡ None → may_keep hidden name ≡ true
-element-may hidden name none = element-passes (is_tag_name (chars name)) (always_hides name) (is_one_of hidden name) none
+element-may hidden name none = element-passes (is_tag_name (chars name)) (always_hides name) (acts_on_page name) (is_one_of hidden name) none
 
 attribute-may : (name : List ℕ) → attribute_fault name ≡ None → may_keep_attribute name ≡ true
 attribute-may name none = two-pass AttributeName NeverKept (is_attribute_name (chars name)) (is_never_kept name) none
@@ -83,7 +85,7 @@ hidden-more hidden name (element ∷ elements) all none =
     one_of-more hidden name element (or-false-left (bytes_eq element name) (list_any (λ other. bytes_eq other name) elements) none) in
     let later = hidden-more hidden name elements (and-right (may_keep hidden element) (list_all (may_keep hidden) elements) all)
     (or-false-right (bytes_eq element name) (list_any (λ other. bytes_eq other name) elements) none) in
-    ap (λ b. (is_tag_name (chars element) && (not (always_hides element) && not b)) && list_all (may_keep (hidden ++ name ∷ [])) elements) here
+    ap (λ b. (is_tag_name (chars element) && (not (always_hides element) && (not (acts_on_page element) && not b))) && list_all (may_keep (hidden ++ name ∷ [])) elements) here
     ∙ ap (λ b. may_keep hidden element && b) later
     ∙ ap (λ b. b && true) (and-left (may_keep hidden element) (list_all (may_keep hidden) elements) all)
 
@@ -160,8 +162,8 @@ allowed-may_keep policy name sound allowed = holds-one_of (may_keep policy.hidde
 -- an allowed element doesn't hide what stands in it
 pub allowed-shows : (policy : PolicyOf) (name : List ℕ) → IsSound policy → is_allowed policy name ≡ true → always_hides name ≡ false
 allowed-shows policy name sound allowed =
-    not-true (always_hides name) (and-left (not (always_hides name)) (not (is_one_of policy.hidden name))
-    (and-right (is_tag_name (chars name)) (not (always_hides name) && not (is_one_of policy.hidden name)) (allowed-may_keep policy name sound allowed)))
+    not-true (always_hides name) (and-left (not (always_hides name)) (not (acts_on_page name) && not (is_one_of policy.hidden name))
+    (and-right (is_tag_name (chars name)) (not (always_hides name) && (not (acts_on_page name) && not (is_one_of policy.hidden name))) (allowed-may_keep policy name sound allowed)))
 
 pub listed-scheme : (policy : PolicyOf) (scheme : List ℕ) → IsSound policy → is_one_of policy.schemes scheme ≡ true → may_keep_scheme scheme ≡ true
 listed-scheme policy scheme sound listed = holds-one_of may_keep_scheme policy.schemes scheme sound.schemes listed

@@ -18,13 +18,24 @@ always_hides name =
     || bytes_eq name (codes "svg") || bytes_eq name (codes "template") || bytes_eq name (codes "textarea") || bytes_eq name (codes "title")
     || bytes_eq name (codes "xmp")
 
+-- elements that no policy keeps, since they act on more than the place where they stand. `meta` and `base` reload the page, or change
+-- what its addresses are relative to; `link`, `object`, `embed`, `applet`, `param`, `frame` and `frameset` load styles, plug-ins and
+-- documents; the attributes of `html`, `head` and `body` become those of the page; `image` is read as another element
+unfoldable pub acts_on_page : List ℕ → Bool
+acts_on_page name =
+    bytes_eq name (codes "applet") || bytes_eq name (codes "base") || bytes_eq name (codes "body") || bytes_eq name (codes "embed")
+    || bytes_eq name (codes "frame") || bytes_eq name (codes "frameset") || bytes_eq name (codes "head") || bytes_eq name (codes "html")
+    || bytes_eq name (codes "image") || bytes_eq name (codes "link") || bytes_eq name (codes "meta") || bytes_eq name (codes "object")
+    || bytes_eq name (codes "param")
+
 -- ---- attributes
 
--- an attribute that no policy keeps: it runs scripts, or what it holds is no single address
+-- an attribute that no policy keeps: it runs scripts, what it holds is no single address, or it changes what addresses are relative to
 unfoldable pub is_never_kept : List ℕ → Bool
 is_never_kept name =
-    starts_with nat_eq name (codes "on") || bytes_eq name (codes "imagesrcset") || bytes_eq name (codes "ping")
-    || bytes_eq name (codes "srcdoc") || bytes_eq name (codes "srcset") || bytes_eq name (codes "style")
+    starts_with nat_eq name (codes "on") || bytes_eq name (codes "archive") || bytes_eq name (codes "attributionsrc")
+    || bytes_eq name (codes "imagesrcset") || bytes_eq name (codes "ping") || bytes_eq name (codes "srcdoc")
+    || bytes_eq name (codes "srcset") || bytes_eq name (codes "style") || bytes_eq name (codes "values") || bytes_eq name (codes "xml:base")
 
 -- attributes of the standard that hold an address
 unfoldable pub is_address_now : List ℕ → Bool
@@ -40,9 +51,15 @@ is_address_of_old name =
     || bytes_eq name (codes "icon") || bytes_eq name (codes "longdesc") || bytes_eq name (codes "lowsrc") || bytes_eq name (codes "manifest")
     || bytes_eq name (codes "profile") || bytes_eq name (codes "usemap")
 
+-- and those that hold one in some elements, or in another namespace
+unfoldable pub is_address_somewhere : List ℕ → Bool
+is_address_somewhere name =
+    bytes_eq name (codes "by") || bytes_eq name (codes "code") || bytes_eq name (codes "content") || bytes_eq name (codes "from")
+    || bytes_eq name (codes "to")
+
 -- whether the value of an attribute of this name is an address
 unfoldable pub is_address : List ℕ → Bool
-is_address name = is_address_now name || is_address_of_old name
+is_address name = is_address_now name || is_address_of_old name || is_address_somewhere name
 
 -- ---- schemes
 
@@ -55,6 +72,8 @@ unfoldable pub is_scheme : List ℕ → Bool
 is_scheme [] = false
 is_scheme (letter ∷ scheme) = is_ascii_lowercase letter && list_all is_scheme_byte scheme
 
--- schemes whose addresses run what stands in them
+-- schemes whose addresses run what stands in them, or name what a page made itself
 unfoldable pub runs_address : List ℕ → Bool
-runs_address scheme = bytes_eq scheme (codes "javascript") || bytes_eq scheme (codes "vbscript") || bytes_eq scheme (codes "data")
+runs_address scheme =
+    bytes_eq scheme (codes "javascript") || bytes_eq scheme (codes "vbscript") || bytes_eq scheme (codes "data")
+    || bytes_eq scheme (codes "blob") || bytes_eq scheme (codes "filesystem") || bytes_eq scheme (codes "view-source")

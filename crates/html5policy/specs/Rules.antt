@@ -2,10 +2,10 @@
 use Rattle.std.specs.Prelude.{◌≡◌, ℕ, Bool, true, List, [], ◌∷◌, ◌++◌, Option, None, Some, Result, Ok, Err, not, ◌&&◌, chars, if◌then◌else◌}
 use Rattle.std.specs.List.{list_all}
 use Rattle.html5write.specs.Pieces.{is_tag_name, is_attribute_name}
-use Rattle.html5policy.specs.Names.{always_hides, is_never_kept, is_one_of, is_scheme, runs_address}
+use Rattle.html5policy.specs.Names.{acts_on_page, always_hides, is_never_kept, is_one_of, is_scheme, runs_address}
 use Rattle.html5policy.specs.Policy.{OwnAttribute, PolicyOf}
 use Rattle.html5policy.specs.declared.error.RuleError.{RuleError}
-use Rattle.html5policy.specs.declared.error.RuleError.TheVariants.{AllowedAndHidden, AttributeName, ElementName, HidesContent, NeverKept, RunsAddress, SchemeName}
+use Rattle.html5policy.specs.declared.error.RuleError.TheVariants.{ActsOnPage, AllowedAndHidden, AttributeName, ElementName, HidesContent, NeverKept, RunsAddress, SchemeName}
 
 pub data RuleOf : Type 0 where
   -- an element is kept
@@ -36,6 +36,7 @@ abbrev pub element_fault : List (List ℕ) → List ℕ → Option RuleError
 element_fault hidden name =
     if not (is_tag_name (chars name)) then Some ElementName
     else if always_hides name then Some HidesContent
+    else if acts_on_page name then Some ActsOnPage
     else if is_one_of hidden name then Some AllowedAndHidden
     else None
 
@@ -82,7 +83,7 @@ rule_added policy rule = added_unless policy rule (fault_of policy rule)
 
 -- an element that may be kept, where these are hidden
 abbrev pub may_keep : List (List ℕ) → List ℕ → Bool
-may_keep hidden name = is_tag_name (chars name) && (not (always_hides name) && not (is_one_of hidden name))
+may_keep hidden name = is_tag_name (chars name) && (not (always_hides name) && (not (acts_on_page name) && not (is_one_of hidden name)))
 
 -- an attribute that may be kept
 abbrev pub may_keep_attribute : List ℕ → Bool

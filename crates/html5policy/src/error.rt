@@ -26,15 +26,20 @@ pub enum RuleError {
     /// What stands in an element of this name is always dropped.
     #[error("an element that always hides what stands in it can't be allowed")]
     HidesContent,
+    /// An element of this name reloads the page, changes what its addresses are relative to, loads
+    /// documents, or is read as the page's own or as another.
+    #[error("an element that acts on the page around it can't be allowed")]
+    ActsOnPage,
     #[error("an element can't be both allowed and hidden")]
     AllowedAndHidden,
-    /// An attribute of this name runs scripts, or what it holds is no single address.
+    /// An attribute of this name runs scripts, what it holds is no single address, or it changes what
+    /// addresses are relative to.
     #[error("an attribute that runs scripts or holds no single address can't be allowed")]
     NeverKept,
     /// This is no scheme, or not in small letters.
     #[error("a name that is no scheme in small letters")]
     SchemeName,
-    /// An address of this scheme runs what stands in it.
+    /// An address of this scheme runs what stands in it, or names what a page made itself.
     #[error("a scheme whose addresses run what stands in them can't be allowed")]
     RunsAddress,
     /// A growth was refused.

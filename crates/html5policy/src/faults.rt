@@ -4,7 +4,7 @@ ghost use Rattle.html5policy.specs.Rules.{attribute_fault, element_fault, fault_
 ghost use Rattle.html5policy.specs.Code.{policy_of, rule_of};
 
 use crate::error::RuleError;
-use crate::names::{always_hides, is_never_kept, is_one_of, is_scheme, runs_address};
+use crate::names::{acts_on_page, always_hides, is_never_kept, is_one_of, is_scheme, runs_address};
 use crate::rule::Rule;
 use crate::rules::Rules;
 use html5write::{is_attribute_name, is_tag_name};
@@ -32,6 +32,9 @@ fn element_fault<A: Allocator>(hidden: &[String<A>], name: &str) -> Option<RuleE
     }
     if always_hides(name) {
         return Some(RuleError::HidesContent);
+    }
+    if acts_on_page(name) {
+        return Some(RuleError::ActsOnPage);
     }
     if is_one_of(hidden, name) {
         return Some(RuleError::AllowedAndHidden);

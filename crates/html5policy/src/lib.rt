@@ -14,6 +14,6 @@ mod text;
 mod words;
 
 pub use crate::error::{PolicyError, RuleError};
-pub use crate::names::{always_hides, is_address};
+pub use crate::names::{acts_on_page, always_hides, is_address};
 pub use crate::policy::Policy;
 pub use crate::rule::Rule;

@@ -1,7 +1,7 @@
 //! Names of which no policy decides.
 ghost use Rattle.std.specs.Prelude.{◌≡◌, map, string_bytes};
 ghost use Rattle.std.specs.List.{list_all};
-ghost use Rattle.html5policy.specs.Names.{always_hides, is_address, is_address_now, is_address_of_old, is_never_kept, is_one_of, is_scheme, is_scheme_byte, runs_address};
+ghost use Rattle.html5policy.specs.Names.{acts_on_page, always_hides, is_address, is_address_now, is_address_of_old, is_address_somewhere, is_never_kept, is_one_of, is_scheme, is_scheme_byte, runs_address};
 
 use std::alloc::Allocator;
 
@@ -41,12 +41,48 @@ pub fn always_hides(name: &str) -> bool
     )
 }
 
-/// Whether no policy keeps an attribute of this name: it runs scripts, or holds no single address.
+/// Whether no policy keeps an element of this name, since it acts on more than the place where it stands.
+#[tactic(auto, unfolding(crate::specs::Names::acts_on_page))]
+pub fn acts_on_page(name: &str) -> bool
+    ensures { result ≡ acts_on_page name.now }
+{
+    matches!(
+        name,
+        "applet"
+            | "base"
+            | "body"
+            | "embed"
+            | "frame"
+            | "frameset"
+            | "head"
+            | "html"
+            | "image"
+            | "link"
+            | "meta"
+            | "object"
+            | "param"
+    )
+}
+
+/// Whether no policy keeps an attribute of this name: it runs scripts, holds no single address, or changes
+/// what addresses are relative to.
 #[tactic(auto, unfolding(crate::specs::Names::is_never_kept))]
 pub fn is_never_kept(name: &str) -> bool
     ensures { result ≡ is_never_kept name.now }
 {
-    name.starts_with("on") || matches!(name, "imagesrcset" | "ping" | "srcdoc" | "srcset" | "style")
+    name.starts_with("on")
+        || matches!(
+            name,
+            "archive"
+                | "attributionsrc"
+                | "imagesrcset"
+                | "ping"
+                | "srcdoc"
+                | "srcset"
+                | "style"
+                | "values"
+                | "xml:base"
+        )
 }
 
 // Attributes of the standard that hold an address.
@@ -88,12 +124,20 @@ fn is_address_of_old(name: &str) -> bool
     )
 }
 
+// And those that hold one in some elements, or in another namespace.
+#[tactic(auto, unfolding(crate::specs::Names::is_address_somewhere))]
+fn is_address_somewhere(name: &str) -> bool
+    ensures { result ≡ is_address_somewhere name.now }
+{
+    matches!(name, "by" | "code" | "content" | "from" | "to")
+}
+
 /// Whether the value of an attribute of this name is an address.
 #[tactic(auto, unfolding(crate::specs::Names::is_address))]
 pub fn is_address(name: &str) -> bool
     ensures { result ≡ is_address name.now }
 {
-    is_address_now(name) || is_address_of_old(name)
+    is_address_now(name) || is_address_of_old(name) || is_address_somewhere(name)
 }
 
 // Whether a byte can stand in a scheme.
@@ -121,10 +165,13 @@ pub fn is_scheme(scheme: &str) -> bool
     }
 }
 
-/// Whether an address of this scheme runs what stands in it.
+/// Whether an address of this scheme runs what stands in it, or names what a page made itself.
 #[tactic(auto, unfolding(crate::specs::Names::runs_address))]
 pub fn runs_address(scheme: &str) -> bool
     ensures { result ≡ runs_address scheme.now }
 {
-    matches!(scheme, "javascript" | "vbscript" | "data")
+    matches!(
+        scheme,
+        "javascript" | "vbscript" | "data" | "blob" | "filesystem" | "view-source"
+    )
 }

@@ -20,7 +20,7 @@ struct Rule {
     dropped: &'static [(&'static str, &'static str, &'static str)],
 }
 
-const RULES: [Rule; 12] = [
+const RULES: [Rule; 13] = [
     Rule {
         text: "",
         allowed: &[],
@@ -84,6 +84,25 @@ const RULES: [Rule; 12] = [
             ("a", "href", "ftpx:y"),
             ("a", "cite", "javascript:x"),
             ("a", "xlink:href", "data:x"),
+        ],
+    },
+    Rule {
+        text: "everywhere by code content from to\nschemes http",
+        allowed: &[],
+        not_allowed: &[],
+        hides: &[],
+        shows: &[],
+        kept: &[
+            ("p", "content", "http:x"),
+            ("p", "to", "x"),
+            ("p", "code", ""),
+        ],
+        dropped: &[
+            ("p", "by", "javascript:x"),
+            ("p", "code", "javascript:x"),
+            ("p", "content", " javascript:x"),
+            ("p", "from", "data:x"),
+            ("p", "to", "java\tscript:x"),
         ],
     },
     Rule {
@@ -245,7 +264,7 @@ fn says_whether_it_balances(rt: HostRuntime) {
 }
 
 // Texts, and the first fault of each with its line.
-const FAULTS: [(&str, u64, RuleError); 37] = [
+const FAULTS: [(&str, u64, RuleError); 57] = [
     ("permit p", 1, RuleError::UnknownRule),
     ("ALLOW p", 1, RuleError::UnknownRule),
     ("allow p\nwrong", 2, RuleError::UnknownRule),
@@ -273,6 +292,19 @@ const FAULTS: [(&str, u64, RuleError); 37] = [
     ("allow iframe", 1, RuleError::HidesContent),
     ("allow plaintext", 1, RuleError::HidesContent),
     ("allow svg", 1, RuleError::HidesContent),
+    ("allow meta http-equiv", 1, RuleError::ActsOnPage),
+    ("allow p\nallow base href", 2, RuleError::ActsOnPage),
+    ("allow object", 1, RuleError::ActsOnPage),
+    ("allow embed src", 1, RuleError::ActsOnPage),
+    ("allow applet", 1, RuleError::ActsOnPage),
+    ("allow param name value", 1, RuleError::ActsOnPage),
+    ("allow link rel", 1, RuleError::ActsOnPage),
+    ("allow frame", 1, RuleError::ActsOnPage),
+    ("allow frameset", 1, RuleError::ActsOnPage),
+    ("allow html", 1, RuleError::ActsOnPage),
+    ("allow head", 1, RuleError::ActsOnPage),
+    ("allow body id", 1, RuleError::ActsOnPage),
+    ("allow image", 1, RuleError::ActsOnPage),
     ("allow p\nhide p", 2, RuleError::AllowedAndHidden),
     ("hide q p\n\nallow p", 3, RuleError::AllowedAndHidden),
     ("everywhere onclick", 1, RuleError::NeverKept),
@@ -281,12 +313,19 @@ const FAULTS: [(&str, u64, RuleError); 37] = [
     ("everywhere srcset", 1, RuleError::NeverKept),
     ("everywhere srcdoc", 1, RuleError::NeverKept),
     ("everywhere ping", 1, RuleError::NeverKept),
+    ("allow a attributionsrc", 1, RuleError::NeverKept),
+    ("everywhere archive", 1, RuleError::NeverKept),
+    ("everywhere values", 1, RuleError::NeverKept),
+    ("everywhere xml:base", 1, RuleError::NeverKept),
     ("schemes http:", 1, RuleError::SchemeName),
     ("schemes HTTP", 1, RuleError::SchemeName),
     ("schemes http 1a", 1, RuleError::SchemeName),
     ("schemes javascript", 1, RuleError::RunsAddress),
     ("schemes http vbscript", 1, RuleError::RunsAddress),
     ("\nschemes data", 2, RuleError::RunsAddress),
+    ("schemes blob", 1, RuleError::RunsAddress),
+    ("schemes filesystem", 1, RuleError::RunsAddress),
+    ("schemes https view-source", 1, RuleError::RunsAddress),
 ];
 
 #[test]

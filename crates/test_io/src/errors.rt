@@ -96,7 +96,7 @@ fn of_bytes_that_come_in(rt: HostRuntime) -> Result<(), Fail> {
     check_texts(&rt, rt.alloc(), &references)
 }
 
-const RULES: [(RuleError, &str); 11] = [
+const RULES: [(RuleError, &str); 12] = [
     (RuleError::UnknownRule, "an unknown rule"),
     (RuleError::NoName, "a name is missing after the rule"),
     (RuleError::WordTooMany, "a word too many after the rule"),
@@ -108,6 +108,10 @@ const RULES: [(RuleError, &str); 11] = [
     (
         RuleError::HidesContent,
         "an element that always hides what stands in it can't be allowed",
+    ),
+    (
+        RuleError::ActsOnPage,
+        "an element that acts on the page around it can't be allowed",
     ),
     (
         RuleError::AllowedAndHidden,
