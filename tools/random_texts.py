@@ -1,6 +1,7 @@
-"""Compares html5tok with a model of the grammar, or with another tokenizer, on random texts.
+"""Compares html5tok with a model of the grammar, or with another tokenizer, on random texts; and html5clean with a model.
 
     python3 tools/random_texts.py [--cases N] [--seed S] [--program PATH]
+    python3 tools/random_texts.py --clean [--cases N] [--seed S]
     python3 tools/random_texts.py --peer html5lib
     python3 tools/random_texts.py --self-test
 
@@ -10,8 +11,10 @@ has to print the lines of the model (`tools/model`), which is checked first: it 
 cases that have an end (crates/test_cases/stdin). The first case that differs is made as small as it goes, and shown
 with a command line, the program's lines and the model's.
 
---peer html5lib compares with Debian's html5lib instead. `tools/cases/peer.py` says of what both speak.
---self-test plants wrong changes in copies of the model, and says at which case the comparison finds each.
+--clean compares html5clean with a model of cleaning (`tools/model/cleaning.py`), by its own policy and by those of
+tools/cases/policies. --peer html5lib compares with Debian's html5lib instead. `tools/cases/peer.py` says of what both speak.
+--self-test plants wrong changes in copies of the model, and says at which case the comparison finds each; with --clean in
+that of cleaning.
 
 Status 0: no difference, and each change was found. 1: a difference, or a change that was not found. 2: the program or
 html5lib is not there.
@@ -28,33 +31,42 @@ import sys
 import time
 from dataclasses import dataclass
 
+from cases.cleaning import clean_case_of
 from cases.maker import CUTS, Case, case_of, peer_case_of
 from cases.running import SKIPPED, Ended, Judge, Model, difference, differs, run_program, shown
 from cases.shrinking import smallest
 from cases.worked import worked_cases
+from model import cleaning
 from model import program as model
 
-PROGRAM = pathlib.Path(__file__).resolve().parent.parent / "crates" / "html5tok" / "out" / "html5tok"
+CRATES = pathlib.Path(__file__).resolve().parent.parent / "crates"
 BATCH = 50  # cases that a process runs at once
 
 
 @dataclass(frozen=True)
 class Comparison:
-    """What is compared: a program, by the cases of a seed, with the model or with a peer."""
+    """What is compared: a program, by the cases of a seed, with a model or with a peer."""
 
     program: str
     seed: str
     peer: str | None
+    clean: bool
 
     def judge(self) -> Judge:
         if self.peer is None:
-            return Model(model)
+            return Model(cleaning if self.clean else model)
         from cases.peer import Html5lib
 
         return Html5lib()
 
     def case(self, number: int) -> Case:
+        if self.clean:
+            return clean_case_of(self.seed, number)
         return case_of(self.seed, number) if self.peer is None else peer_case_of(self.seed, number)
+
+    def cuts(self, case: Case, number: int) -> list[Case]:
+        """The case, and for html5tok the same in pieces."""
+        return [case] if self.clean else [case, case.with_word("--cut", CUTS[number % len(CUTS)])]
 
 
 @dataclass
@@ -86,7 +98,7 @@ def run_batch(comparison: Comparison, numbers: range) -> Counts:
             continue
         counts.cases += 1
         counts.exact += case.has("--exact")
-        for cut in (case, case.with_word("--cut", CUTS[number % len(CUTS)])):
+        for cut in comparison.cuts(case, number):
             counts.runs += 1
             if judge.of_program(run_program(comparison.program, cut)) != expected:
                 counts.differs = (number, cut)
@@ -121,7 +133,7 @@ def check_model():
 def compare(comparison: Comparison, cases: int) -> int:
     begun = time.monotonic()
     judge = comparison.judge()
-    if comparison.peer is None:
+    if comparison.peer is None and not comparison.clean:
         check_model()
     total = run_all(comparison, cases)
     if total.differs is not None:
@@ -131,6 +143,7 @@ def compare(comparison: Comparison, cases: int) -> int:
         print(difference(comparison.program, judge, comparison.peer or "the model", case))
     seconds = time.monotonic() - begun
     kinds = f"{total.exact} with exact errors" if comparison.peer is None else f"{total.skipped} more skipped"
+    kinds = "of cleaning" if comparison.clean else kinds
     print(f"{total.cases} cases ({kinds}), {total.runs} runs, seed {comparison.seed}, {seconds:.0f} seconds")
     return 0 if total.differs is None else 1
 
@@ -145,12 +158,13 @@ def end_batch(comparison: Comparison, numbers: range) -> list[tuple[Case, Ended]
 
 def self_test(comparison: Comparison, cases: int) -> int:
     """Says at which case each planted change is found."""
-    from cases.planted import load_all
+    from cases.planted import CHANGES, CLEANING_CHANGES, load_all
 
     with multiprocessing.Pool() as pool:
         ended = sum(pool.starmap(end_batch, [(comparison, numbers) for numbers in batches(cases)]), [])
     missed = 0
-    for change, planted in load_all():
+    changes, module = (CLEANING_CHANGES, "cleaning") if comparison.clean else (CHANGES, "program")
+    for change, planted in load_all(changes, module):
         judge = Model(planted)
         found = next((number for number, (case, end) in enumerate(ended) if judge.expected(case) != end), None)
         missed += found is None
@@ -163,7 +177,8 @@ def arguments() -> argparse.Namespace:
     parser = argparse.ArgumentParser(description=__doc__, formatter_class=argparse.RawDescriptionHelpFormatter)
     parser.add_argument("--cases", type=int, default=5000, help="how many cases; without it 5000")
     parser.add_argument("--seed", default="1", help="a word that chooses the cases, or `today`; without it 1")
-    parser.add_argument("--program", default=str(PROGRAM), help="without it crates/html5tok/out/html5tok")
+    parser.add_argument("--program", help="without it crates/html5tok/out/html5tok, or with --clean that of html5clean")
+    parser.add_argument("--clean", action="store_true", help="compare html5clean with a model of cleaning")
     parser.add_argument("--peer", choices=["html5lib"], help="compare with this tokenizer, and not with the model")
     parser.add_argument("--self-test", action="store_true", help="plant wrong changes in the model, and find each")
     return parser.parse_args()
@@ -172,10 +187,12 @@ def arguments() -> argparse.Namespace:
 def main() -> int:
     said = arguments()
     seed = datetime.date.today().isoformat() if said.seed == "today" else said.seed
-    if not os.access(said.program, os.X_OK):
-        print(f"{said.program}: no such program; `rt ci` leaves it there", file=sys.stderr)
+    name = "html5clean" if said.clean else "html5tok"
+    program = said.program or str(CRATES / name / "out" / name)
+    if not os.access(program, os.X_OK):
+        print(f"{program}: no such program; `rt ci` leaves it there", file=sys.stderr)
         return 2
-    comparison = Comparison(said.program, seed, said.peer)
+    comparison = Comparison(program, seed, said.peer, said.clean)
     return self_test(comparison, said.cases) if said.self_test else compare(comparison, said.cases)
 
 

@@ -48,10 +48,26 @@ CHANGES = (
     Change("</titles> ends a title", "raw_text", " and ends_name(reading.next(place + 2 + len(letters)))", ""),
     Change("the end is no error in escaped script data", "reading", "if mode.kind in ESCAPED_KINDS:", "if False:"),
 )
+CLEANING_CHANGES = (
+    Change("a scheme is compared with its case", "cleaning", '.translate(str.maketrans("ABCDEFGHIJKLMNOPQRSTUVWXYZ", "abcdefghijklmnopqrstuvwxyz"))', ""),
+    Change("an address is no longer one after white space", "cleaning", 're.sub("[\\0- ]", "", address)', "address"),
+    Change("a colon after a solidus is that of a scheme", "cleaning", 're.match("[^/?#]*", address)', 're.match("[^?#]*", address)'),
+    Change("a void element hides what follows it", "cleaning", "tag.name not in VOID and not (tag.self_closing", "not (tag.self_closing"),
+    Change("<svg/> hides what follows it", "cleaning", " and not (tag.self_closing and tag.name in FOREIGN)", ""),
+    Change("the first end tag ends what is hidden", "cleaning", "self.depth += -1 if tag.is_end else int(opens)", "self.depth = 0 if tag.is_end else self.depth"),
+    Change("any end tag ends what is hidden", "cleaning", "elif tag.name == self.hidden:", "elif tag.is_end or tag.name == self.hidden:"),
+    Change("an end tag closes one element alone", "cleaning", "self.opened[::-1].index(name) + 1", "1"),
+    Change("the end closes nothing", "cleaning", "self.close(len(self.opened))", "self.close(0)"),
+    Change("rel is kept in links", "cleaning", 'if name == "rel" and self.writes_rel(element):', "if False:"),
+    Change("each a gets rel=noopener", "cleaning", 'and any(name == "href" for name, _ in attributes)', ""),
+    Change("end tags of void elements are kept", "cleaning", "            if tag.name not in VOID:\n                self.take_end", "            if True:\n                self.take_end"),
+    Change("a CR is written as it is", "cleaning", "'&<>\"\\r\\ufeff'", "'&<>\"\\ufeff'"),
+    Change("comments end what is hidden", "cleaning", "is_shown = self.depth == 0", "is_shown = self.depth == 0 or not isinstance(token, (Tag, End))"),
+)
 
 
-def load(change: Change, folder: str, number: int):
-    """The module `program` of a copy of the model with the change."""
+def load(change: Change, folder: str, number: int, name: str):
+    """The module of this name of a copy of the model with the change."""
     package = pathlib.Path(folder) / f"planted_{number}"
     shutil.copytree(MODEL, package, ignore=shutil.ignore_patterns("__pycache__"))
     module = package / f"{change.module}.py"
@@ -59,13 +75,13 @@ def load(change: Change, folder: str, number: int):
     if source.count(change.right) != 1:
         sys.exit(f"model/{module.name}: {change.right!r} stands there {source.count(change.right)} times, and not once")
     module.write_text(source.replace(change.right, change.wrong))
-    return importlib.import_module(f"{package.name}.program")
+    return importlib.import_module(f"{package.name}.{name}")
 
 
-def load_all() -> list:
-    """The changes, each with the module `program` of its copy."""
+def load_all(changes: tuple[Change, ...], name: str) -> list:
+    """The changes, each with the module of this name of its copy."""
     with tempfile.TemporaryDirectory() as folder:
         sys.path.insert(0, folder)
-        loaded = [(change, load(change, folder, number)) for number, change in enumerate(CHANGES)]
+        loaded = [(change, load(change, folder, number, name)) for number, change in enumerate(changes)]
         sys.path.remove(folder)
     return loaded
