@@ -1,4 +1,4 @@
-"""Compares html5tok with a model of the grammar, or with another tokenizer, on random texts; and html5clean with a model.
+"""Compares html5tok with a model of the grammar or another tokenizer, and html5clean with a model, on random texts.
 
     python3 tools/random_texts.py [--cases N] [--seed S] [--program PATH]
     python3 tools/random_texts.py --clean [--cases N] [--seed S]
@@ -13,8 +13,8 @@ with a command line, the program's lines and the model's.
 
 --clean compares html5clean with a model of cleaning (`tools/model/cleaning.py`), by its own policy and by those of
 tools/cases/policies. --peer html5lib compares with Debian's html5lib instead. `tools/cases/peer.py` says of what both speak.
---self-test plants wrong changes in copies of the model, and says at which case the comparison finds each; with --clean in
-that of cleaning.
+--self-test plants wrong changes in copies of the model, with --clean in that of cleaning, and says at which case the
+comparison finds each.
 
 Status 0: no difference, and each change was found. 1: a difference, or a change that was not found. 2: the program or
 html5lib is not there.
@@ -177,7 +177,7 @@ def arguments() -> argparse.Namespace:
     parser = argparse.ArgumentParser(description=__doc__, formatter_class=argparse.RawDescriptionHelpFormatter)
     parser.add_argument("--cases", type=int, default=5000, help="how many cases; without it 5000")
     parser.add_argument("--seed", default="1", help="a word that chooses the cases, or `today`; without it 1")
-    parser.add_argument("--program", help="without it crates/html5tok/out/html5tok, or with --clean that of html5clean")
+    parser.add_argument("--program", help="without it the html5tok or html5clean that `rt ci` left in crates/")
     parser.add_argument("--clean", action="store_true", help="compare html5clean with a model of cleaning")
     parser.add_argument("--peer", choices=["html5lib"], help="compare with this tokenizer, and not with the model")
     parser.add_argument("--self-test", action="store_true", help="plant wrong changes in the model, and find each")

@@ -12,9 +12,9 @@ POLICIES = sorted((pathlib.Path(__file__).resolve().parent / "policies").glob("*
 KEPT = ("a", "a", "b", "p", "p", "br", "img", "i", "li", "ul", "table", "td", "x-y", "form", "video", "source", "q")
 HIDING = ("svg", "math", "template", "noscript", "iframe", "script", "style", "title", "textarea", "xmp", "noembed")
 OTHERS = ("param", "meta", "base", "object", "image", "select", "plaintext", "body", "h\u0131", "k")
-ATTRIBUTES = ("href", "href", "href", "href", "src", "src", "title", "lang", "rel", "cite", "alt", "xlink:href", "onclick", "style", "id")
-ATTRIBUTES += ("data-x", "action", "poster", "content", "to", "class", "background", "srcset")
-SCHEMES = ("http:", "https:", "HTTPS:", "Http:", "mailto:", "ftp:", "javascript:", "JavaScript:", "data:", "blob:", "tel:", "x:")
+ATTRIBUTES = ("href", "href", "href", "href", "src", "src", "title", "lang", "rel", "cite", "alt", "xlink:href")
+ATTRIBUTES += ("onclick", "style", "id", "data-x", "action", "poster", "content", "to", "class", "background", "srcset")
+SCHEMES = ("http:", "https:", "HTTPS:", "Http:", "mailto:", "ftp:", "javascript:", "JavaScript:", "data:", "blob:")
 
 
 def clean_case_of(seed: str, number: int) -> Case:
@@ -66,4 +66,5 @@ class CleanMaker(Maker):
             scheme = scheme[:at] + passed + scheme[at:]
         if self.one_in(4):
             scheme = scheme.replace(":", self.one_of("&colon;", "&#58;", "&#x3a", ""))
-        return self.one_of("", "", "", "", "", " ", "&#9;", "/", "//", "?", "#") + scheme + self.one_of("", "/x", "//h/a:b", "a(1)")
+        before = self.one_of("", "", "", "", "", " ", "&#9;", "/", "//", "?", "#")
+        return before + scheme + self.one_of("", "/x", "//h/a:b", "a(1)")

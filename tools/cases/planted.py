@@ -48,21 +48,28 @@ CHANGES = (
     Change("</titles> ends a title", "raw_text", " and ends_name(reading.next(place + 2 + len(letters)))", ""),
     Change("the end is no error in escaped script data", "reading", "if mode.kind in ESCAPED_KINDS:", "if False:"),
 )
+def cleaning(name: str, right: str, wrong: str) -> Change:
+    return Change(name, "cleaning", right, wrong)
+
+
+HAS_CONTENT = "tag.name not in VOID and not (tag.self_closing and tag.name in FOREIGN)"
+END_OF_VOID = "            if tag.name not in VOID:\n                self.take_end"
+
 CLEANING_CHANGES = (
-    Change("a scheme is compared with its case", "cleaning", '.translate(str.maketrans("ABCDEFGHIJKLMNOPQRSTUVWXYZ", "abcdefghijklmnopqrstuvwxyz"))', ""),
-    Change("an address is no longer one after white space", "cleaning", 're.sub("[\\0- ]", "", address)', "address"),
-    Change("a colon after a solidus is that of a scheme", "cleaning", 're.match("[^/?#]*", address)', 're.match("[^?#]*", address)'),
-    Change("a void element hides what follows it", "cleaning", "tag.name not in VOID and not (tag.self_closing", "not (tag.self_closing"),
-    Change("<svg/> hides what follows it", "cleaning", " and not (tag.self_closing and tag.name in FOREIGN)", ""),
-    Change("the first end tag ends what is hidden", "cleaning", "self.depth += -1 if tag.is_end else int(opens)", "self.depth = 0 if tag.is_end else self.depth"),
-    Change("any end tag ends what is hidden", "cleaning", "elif tag.name == self.hidden:", "elif tag.is_end or tag.name == self.hidden:"),
-    Change("an end tag closes one element alone", "cleaning", "self.opened[::-1].index(name) + 1", "1"),
-    Change("the end closes nothing", "cleaning", "self.close(len(self.opened))", "self.close(0)"),
-    Change("rel is kept in links", "cleaning", 'if name == "rel" and self.writes_rel(element):', "if False:"),
-    Change("each a gets rel=noopener", "cleaning", 'and any(name == "href" for name, _ in attributes)', ""),
-    Change("end tags of void elements are kept", "cleaning", "            if tag.name not in VOID:\n                self.take_end", "            if True:\n                self.take_end"),
-    Change("a CR is written as it is", "cleaning", "'&<>\"\\r\\ufeff'", "'&<>\"\\ufeff'"),
-    Change("comments end what is hidden", "cleaning", "is_shown = self.depth == 0", "is_shown = self.depth == 0 or not isinstance(token, (Tag, End))"),
+    cleaning("a scheme is compared with its case", "lower_case(re.sub(", "str(re.sub("),
+    cleaning("an address is no longer one after white space", 're.sub("[\\0- ]", "", address)', "address"),
+    cleaning("a colon after a solidus is that of a scheme", '"[^/?#]*"', '"[^?#]*"'),
+    cleaning("a void element hides what follows it", HAS_CONTENT, HAS_CONTENT.removeprefix("tag.name not in VOID and ")),
+    cleaning("<svg/> hides what follows it", HAS_CONTENT, "tag.name not in VOID"),
+    cleaning("the first end tag ends what is hidden", "+= -1 if tag.is_end", "= 0 if tag.is_end"),
+    cleaning("any end tag ends what is hidden", "elif tag.name == self.hidden:", "elif tag.is_end or tag.name == self.hidden:"),
+    cleaning("an end tag closes one element alone", "self.opened[::-1].index(name) + 1", "1"),
+    cleaning("the end closes nothing", "self.close(len(self.opened))", "self.close(0)"),
+    cleaning("rel is kept in links", 'if name == "rel" and self.writes_rel(element):', "if False:"),
+    cleaning("each a gets rel=noopener", 'and any(name == "href" for name, _ in attributes)', ""),
+    cleaning("end tags of void elements are kept", END_OF_VOID, END_OF_VOID.replace("tag.name not in VOID", "True")),
+    cleaning("a CR is written as it is", "\\r", ""),
+    cleaning("comments are shown through what hides", "is_shown = self.depth == 0", "is_shown = not isinstance(token, Tag)"),
 )
 
 

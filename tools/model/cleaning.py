@@ -8,6 +8,7 @@ import pathlib
 import re
 from dataclasses import dataclass, field
 
+from .characters import lower_case
 from .items import messages
 from .messages import End, Error, Tag, Text
 from .reading import DATA, Reading, normalised, table_of
@@ -80,7 +81,7 @@ class Policy:
         """Whether an address is relative, or of one of the schemes."""
         if ":" not in re.match("[^/?#]*", address).group():
             return True
-        squeezed = re.sub("[\0- ]", "", address).translate(str.maketrans("ABCDEFGHIJKLMNOPQRSTUVWXYZ", "abcdefghijklmnopqrstuvwxyz"))
+        squeezed = lower_case(re.sub("[\0- ]", "", address))
         return any(squeezed.startswith(scheme + ":") for scheme in self.schemes)
 
 
