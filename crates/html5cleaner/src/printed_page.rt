@@ -1,6 +1,6 @@
 //! Pages that are cleaned and printed as they arrive.
 ghost use Rattle.std.specs.Prelude.{◌≡◌, ◌≢◌, ℕ, ◌+◌, ◌-◌, ◌^◌, List, Err, OnOk, OnErr, true};
-ghost use Rattle.html5stream.specs.Pages.{ReadsPage, ReadsPageItems, StopsPage, runs_page, runs_handed, runs_after};
+ghost use Rattle.html5stream.specs.Pages.{ReadsPage, ReadsPageItems, StopsPage, passage_of, runs_page, runs_handed, runs_after};
 ghost use Rattle.html5stream.specs.Streams.{GivesNoText, GivesNoFault, GivesAtLeast, failed_reads};
 ghost use Rattle.html5ever_interface.specs.Sink.{Message};
 ghost use Rattle.std.specs.List.{list_all};
@@ -32,11 +32,9 @@ fn read_printed<R: Source, W: Target, A: Allocator + Copy>(
     references: &NamedReferences<A>,
 ) -> (CleanPrinter<W, A>, Result<(), StreamError>)
     ensures finishes { OnOk result.1 (ReadsPage (runs_after cleaning_step references.now)
-        (R.remaining source.old) (R.remaining source.new)
-        (page_start (standing_of cleaner)) (cleaning_of result.0)) }
+        (passage_of R.remaining source.old source.new (page_start (standing_of cleaner)) (cleaning_of result.0))) }
     ensures beginning { OnErr result.1 (StopsPage (runs_page cleaning_step references.now) (runs_handed cleaning_step)
-        (R.remaining source.old) (R.remaining source.new)
-        (page_start (standing_of cleaner)) (cleaning_of result.0)) }
+        (passage_of R.remaining source.old source.new (page_start (standing_of cleaner)) (cleaning_of result.0))) }
     ensures not_utf8 { (place : ℕ) → result.1 ≡ Err (StreamError.NotUtf8 place)
         → GivesNoText place (R.remaining source.old) (R.remaining source.new) }
     ensures no_fault { ((place : ℕ) → result.1 ≢ Err (StreamError.NotUtf8 place))
@@ -56,11 +54,11 @@ pub fn print_cleaned<R: Source, W: Target, A: Allocator + Copy>(
     references: &NamedReferences<A>,
 ) -> (CleanPrinter<W, A>, Result<(), StreamError>)
     ensures finishes { OnOk result.1 (ReadsPage (λ s bytes. printed_of s (page_messages references.now s bytes))
-        (R.remaining source.old) (R.remaining source.new) (standing_of cleaner) (standing_of result.0)) }
+        (passage_of R.remaining source.old source.new (standing_of cleaner) (standing_of result.0))) }
     ensures items { OnOk result.1 (ReadsPageItems (PageItems references.now) printed_of
-        (R.remaining source.old) (R.remaining source.new) (standing_of cleaner) (standing_of result.0)) }
+        (passage_of R.remaining source.old source.new (standing_of cleaner) (standing_of result.0))) }
     ensures beginning { OnErr result.1 (StopsPage (page_messages references.now) printed_of
-        (R.remaining source.old) (R.remaining source.new) (standing_of cleaner) (standing_of result.0)) }
+        (passage_of R.remaining source.old source.new (standing_of cleaner) (standing_of result.0))) }
     ensures not_utf8 { (place : ℕ) → result.1 ≡ Err (StreamError.NotUtf8 place)
         → GivesNoText place (R.remaining source.old) (R.remaining source.new) }
     ensures no_fault { ((place : ℕ) → result.1 ≢ Err (StreamError.NotUtf8 place))

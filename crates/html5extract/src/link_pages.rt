@@ -1,6 +1,6 @@
 //! Pages whose links are printed as they arrive.
 ghost use Rattle.std.specs.Prelude.{◌≡◌, ◌≢◌, ℕ, ◌+◌, ◌-◌, ◌^◌, Err, OnOk, OnErr};
-ghost use Rattle.html5stream.specs.Pages.{ReadsPage, ReadsPageItems, StopsPage, TagsItems, tags_page, tags_handed, tags_after};
+ghost use Rattle.html5stream.specs.Pages.{ReadsPage, ReadsPageItems, StopsPage, passage_of, TagsItems, tags_page, tags_handed, tags_after};
 ghost use Rattle.html5stream.specs.Streams.{GivesNoText, GivesNoFault, GivesAtLeast, failed_reads};
 ghost use Rattle.html5extract.specs.Links.{links_step};
 
@@ -19,14 +19,11 @@ pub fn read_links<R: Source, W: Target, A: Allocator + Copy>(
     references: &NamedReferences<A>,
 ) -> (Links<W, A>, Result<(), StreamError>)
     ensures finishes { OnOk result.1 (ReadsPage (tags_after links_step references.now)
-        (R.remaining source.old) (R.remaining source.new)
-        links.printer.printed result.0.printer.printed) }
+        (passage_of R.remaining source.old source.new links.printer.printed result.0.printer.printed)) }
     ensures items { OnOk result.1 (ReadsPageItems (TagsItems links_step references.now) (tags_handed links_step)
-        (R.remaining source.old) (R.remaining source.new)
-        links.printer.printed result.0.printer.printed) }
+        (passage_of R.remaining source.old source.new links.printer.printed result.0.printer.printed)) }
     ensures beginning { OnErr result.1 (StopsPage (tags_page links_step references.now) (tags_handed links_step)
-        (R.remaining source.old) (R.remaining source.new)
-        links.printer.printed result.0.printer.printed) }
+        (passage_of R.remaining source.old source.new links.printer.printed result.0.printer.printed)) }
     ensures not_utf8 { (place : ℕ) → result.1 ≡ Err (StreamError.NotUtf8 place)
         → GivesNoText place (R.remaining source.old) (R.remaining source.new) }
     ensures no_fault { ((place : ℕ) → result.1 ≢ Err (StreamError.NotUtf8 place))

@@ -9,7 +9,7 @@ use std::fmt::Display;
 pub trait Filter<W: Target + Drop>: Drop {
     ghost use Rattle.std.specs.Prelude.{◌≡◌, ℕ, ◌+◌, List, Some, IfOk, OnOk, OnErr};
     ghost use Rattle.html5programs.specs.Filtering.{Filtering};
-    ghost use Rattle.html5stream.specs.Pages.{ReadsPage, StopsPage};
+    ghost use Rattle.html5stream.specs.Pages.{ReadsPage, StopsPage, passage_of};
     ghost use Rattle.html5stream.specs.Streams.{failed_reads};
 
     /// What a filter goes by, and why a text of settings says none.
@@ -43,11 +43,9 @@ pub trait Filter<W: Target + Drop>: Drop {
         references: &NamedReferences,
     ) -> (Self, Result<(), StreamError>)
         ensures finishes { OnOk result.1 (ReadsPage (λ s bytes. means.handed s (means.page references.now s bytes))
-            (R.remaining source.old) (R.remaining source.new)
-            (means.begun (means.state self)) (means.state result.0)) }
+            (passage_of R.remaining source.old source.new (means.begun (means.state self)) (means.state result.0))) }
         ensures beginning { OnErr result.1 (StopsPage (means.page references.now) means.handed
-            (R.remaining source.old) (R.remaining source.new)
-            (means.begun (means.state self)) (means.state result.0)) }
+            (passage_of R.remaining source.old source.new (means.begun (means.state self)) (means.state result.0))) }
         ensures read { R.failures source.new ≡ R.failures source.old + failed_reads result.1 };
 
     /// The printer, with what was printed.
