@@ -10,12 +10,12 @@ ghost use Rattle.html5cleaner.specs.Clean.{at_start, clean_step};
 ghost use Rattle.html5cleaner.specs.Cleaning.{page_start, cleaning_of, cleaning_step, PageItems, page_messages, printed_of, standing_of};
 
 use crate::clean_printer::CleanPrinter;
+use crate::settings::PolicySettings;
 use devices::{Printer, Source, Target};
-use html5policy::{Policy, PolicyError};
 use html5programs::Filter;
 use html5stream::{StreamError, read_tokens};
 use markup5ever::data::NamedReferences;
-use std::alloc::{AllocError, Allocator, Global};
+use std::alloc::{Allocator, Global};
 
 /// The pieces that are kept of any messages, as those of a page or of a beginning of it, are clean: so
 /// `laws::cleaned_page` says how what is printed of a page is read.
@@ -77,39 +77,25 @@ pub fn print_cleaned<R: Source, W: Target, A: Allocator + Copy>(
 }
 
 impl<W: Target + Drop> Filter<W> for CleanPrinter<W> {
-    ghost use Rattle.html5policy.specs.Standard.{standard_policy};
-    ghost use Rattle.html5policy.specs.Text.{policy_said};
-    ghost use Rattle.html5cleaner.specs.Cleaning.{Standing, page_messages, policy_in, printed_of, standing_of};
+    ghost use Rattle.html5cleaner.specs.Cleaning.{Standing, page_messages, printed_of, standing_of};
 
-    type Settings = Policy;
-
-    type Fault = PolicyError;
+    type Settings = PolicySettings;
 
     ghost State = { Standing };
 
     ghost means = { record {
       state = standing_of;
-      unsaid = standard_policy;
-      said = λ text. policy_in (policy_said text);
-      started = λ policy printed. record { policy = policy; printed = printed };
+      started = λ settings printed. record { policy = settings.policy; printed = printed };
       begun = λ s. s;
       page = page_messages;
       handed = printed_of;
       printed = λ s. s.printed;
     } };
 
-    fn default_settings(alloc: Global) -> Result<Policy, AllocError> {
-        Policy::standard(alloc)
-    }
-
-    fn settings_of(alloc: Global, text: &str) -> Result<Policy, PolicyError> {
-        Policy::parse(alloc, text)
-    }
-
-    fn new(alloc: Global, printer: Printer<W>, policy: Policy) -> CleanPrinter<W>
-        ensures { standing_of result ≡ record { policy = policy; printed = printer.printed } }
+    fn new(alloc: Global, printer: Printer<W>, settings: PolicySettings) -> CleanPrinter<W>
+        ensures { standing_of result ≡ record { policy = settings.policy; printed = printer.printed } }
     {
-        CleanPrinter::new(alloc, printer, policy)
+        CleanPrinter::new(alloc, printer, settings.policy)
     }
 
     fn read_page<R: Source>(
