@@ -5,7 +5,7 @@ use Rattle.std.proofs.lemmas.List.Concat.{flat_map-append}
 use Rattle.std.proofs.lemmas.Str.{encodes-append}
 use Rattle.html5ever_interface.specs.Sink.{Message}
 use Rattle.html5ever_interface.specs.Token.{Told}
-use Rattle.html5stream.specs.Pages.{ReadsPage, ReadsPageItems, StopsPage, runs_after, runs_handed, runs_page}
+use Rattle.html5stream.specs.Pages.{Passage, ReadsPage, ReadsPageItems, StopsPage, passage_of, runs_after, runs_handed, runs_page}
 use Rattle.html5stream.proofs.Handed.{between-handed, kept-handed}
 use Rattle.html5stream.proofs.ByItems.{page-items, runs-composed}
 use Rattle.markup5ever.specs.NamedReferences.{NamedReference, IsTable}
@@ -76,8 +76,8 @@ standing-handed s M =
 
 -- a page that was read is printed as it is kept
 pub reads_printed : (references : List NamedReference) (unread left : Option (List ℕ)) (before : Standing) (after : Cleaning)
-    → ReadsPage (runs_after cleaning_step references) unread left (page_start before) after
-    → ReadsPage (λ s bytes. printed_of s (page_messages references s bytes)) unread left before (standing after)
+    → ReadsPage (runs_after cleaning_step references) (passage_of (λ k. k) unread left (page_start before) after)
+    → ReadsPage (λ s bytes. printed_of s (page_messages references s bytes)) (passage_of (λ k. k) unread left before (standing after))
 reads_printed references unread left before after read = record {
   bytes = read.bytes;
   consumed = read.consumed;
@@ -89,16 +89,16 @@ reads_printed references unread left before after read = record {
 }
 
 -- and as the messages of its items say
-pub items_printed : (references : List NamedReference) (unread left : Option (List ℕ)) (before after : Standing) → IsTable references
-    → ReadsPage (λ s bytes. printed_of s (page_messages references s bytes)) unread left before after
-    → ReadsPageItems (PageItems references) printed_of unread left before after
-items_printed references unread left before after table =
-    page-items (page_messages references) printed_of (PageItems references) unread left before after
-    (λ bytes. runs-composed clean_step references (at_start before.policy) bytes table)
+pub items_printed : (references : List NamedReference) (known : Passage Standing) → IsTable references
+    → ReadsPage (λ s bytes. printed_of s (page_messages references s bytes)) known
+    → ReadsPageItems (PageItems references) printed_of known
+items_printed references known table =
+    page-items (page_messages references) printed_of (PageItems references) known
+    (λ bytes. runs-composed clean_step references (at_start known.before.policy) bytes table)
 
 pub stops_printed : (references : List NamedReference) (unread left : Option (List ℕ)) (before : Standing) (after : Cleaning)
-    → StopsPage (runs_page cleaning_step references) (runs_handed cleaning_step) unread left (page_start before) after
-    → StopsPage (page_messages references) printed_of unread left before (standing after)
+    → StopsPage (runs_page cleaning_step references) (runs_handed cleaning_step) (passage_of (λ k. k) unread left (page_start before) after)
+    → StopsPage (page_messages references) printed_of (passage_of (λ k. k) unread left before (standing after))
 stops_printed references unread left before after read = record {
   text = read.text;
   rest = read.rest;

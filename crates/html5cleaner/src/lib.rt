@@ -13,8 +13,10 @@ mod names;
 mod open_elements;
 mod page;
 mod printed_page;
+mod settings;
 
 pub use crate::clean_printer::CleanPrinter;
 pub use crate::cleaner::Cleaner;
 pub use crate::page::{clean_page, clean_text};
 pub use crate::printed_page::{print_cleaned, prints_clean_pieces};
+pub use crate::settings::PolicySettings;

@@ -1,7 +1,7 @@
 //! Pages that are cleaned as they arrive.
 ghost use Rattle.std.specs.Prelude.{◌≡◌, ◌≢◌, ℕ, ◌+◌, ◌-◌, ◌^◌, Err, IfOk, OnOk, OnErr, true};
 ghost use Rattle.std.specs.List.{list_all};
-ghost use Rattle.html5stream.specs.Pages.{ReadsPage, ReadsPageItems, StopsPage, RunsItems, runs_page, runs_handed, runs_after};
+ghost use Rattle.html5stream.specs.Pages.{ReadsPage, ReadsPageItems, StopsPage, passage_of, RunsItems, runs_page, runs_handed, runs_after};
 ghost use Rattle.html5stream.specs.Streams.{GivesNoText, GivesNoFault, GivesAtLeast, failed_reads};
 ghost use Rattle.html5cleaner.specs.Allowed.{is_clean};
 ghost use Rattle.html5cleaner.specs.Clean.{at_start, clean_step};
@@ -23,11 +23,11 @@ pub fn clean_page<'p, R: Source, A: Allocator + Copy>(
     policy: &'p Policy<A>,
 ) -> (Cleaner<'p, A>, Result<(), StreamError>)
     ensures finishes { OnOk result.1 (ReadsPage (runs_after clean_step references.now)
-        (R.remaining source.old) (R.remaining source.new) (at_start policy.now) result.0) }
+        (passage_of R.remaining source.old source.new (at_start policy.now) result.0)) }
     ensures items { OnOk result.1 (ReadsPageItems (RunsItems clean_step references.now) (runs_handed clean_step)
-        (R.remaining source.old) (R.remaining source.new) (at_start policy.now) result.0) }
+        (passage_of R.remaining source.old source.new (at_start policy.now) result.0)) }
     ensures beginning { OnErr result.1 (StopsPage (runs_page clean_step references.now) (runs_handed clean_step)
-        (R.remaining source.old) (R.remaining source.new) (at_start policy.now) result.0) }
+        (passage_of R.remaining source.old source.new (at_start policy.now) result.0)) }
     ensures not_utf8 { (place : ℕ) → result.1 ≡ Err (StreamError.NotUtf8 place)
         → GivesNoText place (R.remaining source.old) (R.remaining source.new) }
     ensures no_fault { ((place : ℕ) → result.1 ≢ Err (StreamError.NotUtf8 place))

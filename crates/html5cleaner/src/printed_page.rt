@@ -1,6 +1,6 @@
 //! Pages that are cleaned and printed as they arrive.
 ghost use Rattle.std.specs.Prelude.{◌≡◌, ◌≢◌, ℕ, ◌+◌, ◌-◌, ◌^◌, List, Err, OnOk, OnErr, true};
-ghost use Rattle.html5stream.specs.Pages.{ReadsPage, ReadsPageItems, StopsPage, runs_page, runs_handed, runs_after};
+ghost use Rattle.html5stream.specs.Pages.{ReadsPage, ReadsPageItems, StopsPage, passage_of, runs_page, runs_handed, runs_after};
 ghost use Rattle.html5stream.specs.Streams.{GivesNoText, GivesNoFault, GivesAtLeast, failed_reads};
 ghost use Rattle.html5ever_interface.specs.Sink.{Message};
 ghost use Rattle.std.specs.List.{list_all};
@@ -10,12 +10,12 @@ ghost use Rattle.html5cleaner.specs.Clean.{at_start, clean_step};
 ghost use Rattle.html5cleaner.specs.Cleaning.{page_start, cleaning_of, cleaning_step, PageItems, page_messages, printed_of, standing_of};
 
 use crate::clean_printer::CleanPrinter;
+use crate::settings::PolicySettings;
 use devices::{Printer, Source, Target};
-use html5policy::{Policy, PolicyError};
 use html5programs::Filter;
 use html5stream::{StreamError, read_tokens};
 use markup5ever::data::NamedReferences;
-use std::alloc::{AllocError, Allocator, Global};
+use std::alloc::{Allocator, Global};
 
 /// The pieces that are kept of any messages, as those of a page or of a beginning of it, are clean: so
 /// `laws::cleaned_page` says how what is printed of a page is read.
@@ -32,11 +32,9 @@ fn read_printed<R: Source, W: Target, A: Allocator + Copy>(
     references: &NamedReferences<A>,
 ) -> (CleanPrinter<W, A>, Result<(), StreamError>)
     ensures finishes { OnOk result.1 (ReadsPage (runs_after cleaning_step references.now)
-        (R.remaining source.old) (R.remaining source.new)
-        (page_start (standing_of cleaner)) (cleaning_of result.0)) }
+        (passage_of R.remaining source.old source.new (page_start (standing_of cleaner)) (cleaning_of result.0))) }
     ensures beginning { OnErr result.1 (StopsPage (runs_page cleaning_step references.now) (runs_handed cleaning_step)
-        (R.remaining source.old) (R.remaining source.new)
-        (page_start (standing_of cleaner)) (cleaning_of result.0)) }
+        (passage_of R.remaining source.old source.new (page_start (standing_of cleaner)) (cleaning_of result.0))) }
     ensures not_utf8 { (place : ℕ) → result.1 ≡ Err (StreamError.NotUtf8 place)
         → GivesNoText place (R.remaining source.old) (R.remaining source.new) }
     ensures no_fault { ((place : ℕ) → result.1 ≢ Err (StreamError.NotUtf8 place))
@@ -56,11 +54,11 @@ pub fn print_cleaned<R: Source, W: Target, A: Allocator + Copy>(
     references: &NamedReferences<A>,
 ) -> (CleanPrinter<W, A>, Result<(), StreamError>)
     ensures finishes { OnOk result.1 (ReadsPage (λ s bytes. printed_of s (page_messages references.now s bytes))
-        (R.remaining source.old) (R.remaining source.new) (standing_of cleaner) (standing_of result.0)) }
+        (passage_of R.remaining source.old source.new (standing_of cleaner) (standing_of result.0))) }
     ensures items { OnOk result.1 (ReadsPageItems (PageItems references.now) printed_of
-        (R.remaining source.old) (R.remaining source.new) (standing_of cleaner) (standing_of result.0)) }
+        (passage_of R.remaining source.old source.new (standing_of cleaner) (standing_of result.0))) }
     ensures beginning { OnErr result.1 (StopsPage (page_messages references.now) printed_of
-        (R.remaining source.old) (R.remaining source.new) (standing_of cleaner) (standing_of result.0)) }
+        (passage_of R.remaining source.old source.new (standing_of cleaner) (standing_of result.0))) }
     ensures not_utf8 { (place : ℕ) → result.1 ≡ Err (StreamError.NotUtf8 place)
         → GivesNoText place (R.remaining source.old) (R.remaining source.new) }
     ensures no_fault { ((place : ℕ) → result.1 ≢ Err (StreamError.NotUtf8 place))
@@ -79,39 +77,25 @@ pub fn print_cleaned<R: Source, W: Target, A: Allocator + Copy>(
 }
 
 impl<W: Target + Drop> Filter<W> for CleanPrinter<W> {
-    ghost use Rattle.html5policy.specs.Standard.{standard_policy};
-    ghost use Rattle.html5policy.specs.Text.{policy_said};
-    ghost use Rattle.html5cleaner.specs.Cleaning.{Standing, page_messages, policy_in, printed_of, standing_of};
+    ghost use Rattle.html5cleaner.specs.Cleaning.{Standing, page_messages, printed_of, standing_of};
 
-    type Settings = Policy;
-
-    type Fault = PolicyError;
+    type Settings = PolicySettings;
 
     ghost State = { Standing };
 
     ghost means = { record {
       state = standing_of;
-      unsaid = standard_policy;
-      said = λ text. policy_in (policy_said text);
-      started = λ policy printed. record { policy = policy; printed = printed };
+      started = λ settings printed. record { policy = settings.policy; printed = printed };
       begun = λ s. s;
       page = page_messages;
       handed = printed_of;
       printed = λ s. s.printed;
     } };
 
-    fn default_settings(alloc: Global) -> Result<Policy, AllocError> {
-        Policy::standard(alloc)
-    }
-
-    fn settings_of(alloc: Global, text: &str) -> Result<Policy, PolicyError> {
-        Policy::parse(alloc, text)
-    }
-
-    fn new(alloc: Global, printer: Printer<W>, policy: Policy) -> CleanPrinter<W>
-        ensures { standing_of result ≡ record { policy = policy; printed = printer.printed } }
+    fn new(alloc: Global, printer: Printer<W>, settings: PolicySettings) -> CleanPrinter<W>
+        ensures { standing_of result ≡ record { policy = settings.policy; printed = printer.printed } }
     {
-        CleanPrinter::new(alloc, printer, policy)
+        CleanPrinter::new(alloc, printer, settings.policy)
     }
 
     fn read_page<R: Source>(

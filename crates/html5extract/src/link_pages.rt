@@ -1,6 +1,6 @@
 //! Pages whose links are printed as they arrive.
 ghost use Rattle.std.specs.Prelude.{◌≡◌, ◌≢◌, ℕ, ◌+◌, ◌-◌, ◌^◌, Err, OnOk, OnErr};
-ghost use Rattle.html5stream.specs.Pages.{ReadsPage, ReadsPageItems, StopsPage, TagsItems, tags_page, tags_handed, tags_after};
+ghost use Rattle.html5stream.specs.Pages.{ReadsPage, ReadsPageItems, StopsPage, passage_of, TagsItems, tags_page, tags_handed, tags_after};
 ghost use Rattle.html5stream.specs.Streams.{GivesNoText, GivesNoFault, GivesAtLeast, failed_reads};
 ghost use Rattle.html5extract.specs.Links.{links_step};
 
@@ -9,7 +9,7 @@ use devices::{Printer, Source, Target};
 use html5programs::Filter;
 use html5stream::{StreamError, read_tags};
 use markup5ever::data::NamedReferences;
-use std::alloc::{AllocError, Allocator, Global};
+use std::alloc::{Allocator, Global};
 
 /// Reads a page, and prints its links as it arrives, in the order in which they stand there.
 pub fn read_links<R: Source, W: Target, A: Allocator + Copy>(
@@ -19,14 +19,11 @@ pub fn read_links<R: Source, W: Target, A: Allocator + Copy>(
     references: &NamedReferences<A>,
 ) -> (Links<W, A>, Result<(), StreamError>)
     ensures finishes { OnOk result.1 (ReadsPage (tags_after links_step references.now)
-        (R.remaining source.old) (R.remaining source.new)
-        links.printer.printed result.0.printer.printed) }
+        (passage_of R.remaining source.old source.new links.printer.printed result.0.printer.printed)) }
     ensures items { OnOk result.1 (ReadsPageItems (TagsItems links_step references.now) (tags_handed links_step)
-        (R.remaining source.old) (R.remaining source.new)
-        links.printer.printed result.0.printer.printed) }
+        (passage_of R.remaining source.old source.new links.printer.printed result.0.printer.printed)) }
     ensures beginning { OnErr result.1 (StopsPage (tags_page links_step references.now) (tags_handed links_step)
-        (R.remaining source.old) (R.remaining source.new)
-        links.printer.printed result.0.printer.printed) }
+        (passage_of R.remaining source.old source.new links.printer.printed result.0.printer.printed)) }
     ensures not_utf8 { (place : ℕ) → result.1 ≡ Err (StreamError.NotUtf8 place)
         → GivesNoText place (R.remaining source.old) (R.remaining source.new) }
     ensures no_fault { ((place : ℕ) → result.1 ≢ Err (StreamError.NotUtf8 place))
@@ -39,34 +36,22 @@ pub fn read_links<R: Source, W: Target, A: Allocator + Copy>(
 }
 
 impl<W: Target + Drop> Filter<W> for Links<W> {
-    ghost use Rattle.std.specs.Prelude.{ℕ, List, Some};
+    ghost use Rattle.std.specs.Prelude.{ℕ, List};
     ghost use Rattle.html5stream.specs.Pages.{tags_page, tags_handed};
     ghost use Rattle.html5extract.specs.Links.{links_step};
 
     type Settings = ();
 
-    type Fault = AllocError;
-
     ghost State = { List ℕ };
 
     ghost means = { record {
       state = λ l. l.printer.printed;
-      unsaid = tt;
-      said = λ text. Some tt;
       started = λ settings printed. printed;
       begun = λ s. s;
       page = tags_page links_step;
       handed = tags_handed links_step;
       printed = λ s. s;
     } };
-
-    fn default_settings(_alloc: Global) -> Result<(), AllocError> {
-        Ok(())
-    }
-
-    fn settings_of(_alloc: Global, _text: &str) -> Result<(), AllocError> {
-        Ok(())
-    }
 
     fn new(alloc: Global, printer: Printer<W>, _settings: ()) -> Links<W>
         ensures { result.printer.printed ≡ printer.printed }

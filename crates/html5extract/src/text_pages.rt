@@ -1,6 +1,6 @@
 //! Pages whose text is printed as it arrives.
 ghost use Rattle.std.specs.Prelude.{◌≡◌, ◌≢◌, ℕ, ◌+◌, ◌-◌, ◌^◌, Err, OnOk, OnErr};
-ghost use Rattle.html5stream.specs.Pages.{ReadsPage, ReadsPageItems, StopsPage, RunsItems, runs_page, runs_handed, runs_after};
+ghost use Rattle.html5stream.specs.Pages.{ReadsPage, ReadsPageItems, StopsPage, passage_of, RunsItems, runs_page, runs_handed, runs_after};
 ghost use Rattle.html5stream.specs.Streams.{GivesNoText, GivesNoFault, GivesAtLeast, failed_reads};
 ghost use Rattle.html5extract.specs.PageText.{at_start, reading_of, text_step};
 
@@ -9,7 +9,7 @@ use devices::{Printer, Source, Target};
 use html5programs::Filter;
 use html5stream::{StreamError, read_tokens};
 use markup5ever::data::NamedReferences;
-use std::alloc::{AllocError, Allocator, Global};
+use std::alloc::{Allocator, Global};
 
 /// Reads a page, and prints its text as it arrives, without scripts and styles.
 pub fn read_text<R: Source, W: Target, A: Allocator + Copy>(
@@ -19,14 +19,11 @@ pub fn read_text<R: Source, W: Target, A: Allocator + Copy>(
     references: &NamedReferences<A>,
 ) -> (PageText<W, A>, Result<(), StreamError>)
     ensures finishes { OnOk result.1 (ReadsPage (runs_after text_step references.now)
-        (R.remaining source.old) (R.remaining source.new)
-        (at_start text.printer.printed) (reading_of result.0)) }
+        (passage_of R.remaining source.old source.new (at_start text.printer.printed) (reading_of result.0))) }
     ensures items { OnOk result.1 (ReadsPageItems (RunsItems text_step references.now) (runs_handed text_step)
-        (R.remaining source.old) (R.remaining source.new)
-        (at_start text.printer.printed) (reading_of result.0)) }
+        (passage_of R.remaining source.old source.new (at_start text.printer.printed) (reading_of result.0))) }
     ensures beginning { OnErr result.1 (StopsPage (runs_page text_step references.now) (runs_handed text_step)
-        (R.remaining source.old) (R.remaining source.new)
-        (at_start text.printer.printed) (reading_of result.0)) }
+        (passage_of R.remaining source.old source.new (at_start text.printer.printed) (reading_of result.0))) }
     ensures not_utf8 { (place : ℕ) → result.1 ≡ Err (StreamError.NotUtf8 place)
         → GivesNoText place (R.remaining source.old) (R.remaining source.new) }
     ensures no_fault { ((place : ℕ) → result.1 ≢ Err (StreamError.NotUtf8 place))
@@ -39,34 +36,21 @@ pub fn read_text<R: Source, W: Target, A: Allocator + Copy>(
 }
 
 impl<W: Target + Drop> Filter<W> for PageText<W> {
-    ghost use Rattle.std.specs.Prelude.{Some};
     ghost use Rattle.html5stream.specs.Pages.{runs_page, runs_handed};
     ghost use Rattle.html5extract.specs.PageText.{Reading, at_start, reading_of, text_step};
 
     type Settings = ();
 
-    type Fault = AllocError;
-
     ghost State = { Reading };
 
     ghost means = { record {
       state = reading_of;
-      unsaid = tt;
-      said = λ text. Some tt;
       started = λ settings printed. at_start printed;
       begun = λ s. at_start s.printed;
       page = runs_page text_step;
       handed = runs_handed text_step;
       printed = λ s. s.printed;
     } };
-
-    fn default_settings(_alloc: Global) -> Result<(), AllocError> {
-        Ok(())
-    }
-
-    fn settings_of(_alloc: Global, _text: &str) -> Result<(), AllocError> {
-        Ok(())
-    }
 
     fn new(alloc: Global, printer: Printer<W>, _settings: ()) -> PageText<W>
         ensures { reading_of result ≡ at_start printer.printed }

@@ -3,14 +3,14 @@ use Rattle.std.proofs.Common.{◌≡◌, ℕ, ◌+◌, ◌<◌, List, [], ◌∷
 use Rattle.std.specs.Borrow.{Bor}
 use Rattle.std.specs.Io.KnownBytes.{Consumes, IsAtEnd}
 use Rattle.std.proofs.lemmas.List.{take_more, map-append}
-use Rattle.html5stream.specs.Pages.{ReadsPage}
+use Rattle.html5stream.specs.Pages.{ReadsPage, passage_of}
 use Rattle.html5programs.specs.Filtering.{Filtering, IsInput, ReadsFile, ReadsFiles}
 use Rattle.markup5ever.specs.NamedReferences.{NamedReference}
 
 module _ {F T S : Type 0} (means : Filtering F T S) (references : List NamedReference) where
   -- standard input was read
   pub reads-input : (file : List ℕ) (unread left : Option (List ℕ)) (before after : S) → IsInput file
-      → ReadsPage (λ s bytes. means.handed s (means.page references s bytes)) unread left (means.begun before) after
+      → ReadsPage (λ s bytes. means.handed s (means.page references s bytes)) (passage_of (λ k. k) unread left (means.begun before) after)
       → ReadsFile means references file unread left before after
   reads-input file unread left before after is read = record {
     bytes = read.bytes;
@@ -22,7 +22,7 @@ module _ {F T S : Type 0} (means : Filtering F T S) (references : List NamedRefe
 
   -- another file was, and standard input is as it was
   pub reads-other : (file : List ℕ) (known unread left : Option (List ℕ)) (before after : S) → ¬ (IsInput file)
-      → ReadsPage (λ s bytes. means.handed s (means.page references s bytes)) unread left (means.begun before) after
+      → ReadsPage (λ s bytes. means.handed s (means.page references s bytes)) (passage_of (λ k. k) unread left (means.begun before) after)
       → ReadsFile means references file known known before after
   reads-other file known unread left before after another read = record {
     bytes = read.bytes;

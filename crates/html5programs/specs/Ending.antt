@@ -46,9 +46,9 @@ module _ {F T S : Type 0} (means : Filtering F T S) where
     pub printed : written ≡ means.printed after
 
   -- those that the words ask for were, by the table and the settings that they ask for
-  pub record PrintsAsked (asked : Asked) (unread left : Option (List ℕ)) (written : List ℕ) : Type 0 where
+  pub record PrintsAsked (unsaid : T) (said_by : List ℕ → Option T) (asked : Asked) (unread left : Option (List ℕ)) (written : List ℕ) : Type 0 where
     pub references : List NamedReference
     pub settings : T
     pub table : IsTableAsked asked.references references
-    pub said : AreSettingsAsked means asked.settings settings
+    pub said : AreSettingsAsked unsaid said_by asked.settings settings
     pub prints : PrintsFiles references settings (files_asked asked) unread left written

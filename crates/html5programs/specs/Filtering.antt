@@ -9,9 +9,6 @@ use Rattle.markup5ever.specs.NamedReferences.{NamedReference}
 pub record Filtering (F T S : Type 0) : Type 0 where
   -- where a filter stands
   pub state : F → S
-  -- the settings where no file of them is given, and those that a text says, if it says any
-  pub unsaid : T
-  pub said : List ℕ → Option T
   -- a filter with these settings, to whose printer this was printed
   pub started : T → List ℕ → S
   -- where a page begins, after what was read before
@@ -44,7 +41,7 @@ module _ {F T S : Type 0} (means : Filtering F T S) (references : List NamedRefe
       (now : Option (List ℕ)) × (between : S) × ReadsFile file unread now before between × ReadsFiles files now left between after
 
 -- the settings where no file of them is given, or those of a text. Which text the file holds no contract says.
-module _ {F T S : Type 0} (means : Filtering F T S) where
+module _ {T : Type 0} (unsaid : T) (said : List ℕ → Option T) where
   abbrev pub AreSettingsAsked : Option (List ℕ) → T → Type 0
-  AreSettingsAsked None settings = settings ≡ means.unsaid
-  AreSettingsAsked (Some path) settings = (text : List ℕ) × (means.said text ≡ Some settings)
+  AreSettingsAsked None settings = settings ≡ unsaid
+  AreSettingsAsked (Some path) settings = (text : List ℕ) × (said text ≡ Some settings)

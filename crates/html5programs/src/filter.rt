@@ -1,34 +1,24 @@
 //! What a program makes of pages.
+use crate::settings::Settings;
 use devices::{Printer, Source, Target};
 use html5stream::StreamError;
 use markup5ever::data::NamedReferences;
-use std::alloc::{AllocError, Global};
-use std::fmt::Display;
+use std::alloc::Global;
 
 /// What a program makes of the pages that it reads: what it prints.
 pub trait Filter<W: Target + Drop>: Drop {
-    ghost use Rattle.std.specs.Prelude.{◌≡◌, ℕ, ◌+◌, List, Some, IfOk, OnOk, OnErr};
+    ghost use Rattle.std.specs.Prelude.{◌≡◌, ℕ, ◌+◌, List, OnOk, OnErr};
     ghost use Rattle.html5programs.specs.Filtering.{Filtering};
-    ghost use Rattle.html5stream.specs.Pages.{ReadsPage, StopsPage};
+    ghost use Rattle.html5stream.specs.Pages.{ReadsPage, StopsPage, passage_of};
     ghost use Rattle.html5stream.specs.Streams.{failed_reads};
 
-    /// What a filter goes by, and why a text of settings says none.
-    type Settings: Drop;
-
-    type Fault: Display + Drop;
+    /// What it goes by.
+    type Settings: Settings;
 
     // The abstract state of a filter, and what it makes of settings and pages.
     ghost State: { Type 0 };
 
     ghost means: { Filtering Self Self.Settings State };
-
-    /// The settings where no file of them is given.
-    fn default_settings(alloc: Global) -> Result<Self::Settings, AllocError>
-        ensures { IfOk result (λ settings. settings ≡ means.unsaid) };
-
-    /// The settings that a text says.
-    fn settings_of(alloc: Global, text: &str) -> Result<Self::Settings, Self::Fault>
-        ensures { IfOk result (λ settings. means.said text.now ≡ Some settings) };
 
     /// A filter that has read nothing, and prints to this printer.
     fn new(alloc: Global, printer: Printer<W>, settings: Self::Settings) -> Self
@@ -43,11 +33,9 @@ pub trait Filter<W: Target + Drop>: Drop {
         references: &NamedReferences,
     ) -> (Self, Result<(), StreamError>)
         ensures finishes { OnOk result.1 (ReadsPage (λ s bytes. means.handed s (means.page references.now s bytes))
-            (R.remaining source.old) (R.remaining source.new)
-            (means.begun (means.state self)) (means.state result.0)) }
+            (passage_of R.remaining source.old source.new (means.begun (means.state self)) (means.state result.0))) }
         ensures beginning { OnErr result.1 (StopsPage (means.page references.now) means.handed
-            (R.remaining source.old) (R.remaining source.new)
-            (means.begun (means.state self)) (means.state result.0)) }
+            (passage_of R.remaining source.old source.new (means.begun (means.state self)) (means.state result.0))) }
         ensures read { R.failures source.new ≡ R.failures source.old + failed_reads result.1 };
 
     /// The printer, with what was printed.

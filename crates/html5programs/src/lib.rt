@@ -7,6 +7,7 @@ mod messages;
 mod output;
 mod references;
 mod running;
+mod settings;
 mod version;
 mod words;
 
@@ -16,4 +17,5 @@ pub use crate::messages::Messages;
 pub use crate::output::Output;
 pub use crate::references::{ReferencesError, read_references, table_of_text};
 pub use crate::running::{Program, filter_by_words, run, run_by_words};
+pub use crate::settings::Settings;
 pub use crate::words::{Words, words_of};

@@ -10,6 +10,7 @@ use crate::filter::Filter;
 use crate::messages::Messages;
 use crate::output::Output;
 use crate::references::read_references;
+use crate::settings::Settings;
 use crate::version::version_line;
 use crate::words::{Words, words_of};
 use devices::{Logged, Printer, ReadSource, Source, Target, WriteTarget, given_words, write_all};
@@ -174,10 +175,11 @@ fn read_settings<F: Filter<W>, W: Target + Drop, R: Files + Alloc<A = Global>, E
     path: Option<&str>,
     messages: &mut Messages<'_, E>,
 ) -> Option<F::Settings>
-    ensures { IfSome result (AreSettingsAsked F.means (option_map (λ path. path.now) path.entry)) }
+    ensures { IfSome result (AreSettingsAsked F.Settings.unsaid F.Settings.said
+        (option_map (λ path. path.now) path.entry)) }
 {
     let Some(path) = path else {
-        let Ok(settings) = F::default_settings(rt.alloc()) else {
+        let Ok(settings) = F::Settings::standard(rt.alloc()) else {
             messages.say("settings", "out of memory");
             return None;
         };
@@ -187,7 +189,7 @@ fn read_settings<F: Filter<W>, W: Target + Drop, R: Files + Alloc<A = Global>, E
         messages.say(path, "can't be read");
         return None;
     };
-    match F::settings_of(rt.alloc(), &text) {
+    match F::Settings::parse(rt.alloc(), &text) {
         Ok(settings) => Some(settings),
         Err(fault) => {
             messages.say(path, fault);
@@ -210,7 +212,7 @@ fn filter_asked<
     stdout: O,
     messages: &mut Messages<'_, E>,
 ) -> (Logged<Output<O>>, Ending)
-    ensures done { result.1 ≡ Ending.Done → PrintsAsked F.means (asked_by asked.now)
+    ensures done { result.1 ≡ Ending.Done → PrintsAsked F.means F.Settings.unsaid F.Settings.said (asked_by asked.now)
         (I.remaining stdin.old) (I.remaining stdin.new) result.0.taken }
     ensures closed { result.1 ≡ Ending.Closed → result.0.inner.is_closed ≡ true }
     ensures words { (result.1 ≢ Ending.WrongWord) × (result.1 ≢ Ending.NoMemory) }
@@ -289,7 +291,7 @@ pub fn filter_by_words<
     // what the filter printed of them.
     ensures done { (asked_of program.entry (map string_bytes words.now)).help ≡ false
         → (asked_of program.entry (map string_bytes words.now)).version ≡ false → result.1 ≡ Ending.Done
-        → PrintsAsked F.means (asked_of program.entry (map string_bytes words.now))
+        → PrintsAsked F.means F.Settings.unsaid F.Settings.said (asked_of program.entry (map string_bytes words.now))
         (I.remaining stdin.old) (I.remaining stdin.new) result.0.taken }
     ensures help { AsksHelp (asked_of program.entry (map string_bytes words.now)) → result.1 ≡ Ending.Done
         → result.0.taken ≡ program.entry.help.now }

@@ -5,7 +5,7 @@ use Rattle.std.proofs.lemmas.List.Concat.{flat_map-append}
 use Rattle.std.proofs.lemmas.Str.{encodes-append}
 use Rattle.html5ever_interface.specs.Sink.{Message}
 use Rattle.html5ever_interface.specs.Token.{Told}
-use Rattle.html5stream.specs.Pages.{ReadsPage, ReadsPageItems, StopsPage, runs_after, runs_handed, runs_page}
+use Rattle.html5stream.specs.Pages.{Passage, ReadsPage, ReadsPageItems, StopsPage, passage_of, runs_after, runs_handed, runs_page}
 use Rattle.html5stream.proofs.Handed.{between-handed}
 use Rattle.html5stream.proofs.ByItems.{page-items, runs-composed}
 use Rattle.markup5ever.specs.NamedReferences.{NamedReference, IsTable}
@@ -39,8 +39,8 @@ written-handed rewriter before M =
 
 -- a page that was read is written as it is kept
 pub reads-written : (rewriter : Rewriter) (references : List NamedReference) (unread left : Option (List ℕ)) (before : List ℕ) (after : Written)
-    → ReadsPage (runs_after writing_step references) unread left (start_of_writing rewriter before) after
-    → ReadsPage (λ s bytes. written_of rewriter s (page_messages rewriter references s bytes)) unread left before after.bytes
+    → ReadsPage (runs_after writing_step references) (passage_of (λ k. k) unread left (start_of_writing rewriter before) after)
+    → ReadsPage (λ s bytes. written_of rewriter s (page_messages rewriter references s bytes)) (passage_of (λ k. k) unread left before after.bytes)
 reads-written rewriter references unread left before after read = record {
   bytes = read.bytes;
   consumed = read.consumed;
@@ -50,16 +50,16 @@ reads-written rewriter references unread left before after read = record {
 }
 
 -- and as the messages of its items say
-pub items-written : (rewriter : Rewriter) (references : List NamedReference) (unread left : Option (List ℕ)) (before after : List ℕ) → IsTable references
-    → ReadsPage (λ s bytes. written_of rewriter s (page_messages rewriter references s bytes)) unread left before after
-    → ReadsPageItems (PageItems rewriter references) (written_of rewriter) unread left before after
-items-written rewriter references unread left before after table =
-    page-items (page_messages rewriter references) (written_of rewriter) (PageItems rewriter references) unread left before after
-    (λ bytes. runs-composed writing_step references (start_of_writing rewriter before) bytes table)
+pub items-written : (rewriter : Rewriter) (references : List NamedReference) (known : Passage (List ℕ)) → IsTable references
+    → ReadsPage (λ s bytes. written_of rewriter s (page_messages rewriter references s bytes)) known
+    → ReadsPageItems (PageItems rewriter references) (written_of rewriter) known
+items-written rewriter references known table =
+    page-items (page_messages rewriter references) (written_of rewriter) (PageItems rewriter references) known
+    (λ bytes. runs-composed writing_step references (start_of_writing rewriter known.before) bytes table)
 
 pub stops-written : (rewriter : Rewriter) (references : List NamedReference) (unread left : Option (List ℕ)) (before : List ℕ) (after : Written)
-    → StopsPage (runs_page writing_step references) (runs_handed writing_step) unread left (start_of_writing rewriter before) after
-    → StopsPage (page_messages rewriter references) (written_of rewriter) unread left before after.bytes
+    → StopsPage (runs_page writing_step references) (runs_handed writing_step) (passage_of (λ k. k) unread left (start_of_writing rewriter before) after)
+    → StopsPage (page_messages rewriter references) (written_of rewriter) (passage_of (λ k. k) unread left before after.bytes)
 stops-written rewriter references unread left before after read = record {
   text = read.text;
   rest = read.rest;

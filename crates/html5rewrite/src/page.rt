@@ -1,6 +1,6 @@
 //! Pages that are rewritten.
 ghost use Rattle.std.specs.Prelude.{◌≡◌, ◌≢◌, ℕ, ◌+◌, ◌-◌, ◌^◌, [], Err, IfOk, OnOk, OnErr, string_bytes};
-ghost use Rattle.html5stream.specs.Pages.{ReadsPage, ReadsPageItems, StopsPage, runs_page, runs_handed, runs_after};
+ghost use Rattle.html5stream.specs.Pages.{ReadsPage, ReadsPageItems, StopsPage, passage_of, runs_page, runs_handed, runs_after};
 ghost use Rattle.html5stream.specs.Streams.{GivesNoText, GivesNoFault, GivesAtLeast, failed_reads};
 ghost use Rattle.html5rewrite.specs.Writing.{PageItems, page_bytes, page_messages, pieces_of, start_of_writing, writing_of, writing_step, written_of};
 
@@ -22,11 +22,11 @@ fn read_rewritten<R: Source, H: TagRewriter<Tag<A>>, O: Output, A: Allocator + C
     references: &NamedReferences<A>,
 ) -> (Rewriting<H, O, A>, Result<(), StreamError>)
     ensures finishes { OnOk result.1 (ReadsPage (runs_after writing_step references.now)
-        (R.remaining source.old) (R.remaining source.new)
-        (start_of_writing (H.means rewriter) (O.bytes output)) (writing_of H.means O.bytes result.0)) }
+        (passage_of R.remaining source.old source.new
+        (start_of_writing (H.means rewriter) (O.bytes output)) (writing_of H.means O.bytes result.0))) }
     ensures beginning { OnErr result.1 (StopsPage (runs_page writing_step references.now) (runs_handed writing_step)
-        (R.remaining source.old) (R.remaining source.new)
-        (start_of_writing (H.means rewriter) (O.bytes output)) (writing_of H.means O.bytes result.0)) }
+        (passage_of R.remaining source.old source.new
+        (start_of_writing (H.means rewriter) (O.bytes output)) (writing_of H.means O.bytes result.0))) }
     ensures not_utf8 { (place : ℕ) → result.1 ≡ Err (StreamError.NotUtf8 place)
         → GivesNoText place (R.remaining source.old) (R.remaining source.new) }
     ensures no_fault { ((place : ℕ) → result.1 ≢ Err (StreamError.NotUtf8 place))
@@ -50,12 +50,12 @@ pub fn rewrite_page<R: Source, H: TagRewriter<Tag<A>>, O: Output, A: Allocator +
 ) -> (O, Result<(), StreamError>)
     ensures finishes { OnOk result.1 (ReadsPage (λ before bytes. written_of (H.means rewriter) before
         (page_messages (H.means rewriter) references.now before bytes))
-        (R.remaining source.old) (R.remaining source.new) (O.bytes output) (O.bytes result.0)) }
+        (passage_of R.remaining source.old source.new (O.bytes output) (O.bytes result.0))) }
     ensures items { OnOk result.1 (ReadsPageItems (PageItems (H.means rewriter) references.now) (written_of (H.means rewriter))
-        (R.remaining source.old) (R.remaining source.new) (O.bytes output) (O.bytes result.0)) }
+        (passage_of R.remaining source.old source.new (O.bytes output) (O.bytes result.0))) }
     ensures beginning { OnErr result.1 (StopsPage (page_messages (H.means rewriter) references.now)
         (written_of (H.means rewriter))
-        (R.remaining source.old) (R.remaining source.new) (O.bytes output) (O.bytes result.0)) }
+        (passage_of R.remaining source.old source.new (O.bytes output) (O.bytes result.0))) }
     ensures not_utf8 { (place : ℕ) → result.1 ≡ Err (StreamError.NotUtf8 place)
         → GivesNoText place (R.remaining source.old) (R.remaining source.new) }
     ensures no_fault { ((place : ℕ) → result.1 ≢ Err (StreamError.NotUtf8 place))

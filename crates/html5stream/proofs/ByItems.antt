@@ -11,7 +11,7 @@ use Rattle.html5grammar.proofs.Completeness.{all-composed}
 use Rattle.html5grammar.proofs.Soundness.{reading-items}
 use Rattle.html5ever.specs.Tokenizer.{rules_of}
 use Rattle.html5ever.proofs.ByItems.{whole-items}
-use Rattle.html5stream.specs.Pages.{ReadsPage, ReadsPageItems, tags_means, runs_means, tags_start, runs_start, TagsItems, RunsItems, tags_page, runs_page, tags_handed, runs_handed, tags_after, runs_after}
+use Rattle.html5stream.specs.Pages.{Passage, ReadsPage, ReadsPageItems, tags_means, runs_means, tags_start, runs_start, TagsItems, RunsItems, tags_page, runs_page, tags_handed, runs_handed, tags_after, runs_after}
 use Rattle.html5stream.specs.Streams.{ReadsSource, ReadsSourceItems}
 use Rattle.markup5ever.specs.NamedReferences.{NamedReference, IsTable}
 
@@ -28,10 +28,10 @@ module _ {X S H : Type 0} (means : Means X S H) where
 
 -- what a handler makes of a page is what it makes of the messages of its items
 pub page-items : {S : Type 0} (page : S → List ℕ → List Message) (handed : S → List Message → S) (composes : S → List ℕ → List Message → List Message → Type 0)
-    (unread left : Option (List ℕ)) (before after : S)
-    → ((bytes : List ℕ) → (M : List Message) × (E : List Message) × composes before bytes M E × (page before bytes ≡ M ++ E))
-    → ReadsPage (λ s bytes. handed s (page s bytes)) unread left before after → ReadsPageItems composes handed unread left before after
-page-items page handed composes unread left before after composed read =
+    (known : Passage S)
+    → ((bytes : List ℕ) → (M : List Message) × (E : List Message) × composes known.before bytes M E × (page known.before bytes ≡ M ++ E))
+    → ReadsPage (λ s bytes. handed s (page s bytes)) known → ReadsPageItems composes handed known
+page-items page handed composes known composed read =
     let c = composed read.bytes in
     record {
       bytes = read.bytes;
@@ -41,7 +41,7 @@ page-items page handed composes unread left before after composed read =
       tells = c.0;
       ends = c.1;
       items = c.2;
-      told = read.told ∙ ap (handed before) c.3;
+      told = read.told ∙ ap (handed known.before) c.3;
     }
 
 -- a whole text by the default options
@@ -52,12 +52,12 @@ composed-page means references s text table =
     let c : Composed means (rules_of default_options references) (start_of default_options) s text = all-composed means (rules_of default_options references) (start_of default_options) s text refl in
     (c.tells, c.ends, c.items, reading-items means (rules_of default_options references) (start_of default_options) s text c.tells c.ends table c.items)
 
-pub tags-items : {S : Type 0} (step : S → TagOf → ℕ → S) (references : List NamedReference) (unread left : Option (List ℕ)) (before after : S) → IsTable references
-    → ReadsPage (tags_after step references) unread left before after → ReadsPageItems (TagsItems step references) (tags_handed step) unread left before after
+pub tags-items : {S : Type 0} (step : S → TagOf → ℕ → S) (references : List NamedReference) (known : Passage S) → IsTable references
+    → ReadsPage (tags_after step references) known → ReadsPageItems (TagsItems step references) (tags_handed step) known
 unfolding tags_page
-tags-items step references unread left before after table =
-    page-items (tags_page step references) (tags_handed step) (TagsItems step references) unread left before after
-    (λ bytes. composed-page (tags_means (λ t. t) step) references (tags_start before) (chars bytes) table)
+tags-items step references known table =
+    page-items (tags_page step references) (tags_handed step) (TagsItems step references) known
+    (λ bytes. composed-page (tags_means (λ t. t) step) references (tags_start known.before) (chars bytes) table)
 
 -- a page as a handler of runs is sent it is items, and its messages are those that they tell
 pub runs-composed : {S : Type 0} (step : S → List ℕ → Told → ℕ → S) (references : List NamedReference) (before : S) (bytes : List ℕ) → IsTable references
@@ -65,8 +65,8 @@ pub runs-composed : {S : Type 0} (step : S → List ℕ → Told → ℕ → S) 
 unfolding runs_page
 runs-composed step references before bytes table = composed-page (runs_means (λ t. t) step) references (runs_start before) (chars bytes) table
 
-pub runs-items : {S : Type 0} (step : S → List ℕ → Told → ℕ → S) (references : List NamedReference) (unread left : Option (List ℕ)) (before after : S) → IsTable references
-    → ReadsPage (runs_after step references) unread left before after → ReadsPageItems (RunsItems step references) (runs_handed step) unread left before after
-runs-items step references unread left before after table =
-    page-items (runs_page step references) (runs_handed step) (RunsItems step references) unread left before after
-    (λ bytes. runs-composed step references before bytes table)
+pub runs-items : {S : Type 0} (step : S → List ℕ → Told → ℕ → S) (references : List NamedReference) (known : Passage S) → IsTable references
+    → ReadsPage (runs_after step references) known → ReadsPageItems (RunsItems step references) (runs_handed step) known
+runs-items step references known table =
+    page-items (runs_page step references) (runs_handed step) (RunsItems step references) known
+    (λ bytes. runs-composed step references known.before bytes table)

@@ -15,7 +15,7 @@ use Rattle.html5sinks.specs.Runs.{Running}
 use Rattle.html5stream.specs.declared.error.StreamError.{StreamError}
 use Rattle.html5stream.specs.declared.error.StreamError.TheVariants.{Read, NotUtf8, Memory, Sink, TooLong}
 use Rattle.html5stream.specs.Streams.{ReadsSource, StopsSource, SourceStops}
-use Rattle.html5stream.specs.Pages.{ReadsPage, StopsPage, tags_means, tags_start, tags_page, tags_handed, runs_means, runs_start, runs_page, runs_handed}
+use Rattle.html5stream.specs.Pages.{ReadsPage, StopsPage, passage_of, tags_means, tags_start, tags_page, tags_handed, runs_means, runs_start, runs_page, runs_handed}
 
 -- the sink's state stays as it is where it faults, and at the end
 pub record IsUnmoved {X S H : Type 0} (means : Means X S H) : Type 0 where
@@ -44,7 +44,7 @@ module _ {X S T H : Type 0} (means : Means X T H) (handler : T → S) (page : S 
 
   pub page-read : (opts : OptionsOf) (references : List NamedReference) (from : T) (s : S) (before after : Option (List ℕ)) (t : T)
       → IsPage opts references from s → ReadsSource means opts references from before after t
-      → ReadsPage (λ s bytes. handed s (page s bytes)) before after s (handler t)
+      → ReadsPage (λ s bytes. handed s (page s bytes)) (passage_of (λ k. k) before after s (handler t))
   page-read opts references from s before after t is reads = record {
     bytes = reads.bytes;
     consumed = reads.given;
@@ -56,7 +56,7 @@ module _ {X S T H : Type 0} (means : Means X T H) (handler : T → S) (page : S 
   -- a handler stops where its sink does
   pub page-stopped : (opts : OptionsOf) (references : List NamedReference) (from : T) (s : S) (before after : Option (List ℕ)) (t : T)
       → IsPage opts references from s → (e : StreamError) → StopsSource means e opts references from before after t
-      → StopsPage page handed before after s (handler t)
+      → StopsPage page handed (passage_of (λ k. k) before after s (handler t))
   page-stopped opts references from s before after t is e stops =
       let within = SourceStops-unmoved means e from _ t is.unmoved stops.stopped in
       record {

@@ -14,38 +14,53 @@ use Rattle.html5sinks.specs.Replies.{standard_reply}
 use Rattle.html5sinks.specs.Tags.{Tagged, tags_step, tags_reply}
 use Rattle.html5sinks.specs.Runs.{Running, joined_of, runs_step, runs_reply}
 
--- the source was read to its end, what it gave is UTF-8, and a state became what the bytes make of it
-pub record ReadsPage {S : Type 0} (afterwards : S → List ℕ → S) (unread left : Option (List ℕ)) (before after : S) : Type 0 where
-  pub bytes : List ℕ
-  pub consumed : Consumes unread left bytes
-  pub at_end : IsAtEnd left
-  pub utf8 : IsUtf8 bytes
-  pub told : after ≡ afterwards before bytes
+-- a source and a state round a call: what was unread before it and is left after it, and the state before it and after it
+pub record Passage (S : Type 0) : Type 0 where
+  pub unread : Option (List ℕ)
+  pub left : Option (List ℕ)
+  pub before : S
+  pub after : S
 
--- the same by items: the text of the page is items that tell `tells`, and its end tells `ends`, and a state became what these make
+-- the passage of a source, before the call and after it, and of a state
+abbrev pub passage_of : {R S : Type 0} → (R → Option (List ℕ)) → R → R → S → S → Passage S
+passage_of remaining source source_after state state_after = record {
+  unread = remaining source;
+  left = remaining source_after;
+  before = state;
+  after = state_after;
+}
+
+-- the source was read to its end, what it gave is UTF-8, and the state became what the bytes make of it
+pub record ReadsPage {S : Type 0} (afterwards : S → List ℕ → S) (known : Passage S) : Type 0 where
+  pub bytes : List ℕ
+  pub consumed : Consumes known.unread known.left bytes
+  pub at_end : IsAtEnd known.left
+  pub utf8 : IsUtf8 bytes
+  pub told : known.after ≡ afterwards known.before bytes
+
+-- the same by items: the text of the page is items that tell `tells`, and its end tells `ends`, and the state became what these make
 -- of it
 pub record ReadsPageItems {S : Type 0} (composes : S → List ℕ → List Message → List Message → Type 0) (handed : S → List Message → S)
-    (unread left : Option (List ℕ)) (before after : S) : Type 0 where
+    (known : Passage S) : Type 0 where
   pub bytes : List ℕ
-  pub consumed : Consumes unread left bytes
-  pub at_end : IsAtEnd left
+  pub consumed : Consumes known.unread known.left bytes
+  pub at_end : IsAtEnd known.left
   pub utf8 : IsUtf8 bytes
   pub tells : List Message
   pub ends : List Message
-  pub items : composes before bytes tells ends
-  pub told : after ≡ handed before (tells ++ ends)
+  pub items : composes known.before bytes tells ends
+  pub told : known.after ≡ handed known.before (tells ++ ends)
 
--- the source gave a text first, and a state became what a beginning of that text's messages makes of it
-pub record StopsPage {S : Type 0} (page : S → List ℕ → List Message) (handed : S → List Message → S)
-    (unread left : Option (List ℕ)) (before after : S) : Type 0 where
+-- the source gave a text first, and the state became what a beginning of that text's messages makes of it
+pub record StopsPage {S : Type 0} (page : S → List ℕ → List Message) (handed : S → List Message → S) (known : Passage S) : Type 0 where
   pub text : List ℕ
   pub rest : List ℕ
-  pub consumed : Consumes unread left (text ++ rest)
+  pub consumed : Consumes known.unread known.left (text ++ rest)
   pub utf8 : IsUtf8 text
   pub told : List Message
   pub untold : List Message
-  pub parts : page before text ≡ told ++ untold
-  pub state : after ≡ handed before told
+  pub parts : page known.before text ≡ told ++ untold
+  pub state : known.after ≡ handed known.before told
 
 -- what a sink of tags makes of what it is sent, and what a sink of runs does, where a handler replies as the standard does
 module _ {X S : Type 0} where

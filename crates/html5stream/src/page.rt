@@ -1,6 +1,6 @@
 //! Pages, which one call reads from a source for a handler.
 ghost use Rattle.std.specs.Prelude.{◌≡◌, ◌≢◌, ℕ, ◌+◌, ◌-◌, ◌^◌, Err, OnOk, OnErr};
-ghost use Rattle.html5stream.specs.Pages.{ReadsPage, ReadsPageItems, StopsPage, TagsItems, RunsItems, tags_page, tags_handed, tags_after, runs_page, runs_handed, runs_after};
+ghost use Rattle.html5stream.specs.Pages.{ReadsPage, ReadsPageItems, StopsPage, passage_of, TagsItems, RunsItems, tags_page, tags_handed, tags_after, runs_page, runs_handed, runs_after};
 ghost use Rattle.html5stream.specs.Streams.{GivesNoText, GivesNoFault, GivesAtLeast, failed_reads};
 
 use crate::error::StreamError;
@@ -22,11 +22,11 @@ pub fn read_tags<R: Source, H: TagHandler<Tag<A>>, A: Allocator + Copy>(
     references: &NamedReferences<A>,
 ) -> (H, Result<(), StreamError>)
     ensures finishes { OnOk result.1 (ReadsPage (tags_after H.step references.now)
-        (R.remaining source.old) (R.remaining source.new) (H.state handler) (H.state result.0)) }
+        (passage_of R.remaining source.old source.new (H.state handler) (H.state result.0))) }
     ensures items { OnOk result.1 (ReadsPageItems (TagsItems H.step references.now) (tags_handed H.step)
-        (R.remaining source.old) (R.remaining source.new) (H.state handler) (H.state result.0)) }
+        (passage_of R.remaining source.old source.new (H.state handler) (H.state result.0))) }
     ensures beginning { OnErr result.1 (StopsPage (tags_page H.step references.now) (tags_handed H.step)
-        (R.remaining source.old) (R.remaining source.new) (H.state handler) (H.state result.0)) }
+        (passage_of R.remaining source.old source.new (H.state handler) (H.state result.0))) }
     ensures not_utf8 { (place : ℕ) → result.1 ≡ Err (StreamError.NotUtf8 place)
         → GivesNoText place (R.remaining source.old) (R.remaining source.new) }
     ensures no_fault { ((place : ℕ) → result.1 ≢ Err (StreamError.NotUtf8 place))
@@ -51,11 +51,11 @@ pub fn read_tokens<R: Source, H: TokenHandler<Token<A>>, A: Allocator + Copy>(
     references: &NamedReferences<A>,
 ) -> (H, Result<(), StreamError>)
     ensures finishes { OnOk result.1 (ReadsPage (runs_after H.step references.now)
-        (R.remaining source.old) (R.remaining source.new) (H.state handler) (H.state result.0)) }
+        (passage_of R.remaining source.old source.new (H.state handler) (H.state result.0))) }
     ensures items { OnOk result.1 (ReadsPageItems (RunsItems H.step references.now) (runs_handed H.step)
-        (R.remaining source.old) (R.remaining source.new) (H.state handler) (H.state result.0)) }
+        (passage_of R.remaining source.old source.new (H.state handler) (H.state result.0))) }
     ensures beginning { OnErr result.1 (StopsPage (runs_page H.step references.now) (runs_handed H.step)
-        (R.remaining source.old) (R.remaining source.new) (H.state handler) (H.state result.0)) }
+        (passage_of R.remaining source.old source.new (H.state handler) (H.state result.0))) }
     ensures not_utf8 { (place : ℕ) → result.1 ≡ Err (StreamError.NotUtf8 place)
         → GivesNoText place (R.remaining source.old) (R.remaining source.new) }
     ensures no_fault { ((place : ℕ) → result.1 ≢ Err (StreamError.NotUtf8 place))

@@ -1,6 +1,6 @@
 //! What a filter prints of pages.
 use devices::{Printer, Target, WriteTarget};
-use html5programs::Filter;
+use html5programs::{Filter, Settings};
 use html5stream::StreamError;
 use html5table::{profile, references_of};
 use markup5ever::data::{NamedReferences, TableError};
@@ -34,7 +34,7 @@ pub fn filtered<F: Filter<WriteTarget<Vec<u8>>>>(
 ) -> Result<(Vec<u8>, Result<(), StreamError>), TableError> {
     let references = references_of(alloc, profile())?;
     let printer = Printer::new(alloc, WriteTarget::new(Vec::new(alloc)));
-    let settings = F::default_settings(alloc)?;
+    let settings = F::Settings::standard(alloc)?;
     let filter = F::new(alloc, printer, settings);
     let (filter, read) = read_pages(alloc, filter, &references, pages, size);
     let (target, _) = filter.into_printer().finish();

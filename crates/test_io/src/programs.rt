@@ -270,7 +270,14 @@ fn goes_by_its_words(rt: HostRuntime) -> Result<(), Fail> {
     check_words(&rt, LINKS, &[], 0, all, "")?;
     check_words(&rt, LINKS, &["-"], 0, all, "")?;
     check_words(&rt, LINKS, &["--help"], 0, PROGRAM.help, "")?;
-    check_words(&rt, LINKS, &["--version", "no-such-file"], 0, "prog 0.2.0\n", "")?;
+    check_words(
+        &rt,
+        LINKS,
+        &["--version", "no-such-file"],
+        0,
+        "prog 0.2.0\n",
+        "",
+    )?;
     check_words(&rt, LINKS, &["--version", "--help"], 0, PROGRAM.help, "")?;
     check_words(&rt, LINKS, &["-", "--wrong"], 2, "", unknown)?;
     check_words(&rt, LINKS, &["--references"], 2, "", missing)?;

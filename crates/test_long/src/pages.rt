@@ -3,7 +3,7 @@ use devices::Printer;
 use html5cleaner::CleanPrinter;
 use html5extract::links::Links;
 use html5extract::page_text::PageText;
-use html5programs::Filter;
+use html5programs::{Filter, Settings};
 use html5table::{profile, references_of};
 use std::alloc::Global;
 use std::process::Abort;
@@ -48,7 +48,7 @@ fn check_filter<F: Filter<MeasuringTarget>>(
 ) -> Result<(), Fail> {
     let references = references_of(alloc, profile())?;
     let printer = Printer::new(alloc, MeasuringTarget::new(alloc));
-    let filter = F::new(alloc, printer, F::default_settings(alloc)?);
+    let filter = F::new(alloc, printer, F::Settings::standard(alloc)?);
     let mut source = RepeatingSource::new(part.text.as_bytes(), part.times);
     let (filter, read) = filter.read_page(alloc, &mut source, &references);
     assert_eq!(rt; read, Ok(()));

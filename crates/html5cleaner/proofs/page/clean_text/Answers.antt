@@ -11,7 +11,7 @@ pub returns-in-Ok-clause-kept : goal.returns-in-Ok-clause-kept
 returns-in-Ok-clause-kept g c =
     c.into_page.ensures.page
     ∙ ap (λ (cleaned : Cleaned). cleaned.pieces)
-    (read-whole (runs_after clean_step c.args.references.now) c.args.text.now _ _ (at_start c.args.policy.now) _
+    (read-whole (runs_after clean_step c.args.references.now) c.args.text.now _
     (rw c.new-source.ensures.inner (ap Some c.as_bytes.ensures.value))
     (rw c.in-Ok.is at c.clean_page-cleaner.ensures.finishes))
 
@@ -20,7 +20,7 @@ returns-in-Ok-clause-clean g c =
     let kept : c.into_page.result ≡ (runs_after clean_step c.args.references.now (at_start c.args.policy.now) c.args.text.now).pieces =
     c.into_page.ensures.page
     ∙ ap (λ (cleaned : Cleaned). cleaned.pieces)
-    (read-whole (runs_after clean_step c.args.references.now) c.args.text.now _ _ (at_start c.args.policy.now) _
+    (read-whole (runs_after clean_step c.args.references.now) c.args.text.now _
     (rw c.new-source.ensures.inner (ap Some c.as_bytes.ensures.value))
     (rw c.in-Ok.is at c.clean_page-cleaner.ensures.finishes))
     in

@@ -15,7 +15,7 @@ pub returns-in-Err-clause-not_utf8 : goal.returns-in-Err-clause-not_utf8
 returns-in-Err-clause-not_utf8 g c = λ place is. c.read_printed-cleaner.ensures.not_utf8 place (c.in-Err.is ∙ is)
 
 pub returns-in-Ok-clause-items : goal.returns-in-Ok-clause-items
-returns-in-Ok-clause-items g c = items_printed c.args.references.now _ _ _ _ c.table_laws.ensures (returns-in-Ok-clause-finishes g c)
+returns-in-Ok-clause-items g c = items_printed c.args.references.now _ c.table_laws.ensures (returns-in-Ok-clause-finishes g c)
 
 pub returns-in-Err-clause-no_fault : goal.returns-in-Err-clause-no_fault
 returns-in-Err-clause-no_fault g c = λ other. c.read_printed-cleaner.ensures.no_fault (λ place is. other place (sym c.in-Err.is ∙ is))

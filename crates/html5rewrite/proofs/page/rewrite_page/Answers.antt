@@ -13,4 +13,4 @@ returns-in-Err-clause-beginning g c =
 
 pub returns-in-Ok-clause-items : goal.returns-in-Ok-clause-items
 returns-in-Ok-clause-items g c =
-    items-written (g.H.TagRewriter.means c.args.rewriter) c.args.references.now _ _ _ _ c.table_laws.ensures (returns-in-Ok-clause-finishes g c)
+    items-written (g.H.TagRewriter.means c.args.rewriter) c.args.references.now _ c.table_laws.ensures (returns-in-Ok-clause-finishes g c)

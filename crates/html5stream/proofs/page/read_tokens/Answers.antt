@@ -14,7 +14,7 @@ returns-clause-finishes g c =
     c.read_source-joined.ensures.finishes)
 
 pub returns-clause-items : goal.returns-clause-items
-returns-clause-items g c = on_ok_weaker c.read_source-joined.result.1 (runs-items g.H.TokenHandler.step c.args.references.now _ _ _ _ c.table_laws.ensures) (returns-clause-finishes g c)
+returns-clause-items g c = on_ok_weaker c.read_source-joined.result.1 (runs-items g.H.TokenHandler.step c.args.references.now _ c.table_laws.ensures) (returns-clause-finishes g c)
 
 pub returns-clause-beginning : goal.returns-clause-beginning
 returns-clause-beginning g c =
